@@ -1,0 +1,15 @@
+pub mod Expressions
+pub mod ExpressionViews
+pub mod Statements
+pub mod StatementViews
+pub mod Initials
+pub mod InitialViews
+pub mod Declarations
+pub mod DeclarationViews
+pub mod Units
+pub mod UnitViews
+pub mod Configurations
+pub mod ConfigurationViews
+pub mod Sources
+pub mod SourceViews
+pub mod Depths

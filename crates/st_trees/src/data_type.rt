@@ -1,0 +1,160 @@
+//! Types as a text names and declares them.
+
+ghost use Rattle.std.specs.Prelude.{◌≡◌, ◌↔◌, IsTrue};
+
+use crate::initial::Initial;
+use st_words::{Identifier, Kind, Number, Tree, same_option, same_trees};
+
+/// A type that is named by one word, at its place.
+#[derive(Drop)]
+pub enum SimpleType {
+    Elementary(Kind, usize),
+    /// A declared type, or a block.
+    Named(Identifier),
+}
+
+/// The type of an array.
+#[derive(Drop)]
+pub struct ArrayType {
+    /// The offset of the word ARRAY.
+    pub place: usize,
+    pub lower: Number,
+    pub upper: Number,
+    pub element: SimpleType,
+}
+
+/// A type where a variable or a field is declared.
+#[derive(Drop)]
+pub enum VariableType {
+    Simple(SimpleType),
+    Array(ArrayType),
+}
+
+/// A field of a structure.
+#[derive(Drop)]
+pub struct Field {
+    pub name: Identifier,
+    pub declared: VariableType,
+    pub initial: Option<Initial>,
+}
+
+/// What a type is declared as.
+#[derive(Drop)]
+pub enum TypeDefinition {
+    Array(ArrayType),
+    Structure(Vec<Field>),
+}
+
+/// A declaration of a type.
+#[derive(Drop)]
+pub struct TypeDeclaration {
+    pub name: Identifier,
+    pub definition: TypeDefinition,
+}
+
+impl Tree for SimpleType {
+    ghost use Rattle.st_trees.specs.declared.data_type.SimpleType.{SimpleType};
+
+    ghost Mirror = { SimpleType };
+
+    ghost view = { λ x. x };
+
+    fn is(&self, other: &SimpleType) -> bool {
+        match self {
+            SimpleType::Elementary(k, p) => match other {
+                SimpleType::Elementary(l, q) => k == l && p == q,
+                SimpleType::Named(_) => false,
+            },
+            SimpleType::Named(a) => match other {
+                SimpleType::Elementary(_, _) => false,
+                SimpleType::Named(b) => a.is(b),
+            },
+        }
+    }
+}
+
+impl Tree for ArrayType {
+    ghost use Rattle.st_trees.specs.declared.data_type.ArrayType.{ArrayType};
+
+    ghost Mirror = { ArrayType };
+
+    ghost view = { λ x. x };
+
+    fn is(&self, other: &ArrayType) -> bool {
+        self.place == other.place
+            && self.lower.is(&other.lower)
+            && self.upper.is(&other.upper)
+            && self.element.is(&other.element)
+    }
+}
+
+impl Tree for VariableType {
+    ghost use Rattle.st_trees.specs.declared.data_type.VariableType.{VariableType};
+
+    ghost Mirror = { VariableType };
+
+    ghost view = { λ x. x };
+
+    fn is(&self, other: &VariableType) -> bool {
+        match self {
+            VariableType::Simple(a) => match other {
+                VariableType::Simple(b) => a.is(b),
+                VariableType::Array(_) => false,
+            },
+            VariableType::Array(a) => match other {
+                VariableType::Simple(_) => false,
+                VariableType::Array(b) => a.is(b),
+            },
+        }
+    }
+}
+
+impl Tree for Field {
+    ghost use Rattle.st_trees.specs.Declarations as tree;
+    ghost use Rattle.st_trees.specs.DeclarationViews.{field_view};
+
+    ghost Mirror = { tree.Field };
+
+    ghost view = { field_view };
+
+    fn is(&self, other: &Field) -> bool {
+        self.name.is(&other.name)
+            && self.declared.is(&other.declared)
+            && same_option(&self.initial, &other.initial)
+    }
+}
+
+impl Tree for TypeDeclaration {
+    ghost use Rattle.st_trees.specs.Declarations as tree;
+    ghost use Rattle.st_trees.specs.DeclarationViews.{type_declaration_view};
+
+    ghost Mirror = { tree.TypeDeclaration };
+
+    ghost view = { type_declaration_view };
+
+    fn is(&self, other: &TypeDeclaration) -> bool {
+        self.name.is(&other.name) && self.definition.is(&other.definition)
+    }
+}
+
+impl Tree for TypeDefinition {
+    ghost use Rattle.st_trees.specs.Declarations as tree;
+    ghost use Rattle.st_trees.specs.DeclarationViews.{type_definition_view};
+
+    ghost Mirror = { tree.TypeDefinition };
+
+    ghost view = { type_definition_view };
+
+    fn is(&self, other: &TypeDefinition) -> bool {
+        match self {
+            TypeDefinition::Array(a) => match other {
+                TypeDefinition::Array(b) => a.is(b),
+                TypeDefinition::Structure(_) => false,
+            },
+            TypeDefinition::Structure(a) => match other {
+                TypeDefinition::Array(_) => false,
+                TypeDefinition::Structure(b) => same_trees(a, b),
+            },
+        }
+    }
+}

@@ -1,0 +1,114 @@
+//! Declarations of variables.
+
+ghost use Rattle.std.specs.Prelude.{◌≡◌, ◌↔◌, IsTrue};
+
+use crate::data_type::VariableType;
+use crate::initial::Initial;
+use st_words::{Identifier, Tree, same_option, same_trees};
+
+/// What a block of variables says of their retention.
+#[derive(Clone, Copy, Debug, PartialEq, Eq)]
+pub enum Retention {
+    Retain,
+    NonRetain,
+}
+
+/// The words that a block of variables begins with.
+#[derive(Clone, Copy, Debug, PartialEq, Eq)]
+pub enum Section {
+    /// VAR_INPUT
+    Input(Option<Retention>),
+    /// VAR_OUTPUT
+    Output(Option<Retention>),
+    /// VAR
+    Local(Option<Retention>),
+    /// VAR CONSTANT
+    Constant,
+    /// VAR_EXTERNAL
+    External,
+    /// VAR_EXTERNAL CONSTANT
+    ConstantExternal,
+}
+
+/// Names of one type and one initial value. Externals have none.
+#[derive(Drop)]
+pub struct Declaration {
+    pub names: Vec<Identifier>,
+    pub declared: VariableType,
+    pub initial: Option<Initial>,
+}
+
+/// A block of variables, from its first word to END_VAR.
+#[derive(Drop)]
+pub struct VariableBlock {
+    pub section: Section,
+    pub declarations: Vec<Declaration>,
+}
+
+fn same_retention(this: Option<Retention>, that: Option<Retention>) -> bool
+    ensures { IsTrue result ↔ (this ≡ that) }
+{
+    match this {
+        Some(a) => match that {
+            Some(b) => a == b,
+            None => false,
+        },
+        None => that.is_none(),
+    }
+}
+
+impl Tree for Section {
+    ghost use Rattle.st_trees.specs.declared.declaration.Section.{Section};
+
+    ghost Mirror = { Section };
+
+    ghost view = { λ x. x };
+
+    fn is(&self, other: &Section) -> bool {
+        match self {
+            Section::Input(a) => match other {
+                Section::Input(b) => same_retention(*a, *b),
+                _ => false,
+            },
+            Section::Output(a) => match other {
+                Section::Output(b) => same_retention(*a, *b),
+                _ => false,
+            },
+            Section::Local(a) => match other {
+                Section::Local(b) => same_retention(*a, *b),
+                _ => false,
+            },
+            Section::Constant => matches!(other, Section::Constant),
+            Section::External => matches!(other, Section::External),
+            Section::ConstantExternal => matches!(other, Section::ConstantExternal),
+        }
+    }
+}
+
+impl Tree for Declaration {
+    ghost use Rattle.st_trees.specs.Declarations as tree;
+    ghost use Rattle.st_trees.specs.DeclarationViews.{declaration_view};
+
+    ghost Mirror = { tree.Declaration };
+
+    ghost view = { declaration_view };
+
+    fn is(&self, other: &Declaration) -> bool {
+        same_trees(&self.names, &other.names)
+            && self.declared.is(&other.declared)
+            && same_option(&self.initial, &other.initial)
+    }
+}
+
+impl Tree for VariableBlock {
+    ghost use Rattle.st_trees.specs.Declarations as tree;
+    ghost use Rattle.st_trees.specs.DeclarationViews.{variable_block_view};
+
+    ghost Mirror = { tree.VariableBlock };
+
+    ghost view = { variable_block_view };
+
+    fn is(&self, other: &VariableBlock) -> bool {
+        self.section.is(&other.section) && same_trees(&self.declarations, &other.declarations)
+    }
+}

@@ -1,0 +1,62 @@
+//! Whole texts.
+
+ghost use Rattle.std.specs.Prelude.{◌≡◌, ◌↔◌, IsTrue};
+
+use crate::configuration::Configuration;
+use crate::data_type::TypeDeclaration;
+use crate::unit::Unit;
+use st_words::{Tree, same_trees};
+
+/// A part of a text, which the standard calls a library element.
+#[derive(Drop)]
+pub enum LibraryElement {
+    /// A block from TYPE to END_TYPE.
+    Types(Vec<TypeDeclaration>),
+    Unit(Unit),
+    Configuration(Configuration),
+}
+
+/// The tree of a text.
+#[derive(Drop)]
+pub struct Source {
+    pub elements: Vec<LibraryElement>,
+}
+
+impl Tree for LibraryElement {
+    ghost use Rattle.st_trees.specs.Sources as tree;
+    ghost use Rattle.st_trees.specs.SourceViews.{element_view};
+
+    ghost Mirror = { tree.LibraryElement };
+
+    ghost view = { element_view };
+
+    fn is(&self, other: &LibraryElement) -> bool {
+        match self {
+            LibraryElement::Types(a) => match other {
+                LibraryElement::Types(b) => same_trees(a, b),
+                _ => false,
+            },
+            LibraryElement::Unit(a) => match other {
+                LibraryElement::Unit(b) => a.is(b),
+                _ => false,
+            },
+            LibraryElement::Configuration(a) => match other {
+                LibraryElement::Configuration(b) => a.is(b),
+                _ => false,
+            },
+        }
+    }
+}
+
+impl Tree for Source {
+    ghost use Rattle.st_trees.specs.Sources as tree;
+    ghost use Rattle.st_trees.specs.SourceViews.{source_view};
+
+    ghost Mirror = { tree.Source };
+
+    ghost view = { source_view };
+
+    fn is(&self, other: &Source) -> bool {
+        same_trees(&self.elements, &other.elements)
+    }
+}

@@ -1,0 +1,60 @@
+//! Functions, function blocks and programs.
+
+ghost use Rattle.std.specs.Prelude.{◌≡◌, ◌↔◌, IsTrue};
+
+use crate::declaration::VariableBlock;
+use crate::statement::Stmt;
+use st_words::{Identifier, Kind, Tree, same_trees};
+
+/// What a unit is.
+#[derive(Clone, Copy, Debug, PartialEq, Eq)]
+pub enum UnitSort {
+    /// A function, with the type of its result and the place of that word.
+    Function(Kind, usize),
+    FunctionBlock,
+    Program,
+}
+
+/// A program organisation unit: a function, a function block or a program.
+#[derive(Drop)]
+pub struct Unit {
+    pub sort: UnitSort,
+    pub name: Identifier,
+    pub blocks: Vec<VariableBlock>,
+    pub body: Vec<Stmt>,
+}
+
+impl Tree for UnitSort {
+    ghost use Rattle.st_trees.specs.declared.unit.UnitSort.{UnitSort};
+
+    ghost Mirror = { UnitSort };
+
+    ghost view = { λ x. x };
+
+    fn is(&self, other: &UnitSort) -> bool {
+        match self {
+            UnitSort::Function(k, p) => match other {
+                UnitSort::Function(l, q) => k == l && p == q,
+                _ => false,
+            },
+            UnitSort::FunctionBlock => matches!(other, UnitSort::FunctionBlock),
+            UnitSort::Program => matches!(other, UnitSort::Program),
+        }
+    }
+}
+
+impl Tree for Unit {
+    ghost use Rattle.st_trees.specs.Units as tree;
+    ghost use Rattle.st_trees.specs.UnitViews.{unit_view};
+
+    ghost Mirror = { tree.OrganisationUnit };
+
+    ghost view = { unit_view };
+
+    fn is(&self, other: &Unit) -> bool {
+        self.sort.is(&other.sort)
+            && self.name.is(&other.name)
+            && same_trees(&self.blocks, &other.blocks)
+            && same_trees(&self.body, &other.body)
+    }
+}

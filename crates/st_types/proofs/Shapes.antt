@@ -1,0 +1,265 @@
+-- A run neither adds nor takes away a variable, and each keeps its type.
+use Rattle.std.proofs.Common.{◌≡◌, ℕ, zero, suc, ◌==◌, ℤ, pos, int_lt, int_le, Bool, true, false, if◌then◌else◌, List, [], ◌∷◌, Option, Some, None, option_and_then, Result, Ok, Err, refl, sym, ap, ◌∙◌, arith}
+use Rattle.std.specs.List.{list_any}
+use Rattle.std.proofs.lemmas.Bool.Decides.{nat_tests}
+use Rattle.st_words.specs.declared.fault.Fault.{Fault}
+use Rattle.st_words.specs.declared.fault.Fault.TheVariants.{Index, Conversion}
+use Rattle.st_words.specs.declared.kind.Kind.{Kind}
+use Rattle.st_words.specs.declared.kind.Kind.TheVariants.{Sint, Int, Dint, Lint, Usint, Uint, Udint, Ulint, Byte, Word, Dword, Lword, Time, Bool as Boolean}
+use Rattle.st_words.specs.Kinds.{place_of, same_kind}
+use Rattle.st_words.specs.Values.{Datum}
+use Rattle.st_words.specs.Paths.{Path, same_path}
+use Rattle.st_trees.specs.Expressions.{Expr}
+use Rattle.st_trees.specs.Statements.{Argument, given, copied, Stmt, empty, assign, invoke, choose, select, count, while, repeat, exit, return, Stmts, no_stmts, stmt_then, Arms, no_arms, arm_then, CaseArms, no_case_arms, case_arm_then}
+use Rattle.st_types.specs.Stores.{Store, get, replaced, behind_first, assigned, shape_of}
+use Rattle.st_types.specs.Ticks.{Run, follow, ◌>>=◌, ◌>>◌, give, fault, take, or_fault, proceed, tick}
+use Rattle.st_types.specs.StandardBlocks as standard
+use Rattle.st_types.specs.StandardBlocks.{block_of, members_of, stepped}
+use Rattle.st_types.specs.Scopes.{Name, Frame, of_block, Block, Library, Units, Scope, path_in, member_at, block_named, block_in}
+use Rattle.st_types.specs.Evaluation.{value, place, test}
+use Rattle.st_types.specs.Loops.{End, goes_on, exits, returns, behind, Turn, again, over, turned, resumed, go_back, turns, looped, guarded, asked, until, runs_on, step_on, unless_refused, stepped_on, stored, nonzero}
+use Rattle.st_types.specs.Execution.{label_holds, given_inputs, assigned_inputs, copied_outputs, ran_block, step_of, exec, exec_all, exec_arms, exec_case}
+use Rattle.st_types.specs.Runs.{store_of, member_values, members_assigned, standard_call, block_call, instance_call, units_within, Program, scope_of, ran}
+
+-- a type is told by its place in the table
+kind_at : ℕ → Kind
+kind_at n =
+    if n == 0 then Sint else if n == 1 then Int else if n == 2 then Dint else if n == 3 then Lint else if n == 4 then Usint
+    else if n == 5 then Uint else if n == 6 then Udint else if n == 7 then Ulint else if n == 8 then Byte else if n == 9 then Word
+    else if n == 10 then Dword else if n == 11 then Lword else if n == 12 then Time else Boolean
+
+kind_at-place_of : (k : Kind) → kind_at (place_of k) ≡ k
+unfolding kind_at
+kind_at-place_of Sint = refl
+kind_at-place_of Int = refl
+kind_at-place_of Dint = refl
+kind_at-place_of Lint = refl
+kind_at-place_of Usint = refl
+kind_at-place_of Uint = refl
+kind_at-place_of Udint = refl
+kind_at-place_of Ulint = refl
+kind_at-place_of Byte = refl
+kind_at-place_of Word = refl
+kind_at-place_of Dword = refl
+kind_at-place_of Lword = refl
+kind_at-place_of Time = refl
+kind_at-place_of Boolean = refl
+
+same_place : (m n : ℕ) → (m == n) ≡ true → m ≡ n
+same_place m n h = grind (arith, nat_tests)
+
+pub same_kind_is : (k l : Kind) → same_kind k l ≡ true → k ≡ l
+same_kind_is k l h = sym (kind_at-place_of k) ∙ ap kind_at (same_place (place_of k) (place_of l) h) ∙ kind_at-place_of l
+
+-- a store of the same variables with the same types
+abbrev pub Same : Store → Store → Type 0
+Same s t = shape_of t ≡ shape_of s
+
+replaced_same : (e : Path × Datum) (v : Datum) (s t : Store) (b : Bool) → (b ≡ true → e.1.kind ≡ v.kind) → (if b then Ok ((e.0, v) ∷ s) else Err Conversion) ≡ Ok t → Same (e ∷ s) t
+replaced_same e v s t true k h =
+    let q : ◌≡◌ {A = Store} ((e.0, v) ∷ s) t = cc in
+    ap shape_of (sym q) ∙ ap (λ kind. (e.0, kind) ∷ shape_of s) (sym (k refl))
+replaced_same e v s t false k h = absurd (cc)
+
+behind_same : (e : Path × Datum) (s t : Store) (r : Result Store Fault) → ((u : Store) → r ≡ Ok u → Same s u) → behind_first e r ≡ Ok t → Same (e ∷ s) t
+behind_same e s t (Ok u) k h =
+    let q : ◌≡◌ {A = Store} (e ∷ u) t = cc in
+    ap shape_of (sym q) ∙ ap (λ rest. (e.0, e.1.kind) ∷ rest) (k u refl)
+behind_same e s t (Err f) k h = absurd (cc)
+
+assigned_at : (e : Path × Datum) (p : Path) (v : Datum) (s t : Store) (b : Bool) → ((u : Store) → assigned s p v ≡ Ok u → Same s u) → (if b then replaced e v s else behind_first e (assigned s p v)) ≡ Ok t → Same (e ∷ s) t
+assigned_at e p v s t true k h = replaced_same e v s t (same_kind e.1.kind v.kind) (same_kind_is e.1.kind v.kind) h
+assigned_at e p v s t false k h = behind_same e s t (assigned s p v) k h
+
+pub assigned_same : (s : Store) (p : Path) (v : Datum) (t : Store) → assigned s p v ≡ Ok t → Same s t
+assigned_same [] p v t h = absurd (cc)
+assigned_same (e ∷ s) p v t h = assigned_at e p v s t (same_path p e.0) (λ u. assigned_same s p v u) h
+
+-- what a run gives has a store of the same variables
+pub record Keeps (A : Type 0) (store : A → Store) (s : Store) (m : Run A) : Type 0 where
+  pub kept : (b : ℕ) (a : A) (c : ℕ) → m b ≡ Ok (a, c) → Same s (store a)
+
+kept_follow : {A B : Type 0} (store : B → Store) (s : Store) (f : A → Run B) (x : Result (A × ℕ) Fault) → ((a : A) → Keeps B store s (f a)) → (z : B) (c : ℕ) → follow x f ≡ Ok (z, c) → Same s (store z)
+kept_follow store s f (Ok r) k z c e = (k r.0).kept r.1 z c e
+kept_follow store s f (Err y) k z c e = absurd (cc)
+
+-- behind a run that leaves the store alone
+keeps_behind : {A B : Type 0} (store : B → Store) (s : Store) (m : Run A) {f : A → Run B} → ((a : A) → Keeps B store s (f a)) → Keeps B store s (m >>= f)
+keeps_behind store s m {f = f} k = record { kept = λ b z c e. kept_follow store s f (m b) k z c e }
+
+kept_then : {A B : Type 0} (inner : A → Store) (store : B → Store) (s : Store) (b : ℕ) (m : Run A) (f : A → Run B) (x : Result (A × ℕ) Fault) → ((a : A) (c : ℕ) → x ≡ Ok (a, c) → Same s (inner a)) → ((a : A) → Keeps B store (inner a) (f a)) → (z : B) (c : ℕ) → follow x f ≡ Ok (z, c) → Same s (store z)
+kept_then inner store s b m f (Ok r) h k z c e = (k r.0).kept r.1 z c e ∙ h r.0 r.1 refl
+kept_then inner store s b m f (Err y) h k z c e = absurd (cc)
+
+-- one after another
+keeps_then : {A B : Type 0} (inner : A → Store) (store : B → Store) (s : Store) {m : Run A} {f : A → Run B} → Keeps A inner s m → ((a : A) → Keeps B store (inner a) (f a)) → Keeps B store s (m >>= f)
+keeps_then inner store s {m = m} {f = f} h k = record { kept = λ b z c e. kept_then inner store s b m f (m b) (h.kept b) k z c e }
+
+keeps_give : {A : Type 0} (store : A → Store) (s : Store) (a : A) → Same s (store a) → Keeps A store s (give a)
+keeps_give {A = A} store s a h = record { kept = λ b x c e. let q : ◌≡◌ {A = A × ℕ} (a, b) (x, c) = cc in let i : a ≡ x = ap (λ p. p.0) q in ap (λ y. shape_of (store y)) (sym i) ∙ h }
+
+keeps_fault : {A : Type 0} (store : A → Store) (s : Store) (e : Fault) → Keeps A store s (fault e)
+keeps_fault store s e = record { kept = λ b x c h. absurd (cc) }
+
+keeps_tick : {A : Type 0} (store : A → Store) (s : Store) {m : Run A} → Keeps A store s m → Keeps A store s (tick >> m)
+keeps_tick store s {m = m} h = record { kept = λ b x c e. kept_follow store s (λ _. m) (tick b) (λ _. h) x c e }
+
+abbrev itself : Store → Store
+itself s = s
+
+keeps_take : (s : Store) (r : Result Store Fault) → ((t : Store) → r ≡ Ok t → Same s t) → Keeps Store itself s (take r)
+keeps_take s (Ok t) h = keeps_give itself s t (h t refl)
+keeps_take s (Err e) h = keeps_fault itself s e
+
+keeps_assigned : (s : Store) (p : Path) (v : Datum) → Keeps Store itself s (take (assigned s p v))
+keeps_assigned s p v = keeps_take s (assigned s p v) (assigned_same s p v)
+
+abbrev store_of_turn : Turn → Store
+store_of_turn (again s) = s
+store_of_turn (over e) = store_of e
+
+turned_same : (e : End) → store_of_turn (turned e) ≡ store_of e
+turned_same (goes_on s) = refl
+turned_same (exits s) = refl
+turned_same (returns s) = refl
+
+module _ (turn : Store → Run Turn) (step : Store → Option Store) (h : (s : Store) → Keeps Turn store_of_turn s (turn s)) (k : (s t : Store) → step s ≡ Some t → Same s t) where
+  resumed_keeps : (next : Store → Run End) → ((s : Store) → Keeps End store_of s (next s)) → (s : Store) (o : Option Store) → ((t : Store) → o ≡ Some t → Same s t) → Keeps End store_of s (resumed next s o)
+  resumed_keeps next n s None q = keeps_give store_of s (goes_on s) refl
+  resumed_keeps next n s (Some t) q = record { kept = λ b a c e. (n t).kept b a c e ∙ q t refl }
+
+  back_keeps : (next : Store → Run End) → ((s : Store) → Keeps End store_of s (next s)) → (t : Turn) → Keeps End store_of (store_of_turn t) (go_back step next t)
+  back_keeps next n (over e) = keeps_give store_of (store_of e) e refl
+  back_keeps next n (again s) = keeps_tick store_of s (resumed_keeps next n s (step s) (k s))
+
+  turns_keep : (n : ℕ) (s : Store) → Keeps End store_of s (turns n turn step s)
+  unfolding turns
+  turns_keep zero s = keeps_fault store_of s _
+  turns_keep (suc n) s = keeps_then store_of_turn store_of s (h s) (λ t. back_keeps (turns n turn step) (turns_keep n) t)
+
+  looped_keeps : (s : Store) → Keeps End store_of s (looped turn step s)
+  unfolding looped
+  looped_keeps s = record { kept = λ b a c e. (turns_keep (suc b) s).kept b a c e }
+
+guarded_keeps : (condition : Store → Run Bool) (body : Store → Run End) → ((s : Store) → Keeps End store_of s (body s)) → (s : Store) → Keeps Turn store_of_turn s (guarded condition body s)
+unfolding guarded
+guarded_keeps condition body h s = keeps_behind store_of_turn s (condition s) (λ go. chosen go)
+  where
+    chosen : (go : Bool) → Keeps Turn store_of_turn s (if go then (body s >>= (λ e. give (turned e))) else give (over (goes_on s)))
+    chosen true = keeps_then store_of store_of_turn s (h s) (λ e. keeps_give store_of_turn (store_of e) (turned e) (ap shape_of (turned_same e)))
+    chosen false = keeps_give store_of_turn s (over (goes_on s)) refl
+
+asked_keeps : (condition : Store → Run Bool) (e : End) → Keeps Turn store_of_turn (store_of e) (asked condition e)
+asked_keeps condition (goes_on s) = keeps_behind store_of_turn s (condition s) (λ stop. chosen stop)
+  where
+    chosen : (stop : Bool) → Keeps Turn store_of_turn s (give (if stop then over (goes_on s) else again s))
+    chosen true = keeps_give store_of_turn s (over (goes_on s)) refl
+    chosen false = keeps_give store_of_turn s (again s) refl
+asked_keeps condition (exits s) = keeps_give store_of_turn s (over (goes_on s)) refl
+asked_keeps condition (returns s) = keeps_give store_of_turn s (over (returns s)) refl
+
+until_keeps : (body : Store → Run End) (condition : Store → Run Bool) → ((s : Store) → Keeps End store_of s (body s)) → (s : Store) → Keeps Turn store_of_turn s (until body condition s)
+unfolding until
+until_keeps body condition h s = keeps_then store_of store_of_turn s (h s) (λ e. asked_keeps condition e)
+
+refused_same : (s t : Store) (r : Result Store Fault) → ((u : Store) → r ≡ Ok u → Same s u) → unless_refused r ≡ Some t → Same s t
+refused_same s t (Ok u) h e = let q : u ≡ t = cc in ap shape_of (sym q) ∙ h u refl
+refused_same s t (Err f) h e = absurd (cc)
+
+stored_same : (s : Store) (x : Path) (o : Option Datum) (t : Store) → stored s x o ≡ Some t → Same s t
+stored_same s x None t e = absurd (cc)
+stored_same s x (Some v) t e = refused_same s t (assigned s x v) (assigned_same s x v) e
+
+next_same : (s : Store) (x : Path) (step : ℤ) (o : Option Datum) (t : Store) → option_and_then (λ v. stored s x (stepped_on step v)) o ≡ Some t → Same s t
+next_same s x step None t e = absurd (cc)
+next_same s x step (Some v) t e = stored_same s x (stepped_on step v) t e
+
+step_same : (x : Path) (step : ℤ) (s t : Store) → step_on x step s ≡ Some t → Same s t
+unfolding step_on
+step_same x step s t e = next_same s x step (get s x) t e
+
+some_same : (s t : Store) → Some s ≡ Some t → Same s t
+some_same s t e = let q : s ≡ t = cc in ap shape_of (sym q)
+
+module _ (w : Scope) (blocks : (b : Name) (at : Path) (s : Store) → Keeps Store itself s (w.units.blocks b at s)) where
+  inputs_keep : (at : Path) (vs : List (Name × Datum)) (s : Store) → Keeps Store itself s (assigned_inputs at vs s)
+  inputs_keep at [] s = keeps_give itself s s refl
+  inputs_keep at (e ∷ es) s = keeps_then itself itself s (keeps_assigned s (member_at at e.0) e.1) (λ t. inputs_keep at es t)
+
+  outputs_keep : (at : Path) (arguments : List Argument) (s : Store) → Keeps Store itself s (copied_outputs w at arguments s)
+  outputs_keep at [] s = keeps_give itself s s refl
+  outputs_keep at (given x e ∷ rest) s = outputs_keep at rest s
+  outputs_keep at (copied x v ∷ rest) s = keeps_behind itself s (or_fault Index (get s (member_at at x.name))) (λ o. keeps_behind itself s (place w s v) (λ p. keeps_then itself itself s (keeps_assigned s p o) (λ t. outputs_keep at rest t)))
+
+  block_keeps : (at : Path) (o : Option Name) (s : Store) → Keeps Store itself s (ran_block w at o s)
+  block_keeps at None s = keeps_fault itself s Index
+  block_keeps at (Some b) s = blocks b at s
+
+  if_keeps : (s : Store) (b : Bool) {m n : Run End} → Keeps End store_of s m → Keeps End store_of s n → Keeps End store_of s (if b then m else n)
+  if_keeps s true h k = h
+  if_keeps s false h k = k
+
+  behind_keeps : (e : End) (next : Store → Run End) → ((s : Store) → Keeps End store_of s (next s)) → Keeps End store_of (store_of e) (behind e next)
+  behind_keeps (goes_on s) next h = h s
+  behind_keeps (exits s) next h = keeps_give store_of s (exits s) refl
+  behind_keeps (returns s) next h = keeps_give store_of s (returns s) refl
+
+  mutual
+    exec_keeps : (x : Stmt) (s : Store) → Keeps End store_of s (exec w x s)
+    exec_keeps empty s = keeps_tick store_of s (keeps_give store_of s (goes_on s) refl)
+    exec_keeps (assign v e) s = keeps_tick store_of s (keeps_behind store_of s (value w s e) (λ x. keeps_behind store_of s (place w s v) (λ p. keeps_then itself store_of s (keeps_assigned s p x) (λ t. keeps_give store_of t (goes_on t) refl))))
+    exec_keeps (invoke x arguments) s =
+        keeps_tick store_of s (keeps_behind store_of s (given_inputs w s arguments) (λ vs. keeps_then itself store_of s (inputs_keep (path_in w.frame w.body x.name) vs s)
+        (λ t. keeps_then itself store_of t (block_keeps (path_in w.frame w.body x.name) (block_named w.body.instances x.name) t)
+        (λ u. keeps_then itself store_of u (outputs_keep (path_in w.frame w.body x.name) arguments u) (λ z. keeps_give store_of z (goes_on z) refl)))))
+    exec_keeps (choose arms otherwise) s = keeps_tick store_of s (arms_keep arms (exec_all w otherwise) (exec_all_keeps otherwise) s)
+    exec_keeps (select e arms otherwise) s = keeps_tick store_of s (keeps_behind store_of s (value w s e) (λ v. case_keeps v.number arms (exec_all w otherwise) (exec_all_keeps otherwise) s))
+    exec_keeps (count x start limit step body) s =
+        keeps_tick store_of s (keeps_behind store_of s (value w s start) (λ i. keeps_behind store_of s (value w s limit) (λ n. keeps_behind store_of s (step_of w s step) (λ d. keeps_behind store_of s (nonzero d)
+        (λ _. keeps_then itself store_of s (keeps_assigned s (path_in w.frame w.body x.name) i) (λ t. looped_keeps _ (step_on (path_in w.frame w.body x.name) d)
+        (guarded_keeps (runs_on (path_in w.frame w.body x.name) n.number d) (exec_all w body) (exec_all_keeps body)) (step_same (path_in w.frame w.body x.name) d) t))))))
+    exec_keeps (while e body) s = keeps_tick store_of s (looped_keeps _ Some (guarded_keeps (test w e) (exec_all w body) (exec_all_keeps body)) some_same s)
+    exec_keeps (repeat body e) s = keeps_tick store_of s (looped_keeps _ Some (until_keeps (exec_all w body) (test w e) (exec_all_keeps body)) some_same s)
+    exec_keeps (exit at) s = keeps_tick store_of s (keeps_give store_of s (exits s) refl)
+    exec_keeps return s = keeps_tick store_of s (keeps_give store_of s (returns s) refl)
+
+    pub exec_all_keeps : (xs : Stmts) (s : Store) → Keeps End store_of s (exec_all w xs s)
+    exec_all_keeps no_stmts s = keeps_give store_of s (goes_on s) refl
+    exec_all_keeps (stmt_then x xs) s = keeps_then store_of store_of s (exec_keeps x s) (λ e. behind_keeps e (exec_all w xs) (exec_all_keeps xs))
+
+    arms_keep : (arms : Arms) (otherwise : Store → Run End) → ((s : Store) → Keeps End store_of s (otherwise s)) → (s : Store) → Keeps End store_of s (exec_arms w arms otherwise s)
+    arms_keep no_arms otherwise h s = h s
+    arms_keep (arm_then e body arms) otherwise h s = keeps_behind store_of s (test w e s) (λ go. if_keeps s go (exec_all_keeps body s) (arms_keep arms otherwise h s))
+
+    case_keeps : (z : ℤ) (arms : CaseArms) (otherwise : Store → Run End) → ((s : Store) → Keeps End store_of s (otherwise s)) → (s : Store) → Keeps End store_of s (exec_case w z arms otherwise s)
+    case_keeps z no_case_arms otherwise h s = h s
+    case_keeps z (case_arm_then labels body arms) otherwise h s = if_keeps s (list_any (label_holds z) labels) (exec_all_keeps body s) (case_keeps z arms otherwise h s)
+
+members_same : (s : Store) (at : Path) (ms : List standard.Member) (vs : List Datum) (t : Store) → members_assigned s at ms vs ≡ Ok t → Same s t
+members_same s at [] vs t e = let q : s ≡ t = cc in ap shape_of (sym q)
+members_same s at (m ∷ ms) [] t e = let q : s ≡ t = cc in ap shape_of (sym q)
+members_same s at (m ∷ ms) (v ∷ vs) t e = next (assigned s (member_at at m.0) v) (assigned_same s (member_at at m.0) v) (λ u. members_same u at ms vs t) e
+  where
+    next : (r : Result Store Fault) → ((u : Store) → r ≡ Ok u → Same s u) → ((u : Store) → members_assigned u at ms vs ≡ Ok t → Same u t) → proceed r (λ u. members_assigned u at ms vs) ≡ Ok t → Same s t
+    next (Ok u) h k e = k u e ∙ h u refl
+    next (Err f) h k e = absurd (cc)
+
+standard_keeps : (k : standard.Block) (now : ℕ) (at : Path) (s : Store) → Keeps Store itself s (standard_call k now at s)
+standard_keeps k now at s = keeps_behind itself s _ (λ vs. keeps_take s (members_assigned s at (members_of k) (stepped k now vs)) (members_same s at (members_of k) (stepped k now vs)))
+
+module _ (library : Library) (image : Store) (now : ℕ) (units : Units) (blocks : (b : Name) (at : Path) (s : Store) → Keeps Store itself s (units.blocks b at s)) where
+  body_keeps : (b : Block) (at : Path) (s : Store) → Keeps Store itself s (block_call units image now b at s)
+  body_keeps b at s = keeps_then store_of itself s (exec_all_keeps (record { units = units; frame = of_block at; body = b.body; image = image; now = now }) blocks b.body.statements s) (λ e. keeps_give itself (store_of e) (store_of e) refl)
+
+  instance_keeps : (b : Name) (o : Option standard.Block) (at : Path) (s : Store) → Keeps Store itself s (instance_call library image units now b o at s)
+  instance_keeps b (Some k) at s = standard_keeps k now at s
+  instance_keeps b None at s = keeps_behind itself s (or_fault Index (block_in library.blocks b)) (λ c. body_keeps c at s)
+
+units_keep : (library : Library) (image : Store) (now n : ℕ) (b : Name) (at : Path) (s : Store) → Keeps Store itself s ((units_within library image now n).blocks b at s)
+unfolding units_within
+units_keep library image now zero b at s = keeps_fault itself s _
+units_keep library image now (suc n) b at s = instance_keeps library image now (units_within library image now n) (units_keep library image now n) b (block_of b) at s
+
+pub ran_keeps : (p : Program) (image : Store) (now b : ℕ) (s : Store) (e : End) (c : ℕ) → ran p image now b s ≡ Ok (e, c) → Same s (store_of e)
+unfolding ran
+ran_keeps p image now b s e c h = (exec_all_keeps (scope_of p image now b) (units_keep p.library image now b) p.body.statements s).kept b e c h

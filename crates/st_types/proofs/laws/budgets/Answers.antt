@@ -1,0 +1,15 @@
+use Rattle.st_types.proofs.Lasts.{ran_falls, ran_more}
+use Rattle.st_types.proofs.RunLemmas.{outcome_more, store_more}
+use Rattle.st_types.proofs.laws.budgets.Goals as goal
+
+pub returns-clause-falls : goal.returns-clause-falls
+returns-clause-falls c = ran_falls
+
+pub returns-clause-more : goal.returns-clause-more
+returns-clause-more c = ran_more
+
+pub returns-clause-outcome : goal.returns-clause-outcome
+returns-clause-outcome c = outcome_more
+
+pub returns-clause-store : goal.returns-clause-store
+returns-clause-store c = store_more

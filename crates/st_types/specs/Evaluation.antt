@@ -1,0 +1,73 @@
+-- The value of an expression. All operands are evaluated, the left before the right.
+use Rattle.std.specs.Prelude.{ℕ, ℤ, List, [], ◌∷◌, ◌++◌, Bool, ◌||◌, if◌then◌else◌, Option, Some, None, Result, Ok, Err}
+use Rattle.st_words.specs.declared.fault.Fault.{Fault}
+use Rattle.st_words.specs.declared.fault.Fault.TheVariants.{Index}
+use Rattle.st_words.specs.declared.path.Step.TheVariants.{Element}
+use Rattle.st_words.specs.Values.{Datum}
+use Rattle.st_words.specs.Paths.{Path}
+use Rattle.st_trees.specs.Expressions.{Expr, literal, read, call, parenthesis, unary, binary, Exprs, no_exprs, expr_then, Variable, variable, Selector, member, subscript, Selectors, no_selectors, selector_then}
+use Rattle.st_types.specs.Stores.{Store, has_part}
+use Rattle.st_types.specs.Ticks.{Run, ◌>>=◌, ◌>>◌, give, fault, take, or_fault}
+use Rattle.st_types.specs.Operators.{value_of_literal, apply, apply_unary, truth}
+use Rattle.st_types.specs.StandardFunctions.{Standard, standard_of, standard_value}
+use Rattle.st_types.specs.Scopes.{Scope, path_in, member_at, seen}
+
+-- an element of what a path leads to
+abbrev pub element_at : Path → ℤ → Path
+element_at p z = record { owner = p.owner; name = p.name; steps = p.steps ++ Element z ∷ [] }
+
+-- the element at a subscript; F3 where it is out of bounds, so that no variable is there
+abbrev pub bounded : Store → Store → Path → Run Path
+bounded image s p = if has_part image p || has_part s p then give p else fault Index
+
+-- a call of a standard function or one of the text
+abbrev pub called : Scope → Option Standard → List ℕ → List Datum → Run Datum
+called w (Some f) x vs = take (standard_value f vs)
+called w None x vs = w.units.functions x vs
+
+abbrev mutual
+  pub value : Scope → Store → Expr → Run Datum
+  value w s (literal l) = take (value_of_literal l)
+  value w s (read v) = do
+    p ← place w s v
+    or_fault Index (seen w.image s p)
+  value w s (call f es) = do
+    vs ← values w s es
+    called w (standard_of f.name) f.name vs
+  value w s (parenthesis at e) = value w s e
+  value w s (unary op at e) = do
+    x ← value w s e
+    take (apply_unary op x)
+  value w s (binary op l r) = do
+    x ← value w s l
+    y ← value w s r
+    take (apply op x y)
+
+  pub values : Scope → Store → Exprs → Run (List Datum)
+  values w s no_exprs = give []
+  values w s (expr_then e es) = do
+    v ← value w s e
+    vs ← values w s es
+    give (v ∷ vs)
+
+  -- the path that a variable leads to: each subscript is evaluated and tested before the next
+  pub place : Scope → Store → Variable → Run Path
+  place w s (variable x xs) = selected w s (path_in w.frame w.body x.name) xs
+
+  pub selected : Scope → Store → Path → Selectors → Run Path
+  selected w s p no_selectors = give p
+  selected w s p (selector_then x xs) = do
+    q ← stepped_to w s p x
+    selected w s q xs
+
+  pub stepped_to : Scope → Store → Path → Selector → Run Path
+  stepped_to w s p (member x) = give (member_at p x.name)
+  stepped_to w s p (subscript e) = do
+    v ← value w s e
+    bounded w.image s (element_at p v.number)
+
+-- the truth of a condition
+unfoldable pub test : Scope → Expr → Store → Run Bool
+test w e s = do
+  v ← value w s e
+  take (truth v)

@@ -1,0 +1,189 @@
+-- Words for worked examples: programs of one instance R/P with variables of its own, as trees without places.
+use Rattle.std.specs.Prelude.{ℕ, ℤ, pos, negsuc, unsigned_abs, int_lt, List, [], ◌∷◌, ◌++◌, take, drop, length, map, Bool, true, false, Option, Some, None, Result, codes}
+use Rattle.st_words.specs.declared.fault.Fault.{Fault}
+use Rattle.st_words.specs.declared.identifier.Identifier.{Identifier}
+use Rattle.st_words.specs.declared.kind.Kind.{Kind}
+use Rattle.st_words.specs.declared.kind.Kind.TheVariants.{Int, Dint, Time, Bool as Boolean}
+use Rattle.st_words.specs.declared.literal.Literal.TheVariants as literals
+use Rattle.st_words.specs.declared.literal.Number.{Number}
+use Rattle.st_words.specs.declared.operator.BinaryOperator.TheVariants.{Less, GreaterOrEqual, Equal, Add, Multiply}
+use Rattle.st_words.specs.declared.path.Owner.{Owner}
+use Rattle.st_words.specs.Values.{Datum}
+use Rattle.st_words.specs.Paths.{Path}
+use Rattle.st_words.specs.Values.{datum_of_truth}
+use Rattle.st_types.specs.StandardBlocks as standard
+use Rattle.st_types.specs.StandardBlocks.{stepped}
+use Rattle.st_trees.specs.Expressions.{Expr, literal, read, call, binary, exprs_of, Variable, variable, no_selectors, selector_then, subscript}
+use Rattle.st_trees.specs.Statements.{Stmt, stmts_of, assign, empty, choose, count, while, repeat, exit, arms_of}
+use Rattle.st_trees.specs.declared.data_type.SimpleType.TheVariants.{Elementary}
+use Rattle.st_trees.specs.declared.data_type.VariableType.TheVariants.{Simple}
+use Rattle.st_trees.specs.declared.declaration.Section.TheVariants.{Local}
+use Rattle.st_trees.specs.declared.unit.UnitSort.TheVariants.{Program as ProgramSort}
+use Rattle.st_trees.specs.Declarations.{Declaration}
+use Rattle.st_trees.specs.Units.{OrganisationUnit}
+use Rattle.st_types.specs.NameTypes.{Text}
+use Rattle.st_types.specs.Stores.{Store}
+use Rattle.st_types.specs.Scopes.{Name, Body, Function, Library, own_path, of_program, global}
+use Rattle.st_types.specs.Runs.{Program, ran, outcome_of, store_after}
+use Rattle.st_types.specs.Loops.{End}
+
+abbrev pub identifier : Name → Identifier
+identifier x = record { name = x; place = 0 }
+
+-- a variable by its name
+abbrev pub target : Name → Variable
+target x = variable (identifier x) no_selectors
+
+abbrev pub name : Name → Expr
+name x = read (target x)
+
+-- a literal that has taken a type
+abbrev pub number : Kind → ℤ → Expr
+number k z = literal (literals.Number (record { place = 0; is_negative = int_lt z (pos 0); magnitude = unsigned_abs z; written = None; is_decimal = true; taken = Some k }))
+
+-- a literal as it is parsed, before it has taken a type
+abbrev pub untyped : ℤ → Expr
+untyped z = literal (literals.Number (record { place = 0; is_negative = int_lt z (pos 0); magnitude = unsigned_abs z; written = None; is_decimal = true; taken = None }))
+
+-- a program's declaration of a variable
+abbrev pub declared : Name → Kind → Declaration
+declared x k = record { names = identifier x ∷ []; declared = Simple (Elementary k 0); initial = None }
+
+-- PROGRAM P VAR n : INT; d : DINT; b : BOOL; END_VAR
+abbrev pub three_variables : OrganisationUnit
+three_variables = record {
+  sort = ProgramSort;
+  name = identifier (codes "P");
+  blocks = record { section = Local None; declarations = declared (codes "N") Int ∷ declared (codes "D") Dint ∷ declared (codes "B") Boolean ∷ [] } ∷ [];
+  body = [];
+}
+
+abbrev pub its_text : Text
+its_text = record { types = []; units = three_variables ∷ [] }
+
+abbrev pub truth : Bool → Expr
+truth b = literal (literals.Truth 0 b)
+
+abbrev pub owner : Owner
+owner = record { resource = codes "R"; instance = codes "P" }
+
+-- a variable of the program
+abbrev pub own : Name → Path
+own x = own_path (of_program owner) x
+
+abbrev pub datum : Kind → ℤ → Datum
+datum k z = record { kind = k; number = z }
+
+abbrev pub variables : List (Name × Datum) → Store
+variables [] = []
+variables (e ∷ es) = (own e.0, e.1) ∷ variables es
+
+abbrev pub body_of : List Stmt → Body
+body_of xs = record { externals = []; instances = []; statements = stmts_of xs }
+
+abbrev pub program : List Function → List Stmt → Program
+program functions xs = record { library = record { functions = functions; blocks = [] }; owner = owner; body = body_of xs }
+
+-- the end of the statements with the ticks left, or their fault
+abbrev pub ran_with : List Function → ℕ → List Stmt → List (Name × Datum) → Result (End × ℕ) Fault
+ran_with functions budget xs vs = ran (program functions xs) [] 0 budget (variables vs)
+
+-- a run with ample ticks: how it ends, and the variables after it
+abbrev pub outcome_with : List Function → List Stmt → List (Name × Datum) → Option Fault
+outcome_with functions xs vs = outcome_of (program functions xs) 10000 (variables vs) [] 0
+
+abbrev pub after_with : List Function → List Stmt → List (Name × Datum) → Store
+after_with functions xs vs = store_after (program functions xs) 10000 (variables vs) [] 0
+
+-- x := e;
+abbrev pub set : Name → Expr → Stmt
+set x e = assign (target x) e
+
+abbrev pub I : Name
+I = codes "I"
+
+abbrev pub K : Name
+K = codes "K"
+
+abbrev pub X : Name
+X = codes "X"
+
+abbrev pub Y : Name
+Y = codes "Y"
+
+abbrev pub Z : Name
+Z = codes "Z"
+
+-- i := 0; WHILE i < 3 DO i := i + 1; END_WHILE;
+abbrev pub while_to_3 : List Stmt
+while_to_3 =
+    set I (number Int (pos 0))
+    ∷ while (binary Less (name I) (number Int (pos 3))) (stmts_of (set I (binary Add (name I) (number Int (pos 1))) ∷ []))
+    ∷ []
+
+-- k := k + 1;
+abbrev pub one_more : Stmt
+one_more = set K (binary Add (name K) (number Int (pos 1)))
+
+-- FOR i := 32760 TO 32767 DO k := k + 1; END_FOR;
+abbrev pub to_the_end : List Stmt
+to_the_end = count (identifier I) (number Int (pos 32760)) (number Int (pos 32767)) None (stmts_of (one_more ∷ [])) ∷ []
+
+-- FOR i := 1 TO 3 DO ; END_FOR;
+abbrev pub to_3 : List Stmt
+to_3 = count (identifier I) (number Int (pos 1)) (number Int (pos 3)) None (stmts_of (empty ∷ [])) ∷ []
+
+-- FOR i := 1 TO 3 BY 0 DO ; END_FOR;
+abbrev pub by_0 : List Stmt
+by_0 = count (identifier I) (number Int (pos 1)) (number Int (pos 3)) (Some (number Int (pos 0))) (stmts_of (empty ∷ [])) ∷ []
+
+-- FOR i := 1 TO 5 DO IF i = 3 THEN EXIT; END_IF; k := k + 1; END_FOR;
+abbrev pub exit_at_3 : List Stmt
+exit_at_3 =
+    count (identifier I) (number Int (pos 1)) (number Int (pos 5)) None
+    (stmts_of (choose (arms_of ((binary Equal (name I) (number Int (pos 3)), stmts_of (exit 0 ∷ [])) ∷ [])) (stmts_of []) ∷ one_more ∷ []))
+    ∷ []
+
+-- REPEAT i := i + 1; UNTIL i >= 3 END_REPEAT;
+abbrev pub repeat_to_3 : List Stmt
+repeat_to_3 = repeat (stmts_of (set I (binary Add (name I) (number Int (pos 1))) ∷ [])) (binary GreaterOrEqual (name I) (number Int (pos 3))) ∷ []
+
+-- FUNCTION Sq : DINT VAR_INPUT x : DINT; END_VAR Sq := x * x; END_FUNCTION
+abbrev pub square : Function
+square = record {
+  name = codes "SQ";
+  inputs = X ∷ [];
+  fresh = (global (codes "SQ"), datum Dint (pos 0)) ∷ (global X, datum Dint (pos 0)) ∷ [];
+  body = body_of (set (codes "SQ") (binary Multiply (name X) (name X)) ∷ []);
+}
+
+-- y := Sq(n);
+abbrev pub squared : ℤ → List Stmt
+squared z = set Y (call (identifier (codes "SQ")) (exprs_of (number Dint z ∷ []))) ∷ []
+
+-- the outputs of a block after each of its calls, which are a moment with the inputs; it has so many inputs and outputs
+abbrev pub outputs_of : standard.Block → ℕ → ℕ → List (ℕ × List Datum) → List Datum → List (List Datum)
+outputs_of b inputs outputs [] members = []
+outputs_of b inputs outputs (c ∷ calls) members =
+    let next = stepped b c.0 (c.1 ++ drop inputs members) in
+    take outputs (drop inputs next) ∷ outputs_of b inputs outputs calls next
+
+-- members as they start
+abbrev pub fresh_members : standard.Block → List Datum
+fresh_members b = map (λ m. datum m.1 (pos 0)) (standard.members_of b)
+
+abbrev pub bool : Bool → Datum
+bool = datum_of_truth
+
+abbrev pub int : ℤ → Datum
+int z = datum Int z
+
+abbrev pub time : ℤ → Datum
+time z = datum Time z
+
+-- Q and ET of a timer after each of its calls, which are a moment with IN
+abbrev pub timed : standard.Block → ℤ → List (ℕ × Bool) → List (List Datum)
+timed b pt calls = outputs_of b 2 2 (map (λ c. (c.0, bool c.1 ∷ time pt ∷ [])) calls) (fresh_members b)
+
+abbrev pub q_et : Bool → ℕ → List Datum
+q_et q et = bool q ∷ time (pos et) ∷ []

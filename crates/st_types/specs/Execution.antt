@@ -1,0 +1,125 @@
+-- What statements do. Each takes a tick as it begins, before all else.
+use Rattle.std.specs.Prelude.{ℕ, ℤ, pos, int_le, List, [], ◌∷◌, Bool, true, false, ◌&&◌, ◌||◌, if◌then◌else◌, Option, Some, None, Result, Ok, Err}
+use Rattle.std.specs.Ordering.{int_eq}
+use Rattle.std.specs.List.{list_any}
+use Rattle.st_words.specs.declared.fault.Fault.TheVariants.{Index}
+use Rattle.st_words.specs.Values.{Datum, in_range}
+use Rattle.st_words.specs.Paths.{Path}
+use Rattle.st_trees.specs.declared.statement.Label.{Label}
+use Rattle.st_trees.specs.declared.statement.Label.TheVariants.{Single, Range}
+use Rattle.st_trees.specs.Expressions.{Expr}
+use Rattle.st_trees.specs.Statements.{Argument, given, copied, Stmt, empty, assign, invoke, choose, select, count, while, repeat, exit, return, Stmts, no_stmts, stmt_then, Arms, no_arms, arm_then, CaseArms, no_case_arms, case_arm_then}
+use Rattle.st_types.specs.Stores.{Store, get, assigned}
+use Rattle.st_types.specs.Ticks.{Run, ◌>>=◌, ◌>>◌, give, fault, take, or_fault, tick}
+use Rattle.st_types.specs.Operators.{number_of}
+use Rattle.st_types.specs.Scopes.{Name, Scope, Units, path_in, member_at, block_named}
+use Rattle.st_types.specs.Evaluation.{value, place, test}
+use Rattle.st_types.specs.Loops.{End, goes_on, exits, returns, behind, looped, guarded, until, runs_on, step_on, nonzero}
+
+-- a label holds the selector's number
+abbrev pub label_holds : ℤ → Label → Bool
+label_holds z (Single n) = int_eq z (number_of n)
+label_holds z (Range least greatest) = int_le (number_of least) z && int_le z (number_of greatest)
+
+-- the inputs of a block call, all evaluated in written order
+abbrev pub given_inputs : Scope → Store → List Argument → Run (List (Name × Datum))
+given_inputs w s [] = give []
+given_inputs w s (given x e ∷ rest) = do
+  v ← value w s e
+  vs ← given_inputs w s rest
+  give ((x.name, v) ∷ vs)
+given_inputs w s (copied x v ∷ rest) = given_inputs w s rest
+
+-- then assigned; an input that is not given keeps its value
+abbrev pub assigned_inputs : Path → List (Name × Datum) → Store → Run Store
+assigned_inputs at [] s = give s
+assigned_inputs at (e ∷ es) s = do
+  t ← take (assigned s (member_at at e.0) e.1)
+  assigned_inputs at es t
+
+-- the outputs of a block call, copied in written order
+abbrev pub copied_outputs : Scope → Path → List Argument → Store → Run Store
+copied_outputs w at [] s = give s
+copied_outputs w at (given x e ∷ rest) s = copied_outputs w at rest s
+copied_outputs w at (copied x v ∷ rest) s = do
+  o ← or_fault Index (get s (member_at at x.name))
+  p ← place w s v
+  t ← take (assigned s p o)
+  copied_outputs w at rest t
+
+-- the body of the block of an instance
+abbrev pub ran_block : Scope → Path → Option Name → Store → Run Store
+ran_block w at None s = fault Index
+ran_block w at (Some b) s = w.units.blocks b at s
+
+-- the step of a FOR: 1 where none is written
+abbrev pub step_of : Scope → Store → Option Expr → Run ℤ
+step_of w s None = give (pos 1)
+step_of w s (Some e) = do
+  v ← value w s e
+  give v.number
+
+abbrev mutual
+  pub exec : Scope → Stmt → Store → Run End
+  exec w empty s = do
+    tick
+    give (goes_on s)
+  exec w (assign v e) s = do
+    tick
+    x ← value w s e
+    p ← place w s v
+    t ← take (assigned s p x)
+    give (goes_on t)
+  exec w (invoke x arguments) s = do
+    tick
+    vs ← given_inputs w s arguments
+    t ← assigned_inputs (path_in w.frame w.body x.name) vs s
+    u ← ran_block w (path_in w.frame w.body x.name) (block_named w.body.instances x.name) t
+    z ← copied_outputs w (path_in w.frame w.body x.name) arguments u
+    give (goes_on z)
+  exec w (choose arms otherwise) s = do
+    tick
+    exec_arms w arms (exec_all w otherwise) s
+  exec w (select e arms otherwise) s = do
+    tick
+    v ← value w s e
+    exec_case w v.number arms (exec_all w otherwise) s
+  exec w (count x start limit step body) s = do
+    tick
+    i ← value w s start
+    n ← value w s limit
+    d ← step_of w s step
+    nonzero d
+    t ← take (assigned s (path_in w.frame w.body x.name) i)
+    looped (guarded (runs_on (path_in w.frame w.body x.name) n.number d) (exec_all w body)) (step_on (path_in w.frame w.body x.name) d) t
+  exec w (while e body) s = do
+    tick
+    looped (guarded (test w e) (exec_all w body)) Some s
+  exec w (repeat body e) s = do
+    tick
+    looped (until (exec_all w body) (test w e)) Some s
+  exec w (exit at) s = do
+    tick
+    give (exits s)
+  exec w return s = do
+    tick
+    give (returns s)
+
+  pub exec_all : Scope → Stmts → Store → Run End
+  exec_all w no_stmts s = give (goes_on s)
+  exec_all w (stmt_then x xs) s = do
+    e ← exec w x s
+    behind e (exec_all w xs)
+
+  -- the statements of the first condition that holds, or those behind them all
+  pub exec_arms : Scope → Arms → (Store → Run End) → Store → Run End
+  exec_arms w no_arms otherwise s = otherwise s
+  exec_arms w (arm_then e body arms) otherwise s = do
+    go ← test w e s
+    if go then exec_all w body s else exec_arms w arms otherwise s
+
+  -- the statements of the first list with a label that holds the number, or those behind them all
+  pub exec_case : Scope → ℤ → CaseArms → (Store → Run End) → Store → Run End
+  exec_case w z no_case_arms otherwise s = otherwise s
+  exec_case w z (case_arm_then labels body arms) otherwise s =
+    if list_any (label_holds z) labels then exec_all w body s else exec_case w z arms otherwise s

@@ -1,0 +1,15 @@
+pub mod Stores
+pub mod Ticks
+pub mod Operators
+pub mod StandardFunctions
+pub mod StandardBlocks
+pub mod TimerRuns
+pub mod Scopes
+pub mod Evaluation
+pub mod Loops
+pub mod Execution
+pub mod Runs
+pub mod Examples
+pub mod NameTypes
+pub mod Resolution
+pub mod ResolvedUnits

@@ -1,0 +1,102 @@
+-- Loops.
+use Rattle.std.specs.Prelude.{ℕ, zero, suc, ℤ, pos, ◌+ℤ◌, int_lt, int_le, Bool, true, false, if◌then◌else◌, Option, Some, None, option_and_then, Result, Ok, Err}
+use Rattle.st_words.specs.declared.fault.Fault.{Fault}
+use Rattle.st_words.specs.declared.fault.Fault.TheVariants.{Index, Budget, ZeroStep}
+use Rattle.st_words.specs.Values.{Datum, in_range}
+use Rattle.st_words.specs.Paths.{Path}
+use Rattle.st_types.specs.Stores.{Store, get, assigned}
+use Rattle.st_types.specs.Ticks.{Run, ◌>>=◌, ◌>>◌, give, fault, or_fault, tick}
+
+-- how statements end, with the store that they leave
+pub data End : Type 0 where
+  goes_on : Store → End
+  exits : Store → End
+  returns : Store → End
+
+-- what stands behind statements that ended so
+abbrev pub behind : End → (Store → Run End) → Run End
+behind (goes_on s) next = next s
+behind (exits s) next = give (exits s)
+behind (returns s) next = give (returns s)
+
+-- how one turn of a loop ends: another turn is wanted, or the loop is over
+pub data Turn : Type 0 where
+  again : Store → Turn
+  over : End → Turn
+
+-- a turn whose body ended so: EXIT leaves the loop, RETURN the unit
+abbrev pub turned : End → Turn
+turned (goes_on s) = again s
+turned (exits s) = over (goes_on s)
+turned (returns s) = over (returns s)
+
+-- the loop goes on with the step that was made, or ends where none could be
+abbrev pub resumed : (Store → Run End) → Store → Option Store → Run End
+resumed next s None = give (goes_on s)
+resumed next s (Some t) = next t
+
+-- behind a turn: the tick of going back, the step of the control variable, and the loop again
+abbrev pub go_back : (Store → Option Store) → (Store → Run End) → Turn → Run End
+go_back step next (over e) = give e
+go_back step next (again s) = do
+  tick
+  resumed next s (step s)
+
+-- A loop of at most n turns. One that begins with n ticks goes back at most n times, so for it suc n turns are enough.
+unfoldable pub turns : ℕ → (Store → Run Turn) → (Store → Option Store) → Store → Run End
+turns zero turn step s = fault Budget
+turns (suc n) turn step s = do
+  t ← turn s
+  go_back step (turns n turn step) t
+
+unfoldable pub looped : (Store → Run Turn) → (Store → Option Store) → Store → Run End
+looped turn step s = λ b. turns (suc b) turn step s b
+
+-- a turn with its condition at the head
+unfoldable pub guarded : (Store → Run Bool) → (Store → Run End) → Store → Run Turn
+guarded condition body s = do
+  go ← condition s
+  if go then (do e ← body s; give (turned e)) else give (over (goes_on s))
+
+-- whether a turn whose body ended so is the last: the condition is asked where the body went on
+abbrev pub asked : (Store → Run Bool) → End → Run Turn
+asked condition (goes_on s) = do
+  stop ← condition s
+  give (if stop then over (goes_on s) else again s)
+asked condition (exits s) = give (over (goes_on s))
+asked condition (returns s) = give (over (returns s))
+
+-- a turn with its condition at the foot
+unfoldable pub until : (Store → Run End) → (Store → Run Bool) → Store → Run Turn
+until body condition s = do
+  e ← body s
+  asked condition e
+
+-- the control variable has not passed the limit: it is not above it for a positive step, and not below it for a negative one
+unfoldable pub runs_on : Path → ℤ → ℤ → Store → Run Bool
+runs_on x limit step s = do
+  v ← or_fault Index (get s x)
+  give (if int_lt step (pos 0) then int_le limit v.number else int_le v.number limit)
+
+abbrev pub unless_fault : Result Datum Fault → Option Datum
+unless_fault (Ok v) = Some v
+unless_fault (Err e) = None
+
+-- the control variable one step on, or none where the sum would leave its type
+abbrev pub stepped_on : ℤ → Datum → Option Datum
+stepped_on step v = unless_fault (in_range v.kind (v.number +ℤ step))
+
+abbrev pub unless_refused : Result Store Fault → Option Store
+unless_refused (Ok t) = Some t
+unless_refused (Err e) = None
+
+abbrev pub stored : Store → Path → Option Datum → Option Store
+stored s x None = None
+stored s x (Some v) = unless_refused (assigned s x v)
+
+unfoldable pub step_on : Path → ℤ → Store → Option Store
+step_on x step s = option_and_then (λ v. stored s x (stepped_on step v)) (get s x)
+
+abbrev pub nonzero : ℤ → Run (Unit {0})
+nonzero (pos zero) = fault ZeroStep
+nonzero _ = give tt

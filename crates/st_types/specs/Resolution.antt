@@ -1,0 +1,157 @@
+-- The types of untyped literals. Each takes the type that its place expects, which the parsed tree and its declarations tell.
+use Rattle.std.specs.Prelude.{ℕ, List, [], ◌∷◌, ◌++◌, map, Bool, true, false, ◌&&◌, not, if◌then◌else◌, Option, Some, None, option_map, option_and_then}
+use Rattle.st_words.specs.declared.kind.Kind.{Kind}
+use Rattle.st_words.specs.declared.kind.Kind.TheVariants.{Lint, Time, Bool as Boolean}
+use Rattle.st_words.specs.declared.kind.Sort.{Sort}
+use Rattle.st_words.specs.declared.kind.Sort.TheVariants as sorts
+use Rattle.st_words.specs.declared.literal.Literal.{Literal}
+use Rattle.st_words.specs.declared.literal.Literal.TheVariants as literals
+use Rattle.st_words.specs.declared.literal.Number.{Number}
+use Rattle.st_words.specs.declared.operator.BinaryOperator.{BinaryOperator}
+use Rattle.st_words.specs.declared.operator.BinaryOperator.TheVariants.{Or, Xor, And, Equal, NotEqual, Less, Greater, LessOrEqual, GreaterOrEqual, Add, Subtract, Multiply, Divide, Modulo}
+use Rattle.st_words.specs.Kinds.{row_of}
+use Rattle.st_trees.specs.Expressions.{Expr, literal, read, call, parenthesis, unary, binary, Exprs, no_exprs, expr_then, Variable, variable, Selector, member, subscript, Selectors, no_selectors, selector_then}
+use Rattle.st_trees.specs.Units.{OrganisationUnit}
+use Rattle.st_types.specs.StandardFunctions.{Standard, least_of_two, greatest_of_two, limited, selected, converted, standard_of}
+use Rattle.st_types.specs.NameTypes.{Text, kind_of_variable, unit_named, input_kinds, input_kind, result_kind}
+
+-- an operator between whole numbers or bit strings
+abbrev pub is_joining : BinaryOperator → Bool
+is_joining Equal = false
+is_joining NotEqual = false
+is_joining Less = false
+is_joining Greater = false
+is_joining LessOrEqual = false
+is_joining GreaterOrEqual = false
+is_joining _ = true
+
+abbrev pub is_untyped_literal : Literal → Bool
+is_untyped_literal (literals.Number n) = elim n.written [ Some k ↦ false | None ↦ true ]
+is_untyped_literal (literals.Truth at b) = false
+is_untyped_literal (literals.Duration at n) = false
+
+-- Its leaves are literals without a type, joined by parentheses, unary operators and operators of whole numbers and bit strings.
+abbrev pub is_untyped : Expr → Bool
+is_untyped (literal l) = is_untyped_literal l
+is_untyped (read v) = false
+is_untyped (call f es) = false
+is_untyped (parenthesis at e) = is_untyped e
+is_untyped (unary op at e) = is_untyped e
+is_untyped (binary op l r) = is_joining op && is_untyped l && is_untyped r
+
+abbrev pub is_whole_or_bits : Sort → Bool
+is_whole_or_bits sorts.Signed = true
+is_whole_or_bits sorts.Unsigned = true
+is_whole_or_bits sorts.Bits = true
+is_whole_or_bits sorts.Duration = false
+is_whole_or_bits sorts.Truth = false
+
+-- the type that an untyped expression takes: LINT where nothing is expected that it may be
+abbrev pub taken_kind : Option Kind → Kind
+taken_kind None = Lint
+taken_kind (Some k) = if is_whole_or_bits (row_of k).sort then k else Lint
+
+abbrev pub taking_number : Kind → Number → Number
+taking_number k n = elim n.written [ Some l ↦ n | None ↦ record n { taken = Some k } ]
+
+abbrev pub taking_literal : Kind → Literal → Literal
+taking_literal k (literals.Number n) = literals.Number (taking_number k n)
+taking_literal k (literals.Truth at b) = literals.Truth at b
+taking_literal k (literals.Duration at n) = literals.Duration at n
+
+abbrev pub kind_of_literal : Literal → Option Kind
+kind_of_literal (literals.Number n) = n.written
+kind_of_literal (literals.Truth at b) = Some Boolean
+kind_of_literal (literals.Duration at n) = Some Time
+
+abbrev pub or_kind : Option Kind → Option Kind → Option Kind
+or_kind (Some k) l = Some k
+or_kind None l = l
+
+-- the types of a standard function's operands: the common type of those that have it
+abbrev pub common_kind : Standard → List (Option Kind) → Option Kind
+common_kind least_of_two (a ∷ b ∷ []) = or_kind a b
+common_kind greatest_of_two (a ∷ b ∷ []) = or_kind a b
+common_kind limited (a ∷ b ∷ c ∷ []) = or_kind a (or_kind b c)
+common_kind selected (g ∷ a ∷ b ∷ []) = or_kind a b
+common_kind _ (a ∷ rest) = a
+common_kind _ [] = None
+
+-- the type that a standard function gives
+abbrev pub standard_kind : Standard → List (Option Kind) → Option Kind
+standard_kind (converted k l) ks = Some l
+standard_kind f ks = or_kind (common_kind f ks) (Some Lint)
+
+-- the types that a standard function expects of its arguments
+abbrev pub expected_kinds : Standard → List (Option Kind) → List (Option Kind)
+expected_kinds least_of_two ks = common_kind least_of_two ks ∷ common_kind least_of_two ks ∷ []
+expected_kinds greatest_of_two ks = common_kind greatest_of_two ks ∷ common_kind greatest_of_two ks ∷ []
+expected_kinds limited ks = common_kind limited ks ∷ common_kind limited ks ∷ common_kind limited ks ∷ []
+expected_kinds selected ks = Some Boolean ∷ common_kind selected ks ∷ common_kind selected ks ∷ []
+expected_kinds (converted k l) ks = Some k ∷ []
+expected_kinds _ ks = []
+
+abbrev pub result_of_unit : Option OrganisationUnit → Option Kind
+result_of_unit None = None
+result_of_unit (Some u) = result_kind u.sort
+
+abbrev pub inputs_of_unit : Option OrganisationUnit → List (Option Kind)
+inputs_of_unit None = []
+inputs_of_unit (Some u) = input_kinds u.blocks
+
+-- the type of a typed expression of a unit; an untyped one has none of its own
+abbrev mutual
+  pub own_kind : Text → OrganisationUnit → Expr → Option Kind
+  own_kind text u (literal l) = kind_of_literal l
+  own_kind text u (read v) = kind_of_variable text u v
+  own_kind text u (call f es) = elim (standard_of f.name) [ Some std ↦ standard_kind std (own_kinds text u es) | None ↦ result_of_unit (unit_named text.units f.name) ]
+  own_kind text u (parenthesis at e) = own_kind text u e
+  own_kind text u (unary op at e) = own_kind text u e
+  own_kind text u (binary op l r) = if is_joining op then or_kind (own_kind text u l) (own_kind text u r) else Some Boolean
+
+  pub own_kinds : Text → OrganisationUnit → Exprs → List (Option Kind)
+  own_kinds text u no_exprs = []
+  own_kinds text u (expr_then e es) = own_kind text u e ∷ own_kinds text u es
+
+-- the types that a call expects of its arguments
+abbrev pub argument_kinds : Text → OrganisationUnit → List ℕ → Exprs → List (Option Kind)
+argument_kinds text u f es = elim (standard_of f) [ Some std ↦ expected_kinds std (own_kinds text u es) | None ↦ inputs_of_unit (unit_named text.units f) ]
+
+-- the first of the types that are expected, and the others
+abbrev pub first_kind : List (Option Kind) → Option Kind
+first_kind [] = None
+first_kind (k ∷ ks) = k
+
+abbrev pub other_kinds : List (Option Kind) → List (Option Kind)
+other_kinds [] = []
+other_kinds (k ∷ ks) = ks
+
+-- what an operator's operands expect: where both are untyped, what the whole place expects; else the type of the typed one
+abbrev pub operand_kind : Text → OrganisationUnit → Option Kind → BinaryOperator → Expr → Expr → Option Kind
+operand_kind text u k op l r = if is_untyped l && is_untyped r then (if is_joining op then k else None) else or_kind (own_kind text u l) (own_kind text u r)
+
+-- An expression at a place that expects a type: an untyped one takes it, and in a typed one each untyped part takes what its own place expects.
+abbrev mutual
+  pub resolved_expr : Text → OrganisationUnit → Option Kind → Expr → Expr
+  resolved_expr text u k (literal l) = literal (taking_literal (taken_kind k) l)
+  resolved_expr text u k (read v) = read (resolved_variable text u v)
+  resolved_expr text u k (call f es) = call f (resolved_exprs text u (argument_kinds text u f.name es) es)
+  resolved_expr text u k (parenthesis at e) = parenthesis at (resolved_expr text u k e)
+  resolved_expr text u k (unary op at e) = unary op at (resolved_expr text u k e)
+  resolved_expr text u k (binary op l r) = binary op (resolved_expr text u (operand_kind text u k op l r) l) (resolved_expr text u (operand_kind text u k op l r) r)
+
+  pub resolved_exprs : Text → OrganisationUnit → List (Option Kind) → Exprs → Exprs
+  resolved_exprs text u ks no_exprs = no_exprs
+  resolved_exprs text u ks (expr_then e es) = expr_then (resolved_expr text u (first_kind ks) e) (resolved_exprs text u (other_kinds ks) es)
+
+  -- a subscript that is untyped is a LINT
+  pub resolved_variable : Text → OrganisationUnit → Variable → Variable
+  resolved_variable text u (variable x xs) = variable x (resolved_selectors text u xs)
+
+  pub resolved_selectors : Text → OrganisationUnit → Selectors → Selectors
+  resolved_selectors text u no_selectors = no_selectors
+  resolved_selectors text u (selector_then x xs) = selector_then (resolved_selector text u x) (resolved_selectors text u xs)
+
+  pub resolved_selector : Text → OrganisationUnit → Selector → Selector
+  resolved_selector text u (member x) = member x
+  resolved_selector text u (subscript e) = subscript (resolved_expr text u None e)

@@ -1,0 +1,109 @@
+-- What a run of a program gives.
+use Rattle.std.specs.Prelude.{ℕ, zero, suc, List, [], ◌∷◌, map, Option, Some, None, option_map, option_and_then, Result, Ok, Err}
+use Rattle.st_words.specs.declared.fault.Fault.{Fault}
+use Rattle.st_words.specs.declared.fault.Fault.TheVariants.{Index, Budget}
+use Rattle.st_words.specs.declared.path.Owner.{Owner}
+use Rattle.st_words.specs.Values.{Datum}
+use Rattle.st_words.specs.Paths.{Path}
+use Rattle.st_types.specs.Stores.{Store, get, assigned}
+use Rattle.st_types.specs.Ticks.{Run, ◌>>=◌, ◌>>◌, give, fault, take, or_fault, proceed}
+use Rattle.st_types.specs.StandardBlocks as standard
+use Rattle.st_types.specs.StandardBlocks.{block_of, stepped}
+use Rattle.st_types.specs.Scopes.{Name, Frame, of_program, of_block, of_call, Body, Function, Block, Library, Units, Scope, global, member_at, function_in, block_in}
+use Rattle.st_types.specs.Loops.{End, goes_on, exits, returns}
+use Rattle.st_types.specs.Execution.{exec_all}
+
+-- the store at the end
+abbrev pub store_of : End → Store
+store_of (goes_on s) = s
+store_of (exits s) = s
+store_of (returns s) = s
+
+-- a function's variables as a call begins: its inputs have the arguments' values
+abbrev pub begun : Store → List Name → List Datum → Result Store Fault
+begun s [] [] = Ok s
+begun s (x ∷ xs) (v ∷ vs) = proceed (assigned s (global x) v) (λ t. begun t xs vs)
+begun s _ _ = Err Index
+
+-- a function's body on fresh variables; its result is the variable of its name
+abbrev pub function_value : Units → ℕ → Function → List Datum → Run Datum
+function_value units now f vs = do
+  s ← take (begun f.fresh f.inputs vs)
+  e ← exec_all (record { units = units; frame = of_call; body = f.body; image = []; now = now }) f.body.statements s
+  or_fault Index (get (store_of e) (global f.name))
+
+-- the values of an instance's members
+abbrev pub member_values : Store → Path → List standard.Member → Option (List Datum)
+member_values s at [] = Some []
+member_values s at (m ∷ ms) = option_and_then (λ v. option_map (λ vs. v ∷ vs) (member_values s at ms)) (get s (member_at at m.0))
+
+abbrev pub members_assigned : Store → Path → List standard.Member → List Datum → Result Store Fault
+members_assigned s at (m ∷ ms) (v ∷ vs) = proceed (assigned s (member_at at m.0) v) (λ t. members_assigned t at ms vs)
+members_assigned s at _ _ = Ok s
+
+-- a call of a standard block: its members step
+abbrev pub standard_call : standard.Block → ℕ → Path → Store → Run Store
+standard_call b now at s = do
+  vs ← or_fault Index (member_values s at (standard.members_of b))
+  take (members_assigned s at (standard.members_of b) (stepped b now vs))
+
+-- a call of a block of the text: its body runs on the instance's variables
+abbrev pub block_call : Units → Store → ℕ → Block → Path → Store → Run Store
+block_call units image now b at s = do
+  e ← exec_all (record { units = units; frame = of_block at; body = b.body; image = image; now = now }) b.body.statements s
+  give (store_of e)
+
+-- a function of the text on its arguments
+abbrev pub function_call : Library → Units → ℕ → Name → List Datum → Run Datum
+function_call library units now f vs = do
+  g ← or_fault Index (function_in library.functions f)
+  function_value units now g vs
+
+-- a block on its instance: a standard one, or one of the text
+abbrev pub instance_call : Library → Store → Units → ℕ → Name → Option standard.Block → Path → Store → Run Store
+instance_call library image units now b (Some k) at s = standard_call k now at s
+instance_call library image units now b None at s = do
+  c ← or_fault Index (block_in library.blocks b)
+  block_call units image now c at s
+
+-- what the units of a text do, where those that they call do this
+abbrev pub units_over : Library → Store → ℕ → Units → Units
+units_over library image now units = record {
+  functions = function_call library units now;
+  blocks = λ b. instance_call library image units now b (block_of b);
+}
+
+-- The units of a text, with calls at most n deep. Each call stands in a statement, which took a tick.
+unfoldable pub units_within : Library → Store → ℕ → ℕ → Units
+units_within library image now zero = record { functions = λ f vs. fault Budget; blocks = λ b at s. fault Budget }
+units_within library image now (suc n) = units_over library image now (units_within library image now n)
+
+-- a program as its runs need it: the units of its text, its instance and its body
+pub record Program : Type 0 where
+  pub library : Library
+  pub owner : Owner
+  pub body : Body
+
+-- where the program's body runs, with calls at most n deep
+abbrev pub scope_of : Program → Store → ℕ → ℕ → Scope
+scope_of p image now n = record { units = units_within p.library image now n; frame = of_program p.owner; body = p.body; image = image; now = now }
+
+-- the program's statements with a budget of ticks
+unfoldable pub ran : Program → Store → ℕ → ℕ → Store → Result (End × ℕ) Fault
+ran p image now budget s = exec_all (scope_of p image now budget) p.body.statements s budget
+
+abbrev pub outcome_in : Result (End × ℕ) Fault → Option Fault
+outcome_in (Ok r) = None
+outcome_in (Err e) = Some e
+
+abbrev pub store_in : Result (End × ℕ) Fault → Store → Store
+store_in (Ok r) s = store_of r.0
+store_in (Err e) s = s
+
+-- how a run ends: none where it is done, else its fault
+unfoldable pub outcome_of : Program → ℕ → Store → Store → ℕ → Option Fault
+outcome_of p budget s image now = outcome_in (ran p image now budget s)
+
+-- the variables after a run: a fault leaves them as they were
+unfoldable pub store_after : Program → ℕ → Store → Store → ℕ → Store
+store_after p budget s image now = store_in (ran p image now budget s) s

@@ -1,0 +1,94 @@
+-- The standard functions.
+use Rattle.std.specs.Prelude.{◌≡◌, ℕ, zero, suc, ◌+◌, ◌-◌, ◌*◌, ◌/◌, ◌%◌, ◌^◌, ℤ, pos, negsuc, ◌-ℤ◌, unsigned_abs, int_le, nat_le, List, [], ◌∷◌, ◌++◌, map, Bool, true, false, ◌&&◌, not, if◌then◌else◌, Option, Some, None, Result, Ok, Err, codes, bytes_eq}
+use Rattle.std.specs.List.{find, flat_map}
+use Rattle.st_words.specs.declared.fault.Fault.{Fault}
+use Rattle.st_words.specs.declared.fault.Fault.TheVariants.{Range, Conversion}
+use Rattle.st_words.specs.declared.kind.Kind.{Kind}
+use Rattle.st_words.specs.declared.kind.Kind.TheVariants.{Sint, Int, Dint, Lint, Usint, Uint, Udint, Ulint, Byte, Word, Dword, Lword, Bool as Boolean}
+use Rattle.st_words.specs.Kinds.{row_of, holds, same_kind}
+use Rattle.st_words.specs.Values.{Datum, in_range, is_true}
+use Rattle.st_types.specs.Operators.{natural}
+
+pub data Standard : Type 0 where
+  absolute : Standard
+  least_of_two : Standard
+  greatest_of_two : Standard
+  limited : Standard
+  selected : Standard
+  shifted_left : Standard
+  shifted_right : Standard
+  rotated_left : Standard
+  rotated_right : Standard
+  -- X_TO_Y
+  converted : Kind → Kind → Standard
+
+-- the types among which values are converted
+abbrev pub convertible : List Kind
+convertible = Sint ∷ Int ∷ Dint ∷ Lint ∷ Usint ∷ Uint ∷ Udint ∷ Ulint ∷ Byte ∷ Word ∷ Dword ∷ Lword ∷ Boolean ∷ []
+
+abbrev pub conversion_name : Kind → Kind → List ℕ
+conversion_name k l = (row_of k).keyword ++ codes "_TO_" ++ (row_of l).keyword
+
+-- the conversions from a type to the others
+abbrev pub conversions_from : Kind → List Kind → List (List ℕ × Standard)
+conversions_from k [] = []
+conversions_from k (l ∷ ls) = if same_kind k l then conversions_from k ls else (conversion_name k l, converted k l) ∷ conversions_from k ls
+
+-- every standard function under its name
+unfoldable pub standard_functions : List (List ℕ × Standard)
+standard_functions =
+    (codes "ABS", absolute) ∷ (codes "MIN", least_of_two) ∷ (codes "MAX", greatest_of_two) ∷ (codes "LIMIT", limited) ∷ (codes "SEL", selected)
+    ∷ (codes "SHL", shifted_left) ∷ (codes "SHR", shifted_right) ∷ (codes "ROL", rotated_left) ∷ (codes "ROR", rotated_right)
+    ∷ flat_map (λ k. conversions_from k convertible) convertible
+
+abbrev pub named : List (List ℕ × Standard) → List ℕ → Option Standard
+named [] x = None
+named (e ∷ es) x = if bytes_eq x e.0 then Some e.1 else named es x
+
+-- the standard function of a name
+unfoldable pub standard_of : List ℕ → Option Standard
+standard_of x = named standard_functions x
+
+abbrev pub lesser : Datum → Datum → Datum
+lesser a b = if int_le a.number b.number then a else b
+
+abbrev pub greater : Datum → Datum → Datum
+greater a b = if int_le b.number a.number then a else b
+
+-- the bits of x moved up by n places, of so many; zeros follow, and what leaves the width is lost
+abbrev pub bits_up : ℕ → ℕ → ℕ → ℕ
+bits_up width x n = if nat_le width n then 0 else (x * 2 ^ n) % 2 ^ width
+
+-- the bits of x moved down by n places
+abbrev pub bits_down : ℕ → ℕ → ℕ → ℕ
+bits_down width x n = if nat_le width n then 0 else x / 2 ^ n
+
+-- the bits of x turned up by n places: what leaves at the top comes in below
+abbrev pub bits_round : ℕ → ℕ → ℕ → ℕ
+bits_round width x n = bits_up width x (n % width) + bits_down width x (width - n % width)
+
+-- a shift of a bit string by a whole number; a negative one is F1
+abbrev pub shifted : (ℕ → ℕ → ℕ → ℕ) → Datum → ℤ → Result Datum Fault
+shifted move x (pos n) = in_range x.kind (pos (move (row_of x.kind).bits (natural x.number) n))
+shifted move x (negsuc n) = Err Range
+
+abbrev pub rounded_down : ℕ → ℕ → ℕ → ℕ
+rounded_down width x n = bits_round width x (width - n % width)
+
+-- the value as one of another type; F4 where that does not hold it
+abbrev pub conversion : Kind → ℤ → Result Datum Fault
+conversion l z = if holds l z then Ok (record { kind = l; number = z }) else Err Conversion
+
+-- Arguments that do not fit stand in no text that is well typed.
+abbrev pub standard_value : Standard → List Datum → Result Datum Fault
+standard_value absolute (x ∷ []) = in_range x.kind (pos (unsigned_abs x.number))
+standard_value least_of_two (a ∷ b ∷ []) = Ok (lesser a b)
+standard_value greatest_of_two (a ∷ b ∷ []) = Ok (greater a b)
+standard_value limited (mn ∷ x ∷ mx ∷ []) = Ok (lesser (greater x mn) mx)
+standard_value selected (g ∷ a ∷ b ∷ []) = Ok (if is_true g then b else a)
+standard_value shifted_left (x ∷ n ∷ []) = shifted bits_up x n.number
+standard_value shifted_right (x ∷ n ∷ []) = shifted bits_down x n.number
+standard_value rotated_left (x ∷ n ∷ []) = shifted bits_round x n.number
+standard_value rotated_right (x ∷ n ∷ []) = shifted rounded_down x n.number
+standard_value (converted k l) (x ∷ []) = if same_kind x.kind k then conversion l x.number else Err Conversion
+standard_value _ _ = Err Conversion

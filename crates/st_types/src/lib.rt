@@ -1,0 +1,26 @@
+//! The words of the language, and what its programs mean.
+#![tactic(auto)]
+
+mod examples;
+mod laws;
+
+pub use examples::{
+    division, edges_and_counters, faults, function_calls, loops_with_a_variable,
+    loops_with_conditions, names_of_standard_functions, standard_functions, timers, untyped_literals,
+};
+pub use laws::{
+    bistables, bounds_of_recursion, budgets, counters_stay_within_their_type,
+    faults_change_nothing, on_delay_waits, operands_are_all_evaluated, timers_stop_at_their_time,
+    variables_stay,
+};
+pub use st_trees::{
+    Address, AddressWidth, Argument, Arm, ArrayType, CaseArm, Configuration, Declaration,
+    Direction, Expr, Field, GlobalBlock, GlobalDeclaration, GlobalNames, GlobalQualifier, Initial,
+    InitialElement, InitialMember, Instance, Label, LibraryElement, Priority, Resource, Retention,
+    Section, Selector, SimpleType, Source, Stmt, Task, TypeDeclaration, TypeDefinition, Unit,
+    UnitSort, Variable, VariableBlock, VariableType,
+};
+pub use st_words::{
+    BinaryOperator, Fault, Identifier, Kind, KindRow, Literal, Name, Number, Owner, Path, Sort,
+    Step, Tree, UnaryOperator, Value, same_option, same_trees,
+};

@@ -1,0 +1,74 @@
+-- The elementary types, as one table.
+use Rattle.std.specs.Prelude.{ℕ, ◌-◌, ◌^◌, ◌==◌, ℤ, pos, neg_ℤ, int_le, List, Bool, true, false, ◌&&◌, codes}
+use Rattle.st_words.specs.declared.kind.Kind.{Kind}
+use Rattle.st_words.specs.declared.kind.Kind.TheVariants.{Sint, Int, Dint, Lint, Usint, Uint, Udint, Ulint, Byte, Word, Dword, Lword, Time, Bool as Boolean}
+use Rattle.st_words.specs.declared.kind.Sort.{Sort}
+use Rattle.st_words.specs.declared.kind.Sort.TheVariants.{Signed, Unsigned, Bits, Duration, Truth}
+
+-- a line of the table: the keyword, what the values are, and how many bits they have
+pub record Row : Type 0 where
+  pub keyword : List ℕ
+  pub sort : Sort
+  pub bits : ℕ
+
+abbrev pub row_of : Kind → Row
+row_of Sint = record { keyword = codes "SINT"; sort = Signed; bits = 8 }
+row_of Int = record { keyword = codes "INT"; sort = Signed; bits = 16 }
+row_of Dint = record { keyword = codes "DINT"; sort = Signed; bits = 32 }
+row_of Lint = record { keyword = codes "LINT"; sort = Signed; bits = 64 }
+row_of Usint = record { keyword = codes "USINT"; sort = Unsigned; bits = 8 }
+row_of Uint = record { keyword = codes "UINT"; sort = Unsigned; bits = 16 }
+row_of Udint = record { keyword = codes "UDINT"; sort = Unsigned; bits = 32 }
+row_of Ulint = record { keyword = codes "ULINT"; sort = Unsigned; bits = 64 }
+row_of Byte = record { keyword = codes "BYTE"; sort = Bits; bits = 8 }
+row_of Word = record { keyword = codes "WORD"; sort = Bits; bits = 16 }
+row_of Dword = record { keyword = codes "DWORD"; sort = Bits; bits = 32 }
+row_of Lword = record { keyword = codes "LWORD"; sort = Bits; bits = 64 }
+row_of Time = record { keyword = codes "TIME"; sort = Duration; bits = 64 }
+row_of Boolean = record { keyword = codes "BOOL"; sort = Truth; bits = 1 }
+
+abbrev pub is_signed : Sort → Bool
+is_signed Signed = true
+is_signed Duration = true
+is_signed Unsigned = false
+is_signed Bits = false
+is_signed Truth = false
+
+-- the least and the greatest number of so many bits, in two's complement or without a sign
+abbrev pub least_of : Bool → ℕ → ℤ
+least_of true n = neg_ℤ (pos (2 ^ (n - 1)))
+least_of false n = pos 0
+
+abbrev pub greatest_of : Bool → ℕ → ℤ
+greatest_of true n = pos (2 ^ (n - 1) - 1)
+greatest_of false n = pos (2 ^ n - 1)
+
+abbrev pub least : Kind → ℤ
+least k = least_of (is_signed (row_of k).sort) (row_of k).bits
+
+abbrev pub greatest : Kind → ℤ
+greatest k = greatest_of (is_signed (row_of k).sort) (row_of k).bits
+
+-- the type has this number
+abbrev pub holds : Kind → ℤ → Bool
+holds k z = int_le (least k) z && int_le z (greatest k)
+
+-- where the type stands in the table
+abbrev pub place_of : Kind → ℕ
+place_of Sint = 0
+place_of Int = 1
+place_of Dint = 2
+place_of Lint = 3
+place_of Usint = 4
+place_of Uint = 5
+place_of Udint = 6
+place_of Ulint = 7
+place_of Byte = 8
+place_of Word = 9
+place_of Dword = 10
+place_of Lword = 11
+place_of Time = 12
+place_of Boolean = 13
+
+abbrev pub same_kind : Kind → Kind → Bool
+same_kind k l = place_of k == place_of l

@@ -1,0 +1,5 @@
+pub mod Kinds
+pub mod KindRows
+pub mod Values
+pub mod Words
+pub mod Paths

@@ -1,0 +1,22 @@
+//! The words of the language: elementary types and values, names, paths, literals, operators and faults.
+#![tactic(auto)]
+
+mod fault;
+mod identifier;
+mod kind;
+mod literal;
+mod name;
+mod operator;
+mod path;
+mod tree;
+mod value;
+
+pub use fault::Fault;
+pub use identifier::Identifier;
+pub use kind::{Kind, KindRow, Sort};
+pub use literal::{Literal, Number};
+pub use name::Name;
+pub use operator::{BinaryOperator, UnaryOperator};
+pub use path::{Owner, Path, Step};
+pub use tree::{Tree, same_option, same_trees};
+pub use value::Value;

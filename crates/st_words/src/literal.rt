@@ -1,0 +1,86 @@
+//! Literals.
+
+ghost use Rattle.std.specs.Prelude.{◌≡◌, ◌↔◌, IsTrue};
+
+use crate::kind::Kind;
+use crate::tree::Tree;
+
+/// A whole number or bit string as it is written, with a `-` directly before it.
+#[derive(Clone, Copy, Debug, PartialEq, Eq)]
+pub struct Number {
+    /// The offset of its first byte, which is the `-` where there is one.
+    pub place: usize,
+    pub is_negative: bool,
+    /// The number without its sign.
+    pub magnitude: u64,
+    /// The type that is written before a `#`, as in `INT#5`.
+    pub written: Option<Kind>,
+    /// It is written as decimal digits alone, with no type and no base.
+    pub is_decimal: bool,
+    /// The type that it takes from its place in the text; none as it is parsed.
+    pub taken: Option<Kind>,
+}
+
+/// A literal where it stands in a text.
+#[derive(Clone, Copy, Debug, PartialEq, Eq)]
+pub enum Literal {
+    Number(Number),
+    /// TRUE or FALSE, at a place.
+    Truth(usize, bool),
+    /// A duration in milliseconds, at a place.
+    Duration(usize, u64),
+}
+
+fn same_kinds(this: Option<Kind>, that: Option<Kind>) -> bool
+    ensures { IsTrue result ↔ (this ≡ that) }
+{
+    match this {
+        Some(a) => match that {
+            Some(b) => a == b,
+            None => false,
+        },
+        None => that.is_none(),
+    }
+}
+
+impl Tree for Number {
+    ghost use Rattle.st_words.specs.declared.literal.Number.{Number};
+
+    ghost Mirror = { Number };
+
+    ghost view = { λ x. x };
+
+    fn is(&self, other: &Number) -> bool {
+        self.place == other.place
+            && self.is_negative == other.is_negative
+            && self.magnitude == other.magnitude
+            && same_kinds(self.written, other.written)
+            && self.is_decimal == other.is_decimal
+            && same_kinds(self.taken, other.taken)
+    }
+}
+
+impl Tree for Literal {
+    ghost use Rattle.st_words.specs.declared.literal.Literal.{Literal};
+
+    ghost Mirror = { Literal };
+
+    ghost view = { λ x. x };
+
+    fn is(&self, other: &Literal) -> bool {
+        match self {
+            Literal::Number(a) => match other {
+                Literal::Number(b) => a.is(b),
+                _ => false,
+            },
+            Literal::Truth(p, a) => match other {
+                Literal::Truth(q, b) => p == q && a == b,
+                _ => false,
+            },
+            Literal::Duration(p, a) => match other {
+                Literal::Duration(q, b) => p == q && a == b,
+                _ => false,
+            },
+        }
+    }
+}

@@ -1,0 +1,64 @@
+//! Names.
+
+ghost use Rattle.std.specs.Prelude.{◌≡◌, IfOk, map, ◌↔◌, IsTrue};
+ghost use Rattle.std.specs.Char.{to_ascii_uppercase};
+
+use std::alloc::{AllocError, Global};
+use std::marker::Model;
+
+/// A name: contracts see its bytes. The lexer makes them upper case, since the case of letters is not significant.
+#[derive(Drop)]
+pub struct Name {
+    bytes: Vec<u8>,
+}
+
+impl Model for Name {
+    ghost use Rattle.std.specs.Prelude.{List, ℕ};
+
+    ghost Value = { List ℕ };
+
+    ghost view = { λ n. n.bytes.items };
+}
+
+impl Name {
+    /// The name of these bytes.
+    pub fn from_slice(alloc: Global, word: &[u8]) -> Result<Name, AllocError>
+        ensures { IfOk result (λ n. n ≡ word.now) }
+    {
+        Ok(Name {
+            bytes: Vec::from_slice(alloc, word)?,
+        })
+    }
+
+    /// The name that a word spells, in upper case.
+    pub fn upper(alloc: Global, word: &[u8]) -> Result<Name, AllocError>
+        ensures { IfOk result (λ n. n ≡ map to_ascii_uppercase word.now) }
+    {
+        let mut bytes = Vec::from_slice(alloc, word)?;
+        bytes.make_ascii_uppercase();
+        Ok(Name { bytes })
+    }
+
+    /// Another name of the same bytes.
+    pub fn copied(&self, alloc: Global) -> Result<Name, AllocError>
+        ensures { IfOk result (λ n. n ≡ self.now) }
+    {
+        Ok(Name {
+            bytes: Vec::from_slice(alloc, &self.bytes)?,
+        })
+    }
+
+    /// Its bytes.
+    pub fn as_slice(&self) -> &[u8]
+        ensures { result.now ≡ self.now }
+    {
+        self.bytes.as_slice()
+    }
+
+    /// Whether the two are one name.
+    pub fn is(&self, other: &Name) -> bool
+        ensures { IsTrue result ↔ (self.now ≡ other.now) }
+    {
+        self.bytes.as_slice() == other.bytes.as_slice()
+    }
+}

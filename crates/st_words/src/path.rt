@@ -1,0 +1,190 @@
+//! Paths of variables.
+
+ghost use Rattle.std.specs.Prelude.{◌≡◌, ◌↔◌, ◌++◌, ◌∷◌, [], IsTrue, IfOk, OnOk, OnErr, Some, None};
+ghost use Rattle.st_words.specs.Paths as paths;
+
+use crate::name::Name;
+use crate::tree::{Tree, same_option, same_trees};
+use std::alloc::{AllocError, Global};
+use std::marker::Model;
+
+/// The instance of a program that a variable belongs to.
+#[derive(Drop)]
+pub struct Owner {
+    pub resource: Name,
+    pub instance: Name,
+}
+
+/// A step from a variable to a part of it.
+#[derive(Drop)]
+pub enum Step {
+    /// A field of a structure, or a member of a block's instance.
+    Member(Name),
+    /// An element of an array, by its subscript.
+    Element(i128),
+}
+
+/// The path of a variable: whose it is, its name, and the steps to the part that is meant. Contracts see these three.
+///
+/// A global has no owner, nor has a variable of a function.
+#[derive(Drop)]
+pub struct Path {
+    owner: Option<Owner>,
+    name: Name,
+    steps: Vec<Step>,
+}
+
+impl Model for Path {
+    ghost use Rattle.st_words.specs.Paths as paths;
+
+    ghost Value = { paths.Path };
+
+    ghost view = { λ p. record { owner = p.owner; name = p.name; steps = p.steps.items } };
+}
+
+impl Owner {
+    /// Another one of the same names.
+    pub fn copied(&self, alloc: Global) -> Result<Owner, AllocError>
+        ensures { IfOk result (λ x. x ≡ self.now) }
+    {
+        Ok(Owner {
+            resource: self.resource.copied(alloc)?,
+            instance: self.instance.copied(alloc)?,
+        })
+    }
+}
+
+impl Step {
+    /// Another step to the same part.
+    pub fn copied(&self, alloc: Global) -> Result<Step, AllocError>
+        ensures { IfOk result (λ x. x ≡ self.now) }
+    {
+        match self {
+            Step::Member(name) => Ok(Step::Member(name.copied(alloc)?)),
+            Step::Element(subscript) => Ok(Step::Element(*subscript)),
+        }
+    }
+}
+
+fn copied_owner(alloc: Global, owner: &Option<Owner>) -> Result<Option<Owner>, AllocError>
+    ensures { IfOk result (λ x. x ≡ owner.now) }
+{
+    match owner {
+        Some(owner) => Ok(Some(owner.copied(alloc)?)),
+        None => Ok(None),
+    }
+}
+
+fn copied_steps(alloc: Global, steps: &[Step]) -> Result<Vec<Step>, AllocError>
+    ensures { IfOk result (λ x. x.items ≡ steps.now) }
+{
+    let mut copied = Vec::new(alloc);
+    for step in steps {
+        copied.push(step.copied(alloc)?)?;
+    }
+    Ok(copied)
+}
+
+impl Path {
+    /// The path of a global, or of a variable of a function.
+    pub fn global(alloc: Global, name: Name) -> Path
+        ensures { result ≡ record { owner = None; name = name; steps = [] } }
+    {
+        Path {
+            owner: None,
+            name,
+            steps: Vec::new(alloc),
+        }
+    }
+
+    /// The path of a variable of a program's instance.
+    pub fn owned(alloc: Global, owner: Owner, name: Name) -> Path
+        ensures { result ≡ record { owner = Some owner; name = name; steps = [] } }
+    {
+        Path {
+            owner: Some(owner),
+            name,
+            steps: Vec::new(alloc),
+        }
+    }
+
+    /// Takes one step more.
+    pub fn push(&mut self, step: Step) -> Result<(), AllocError>
+        ensures ok { OnOk result (self.new ≡ record self.old { steps = self.old.steps ++ step ∷ [] }) }
+        ensures err { OnErr result (self.new ≡ self.old) }
+    {
+        self.steps.push(step)?;
+        Ok(())
+    }
+
+    /// Another path to the same part.
+    pub fn copied(&self, alloc: Global) -> Result<Path, AllocError>
+        ensures { IfOk result (λ p. p ≡ self.now) }
+    {
+        Ok(Path {
+            owner: copied_owner(alloc, &self.owner)?,
+            name: self.name.copied(alloc)?,
+            steps: copied_steps(alloc, &self.steps)?,
+        })
+    }
+
+    pub fn owner(&self) -> &Option<Owner>
+        ensures { result.now ≡ self.now.owner }
+    {
+        &self.owner
+    }
+
+    pub fn name(&self) -> &Name
+        ensures { result.now ≡ self.now.name }
+    {
+        &self.name
+    }
+
+    pub fn steps(&self) -> &[Step]
+        ensures { result.now ≡ self.now.steps }
+    {
+        self.steps.as_slice()
+    }
+
+    /// Whether the two lead to one part.
+    pub fn is(&self, other: &Path) -> bool
+        ensures { IsTrue result ↔ (self.now ≡ other.now) }
+    {
+        same_option(&self.owner, &other.owner)
+            && self.name.is(&other.name)
+            && same_trees(&self.steps, &other.steps)
+    }
+}
+
+impl Tree for Owner {
+    ghost use Rattle.st_words.specs.declared.path.Owner.{Owner};
+
+    ghost Mirror = { Owner };
+
+    ghost view = { λ x. x };
+
+    fn is(&self, other: &Owner) -> bool {
+        self.resource.is(&other.resource) && self.instance.is(&other.instance)
+    }
+}
+
+impl Tree for Step {
+    ghost use Rattle.st_words.specs.declared.path.Step.{Step};
+
+    ghost Mirror = { Step };
+
+    ghost view = { λ x. x };
+
+    fn is(&self, other: &Step) -> bool {
+        match self {
+            Step::Member(a) => match other {
+                Step::Member(b) => a.is(b),
+                Step::Element(_) => false,
+            },
+            Step::Element(a) => match other {
+                Step::Member(_) => false,
+                Step::Element(b) => a == b,
+            },
+        }
+    }
+}
