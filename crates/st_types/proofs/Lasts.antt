@@ -1,11 +1,11 @@
 -- A run that ends has no more ticks left than it had, and ends the same with more.
-use Rattle.std.proofs.Common.{◌≡◌, ℕ, zero, suc, ◌+◌, ◌≤◌, List, Option, Some, None, Result, Ok, Err, refl, sym, ap, ◌∙◌, arith}
+use Rattle.std.proofs.Common.{◌≡◌, ℕ, zero, suc, ◌+◌, ◌≤◌, List, Option, Some, None, Result, Ok, Err, refl, ap, arith}
 use Rattle.st_words.specs.declared.fault.Fault.{Fault}
 use Rattle.st_words.specs.Values.{Datum}
 use Rattle.st_words.specs.Paths.{Path}
 use Rattle.st_trees.specs.Statements.{Stmts}
 use Rattle.st_types.specs.Stores.{Store}
-use Rattle.st_types.specs.Ticks.{Run, follow, ◌>>=◌, ◌>>◌, give, fault, take, or_fault, tick}
+use Rattle.st_types.specs.Ticks.{Run, follow, ◌>>=◌, ◌>>◌, give, fault, tick}
 use Rattle.st_types.specs.StandardBlocks.{block_of}
 use Rattle.st_types.specs.Scopes.{Name, Library, Units}
 use Rattle.st_types.specs.Loops.{End, goes_on, Turn, again, over, resumed, go_back, turns, looped}

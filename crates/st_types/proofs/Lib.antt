@@ -1,6 +1,9 @@
 pub mod Agrees
+pub mod DueLemmas
 pub mod Lasts
+pub mod LogLemmas
 pub mod Related
 pub mod RunLemmas
+pub mod Scenes
 pub mod Shapes
 pub mod TimerLemmas

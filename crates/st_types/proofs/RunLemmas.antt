@@ -1,17 +1,18 @@
 -- How the outcome of a run and the variables after it follow from the run.
-use Rattle.std.proofs.Common.{◌≡◌, ℕ, ◌+◌, Option, Some, None, Result, Ok, Err, refl, sym, ap, ◌∙◌}
+use Rattle.std.proofs.Common.{◌≡◌, ℕ, ◌+◌, Result, Ok, Err, refl, ap}
 use Rattle.st_words.specs.declared.fault.Fault.{Fault}
+use Rattle.st_types.specs.declared.entry.Outcome.TheVariants.{Done, Faulted}
 use Rattle.st_types.specs.Stores.{Store, shape_of}
 use Rattle.st_types.specs.Loops.{End}
 use Rattle.st_types.specs.Runs.{Program, ran, store_of, outcome_in, store_in, outcome_of, store_after}
 use Rattle.st_types.proofs.Lasts.{ran_more}
 use Rattle.st_types.proofs.Shapes.{ran_keeps}
 
-fault_leaves : (r : Result (End × ℕ) Fault) (s : Store) (f : Fault) → outcome_in r ≡ Some f → store_in r s ≡ s
+fault_leaves : (r : Result (End × ℕ) Fault) (s : Store) (f : Fault) → outcome_in r ≡ Faulted f → store_in r s ≡ s
 fault_leaves (Ok r) s f h = absurd (cc)
 fault_leaves (Err e) s f h = refl
 
-pub fault_leaves_store : (p : Program) (budget : ℕ) (s image : Store) (now : ℕ) (f : Fault) → outcome_of p budget s image now ≡ Some f → store_after p budget s image now ≡ s
+pub fault_leaves_store : (p : Program) (budget : ℕ) (s image : Store) (now : ℕ) (f : Fault) → outcome_of p budget s image now ≡ Faulted f → store_after p budget s image now ≡ s
 unfolding outcome_of store_after
 fault_leaves_store p budget s image now f h = fault_leaves (ran p image now budget s) s f h
 
@@ -23,14 +24,14 @@ pub store_after_shape : (p : Program) (budget : ℕ) (s image : Store) (now : �
 unfolding store_after
 store_after_shape p budget s image now = keeps_shape (ran p image now budget s) s (ran_keeps p image now budget s)
 
-done_more : (r q : Result (End × ℕ) Fault) (k : ℕ) (s : Store) → ((e : End) (c : ℕ) → r ≡ Ok (e, c) → q ≡ Ok (e, c + k)) → outcome_in r ≡ None → (outcome_in q ≡ None) × (store_in q s ≡ store_in r s)
+done_more : (r q : Result (End × ℕ) Fault) (k : ℕ) (s : Store) → ((e : End) (c : ℕ) → r ≡ Ok (e, c) → q ≡ Ok (e, c + k)) → outcome_in r ≡ Done → (outcome_in q ≡ Done) × (store_in q s ≡ store_in r s)
 done_more (Ok r) q k s h none = (ap outcome_in (h r.0 r.1 refl), ap (λ x. store_in x s) (h r.0 r.1 refl))
 done_more (Err e) q k s h none = absurd (cc)
 
-pub outcome_more : (p : Program) (image : Store) (now budget added : ℕ) (s : Store) → outcome_of p budget s image now ≡ None → outcome_of p (budget + added) s image now ≡ None
+pub outcome_more : (p : Program) (image : Store) (now budget added : ℕ) (s : Store) → outcome_of p budget s image now ≡ Done → outcome_of p (budget + added) s image now ≡ Done
 unfolding outcome_of
 outcome_more p image now budget added s h = (done_more (ran p image now budget s) (ran p image now (budget + added) s) added s (ran_more p image now budget added s) h).0
 
-pub store_more : (p : Program) (image : Store) (now budget added : ℕ) (s : Store) → outcome_of p budget s image now ≡ None → store_after p (budget + added) s image now ≡ store_after p budget s image now
+pub store_more : (p : Program) (image : Store) (now budget added : ℕ) (s : Store) → outcome_of p budget s image now ≡ Done → store_after p (budget + added) s image now ≡ store_after p budget s image now
 unfolding outcome_of store_after
 store_more p image now budget added s h = (done_more (ran p image now budget s) (ran p image now (budget + added) s) added s (ran_more p image now budget added s) h).1

@@ -1,5 +1,5 @@
 -- A run neither adds nor takes away a variable, and each keeps its type.
-use Rattle.std.proofs.Common.{◌≡◌, ℕ, zero, suc, ◌==◌, ℤ, pos, int_lt, int_le, Bool, true, false, if◌then◌else◌, List, [], ◌∷◌, Option, Some, None, option_and_then, Result, Ok, Err, refl, sym, ap, ◌∙◌, arith}
+use Rattle.std.proofs.Common.{◌≡◌, ℕ, zero, suc, ◌==◌, ℤ, Bool, true, false, if◌then◌else◌, List, [], ◌∷◌, Option, Some, None, option_and_then, Result, Ok, Err, refl, sym, ap, ◌∙◌, arith}
 use Rattle.std.specs.List.{list_any}
 use Rattle.std.proofs.lemmas.Bool.Decides.{nat_tests}
 use Rattle.st_words.specs.declared.fault.Fault.{Fault}
@@ -9,17 +9,16 @@ use Rattle.st_words.specs.declared.kind.Kind.TheVariants.{Sint, Int, Dint, Lint,
 use Rattle.st_words.specs.Kinds.{place_of, same_kind}
 use Rattle.st_words.specs.Values.{Datum}
 use Rattle.st_words.specs.Paths.{Path, same_path}
-use Rattle.st_trees.specs.Expressions.{Expr}
 use Rattle.st_trees.specs.Statements.{Argument, given, copied, Stmt, empty, assign, invoke, choose, select, count, while, repeat, exit, return, Stmts, no_stmts, stmt_then, Arms, no_arms, arm_then, CaseArms, no_case_arms, case_arm_then}
 use Rattle.st_types.specs.Stores.{Store, get, replaced, behind_first, assigned, shape_of}
 use Rattle.st_types.specs.Ticks.{Run, follow, ◌>>=◌, ◌>>◌, give, fault, take, or_fault, proceed, tick}
 use Rattle.st_types.specs.StandardBlocks as standard
 use Rattle.st_types.specs.StandardBlocks.{block_of, members_of, stepped}
-use Rattle.st_types.specs.Scopes.{Name, Frame, of_block, Block, Library, Units, Scope, path_in, member_at, block_named, block_in}
+use Rattle.st_types.specs.Scopes.{Name, of_block, Block, Library, Units, Scope, path_in, member_at, block_named, block_in}
 use Rattle.st_types.specs.Evaluation.{value, place, test}
 use Rattle.st_types.specs.Loops.{End, goes_on, exits, returns, behind, Turn, again, over, turned, resumed, go_back, turns, looped, guarded, asked, until, runs_on, step_on, unless_refused, stepped_on, stored, nonzero}
 use Rattle.st_types.specs.Execution.{label_holds, given_inputs, assigned_inputs, copied_outputs, ran_block, step_of, exec, exec_all, exec_arms, exec_case}
-use Rattle.st_types.specs.Runs.{store_of, member_values, members_assigned, standard_call, block_call, instance_call, units_within, Program, scope_of, ran}
+use Rattle.st_types.specs.Runs.{store_of, members_assigned, standard_call, block_call, instance_call, units_within, Program, scope_of, ran}
 
 -- a type is told by its place in the table
 kind_at : ℕ → Kind

@@ -1,12 +1,12 @@
 -- Laws of the timers.
-use Rattle.std.proofs.Common.{◌≡◌, ℕ, ℤ, pos, ◌<◌, ◌-ℤ◌, ◌≤ℤ◌, int_lt, int_le, Bool, true, false, not, ◌&&◌, ◌||◌, if◌then◌else◌, List, [], ◌∷◌, ◌++◌, refl, sym, ap, subst, ◌∙◌, append_assoc, append-nil, arith}
+use Rattle.std.proofs.Common.{◌≡◌, ℕ, ℤ, pos, ◌<◌, ◌-ℤ◌, ◌≤ℤ◌, int_le, Bool, true, false, if◌then◌else◌, List, [], ◌∷◌, ◌++◌, refl, sym, ap, subst, ◌∙◌, append_assoc, append-nil, arith}
 use Rattle.std.specs.Prelude.{fold}
 use Rattle.std.specs.Int.{int_min, int_max}
 use Rattle.std.proofs.lemmas.Int.{ints, int_min_is, int_max_is}
 use Rattle.std.specs.Int.Signed.{le_z_yes}
 use Rattle.std.proofs.lemmas.Float.{T_from_true}
 use Rattle.std.proofs.lemmas.Grind.{fold-append}
-use Rattle.st_types.specs.StandardBlocks.{Timer, running, elapsed, timed_from, timed_until, stopped, on_delay, off_delay, ended, pulse}
+use Rattle.st_types.specs.StandardBlocks.{Timer, running, elapsed, timed_from, timed_until, stopped, on_delay, off_delay, pulse}
 use Rattle.st_types.specs.TimerRuns.{TimerCall, TimerStep, fresh_timer, called_timer, timer_after, AllOn, WasOnFor}
 
 min_below : (e p : ℤ) → int_min e p ≤ℤ p
@@ -33,7 +33,8 @@ runs now q et false start = refl
 timed_within : (now pt : ℕ) (t : Timer) → t.run ≡ true → IsWithin pt (timed_from now (pos pt) t) × IsWithin pt (timed_until now (pos pt) t)
 timed_within now pt t h = (
   record { rests = λ k. absurd (cc); within = min_below (elapsed now t) (pos pt) },
-  record { rests = λ k. absurd (cc); within = min_below (elapsed now t) (pos pt) })
+  record { rests = λ k. absurd (cc); within = min_below (elapsed now t) (pos pt) },
+)
 
 running_within : (now pt : ℕ) (t : Timer) → IsWithin pt (timed_from now (pos pt) (running now t)) × IsWithin pt (timed_until now (pos pt) (running now t))
 running_within now pt t = timed_within now pt (running now t) (runs now t.q t.et t.run t.start)

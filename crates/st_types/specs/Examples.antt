@@ -1,11 +1,10 @@
 -- Words for worked examples: programs of one instance R/P with variables of its own, as trees without places.
-use Rattle.std.specs.Prelude.{ℕ, ℤ, pos, negsuc, unsigned_abs, int_lt, List, [], ◌∷◌, ◌++◌, take, drop, length, map, Bool, true, false, Option, Some, None, Result, codes}
+use Rattle.std.specs.Prelude.{ℕ, ℤ, pos, unsigned_abs, int_lt, List, [], ◌∷◌, ◌++◌, take, drop, map, Bool, true, Some, None, Result, codes}
 use Rattle.st_words.specs.declared.fault.Fault.{Fault}
 use Rattle.st_words.specs.declared.identifier.Identifier.{Identifier}
 use Rattle.st_words.specs.declared.kind.Kind.{Kind}
 use Rattle.st_words.specs.declared.kind.Kind.TheVariants.{Int, Dint, Time, Bool as Boolean}
 use Rattle.st_words.specs.declared.literal.Literal.TheVariants as literals
-use Rattle.st_words.specs.declared.literal.Number.{Number}
 use Rattle.st_words.specs.declared.operator.BinaryOperator.TheVariants.{Less, GreaterOrEqual, Equal, Add, Multiply}
 use Rattle.st_words.specs.declared.path.Owner.{Owner}
 use Rattle.st_words.specs.Values.{Datum}
@@ -13,7 +12,7 @@ use Rattle.st_words.specs.Paths.{Path}
 use Rattle.st_words.specs.Values.{datum_of_truth}
 use Rattle.st_types.specs.StandardBlocks as standard
 use Rattle.st_types.specs.StandardBlocks.{stepped}
-use Rattle.st_trees.specs.Expressions.{Expr, literal, read, call, binary, exprs_of, Variable, variable, no_selectors, selector_then, subscript}
+use Rattle.st_trees.specs.Expressions.{Expr, literal, read, call, binary, exprs_of, Variable, variable, no_selectors}
 use Rattle.st_trees.specs.Statements.{Stmt, stmts_of, assign, empty, choose, count, while, repeat, exit, arms_of}
 use Rattle.st_trees.specs.declared.data_type.SimpleType.TheVariants.{Elementary}
 use Rattle.st_trees.specs.declared.data_type.VariableType.TheVariants.{Simple}
@@ -23,7 +22,8 @@ use Rattle.st_trees.specs.Declarations.{Declaration}
 use Rattle.st_trees.specs.Units.{OrganisationUnit}
 use Rattle.st_types.specs.NameTypes.{Text}
 use Rattle.st_types.specs.Stores.{Store}
-use Rattle.st_types.specs.Scopes.{Name, Body, Function, Library, own_path, of_program, global}
+use Rattle.st_types.specs.Scopes.{Name, Body, Function, own_path, of_program, global}
+use Rattle.st_types.specs.declared.entry.Outcome.{Outcome}
 use Rattle.st_types.specs.Runs.{Program, ran, outcome_of, store_after}
 use Rattle.st_types.specs.Loops.{End}
 
@@ -89,7 +89,7 @@ abbrev pub ran_with : List Function → ℕ → List Stmt → List (Name × Datu
 ran_with functions budget xs vs = ran (program functions xs) [] 0 budget (variables vs)
 
 -- a run with ample ticks: how it ends, and the variables after it
-abbrev pub outcome_with : List Function → List Stmt → List (Name × Datum) → Option Fault
+abbrev pub outcome_with : List Function → List Stmt → List (Name × Datum) → Outcome
 outcome_with functions xs vs = outcome_of (program functions xs) 10000 (variables vs) [] 0
 
 abbrev pub after_with : List Function → List Stmt → List (Name × Datum) → Store

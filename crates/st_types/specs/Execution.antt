@@ -1,9 +1,9 @@
 -- What statements do. Each takes a tick as it begins, before all else.
-use Rattle.std.specs.Prelude.{ℕ, ℤ, pos, int_le, List, [], ◌∷◌, Bool, true, false, ◌&&◌, ◌||◌, if◌then◌else◌, Option, Some, None, Result, Ok, Err}
+use Rattle.std.specs.Prelude.{ℤ, pos, int_le, List, [], ◌∷◌, Bool, ◌&&◌, if◌then◌else◌, Option, Some, None}
 use Rattle.std.specs.Ordering.{int_eq}
 use Rattle.std.specs.List.{list_any}
 use Rattle.st_words.specs.declared.fault.Fault.TheVariants.{Index}
-use Rattle.st_words.specs.Values.{Datum, in_range}
+use Rattle.st_words.specs.Values.{Datum}
 use Rattle.st_words.specs.Paths.{Path}
 use Rattle.st_trees.specs.declared.statement.Label.{Label}
 use Rattle.st_trees.specs.declared.statement.Label.TheVariants.{Single, Range}
@@ -12,7 +12,7 @@ use Rattle.st_trees.specs.Statements.{Argument, given, copied, Stmt, empty, assi
 use Rattle.st_types.specs.Stores.{Store, get, assigned}
 use Rattle.st_types.specs.Ticks.{Run, ◌>>=◌, ◌>>◌, give, fault, take, or_fault, tick}
 use Rattle.st_types.specs.Operators.{number_of}
-use Rattle.st_types.specs.Scopes.{Name, Scope, Units, path_in, member_at, block_named}
+use Rattle.st_types.specs.Scopes.{Name, Scope, path_in, member_at, block_named}
 use Rattle.st_types.specs.Evaluation.{value, place, test}
 use Rattle.st_types.specs.Loops.{End, goes_on, exits, returns, behind, looped, guarded, until, runs_on, step_on, nonzero}
 
@@ -122,4 +122,4 @@ abbrev mutual
   pub exec_case : Scope → ℤ → CaseArms → (Store → Run End) → Store → Run End
   exec_case w z no_case_arms otherwise s = otherwise s
   exec_case w z (case_arm_then labels body arms) otherwise s =
-    if list_any (label_holds z) labels then exec_all w body s else exec_case w z arms otherwise s
+      if list_any (label_holds z) labels then exec_all w body s else exec_case w z arms otherwise s

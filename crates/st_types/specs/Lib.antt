@@ -13,3 +13,9 @@ pub mod Examples
 pub mod NameTypes
 pub mod Resolution
 pub mod ResolvedUnits
+pub mod Rows
+pub mod Plans
+pub mod Due
+pub mod Logs
+pub mod Restarts
+pub mod Schedules

@@ -1,5 +1,5 @@
 -- Loops.
-use Rattle.std.specs.Prelude.{ℕ, zero, suc, ℤ, pos, ◌+ℤ◌, int_lt, int_le, Bool, true, false, if◌then◌else◌, Option, Some, None, option_and_then, Result, Ok, Err}
+use Rattle.std.specs.Prelude.{ℕ, zero, suc, ℤ, pos, ◌+ℤ◌, int_lt, int_le, Bool, if◌then◌else◌, Option, Some, None, option_and_then, Result, Ok, Err}
 use Rattle.st_words.specs.declared.fault.Fault.{Fault}
 use Rattle.st_words.specs.declared.fault.Fault.TheVariants.{Index, Budget, ZeroStep}
 use Rattle.st_words.specs.Values.{Datum, in_range}

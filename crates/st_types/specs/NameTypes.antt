@@ -1,11 +1,9 @@
 -- What a text declares: the types of its variables, and what its calls take and give.
-use Rattle.std.specs.Prelude.{ℕ, List, [], ◌∷◌, ◌++◌, Bool, true, false, ◌||◌, if◌then◌else◌, Option, Some, None, option_map, option_and_then, bytes_eq}
+use Rattle.std.specs.Prelude.{List, [], ◌∷◌, ◌++◌, Bool, if◌then◌else◌, Option, Some, None, option_map, option_and_then, bytes_eq}
 use Rattle.std.specs.List.{list_any}
 use Rattle.st_words.specs.declared.identifier.Identifier.{Identifier}
 use Rattle.st_words.specs.declared.kind.Kind.{Kind}
-use Rattle.st_trees.specs.declared.data_type.SimpleType.{SimpleType}
 use Rattle.st_trees.specs.declared.data_type.SimpleType.TheVariants.{Elementary, Named}
-use Rattle.st_trees.specs.declared.data_type.ArrayType.{ArrayType}
 use Rattle.st_trees.specs.declared.data_type.VariableType.{VariableType}
 use Rattle.st_trees.specs.declared.data_type.VariableType.TheVariants as types
 use Rattle.st_trees.specs.declared.declaration.Section.TheVariants.{Input}
@@ -97,8 +95,9 @@ abbrev pub block_member : Text → VariableType → Name → Option VariableType
 block_member text (types.Array a) x = None
 block_member text (types.Simple (Elementary k at)) x = None
 block_member text (types.Simple (Named b)) x = elim (block_of b.name) [
-  Some k ↦ option_map elementary (member_kind (members_of k) x)
-  | None ↦ option_and_then (λ u. type_in_blocks u.blocks x) (unit_named text.units b.name) ]
+  | Some k ↦ option_map elementary (member_kind (members_of k) x)
+  | None ↦ option_and_then (λ u. type_in_blocks u.blocks x) (unit_named text.units b.name)
+]
 
 abbrev pub member_type : Text → VariableType → Name → Option TypeDefinition → Option VariableType
 member_type text t x (Some (structure fields)) = field_type fields x

@@ -1,5 +1,5 @@
 -- The types of untyped literals. Each takes the type that its place expects, which the parsed tree and its declarations tell.
-use Rattle.std.specs.Prelude.{ℕ, List, [], ◌∷◌, ◌++◌, map, Bool, true, false, ◌&&◌, not, if◌then◌else◌, Option, Some, None, option_map, option_and_then}
+use Rattle.std.specs.Prelude.{ℕ, List, [], ◌∷◌, Bool, true, false, ◌&&◌, if◌then◌else◌, Option, Some, None}
 use Rattle.st_words.specs.declared.kind.Kind.{Kind}
 use Rattle.st_words.specs.declared.kind.Kind.TheVariants.{Lint, Time, Bool as Boolean}
 use Rattle.st_words.specs.declared.kind.Sort.{Sort}
@@ -8,12 +8,12 @@ use Rattle.st_words.specs.declared.literal.Literal.{Literal}
 use Rattle.st_words.specs.declared.literal.Literal.TheVariants as literals
 use Rattle.st_words.specs.declared.literal.Number.{Number}
 use Rattle.st_words.specs.declared.operator.BinaryOperator.{BinaryOperator}
-use Rattle.st_words.specs.declared.operator.BinaryOperator.TheVariants.{Or, Xor, And, Equal, NotEqual, Less, Greater, LessOrEqual, GreaterOrEqual, Add, Subtract, Multiply, Divide, Modulo}
+use Rattle.st_words.specs.declared.operator.BinaryOperator.TheVariants.{Equal, NotEqual, Less, Greater, LessOrEqual, GreaterOrEqual}
 use Rattle.st_words.specs.Kinds.{row_of}
 use Rattle.st_trees.specs.Expressions.{Expr, literal, read, call, parenthesis, unary, binary, Exprs, no_exprs, expr_then, Variable, variable, Selector, member, subscript, Selectors, no_selectors, selector_then}
 use Rattle.st_trees.specs.Units.{OrganisationUnit}
 use Rattle.st_types.specs.StandardFunctions.{Standard, least_of_two, greatest_of_two, limited, selected, converted, standard_of}
-use Rattle.st_types.specs.NameTypes.{Text, kind_of_variable, unit_named, input_kinds, input_kind, result_kind}
+use Rattle.st_types.specs.NameTypes.{Text, kind_of_variable, unit_named, input_kinds, result_kind}
 
 -- an operator between whole numbers or bit strings
 abbrev pub is_joining : BinaryOperator → Bool

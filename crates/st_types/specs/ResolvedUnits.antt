@@ -1,25 +1,22 @@
 -- Statements, initial values and units in which each untyped literal has its type.
-use Rattle.std.specs.Prelude.{ℕ, List, [], ◌∷◌, map, Option, Some, None, option_map}
+use Rattle.std.specs.Prelude.{map, Option, Some, None, option_map}
 use Rattle.st_words.specs.declared.kind.Kind.{Kind}
 use Rattle.st_words.specs.declared.kind.Kind.TheVariants.{Bool as Boolean}
-use Rattle.st_words.specs.declared.literal.Literal.{Literal}
-use Rattle.st_words.specs.declared.literal.Number.{Number}
 use Rattle.st_trees.specs.declared.statement.Label.{Label}
 use Rattle.st_trees.specs.declared.statement.Label.TheVariants.{Single, Range}
 use Rattle.st_trees.specs.declared.data_type.ArrayType.{ArrayType}
 use Rattle.st_trees.specs.declared.data_type.VariableType.{VariableType}
 use Rattle.st_trees.specs.declared.data_type.VariableType.TheVariants as variable_types
-use Rattle.st_trees.specs.Expressions.{Expr}
 use Rattle.st_trees.specs.Statements.{Argument, given, copied, Stmt, empty, assign, invoke, choose, select, count, while, repeat, exit, return, Stmts, no_stmts, stmt_then, Arms, no_arms, arm_then, CaseArms, no_case_arms, case_arm_then}
 use Rattle.st_trees.specs.Initials.{Initial, constant, list, structure, Element, single, repeated, defaults, Elements, no_elements, element_then, Members, no_members, member_then}
 use Rattle.st_trees.specs.Declarations as declared_as
 use Rattle.st_trees.specs.Declarations.{Field, TypeDefinition, TypeDeclaration, Declaration, VariableBlock}
 use Rattle.st_trees.specs.Units.{OrganisationUnit}
-use Rattle.st_trees.specs.Configurations.{GlobalDeclaration, GlobalBlock, Configuration}
+use Rattle.st_trees.specs.Configurations.{GlobalDeclaration, GlobalBlock}
 use Rattle.st_trees.specs.Sources.{LibraryElement, types, unit, configuration, Source}
 use Rattle.st_types.specs.Scopes.{Name}
 use Rattle.st_types.specs.NameTypes.{Text, text_of, variable_type, kind_of_type, kind_of_variable, input_kind, definition_of, element_type, field_type}
-use Rattle.st_types.specs.Resolution.{or_kind, own_kind, taken_kind, taking_number, taking_literal, resolved_expr, resolved_variable}
+use Rattle.st_types.specs.Resolution.{own_kind, taken_kind, taking_number, taking_literal, resolved_expr, resolved_variable}
 
 -- the elementary type that is there
 abbrev pub kind_at : Option VariableType → Option Kind

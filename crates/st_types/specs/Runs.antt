@@ -1,15 +1,17 @@
 -- What a run of a program gives.
-use Rattle.std.specs.Prelude.{ℕ, zero, suc, List, [], ◌∷◌, map, Option, Some, None, option_map, option_and_then, Result, Ok, Err}
+use Rattle.std.specs.Prelude.{ℕ, zero, suc, List, [], ◌∷◌, Option, Some, None, option_map, option_and_then, Result, Ok, Err}
 use Rattle.st_words.specs.declared.fault.Fault.{Fault}
 use Rattle.st_words.specs.declared.fault.Fault.TheVariants.{Index, Budget}
 use Rattle.st_words.specs.declared.path.Owner.{Owner}
 use Rattle.st_words.specs.Values.{Datum}
 use Rattle.st_words.specs.Paths.{Path}
+use Rattle.st_types.specs.declared.entry.Outcome.{Outcome}
+use Rattle.st_types.specs.declared.entry.Outcome.TheVariants.{Done, Faulted}
 use Rattle.st_types.specs.Stores.{Store, get, assigned}
-use Rattle.st_types.specs.Ticks.{Run, ◌>>=◌, ◌>>◌, give, fault, take, or_fault, proceed}
+use Rattle.st_types.specs.Ticks.{Run, ◌>>=◌, give, fault, take, or_fault, proceed}
 use Rattle.st_types.specs.StandardBlocks as standard
 use Rattle.st_types.specs.StandardBlocks.{block_of, stepped}
-use Rattle.st_types.specs.Scopes.{Name, Frame, of_program, of_block, of_call, Body, Function, Block, Library, Units, Scope, global, member_at, function_in, block_in}
+use Rattle.st_types.specs.Scopes.{Name, of_program, of_block, of_call, Body, Function, Block, Library, Units, Scope, global, member_at, function_in, block_in}
 use Rattle.st_types.specs.Loops.{End, goes_on, exits, returns}
 use Rattle.st_types.specs.Execution.{exec_all}
 
@@ -92,16 +94,16 @@ scope_of p image now n = record { units = units_within p.library image now n; fr
 unfoldable pub ran : Program → Store → ℕ → ℕ → Store → Result (End × ℕ) Fault
 ran p image now budget s = exec_all (scope_of p image now budget) p.body.statements s budget
 
-abbrev pub outcome_in : Result (End × ℕ) Fault → Option Fault
-outcome_in (Ok r) = None
-outcome_in (Err e) = Some e
+abbrev pub outcome_in : Result (End × ℕ) Fault → Outcome
+outcome_in (Ok r) = Done
+outcome_in (Err e) = Faulted e
 
 abbrev pub store_in : Result (End × ℕ) Fault → Store → Store
 store_in (Ok r) s = store_of r.0
 store_in (Err e) s = s
 
--- how a run ends: none where it is done, else its fault
-unfoldable pub outcome_of : Program → ℕ → Store → Store → ℕ → Option Fault
+-- how a run ends: it is done, or it faulted
+unfoldable pub outcome_of : Program → ℕ → Store → Store → ℕ → Outcome
 outcome_of p budget s image now = outcome_in (ran p image now budget s)
 
 -- the variables after a run: a fault leaves them as they were

@@ -13,6 +13,8 @@ ghost use Rattle.st_types.specs.StandardBlocks.{ton, tof, tp, f_trig, ctu, ctud}
 ghost use Rattle.st_types.specs.Loops.{goes_on};
 ghost use Rattle.st_types.specs.Examples.{ran_with, outcome_with, after_with, variables, datum, set, number, name, truth, while_to_3, to_the_end, to_3, by_0, exit_at_3, repeat_to_3, square, squared, outputs_of, fresh_members, timed, q_et, bool, int, untyped, identifier, three_variables, its_text, I, K, X, Y, Z};
 
+use crate::entry::Outcome;
+
 /// A quotient is truncated toward zero, and `a MOD 0` is 0.
 pub fn division()
     ensures quotient { apply Divide (int (negsuc 6)) (int (pos 3)) ≡ Ok (int (negsuc 1)) }
@@ -21,19 +23,17 @@ pub fn division()
     ensures by_0 { apply Divide (int (pos 5)) (int (pos 0)) ≡ Err DivisionByZero }
     // SINT#-128 / -1 leaves the type.
     ensures least_by_minus_1 { apply Divide (datum Sint (negsuc 127)) (datum Sint (negsuc 0)) ≡ Err Range }
-{
-}
+{}
 
 /// A fault undoes what the run had assigned: `x := 5; y := y + 1;` with y an INT of 32767, and `y := 10 / d;`.
 #[tactic(auto, unfolding(crate::specs::Runs::ran, crate::specs::Runs::outcome_of, crate::specs::Runs::store_after, crate::specs::Runs::units_within))]
 pub fn faults()
-    ensures leaves_the_type { outcome_with [] (set X (number Int (pos 5)) ∷ set Y (binary Add (name Y) (number Int (pos 1))) ∷ []) ((X, int (pos 0)) ∷ (Y, int (pos 32767)) ∷ []) ≡ Some Range }
+    ensures leaves_the_type { outcome_with [] (set X (number Int (pos 5)) ∷ set Y (binary Add (name Y) (number Int (pos 1))) ∷ []) ((X, int (pos 0)) ∷ (Y, int (pos 32767)) ∷ []) ≡ Outcome.Faulted Range }
     ensures undone { after_with [] (set X (number Int (pos 5)) ∷ set Y (binary Add (name Y) (number Int (pos 1))) ∷ []) ((X, int (pos 0)) ∷ (Y, int (pos 32767)) ∷ []) ≡ variables ((X, int (pos 0)) ∷ (Y, int (pos 32767)) ∷ []) }
-    ensures by_0 { outcome_with [] (set Y (binary Divide (number Int (pos 10)) (name X)) ∷ []) ((X, int (pos 0)) ∷ (Y, int (pos 0)) ∷ []) ≡ Some DivisionByZero }
+    ensures by_0 { outcome_with [] (set Y (binary Divide (number Int (pos 10)) (name X)) ∷ []) ((X, int (pos 0)) ∷ (Y, int (pos 0)) ∷ []) ≡ Outcome.Faulted DivisionByZero }
     // b := FALSE AND (1 / z = 1);
-    ensures and_evaluates_both { outcome_with [] (set X (binary And (truth false) (binary Equal (binary Divide (number Int (pos 1)) (name Z)) (number Int (pos 1)))) ∷ []) ((X, bool false) ∷ (Z, int (pos 0)) ∷ []) ≡ Some DivisionByZero }
-{
-}
+    ensures and_evaluates_both { outcome_with [] (set X (binary And (truth false) (binary Equal (binary Divide (number Int (pos 1)) (name Z)) (number Int (pos 1)))) ∷ []) ((X, bool false) ∷ (Z, int (pos 0)) ∷ []) ≡ Outcome.Faulted DivisionByZero }
+{}
 
 /// A WHILE of three turns needs 8 ticks, and a REPEAT of three turns 6.
 #[tactic(auto, unfolding(crate::specs::Runs::ran, crate::specs::Runs::units_within, crate::specs::Loops::looped, crate::specs::Loops::turns, crate::specs::Loops::guarded, crate::specs::Loops::until, crate::specs::Evaluation::test))]
@@ -42,8 +42,7 @@ pub fn loops_with_conditions()
     ensures budget_of_7 { ran_with [] 7 while_to_3 ((I, int (pos 0)) ∷ []) ≡ Err Budget }
     ensures repeat_of_6 { ran_with [] 6 repeat_to_3 ((I, int (pos 0)) ∷ []) ≡ Ok (goes_on (variables ((I, int (pos 3)) ∷ [])), 0) }
     ensures repeat_of_5 { ran_with [] 5 repeat_to_3 ((I, int (pos 0)) ∷ []) ≡ Err Budget }
-{
-}
+{}
 
 /// A FOR ends at the end of its type with the variable unchanged, else with the variable past the limit.
 #[tactic(auto, unfolding(crate::specs::Runs::ran, crate::specs::Runs::units_within, crate::specs::Loops::looped, crate::specs::Loops::turns, crate::specs::Loops::guarded, crate::specs::Loops::runs_on, crate::specs::Loops::step_on, crate::specs::Evaluation::test))]
@@ -52,8 +51,7 @@ pub fn loops_with_a_variable()
     ensures past_the_limit { ran_with [] 100 to_3 ((I, int (pos 0)) ∷ []) ≡ Ok (goes_on (variables ((I, int (pos 4)) ∷ [])), 93) }
     ensures step_of_0 { ran_with [] 100 by_0 ((I, int (pos 0)) ∷ []) ≡ Err ZeroStep }
     ensures exit { ran_with [] 9 exit_at_3 ((I, int (pos 0)) ∷ (K, int (pos 0)) ∷ []) ≡ Ok (goes_on (variables ((I, int (pos 3)) ∷ (K, int (pos 2)) ∷ [])), 0) }
-{
-}
+{}
 
 /// Standard functions.
 pub fn standard_functions()
@@ -65,8 +63,7 @@ pub fn standard_functions()
     ensures ror_by_9 { standard_value rotated_right (datum Byte (pos 0x81) ∷ int (pos 9) ∷ []) ≡ Ok (datum Byte (pos 0xC0)) }
     ensures shr_by_8 { standard_value shifted_right (datum Byte (pos 0x81) ∷ int (pos 8) ∷ []) ≡ Ok (datum Byte (pos 0)) }
     ensures rol_by_minus_1 { standard_value rotated_left (datum Byte (pos 0x81) ∷ int (negsuc 0) ∷ []) ≡ Err Range }
-{
-}
+{}
 
 /// Standard functions go by their names; `INT_TO_INT` and `TIME_TO_INT` are none.
 #[tactic(auto, unfolding(crate::specs::StandardFunctions::standard_of, crate::specs::StandardFunctions::standard_functions))]
@@ -76,8 +73,7 @@ pub fn names_of_standard_functions()
     ensures bool_to_lword { standard_of (codes "BOOL_TO_LWORD") ≡ Some (converted Bool Lword) }
     ensures int_to_int { standard_of (codes "INT_TO_INT") ≡ None }
     ensures time_to_int { standard_of (codes "TIME_TO_INT") ≡ None }
-{
-}
+{}
 
 /// Timers of 100 ms at 0, 50, 100 and 150 ms, and of 0 ms.
 pub fn timers()
@@ -87,8 +83,7 @@ pub fn timers()
     ensures ton_of_0 { timed ton (pos 0) ((0, true) ∷ []) ≡ q_et true 0 ∷ [] }
     ensures tof_of_0 { timed tof (pos 0) ((0, true) ∷ []) ≡ q_et true 0 ∷ [] }
     ensures tp_of_0 { timed tp (pos 0) ((0, true) ∷ []) ≡ q_et false 0 ∷ [] }
-{
-}
+{}
 
 /// Edges and counters.
 pub fn edges_and_counters()
@@ -102,8 +97,7 @@ pub fn edges_and_counters()
         ∷ (10, bool false ∷ bool false ∷ bool false ∷ bool false ∷ int (pos 3) ∷ [])
         ∷ (20, bool true ∷ bool false ∷ bool false ∷ bool false ∷ int (pos 3) ∷ [])
         ∷ []) (fresh_members ctud) ≡ (bool false ∷ bool true ∷ int (pos 0) ∷ []) ∷ (bool false ∷ bool true ∷ int (pos 0) ∷ []) ∷ (bool false ∷ bool false ∷ int (pos 1) ∷ []) ∷ [] }
-{
-}
+{}
 
 /// A function of the text runs on variables of its own: `y := Sq(46340);` takes 2 ticks, and the square of 46341 is no DINT.
 #[tactic(auto, unfolding(crate::specs::Runs::ran, crate::specs::Runs::units_within, crate::specs::StandardFunctions::standard_of, crate::specs::StandardFunctions::standard_functions))]
@@ -111,8 +105,7 @@ pub fn function_calls()
     ensures two_ticks { ran_with (square ∷ []) 2 (squared (pos 46340)) ((Y, datum Dint (pos 0)) ∷ []) ≡ Ok (goes_on (variables ((Y, datum Dint (pos 2147395600)) ∷ [])), 0) }
     ensures one_tick { ran_with (square ∷ []) 1 (squared (pos 46340)) ((Y, datum Dint (pos 0)) ∷ []) ≡ Err Budget }
     ensures too_great { ran_with (square ∷ []) 2 (squared (pos 46341)) ((Y, datum Dint (pos 0)) ∷ []) ≡ Err Range }
-{
-}
+{}
 
 /// An untyped literal takes the type that its place expects; a literal of another sort of place is a LINT.
 #[tactic(auto, unfolding(crate::specs::StandardFunctions::standard_of, crate::specs::StandardFunctions::standard_functions))]
@@ -131,5 +124,4 @@ pub fn untyped_literals()
     // n := MIN(1, 2); and n := MIN(n, 2);
     ensures untyped_arguments { resolved_expr its_text three_variables (Some Int) (call (identifier (codes "MIN")) (exprs_of (untyped (pos 1) ∷ untyped (pos 2) ∷ []))) ≡ call (identifier (codes "MIN")) (exprs_of (number Lint (pos 1) ∷ number Lint (pos 2) ∷ [])) }
     ensures argument_beside_a_typed_one { resolved_expr its_text three_variables (Some Dint) (call (identifier (codes "MIN")) (exprs_of (name (codes "N") ∷ untyped (pos 2) ∷ []))) ≡ call (identifier (codes "MIN")) (exprs_of (name (codes "N") ∷ number Int (pos 2) ∷ [])) }
-{
-}
+{}

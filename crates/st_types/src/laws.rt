@@ -16,15 +16,16 @@ ghost use Rattle.st_types.specs.Loops.{End, Turn, turns, looped};
 ghost use Rattle.st_types.specs.Execution.{exec_all};
 ghost use Rattle.st_types.specs.Runs.{Program, ran, scope_of, outcome_of, store_after};
 
+use crate::entry::Outcome;
+
 /// No run ends with more ticks than it had, and a run that ends does so with a larger budget too, with the
 /// ticks added that the budget has more.
 pub fn budgets()
     ensures falls { (p : Program) (image : Store) (now budget : ℕ) (s : Store) (e : End) (left : ℕ) → ran p image now budget s ≡ Ok (e, left) → left ≤ budget }
     ensures more { (p : Program) (image : Store) (now budget added : ℕ) (s : Store) (e : End) (left : ℕ) → ran p image now budget s ≡ Ok (e, left) → ran p image now (budget + added) s ≡ Ok (e, left + added) }
-    ensures outcome { (p : Program) (image : Store) (now budget added : ℕ) (s : Store) → outcome_of p budget s image now ≡ None → outcome_of p (budget + added) s image now ≡ None }
-    ensures store { (p : Program) (image : Store) (now budget added : ℕ) (s : Store) → outcome_of p budget s image now ≡ None → store_after p (budget + added) s image now ≡ store_after p budget s image now }
-{
-}
+    ensures outcome { (p : Program) (image : Store) (now budget added : ℕ) (s : Store) → outcome_of p budget s image now ≡ Outcome.Done → outcome_of p (budget + added) s image now ≡ Outcome.Done }
+    ensures store { (p : Program) (image : Store) (now budget added : ℕ) (s : Store) → outcome_of p budget s image now ≡ Outcome.Done → store_after p (budget + added) s image now ≡ store_after p budget s image now }
+{}
 
 /// How deep calls may be and how often loops may turn in the definitions is never the limit of a run: the ticks are.
 pub fn bounds_of_recursion()
@@ -32,41 +33,35 @@ pub fn bounds_of_recursion()
     ensures turns { (turn : Store → ℕ → Result (Turn × ℕ) Fault) (step : Store → Option Store)
         → ((s : Store) (b : ℕ) (t : Turn) (c : ℕ) → turn s b ≡ Ok (t, c) → c ≤ b)
         → (n : ℕ) (s : Store) (b : ℕ) → b < n → turns n turn step s b ≡ looped turn step s b }
-{
-}
+{}
 
 /// A run that faults leaves every variable as it was.
 pub fn faults_change_nothing()
-    ensures { (p : Program) (budget : ℕ) (s image : Store) (now : ℕ) (fault : Fault) → outcome_of p budget s image now ≡ Some fault → store_after p budget s image now ≡ s }
-{
-}
+    ensures { (p : Program) (budget : ℕ) (s image : Store) (now : ℕ) (fault : Fault) → outcome_of p budget s image now ≡ Outcome.Faulted fault → store_after p budget s image now ≡ s }
+{}
 
 /// A run neither adds nor takes away a variable, and each variable keeps its type.
 pub fn variables_stay()
     ensures { (p : Program) (budget : ℕ) (s image : Store) (now : ℕ) → shape_of (store_after p budget s image now) ≡ shape_of s }
-{
-}
+{}
 
 /// An operator's right operand is evaluated whatever the left one is, also of AND and OR: its fault is the whole operation's.
 pub fn operands_are_all_evaluated()
     ensures left { (w : Scope) (s : Store) (op : BinaryOperator) (l r : Expr) (b : ℕ) (fault : Fault) → value w s l b ≡ Err fault → value w s (binary op l r) b ≡ Err fault }
     ensures right { (w : Scope) (s : Store) (op : BinaryOperator) (l r : Expr) (b c : ℕ) (x : Datum) (fault : Fault) → value w s l b ≡ Ok (x, c) → value w s r c ≡ Err fault → value w s (binary op l r) b ≡ Err fault }
-{
-}
+{}
 
 /// After any calls the time that a timer shows has not passed the PT of the last call.
 pub fn timers_stop_at_their_time()
     ensures on_delay { (calls : List TimerCall) (c : TimerCall) → (timer_after on_delay (calls ++ c ∷ [])).et ≤ℤ pos c.pt }
     ensures off_delay { (calls : List TimerCall) (c : TimerCall) → (timer_after off_delay (calls ++ c ∷ [])).et ≤ℤ pos c.pt }
     ensures pulse { (calls : List TimerCall) (c : TimerCall) → (timer_after pulse (calls ++ c ∷ [])).et ≤ℤ pos c.pt }
-{
-}
+{}
 
 /// After any calls Q of TON is TRUE only where IN was TRUE at some call and at each one since, for PT at least.
 pub fn on_delay_waits()
     ensures { (calls : List TimerCall) (c : TimerCall) → 0 < c.pt → (timer_after on_delay (calls ++ c ∷ [])).q ≡ true → WasOnFor (calls ++ c ∷ []) c.pt c.now }
-{
-}
+{}
 
 /// SR keeps Q1 where neither input is TRUE, and RS is reset whatever S says.
 pub fn bistables()
@@ -76,13 +71,11 @@ pub fn bistables()
     ensures rs_reset { (set q : Bool) → reset_first set true q ≡ false }
     ensures rs_set { (q : Bool) → reset_first true false q ≡ true }
     ensures rs_keeps { (q : Bool) → reset_first false false q ≡ q }
-{
-}
+{}
 
 /// A counter stays an INT, whatever it counts.
 pub fn counters_stay_within_their_type()
     ensures up { (reset edge : Bool) (z : ℤ) → holds Int z ≡ true → holds Int (up_count reset edge z) ≡ true }
     ensures down { (load edge : Bool) (pv z : ℤ) → holds Int pv ≡ true → holds Int z ≡ true → holds Int (down_count load pv edge z) ≡ true }
     ensures up_down { (reset load up down : Bool) (pv z : ℤ) → holds Int pv ≡ true → holds Int z ≡ true → holds Int (up_down_count reset load pv up down z) ≡ true }
-{
-}
+{}

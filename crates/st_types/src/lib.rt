@@ -1,17 +1,25 @@
 //! The words of the language, and what its programs mean.
 #![tactic(auto)]
 
+mod entry;
 mod examples;
 mod laws;
+mod schedules;
 
+pub use entry::{Activation, Entry, Outcome, Row};
 pub use examples::{
     division, edges_and_counters, faults, function_calls, loops_with_a_variable,
-    loops_with_conditions, names_of_standard_functions, standard_functions, timers, untyped_literals,
+    loops_with_conditions, names_of_standard_functions, standard_functions, timers,
+    untyped_literals,
 };
 pub use laws::{
     bistables, bounds_of_recursion, budgets, counters_stay_within_their_type,
     faults_change_nothing, on_delay_waits, operands_are_all_evaluated, timers_stop_at_their_time,
     variables_stay,
+};
+pub use schedules::{
+    intervals, logs_grow_by_one_step, one_activation_waits, single_and_interval,
+    three_programs_in_order,
 };
 pub use st_trees::{
     Address, AddressWidth, Argument, Arm, ArrayType, CaseArm, Configuration, Declaration,

@@ -1,0 +1,66 @@
+-- What a log makes of the variables, and what it may hold.
+use Rattle.std.specs.Prelude.{◌≡◌, ℕ, nat_lt, Bool, true, List, [], ◌∷◌, ◌++◌, fold, slice_index_or, Option, Some, None}
+use Rattle.st_types.specs.declared.entry.Entry.{Entry}
+use Rattle.st_types.specs.declared.entry.Entry.TheVariants.{Row, Done}
+use Rattle.st_types.specs.Rows.{Latch}
+use Rattle.st_types.specs.Stores.{Store}
+use Rattle.st_types.specs.Plans.{Plan, places_of, samples_of, fits, program_at, after_run}
+use Rattle.st_types.specs.Due.{History, no_history, with_tick, with_run, Waits}
+
+abbrev pub Log : Type 0
+Log = List Entry
+
+-- the rows so far, when programs were due and served, and the variables
+pub record Past : Type 0 where
+  pub rows : List Latch
+  pub history : History
+  pub store : Store
+
+abbrev pub row_at : List Latch → ℕ → Latch
+row_at rows k = slice_index_or rows k record { moment = 0; image = [] }
+
+-- A row samples SINGLE in the variables before it. A run works on the row of its own activation.
+abbrev pub with_entry : Plan → Past → Entry → Past
+with_entry plan past (Row row) = record {
+  rows = past.rows ++ row ∷ [];
+  history = with_tick past.history row.moment (samples_of plan past.store row.image);
+  store = past.store;
+}
+with_entry plan past (Done a) = record {
+  rows = past.rows;
+  history = with_run past.history a.program;
+  store = after_run plan (program_at plan a.program) past.store (row_at past.rows a.row);
+}
+
+abbrev pub beginning : Store → Past
+beginning s = record { rows = []; history = no_history; store = s }
+
+-- what the entries make, one after another
+abbrev pub past_of : Plan → Store → Log → Past
+past_of plan start log = fold (with_entry plan) (beginning start) log
+
+-- the variables after the log
+abbrev pub after : Plan → Store → Log → Store
+after plan start log = (past_of plan start log).store
+
+-- the moment of the last row, or else the one before the log
+abbrev pub last_moment : Option ℕ → List Latch → Option ℕ
+last_moment before [] = before
+last_moment before (row ∷ rows) = last_moment (Some row.moment) rows
+
+abbrev pub is_later : Option ℕ → ℕ → Bool
+is_later None moment = true
+is_later (Some last) moment = nat_lt last moment
+
+-- A row fits the plan and is later than the one before it. A Done was waiting.
+pub data MayFollow (plan : Plan) (before : Option ℕ) (past : Past) : Entry → Type 0 where
+  row_follows : (row : Latch) → fits plan row ≡ true → is_later (last_moment before past.rows) row.moment ≡ true → MayFollow plan before past (Row row)
+  done_follows : (a : _) → Waits (places_of plan) past.history a → MayFollow plan before past (Done a)
+
+-- Each entry of a legal log may follow those before it.
+abbrev pub IsLegalFrom : Plan → Option ℕ → Past → Log → Type 0
+IsLegalFrom plan before past [] = Unit {0}
+IsLegalFrom plan before past (e ∷ log) = MayFollow plan before past e × IsLegalFrom plan before (with_entry plan past e) log
+
+abbrev pub IsLegal : Plan → Store → Option ℕ → Log → Type 0
+IsLegal plan start before log = IsLegalFrom plan before (beginning start) log

@@ -1,0 +1,45 @@
+//! Laws and worked examples of what is due, what waits and what a log makes of the variables.
+
+ghost use Rattle.std.specs.Prelude.{◌≡◌, ℕ, ◌∷◌, ◌++◌, [], List, true, false};
+ghost use Rattle.st_types.specs.declared.entry.Entry.{Entry};
+ghost use Rattle.st_types.specs.Stores.{Store};
+ghost use Rattle.st_types.specs.Plans.{Place, Plan};
+ghost use Rattle.st_types.specs.Due.{History, Waits, IsBest, NoneWaits, HasOverruns, with_run};
+ghost use Rattle.st_types.specs.Logs.{past_of, with_entry};
+ghost use Rattle.st_types.specs.Schedules.{every, ticks_at, dues, three_programs, four_rows, of, ran_3, ran_3_1, ran_all};
+
+/// A program every 10 ms is due at the first row, and where a further whole interval has gone by since then.
+pub fn intervals()
+    ensures from_5 { dues (every 10) 0 (ticks_at (5 ∷ 14 ∷ 15 ∷ 40 ∷ [])) ≡ true ∷ false ∷ true ∷ true ∷ [] }
+    ensures from_0 { dues (every 10) 0 (ticks_at (0 ∷ 9 ∷ 10 ∷ 25 ∷ 29 ∷ 30 ∷ [])) ≡ true ∷ false ∷ true ∷ true ∷ false ∷ true ∷ [] }
+    ensures no_interval { dues (every 0) 0 (ticks_at (0 ∷ 9 ∷ 10 ∷ 25 ∷ 29 ∷ 30 ∷ [])) ≡ false ∷ false ∷ false ∷ false ∷ false ∷ false ∷ [] }
+{}
+
+/// SINGLE makes due where it rises, and holds the interval back while it is TRUE.
+pub fn single_and_interval()
+    ensures both { dues three_programs 0 four_rows.ticks ≡ true ∷ true ∷ false ∷ true ∷ [] }
+    ensures interval { dues three_programs 1 four_rows.ticks ≡ true ∷ false ∷ false ∷ true ∷ [] }
+    ensures single { dues three_programs 2 four_rows.ticks ≡ false ∷ true ∷ false ∷ false ∷ [] }
+{}
+
+/// Of three programs over four rows P3 of row 1 runs first, then P1 of row 0, then P2 of row 0; then nothing waits.
+pub fn three_programs_in_order()
+    ensures first { IsBest three_programs four_rows 0 (of 2 1) }
+    ensures second { IsBest three_programs ran_3 0 (of 0 0) }
+    ensures third { IsBest three_programs ran_3_1 0 (of 1 0) }
+    ensures then_none { NoneWaits three_programs ran_all 0 }
+    ensures overruns_of_p1 { HasOverruns three_programs ran_all 0 2 }
+    ensures overruns_of_p2 { HasOverruns three_programs ran_all 1 1 }
+    ensures overruns_of_p3 { HasOverruns three_programs ran_all 2 0 }
+{}
+
+/// At most one activation of a program waits, and none right behind its Done.
+pub fn one_activation_waits()
+    ensures one { (places : List Place) (h : History) (p j k : ℕ) → Waits places h record { program = p; row = j } → Waits places h record { program = p; row = k } → j ≡ k }
+    ensures none_behind_a_done { (places : List Place) (h : History) (p k : ℕ) → Waits places (with_run h p) record { program = p; row = k } → ⊥ }
+{}
+
+/// What a log with one entry more makes is one step further.
+pub fn logs_grow_by_one_step()
+    ensures { (plan : Plan) (start : Store) (log : List Entry) (e : Entry) → past_of plan start (log ++ e ∷ []) ≡ with_entry plan (past_of plan start log) e }
+{}
