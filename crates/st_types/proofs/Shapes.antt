@@ -1,16 +1,16 @@
 -- A run neither adds nor takes away a variable, and each keeps its type.
-use Rattle.std.proofs.Common.{◌≡◌, ℕ, zero, suc, ◌==◌, ℤ, Bool, true, false, if◌then◌else◌, List, [], ◌∷◌, Option, Some, None, option_and_then, Result, Ok, Err, refl, sym, ap, ◌∙◌, arith}
+use Rattle.std.proofs.Common.{◌≡◌, ℕ, zero, suc, ◌==◌, ℤ, Bool, true, false, ◌&&◌, if◌then◌else◌, List, [], ◌∷◌, Option, Some, None, option_and_then, Result, Ok, Err, refl, sym, ap, ◌∙◌, arith}
 use Rattle.std.specs.List.{list_any}
 use Rattle.std.proofs.lemmas.Bool.Decides.{nat_tests}
 use Rattle.st_words.specs.declared.fault.Fault.{Fault}
 use Rattle.st_words.specs.declared.fault.Fault.TheVariants.{Index, Conversion}
 use Rattle.st_words.specs.declared.kind.Kind.{Kind}
 use Rattle.st_words.specs.declared.kind.Kind.TheVariants.{Sint, Int, Dint, Lint, Usint, Uint, Udint, Ulint, Byte, Word, Dword, Lword, Time, Bool as Boolean}
-use Rattle.st_words.specs.Kinds.{place_of, same_kind}
+use Rattle.st_words.specs.Kinds.{place_of, same_kind, holds}
 use Rattle.st_words.specs.Values.{Datum}
 use Rattle.st_words.specs.Paths.{Path, same_path}
 use Rattle.st_trees.specs.Statements.{Argument, given, copied, Stmt, empty, assign, invoke, choose, select, count, while, repeat, exit, return, Stmts, no_stmts, stmt_then, Arms, no_arms, arm_then, CaseArms, no_case_arms, case_arm_then}
-use Rattle.st_types.specs.Stores.{Store, get, replaced, behind_first, assigned, shape_of}
+use Rattle.st_types.specs.Stores.{Store, get, may_replace, replaced, behind_first, assigned, shape_of, all_held}
 use Rattle.st_types.specs.Ticks.{Run, follow, ◌>>=◌, ◌>>◌, give, fault, take, or_fault, proceed, tick}
 use Rattle.st_types.specs.StandardBlocks as standard
 use Rattle.st_types.specs.StandardBlocks.{block_of, members_of, stepped}
@@ -50,24 +50,48 @@ same_place m n h = grind (arith, nat_tests)
 pub same_kind_is : (k l : Kind) → same_kind k l ≡ true → k ≡ l
 same_kind_is k l h = sym (kind_at-place_of k) ∙ ap kind_at (same_place (place_of k) (place_of l) h) ∙ kind_at-place_of l
 
--- a store of the same variables with the same types
-abbrev pub Same : Store → Store → Type 0
-Same s t = shape_of t ≡ shape_of s
+-- a store of the same variables with the same types, in which values that their types hold are held still
+pub record Same (s t : Store) : Type 0 where
+  pub shape : shape_of t ≡ shape_of s
+  pub held : all_held s ≡ true → all_held t ≡ true
 
-replaced_same : (e : Path × Datum) (v : Datum) (s t : Store) (b : Bool) → (b ≡ true → e.1.kind ≡ v.kind) → (if b then Ok ((e.0, v) ∷ s) else Err Conversion) ≡ Ok t → Same (e ∷ s) t
+pub same_refl : (s : Store) → Same s s
+same_refl s = record { shape = refl; held = λ h. h }
+
+same_then : {s t u : Store} → Same s t → Same t u → Same s u
+same_then h k = record { shape = k.shape ∙ h.shape; held = λ x. k.held (h.held x) }
+
+same_is : (s t : Store) → s ≡ t → Same s t
+same_is s t e = record { shape = ap shape_of (sym e); held = λ h. ap all_held (sym e) ∙ h }
+
+both : (a b : Bool) → (a && b) ≡ true → (a ≡ true) × (b ≡ true)
+both true true h = (refl, refl)
+both true false h = absurd (cc)
+both false b h = absurd (cc)
+
+and_both : (a b : Bool) → a ≡ true → b ≡ true → (a && b) ≡ true
+and_both true true h k = refl
+and_both true false h k = absurd (cc)
+and_both false b h k = absurd (cc)
+
+replaced_same : (e : Path × Datum) (v : Datum) (s t : Store) (b : Bool) → (b ≡ true → (e.1.kind ≡ v.kind) × (holds v.kind v.number ≡ true)) → (if b then Ok ((e.0, v) ∷ s) else Err Conversion) ≡ Ok t → Same (e ∷ s) t
 replaced_same e v s t true k h =
     let q : ◌≡◌ {A = Store} ((e.0, v) ∷ s) t = cc in
-    ap shape_of (sym q) ∙ ap (λ kind. (e.0, kind) ∷ shape_of s) (sym (k refl))
+    same_then (record { shape = ap (λ kind. (e.0, kind) ∷ shape_of s) (sym (k refl).0); held = λ x. and_both (holds v.kind v.number) (all_held s) (k refl).1 (both (holds e.1.kind e.1.number) (all_held s) x).1 }) (same_is ((e.0, v) ∷ s) t q)
 replaced_same e v s t false k h = absurd (cc)
 
 behind_same : (e : Path × Datum) (s t : Store) (r : Result Store Fault) → ((u : Store) → r ≡ Ok u → Same s u) → behind_first e r ≡ Ok t → Same (e ∷ s) t
 behind_same e s t (Ok u) k h =
     let q : ◌≡◌ {A = Store} (e ∷ u) t = cc in
-    ap shape_of (sym q) ∙ ap (λ rest. (e.0, e.1.kind) ∷ rest) (k u refl)
+    let m = k u refl in
+    same_then (record { shape = ap (λ rest. (e.0, e.1.kind) ∷ rest) m.shape; held = λ x. let y = both (holds e.1.kind e.1.number) (all_held s) x in and_both (holds e.1.kind e.1.number) (all_held u) y.0 (m.held y.1) }) (same_is (e ∷ u) t q)
 behind_same e s t (Err f) k h = absurd (cc)
 
+may_replace_is : (old new : Datum) → may_replace old new ≡ true → (old.kind ≡ new.kind) × (holds new.kind new.number ≡ true)
+may_replace_is old new h = let x = both (same_kind old.kind new.kind) (holds new.kind new.number) h in (same_kind_is old.kind new.kind x.0, x.1)
+
 assigned_at : (e : Path × Datum) (p : Path) (v : Datum) (s t : Store) (b : Bool) → ((u : Store) → assigned s p v ≡ Ok u → Same s u) → (if b then replaced e v s else behind_first e (assigned s p v)) ≡ Ok t → Same (e ∷ s) t
-assigned_at e p v s t true k h = replaced_same e v s t (same_kind e.1.kind v.kind) (same_kind_is e.1.kind v.kind) h
+assigned_at e p v s t true k h = replaced_same e v s t (may_replace e.1 v) (may_replace_is e.1 v) h
 assigned_at e p v s t false k h = behind_same e s t (assigned s p v) k h
 
 pub assigned_same : (s : Store) (p : Path) (v : Datum) (t : Store) → assigned s p v ≡ Ok t → Same s t
@@ -87,7 +111,7 @@ keeps_behind : {A B : Type 0} (store : B → Store) (s : Store) (m : Run A) {f :
 keeps_behind store s m {f = f} k = record { kept = λ b z c e. kept_follow store s f (m b) k z c e }
 
 kept_then : {A B : Type 0} (inner : A → Store) (store : B → Store) (s : Store) (b : ℕ) (m : Run A) (f : A → Run B) (x : Result (A × ℕ) Fault) → ((a : A) (c : ℕ) → x ≡ Ok (a, c) → Same s (inner a)) → ((a : A) → Keeps B store (inner a) (f a)) → (z : B) (c : ℕ) → follow x f ≡ Ok (z, c) → Same s (store z)
-kept_then inner store s b m f (Ok r) h k z c e = (k r.0).kept r.1 z c e ∙ h r.0 r.1 refl
+kept_then inner store s b m f (Ok r) h k z c e = same_then (h r.0 r.1 refl) ((k r.0).kept r.1 z c e)
 kept_then inner store s b m f (Err y) h k z c e = absurd (cc)
 
 -- one after another
@@ -95,7 +119,7 @@ keeps_then : {A B : Type 0} (inner : A → Store) (store : B → Store) (s : Sto
 keeps_then inner store s {m = m} {f = f} h k = record { kept = λ b z c e. kept_then inner store s b m f (m b) (h.kept b) k z c e }
 
 keeps_give : {A : Type 0} (store : A → Store) (s : Store) (a : A) → Same s (store a) → Keeps A store s (give a)
-keeps_give {A = A} store s a h = record { kept = λ b x c e. let q : ◌≡◌ {A = A × ℕ} (a, b) (x, c) = cc in let i : a ≡ x = ap (λ p. p.0) q in ap (λ y. shape_of (store y)) (sym i) ∙ h }
+keeps_give {A = A} store s a h = record { kept = λ b x c e. let q : ◌≡◌ {A = A × ℕ} (a, b) (x, c) = cc in let i : a ≡ x = ap (λ p. p.0) q in same_then h (same_is (store a) (store x) (ap store i)) }
 
 keeps_fault : {A : Type 0} (store : A → Store) (s : Store) (e : Fault) → Keeps A store s (fault e)
 keeps_fault store s e = record { kept = λ b x c h. absurd (cc) }
@@ -124,11 +148,11 @@ turned_same (returns s) = refl
 
 module _ (turn : Store → Run Turn) (step : Store → Option Store) (h : (s : Store) → Keeps Turn store_of_turn s (turn s)) (k : (s t : Store) → step s ≡ Some t → Same s t) where
   resumed_keeps : (next : Store → Run End) → ((s : Store) → Keeps End store_of s (next s)) → (s : Store) (o : Option Store) → ((t : Store) → o ≡ Some t → Same s t) → Keeps End store_of s (resumed next s o)
-  resumed_keeps next n s None q = keeps_give store_of s (goes_on s) refl
-  resumed_keeps next n s (Some t) q = record { kept = λ b a c e. (n t).kept b a c e ∙ q t refl }
+  resumed_keeps next n s None q = keeps_give store_of s (goes_on s) (same_refl s)
+  resumed_keeps next n s (Some t) q = record { kept = λ b a c e. same_then (q t refl) ((n t).kept b a c e) }
 
   back_keeps : (next : Store → Run End) → ((s : Store) → Keeps End store_of s (next s)) → (t : Turn) → Keeps End store_of (store_of_turn t) (go_back step next t)
-  back_keeps next n (over e) = keeps_give store_of (store_of e) e refl
+  back_keeps next n (over e) = keeps_give store_of (store_of e) e (same_refl (store_of e))
   back_keeps next n (again s) = keeps_tick store_of s (resumed_keeps next n s (step s) (k s))
 
   turns_keep : (n : ℕ) (s : Store) → Keeps End store_of s (turns n turn step s)
@@ -145,24 +169,24 @@ unfolding guarded
 guarded_keeps condition body h s = keeps_behind store_of_turn s (condition s) (λ go. chosen go)
   where
     chosen : (go : Bool) → Keeps Turn store_of_turn s (if go then (body s >>= (λ e. give (turned e))) else give (over (goes_on s)))
-    chosen true = keeps_then store_of store_of_turn s (h s) (λ e. keeps_give store_of_turn (store_of e) (turned e) (ap shape_of (turned_same e)))
-    chosen false = keeps_give store_of_turn s (over (goes_on s)) refl
+    chosen true = keeps_then store_of store_of_turn s (h s) (λ e. keeps_give store_of_turn (store_of e) (turned e) (same_is (store_of e) (store_of_turn (turned e)) (sym (turned_same e))))
+    chosen false = keeps_give store_of_turn s (over (goes_on s)) (same_refl s)
 
 asked_keeps : (condition : Store → Run Bool) (e : End) → Keeps Turn store_of_turn (store_of e) (asked condition e)
 asked_keeps condition (goes_on s) = keeps_behind store_of_turn s (condition s) (λ stop. chosen stop)
   where
     chosen : (stop : Bool) → Keeps Turn store_of_turn s (give (if stop then over (goes_on s) else again s))
-    chosen true = keeps_give store_of_turn s (over (goes_on s)) refl
-    chosen false = keeps_give store_of_turn s (again s) refl
-asked_keeps condition (exits s) = keeps_give store_of_turn s (over (goes_on s)) refl
-asked_keeps condition (returns s) = keeps_give store_of_turn s (over (returns s)) refl
+    chosen true = keeps_give store_of_turn s (over (goes_on s)) (same_refl s)
+    chosen false = keeps_give store_of_turn s (again s) (same_refl s)
+asked_keeps condition (exits s) = keeps_give store_of_turn s (over (goes_on s)) (same_refl s)
+asked_keeps condition (returns s) = keeps_give store_of_turn s (over (returns s)) (same_refl s)
 
 until_keeps : (body : Store → Run End) (condition : Store → Run Bool) → ((s : Store) → Keeps End store_of s (body s)) → (s : Store) → Keeps Turn store_of_turn s (until body condition s)
 unfolding until
 until_keeps body condition h s = keeps_then store_of store_of_turn s (h s) (λ e. asked_keeps condition e)
 
 refused_same : (s t : Store) (r : Result Store Fault) → ((u : Store) → r ≡ Ok u → Same s u) → unless_refused r ≡ Some t → Same s t
-refused_same s t (Ok u) h e = let q : u ≡ t = cc in ap shape_of (sym q) ∙ h u refl
+refused_same s t (Ok u) h e = let q : u ≡ t = cc in same_then (h u refl) (same_is u t q)
 refused_same s t (Err f) h e = absurd (cc)
 
 stored_same : (s : Store) (x : Path) (o : Option Datum) (t : Store) → stored s x o ≡ Some t → Same s t
@@ -178,15 +202,15 @@ unfolding step_on
 step_same x step s t e = next_same s x step (get s x) t e
 
 some_same : (s t : Store) → Some s ≡ Some t → Same s t
-some_same s t e = let q : s ≡ t = cc in ap shape_of (sym q)
+some_same s t e = let q : s ≡ t = cc in same_is s t q
 
 module _ (w : Scope) (blocks : (b : Name) (at : Path) (s : Store) → Keeps Store itself s (w.units.blocks b at s)) where
   inputs_keep : (at : Path) (vs : List (Name × Datum)) (s : Store) → Keeps Store itself s (assigned_inputs at vs s)
-  inputs_keep at [] s = keeps_give itself s s refl
+  inputs_keep at [] s = keeps_give itself s s (same_refl s)
   inputs_keep at (e ∷ es) s = keeps_then itself itself s (keeps_assigned s (member_at at e.0) e.1) (λ t. inputs_keep at es t)
 
   outputs_keep : (at : Path) (arguments : List Argument) (s : Store) → Keeps Store itself s (copied_outputs w at arguments s)
-  outputs_keep at [] s = keeps_give itself s s refl
+  outputs_keep at [] s = keeps_give itself s s (same_refl s)
   outputs_keep at (given x e ∷ rest) s = outputs_keep at rest s
   outputs_keep at (copied x v ∷ rest) s = keeps_behind itself s (or_fault Index (get s (member_at at x.name))) (λ o. keeps_behind itself s (place w s v) (λ p. keeps_then itself itself s (keeps_assigned s p o) (λ t. outputs_keep at rest t)))
 
@@ -200,17 +224,17 @@ module _ (w : Scope) (blocks : (b : Name) (at : Path) (s : Store) → Keeps Stor
 
   behind_keeps : (e : End) (next : Store → Run End) → ((s : Store) → Keeps End store_of s (next s)) → Keeps End store_of (store_of e) (behind e next)
   behind_keeps (goes_on s) next h = h s
-  behind_keeps (exits s) next h = keeps_give store_of s (exits s) refl
-  behind_keeps (returns s) next h = keeps_give store_of s (returns s) refl
+  behind_keeps (exits s) next h = keeps_give store_of s (exits s) (same_refl s)
+  behind_keeps (returns s) next h = keeps_give store_of s (returns s) (same_refl s)
 
   mutual
     exec_keeps : (x : Stmt) (s : Store) → Keeps End store_of s (exec w x s)
-    exec_keeps empty s = keeps_tick store_of s (keeps_give store_of s (goes_on s) refl)
-    exec_keeps (assign v e) s = keeps_tick store_of s (keeps_behind store_of s (value w s e) (λ x. keeps_behind store_of s (place w s v) (λ p. keeps_then itself store_of s (keeps_assigned s p x) (λ t. keeps_give store_of t (goes_on t) refl))))
+    exec_keeps empty s = keeps_tick store_of s (keeps_give store_of s (goes_on s) (same_refl s))
+    exec_keeps (assign v e) s = keeps_tick store_of s (keeps_behind store_of s (value w s e) (λ x. keeps_behind store_of s (place w s v) (λ p. keeps_then itself store_of s (keeps_assigned s p x) (λ t. keeps_give store_of t (goes_on t) (same_refl t)))))
     exec_keeps (invoke x arguments) s =
         keeps_tick store_of s (keeps_behind store_of s (given_inputs w s arguments) (λ vs. keeps_then itself store_of s (inputs_keep (path_in w.frame w.body x.name) vs s)
         (λ t. keeps_then itself store_of t (block_keeps (path_in w.frame w.body x.name) (block_named w.body.instances x.name) t)
-        (λ u. keeps_then itself store_of u (outputs_keep (path_in w.frame w.body x.name) arguments u) (λ z. keeps_give store_of z (goes_on z) refl)))))
+        (λ u. keeps_then itself store_of u (outputs_keep (path_in w.frame w.body x.name) arguments u) (λ z. keeps_give store_of z (goes_on z) (same_refl z))))))
     exec_keeps (choose arms otherwise) s = keeps_tick store_of s (arms_keep arms (exec_all w otherwise) (exec_all_keeps otherwise) s)
     exec_keeps (select e arms otherwise) s = keeps_tick store_of s (keeps_behind store_of s (value w s e) (λ v. case_keeps v.number arms (exec_all w otherwise) (exec_all_keeps otherwise) s))
     exec_keeps (count x start limit step body) s =
@@ -219,11 +243,11 @@ module _ (w : Scope) (blocks : (b : Name) (at : Path) (s : Store) → Keeps Stor
         (guarded_keeps (runs_on (path_in w.frame w.body x.name) n.number d) (exec_all w body) (exec_all_keeps body)) (step_same (path_in w.frame w.body x.name) d) t))))))
     exec_keeps (while e body) s = keeps_tick store_of s (looped_keeps _ Some (guarded_keeps (test w e) (exec_all w body) (exec_all_keeps body)) some_same s)
     exec_keeps (repeat body e) s = keeps_tick store_of s (looped_keeps _ Some (until_keeps (exec_all w body) (test w e) (exec_all_keeps body)) some_same s)
-    exec_keeps (exit at) s = keeps_tick store_of s (keeps_give store_of s (exits s) refl)
-    exec_keeps return s = keeps_tick store_of s (keeps_give store_of s (returns s) refl)
+    exec_keeps (exit at) s = keeps_tick store_of s (keeps_give store_of s (exits s) (same_refl s))
+    exec_keeps return s = keeps_tick store_of s (keeps_give store_of s (returns s) (same_refl s))
 
     pub exec_all_keeps : (xs : Stmts) (s : Store) → Keeps End store_of s (exec_all w xs s)
-    exec_all_keeps no_stmts s = keeps_give store_of s (goes_on s) refl
+    exec_all_keeps no_stmts s = keeps_give store_of s (goes_on s) (same_refl s)
     exec_all_keeps (stmt_then x xs) s = keeps_then store_of store_of s (exec_keeps x s) (λ e. behind_keeps e (exec_all w xs) (exec_all_keeps xs))
 
     arms_keep : (arms : Arms) (otherwise : Store → Run End) → ((s : Store) → Keeps End store_of s (otherwise s)) → (s : Store) → Keeps End store_of s (exec_arms w arms otherwise s)
@@ -235,12 +259,12 @@ module _ (w : Scope) (blocks : (b : Name) (at : Path) (s : Store) → Keeps Stor
     case_keeps z (case_arm_then labels body arms) otherwise h s = if_keeps s (list_any (label_holds z) labels) (exec_all_keeps body s) (case_keeps z arms otherwise h s)
 
 members_same : (s : Store) (at : Path) (ms : List standard.Member) (vs : List Datum) (t : Store) → members_assigned s at ms vs ≡ Ok t → Same s t
-members_same s at [] vs t e = let q : s ≡ t = cc in ap shape_of (sym q)
-members_same s at (m ∷ ms) [] t e = let q : s ≡ t = cc in ap shape_of (sym q)
+members_same s at [] vs t e = let q : s ≡ t = cc in same_is s t q
+members_same s at (m ∷ ms) [] t e = let q : s ≡ t = cc in same_is s t q
 members_same s at (m ∷ ms) (v ∷ vs) t e = next (assigned s (member_at at m.0) v) (assigned_same s (member_at at m.0) v) (λ u. members_same u at ms vs t) e
   where
     next : (r : Result Store Fault) → ((u : Store) → r ≡ Ok u → Same s u) → ((u : Store) → members_assigned u at ms vs ≡ Ok t → Same u t) → proceed r (λ u. members_assigned u at ms vs) ≡ Ok t → Same s t
-    next (Ok u) h k e = k u e ∙ h u refl
+    next (Ok u) h k e = same_then (h u refl) (k u e)
     next (Err f) h k e = absurd (cc)
 
 standard_keeps : (k : standard.Block) (now : ℕ) (at : Path) (s : Store) → Keeps Store itself s (standard_call k now at s)
@@ -248,7 +272,7 @@ standard_keeps k now at s = keeps_behind itself s _ (λ vs. keeps_take s (member
 
 module _ (library : Library) (image : Store) (now : ℕ) (units : Units) (blocks : (b : Name) (at : Path) (s : Store) → Keeps Store itself s (units.blocks b at s)) where
   body_keeps : (b : Block) (at : Path) (s : Store) → Keeps Store itself s (block_call units image now b at s)
-  body_keeps b at s = keeps_then store_of itself s (exec_all_keeps (record { units = units; frame = of_block at; body = b.body; image = image; now = now }) blocks b.body.statements s) (λ e. keeps_give itself (store_of e) (store_of e) refl)
+  body_keeps b at s = keeps_then store_of itself s (exec_all_keeps (record { units = units; frame = of_block at; body = b.body; image = image; now = now }) blocks b.body.statements s) (λ e. keeps_give itself (store_of e) (store_of e) (same_refl (store_of e)))
 
   instance_keeps : (b : Name) (o : Option standard.Block) (at : Path) (s : Store) → Keeps Store itself s (instance_call library image units now b o at s)
   instance_keeps b (Some k) at s = standard_keeps k now at s

@@ -1,4 +1,5 @@
 -- The value of an expression. All operands are evaluated, the left before the right.
+-- F3 is a subscript out of bounds; it stands too where a name is unknown, which no well-typed text has.
 use Rattle.std.specs.Prelude.{ℕ, ℤ, List, [], ◌∷◌, ◌++◌, Bool, ◌||◌, if◌then◌else◌, Option, Some, None}
 use Rattle.st_words.specs.declared.fault.Fault.TheVariants.{Index}
 use Rattle.st_words.specs.declared.path.Step.TheVariants.{Element}

@@ -22,7 +22,7 @@ use Rattle.st_trees.specs.Declarations.{Declaration}
 use Rattle.st_trees.specs.Units.{OrganisationUnit}
 use Rattle.st_types.specs.NameTypes.{Text}
 use Rattle.st_types.specs.Stores.{Store}
-use Rattle.st_types.specs.Scopes.{Name, Body, Function, own_path, of_program, global}
+use Rattle.st_types.specs.Scopes.{Name, Body, Function, own_path, of_program, unowned}
 use Rattle.st_types.specs.declared.entry.Outcome.{Outcome}
 use Rattle.st_types.specs.Runs.{Program, ran, outcome_of, store_after}
 use Rattle.st_types.specs.Loops.{End}
@@ -153,7 +153,7 @@ abbrev pub square : Function
 square = record {
   name = codes "SQ";
   inputs = X ∷ [];
-  fresh = (global (codes "SQ"), datum Dint (pos 0)) ∷ (global X, datum Dint (pos 0)) ∷ [];
+  fresh = (unowned (codes "SQ"), datum Dint (pos 0)) ∷ (unowned X, datum Dint (pos 0)) ∷ [];
   body = body_of (set (codes "SQ") (binary Multiply (name X) (name X)) ∷ []);
 }
 

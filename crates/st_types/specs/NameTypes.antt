@@ -1,12 +1,13 @@
 -- What a text declares: the types of its variables, and what its calls take and give.
-use Rattle.std.specs.Prelude.{List, [], ◌∷◌, ◌++◌, Bool, if◌then◌else◌, Option, Some, None, option_map, option_and_then, bytes_eq}
+use Rattle.std.specs.Prelude.{Bool, true, false, List, [], ◌∷◌, ◌++◌, Bool, if◌then◌else◌, Option, Some, None, option_map, option_and_then, bytes_eq}
 use Rattle.std.specs.List.{list_any}
 use Rattle.st_words.specs.declared.identifier.Identifier.{Identifier}
 use Rattle.st_words.specs.declared.kind.Kind.{Kind}
 use Rattle.st_trees.specs.declared.data_type.SimpleType.TheVariants.{Elementary, Named}
 use Rattle.st_trees.specs.declared.data_type.VariableType.{VariableType}
 use Rattle.st_trees.specs.declared.data_type.VariableType.TheVariants as types
-use Rattle.st_trees.specs.declared.declaration.Section.TheVariants.{Input}
+use Rattle.st_trees.specs.declared.declaration.Section.{Section}
+use Rattle.st_trees.specs.declared.declaration.Section.TheVariants.{Input, Output}
 use Rattle.st_trees.specs.declared.unit.UnitSort.{UnitSort}
 use Rattle.st_trees.specs.declared.unit.UnitSort.TheVariants.{Function, FunctionBlock, Program}
 use Rattle.st_trees.specs.Expressions.{Variable, variable, Selector, member, subscript, Selectors, no_selectors, selector_then}
@@ -15,7 +16,7 @@ use Rattle.st_trees.specs.Units.{OrganisationUnit}
 use Rattle.st_trees.specs.Sources.{LibraryElement, Source}
 use Rattle.st_trees.specs.Sources as sources
 use Rattle.st_types.specs.StandardBlocks as standard
-use Rattle.st_types.specs.StandardBlocks.{block_of, members_of}
+use Rattle.st_types.specs.StandardBlocks.{block_of, inputs_of, outputs_of}
 use Rattle.st_types.specs.Scopes.{Name}
 
 -- the types and units of a text
@@ -54,9 +55,13 @@ abbrev pub type_in : List Declaration → Name → Option VariableType
 type_in [] x = None
 type_in (d ∷ ds) x = if list_any (is_named x) d.names then Some d.declared else type_in ds x
 
+abbrev pub or_type : Option VariableType → Option VariableType → Option VariableType
+or_type (Some t) other = Some t
+or_type None other = other
+
 abbrev pub type_in_blocks : List VariableBlock → Name → Option VariableType
 type_in_blocks [] x = None
-type_in_blocks (b ∷ bs) x = elim (type_in b.declarations x) [ Some t ↦ Some t | None ↦ type_in_blocks bs x ]
+type_in_blocks (b ∷ bs) x = or_type (type_in b.declarations x) (type_in_blocks bs x)
 
 abbrev pub field_type : List Field → Name → Option VariableType
 field_type [] x = None
@@ -65,15 +70,14 @@ field_type (f ∷ fs) x = if is_named x f.name then Some f.declared else field_t
 abbrev pub elementary : Kind → VariableType
 elementary k = types.Simple (Elementary k 0)
 
--- the type of a function's result, under its own name
-abbrev pub result_type : UnitSort → Option VariableType
-result_type (Function k at) = Some (elementary k)
-result_type FunctionBlock = None
-result_type Program = None
+abbrev pub result_kind : UnitSort → Option Kind
+result_kind (Function k at) = Some k
+result_kind FunctionBlock = None
+result_kind Program = None
 
 -- the type of a unit's variable; a function's name is a variable in its body
 abbrev pub variable_type : OrganisationUnit → Name → Option VariableType
-variable_type u x = if is_named x u.name then result_type u.sort else type_in_blocks u.blocks x
+variable_type u x = if is_named x u.name then option_map elementary (result_kind u.sort) else type_in_blocks u.blocks x
 
 abbrev pub member_kind : List standard.Member → Name → Option Kind
 member_kind [] x = None
@@ -90,19 +94,44 @@ element_type (Some (array a)) = Some (types.Simple a.element)
 element_type (Some (structure fields)) = None
 element_type None = None
 
--- the member of a block that is named by a type: a standard one, or one of the text
-abbrev pub block_member : Text → VariableType → Name → Option VariableType
-block_member text (types.Array a) x = None
-block_member text (types.Simple (Elementary k at)) x = None
-block_member text (types.Simple (Named b)) x = elim (block_of b.name) [
-  | Some k ↦ option_map elementary (member_kind (members_of k) x)
-  | None ↦ option_and_then (λ u. type_in_blocks u.blocks x) (unit_named text.units b.name)
-]
+-- the blocks of variables of one section
+abbrev pub is_input : Section → Bool
+is_input (Input keep) = true
+is_input _ = false
 
+abbrev pub is_output : Section → Bool
+is_output (Output keep) = true
+is_output _ = false
+
+abbrev pub type_in_sections : (Section → Bool) → List VariableBlock → Name → Option VariableType
+type_in_sections wanted [] x = None
+type_in_sections wanted (b ∷ bs) x = if wanted b.section then or_type (type_in b.declarations x) (type_in_sections wanted bs x) else type_in_sections wanted bs x
+
+abbrev pub sections_of : UnitSort → List VariableBlock → List VariableBlock
+sections_of FunctionBlock bs = bs
+sections_of (Function k at) bs = []
+sections_of Program bs = []
+
+-- a variable of the wanted section of a function block of the text
+abbrev pub variable_of_block : Text → (Section → Bool) → Name → Name → Option VariableType
+variable_of_block text wanted b x = option_and_then (λ u. type_in_sections wanted (sections_of u.sort u.blocks) x) (unit_named text.units b)
+
+-- an input or an output of a block that is named by a type: a standard one, or one of the text
+abbrev pub block_variable : Text → (standard.Block → List standard.Member) → (Section → Bool) → VariableType → Name → Option VariableType
+block_variable text standard_ones wanted (types.Array a) x = None
+block_variable text standard_ones wanted (types.Simple (Elementary k at)) x = None
+block_variable text standard_ones wanted (types.Simple (Named b)) x =
+    standard_or_own (block_of b.name)
+  where
+    standard_or_own : Option standard.Block → Option VariableType
+    standard_or_own (Some k) = option_map elementary (member_kind (standard_ones k) x)
+    standard_or_own None = variable_of_block text wanted b.name x
+
+-- what stands behind a dot: a field of a structure, or an output of an instance
 abbrev pub member_type : Text → VariableType → Name → Option TypeDefinition → Option VariableType
 member_type text t x (Some (structure fields)) = field_type fields x
 member_type text t x (Some (array a)) = None
-member_type text t x None = block_member text t x
+member_type text t x None = block_variable text outputs_of is_output t x
 
 abbrev pub selected_type : Text → VariableType → Selector → Option VariableType
 selected_type text t (member x) = member_type text t x.name (definition_of text t)
@@ -122,7 +151,7 @@ kind_of_type (types.Array a) = None
 abbrev pub kind_of_variable : Text → OrganisationUnit → Variable → Option Kind
 kind_of_variable text u (variable x xs) = option_and_then kind_of_type (option_and_then (type_behind text xs) (variable_type u x.name))
 
--- the types of a unit's inputs, in order
+-- the types of the inputs of a list of blocks of variables, in order
 abbrev pub kinds_of_declaration : Declaration → List Identifier → List (Option Kind)
 kinds_of_declaration d [] = []
 kinds_of_declaration d (x ∷ xs) = kind_of_type d.declared ∷ kinds_of_declaration d xs
@@ -133,13 +162,8 @@ kinds_of_declarations (d ∷ ds) = kinds_of_declaration d d.names ++ kinds_of_de
 
 abbrev pub input_kinds : List VariableBlock → List (Option Kind)
 input_kinds [] = []
-input_kinds (b ∷ bs) = elim b.section [ Input keep ↦ kinds_of_declarations b.declarations ++ input_kinds bs | _ ↦ input_kinds bs ]
+input_kinds (b ∷ bs) = if is_input b.section then kinds_of_declarations b.declarations ++ input_kinds bs else input_kinds bs
 
 -- the type of an input of a block's instance
 abbrev pub input_kind : Text → OrganisationUnit → Name → Name → Option Kind
-input_kind text u instance x = option_and_then kind_of_type (option_and_then (λ t. block_member text t x) (variable_type u instance))
-
-abbrev pub result_kind : UnitSort → Option Kind
-result_kind (Function k at) = Some k
-result_kind FunctionBlock = None
-result_kind Program = None
+input_kind text u instance x = option_and_then kind_of_type (option_and_then (λ t. block_variable text inputs_of is_input t x) (variable_type u instance))

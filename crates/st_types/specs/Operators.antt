@@ -1,5 +1,6 @@
 -- What the operators give. Each takes operands of one type; its result is tested once against the range of its type.
-use Rattle.std.specs.Prelude.{ℕ, ℤ, pos, negsuc, ◌+ℤ◌, ◌-ℤ◌, ◌*ℤ◌, neg_ℤ, int_div, int_lt, int_le, bit_and, bit_or, bit_xor, Bool, not, if◌then◌else◌, Option, Some, None, Result, Ok, Err}
+-- F4 stands where a text is not well typed: it is met in none that is.
+use Rattle.std.specs.Prelude.{ℤ, pos, ◌+ℤ◌, ◌-ℤ◌, ◌*ℤ◌, neg_ℤ, int_div, int_lt, int_le, bit_and, bit_or, bit_xor, Bool, not, if◌then◌else◌, Option, Some, None, Result, Ok, Err}
 use Rattle.std.specs.Ordering.{int_eq}
 use Rattle.st_words.specs.declared.fault.Fault.{Fault}
 use Rattle.st_words.specs.declared.fault.Fault.TheVariants.{DivisionByZero, Conversion}
@@ -13,6 +14,7 @@ use Rattle.st_words.specs.declared.operator.UnaryOperator.TheVariants.{Negate, N
 use Rattle.st_words.specs.declared.operator.BinaryOperator.{BinaryOperator}
 use Rattle.st_words.specs.declared.operator.BinaryOperator.TheVariants.{Or, Xor, And, Equal, NotEqual, Less, Greater, LessOrEqual, GreaterOrEqual, Add, Subtract, Multiply, Divide, Modulo}
 use Rattle.st_words.specs.Kinds.{greatest, same_kind}
+use Rattle.st_words.specs.Words.{natural}
 use Rattle.st_words.specs.Values.{Datum, in_range, datum_of_truth, is_true}
 
 -- the number that a literal's digits and sign spell
@@ -30,11 +32,6 @@ abbrev pub value_of_literal : Literal → Result Datum Fault
 value_of_literal (literals.Number n) = value_of_number n
 value_of_literal (literals.Truth at b) = Ok (datum_of_truth b)
 value_of_literal (literals.Duration at n) = in_range Time (pos n)
-
--- a number that is not negative
-abbrev pub natural : ℤ → ℕ
-natural (pos n) = n
-natural (negsuc n) = 0
 
 -- a quotient is truncated toward zero
 abbrev pub quotient : Kind → ℤ → ℤ → Result Datum Fault

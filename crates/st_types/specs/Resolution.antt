@@ -11,11 +11,14 @@ use Rattle.st_words.specs.declared.operator.BinaryOperator.{BinaryOperator}
 use Rattle.st_words.specs.declared.operator.BinaryOperator.TheVariants.{Equal, NotEqual, Less, Greater, LessOrEqual, GreaterOrEqual}
 use Rattle.st_words.specs.Kinds.{row_of}
 use Rattle.st_trees.specs.Expressions.{Expr, literal, read, call, parenthesis, unary, binary, Exprs, no_exprs, expr_then, Variable, variable, Selector, member, subscript, Selectors, no_selectors, selector_then}
+use Rattle.st_trees.specs.declared.unit.UnitSort.{UnitSort}
+use Rattle.st_trees.specs.declared.unit.UnitSort.TheVariants.{Function, FunctionBlock, Program}
+use Rattle.st_trees.specs.Declarations.{VariableBlock}
 use Rattle.st_trees.specs.Units.{OrganisationUnit}
-use Rattle.st_types.specs.StandardFunctions.{Standard, least_of_two, greatest_of_two, limited, selected, converted, standard_of}
+use Rattle.st_types.specs.StandardFunctions.{Standard, MIN, MAX, LIMIT, SEL, CONVERT, standard_of}
 use Rattle.st_types.specs.NameTypes.{Text, kind_of_variable, unit_named, input_kinds, result_kind}
 
--- an operator between whole numbers or bit strings
+-- an operator that joins untyped expressions to an untyped one
 abbrev pub is_joining : BinaryOperator → Bool
 is_joining Equal = false
 is_joining NotEqual = false
@@ -68,36 +71,42 @@ abbrev pub or_kind : Option Kind → Option Kind → Option Kind
 or_kind (Some k) l = Some k
 or_kind None l = l
 
--- the types of a standard function's operands: the common type of those that have it
+-- the common type of a standard function's operands, of those that have it; where the function has one such operand, that is the first
 abbrev pub common_kind : Standard → List (Option Kind) → Option Kind
-common_kind least_of_two (a ∷ b ∷ []) = or_kind a b
-common_kind greatest_of_two (a ∷ b ∷ []) = or_kind a b
-common_kind limited (a ∷ b ∷ c ∷ []) = or_kind a (or_kind b c)
-common_kind selected (g ∷ a ∷ b ∷ []) = or_kind a b
+common_kind MIN (a ∷ b ∷ []) = or_kind a b
+common_kind MAX (a ∷ b ∷ []) = or_kind a b
+common_kind LIMIT (a ∷ b ∷ c ∷ []) = or_kind a (or_kind b c)
+common_kind SEL (g ∷ a ∷ b ∷ []) = or_kind a b
 common_kind _ (a ∷ rest) = a
 common_kind _ [] = None
 
 -- the type that a standard function gives
 abbrev pub standard_kind : Standard → List (Option Kind) → Option Kind
-standard_kind (converted k l) ks = Some l
+standard_kind (CONVERT k l) ks = Some l
 standard_kind f ks = or_kind (common_kind f ks) (Some Lint)
 
 -- the types that a standard function expects of its arguments
 abbrev pub expected_kinds : Standard → List (Option Kind) → List (Option Kind)
-expected_kinds least_of_two ks = common_kind least_of_two ks ∷ common_kind least_of_two ks ∷ []
-expected_kinds greatest_of_two ks = common_kind greatest_of_two ks ∷ common_kind greatest_of_two ks ∷ []
-expected_kinds limited ks = common_kind limited ks ∷ common_kind limited ks ∷ common_kind limited ks ∷ []
-expected_kinds selected ks = Some Boolean ∷ common_kind selected ks ∷ common_kind selected ks ∷ []
-expected_kinds (converted k l) ks = Some k ∷ []
+expected_kinds MIN ks = common_kind MIN ks ∷ common_kind MIN ks ∷ []
+expected_kinds MAX ks = common_kind MAX ks ∷ common_kind MAX ks ∷ []
+expected_kinds LIMIT ks = common_kind LIMIT ks ∷ common_kind LIMIT ks ∷ common_kind LIMIT ks ∷ []
+expected_kinds SEL ks = Some Boolean ∷ common_kind SEL ks ∷ common_kind SEL ks ∷ []
+expected_kinds (CONVERT k l) ks = Some k ∷ []
 expected_kinds _ ks = []
 
 abbrev pub result_of_unit : Option OrganisationUnit → Option Kind
 result_of_unit None = None
 result_of_unit (Some u) = result_kind u.sort
 
+-- what a function expects of its arguments
+abbrev pub inputs_of_function : UnitSort → List VariableBlock → List (Option Kind)
+inputs_of_function (Function k at) bs = input_kinds bs
+inputs_of_function FunctionBlock bs = []
+inputs_of_function Program bs = []
+
 abbrev pub inputs_of_unit : Option OrganisationUnit → List (Option Kind)
 inputs_of_unit None = []
-inputs_of_unit (Some u) = input_kinds u.blocks
+inputs_of_unit (Some u) = inputs_of_function u.sort u.blocks
 
 -- the type of a typed expression of a unit; an untyped one has none of its own
 abbrev mutual

@@ -1,5 +1,5 @@
 -- Statements, initial values and units in which each untyped literal has its type.
-use Rattle.std.specs.Prelude.{map, Option, Some, None, option_map}
+use Rattle.std.specs.Prelude.{map, Option, Some, None, option_map, option_and_then}
 use Rattle.st_words.specs.declared.kind.Kind.{Kind}
 use Rattle.st_words.specs.declared.kind.Kind.TheVariants.{Bool as Boolean}
 use Rattle.st_trees.specs.declared.statement.Label.{Label}
@@ -20,8 +20,7 @@ use Rattle.st_types.specs.Resolution.{own_kind, taken_kind, taking_number, takin
 
 -- the elementary type that is there
 abbrev pub kind_at : Option VariableType → Option Kind
-kind_at None = None
-kind_at (Some t) = kind_of_type t
+kind_at t = option_and_then kind_of_type t
 
 -- a label takes the selector's type
 abbrev pub resolved_label : Option Kind → Label → Label

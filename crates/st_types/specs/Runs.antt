@@ -1,4 +1,5 @@
 -- What a run of a program gives.
+-- F3 stands too where a unit, a member or an argument is not there, which no well-typed text has.
 use Rattle.std.specs.Prelude.{ℕ, zero, suc, List, [], ◌∷◌, Option, Some, None, option_map, option_and_then, Result, Ok, Err}
 use Rattle.st_words.specs.declared.fault.Fault.{Fault}
 use Rattle.st_words.specs.declared.fault.Fault.TheVariants.{Index, Budget}
@@ -11,7 +12,7 @@ use Rattle.st_types.specs.Stores.{Store, get, assigned}
 use Rattle.st_types.specs.Ticks.{Run, ◌>>=◌, give, fault, take, or_fault, proceed}
 use Rattle.st_types.specs.StandardBlocks as standard
 use Rattle.st_types.specs.StandardBlocks.{block_of, stepped}
-use Rattle.st_types.specs.Scopes.{Name, of_program, of_block, of_call, Body, Function, Block, Library, Units, Scope, global, member_at, function_in, block_in}
+use Rattle.st_types.specs.Scopes.{Name, of_program, of_block, of_call, Body, Function, Block, Library, Units, Scope, unowned, member_at, function_in, block_in}
 use Rattle.st_types.specs.Loops.{End, goes_on, exits, returns}
 use Rattle.st_types.specs.Execution.{exec_all}
 
@@ -24,7 +25,7 @@ store_of (returns s) = s
 -- a function's variables as a call begins: its inputs have the arguments' values
 abbrev pub begun : Store → List Name → List Datum → Result Store Fault
 begun s [] [] = Ok s
-begun s (x ∷ xs) (v ∷ vs) = proceed (assigned s (global x) v) (λ t. begun t xs vs)
+begun s (x ∷ xs) (v ∷ vs) = proceed (assigned s (unowned x) v) (λ t. begun t xs vs)
 begun s _ _ = Err Index
 
 -- a function's body on fresh variables; its result is the variable of its name
@@ -32,7 +33,7 @@ abbrev pub function_value : Units → ℕ → Function → List Datum → Run Da
 function_value units now f vs = do
   s ← take (begun f.fresh f.inputs vs)
   e ← exec_all (record { units = units; frame = of_call; body = f.body; image = []; now = now }) f.body.statements s
-  or_fault Index (get (store_of e) (global f.name))
+  or_fault Index (get (store_of e) (unowned f.name))
 
 -- the values of an instance's members
 abbrev pub member_values : Store → Path → List standard.Member → Option (List Datum)

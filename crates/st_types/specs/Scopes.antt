@@ -40,8 +40,9 @@ pub record Library : Type 0 where
   pub functions : List Function
   pub blocks : List Block
 
-abbrev pub global : Name → Path
-global x = record { owner = None; name = x; steps = [] }
+-- the path of a variable that no program's instance owns: a global, or one of a call of a function
+abbrev pub unowned : Name → Path
+unowned x = record { owner = None; name = x; steps = [] }
 
 -- a member of what a path leads to
 abbrev pub member_at : Path → Name → Path
@@ -50,14 +51,14 @@ member_at p x = record { owner = p.owner; name = p.name; steps = p.steps ++ Memb
 abbrev pub own_path : Frame → Name → Path
 own_path (of_program o) x = record { owner = Some o; name = x; steps = [] }
 own_path (of_block p) x = member_at p x
-own_path of_call x = global x
+own_path of_call x = unowned x
 
 abbrev pub contains_name : List Name → Name → Bool
 contains_name xs x = list_any (λ y. bytes_eq x y) xs
 
 -- the variable that a name stands for
 abbrev pub path_in : Frame → Body → Name → Path
-path_in frame body x = if contains_name body.externals x then global x else own_path frame x
+path_in frame body x = if contains_name body.externals x then unowned x else own_path frame x
 
 -- the block of an instance
 abbrev pub block_named : List (Name × Name) → Name → Option Name

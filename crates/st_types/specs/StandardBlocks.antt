@@ -1,6 +1,6 @@
 -- The standard function blocks, as functions from the members before a call to those after it.
 -- Members stand in the order of the layout: inputs, outputs, and those that are hidden from texts.
-use Rattle.std.specs.Prelude.{ℕ, ℤ, pos, ◌+ℤ◌, ◌-ℤ◌, int_lt, int_le, List, [], ◌∷◌, Bool, true, false, ◌&&◌, ◌||◌, not, if◌then◌else◌, Option, Some, None, codes, bytes_eq}
+use Rattle.std.specs.Prelude.{ℕ, ℤ, pos, ◌+ℤ◌, ◌-ℤ◌, int_lt, int_le, List, [], ◌∷◌, ◌++◌, Bool, true, false, ◌&&◌, ◌||◌, not, if◌then◌else◌, Option, Some, None, codes, bytes_eq}
 use Rattle.std.specs.Int.{int_min, int_max}
 use Rattle.st_words.specs.declared.kind.Kind.{Kind}
 use Rattle.st_words.specs.declared.kind.Kind.TheVariants.{Int, Time, Bool as Boolean}
@@ -8,30 +8,30 @@ use Rattle.st_words.specs.Kinds.{least, greatest}
 use Rattle.st_words.specs.Values.{Datum, datum_of_truth, is_true}
 
 pub data Block : Type 0 where
-  sr : Block
-  rs : Block
-  r_trig : Block
-  f_trig : Block
-  ctu : Block
-  ctd : Block
-  ctud : Block
-  ton : Block
-  tof : Block
-  tp : Block
+  SR : Block
+  RS : Block
+  R_TRIG : Block
+  F_TRIG : Block
+  CTU : Block
+  CTD : Block
+  CTUD : Block
+  TON : Block
+  TOF : Block
+  TP : Block
 
 -- the standard block of a name
 unfoldable pub block_of : List ℕ → Option Block
 block_of x =
-    if bytes_eq x (codes "SR") then Some sr
-    else if bytes_eq x (codes "RS") then Some rs
-    else if bytes_eq x (codes "R_TRIG") then Some r_trig
-    else if bytes_eq x (codes "F_TRIG") then Some f_trig
-    else if bytes_eq x (codes "CTU") then Some ctu
-    else if bytes_eq x (codes "CTD") then Some ctd
-    else if bytes_eq x (codes "CTUD") then Some ctud
-    else if bytes_eq x (codes "TON") then Some ton
-    else if bytes_eq x (codes "TOF") then Some tof
-    else if bytes_eq x (codes "TP") then Some tp
+    if bytes_eq x (codes "SR") then Some SR
+    else if bytes_eq x (codes "RS") then Some RS
+    else if bytes_eq x (codes "R_TRIG") then Some R_TRIG
+    else if bytes_eq x (codes "F_TRIG") then Some F_TRIG
+    else if bytes_eq x (codes "CTU") then Some CTU
+    else if bytes_eq x (codes "CTD") then Some CTD
+    else if bytes_eq x (codes "CTUD") then Some CTUD
+    else if bytes_eq x (codes "TON") then Some TON
+    else if bytes_eq x (codes "TOF") then Some TOF
+    else if bytes_eq x (codes "TP") then Some TP
     else None
 
 -- a member: its name and its type; all start as FALSE, 0 or T#0s
@@ -41,22 +41,46 @@ Member = List ℕ × Kind
 abbrev pub bool : List ℕ → Member
 bool x = (x, Boolean)
 
-abbrev pub timer_members : List Member
-timer_members = bool (codes "IN") ∷ (codes "PT", Time) ∷ bool (codes "Q") ∷ (codes "ET", Time) ∷ bool (codes "RUN") ∷ (codes "START", Time) ∷ []
+abbrev pub inputs_of : Block → List Member
+inputs_of SR = bool (codes "S1") ∷ bool (codes "R") ∷ []
+inputs_of RS = bool (codes "S") ∷ bool (codes "R1") ∷ []
+inputs_of R_TRIG = bool (codes "CLK") ∷ []
+inputs_of F_TRIG = bool (codes "CLK") ∷ []
+inputs_of CTU = bool (codes "CU") ∷ bool (codes "R") ∷ (codes "PV", Int) ∷ []
+inputs_of CTD = bool (codes "CD") ∷ bool (codes "LD") ∷ (codes "PV", Int) ∷ []
+inputs_of CTUD = bool (codes "CU") ∷ bool (codes "CD") ∷ bool (codes "R") ∷ bool (codes "LD") ∷ (codes "PV", Int) ∷ []
+inputs_of TON = bool (codes "IN") ∷ (codes "PT", Time) ∷ []
+inputs_of TOF = bool (codes "IN") ∷ (codes "PT", Time) ∷ []
+inputs_of TP = bool (codes "IN") ∷ (codes "PT", Time) ∷ []
 
+abbrev pub outputs_of : Block → List Member
+outputs_of SR = bool (codes "Q1") ∷ []
+outputs_of RS = bool (codes "Q1") ∷ []
+outputs_of R_TRIG = bool (codes "Q") ∷ []
+outputs_of F_TRIG = bool (codes "Q") ∷ []
+outputs_of CTU = bool (codes "Q") ∷ (codes "CV", Int) ∷ []
+outputs_of CTD = bool (codes "Q") ∷ (codes "CV", Int) ∷ []
+outputs_of CTUD = bool (codes "QU") ∷ bool (codes "QD") ∷ (codes "CV", Int) ∷ []
+outputs_of TON = bool (codes "Q") ∷ (codes "ET", Time) ∷ []
+outputs_of TOF = bool (codes "Q") ∷ (codes "ET", Time) ∷ []
+outputs_of TP = bool (codes "Q") ∷ (codes "ET", Time) ∷ []
+
+-- what texts can't reach
+abbrev pub hidden_of : Block → List Member
+hidden_of SR = []
+hidden_of RS = []
+hidden_of R_TRIG = bool (codes "M") ∷ []
+hidden_of F_TRIG = bool (codes "M") ∷ []
+hidden_of CTU = bool (codes "M") ∷ []
+hidden_of CTD = bool (codes "M") ∷ []
+hidden_of CTUD = bool (codes "MU") ∷ bool (codes "MD") ∷ []
+hidden_of TON = bool (codes "RUN") ∷ (codes "START", Time) ∷ []
+hidden_of TOF = bool (codes "RUN") ∷ (codes "START", Time) ∷ []
+hidden_of TP = bool (codes "RUN") ∷ (codes "START", Time) ∷ []
+
+-- all members in the order of the layout
 abbrev pub members_of : Block → List Member
-members_of sr = bool (codes "S1") ∷ bool (codes "R") ∷ bool (codes "Q1") ∷ []
-members_of rs = bool (codes "S") ∷ bool (codes "R1") ∷ bool (codes "Q1") ∷ []
-members_of r_trig = bool (codes "CLK") ∷ bool (codes "Q") ∷ bool (codes "M") ∷ []
-members_of f_trig = bool (codes "CLK") ∷ bool (codes "Q") ∷ bool (codes "M") ∷ []
-members_of ctu = bool (codes "CU") ∷ bool (codes "R") ∷ (codes "PV", Int) ∷ bool (codes "Q") ∷ (codes "CV", Int) ∷ bool (codes "M") ∷ []
-members_of ctd = bool (codes "CD") ∷ bool (codes "LD") ∷ (codes "PV", Int) ∷ bool (codes "Q") ∷ (codes "CV", Int) ∷ bool (codes "M") ∷ []
-members_of ctud =
-    bool (codes "CU") ∷ bool (codes "CD") ∷ bool (codes "R") ∷ bool (codes "LD") ∷ (codes "PV", Int)
-    ∷ bool (codes "QU") ∷ bool (codes "QD") ∷ (codes "CV", Int) ∷ bool (codes "MU") ∷ bool (codes "MD") ∷ []
-members_of ton = timer_members
-members_of tof = timer_members
-members_of tp = timer_members
+members_of b = inputs_of b ++ outputs_of b ++ hidden_of b
 
 -- one more or one less, but not past the ends of INT
 abbrev pub one_up : ℤ → ℤ
@@ -135,9 +159,6 @@ pulse now input pt t =
     if input || t.run then ended now input pt (timed_until now pt (running now t))
     else t
 
-abbrev pub truth : Bool → Datum
-truth = datum_of_truth
-
 abbrev pub int : ℤ → Datum
 int z = record { kind = Int; number = z }
 
@@ -148,27 +169,27 @@ time z = record { kind = Time; number = z }
 abbrev pub timer_stepped : (ℕ → Bool → ℤ → Timer → Timer) → ℕ → Datum → Datum → Timer → List Datum
 timer_stepped step now input pt t =
     let u = step now (is_true input) (int_max (pos 0) pt.number) t in
-    input ∷ pt ∷ truth u.q ∷ time u.et ∷ truth u.run ∷ time u.start ∷ []
+    input ∷ pt ∷ datum_of_truth u.q ∷ time u.et ∷ datum_of_truth u.run ∷ time u.start ∷ []
 
 abbrev pub timer_of : Datum → Datum → Datum → Datum → Timer
 timer_of q et run start = record { q = is_true q; et = et.number; run = is_true run; start = start.number }
 
 -- the members after a call at a moment
 abbrev pub stepped : Block → ℕ → List Datum → List Datum
-stepped sr now (s1 ∷ r ∷ q1 ∷ []) = s1 ∷ r ∷ truth (set_first (is_true s1) (is_true r) (is_true q1)) ∷ []
-stepped rs now (s ∷ r1 ∷ q1 ∷ []) = s ∷ r1 ∷ truth (reset_first (is_true s) (is_true r1) (is_true q1)) ∷ []
-stepped r_trig now (clk ∷ q ∷ m ∷ []) = clk ∷ truth (edge (is_true clk) (is_true m)) ∷ truth (is_true clk) ∷ []
-stepped f_trig now (clk ∷ q ∷ m ∷ []) = clk ∷ truth (edge (not (is_true clk)) (is_true m)) ∷ truth (not (is_true clk)) ∷ []
-stepped ctu now (cu ∷ r ∷ pv ∷ q ∷ cv ∷ m ∷ []) =
+stepped SR now (s1 ∷ r ∷ q1 ∷ []) = s1 ∷ r ∷ datum_of_truth (set_first (is_true s1) (is_true r) (is_true q1)) ∷ []
+stepped RS now (s ∷ r1 ∷ q1 ∷ []) = s ∷ r1 ∷ datum_of_truth (reset_first (is_true s) (is_true r1) (is_true q1)) ∷ []
+stepped R_TRIG now (clk ∷ q ∷ m ∷ []) = clk ∷ datum_of_truth (edge (is_true clk) (is_true m)) ∷ datum_of_truth (is_true clk) ∷ []
+stepped F_TRIG now (clk ∷ q ∷ m ∷ []) = clk ∷ datum_of_truth (edge (not (is_true clk)) (is_true m)) ∷ datum_of_truth (not (is_true clk)) ∷ []
+stepped CTU now (cu ∷ r ∷ pv ∷ q ∷ cv ∷ m ∷ []) =
     let z = up_count (is_true r) (edge (is_true cu) (is_true m)) cv.number in
-    cu ∷ r ∷ pv ∷ truth (int_le pv.number z) ∷ int z ∷ truth (is_true cu) ∷ []
-stepped ctd now (cd ∷ ld ∷ pv ∷ q ∷ cv ∷ m ∷ []) =
+    cu ∷ r ∷ pv ∷ datum_of_truth (int_le pv.number z) ∷ int z ∷ datum_of_truth (is_true cu) ∷ []
+stepped CTD now (cd ∷ ld ∷ pv ∷ q ∷ cv ∷ m ∷ []) =
     let z = down_count (is_true ld) pv.number (edge (is_true cd) (is_true m)) cv.number in
-    cd ∷ ld ∷ pv ∷ truth (int_le z (pos 0)) ∷ int z ∷ truth (is_true cd) ∷ []
-stepped ctud now (cu ∷ cd ∷ r ∷ ld ∷ pv ∷ qu ∷ qd ∷ cv ∷ mu ∷ md ∷ []) =
+    cd ∷ ld ∷ pv ∷ datum_of_truth (int_le z (pos 0)) ∷ int z ∷ datum_of_truth (is_true cd) ∷ []
+stepped CTUD now (cu ∷ cd ∷ r ∷ ld ∷ pv ∷ qu ∷ qd ∷ cv ∷ mu ∷ md ∷ []) =
     let z = up_down_count (is_true r) (is_true ld) pv.number (edge (is_true cu) (is_true mu)) (edge (is_true cd) (is_true md)) cv.number in
-    cu ∷ cd ∷ r ∷ ld ∷ pv ∷ truth (int_le pv.number z) ∷ truth (int_le z (pos 0)) ∷ int z ∷ truth (is_true cu) ∷ truth (is_true cd) ∷ []
-stepped ton now (input ∷ pt ∷ q ∷ et ∷ run ∷ start ∷ []) = timer_stepped on_delay now input pt (timer_of q et run start)
-stepped tof now (input ∷ pt ∷ q ∷ et ∷ run ∷ start ∷ []) = timer_stepped off_delay now input pt (timer_of q et run start)
-stepped tp now (input ∷ pt ∷ q ∷ et ∷ run ∷ start ∷ []) = timer_stepped pulse now input pt (timer_of q et run start)
+    cu ∷ cd ∷ r ∷ ld ∷ pv ∷ datum_of_truth (int_le pv.number z) ∷ datum_of_truth (int_le z (pos 0)) ∷ int z ∷ datum_of_truth (is_true cu) ∷ datum_of_truth (is_true cd) ∷ []
+stepped TON now (input ∷ pt ∷ q ∷ et ∷ run ∷ start ∷ []) = timer_stepped on_delay now input pt (timer_of q et run start)
+stepped TOF now (input ∷ pt ∷ q ∷ et ∷ run ∷ start ∷ []) = timer_stepped off_delay now input pt (timer_of q et run start)
+stepped TP now (input ∷ pt ∷ q ∷ et ∷ run ∷ start ∷ []) = timer_stepped pulse now input pt (timer_of q et run start)
 stepped _ now members = members

@@ -7,22 +7,22 @@ use Rattle.st_words.specs.declared.kind.Kind.{Kind}
 use Rattle.st_words.specs.declared.kind.Kind.TheVariants.{Sint, Int, Dint, Lint, Usint, Uint, Udint, Ulint, Byte, Word, Dword, Lword, Bool as Boolean}
 use Rattle.st_words.specs.Kinds.{row_of, holds, same_kind}
 use Rattle.st_words.specs.Values.{Datum, in_range, is_true}
-use Rattle.st_types.specs.Operators.{natural}
+use Rattle.st_words.specs.Words.{natural}
 
 pub data Standard : Type 0 where
-  absolute : Standard
-  least_of_two : Standard
-  greatest_of_two : Standard
-  limited : Standard
-  selected : Standard
-  shifted_left : Standard
-  shifted_right : Standard
-  rotated_left : Standard
-  rotated_right : Standard
+  ABS : Standard
+  MIN : Standard
+  MAX : Standard
+  LIMIT : Standard
+  SEL : Standard
+  SHL : Standard
+  SHR : Standard
+  ROL : Standard
+  ROR : Standard
   -- X_TO_Y
-  converted : Kind → Kind → Standard
+  CONVERT : Kind → Kind → Standard
 
--- the types among which values are converted
+-- the types among which values are CONVERT
 abbrev pub convertible : List Kind
 convertible = Sint ∷ Int ∷ Dint ∷ Lint ∷ Usint ∷ Uint ∷ Udint ∷ Ulint ∷ Byte ∷ Word ∷ Dword ∷ Lword ∷ Boolean ∷ []
 
@@ -32,13 +32,13 @@ conversion_name k l = (row_of k).keyword ++ codes "_TO_" ++ (row_of l).keyword
 -- the conversions from a type to the others
 abbrev pub conversions_from : Kind → List Kind → List (List ℕ × Standard)
 conversions_from k [] = []
-conversions_from k (l ∷ ls) = if same_kind k l then conversions_from k ls else (conversion_name k l, converted k l) ∷ conversions_from k ls
+conversions_from k (l ∷ ls) = if same_kind k l then conversions_from k ls else (conversion_name k l, CONVERT k l) ∷ conversions_from k ls
 
 -- every standard function under its name
 unfoldable pub standard_functions : List (List ℕ × Standard)
 standard_functions =
-    (codes "ABS", absolute) ∷ (codes "MIN", least_of_two) ∷ (codes "MAX", greatest_of_two) ∷ (codes "LIMIT", limited) ∷ (codes "SEL", selected)
-    ∷ (codes "SHL", shifted_left) ∷ (codes "SHR", shifted_right) ∷ (codes "ROL", rotated_left) ∷ (codes "ROR", rotated_right)
+    (codes "ABS", ABS) ∷ (codes "MIN", MIN) ∷ (codes "MAX", MAX) ∷ (codes "LIMIT", LIMIT) ∷ (codes "SEL", SEL)
+    ∷ (codes "SHL", SHL) ∷ (codes "SHR", SHR) ∷ (codes "ROL", ROL) ∷ (codes "ROR", ROR)
     ∷ flat_map (λ k. conversions_from k convertible) convertible
 
 abbrev pub named : List (List ℕ × Standard) → List ℕ → Option Standard
@@ -64,16 +64,16 @@ abbrev pub bits_down : ℕ → ℕ → ℕ → ℕ
 bits_down width x n = if nat_le width n then 0 else x / 2 ^ n
 
 -- the bits of x turned up by n places: what leaves at the top comes in below
-abbrev pub bits_round : ℕ → ℕ → ℕ → ℕ
-bits_round width x n = bits_up width x (n % width) + bits_down width x (width - n % width)
+abbrev pub bits_turned : ℕ → ℕ → ℕ → ℕ
+bits_turned width x n = bits_up width x (n % width) + bits_down width x (width - n % width)
 
 -- a shift of a bit string by a whole number; a negative one is F1
 abbrev pub shifted : (ℕ → ℕ → ℕ → ℕ) → Datum → ℤ → Result Datum Fault
 shifted move x (pos n) = in_range x.kind (pos (move (row_of x.kind).bits (natural x.number) n))
 shifted move x (negsuc n) = Err Range
 
-abbrev pub rounded_down : ℕ → ℕ → ℕ → ℕ
-rounded_down width x n = bits_round width x (width - n % width)
+abbrev pub turned_down : ℕ → ℕ → ℕ → ℕ
+turned_down width x n = bits_turned width x (width - n % width)
 
 -- the value as one of another type; F4 where that does not hold it
 abbrev pub conversion : Kind → ℤ → Result Datum Fault
@@ -81,14 +81,14 @@ conversion l z = if holds l z then Ok (record { kind = l; number = z }) else Err
 
 -- Arguments that do not fit stand in no text that is well typed.
 abbrev pub standard_value : Standard → List Datum → Result Datum Fault
-standard_value absolute (x ∷ []) = in_range x.kind (pos (unsigned_abs x.number))
-standard_value least_of_two (a ∷ b ∷ []) = Ok (lesser a b)
-standard_value greatest_of_two (a ∷ b ∷ []) = Ok (greater a b)
-standard_value limited (mn ∷ x ∷ mx ∷ []) = Ok (lesser (greater x mn) mx)
-standard_value selected (g ∷ a ∷ b ∷ []) = Ok (if is_true g then b else a)
-standard_value shifted_left (x ∷ n ∷ []) = shifted bits_up x n.number
-standard_value shifted_right (x ∷ n ∷ []) = shifted bits_down x n.number
-standard_value rotated_left (x ∷ n ∷ []) = shifted bits_round x n.number
-standard_value rotated_right (x ∷ n ∷ []) = shifted rounded_down x n.number
-standard_value (converted k l) (x ∷ []) = if same_kind x.kind k then conversion l x.number else Err Conversion
+standard_value ABS (x ∷ []) = in_range x.kind (pos (unsigned_abs x.number))
+standard_value MIN (a ∷ b ∷ []) = Ok (lesser a b)
+standard_value MAX (a ∷ b ∷ []) = Ok (greater a b)
+standard_value LIMIT (mn ∷ x ∷ mx ∷ []) = Ok (lesser (greater x mn) mx)
+standard_value SEL (g ∷ a ∷ b ∷ []) = Ok (if is_true g then b else a)
+standard_value SHL (x ∷ n ∷ []) = shifted bits_up x n.number
+standard_value SHR (x ∷ n ∷ []) = shifted bits_down x n.number
+standard_value ROL (x ∷ n ∷ []) = shifted bits_turned x n.number
+standard_value ROR (x ∷ n ∷ []) = shifted turned_down x n.number
+standard_value (CONVERT k l) (x ∷ []) = if same_kind x.kind k then conversion l x.number else Err Conversion
 standard_value _ _ = Err Conversion

@@ -1,10 +1,10 @@
 -- Stores: the variables in the order of the layout, each path once, with its value.
-use Rattle.std.specs.Prelude.{List, [], ◌∷◌, Bool, true, ◌&&◌, not, if◌then◌else◌, Option, Some, None, Result, Ok, Err, map}
+use Rattle.std.specs.Prelude.{◌≡◌, List, [], ◌∷◌, ◌++◌, Bool, true, ◌&&◌, not, if◌then◌else◌, Option, Some, None, Result, Ok, Err, map}
 use Rattle.std.specs.List.{list_any}
 use Rattle.st_words.specs.declared.fault.Fault.{Fault}
 use Rattle.st_words.specs.declared.fault.Fault.TheVariants.{Index, Conversion}
 use Rattle.st_words.specs.declared.kind.Kind.{Kind}
-use Rattle.st_words.specs.Kinds.{same_kind}
+use Rattle.st_words.specs.Kinds.{same_kind, holds}
 use Rattle.st_words.specs.Values.{Datum}
 use Rattle.st_words.specs.Paths.{Path, same_path, is_within}
 
@@ -16,9 +16,13 @@ abbrev pub get : Store → Path → Option Datum
 get [] p = None
 get (e ∷ s) p = if same_path p e.0 then Some e.1 else get s p
 
--- the first variable with a new value, which has to be of its type: F4 stands where a text is not well typed
+-- a value that a variable may take in the place of another: it is of the same type, and one that the type holds
+abbrev pub may_replace : Datum → Datum → Bool
+may_replace old new = same_kind old.kind new.kind && holds new.kind new.number
+
+-- the first variable with a new value; F4 stands where it may not take it, which no well-typed text meets
 abbrev pub replaced : Path × Datum → Datum → Store → Result Store Fault
-replaced e v s = if same_kind e.1.kind v.kind then Ok ((e.0, v) ∷ s) else Err Conversion
+replaced e v s = if may_replace e.1 v then Ok ((e.0, v) ∷ s) else Err Conversion
 
 abbrev pub behind_first : Path × Datum → Result Store Fault → Result Store Fault
 behind_first e (Ok t) = Ok (e ∷ t)
@@ -33,11 +37,21 @@ assigned (e ∷ s) p v = if same_path p e.0 then replaced e v s else behind_firs
 abbrev pub has_part : Store → Path → Bool
 has_part s p = list_any (λ e. is_within p e.0) s
 
--- each path stands once
-abbrev pub is_distinct : Store → Bool
-is_distinct [] = true
-is_distinct (e ∷ s) = not (list_any (λ d. same_path e.0 d.0) s) && is_distinct s
-
 -- the variables with their types
 abbrev pub shape_of : Store → List (Path × Kind)
 shape_of s = map (λ e. (e.0, e.1.kind)) s
+
+-- each path stands once
+abbrev pub is_distinct : List (Path × Kind) → Bool
+is_distinct [] = true
+is_distinct (e ∷ es) = not (list_any (λ d. same_path e.0 d.0) es) && is_distinct es
+
+-- each value is one that its type holds
+abbrev pub all_held : Store → Bool
+all_held [] = true
+all_held (e ∷ s) = holds e.1.kind e.1.number && all_held s
+
+-- Each path of a store stands once, in it and in the image, and each value is one that its type holds.
+pub record IsStore (image s : Store) : Type 0 where
+  pub once : is_distinct (shape_of image ++ shape_of s) ≡ true
+  pub held : all_held s ≡ true

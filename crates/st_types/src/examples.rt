@@ -8,8 +8,8 @@ ghost use Rattle.st_trees.specs.Expressions.{binary, call, exprs_of};
 ghost use Rattle.st_types.specs.Operators.{apply, value_of_literal};
 ghost use Rattle.st_words.specs.declared.literal.Literal.TheVariants as literals;
 ghost use Rattle.st_types.specs.Resolution.{resolved_expr};
-ghost use Rattle.st_types.specs.StandardFunctions.{standard_value, standard_of, absolute, converted, shifted_left, shifted_right, rotated_left, rotated_right};
-ghost use Rattle.st_types.specs.StandardBlocks.{ton, tof, tp, f_trig, ctu, ctud};
+ghost use Rattle.st_types.specs.StandardFunctions.{standard_value, standard_of, ABS, CONVERT, SHL, SHR, ROL, ROR};
+ghost use Rattle.st_types.specs.StandardBlocks.{TON, TOF, TP, F_TRIG, CTU, CTUD};
 ghost use Rattle.st_types.specs.Loops.{goes_on};
 ghost use Rattle.st_types.specs.Examples.{ran_with, outcome_with, after_with, variables, datum, set, number, name, truth, while_to_3, to_the_end, to_3, by_0, exit_at_3, repeat_to_3, square, squared, outputs_of, fresh_members, timed, q_et, bool, int, untyped, identifier, three_variables, its_text, I, K, X, Y, Z};
 
@@ -55,48 +55,48 @@ pub fn loops_with_a_variable()
 
 /// Standard functions.
 pub fn standard_functions()
-    ensures abs_of_the_least { standard_value absolute (datum Sint (negsuc 127) ∷ []) ≡ Err Range }
-    ensures int_to_usint { standard_value (converted Int Usint) (int (pos 256) ∷ []) ≡ Err Conversion }
-    ensures byte_to_sint { standard_value (converted Byte Sint) (datum Byte (pos 0x80) ∷ []) ≡ Err Conversion }
-    ensures shl { standard_value shifted_left (datum Byte (pos 0x81) ∷ int (pos 1) ∷ []) ≡ Ok (datum Byte (pos 0x02)) }
-    ensures rol { standard_value rotated_left (datum Byte (pos 0x81) ∷ int (pos 1) ∷ []) ≡ Ok (datum Byte (pos 0x03)) }
-    ensures ror_by_9 { standard_value rotated_right (datum Byte (pos 0x81) ∷ int (pos 9) ∷ []) ≡ Ok (datum Byte (pos 0xC0)) }
-    ensures shr_by_8 { standard_value shifted_right (datum Byte (pos 0x81) ∷ int (pos 8) ∷ []) ≡ Ok (datum Byte (pos 0)) }
-    ensures rol_by_minus_1 { standard_value rotated_left (datum Byte (pos 0x81) ∷ int (negsuc 0) ∷ []) ≡ Err Range }
+    ensures abs_of_the_least { standard_value ABS (datum Sint (negsuc 127) ∷ []) ≡ Err Range }
+    ensures int_to_usint { standard_value (CONVERT Int Usint) (int (pos 256) ∷ []) ≡ Err Conversion }
+    ensures byte_to_sint { standard_value (CONVERT Byte Sint) (datum Byte (pos 0x80) ∷ []) ≡ Err Conversion }
+    ensures shl { standard_value SHL (datum Byte (pos 0x81) ∷ int (pos 1) ∷ []) ≡ Ok (datum Byte (pos 0x02)) }
+    ensures rol { standard_value ROL (datum Byte (pos 0x81) ∷ int (pos 1) ∷ []) ≡ Ok (datum Byte (pos 0x03)) }
+    ensures ror_by_9 { standard_value ROR (datum Byte (pos 0x81) ∷ int (pos 9) ∷ []) ≡ Ok (datum Byte (pos 0xC0)) }
+    ensures shr_by_8 { standard_value SHR (datum Byte (pos 0x81) ∷ int (pos 8) ∷ []) ≡ Ok (datum Byte (pos 0)) }
+    ensures rol_by_minus_1 { standard_value ROL (datum Byte (pos 0x81) ∷ int (negsuc 0) ∷ []) ≡ Err Range }
 {}
 
 /// Standard functions go by their names; `INT_TO_INT` and `TIME_TO_INT` are none.
 #[tactic(auto, unfolding(crate::specs::StandardFunctions::standard_of, crate::specs::StandardFunctions::standard_functions))]
 pub fn names_of_standard_functions()
-    ensures abs { standard_of (codes "ABS") ≡ Some absolute }
-    ensures int_to_usint { standard_of (codes "INT_TO_USINT") ≡ Some (converted Int Usint) }
-    ensures bool_to_lword { standard_of (codes "BOOL_TO_LWORD") ≡ Some (converted Bool Lword) }
+    ensures abs { standard_of (codes "ABS") ≡ Some ABS }
+    ensures int_to_usint { standard_of (codes "INT_TO_USINT") ≡ Some (CONVERT Int Usint) }
+    ensures bool_to_lword { standard_of (codes "BOOL_TO_LWORD") ≡ Some (CONVERT Bool Lword) }
     ensures int_to_int { standard_of (codes "INT_TO_INT") ≡ None }
     ensures time_to_int { standard_of (codes "TIME_TO_INT") ≡ None }
 {}
 
 /// Timers of 100 ms at 0, 50, 100 and 150 ms, and of 0 ms.
 pub fn timers()
-    ensures ton { timed ton (pos 100) ((0, true) ∷ (50, true) ∷ (100, true) ∷ (150, true) ∷ []) ≡ q_et false 0 ∷ q_et false 50 ∷ q_et true 100 ∷ q_et true 100 ∷ [] }
-    ensures tof { timed tof (pos 100) ((0, true) ∷ (50, false) ∷ (100, false) ∷ (150, false) ∷ []) ≡ q_et true 0 ∷ q_et true 0 ∷ q_et true 50 ∷ q_et false 100 ∷ [] }
-    ensures tp { timed tp (pos 100) ((0, true) ∷ (50, false) ∷ (100, false) ∷ (150, false) ∷ []) ≡ q_et true 0 ∷ q_et true 50 ∷ q_et false 0 ∷ q_et false 0 ∷ [] }
-    ensures ton_of_0 { timed ton (pos 0) ((0, true) ∷ []) ≡ q_et true 0 ∷ [] }
-    ensures tof_of_0 { timed tof (pos 0) ((0, true) ∷ []) ≡ q_et true 0 ∷ [] }
-    ensures tp_of_0 { timed tp (pos 0) ((0, true) ∷ []) ≡ q_et false 0 ∷ [] }
+    ensures ton { timed TON (pos 100) ((0, true) ∷ (50, true) ∷ (100, true) ∷ (150, true) ∷ []) ≡ q_et false 0 ∷ q_et false 50 ∷ q_et true 100 ∷ q_et true 100 ∷ [] }
+    ensures tof { timed TOF (pos 100) ((0, true) ∷ (50, false) ∷ (100, false) ∷ (150, false) ∷ []) ≡ q_et true 0 ∷ q_et true 0 ∷ q_et true 50 ∷ q_et false 100 ∷ [] }
+    ensures tp { timed TP (pos 100) ((0, true) ∷ (50, false) ∷ (100, false) ∷ (150, false) ∷ []) ≡ q_et true 0 ∷ q_et true 50 ∷ q_et false 0 ∷ q_et false 0 ∷ [] }
+    ensures ton_of_0 { timed TON (pos 0) ((0, true) ∷ []) ≡ q_et true 0 ∷ [] }
+    ensures tof_of_0 { timed TOF (pos 0) ((0, true) ∷ []) ≡ q_et true 0 ∷ [] }
+    ensures tp_of_0 { timed TP (pos 0) ((0, true) ∷ []) ≡ q_et false 0 ∷ [] }
 {}
 
 /// Edges and counters.
 pub fn edges_and_counters()
     // F_TRIG twice with CLK FALSE
-    ensures f_trig { outputs_of f_trig 1 1 ((0, bool false ∷ []) ∷ (10, bool false ∷ []) ∷ []) (fresh_members f_trig) ≡ (bool true ∷ []) ∷ (bool false ∷ []) ∷ [] }
+    ensures f_trig { outputs_of F_TRIG 1 1 ((0, bool false ∷ []) ∷ (10, bool false ∷ []) ∷ []) (fresh_members F_TRIG) ≡ (bool true ∷ []) ∷ (bool false ∷ []) ∷ [] }
     // CTU with PV 1: CU and R, then CU alone
-    ensures ctu { outputs_of ctu 3 2 ((0, bool true ∷ bool true ∷ int (pos 1) ∷ []) ∷ (10, bool true ∷ bool false ∷ int (pos 1) ∷ []) ∷ []) (fresh_members ctu) ≡ (bool false ∷ int (pos 0) ∷ []) ∷ (bool false ∷ int (pos 0) ∷ []) ∷ [] }
+    ensures ctu { outputs_of CTU 3 2 ((0, bool true ∷ bool true ∷ int (pos 1) ∷ []) ∷ (10, bool true ∷ bool false ∷ int (pos 1) ∷ []) ∷ []) (fresh_members CTU) ≡ (bool false ∷ int (pos 0) ∷ []) ∷ (bool false ∷ int (pos 0) ∷ []) ∷ [] }
     // CTUD with PV 3: CU and CD, neither, CU
-    ensures ctud { outputs_of ctud 5 3 (
+    ensures ctud { outputs_of CTUD 5 3 (
         (0, bool true ∷ bool true ∷ bool false ∷ bool false ∷ int (pos 3) ∷ [])
         ∷ (10, bool false ∷ bool false ∷ bool false ∷ bool false ∷ int (pos 3) ∷ [])
         ∷ (20, bool true ∷ bool false ∷ bool false ∷ bool false ∷ int (pos 3) ∷ [])
-        ∷ []) (fresh_members ctud) ≡ (bool false ∷ bool true ∷ int (pos 0) ∷ []) ∷ (bool false ∷ bool true ∷ int (pos 0) ∷ []) ∷ (bool false ∷ bool false ∷ int (pos 1) ∷ []) ∷ [] }
+        ∷ []) (fresh_members CTUD) ≡ (bool false ∷ bool true ∷ int (pos 0) ∷ []) ∷ (bool false ∷ bool true ∷ int (pos 0) ∷ []) ∷ (bool false ∷ bool false ∷ int (pos 1) ∷ []) ∷ [] }
 {}
 
 /// A function of the text runs on variables of its own: `y := Sq(46340);` takes 2 ticks, and the square of 46341 is no DINT.
@@ -107,7 +107,7 @@ pub fn function_calls()
     ensures too_great { ran_with (square ∷ []) 2 (squared (pos 46341)) ((Y, datum Dint (pos 0)) ∷ []) ≡ Err Range }
 {}
 
-/// An untyped literal takes the type that its place expects; a literal of another sort of place is a LINT.
+/// An untyped literal takes the type that its place expects; where nothing is expected that it may be, it is a LINT.
 #[tactic(auto, unfolding(crate::specs::StandardFunctions::standard_of, crate::specs::StandardFunctions::standard_functions))]
 pub fn untyped_literals()
     // n := -32768;

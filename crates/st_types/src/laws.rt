@@ -2,12 +2,13 @@
 
 ghost use Rattle.std.specs.Prelude.{◌≡◌, ◌+◌, ◌<◌, ◌≤◌, ◌≤ℤ◌, ◌∷◌, ◌++◌, [], ℕ, ℤ, pos, List, Bool, true, false, Option, Result, Ok, Err, Some, None};
 ghost use Rattle.st_words.specs.declared.fault.Fault.{Fault};
+ghost use Rattle.st_words.specs.declared.fault.Fault.TheVariants.{Budget};
 ghost use Rattle.st_words.specs.declared.kind.Kind.TheVariants.{Int};
 ghost use Rattle.st_words.specs.declared.operator.BinaryOperator.{BinaryOperator};
 ghost use Rattle.st_words.specs.Kinds.{holds};
 ghost use Rattle.st_words.specs.Values.{Datum};
 ghost use Rattle.st_trees.specs.Expressions.{Expr, binary};
-ghost use Rattle.st_types.specs.Stores.{Store, shape_of};
+ghost use Rattle.st_types.specs.Stores.{Store, shape_of, IsStore};
 ghost use Rattle.st_types.specs.StandardBlocks.{on_delay, off_delay, pulse, set_first, reset_first, up_count, down_count, up_down_count};
 ghost use Rattle.st_types.specs.TimerRuns.{TimerCall, timer_after, WasOnFor};
 ghost use Rattle.st_types.specs.Scopes.{Scope};
@@ -18,12 +19,13 @@ ghost use Rattle.st_types.specs.Runs.{Program, ran, scope_of, outcome_of, store_
 
 use crate::entry::Outcome;
 
-/// No run ends with more ticks than it had, and a run that ends does so with a larger budget too, with the
-/// ticks added that the budget has more.
+/// No run ends with more ticks than it had. A run that is done is done with a larger budget too, with as many more
+/// ticks left; one that faults faults alike, unless it was for want of ticks.
 pub fn budgets()
     ensures falls { (p : Program) (image : Store) (now budget : ℕ) (s : Store) (e : End) (left : ℕ) → ran p image now budget s ≡ Ok (e, left) → left ≤ budget }
     ensures more { (p : Program) (image : Store) (now budget added : ℕ) (s : Store) (e : End) (left : ℕ) → ran p image now budget s ≡ Ok (e, left) → ran p image now (budget + added) s ≡ Ok (e, left + added) }
     ensures outcome { (p : Program) (image : Store) (now budget added : ℕ) (s : Store) → outcome_of p budget s image now ≡ Outcome.Done → outcome_of p (budget + added) s image now ≡ Outcome.Done }
+    ensures fault { (p : Program) (image : Store) (now budget added : ℕ) (s : Store) (f : Fault) → (f ≡ Budget → ⊥) → outcome_of p budget s image now ≡ Outcome.Faulted f → outcome_of p (budget + added) s image now ≡ Outcome.Faulted f }
     ensures store { (p : Program) (image : Store) (now budget added : ℕ) (s : Store) → outcome_of p budget s image now ≡ Outcome.Done → store_after p (budget + added) s image now ≡ store_after p budget s image now }
 {}
 
@@ -40,9 +42,10 @@ pub fn faults_change_nothing()
     ensures { (p : Program) (budget : ℕ) (s image : Store) (now : ℕ) (fault : Fault) → outcome_of p budget s image now ≡ Outcome.Faulted fault → store_after p budget s image now ≡ s }
 {}
 
-/// A run neither adds nor takes away a variable, and each variable keeps its type.
+/// A run neither adds nor takes away a variable, each variable keeps its type, and its value is one that this type holds.
 pub fn variables_stay()
-    ensures { (p : Program) (budget : ℕ) (s image : Store) (now : ℕ) → shape_of (store_after p budget s image now) ≡ shape_of s }
+    ensures types { (p : Program) (budget : ℕ) (s image : Store) (now : ℕ) → shape_of (store_after p budget s image now) ≡ shape_of s }
+    ensures values { (p : Program) (budget : ℕ) (s image : Store) (now : ℕ) → IsStore image s → IsStore image (store_after p budget s image now) }
 {}
 
 /// An operator's right operand is evaluated whatever the left one is, also of AND and OR: its fault is the whole operation's.

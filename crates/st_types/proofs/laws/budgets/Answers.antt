@@ -1,5 +1,5 @@
 use Rattle.st_types.proofs.Lasts.{ran_falls, ran_more}
-use Rattle.st_types.proofs.RunLemmas.{outcome_more, store_more}
+use Rattle.st_types.proofs.RunLemmas.{outcome_more, store_more, fault_more}
 use Rattle.st_types.proofs.laws.budgets.Goals as goal
 
 pub returns-clause-falls : goal.returns-clause-falls
@@ -13,3 +13,6 @@ returns-clause-outcome c = outcome_more
 
 pub returns-clause-store : goal.returns-clause-store
 returns-clause-store c = store_more
+
+pub returns-clause-fault : goal.returns-clause-fault
+returns-clause-fault c = fault_more
