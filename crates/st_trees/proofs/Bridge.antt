@@ -7,7 +7,7 @@ use Rattle.st_trees.specs.declared.statement.Stmt as code_stmt
 use Rattle.st_trees.specs.declared.statement.Arm as code_arm
 use Rattle.st_trees.specs.declared.statement.CaseArm as code_case_arm
 use Rattle.st_trees.specs.ExpressionViews.{expr_view}
-use Rattle.st_trees.specs.Statements.{Stmt, Arm, CaseArm, choose, select, stmts_of, arms_of, case_arms_of}
+use Rattle.st_trees.specs.Statements.{Stmt, Arm, CaseArm, IF, CASE, arms_of, case_arms_of}
 use Rattle.st_trees.specs.declared.initial.Initial as code_initial
 use Rattle.st_trees.specs.declared.initial.InitialMember as code_member
 use Rattle.st_trees.specs.Initials.{Initial, Element, Member, structure, members_of}
@@ -28,15 +28,15 @@ case_arm_views_are : (arms : List code_case_arm.CaseArm) → map (code_case_arm.
 case_arm_views_are [] = refl
 case_arm_views_are (a ∷ arms) = rw (case_arm_view_is a, case_arm_views_are arms) refl
 
-pub choose_view : (arms : Vec code_arm.Arm Global) (otherwise : Vec code_stmt.Stmt Global) → stmt_view (code_stmt.If arms otherwise) ≡ choose (arms_of (map arm_view arms.items)) (stmts_view otherwise.items)
+pub choose_view : (arms : Vec code_arm.Arm Global) (otherwise : Vec code_stmt.Stmt Global) → stmt_view (code_stmt.If arms otherwise) ≡ IF (arms_of (map arm_view arms.items)) (stmts_view otherwise.items)
 choose_view arms otherwise =
-    let e : stmt_view (code_stmt.If arms otherwise) ≡ choose (arms_of (map (code_arm.fold-Arm Stmt Arm CaseArm stmt_step arm_step case_arm_step) arms.items)) (stmts_view otherwise.items) = search (rules, code_stmt.the_lemmas) in
-    e ∙ ap (λ a. choose (arms_of a) (stmts_view otherwise.items)) (arm_views_are arms.items)
+    let e : stmt_view (code_stmt.If arms otherwise) ≡ IF (arms_of (map (code_arm.fold-Arm Stmt Arm CaseArm stmt_step arm_step case_arm_step) arms.items)) (stmts_view otherwise.items) = search (rules, code_stmt.the_lemmas) in
+    e ∙ ap (λ a. IF (arms_of a) (stmts_view otherwise.items)) (arm_views_are arms.items)
 
-pub select_view : (selector : code_expr.Expr) (arms : Vec code_case_arm.CaseArm Global) (otherwise : Vec code_stmt.Stmt Global) → stmt_view (code_stmt.Case selector arms otherwise) ≡ select (expr_view selector) (case_arms_of (map case_arm_view arms.items)) (stmts_view otherwise.items)
+pub select_view : (selector : code_expr.Expr) (arms : Vec code_case_arm.CaseArm Global) (otherwise : Vec code_stmt.Stmt Global) → stmt_view (code_stmt.Case selector arms otherwise) ≡ CASE (expr_view selector) (case_arms_of (map case_arm_view arms.items)) (stmts_view otherwise.items)
 select_view selector arms otherwise =
-    let e : stmt_view (code_stmt.Case selector arms otherwise) ≡ select (expr_view selector) (case_arms_of (map (code_case_arm.fold-CaseArm Stmt Arm CaseArm stmt_step arm_step case_arm_step) arms.items)) (stmts_view otherwise.items) = search (rules, code_stmt.the_lemmas) in
-    e ∙ ap (λ a. select (expr_view selector) (case_arms_of a) (stmts_view otherwise.items)) (case_arm_views_are arms.items)
+    let e : stmt_view (code_stmt.Case selector arms otherwise) ≡ CASE (expr_view selector) (case_arms_of (map (code_case_arm.fold-CaseArm Stmt Arm CaseArm stmt_step arm_step case_arm_step) arms.items)) (stmts_view otherwise.items) = search (rules, code_stmt.the_lemmas) in
+    e ∙ ap (λ a. CASE (expr_view selector) (case_arms_of a) (stmts_view otherwise.items)) (case_arm_views_are arms.items)
 
 member_view_is : (m : code_member.InitialMember) → code_member.fold-InitialMember Initial Element Member initial_step element_step member_step m ≡ member_view m
 member_view_is m = search code_member.the_lemmas

@@ -1,5 +1,4 @@
 -- The mirrors that expressions of the code stand for.
-use Rattle.std.specs.Prelude.{ℕ, List, [], ◌∷◌, map}
 use Rattle.st_trees.specs.declared.expression.Expr as code_expr
 use Rattle.st_trees.specs.declared.expression.Variable as code_variable
 use Rattle.st_trees.specs.declared.expression.Selector as code_selector

@@ -1,5 +1,4 @@
 -- The mirrors that initial values of the code stand for.
-use Rattle.std.specs.Prelude.{map}
 use Rattle.st_trees.specs.declared.initial.Initial as code_initial
 use Rattle.st_trees.specs.declared.initial.InitialElement as code_element
 use Rattle.st_trees.specs.declared.initial.InitialMember as code_member

@@ -15,16 +15,14 @@ mutual
     empty : Stmt
     assign : Variable → Expr → Stmt
     invoke : Identifier → List Argument → Stmt
-    -- IF
-    choose : Arms → Stmts → Stmt
-    -- CASE
-    select : Expr → CaseArms → Stmts → Stmt
-    -- FOR: control variable, start, limit, step, body
-    count : Identifier → Expr → Expr → Option Expr → Stmts → Stmt
-    while : Expr → Stmts → Stmt
-    repeat : Stmts → Expr → Stmt
-    exit : ℕ → Stmt
-    return : Stmt
+    IF : Arms → Stmts → Stmt
+    CASE : Expr → CaseArms → Stmts → Stmt
+    -- control variable, start, limit, step, body
+    FOR : Identifier → Expr → Expr → Option Expr → Stmts → Stmt
+    WHILE : Expr → Stmts → Stmt
+    REPEAT : Stmts → Expr → Stmt
+    EXIT : ℕ → Stmt
+    RETURN : Stmt
 
   pub data Stmts : Type 0 where
     no_stmts : Stmts

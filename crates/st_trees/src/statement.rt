@@ -104,14 +104,14 @@ impl Stmt {
 
     #[tactic(auto, using(crate::proofs::Bridge::choose_view))]
     pub fn choose(arms: Vec<Arm>, otherwise: Vec<Stmt>) -> Stmt
-        ensures { stmt_view result ≡ tree.choose (arms_of (map arm_view arms.items)) (stmts_of (map stmt_view otherwise.items)) }
+        ensures { stmt_view result ≡ tree.IF (arms_of (map arm_view arms.items)) (stmts_of (map stmt_view otherwise.items)) }
     {
         Stmt::If(arms, otherwise)
     }
 
     #[tactic(auto, using(crate::proofs::Bridge::select_view))]
     pub fn select(selector: Expr, arms: Vec<CaseArm>, otherwise: Vec<Stmt>) -> Stmt
-        ensures { stmt_view result ≡ tree.select (expr_view selector) (case_arms_of (map case_arm_view arms.items)) (stmts_of (map stmt_view otherwise.items)) }
+        ensures { stmt_view result ≡ tree.CASE (expr_view selector) (case_arms_of (map case_arm_view arms.items)) (stmts_of (map stmt_view otherwise.items)) }
     {
         Stmt::Case(selector, arms, otherwise)
     }
@@ -123,7 +123,7 @@ impl Stmt {
         step: Option<Expr>,
         body: Vec<Stmt>,
     ) -> Stmt
-        ensures { stmt_view result ≡ tree.count control (expr_view start) (expr_view limit) (option_map expr_view step) (stmts_of (map stmt_view body.items)) }
+        ensures { stmt_view result ≡ tree.FOR control (expr_view start) (expr_view limit) (option_map expr_view step) (stmts_of (map stmt_view body.items)) }
     {
         Stmt::For {
             control,
@@ -135,25 +135,25 @@ impl Stmt {
     }
 
     pub fn repeat_while(condition: Expr, body: Vec<Stmt>) -> Stmt
-        ensures { stmt_view result ≡ tree.while (expr_view condition) (stmts_of (map stmt_view body.items)) }
+        ensures { stmt_view result ≡ tree.WHILE (expr_view condition) (stmts_of (map stmt_view body.items)) }
     {
         Stmt::While(condition, body)
     }
 
     pub fn repeat_until(body: Vec<Stmt>, condition: Expr) -> Stmt
-        ensures { stmt_view result ≡ tree.repeat (stmts_of (map stmt_view body.items)) (expr_view condition) }
+        ensures { stmt_view result ≡ tree.REPEAT (stmts_of (map stmt_view body.items)) (expr_view condition) }
     {
         Stmt::Repeat(body, condition)
     }
 
     pub fn exit(place: usize) -> Stmt
-        ensures { stmt_view result ≡ tree.exit place }
+        ensures { stmt_view result ≡ tree.EXIT place }
     {
         Stmt::Exit(place)
     }
 
     pub fn leave() -> Stmt
-        ensures { stmt_view result ≡ tree.return }
+        ensures { stmt_view result ≡ tree.RETURN }
     {
         Stmt::Return
     }

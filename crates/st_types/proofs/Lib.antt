@@ -6,4 +6,5 @@ pub mod Related
 pub mod RunLemmas
 pub mod Scenes
 pub mod Shapes
+pub mod SlotLemmas
 pub mod TimerLemmas

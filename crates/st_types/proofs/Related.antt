@@ -6,7 +6,7 @@ use Rattle.st_words.specs.declared.fault.Fault.TheVariants.{Index, ZeroStep}
 use Rattle.st_words.specs.Values.{Datum}
 use Rattle.st_words.specs.Paths.{Path}
 use Rattle.st_trees.specs.Expressions.{Expr, literal, read, call, parenthesis, unary, binary, Exprs, no_exprs, expr_then, Variable, variable, Selector, member, subscript, Selectors, no_selectors, selector_then}
-use Rattle.st_trees.specs.Statements.{Argument, given, copied, Stmt, empty, assign, invoke, choose, select, count, while, repeat, exit, return, Stmts, no_stmts, stmt_then, Arms, no_arms, arm_then, CaseArms, no_case_arms, case_arm_then}
+use Rattle.st_trees.specs.Statements.{Argument, given, copied, Stmt, empty, assign, invoke, IF, CASE, FOR, WHILE, REPEAT, EXIT, RETURN, Stmts, no_stmts, stmt_then, Arms, no_arms, arm_then, CaseArms, no_case_arms, case_arm_then}
 use Rattle.st_types.specs.Stores.{Store, get, assigned}
 use Rattle.st_types.specs.Ticks.{Run, ◌>>=◌, ◌>>◌, give, fault, take, or_fault, tick}
 use Rattle.st_types.specs.Operators.{value_of_literal, apply, apply_unary, truth}
@@ -155,16 +155,16 @@ module _
           closed.ticks (p_then (given_p s arguments) (λ vs. p_then (assigned_p (path_in w.frame w.body x.name) vs s)
           (λ t. p_then (block_p (path_in w.frame w.body x.name) (block_named w.body.instances x.name) t)
           (λ u. p_then (copied_p (path_in w.frame w.body x.name) arguments u) (λ z. p_give (goes_on z))))))
-      exec_q (choose arms otherwise) s = closed.ticks (arms_p arms (exec_all w otherwise) (exec_all other otherwise) (λ t. closed.within (exec_all_q otherwise t)) s)
-      exec_q (select e arms otherwise) s = closed.ticks (p_then (value_p s e) (λ v. case_p v.number arms (exec_all w otherwise) (exec_all other otherwise) (λ t. closed.within (exec_all_q otherwise t)) s))
-      exec_q (count x start limit step body) s =
+      exec_q (IF arms otherwise) s = closed.ticks (arms_p arms (exec_all w otherwise) (exec_all other otherwise) (λ t. closed.within (exec_all_q otherwise t)) s)
+      exec_q (CASE e arms otherwise) s = closed.ticks (p_then (value_p s e) (λ v. case_p v.number arms (exec_all w otherwise) (exec_all other otherwise) (λ t. closed.within (exec_all_q otherwise t)) s))
+      exec_q (FOR x start limit step body) s =
           closed.ticks (p_then (value_p s start) (λ i. p_then (value_p s limit) (λ n. p_then (step_p s step) (λ d. p_then (nonzero_p d)
           (λ _. p_then (p_take (assigned s (path_in w.frame w.body x.name) i)) (λ t. closed.loops _ _ (step_on (path_in w.frame w.body x.name) d)
           (λ u. guarded_p _ _ _ _ (runs_on_p (path_in w.frame w.body x.name) n.number d) (λ z. closed.within (exec_all_q body z)) u) t))))))
-      exec_q (while e body) s = closed.ticks (closed.loops _ _ Some (λ u. guarded_p _ _ _ _ (test_p e) (λ z. closed.within (exec_all_q body z)) u) s)
-      exec_q (repeat body e) s = closed.ticks (closed.loops _ _ Some (λ u. until_p _ _ _ _ (λ z. closed.within (exec_all_q body z)) (test_p e) u) s)
-      exec_q (exit at) s = closed.ticks (p_give (exits s))
-      exec_q return s = closed.ticks (p_give (returns s))
+      exec_q (WHILE e body) s = closed.ticks (closed.loops _ _ Some (λ u. guarded_p _ _ _ _ (test_p e) (λ z. closed.within (exec_all_q body z)) u) s)
+      exec_q (REPEAT body e) s = closed.ticks (closed.loops _ _ Some (λ u. until_p _ _ _ _ (λ z. closed.within (exec_all_q body z)) (test_p e) u) s)
+      exec_q (EXIT at) s = closed.ticks (p_give (exits s))
+      exec_q RETURN s = closed.ticks (p_give (returns s))
 
       pub exec_all_q : (xs : Stmts) (s : Store) → Q End (exec_all w xs s) (exec_all other xs s)
       exec_all_q no_stmts s = closed.begins (goes_on s)

@@ -9,7 +9,7 @@ use Rattle.st_words.specs.declared.kind.Kind.TheVariants.{Sint, Int, Dint, Lint,
 use Rattle.st_words.specs.Kinds.{place_of, same_kind, holds}
 use Rattle.st_words.specs.Values.{Datum}
 use Rattle.st_words.specs.Paths.{Path, same_path}
-use Rattle.st_trees.specs.Statements.{Argument, given, copied, Stmt, empty, assign, invoke, choose, select, count, while, repeat, exit, return, Stmts, no_stmts, stmt_then, Arms, no_arms, arm_then, CaseArms, no_case_arms, case_arm_then}
+use Rattle.st_trees.specs.Statements.{Argument, given, copied, Stmt, empty, assign, invoke, IF, CASE, FOR, WHILE, REPEAT, EXIT, RETURN, Stmts, no_stmts, stmt_then, Arms, no_arms, arm_then, CaseArms, no_case_arms, case_arm_then}
 use Rattle.st_types.specs.Stores.{Store, get, may_replace, replaced, behind_first, assigned, shape_of, all_held}
 use Rattle.st_types.specs.Ticks.{Run, follow, ◌>>=◌, ◌>>◌, give, fault, take, or_fault, proceed, tick}
 use Rattle.st_types.specs.StandardBlocks as standard
@@ -235,16 +235,16 @@ module _ (w : Scope) (blocks : (b : Name) (at : Path) (s : Store) → Keeps Stor
         keeps_tick store_of s (keeps_behind store_of s (given_inputs w s arguments) (λ vs. keeps_then itself store_of s (inputs_keep (path_in w.frame w.body x.name) vs s)
         (λ t. keeps_then itself store_of t (block_keeps (path_in w.frame w.body x.name) (block_named w.body.instances x.name) t)
         (λ u. keeps_then itself store_of u (outputs_keep (path_in w.frame w.body x.name) arguments u) (λ z. keeps_give store_of z (goes_on z) (same_refl z))))))
-    exec_keeps (choose arms otherwise) s = keeps_tick store_of s (arms_keep arms (exec_all w otherwise) (exec_all_keeps otherwise) s)
-    exec_keeps (select e arms otherwise) s = keeps_tick store_of s (keeps_behind store_of s (value w s e) (λ v. case_keeps v.number arms (exec_all w otherwise) (exec_all_keeps otherwise) s))
-    exec_keeps (count x start limit step body) s =
+    exec_keeps (IF arms otherwise) s = keeps_tick store_of s (arms_keep arms (exec_all w otherwise) (exec_all_keeps otherwise) s)
+    exec_keeps (CASE e arms otherwise) s = keeps_tick store_of s (keeps_behind store_of s (value w s e) (λ v. case_keeps v.number arms (exec_all w otherwise) (exec_all_keeps otherwise) s))
+    exec_keeps (FOR x start limit step body) s =
         keeps_tick store_of s (keeps_behind store_of s (value w s start) (λ i. keeps_behind store_of s (value w s limit) (λ n. keeps_behind store_of s (step_of w s step) (λ d. keeps_behind store_of s (nonzero d)
         (λ _. keeps_then itself store_of s (keeps_assigned s (path_in w.frame w.body x.name) i) (λ t. looped_keeps _ (step_on (path_in w.frame w.body x.name) d)
         (guarded_keeps (runs_on (path_in w.frame w.body x.name) n.number d) (exec_all w body) (exec_all_keeps body)) (step_same (path_in w.frame w.body x.name) d) t))))))
-    exec_keeps (while e body) s = keeps_tick store_of s (looped_keeps _ Some (guarded_keeps (test w e) (exec_all w body) (exec_all_keeps body)) some_same s)
-    exec_keeps (repeat body e) s = keeps_tick store_of s (looped_keeps _ Some (until_keeps (exec_all w body) (test w e) (exec_all_keeps body)) some_same s)
-    exec_keeps (exit at) s = keeps_tick store_of s (keeps_give store_of s (exits s) (same_refl s))
-    exec_keeps return s = keeps_tick store_of s (keeps_give store_of s (returns s) (same_refl s))
+    exec_keeps (WHILE e body) s = keeps_tick store_of s (looped_keeps _ Some (guarded_keeps (test w e) (exec_all w body) (exec_all_keeps body)) some_same s)
+    exec_keeps (REPEAT body e) s = keeps_tick store_of s (looped_keeps _ Some (until_keeps (exec_all w body) (test w e) (exec_all_keeps body)) some_same s)
+    exec_keeps (EXIT at) s = keeps_tick store_of s (keeps_give store_of s (exits s) (same_refl s))
+    exec_keeps RETURN s = keeps_tick store_of s (keeps_give store_of s (returns s) (same_refl s))
 
     pub exec_all_keeps : (xs : Stmts) (s : Store) → Keeps End store_of s (exec_all w xs s)
     exec_all_keeps no_stmts s = keeps_give store_of s (goes_on s) (same_refl s)

@@ -13,7 +13,7 @@ use Rattle.st_words.specs.Values.{datum_of_truth}
 use Rattle.st_types.specs.StandardBlocks as standard
 use Rattle.st_types.specs.StandardBlocks.{stepped}
 use Rattle.st_trees.specs.Expressions.{Expr, literal, read, call, binary, exprs_of, Variable, variable, no_selectors}
-use Rattle.st_trees.specs.Statements.{Stmt, stmts_of, assign, empty, choose, count, while, repeat, exit, arms_of}
+use Rattle.st_trees.specs.Statements.{Stmt, stmts_of, assign, empty, IF, FOR, WHILE, REPEAT, EXIT, arms_of}
 use Rattle.st_trees.specs.declared.data_type.SimpleType.TheVariants.{Elementary}
 use Rattle.st_trees.specs.declared.data_type.VariableType.TheVariants.{Simple}
 use Rattle.st_trees.specs.declared.declaration.Section.TheVariants.{Local}
@@ -118,7 +118,7 @@ Z = codes "Z"
 abbrev pub while_to_3 : List Stmt
 while_to_3 =
     set I (number Int (pos 0))
-    ∷ while (binary Less (name I) (number Int (pos 3))) (stmts_of (set I (binary Add (name I) (number Int (pos 1))) ∷ []))
+    ∷ WHILE (binary Less (name I) (number Int (pos 3))) (stmts_of (set I (binary Add (name I) (number Int (pos 1))) ∷ []))
     ∷ []
 
 -- k := k + 1;
@@ -127,26 +127,26 @@ one_more = set K (binary Add (name K) (number Int (pos 1)))
 
 -- FOR i := 32760 TO 32767 DO k := k + 1; END_FOR;
 abbrev pub to_the_end : List Stmt
-to_the_end = count (identifier I) (number Int (pos 32760)) (number Int (pos 32767)) None (stmts_of (one_more ∷ [])) ∷ []
+to_the_end = FOR (identifier I) (number Int (pos 32760)) (number Int (pos 32767)) None (stmts_of (one_more ∷ [])) ∷ []
 
 -- FOR i := 1 TO 3 DO ; END_FOR;
 abbrev pub to_3 : List Stmt
-to_3 = count (identifier I) (number Int (pos 1)) (number Int (pos 3)) None (stmts_of (empty ∷ [])) ∷ []
+to_3 = FOR (identifier I) (number Int (pos 1)) (number Int (pos 3)) None (stmts_of (empty ∷ [])) ∷ []
 
 -- FOR i := 1 TO 3 BY 0 DO ; END_FOR;
 abbrev pub by_0 : List Stmt
-by_0 = count (identifier I) (number Int (pos 1)) (number Int (pos 3)) (Some (number Int (pos 0))) (stmts_of (empty ∷ [])) ∷ []
+by_0 = FOR (identifier I) (number Int (pos 1)) (number Int (pos 3)) (Some (number Int (pos 0))) (stmts_of (empty ∷ [])) ∷ []
 
 -- FOR i := 1 TO 5 DO IF i = 3 THEN EXIT; END_IF; k := k + 1; END_FOR;
 abbrev pub exit_at_3 : List Stmt
 exit_at_3 =
-    count (identifier I) (number Int (pos 1)) (number Int (pos 5)) None
-    (stmts_of (choose (arms_of ((binary Equal (name I) (number Int (pos 3)), stmts_of (exit 0 ∷ [])) ∷ [])) (stmts_of []) ∷ one_more ∷ []))
+    FOR (identifier I) (number Int (pos 1)) (number Int (pos 5)) None
+    (stmts_of (IF (arms_of ((binary Equal (name I) (number Int (pos 3)), stmts_of (EXIT 0 ∷ [])) ∷ [])) (stmts_of []) ∷ one_more ∷ []))
     ∷ []
 
 -- REPEAT i := i + 1; UNTIL i >= 3 END_REPEAT;
 abbrev pub repeat_to_3 : List Stmt
-repeat_to_3 = repeat (stmts_of (set I (binary Add (name I) (number Int (pos 1))) ∷ [])) (binary GreaterOrEqual (name I) (number Int (pos 3))) ∷ []
+repeat_to_3 = REPEAT (stmts_of (set I (binary Add (name I) (number Int (pos 1))) ∷ [])) (binary GreaterOrEqual (name I) (number Int (pos 3))) ∷ []
 
 -- FUNCTION Sq : DINT VAR_INPUT x : DINT; END_VAR Sq := x * x; END_FUNCTION
 abbrev pub square : Function

@@ -7,8 +7,8 @@ use Rattle.st_words.specs.Values.{Datum}
 use Rattle.st_words.specs.Paths.{Path}
 use Rattle.st_trees.specs.declared.statement.Label.{Label}
 use Rattle.st_trees.specs.declared.statement.Label.TheVariants.{Single, Range}
-use Rattle.st_trees.specs.Expressions.{Expr}
-use Rattle.st_trees.specs.Statements.{Argument, given, copied, Stmt, empty, assign, invoke, choose, select, count, while, repeat, exit, return, Stmts, no_stmts, stmt_then, Arms, no_arms, arm_then, CaseArms, no_case_arms, case_arm_then}
+use Rattle.st_trees.specs.Expressions.{Expr, Variable}
+use Rattle.st_trees.specs.Statements.{Argument, given, copied, Stmt, empty, assign, invoke, IF, CASE, FOR, WHILE, REPEAT, EXIT, RETURN, Stmts, no_stmts, stmt_then, Arms, no_arms, arm_then, CaseArms, no_case_arms, case_arm_then}
 use Rattle.st_types.specs.Stores.{Store, get, assigned}
 use Rattle.st_types.specs.Ticks.{Run, ◌>>=◌, ◌>>◌, give, fault, take, or_fault, tick}
 use Rattle.st_types.specs.Operators.{number_of}
@@ -59,51 +59,48 @@ step_of w s (Some e) = do
   v ← value w s e
   give v.number
 
+-- an assignment evaluates its expression, and then the subscripts of its target
+abbrev pub assigning : Scope → Variable → Expr → Store → Run End
+assigning w v e s = do
+  x ← value w s e
+  p ← place w s v
+  t ← take (assigned s p x)
+  give (goes_on t)
+
+-- a call of an instance at a path: its inputs, its body, its outputs
+abbrev pub invoking : Scope → Path → Option Name → List Argument → Store → Run End
+invoking w at block arguments s = do
+  vs ← given_inputs w s arguments
+  t ← assigned_inputs at vs s
+  u ← ran_block w at block t
+  z ← copied_outputs w at arguments u
+  give (goes_on z)
+
+-- a loop with a control variable: start, limit and step are evaluated once, before all else
+abbrev pub counting : Scope → Path → Expr → Expr → Option Expr → (Store → Run End) → Store → Run End
+counting w x start limit step body s = do
+  i ← value w s start
+  n ← value w s limit
+  d ← step_of w s step
+  nonzero d
+  t ← take (assigned s x i)
+  looped (guarded (runs_on x n.number d) body) (step_on x d) t
+
 abbrev mutual
   pub exec : Scope → Stmt → Store → Run End
-  exec w empty s = do
-    tick
-    give (goes_on s)
-  exec w (assign v e) s = do
-    tick
-    x ← value w s e
-    p ← place w s v
-    t ← take (assigned s p x)
-    give (goes_on t)
-  exec w (invoke x arguments) s = do
-    tick
-    vs ← given_inputs w s arguments
-    t ← assigned_inputs (path_in w.frame w.body x.name) vs s
-    u ← ran_block w (path_in w.frame w.body x.name) (block_named w.body.instances x.name) t
-    z ← copied_outputs w (path_in w.frame w.body x.name) arguments u
-    give (goes_on z)
-  exec w (choose arms otherwise) s = do
-    tick
-    exec_arms w arms (exec_all w otherwise) s
-  exec w (select e arms otherwise) s = do
+  exec w empty s = tick >> give (goes_on s)
+  exec w (assign v e) s = tick >> assigning w v e s
+  exec w (invoke x arguments) s = tick >> invoking w (path_in w.frame w.body x.name) (block_named w.body.instances x.name) arguments s
+  exec w (IF arms otherwise) s = tick >> exec_arms w arms (exec_all w otherwise) s
+  exec w (CASE e arms otherwise) s = do
     tick
     v ← value w s e
     exec_case w v.number arms (exec_all w otherwise) s
-  exec w (count x start limit step body) s = do
-    tick
-    i ← value w s start
-    n ← value w s limit
-    d ← step_of w s step
-    nonzero d
-    t ← take (assigned s (path_in w.frame w.body x.name) i)
-    looped (guarded (runs_on (path_in w.frame w.body x.name) n.number d) (exec_all w body)) (step_on (path_in w.frame w.body x.name) d) t
-  exec w (while e body) s = do
-    tick
-    looped (guarded (test w e) (exec_all w body)) Some s
-  exec w (repeat body e) s = do
-    tick
-    looped (until (exec_all w body) (test w e)) Some s
-  exec w (exit at) s = do
-    tick
-    give (exits s)
-  exec w return s = do
-    tick
-    give (returns s)
+  exec w (FOR x start limit step body) s = tick >> counting w (path_in w.frame w.body x.name) start limit step (exec_all w body) s
+  exec w (WHILE e body) s = tick >> looped (guarded (test w e) (exec_all w body)) Some s
+  exec w (REPEAT body e) s = tick >> looped (until (exec_all w body) (test w e)) Some s
+  exec w (EXIT at) s = tick >> give (exits s)
+  exec w RETURN s = tick >> give (returns s)
 
   pub exec_all : Scope → Stmts → Store → Run End
   exec_all w no_stmts s = give (goes_on s)

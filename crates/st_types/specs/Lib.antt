@@ -18,4 +18,5 @@ pub mod Plans
 pub mod Due
 pub mod Logs
 pub mod Restarts
+pub mod Slots
 pub mod Schedules

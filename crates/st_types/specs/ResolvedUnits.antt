@@ -7,7 +7,7 @@ use Rattle.st_trees.specs.declared.statement.Label.TheVariants.{Single, Range}
 use Rattle.st_trees.specs.declared.data_type.ArrayType.{ArrayType}
 use Rattle.st_trees.specs.declared.data_type.VariableType.{VariableType}
 use Rattle.st_trees.specs.declared.data_type.VariableType.TheVariants as variable_types
-use Rattle.st_trees.specs.Statements.{Argument, given, copied, Stmt, empty, assign, invoke, choose, select, count, while, repeat, exit, return, Stmts, no_stmts, stmt_then, Arms, no_arms, arm_then, CaseArms, no_case_arms, case_arm_then}
+use Rattle.st_trees.specs.Statements.{Argument, given, copied, Stmt, empty, assign, invoke, IF, CASE, FOR, WHILE, REPEAT, EXIT, RETURN, Stmts, no_stmts, stmt_then, Arms, no_arms, arm_then, CaseArms, no_case_arms, case_arm_then}
 use Rattle.st_trees.specs.Initials.{Initial, constant, list, structure, Element, single, repeated, defaults, Elements, no_elements, element_then, Members, no_members, member_then}
 use Rattle.st_trees.specs.Declarations as declared_as
 use Rattle.st_trees.specs.Declarations.{Field, TypeDefinition, TypeDeclaration, Declaration, VariableBlock}
@@ -38,17 +38,17 @@ abbrev mutual
   resolved_stmt text u empty = empty
   resolved_stmt text u (assign v e) = assign (resolved_variable text u v) (resolved_expr text u (kind_of_variable text u v) e)
   resolved_stmt text u (invoke x arguments) = invoke x (map (resolved_argument text u x.name) arguments)
-  resolved_stmt text u (choose arms otherwise) = choose (resolved_arms text u arms) (resolved_stmts text u otherwise)
-  resolved_stmt text u (select e arms otherwise) = select (resolved_expr text u None e) (resolved_case_arms text u (own_kind text u e) arms) (resolved_stmts text u otherwise)
-  resolved_stmt text u (count x start limit step body) =
-      count x (resolved_expr text u (kind_at (variable_type u x.name)) start)
+  resolved_stmt text u (IF arms otherwise) = IF (resolved_arms text u arms) (resolved_stmts text u otherwise)
+  resolved_stmt text u (CASE e arms otherwise) = CASE (resolved_expr text u None e) (resolved_case_arms text u (own_kind text u e) arms) (resolved_stmts text u otherwise)
+  resolved_stmt text u (FOR x start limit step body) =
+      FOR x (resolved_expr text u (kind_at (variable_type u x.name)) start)
       (resolved_expr text u (kind_at (variable_type u x.name)) limit)
       (option_map (resolved_expr text u (kind_at (variable_type u x.name))) step)
       (resolved_stmts text u body)
-  resolved_stmt text u (while e body) = while (resolved_expr text u (Some Boolean) e) (resolved_stmts text u body)
-  resolved_stmt text u (repeat body e) = repeat (resolved_stmts text u body) (resolved_expr text u (Some Boolean) e)
-  resolved_stmt text u (exit at) = exit at
-  resolved_stmt text u return = return
+  resolved_stmt text u (WHILE e body) = WHILE (resolved_expr text u (Some Boolean) e) (resolved_stmts text u body)
+  resolved_stmt text u (REPEAT body e) = REPEAT (resolved_stmts text u body) (resolved_expr text u (Some Boolean) e)
+  resolved_stmt text u (EXIT at) = EXIT at
+  resolved_stmt text u RETURN = RETURN
 
   pub resolved_stmts : Text → OrganisationUnit → Stmts → Stmts
   resolved_stmts text u no_stmts = no_stmts

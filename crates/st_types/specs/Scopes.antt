@@ -86,6 +86,10 @@ pub record Scope : Type 0 where
   pub image : Store
   pub now : ℕ
 
--- the variable or the input at a path
+abbrev pub or_datum : Option Datum → Option Datum → Option Datum
+or_datum (Some v) other = Some v
+or_datum None other = other
+
+-- the input or the variable at a path
 abbrev pub seen : Store → Store → Path → Option Datum
-seen image s p = elim (get image p) [ Some v ↦ Some v | None ↦ get s p ]
+seen image s p = or_datum (get image p) (get s p)

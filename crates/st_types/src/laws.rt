@@ -8,7 +8,12 @@ ghost use Rattle.st_words.specs.declared.operator.BinaryOperator.{BinaryOperator
 ghost use Rattle.st_words.specs.Kinds.{holds};
 ghost use Rattle.st_words.specs.Values.{Datum};
 ghost use Rattle.st_trees.specs.Expressions.{Expr, binary};
-ghost use Rattle.st_types.specs.Stores.{Store, shape_of, IsStore};
+ghost use Rattle.st_words.specs.Paths.{Path, same_path};
+ghost use Rattle.st_words.specs.declared.fault.Fault.TheVariants.{Index};
+ghost use Rattle.std.specs.Prelude.{length, slice_get};
+ghost use Rattle.st_types.specs.Scopes.{seen};
+ghost use Rattle.st_types.specs.Slots.{Slot, IsLayout, variables_in, inputs_in, written_slot};
+ghost use Rattle.st_types.specs.Stores.{Store, shape_of, IsStore, assigned};
 ghost use Rattle.st_types.specs.StandardBlocks.{on_delay, off_delay, pulse, set_first, reset_first, up_count, down_count, up_down_count};
 ghost use Rattle.st_types.specs.TimerRuns.{TimerCall, timer_after, WasOnFor};
 ghost use Rattle.st_types.specs.Scopes.{Scope};
@@ -81,4 +86,18 @@ pub fn counters_stay_within_their_type()
     ensures up { (reset edge : Bool) (z : ℤ) → holds Int z ≡ true → holds Int (up_count reset edge z) ≡ true }
     ensures down { (load edge : Bool) (pv z : ℤ) → holds Int pv ≡ true → holds Int z ≡ true → holds Int (down_count load pv edge z) ≡ true }
     ensures up_down { (reset load up down : Bool) (pv z : ℤ) → holds Int pv ≡ true → holds Int z ≡ true → holds Int (up_down_count reset load pv up down z) ≡ true }
+{}
+
+/// The test of two paths is true exactly where they are one path.
+pub fn paths_are_compared()
+    ensures { (p q : Path) → same_path p q ≡ true → p ≡ q }
+{}
+
+/// Where each path of a layout has one slot, what a path leads to is what stands in its slot, and an assignment by a path is a
+/// write to its slot. An input is no variable.
+pub fn paths_and_slots()
+    ensures read { (layout : List Slot) (vs : List Datum) → IsLayout layout → length layout ≡ length vs → (k : ℕ) (l : Slot) → slice_get layout k ≡ Some l → seen (inputs_in layout vs) (variables_in layout vs) l.path ≡ slice_get vs k }
+    ensures assigned { (layout : List Slot) (vs : List Datum) → IsLayout layout → length layout ≡ length vs → (k : ℕ) (l : Slot) (old v : Datum) → slice_get layout k ≡ Some l → l.is_input ≡ false → slice_get vs k ≡ Some old
+        → assigned (variables_in layout vs) l.path v ≡ written_slot layout vs k old v }
+    ensures input { (layout : List Slot) (vs : List Datum) → IsLayout layout → (k : ℕ) (l : Slot) (v : Datum) → slice_get layout k ≡ Some l → l.is_input ≡ true → assigned (variables_in layout vs) l.path v ≡ Err Index }
 {}

@@ -14,8 +14,8 @@ pub use examples::{
 };
 pub use laws::{
     bistables, bounds_of_recursion, budgets, counters_stay_within_their_type,
-    faults_change_nothing, on_delay_waits, operands_are_all_evaluated, timers_stop_at_their_time,
-    variables_stay,
+    faults_change_nothing, on_delay_waits, operands_are_all_evaluated, paths_and_slots,
+    paths_are_compared, timers_stop_at_their_time, variables_stay,
 };
 pub use schedules::{
     intervals, logs_grow_by_one_step, one_activation_waits, single_and_interval,

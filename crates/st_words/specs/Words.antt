@@ -1,8 +1,7 @@
 -- How a value is kept.
-use Rattle.std.specs.Prelude.{◌≡◌, ℕ, ℤ, pos, negsuc, Bool, true, false, not, if◌then◌else◌, refl}
+use Rattle.std.specs.Prelude.{◌≡◌, ℕ, ℤ, pos, negsuc, true, false, refl}
 use Rattle.std.specs.Ordering.{int_eq}
 use Rattle.st_words.specs.declared.kind.Kind.{Kind}
-use Rattle.st_words.specs.declared.kind.Kind.TheVariants.{Bool as Boolean}
 use Rattle.st_words.specs.declared.kind.Sort.{Sort}
 use Rattle.st_words.specs.declared.kind.Sort.TheVariants as sorts
 use Rattle.st_words.specs.declared.value.Word.{Word}

@@ -1,0 +1,4 @@
+pub mod MediumLemmas
+pub mod Places
+pub mod SimLemmas
+pub mod ViewLemmas

@@ -1,0 +1,4 @@
+pub mod Disk
+pub mod Medium
+pub mod Runs
+pub mod Simulated

@@ -1,0 +1,15 @@
+//! A disk that may fail or stop at any moment: the rules that it keeps, one in memory that fails and stops where it
+//! is told to, and one over a real file.
+#![tactic(auto)]
+
+mod disk;
+mod file_disk;
+mod medium;
+mod sim_disk;
+
+pub use disk::{Disk, DiskError};
+pub use file_disk::FileDisk;
+pub use sim_disk::{SimDisk, Stop};
+
+#[cfg(test)]
+mod tests;

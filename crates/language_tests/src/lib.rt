@@ -1,0 +1,23 @@
+//! Tests of the words and trees of the language. A crate with tests is proved twice, so they stand in one of their own.
+#![tactic(auto)]
+
+#[cfg(test)]
+mod elementary_types;
+#[cfg(test)]
+mod expression_depths;
+#[cfg(test)]
+mod faults;
+#[cfg(test)]
+mod initial_depths;
+#[cfg(test)]
+mod literal_comparisons;
+#[cfg(test)]
+mod names;
+#[cfg(test)]
+mod paths;
+#[cfg(test)]
+mod small_trees;
+#[cfg(test)]
+mod statement_depths;
+#[cfg(test)]
+mod values;
