@@ -15,7 +15,7 @@ use Rattle.st_types.specs.StandardBlocks as standard
 use Rattle.st_types.specs.StandardBlocks.{block_of, members_of, stepped}
 use Rattle.st_types.specs.Runs.{store_of, begun, function_value, member_values, members_assigned, standard_call, block_call, function_call, instance_call}
 use Rattle.st_types.specs.Scopes.{Name, Frame, of_block, of_call, Body, Function, Block, Library, function_in, block_in, Units, Scope, seen, path_in, member_at, block_named}
-use Rattle.st_types.specs.Evaluation.{value, values, place, selected, stepped_to, called, element_at, test}
+use Rattle.st_types.specs.Evaluation.{value, values, place, selected, stepped_to, called, element_at, truth_of}
 use Rattle.st_types.specs.Loops.{End, goes_on, exits, returns, behind, Turn, over, turned, looped, guarded, asked, until, runs_on, step_on, nonzero}
 use Rattle.st_types.specs.Execution.{label_holds, given_inputs, assigned_inputs, copied_outputs, ran_block, step_of, exec, exec_all, exec_arms, exec_case}
 
@@ -91,8 +91,8 @@ module _
       stepped_p s p (member x) = p_give (member_at p x.name)
       stepped_p s p (subscript e) = p_then (value_p s e) (λ v. p_bounded s (element_at p v.number) _)
 
-    test_p : (e : Expr) (s : Store) → P Bool (test w e s) (test other e s)
-    unfolding test
+    test_p : (e : Expr) (s : Store) → P Bool (truth_of w e s) (truth_of other e s)
+    unfolding truth_of
     test_p e s = p_then (value_p s e) (λ v. p_take (truth v))
 
     given_p : (s : Store) (arguments : List Argument) → P (List (Name × Datum)) (given_inputs w s arguments) (given_inputs other s arguments)

@@ -15,7 +15,7 @@ use Rattle.st_types.specs.Ticks.{Run, follow, ◌>>=◌, ◌>>◌, give, fault, 
 use Rattle.st_types.specs.StandardBlocks as standard
 use Rattle.st_types.specs.StandardBlocks.{block_of, members_of, stepped}
 use Rattle.st_types.specs.Scopes.{Name, of_block, Block, Library, Units, Scope, path_in, member_at, block_named, block_in}
-use Rattle.st_types.specs.Evaluation.{value, place, test}
+use Rattle.st_types.specs.Evaluation.{value, place, truth_of}
 use Rattle.st_types.specs.Loops.{End, goes_on, exits, returns, behind, Turn, again, over, turned, resumed, go_back, turns, looped, guarded, asked, until, runs_on, step_on, unless_refused, stepped_on, stored, nonzero}
 use Rattle.st_types.specs.Execution.{label_holds, given_inputs, assigned_inputs, copied_outputs, ran_block, step_of, exec, exec_all, exec_arms, exec_case}
 use Rattle.st_types.specs.Runs.{store_of, members_assigned, standard_call, block_call, instance_call, units_within, Program, scope_of, ran}
@@ -241,8 +241,8 @@ module _ (w : Scope) (blocks : (b : Name) (at : Path) (s : Store) → Keeps Stor
         keeps_tick store_of s (keeps_behind store_of s (value w s start) (λ i. keeps_behind store_of s (value w s limit) (λ n. keeps_behind store_of s (step_of w s step) (λ d. keeps_behind store_of s (nonzero d)
         (λ _. keeps_then itself store_of s (keeps_assigned s (path_in w.frame w.body x.name) i) (λ t. looped_keeps _ (step_on (path_in w.frame w.body x.name) d)
         (guarded_keeps (runs_on (path_in w.frame w.body x.name) n.number d) (exec_all w body) (exec_all_keeps body)) (step_same (path_in w.frame w.body x.name) d) t))))))
-    exec_keeps (WHILE e body) s = keeps_tick store_of s (looped_keeps _ Some (guarded_keeps (test w e) (exec_all w body) (exec_all_keeps body)) some_same s)
-    exec_keeps (REPEAT body e) s = keeps_tick store_of s (looped_keeps _ Some (until_keeps (exec_all w body) (test w e) (exec_all_keeps body)) some_same s)
+    exec_keeps (WHILE e body) s = keeps_tick store_of s (looped_keeps _ Some (guarded_keeps (truth_of w e) (exec_all w body) (exec_all_keeps body)) some_same s)
+    exec_keeps (REPEAT body e) s = keeps_tick store_of s (looped_keeps _ Some (until_keeps (exec_all w body) (truth_of w e) (exec_all_keeps body)) some_same s)
     exec_keeps (EXIT at) s = keeps_tick store_of s (keeps_give store_of s (exits s) (same_refl s))
     exec_keeps RETURN s = keeps_tick store_of s (keeps_give store_of s (returns s) (same_refl s))
 
@@ -252,7 +252,7 @@ module _ (w : Scope) (blocks : (b : Name) (at : Path) (s : Store) → Keeps Stor
 
     arms_keep : (arms : Arms) (otherwise : Store → Run End) → ((s : Store) → Keeps End store_of s (otherwise s)) → (s : Store) → Keeps End store_of s (exec_arms w arms otherwise s)
     arms_keep no_arms otherwise h s = h s
-    arms_keep (arm_then e body arms) otherwise h s = keeps_behind store_of s (test w e s) (λ go. if_keeps s go (exec_all_keeps body s) (arms_keep arms otherwise h s))
+    arms_keep (arm_then e body arms) otherwise h s = keeps_behind store_of s (truth_of w e s) (λ go. if_keeps s go (exec_all_keeps body s) (arms_keep arms otherwise h s))
 
     case_keeps : (z : ℤ) (arms : CaseArms) (otherwise : Store → Run End) → ((s : Store) → Keeps End store_of s (otherwise s)) → (s : Store) → Keeps End store_of s (exec_case w z arms otherwise s)
     case_keeps z no_case_arms otherwise h s = h s

@@ -67,7 +67,7 @@ abbrev mutual
     bounded w.image s (element_at p v.number)
 
 -- the truth of a condition
-unfoldable pub test : Scope → Expr → Store → Run Bool
-test w e s = do
+unfoldable pub truth_of : Scope → Expr → Store → Run Bool
+truth_of w e s = do
   v ← value w s e
   take (truth v)

@@ -13,7 +13,7 @@ use Rattle.st_types.specs.Stores.{Store, get, assigned}
 use Rattle.st_types.specs.Ticks.{Run, ◌>>=◌, ◌>>◌, give, fault, take, or_fault, tick}
 use Rattle.st_types.specs.Operators.{number_of}
 use Rattle.st_types.specs.Scopes.{Name, Scope, path_in, member_at, block_named}
-use Rattle.st_types.specs.Evaluation.{value, place, test}
+use Rattle.st_types.specs.Evaluation.{value, place, truth_of}
 use Rattle.st_types.specs.Loops.{End, goes_on, exits, returns, behind, looped, guarded, until, runs_on, step_on, nonzero}
 
 -- a label holds the selector's number
@@ -97,8 +97,8 @@ abbrev mutual
     v ← value w s e
     exec_case w v.number arms (exec_all w otherwise) s
   exec w (FOR x start limit step body) s = tick >> counting w (path_in w.frame w.body x.name) start limit step (exec_all w body) s
-  exec w (WHILE e body) s = tick >> looped (guarded (test w e) (exec_all w body)) Some s
-  exec w (REPEAT body e) s = tick >> looped (until (exec_all w body) (test w e)) Some s
+  exec w (WHILE e body) s = tick >> looped (guarded (truth_of w e) (exec_all w body)) Some s
+  exec w (REPEAT body e) s = tick >> looped (until (exec_all w body) (truth_of w e)) Some s
   exec w (EXIT at) s = tick >> give (exits s)
   exec w RETURN s = tick >> give (returns s)
 
@@ -112,7 +112,7 @@ abbrev mutual
   pub exec_arms : Scope → Arms → (Store → Run End) → Store → Run End
   exec_arms w no_arms otherwise s = otherwise s
   exec_arms w (arm_then e body arms) otherwise s = do
-    go ← test w e s
+    go ← truth_of w e s
     if go then exec_all w body s else exec_arms w arms otherwise s
 
   -- the statements of the first list with a label that holds the number, or those behind them all

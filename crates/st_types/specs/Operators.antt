@@ -21,12 +21,20 @@ use Rattle.st_words.specs.Values.{Datum, in_range, datum_of_truth, is_true}
 abbrev pub number_of : Number → ℤ
 number_of n = if n.is_negative then neg_ℤ (pos n.magnitude) else pos n.magnitude
 
+abbrev pub or_kind : Option Kind → Option Kind → Option Kind
+or_kind (Some k) l = Some k
+or_kind None l = l
+
 -- the type that is written, or else that which its place in the text gives
 abbrev pub kind_of_number : Number → Option Kind
-kind_of_number n = elim n.written [ Some k ↦ Some k | None ↦ n.taken ]
+kind_of_number n = or_kind n.written n.taken
+
+abbrev pub value_in : Option Kind → ℤ → Result Datum Fault
+value_in (Some k) z = in_range k z
+value_in None z = Err Conversion
 
 abbrev pub value_of_number : Number → Result Datum Fault
-value_of_number n = elim (kind_of_number n) [ Some k ↦ in_range k (number_of n) | None ↦ Err Conversion ]
+value_of_number n = value_in (kind_of_number n) (number_of n)
 
 abbrev pub value_of_literal : Literal → Result Datum Fault
 value_of_literal (literals.Number n) = value_of_number n

@@ -15,6 +15,7 @@ use Rattle.st_trees.specs.declared.unit.UnitSort.{UnitSort}
 use Rattle.st_trees.specs.declared.unit.UnitSort.TheVariants.{Function, FunctionBlock, Program}
 use Rattle.st_trees.specs.Declarations.{VariableBlock}
 use Rattle.st_trees.specs.Units.{OrganisationUnit}
+use Rattle.st_types.specs.Operators.{or_kind}
 use Rattle.st_types.specs.StandardFunctions.{Standard, MIN, MAX, LIMIT, SEL, CONVERT, standard_of}
 use Rattle.st_types.specs.NameTypes.{Text, kind_of_variable, unit_named, input_kinds, result_kind}
 
@@ -66,10 +67,6 @@ abbrev pub kind_of_literal : Literal → Option Kind
 kind_of_literal (literals.Number n) = n.written
 kind_of_literal (literals.Truth at b) = Some Boolean
 kind_of_literal (literals.Duration at n) = Some Time
-
-abbrev pub or_kind : Option Kind → Option Kind → Option Kind
-or_kind (Some k) l = Some k
-or_kind None l = l
 
 -- the common type of a standard function's operands, of those that have it; where the function has one such operand, that is the first
 abbrev pub common_kind : Standard → List (Option Kind) → Option Kind

@@ -36,7 +36,7 @@ pub fn faults()
 {}
 
 /// A WHILE of three turns needs 8 ticks, and a REPEAT of three turns 6.
-#[tactic(auto, unfolding(crate::specs::Runs::ran, crate::specs::Runs::units_within, crate::specs::Loops::looped, crate::specs::Loops::turns, crate::specs::Loops::guarded, crate::specs::Loops::until, crate::specs::Evaluation::test))]
+#[tactic(auto, unfolding(crate::specs::Runs::ran, crate::specs::Runs::units_within, crate::specs::Loops::looped, crate::specs::Loops::turns, crate::specs::Loops::guarded, crate::specs::Loops::until, crate::specs::Evaluation::truth_of))]
 pub fn loops_with_conditions()
     ensures budget_of_8 { ran_with [] 8 while_to_3 ((I, int (pos 0)) ∷ []) ≡ Ok (goes_on (variables ((I, int (pos 3)) ∷ [])), 0) }
     ensures budget_of_7 { ran_with [] 7 while_to_3 ((I, int (pos 0)) ∷ []) ≡ Err Budget }
@@ -45,7 +45,7 @@ pub fn loops_with_conditions()
 {}
 
 /// A FOR ends at the end of its type with the variable unchanged, else with the variable past the limit.
-#[tactic(auto, unfolding(crate::specs::Runs::ran, crate::specs::Runs::units_within, crate::specs::Loops::looped, crate::specs::Loops::turns, crate::specs::Loops::guarded, crate::specs::Loops::runs_on, crate::specs::Loops::step_on, crate::specs::Evaluation::test))]
+#[tactic(auto, unfolding(crate::specs::Runs::ran, crate::specs::Runs::units_within, crate::specs::Loops::looped, crate::specs::Loops::turns, crate::specs::Loops::guarded, crate::specs::Loops::runs_on, crate::specs::Loops::step_on, crate::specs::Evaluation::truth_of))]
 pub fn loops_with_a_variable()
     ensures end_of_type { ran_with [] 17 to_the_end ((I, int (pos 0)) ∷ (K, int (pos 0)) ∷ []) ≡ Ok (goes_on (variables ((I, int (pos 32767)) ∷ (K, int (pos 8)) ∷ [])), 0) }
     ensures past_the_limit { ran_with [] 100 to_3 ((I, int (pos 0)) ∷ []) ≡ Ok (goes_on (variables ((I, int (pos 4)) ∷ [])), 93) }
