@@ -56,6 +56,24 @@ same_owner_is (Some a) (Some b) h =
     let t = both (bytes_eq a.resource b.resource) (bytes_eq a.instance b.instance) h in
     ap (λ r. Some (owner_of r a.instance)) (same_bytes a.resource b.resource t.0) ∙ ap (λ i. Some (owner_of b.resource i)) (same_bytes a.instance b.instance t.1)
 
+same_bytes_itself : (x : List ℕ) → bytes_eq x x ≡ true
+same_bytes_itself x = (bytes_eq-Decides x x).1 refl
+
+same_step_itself : (x : Step) → same_step x x ≡ true
+same_step_itself (Member x) = same_bytes_itself x
+same_step_itself (Element i) = (Decides-int_eq i i).1 refl
+
+same_steps_themselves : (xs : List Step) → same_steps xs xs ≡ true
+same_steps_themselves [] = refl
+same_steps_themselves (x ∷ xs) = let h = same_step_itself x in let t = same_steps_themselves xs in cc
+
+same_owner_itself : (o : Option Owner) → same_owner o o ≡ true
+same_owner_itself None = refl
+same_owner_itself (Some a) = let r = same_bytes_itself a.resource in let i = same_bytes_itself a.instance in cc
+
+pub same_path_itself : (p : Path) → same_path p p ≡ true
+same_path_itself p = let o = same_owner_itself p.owner in let n = same_bytes_itself p.name in let s = same_steps_themselves p.steps in cc
+
 pub same_path_is : (p q : Path) → same_path p q ≡ true → p ≡ q
 same_path_is p q h =
     let t = both (same_owner p.owner q.owner && bytes_eq p.name q.name) (same_steps p.steps q.steps) h in

@@ -90,7 +90,8 @@ pub fn counters_stay_within_their_type()
 
 /// The test of two paths is true exactly where they are one path.
 pub fn paths_are_compared()
-    ensures { (p q : Path) → same_path p q ≡ true → p ≡ q }
+    ensures only { (p q : Path) → same_path p q ≡ true → p ≡ q }
+    ensures itself { (p : Path) → same_path p p ≡ true }
 {}
 
 /// Where each path of a layout has one slot, what a path leads to is what stands in its slot, and an assignment by a path is a
