@@ -2,6 +2,7 @@ pub mod Agrees
 pub mod DueLemmas
 pub mod Lasts
 pub mod LogLemmas
+pub mod OverrunLemmas
 pub mod Related
 pub mod RunLemmas
 pub mod Scenes

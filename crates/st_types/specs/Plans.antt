@@ -78,10 +78,6 @@ image_of [] vs = []
 image_of (i ∷ is) [] = []
 image_of (i ∷ is) (v ∷ vs) = (i.path, v) ∷ image_of is vs
 
--- the greatest moment
-abbrev pub greatest_moment : ℕ
-greatest_moment = 4611686018427387903
-
 abbrev pub same_kinds : List Input → List Datum → Bool
 same_kinds [] [] = true
 same_kinds (i ∷ is) (v ∷ vs) = same_kind i.kind v.kind && same_kinds is vs

@@ -18,8 +18,8 @@ pub use laws::{
     paths_are_compared, timers_stop_at_their_time, variables_stay,
 };
 pub use schedules::{
-    intervals, logs_grow_by_one_step, one_activation_waits, single_and_interval,
-    three_programs_in_order,
+    intervals, logs_grow_by_one_step, one_activation_waits,
+    overruns_are_rows_that_meet_a_waiting_program, single_and_interval, three_programs_in_order,
 };
 pub use st_trees::{
     Address, AddressWidth, Argument, Arm, ArrayType, CaseArm, Configuration, Declaration,

@@ -1,10 +1,10 @@
 //! Laws and worked examples of what is due, what waits and what a log makes of the variables.
 
-ghost use Rattle.std.specs.Prelude.{◌≡◌, ℕ, ◌∷◌, ◌++◌, [], List, true, false};
+ghost use Rattle.std.specs.Prelude.{◌≡◌, ℕ, ◌+◌, ◌≤◌, ◌∷◌, ◌++◌, [], List, length, Bool, true, false};
 ghost use Rattle.st_types.specs.declared.entry.Entry.{Entry};
 ghost use Rattle.st_types.specs.Stores.{Store};
 ghost use Rattle.st_types.specs.Plans.{Place, Plan};
-ghost use Rattle.st_types.specs.Due.{History, Waits, IsBest, NoneWaits, HasOverruns, with_run};
+ghost use Rattle.st_types.specs.Due.{History, due, served, Waits, IsBest, NoneWaits, HasOverruns, no_history, with_tick, with_run};
 ghost use Rattle.st_types.specs.Logs.{past_of, with_entry};
 ghost use Rattle.st_types.specs.Schedules.{every, ticks_at, dues, three_programs, four_rows, of, ran_3, ran_3_1, ran_all};
 
@@ -37,6 +37,19 @@ pub fn three_programs_in_order()
 pub fn one_activation_waits()
     ensures one { (places : List Place) (h : History) (p j k : ℕ) → Waits places h record { program = p; row = j } → Waits places h record { program = p; row = k } → j ≡ k }
     ensures none_behind_a_done { (places : List Place) (h : History) (p k : ℕ) → Waits places (with_run h p) record { program = p; row = k } → ⊥ }
+{}
+
+/// There is no overrun at first. A row at which a waiting program is due is one more; one at which it is not due is none, nor is
+/// one at which nothing of it waits. A Done takes none away.
+pub fn overruns_are_rows_that_meet_a_waiting_program()
+    ensures none_at_first { (places : List Place) (p : ℕ) → HasOverruns places no_history p 0 }
+    ensures met { (places : List Place) (h : History) (moment : ℕ) (samples : List Bool) (p k n : ℕ) → Waits places h record { program = p; row = k } → HasOverruns places h p n
+        → due places p (with_tick h moment samples).ticks (length h.ticks) ≡ true → HasOverruns places (with_tick h moment samples) p (n + 1) }
+    ensures begun { (places : List Place) (h : History) (moment : ℕ) (samples : List Bool) (p n : ℕ) → served p h.runs ≤ length h.ticks → ((k : ℕ) → Waits places h record { program = p; row = k } → ⊥) → HasOverruns places h p n
+        → due places p (with_tick h moment samples).ticks (length h.ticks) ≡ true → HasOverruns places (with_tick h moment samples) p n }
+    ensures passed { (places : List Place) (h : History) (moment : ℕ) (samples : List Bool) (p n : ℕ) → HasOverruns places h p n
+        → due places p (with_tick h moment samples).ticks (length h.ticks) ≡ false → HasOverruns places (with_tick h moment samples) p n }
+    ensures done { (places : List Place) (h : History) (p k n : ℕ) → Waits places h record { program = p; row = k } → HasOverruns places h p n → HasOverruns places (with_run h p) p n }
 {}
 
 /// What a log with one entry more makes is one step further.
