@@ -117,3 +117,21 @@ done_waits_no_more places h p k w =
     let last : served p (h.runs ++ record { program = p; rows = length h.ticks } ∷ []) ≡ length h.ticks = rw (served-add p h.runs record { program = p; rows = length h.ticks }, same) refl in
     let late : served p (h.runs ++ record { program = p; rows = length h.ticks } ∷ []) ≤ k = w.unserved in
     absurd (omega (arith, there.1))
+
+-- a row whose activation was served stays served
+pub served_by_done : (places : List Place) (h : History) (p k : ℕ) → Waits places h record { program = p; row = k } → k < served p (with_run h p).runs
+served_by_done places h p k w =
+    let there = due-there places p h.ticks k w.is in
+    let same : (p == p) ≡ true = grind (arith, nat_tests) in
+    let last : served p (with_run h p).runs ≡ length h.ticks = rw (served-add p h.runs record { program = p; rows = length h.ticks }, same) refl in
+    omega (arith, there.1, last)
+
+either_is_past : (b : Bool) (n m k : ℕ) → k < n → n ≤ m → k < (if b then m else n)
+either_is_past true n m k l g = omega (arith, l, g)
+either_is_past false n m k l g = l
+
+pub served_stays : (h : History) (p q k : ℕ) → k < served p h.runs → served p h.runs ≤ length h.ticks → k < served p (with_run h q).runs
+served_stays h p q k l g = rw (served-add p h.runs record { program = q; rows = length h.ticks }) (either_is_past (q == p) (served p h.runs) (length h.ticks) k l g)
+
+pub served_waits_no_more : (places : List Place) (h : History) (p k : ℕ) → k < served p h.runs → Waits places h record { program = p; row = k } → ⊥
+served_waits_no_more places h p k l w = absurd (omega (arith, l, w.unserved))

@@ -4,7 +4,7 @@ use Rattle.std.specs.List.{list_any}
 use Rattle.st_words.specs.declared.kind.Kind.{Kind}
 use Rattle.st_trees.specs.declared.declaration.Retention.{Retention}
 use Rattle.st_trees.specs.declared.declaration.Retention.TheVariants.{Retain, NonRetain}
-use Rattle.st_words.specs.Kinds.{same_kind}
+use Rattle.st_words.specs.Kinds.{same_kind, holds}
 use Rattle.st_words.specs.Values.{Datum, is_true}
 use Rattle.st_words.specs.Paths.{Path, same_path}
 use Rattle.st_types.specs.Stores.{Store, get}
@@ -12,7 +12,7 @@ use Rattle.st_types.specs.Rows.{Latch}
 use Rattle.st_types.specs.Runs as runs
 use Rattle.st_types.specs.Runs.{outcome_of, store_after}
 
--- a variable of the layout: its path, the value that it starts with, and whether it is kept over a power failure
+-- a variable of the layout that is no input: its path, the value that it starts with, and whether it is kept over a power failure
 pub record Variable : Type 0 where
   pub path : Path
   pub initial : Datum
@@ -72,21 +72,26 @@ initial_store plan = map (λ v. (v.path, v.initial)) plan.variables
 abbrev pub is_retained : Plan → Path → Bool
 is_retained plan p = list_any (λ v. same_path p v.path && v.retained) plan.variables
 
+-- the inputs of the plant before a life's first row
+abbrev pub initial_image : Plan → Store
+initial_image plan = map (λ i. (i.path, initial_value i.kind None)) plan.inputs
+
 -- the inputs of the plant at a row
 abbrev pub image_of : List Input → List Datum → Store
 image_of [] vs = []
 image_of (i ∷ is) [] = []
 image_of (i ∷ is) (v ∷ vs) = (i.path, v) ∷ image_of is vs
 
-abbrev pub same_kinds : List Input → List Datum → Bool
-same_kinds [] [] = true
-same_kinds (i ∷ is) (v ∷ vs) = same_kind i.kind v.kind && same_kinds is vs
-same_kinds [] (v ∷ vs) = false
-same_kinds (i ∷ is) [] = false
+-- a value that its type holds for each input
+abbrev pub holds_each : List Input → List Datum → Bool
+holds_each [] [] = true
+holds_each (i ∷ is) (v ∷ vs) = same_kind i.kind v.kind && (holds v.kind v.number && holds_each is vs)
+holds_each [] (v ∷ vs) = false
+holds_each (i ∷ is) [] = false
 
 -- a row has a value of its type for each input of the plan, and its moment is in its limit
 abbrev pub fits : Plan → Latch → Bool
-fits plan row = same_kinds plan.inputs row.image && nat_lt row.moment (2 ^ 62)
+fits plan row = holds_each plan.inputs row.image && nat_lt row.moment (2 ^ 62)
 
 -- where and how often an instance runs
 pub record Place : Type 0 where
@@ -104,7 +109,7 @@ place_of tasks p = record { resource = p.resource; task = p.task; interval = (ta
 abbrev pub places_of : Plan → List Place
 places_of plan = map (place_of plan.tasks) plan.programs
 
--- SINGLE of a task at a row: an input's value there, or a global's before the row; absent means FALSE
+-- SINGLE of a task at a row: an input's value there, or a global's before the row; FALSE where the task has none
 abbrev pub is_on : Option Datum → Bool
 is_on None = false
 is_on (Some v) = is_true v
@@ -117,7 +122,7 @@ sample_of s image (single_global p) = is_on (get s p)
 abbrev pub samples_of : Plan → Store → List Datum → List Bool
 samples_of plan s image = map (λ t. sample_of s image t.single) plan.tasks
 
--- the variables after the n-th program ran on a row; a program that is not there does nothing
+-- the variables after a program ran on a row; one that is not there does nothing
 abbrev pub after_run : Plan → Option Program → Store → Latch → Store
 after_run plan None s row = s
 after_run plan (Some p) s row = store_after p.code plan.budget s (image_of plan.inputs row.image) row.moment

@@ -22,7 +22,8 @@ abbrev pub or_else : Option Store → Store → Store
 or_else None s = s
 or_else (Some t) s = t
 
--- the variables with these values written over them
+-- The variables with these values written over them. One for which there is no variable of its type is left out: a record of the
+-- plan's own layout has none.
 abbrev pub written_over : Store → Store → Store
 written_over s [] = s
 written_over s (e ∷ es) = written_over (or_else (unless_refused (assigned s e.0 e.1)) s) es
@@ -30,7 +31,7 @@ written_over s (e ∷ es) = written_over (or_else (unless_refused (assigned s e.
 abbrev pub cold_start : Plan → Start
 cold_start plan = record { store = initial_store plan; moment = None }
 
--- retained variables take the record's values, where there is a record
+-- the record's values stand over the initial ones, where there is a record
 abbrev pub warm_start : Plan → Option Kept → Start
 warm_start plan None = cold_start plan
 warm_start plan (Some r) = record { store = written_over (initial_store plan) r.values; moment = r.moment }

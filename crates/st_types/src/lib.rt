@@ -19,7 +19,8 @@ pub use laws::{
 };
 pub use schedules::{
     intervals, logs_grow_by_one_step, one_activation_waits,
-    overruns_are_rows_that_meet_a_waiting_program, single_and_interval, three_programs_in_order,
+    overruns_are_rows_that_meet_a_waiting_program, served_for_good, single_and_interval,
+    three_programs_in_order,
 };
 pub use st_trees::{
     Address, AddressWidth, Argument, Arm, ArrayType, CaseArm, Configuration, Declaration,

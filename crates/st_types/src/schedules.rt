@@ -1,6 +1,6 @@
 //! Laws and worked examples of what is due, what waits and what a log makes of the variables.
 
-ghost use Rattle.std.specs.Prelude.{◌≡◌, ℕ, ◌+◌, ◌≤◌, ◌∷◌, ◌++◌, [], List, length, Bool, true, false};
+ghost use Rattle.std.specs.Prelude.{◌≡◌, ℕ, ◌+◌, ◌<◌, ◌≤◌, ◌∷◌, ◌++◌, [], List, length, Bool, true, false};
 ghost use Rattle.st_types.specs.declared.entry.Entry.{Entry};
 ghost use Rattle.st_types.specs.Stores.{Store};
 ghost use Rattle.st_types.specs.Plans.{Place, Plan};
@@ -37,6 +37,14 @@ pub fn three_programs_in_order()
 pub fn one_activation_waits()
     ensures one { (places : List Place) (h : History) (p j k : ℕ) → Waits places h record { program = p; row = j } → Waits places h record { program = p; row = k } → j ≡ k }
     ensures none_behind_a_done { (places : List Place) (h : History) (p k : ℕ) → Waits places (with_run h p) record { program = p; row = k } → ⊥ }
+{}
+
+/// An activation that was served never waits again, whatever rows and Dones follow.
+pub fn served_for_good()
+    ensures by_its_done { (places : List Place) (h : History) (p k : ℕ) → Waits places h record { program = p; row = k } → k < served p (with_run h p).runs }
+    ensures over_dones { (h : History) (p q k : ℕ) → k < served p h.runs → served p h.runs ≤ length h.ticks → k < served p (with_run h q).runs }
+    ensures over_rows { (h : History) (moment : ℕ) (samples : List Bool) (p k : ℕ) → k < served p h.runs → k < served p (with_tick h moment samples).runs }
+    ensures never_waits { (places : List Place) (h : History) (p k : ℕ) → k < served p h.runs → Waits places h record { program = p; row = k } → ⊥ }
 {}
 
 /// There is no overrun at first. A row at which a waiting program is due is one more; one at which it is not due is none, nor is
