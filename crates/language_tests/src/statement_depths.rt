@@ -103,91 +103,120 @@ fn counted(alloc: Global, ends: [usize; 2], step: usize, body: usize) -> Result<
     Ok(Stmt::count(identifier(alloc, "i")?, start, limit, by, body))
 }
 
+/// A WHILE, or else a REPEAT.
+fn turns(alloc: Global, is_while: bool, condition: usize, body: usize) -> Result<Stmt, AllocError> {
+    let condition = expression(alloc, condition)?;
+    let body = list(alloc, body)?;
+    if is_while {
+        return Ok(Stmt::repeat_while(condition, body));
+    }
+    Ok(Stmt::repeat_until(body, condition))
+}
+
+/// `x[i] := 1`
+fn assigned_element(alloc: Global) -> Result<Stmt, AllocError> {
+    let target = element(alloc, "x", read(alloc, "i")?)?;
+    Ok(Stmt::assign(target, literal(1)))
+}
+
+/// An empty statement in so many loops.
+fn nested(alloc: Global, loops: usize) -> Result<Stmt, AllocError> {
+    let mut nested = Stmt::empty();
+    for _ in 0..loops {
+        let body = vec![in alloc; nested]?;
+        nested = Stmt::repeat_while(literal(1), body);
+    }
+    Ok(nested)
+}
+
+/// The depth of a statement, which ends here, so that no test has one at hand that it would have to drop.
+fn depth(statement: Stmt) -> usize {
+    statement.depth()
+}
+
 #[test]
 fn exit_return_and_the_empty_statement_have_1(rt: HostRuntime) {
-    assert_eq!(rt; Stmt::empty().depth(), 1);
-    assert_eq!(rt; Stmt::exit(5).depth(), 1);
-    assert_eq!(rt; Stmt::leave().depth(), 1);
+    assert_eq!(rt; depth(Stmt::empty()), 1);
+    assert_eq!(rt; depth(Stmt::exit(5)), 1);
+    assert_eq!(rt; depth(Stmt::leave()), 1);
 }
 
 #[test]
 fn an_assignment_is_a_node_over_target_and_expression(rt: HostRuntime) -> Result<(), Fail> {
     // x := 1 and x := (1)
-    assert_eq!(rt; assignment(rt.alloc(), 0)?.depth(), 2);
-    assert_eq!(rt; assignment(rt.alloc(), 1)?.depth(), 3);
+    assert_eq!(rt; depth(assignment(rt.alloc(), 0)?), 2);
+    assert_eq!(rt; depth(assignment(rt.alloc(), 1)?), 3);
     // x[i] := 1
-    let target = element(rt.alloc(), "x", read(rt.alloc(), "i")?)?;
-    assert_eq!(rt; Stmt::assign(target, literal(1)).depth(), 3);
+    assert_eq!(rt; depth(assigned_element(rt.alloc())?), 3);
     Ok(())
 }
 
 #[test]
 fn with_62_parentheses_it_has_64_and_with_63_one_more(rt: HostRuntime) -> Result<(), Fail> {
-    assert_eq!(rt; assignment(rt.alloc(), 62)?.depth(), 64);
-    assert_eq!(rt; assignment(rt.alloc(), 63)?.depth(), 65);
+    assert_eq!(rt; depth(assignment(rt.alloc(), 62)?), 64);
+    assert_eq!(rt; depth(assignment(rt.alloc(), 63)?), 65);
     Ok(())
 }
 
 #[test]
 fn a_block_call_is_a_node_over_its_expressions_and_targets(rt: HostRuntime) -> Result<(), Fail> {
-    assert_eq!(rt; call(rt.alloc(), false, false)?.depth(), 1);
-    assert_eq!(rt; call(rt.alloc(), true, false)?.depth(), 2);
-    assert_eq!(rt; call(rt.alloc(), false, true)?.depth(), 3);
-    assert_eq!(rt; call(rt.alloc(), true, true)?.depth(), 3);
+    assert_eq!(rt; depth(call(rt.alloc(), false, false)?), 1);
+    assert_eq!(rt; depth(call(rt.alloc(), true, false)?), 2);
+    assert_eq!(rt; depth(call(rt.alloc(), false, true)?), 3);
+    assert_eq!(rt; depth(call(rt.alloc(), true, true)?), 3);
     Ok(())
 }
 
 #[test]
 fn if_is_a_node_over_conditions_and_statements(rt: HostRuntime) -> Result<(), Fail> {
-    assert_eq!(rt; choice(rt.alloc(), [1, 0], [1, 0], 0)?.depth(), 2);
+    assert_eq!(rt; depth(choice(rt.alloc(), [1, 0], [1, 0], 0)?), 2);
     for [condition, body, second, otherwise] in DEEPEST {
         let choice = choice(rt.alloc(), [condition, body], [second, 0], otherwise)?;
-        assert_eq!(rt; choice.depth(), 8);
+        assert_eq!(rt; depth(choice), 8);
     }
     // the statements of an ELSIF
-    assert_eq!(rt; choice(rt.alloc(), [1, 0], [1, 7], 0)?.depth(), 8);
+    assert_eq!(rt; depth(choice(rt.alloc(), [1, 0], [1, 7], 0)?), 8);
     Ok(())
 }
 
 #[test]
 fn case_is_a_node_over_selector_and_statements(rt: HostRuntime) -> Result<(), Fail> {
-    assert_eq!(rt; case(rt.alloc(), 1, &[], 0)?.depth(), 2);
+    assert_eq!(rt; depth(case(rt.alloc(), 1, &[], 0)?), 2);
     // labels are no nodes
-    assert_eq!(rt; case(rt.alloc(), 1, &[0], 0)?.depth(), 2);
+    assert_eq!(rt; depth(case(rt.alloc(), 1, &[0], 0)?), 2);
     for [selector, first, second, otherwise] in DEEPEST {
         let case = case(rt.alloc(), selector, &[first, second], otherwise)?;
-        assert_eq!(rt; case.depth(), 8);
+        assert_eq!(rt; depth(case), 8);
     }
     Ok(())
 }
 
 #[test]
 fn for_is_a_node_over_start_limit_step_and_statements(rt: HostRuntime) -> Result<(), Fail> {
-    assert_eq!(rt; counted(rt.alloc(), [1, 1], 0, 0)?.depth(), 2);
+    assert_eq!(rt; depth(counted(rt.alloc(), [1, 1], 0, 0)?), 2);
     for [start, limit, step, body] in DEEPEST {
-        assert_eq!(rt; counted(rt.alloc(), [start, limit], step, body)?.depth(), 8);
+        assert_eq!(rt; depth(counted(rt.alloc(), [start, limit], step, body)?), 8);
     }
     Ok(())
 }
 
 #[test]
 fn while_and_repeat_are_nodes_over_condition_and_statements(rt: HostRuntime) -> Result<(), Fail> {
-    for (condition, body, depth) in [(1, 0, 2), (7, 2, 8), (2, 7, 8)] {
-        let turns = Stmt::repeat_while(expression(rt.alloc(), condition)?, list(rt.alloc(), body)?);
-        assert_eq!(rt; turns.depth(), depth);
-        let turns = Stmt::repeat_until(list(rt.alloc(), body)?, expression(rt.alloc(), condition)?);
-        assert_eq!(rt; turns.depth(), depth);
+    for is_while in [true, false] {
+        for (condition, body, expected) in [(1, 0, 2), (7, 2, 8), (2, 7, 8)] {
+            assert_eq!(rt;
+                depth(turns(rt.alloc(), is_while, condition, body)?),
+                expected
+            );
+        }
     }
     Ok(())
 }
 
 #[test]
 fn a_statement_in_a_statement_is_one_deeper(rt: HostRuntime) -> Result<(), Fail> {
-    let mut nested = Stmt::empty();
-    for depth in 1..6 {
-        assert_eq!(rt; nested.depth(), depth);
-        let body = vec![in rt.alloc(); nested]?;
-        nested = Stmt::repeat_while(literal(1), body);
+    for loops in 0..5 {
+        assert_eq!(rt; depth(nested(rt.alloc(), loops)?), loops + 1);
     }
     Ok(())
 }
