@@ -6,7 +6,7 @@ use Rattle.std.proofs.lemmas.List.Sums.{fold-append}
 use Rattle.std.proofs.lemmas.Bool.Decides.{nat_tests, eqb_tells, leb_tells}
 use Rattle.st_types.specs.declared.entry.Activation.{Activation}
 use Rattle.st_types.specs.Plans.{Place}
-use Rattle.st_types.specs.Due.{Tick, Served, History, sample, tick_at, rule, is_due, place_at, due, last_served, served, one_more, run_count, due_count, Waits, with_run}
+use Rattle.st_types.specs.Due.{Tick, Served, History, sample, tick_at, rule, is_due, place_at, due, last_served, served, one_more, run_count, due_count, Waits, no_history, with_tick, with_run}
 
 and_false : (b : Bool) → (b && false) ≡ false
 and_false true = refl
@@ -135,3 +135,17 @@ served_stays h p q k l g = rw (served-add p h.runs record { program = q; rows = 
 
 pub served_waits_no_more : (places : List Place) (h : History) (p k : ℕ) → k < served p h.runs → Waits places h record { program = p; row = k } → ⊥
 served_waits_no_more places h p k l w = absurd (omega (arith, l, w.unserved))
+
+-- the rows before a Done were latched
+either_is_within : (b : Bool) (n m : ℕ) → n ≤ m → (if b then m else n) ≤ m
+either_is_within true n m l = omega arith
+either_is_within false n m l = l
+
+pub served_within_done : (h : History) (p q : ℕ) → served p h.runs ≤ length h.ticks → served p (with_run h q).runs ≤ length (with_run h q).ticks
+served_within_done h p q l = rw (served-add p h.runs record { program = q; rows = length h.ticks }) (either_is_within (q == p) (served p h.runs) (length h.ticks) l)
+
+pub served_within_row : (h : History) (moment : ℕ) (samples : List Bool) (p : ℕ) → served p h.runs ≤ length h.ticks → served p (with_tick h moment samples).runs ≤ length (with_tick h moment samples).ticks
+served_within_row h moment samples p l = omega (arith, l, length-append h.ticks (record { moment = moment; samples = samples } ∷ []))
+
+pub served_within_first : (p : ℕ) → served p no_history.runs ≤ length no_history.ticks
+served_within_first p = omega arith

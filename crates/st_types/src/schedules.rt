@@ -39,11 +39,15 @@ pub fn one_activation_waits()
     ensures none_behind_a_done { (places : List Place) (h : History) (p k : ℕ) → Waits places (with_run h p) record { program = p; row = k } → ⊥ }
 {}
 
-/// An activation that was served never waits again, whatever rows and Dones follow.
+/// An activation that was served never waits again, whatever rows and Dones follow: a program's last Done stands behind the row that
+/// it served and behind no more rows than there are, at first and after each row and each Done.
 pub fn served_for_good()
     ensures by_its_done { (places : List Place) (h : History) (p k : ℕ) → Waits places h record { program = p; row = k } → k < served p (with_run h p).runs }
     ensures over_dones { (h : History) (p q k : ℕ) → k < served p h.runs → served p h.runs ≤ length h.ticks → k < served p (with_run h q).runs }
     ensures over_rows { (h : History) (moment : ℕ) (samples : List Bool) (p k : ℕ) → k < served p h.runs → k < served p (with_tick h moment samples).runs }
+    ensures within_at_first { (p : ℕ) → served p no_history.runs ≤ length no_history.ticks }
+    ensures within_over_dones { (h : History) (p q : ℕ) → served p h.runs ≤ length h.ticks → served p (with_run h q).runs ≤ length (with_run h q).ticks }
+    ensures within_over_rows { (h : History) (moment : ℕ) (samples : List Bool) (p : ℕ) → served p h.runs ≤ length h.ticks → served p (with_tick h moment samples).runs ≤ length (with_tick h moment samples).ticks }
     ensures never_waits { (places : List Place) (h : History) (p k : ℕ) → k < served p h.runs → Waits places h record { program = p; row = k } → ⊥ }
 {}
 

@@ -1,4 +1,4 @@
-use Rattle.st_types.proofs.DueLemmas.{served_by_done, served_stays, served_waits_no_more}
+use Rattle.st_types.proofs.DueLemmas.{served_by_done, served_stays, served_waits_no_more, served_within_first, served_within_done, served_within_row}
 use Rattle.st_types.proofs.schedules.served_for_good.Goals as goal
 
 pub returns-clause-by_its_done : goal.returns-clause-by_its_done
@@ -12,3 +12,12 @@ returns-clause-over_rows c = λ h moment samples p k l. l
 
 pub returns-clause-never_waits : goal.returns-clause-never_waits
 returns-clause-never_waits c = served_waits_no_more
+
+pub returns-clause-within_at_first : goal.returns-clause-within_at_first
+returns-clause-within_at_first c = served_within_first
+
+pub returns-clause-within_over_dones : goal.returns-clause-within_over_dones
+returns-clause-within_over_dones c = served_within_done
+
+pub returns-clause-within_over_rows : goal.returns-clause-within_over_rows
+returns-clause-within_over_rows c = served_within_row
