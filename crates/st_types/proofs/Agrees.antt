@@ -1,6 +1,7 @@
 -- Bounds of the recursion are never the limit of a run: with fewer ticks than calls may be deep, deeper calls change nothing, faults included.
 use Rattle.std.proofs.Common.{◌≡◌, ℕ, zero, suc, ◌<◌, ◌≤◌, List, Option, Some, None, Result, Ok, Err, refl, ap, ◌∙◌, arith}
 use Rattle.st_words.specs.declared.fault.Fault.{Fault}
+use Rattle.st_words.specs.declared.fault.Fault.TheVariants.{Index}
 use Rattle.st_words.specs.Values.{Datum}
 use Rattle.st_words.specs.Paths.{Path}
 use Rattle.st_types.specs.Stores.{Store}
@@ -9,7 +10,7 @@ use Rattle.st_types.specs.StandardBlocks.{block_of}
 use Rattle.st_types.specs.Scopes.{Name, Library, Units}
 use Rattle.st_types.specs.Loops.{End, goes_on, Turn, again, over, resumed, go_back, turns, looped}
 use Rattle.st_types.specs.Execution.{exec_all}
-use Rattle.st_types.specs.Runs.{Program, units_within, scope_of, ran}
+use Rattle.st_types.specs.Runs.{Program, units_within, scope_of, ran, ran_where}
 use Rattle.st_types.proofs.Related.{IsClosed, exec_all_q, functions_q, instances_q}
 use Rattle.st_types.proofs.Lasts.{Lasts, units_last}
 
@@ -96,25 +97,25 @@ pub record UnitsAgree (t : ℕ) (u v : Units) : Type 0 where
 none_below : {A : Type 0} (m n : Run A) → Lasts A m m → Agrees 0 A m n
 none_below m n h = record { same = λ b lt. absurd (omega arith); falls = h.falls }
 
-pub units_agree : (library : Library) (image : Store) (now t n m : ℕ) → t ≤ n → t ≤ m → UnitsAgree t (units_within library image now n) (units_within library image now m)
+pub units_agree : (missing : Fault) (library : Library) (image : Store) (now t n m : ℕ) → t ≤ n → t ≤ m → UnitsAgree t (units_within missing library image now n) (units_within missing library image now m)
 unfolding units_within
-units_agree library image now zero n m le le' =
-    let u = units_last library image now n n (omega arith) in
+units_agree missing library image now zero n m le le' =
+    let u = units_last missing library image now n n (omega arith) in
     record { functions = λ f vs. none_below _ _ (u.functions f vs); blocks = λ b at s. none_below _ _ (u.blocks b at s) }
-units_agree library image now (suc t) zero m le le' = absurd (omega arith)
-units_agree library image now (suc t) (suc n) zero le le' = absurd (omega arith)
-units_agree library image now (suc t) (suc n) (suc m) le le' =
-    let u = units_agree library image now t n m (omega arith) (omega arith) in
+units_agree missing library image now (suc t) zero m le le' = absurd (omega arith)
+units_agree missing library image now (suc t) (suc n) zero le le' = absurd (omega arith)
+units_agree missing library image now (suc t) (suc n) (suc m) le le' =
+    let u = units_agree missing library image now t n m (omega arith) (omega arith) in
     record {
-      functions = functions_q (Agrees t) (Agrees (suc t)) (agrees_closed t) library image now (units_within library image now n) (units_within library image now m) u.functions u.blocks;
-      blocks = λ b. instances_q (Agrees t) (Agrees (suc t)) (agrees_closed t) library image now (units_within library image now n) (units_within library image now m) u.functions u.blocks b (block_of b);
+      functions = functions_q (Agrees t) (Agrees (suc t)) (agrees_closed t) missing library image now (units_within missing library image now n) (units_within missing library image now m) u.functions u.blocks;
+      blocks = λ b. instances_q (Agrees t) (Agrees (suc t)) (agrees_closed t) missing library image now (units_within missing library image now n) (units_within missing library image now m) u.functions u.blocks b (block_of b);
     }
 
 pub ran_agrees : (p : Program) (image : Store) (now b n : ℕ) (s : Store) → b ≤ n → ran p image now b s ≡ exec_all (scope_of p image now n) p.body.statements s b
-unfolding ran
+unfolding ran ran_where
 ran_agrees p image now b n s le =
-    let u = units_agree p.library image now b b n (omega arith) le in
-    (exec_all_q (Agrees b) (Agrees (suc b)) (agrees_closed b) (scope_of p image now b) (units_within p.library image now n) u.functions u.blocks p.body.statements s).same b (omega arith)
+    let u = units_agree Index p.library image now b b n (omega arith) le in
+    (exec_all_q (Agrees b) (Agrees (suc b)) (agrees_closed b) (scope_of p image now b) (units_within Index p.library image now n) u.functions u.blocks p.body.statements s).same b (omega arith)
 
 -- a loop whose turns never give ticks back needs no more turns than it has ticks
 module _ (turn : Store → Run Turn) (step : Store → Option Store) (falls : (s : Store) (b : ℕ) (t : Turn) (c : ℕ) → turn s b ≡ Ok (t, c) → c ≤ b) where

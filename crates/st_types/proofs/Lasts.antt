@@ -1,7 +1,7 @@
 -- A run that ends has no more ticks left than it had, and ends the same with more; so does one that faults for another cause.
 use Rattle.std.proofs.Common.{◌≡◌, ℕ, zero, suc, ◌+◌, ◌≤◌, List, Option, Some, None, Result, Ok, Err, refl, sym, ap, arith}
 use Rattle.st_words.specs.declared.fault.Fault.{Fault}
-use Rattle.st_words.specs.declared.fault.Fault.TheVariants.{Budget}
+use Rattle.st_words.specs.declared.fault.Fault.TheVariants.{Index, Budget}
 use Rattle.st_words.specs.Values.{Datum}
 use Rattle.st_words.specs.Paths.{Path}
 use Rattle.st_trees.specs.Statements.{Stmts}
@@ -11,7 +11,7 @@ use Rattle.st_types.specs.StandardBlocks.{block_of}
 use Rattle.st_types.specs.Scopes.{Name, Library, Units}
 use Rattle.st_types.specs.Loops.{End, goes_on, Turn, again, over, resumed, go_back, turns, looped}
 use Rattle.st_types.specs.Execution.{exec_all}
-use Rattle.st_types.specs.Runs.{Program, units_within, scope_of, ran}
+use Rattle.st_types.specs.Runs.{Program, units_within, scope_of, ran, ran_where}
 use Rattle.st_types.proofs.Related.{IsClosed, exec_all_q, functions_q, instances_q}
 
 pub record Lasts (A : Type 0) (m n : Run A) : Type 0 where
@@ -109,31 +109,31 @@ pub record UnitsLast (u v : Units) : Type 0 where
   pub functions : (f : Name) (vs : List Datum) → Lasts Datum (u.functions f vs) (v.functions f vs)
   pub blocks : (b : Name) (at : Path) (s : Store) → Lasts Store (u.blocks b at s) (v.blocks b at s)
 
-pub units_last : (library : Library) (image : Store) (now n m : ℕ) → n ≤ m → UnitsLast (units_within library image now n) (units_within library image now m)
+pub units_last : (missing : Fault) (library : Library) (image : Store) (now n m : ℕ) → n ≤ m → UnitsLast (units_within missing library image now n) (units_within missing library image now m)
 unfolding units_within
-units_last library image now zero m le = record { functions = λ f vs. lasts_none _; blocks = λ b at s. lasts_none _ }
-units_last library image now (suc n) zero le = absurd (omega arith)
-units_last library image now (suc n) (suc m) le =
-    let u = units_last library image now n m (omega arith) in
+units_last missing library image now zero m le = record { functions = λ f vs. lasts_none _; blocks = λ b at s. lasts_none _ }
+units_last missing library image now (suc n) zero le = absurd (omega arith)
+units_last missing library image now (suc n) (suc m) le =
+    let u = units_last missing library image now n m (omega arith) in
     record {
-      functions = functions_q Lasts Lasts lasts_closed library image now (units_within library image now n) (units_within library image now m) u.functions u.blocks;
-      blocks = λ b. instances_q Lasts Lasts lasts_closed library image now (units_within library image now n) (units_within library image now m) u.functions u.blocks b (block_of b);
+      functions = functions_q Lasts Lasts lasts_closed missing library image now (units_within missing library image now n) (units_within missing library image now m) u.functions u.blocks;
+      blocks = λ b. instances_q Lasts Lasts lasts_closed missing library image now (units_within missing library image now n) (units_within missing library image now m) u.functions u.blocks b (block_of b);
     }
 
 -- the statements of a program, with calls at most n deep and with deeper ones
 pub program_lasts : (p : Program) (image : Store) (now n m : ℕ) → n ≤ m → (xs : Stmts) (s : Store) → Lasts End (exec_all (scope_of p image now n) xs s) (exec_all (scope_of p image now m) xs s)
 program_lasts p image now n m le xs s =
-    let u = units_last p.library image now n m le in
-    exec_all_q Lasts Lasts lasts_closed (scope_of p image now n) (units_within p.library image now m) u.functions u.blocks xs s
+    let u = units_last Index p.library image now n m le in
+    exec_all_q Lasts Lasts lasts_closed (scope_of p image now n) (units_within Index p.library image now m) u.functions u.blocks xs s
 
 pub ran_falls : (p : Program) (image : Store) (now b : ℕ) (s : Store) (e : End) (c : ℕ) → ran p image now b s ≡ Ok (e, c) → c ≤ b
-unfolding ran
+unfolding ran ran_where
 ran_falls p image now b s e c h = (program_lasts p image now b b (omega arith) p.body.statements s).falls b e c h
 
 pub ran_more : (p : Program) (image : Store) (now b k : ℕ) (s : Store) (e : End) (c : ℕ) → ran p image now b s ≡ Ok (e, c) → ran p image now (b + k) s ≡ Ok (e, c + k)
-unfolding ran
+unfolding ran ran_where
 ran_more p image now b k s e c h = (program_lasts p image now b (b + k) (omega arith) p.body.statements s).more b k e c h
 
 pub ran_same : (p : Program) (image : Store) (now b k : ℕ) (s : Store) (e : Fault) → (e ≡ Budget → ⊥) → ran p image now b s ≡ Err e → ran p image now (b + k) s ≡ Err e
-unfolding ran
+unfolding ran ran_where
 ran_same p image now b k s e other h = (program_lasts p image now b (b + k) (omega arith) p.body.statements s).same b k e other h

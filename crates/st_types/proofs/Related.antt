@@ -15,7 +15,7 @@ use Rattle.st_types.specs.StandardBlocks as standard
 use Rattle.st_types.specs.StandardBlocks.{block_of, members_of, stepped}
 use Rattle.st_types.specs.Runs.{store_of, begun, function_value, member_values, members_assigned, standard_call, block_call, function_call, instance_call}
 use Rattle.st_types.specs.Scopes.{Name, Frame, of_block, of_call, Body, Function, Block, Library, function_in, block_in, Units, Scope, seen, path_in, member_at, block_named}
-use Rattle.st_types.specs.Evaluation.{value, values, place, selected, stepped_to, called, element_at, truth_of}
+use Rattle.st_types.specs.Evaluation.{known, value, values, place, selected, stepped_to, called, element_at, truth_of}
 use Rattle.st_types.specs.Loops.{End, goes_on, exits, returns, behind, Turn, over, turned, looped, guarded, asked, until, runs_on, step_on, nonzero}
 use Rattle.st_types.specs.Execution.{label_holds, given_inputs, assigned_inputs, copied_outputs, ran_block, step_of, exec, exec_all, exec_arms, exec_case}
 
@@ -40,7 +40,7 @@ module _
   where
     -- the same place with the other units
     abbrev other : Scope
-    other = record { units = units; frame = w.frame; body = w.body; image = w.image; now = w.now }
+    other = record { units = units; frame = w.frame; body = w.body; image = w.image; now = w.now; missing = w.missing }
 
     p_give : {A : Type 0} (a : A) → P A (give a) (give a)
     p_give a = closed.gives a
@@ -70,7 +70,7 @@ module _
     mutual
       value_p : (s : Store) (e : Expr) → P Datum (value w s e) (value other s e)
       value_p s (literal l) = p_take (value_of_literal l)
-      value_p s (read v) = p_then (place_p s v) (λ p. p_or Index (seen w.image s p))
+      value_p s (read v) = p_then (place_p s v) (λ p. p_or w.missing (known (seen w.image s p)))
       value_p s (call f es) = p_then (values_p s es) (λ vs. p_called (standard_of f.name) f.name vs)
       value_p s (parenthesis at e) = value_p s e
       value_p s (unary op at e) = p_then (value_p s e) (λ x. p_take (apply_unary op x))
@@ -181,7 +181,7 @@ module _
 module _
     (P Q : (A : Type 0) → Run A → Run A → Type 0)
     (closed : IsClosed P Q)
-    (library : Library) (image : Store) (now : ℕ) (units units' : Units)
+    (missing : Fault) (library : Library) (image : Store) (now : ℕ) (units units' : Units)
     (functions : (f : Name) (vs : List Datum) → P Datum (units.functions f vs) (units'.functions f vs))
     (blocks : (b : Name) (at : Path) (s : Store) → P Store (units.blocks b at s) (units'.blocks b at s))
   where
@@ -193,21 +193,21 @@ module _
     q_or e (Some a) = closed.begins a
     q_or e None = closed.stops e
 
-    body_q : (frame : Frame) (body : Body) (seen : Store) (s : Store) → Q End (exec_all (record { units = units; frame = frame; body = body; image = seen; now = now }) body.statements s) (exec_all (record { units = units'; frame = frame; body = body; image = seen; now = now }) body.statements s)
-    body_q frame body seen s = exec_all_q P Q closed (record { units = units; frame = frame; body = body; image = seen; now = now }) units' functions blocks body.statements s
+    body_q : (frame : Frame) (body : Body) (seen : Store) (s : Store) → Q End (exec_all (record { units = units; frame = frame; body = body; image = seen; now = now; missing = missing }) body.statements s) (exec_all (record { units = units'; frame = frame; body = body; image = seen; now = now; missing = missing }) body.statements s)
+    body_q frame body seen s = exec_all_q P Q closed (record { units = units; frame = frame; body = body; image = seen; now = now; missing = missing }) units' functions blocks body.statements s
 
-    function_q : (f : Function) (vs : List Datum) → Q Datum (function_value units now f vs) (function_value units' now f vs)
+    function_q : (f : Function) (vs : List Datum) → Q Datum (function_value missing units now f vs) (function_value missing units' now f vs)
     function_q f vs = closed.continues (q_take (begun f.fresh f.inputs vs)) (λ s. closed.continues (body_q of_call f.body [] s) (λ e. q_or Index _))
 
-    block_call_q : (b : Block) (at : Path) (s : Store) → Q Store (block_call units image now b at s) (block_call units' image now b at s)
+    block_call_q : (b : Block) (at : Path) (s : Store) → Q Store (block_call missing units image now b at s) (block_call missing units' image now b at s)
     block_call_q b at s = closed.continues (body_q (of_block at) b.body image s) (λ e. closed.begins (store_of e))
 
     standard_q : (k : standard.Block) (at : Path) (s : Store) → Q Store (standard_call k now at s) (standard_call k now at s)
     standard_q k at s = closed.continues (q_or Index (member_values s at (members_of k))) (λ vs. q_take (members_assigned s at (members_of k) (stepped k now vs)))
 
-    pub functions_q : (f : Name) (vs : List Datum) → Q Datum (function_call library units now f vs) (function_call library units' now f vs)
+    pub functions_q : (f : Name) (vs : List Datum) → Q Datum (function_call missing library units now f vs) (function_call missing library units' now f vs)
     functions_q f vs = closed.continues (q_or Index (function_in library.functions f)) (λ g. function_q g vs)
 
-    pub instances_q : (b : Name) (o : Option standard.Block) (at : Path) (s : Store) → Q Store (instance_call library image units now b o at s) (instance_call library image units' now b o at s)
+    pub instances_q : (b : Name) (o : Option standard.Block) (at : Path) (s : Store) → Q Store (instance_call missing library image units now b o at s) (instance_call missing library image units' now b o at s)
     instances_q b (Some k) at s = standard_q k at s
     instances_q b None at s = closed.continues (q_or Index (block_in library.blocks b)) (λ c. block_call_q c at s)

@@ -18,7 +18,7 @@ use Rattle.st_types.specs.Scopes.{Name, of_block, Block, Library, Units, Scope, 
 use Rattle.st_types.specs.Evaluation.{value, place, truth_of}
 use Rattle.st_types.specs.Loops.{End, goes_on, exits, returns, behind, Turn, again, over, turned, resumed, go_back, turns, looped, guarded, asked, until, runs_on, step_on, unless_refused, stepped_on, stored, nonzero}
 use Rattle.st_types.specs.Execution.{label_holds, given_inputs, assigned_inputs, copied_outputs, ran_block, step_of, exec, exec_all, exec_arms, exec_case}
-use Rattle.st_types.specs.Runs.{store_of, members_assigned, standard_call, block_call, instance_call, units_within, Program, scope_of, ran}
+use Rattle.st_types.specs.Runs.{store_of, members_assigned, standard_call, block_call, instance_call, units_within, Program, scope_of, ran, ran_where}
 
 -- a type is told by its place in the table
 kind_at : ℕ → Kind
@@ -64,7 +64,7 @@ same_then h k = record { shape = k.shape ∙ h.shape; held = λ x. k.held (h.hel
 same_is : (s t : Store) → s ≡ t → Same s t
 same_is s t e = record { shape = ap shape_of (sym e); held = λ h. ap all_held (sym e) ∙ h }
 
-both : (a b : Bool) → (a && b) ≡ true → (a ≡ true) × (b ≡ true)
+pub both : (a b : Bool) → (a && b) ≡ true → (a ≡ true) × (b ≡ true)
 both true true h = (refl, refl)
 both true false h = absurd (cc)
 both false b h = absurd (cc)
@@ -270,19 +270,19 @@ members_same s at (m ∷ ms) (v ∷ vs) t e = next (assigned s (member_at at m.0
 standard_keeps : (k : standard.Block) (now : ℕ) (at : Path) (s : Store) → Keeps Store itself s (standard_call k now at s)
 standard_keeps k now at s = keeps_behind itself s _ (λ vs. keeps_take s (members_assigned s at (members_of k) (stepped k now vs)) (members_same s at (members_of k) (stepped k now vs)))
 
-module _ (library : Library) (image : Store) (now : ℕ) (units : Units) (blocks : (b : Name) (at : Path) (s : Store) → Keeps Store itself s (units.blocks b at s)) where
-  body_keeps : (b : Block) (at : Path) (s : Store) → Keeps Store itself s (block_call units image now b at s)
-  body_keeps b at s = keeps_then store_of itself s (exec_all_keeps (record { units = units; frame = of_block at; body = b.body; image = image; now = now }) blocks b.body.statements s) (λ e. keeps_give itself (store_of e) (store_of e) (same_refl (store_of e)))
+module _ (missing : Fault) (library : Library) (image : Store) (now : ℕ) (units : Units) (blocks : (b : Name) (at : Path) (s : Store) → Keeps Store itself s (units.blocks b at s)) where
+  body_keeps : (b : Block) (at : Path) (s : Store) → Keeps Store itself s (block_call missing units image now b at s)
+  body_keeps b at s = keeps_then store_of itself s (exec_all_keeps (record { units = units; frame = of_block at; body = b.body; image = image; now = now; missing = missing }) blocks b.body.statements s) (λ e. keeps_give itself (store_of e) (store_of e) (same_refl (store_of e)))
 
-  instance_keeps : (b : Name) (o : Option standard.Block) (at : Path) (s : Store) → Keeps Store itself s (instance_call library image units now b o at s)
+  instance_keeps : (b : Name) (o : Option standard.Block) (at : Path) (s : Store) → Keeps Store itself s (instance_call missing library image units now b o at s)
   instance_keeps b (Some k) at s = standard_keeps k now at s
   instance_keeps b None at s = keeps_behind itself s (or_fault Index (block_in library.blocks b)) (λ c. body_keeps c at s)
 
-units_keep : (library : Library) (image : Store) (now n : ℕ) (b : Name) (at : Path) (s : Store) → Keeps Store itself s ((units_within library image now n).blocks b at s)
+units_keep : (missing : Fault) (library : Library) (image : Store) (now n : ℕ) (b : Name) (at : Path) (s : Store) → Keeps Store itself s ((units_within missing library image now n).blocks b at s)
 unfolding units_within
-units_keep library image now zero b at s = keeps_fault itself s _
-units_keep library image now (suc n) b at s = instance_keeps library image now (units_within library image now n) (units_keep library image now n) b (block_of b) at s
+units_keep missing library image now zero b at s = keeps_fault itself s _
+units_keep missing library image now (suc n) b at s = instance_keeps missing library image now (units_within missing library image now n) (units_keep missing library image now n) b (block_of b) at s
 
 pub ran_keeps : (p : Program) (image : Store) (now b : ℕ) (s : Store) (e : End) (c : ℕ) → ran p image now b s ≡ Ok (e, c) → Same s (store_of e)
-unfolding ran
-ran_keeps p image now b s e c h = (exec_all_keeps (scope_of p image now b) (units_keep p.library image now b) p.body.statements s).kept b e c h
+unfolding ran ran_where
+ran_keeps p image now b s e c h = (exec_all_keeps (scope_of p image now b) (units_keep Index p.library image now b) p.body.statements s).kept b e c h

@@ -1,8 +1,9 @@
 -- The value of an expression. All operands are evaluated, the left before the right.
--- F3 is a subscript out of bounds; it stands too where a name is unknown, which no well-typed text has.
+-- F3 is a subscript out of bounds. Where a name has no value, which no well-typed text meets, the scope's fault for it stands.
 use Rattle.std.specs.Prelude.{ℕ, ℤ, List, [], ◌∷◌, ◌++◌, Bool, ◌||◌, if◌then◌else◌, Option, Some, None}
 use Rattle.st_words.specs.declared.fault.Fault.TheVariants.{Index}
 use Rattle.st_words.specs.declared.path.Step.TheVariants.{Element}
+use Rattle.st_words.specs.Kinds.{holds}
 use Rattle.st_words.specs.Values.{Datum}
 use Rattle.st_words.specs.Paths.{Path}
 use Rattle.st_trees.specs.Expressions.{Expr, literal, read, call, parenthesis, unary, binary, Exprs, no_exprs, expr_then, Variable, variable, Selector, member, subscript, Selectors, no_selectors, selector_then}
@@ -20,6 +21,15 @@ element_at p z = record { owner = p.owner; name = p.name; steps = p.steps ++ Ele
 abbrev pub bounded : Store → Store → Path → Run Path
 bounded image s p = if has_part image p || has_part s p then give p else fault Index
 
+-- a number that its type does not hold is no value; no store has one
+abbrev pub known : Option Datum → Option Datum
+known (Some v) = if holds v.kind v.number then Some v else None
+known None = None
+
+-- the value of the input or the variable at a path
+abbrev pub looked_up : Scope → Store → Path → Run Datum
+looked_up w s p = or_fault w.missing (known (seen w.image s p))
+
 -- a call of a standard function or one of the text
 abbrev pub called : Scope → Option Standard → List ℕ → List Datum → Run Datum
 called w (Some f) x vs = take (standard_value f vs)
@@ -30,7 +40,7 @@ abbrev mutual
   value w s (literal l) = take (value_of_literal l)
   value w s (read v) = do
     p ← place w s v
-    or_fault Index (seen w.image s p)
+    looked_up w s p
   value w s (call f es) = do
     vs ← values w s es
     called w (standard_of f.name) f.name vs

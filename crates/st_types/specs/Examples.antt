@@ -5,14 +5,14 @@ use Rattle.st_words.specs.declared.identifier.Identifier.{Identifier}
 use Rattle.st_words.specs.declared.kind.Kind.{Kind}
 use Rattle.st_words.specs.declared.kind.Kind.TheVariants.{Int, Dint, Time, Bool as Boolean}
 use Rattle.st_words.specs.declared.literal.Literal.TheVariants as literals
-use Rattle.st_words.specs.declared.operator.BinaryOperator.TheVariants.{Less, GreaterOrEqual, Equal, Add, Multiply}
+use Rattle.st_words.specs.declared.operator.BinaryOperator.TheVariants.{Less, GreaterOrEqual, Equal, Add, Multiply, Divide}
 use Rattle.st_words.specs.declared.path.Owner.{Owner}
 use Rattle.st_words.specs.Values.{Datum}
 use Rattle.st_words.specs.Paths.{Path}
 use Rattle.st_words.specs.Values.{datum_of_truth}
 use Rattle.st_types.specs.StandardBlocks as standard
 use Rattle.st_types.specs.StandardBlocks.{stepped}
-use Rattle.st_trees.specs.Expressions.{Expr, literal, read, call, binary, exprs_of, Variable, variable, no_selectors}
+use Rattle.st_trees.specs.Expressions.{Expr, literal, read, call, binary, exprs_of, Variable, variable, subscript, no_selectors, selectors_of}
 use Rattle.st_trees.specs.Statements.{Stmt, stmts_of, assign, empty, IF, FOR, WHILE, REPEAT, EXIT, arms_of}
 use Rattle.st_trees.specs.declared.data_type.SimpleType.TheVariants.{Elementary}
 use Rattle.st_trees.specs.declared.data_type.VariableType.TheVariants.{Simple}
@@ -26,6 +26,8 @@ use Rattle.st_types.specs.Scopes.{Name, Body, Function, own_path, of_program, un
 use Rattle.st_types.specs.declared.entry.Outcome.{Outcome}
 use Rattle.st_types.specs.Runs.{Program, ran, outcome_of, store_after}
 use Rattle.st_types.specs.Loops.{End}
+use Rattle.st_types.specs.Evaluation.{element_at}
+use Rattle.st_types.specs.Asked.{IsAsked}
 
 abbrev pub identifier : Name → Identifier
 identifier x = record { name = x; place = 0 }
@@ -187,3 +189,54 @@ timed b pt calls = outputs_of b 2 2 (map (λ c. (c.0, bool c.1 ∷ time pt ∷ [
 
 abbrev pub q_et : Bool → ℕ → List Datum
 q_et q et = bool q ∷ time (pos et) ∷ []
+
+abbrev pub P : Name
+P = codes "P"
+
+abbrev pub C : Name
+C = codes "C"
+
+abbrev pub A : Name
+A = codes "A"
+
+-- an element of the global array
+abbrev pub element : ℤ → Path
+element z = element_at (unowned A) z
+
+-- VAR_GLOBAL p : INT := 1; x : INT; y : INT; c : BOOL := TRUE or FALSE; a : ARRAY [0..1] OF INT; END_VAR
+abbrev pub its_globals : Bool → Store
+its_globals c =
+    (unowned P, int (pos 1)) ∷ (unowned X, int (pos 0)) ∷ (unowned Y, int (pos 0)) ∷ (unowned C, bool c)
+    ∷ (element (pos 0), int (pos 0)) ∷ (element (pos 1), int (pos 0)) ∷ []
+
+-- an input z of the plant
+abbrev pub its_inputs : Store
+its_inputs = (unowned Z, int (pos 0)) ∷ []
+
+-- statements whose names stand for the globals and the input, but for i, an instance of the block b
+abbrev pub body_over_globals : List Stmt → Body
+body_over_globals xs = record { externals = P ∷ X ∷ Y ∷ C ∷ A ∷ Z ∷ []; instances = (I, codes "B") ∷ []; statements = stmts_of xs }
+
+-- the path is asked for by the statements, with c TRUE or FALSE; the block b is x := p;
+abbrev pub Asks : Bool → List Stmt → Path → Type 0
+Asks c xs p = IsAsked (record {
+  library = record { functions = []; blocks = record { name = codes "B"; body = body_over_globals (set X (name P) ∷ []) } ∷ [] };
+  owner = owner;
+  body = body_over_globals xs;
+}) 100 (its_globals c) its_inputs 0 p
+
+-- a[e]
+abbrev pub element_of_a : Expr → Variable
+element_of_a e = variable (identifier A) (selectors_of (subscript e ∷ []))
+
+-- IF e THEN xs END_IF;
+abbrev pub if_then : Expr → List Stmt → Stmt
+if_then e xs = IF (arms_of ((e, stmts_of xs) ∷ [])) (stmts_of [])
+
+-- y := 1 / 0;
+abbrev pub faulting : Stmt
+faulting = set Y (binary Divide (number Int (pos 1)) (number Int (pos 0)))
+
+-- IF c THEN p := 1; END_IF; x := p;
+abbrev pub assigned_if_c : List Stmt
+assigned_if_c = if_then (name C) (set P (number Int (pos 1)) ∷ []) ∷ set X (name P) ∷ []

@@ -9,6 +9,7 @@ pub mod Evaluation
 pub mod Loops
 pub mod Execution
 pub mod Runs
+pub mod Asked
 pub mod Examples
 pub mod NameTypes
 pub mod Resolution

@@ -29,10 +29,10 @@ begun s (x ∷ xs) (v ∷ vs) = proceed (assigned s (unowned x) v) (λ t. begun 
 begun s _ _ = Err Index
 
 -- a function's body on fresh variables; its result is the variable of its name
-abbrev pub function_value : Units → ℕ → Function → List Datum → Run Datum
-function_value units now f vs = do
+abbrev pub function_value : Fault → Units → ℕ → Function → List Datum → Run Datum
+function_value missing units now f vs = do
   s ← take (begun f.fresh f.inputs vs)
-  e ← exec_all (record { units = units; frame = of_call; body = f.body; image = []; now = now }) f.body.statements s
+  e ← exec_all (record { units = units; frame = of_call; body = f.body; image = []; now = now; missing = missing }) f.body.statements s
   or_fault Index (get (store_of e) (unowned f.name))
 
 -- the values of an instance's members
@@ -51,35 +51,35 @@ standard_call b now at s = do
   take (members_assigned s at (standard.members_of b) (stepped b now vs))
 
 -- a call of a block of the text: its body runs on the instance's variables
-abbrev pub block_call : Units → Store → ℕ → Block → Path → Store → Run Store
-block_call units image now b at s = do
-  e ← exec_all (record { units = units; frame = of_block at; body = b.body; image = image; now = now }) b.body.statements s
+abbrev pub block_call : Fault → Units → Store → ℕ → Block → Path → Store → Run Store
+block_call missing units image now b at s = do
+  e ← exec_all (record { units = units; frame = of_block at; body = b.body; image = image; now = now; missing = missing }) b.body.statements s
   give (store_of e)
 
 -- a function of the text on its arguments
-abbrev pub function_call : Library → Units → ℕ → Name → List Datum → Run Datum
-function_call library units now f vs = do
+abbrev pub function_call : Fault → Library → Units → ℕ → Name → List Datum → Run Datum
+function_call missing library units now f vs = do
   g ← or_fault Index (function_in library.functions f)
-  function_value units now g vs
+  function_value missing units now g vs
 
 -- a block on its instance: a standard one, or one of the text
-abbrev pub instance_call : Library → Store → Units → ℕ → Name → Option standard.Block → Path → Store → Run Store
-instance_call library image units now b (Some k) at s = standard_call k now at s
-instance_call library image units now b None at s = do
+abbrev pub instance_call : Fault → Library → Store → Units → ℕ → Name → Option standard.Block → Path → Store → Run Store
+instance_call missing library image units now b (Some k) at s = standard_call k now at s
+instance_call missing library image units now b None at s = do
   c ← or_fault Index (block_in library.blocks b)
-  block_call units image now c at s
+  block_call missing units image now c at s
 
 -- what the units of a text do, where those that they call do this
-abbrev pub units_over : Library → Store → ℕ → Units → Units
-units_over library image now units = record {
-  functions = function_call library units now;
-  blocks = λ b. instance_call library image units now b (block_of b);
+abbrev pub units_over : Fault → Library → Store → ℕ → Units → Units
+units_over missing library image now units = record {
+  functions = function_call missing library units now;
+  blocks = λ b. instance_call missing library image units now b (block_of b);
 }
 
 -- The units of a text, with calls at most n deep. Each call stands in a statement, which took a tick.
-unfoldable pub units_within : Library → Store → ℕ → ℕ → Units
-units_within library image now zero = record { functions = λ f vs. fault Budget; blocks = λ b at s. fault Budget }
-units_within library image now (suc n) = units_over library image now (units_within library image now n)
+unfoldable pub units_within : Fault → Library → Store → ℕ → ℕ → Units
+units_within missing library image now zero = record { functions = λ f vs. fault Budget; blocks = λ b at s. fault Budget }
+units_within missing library image now (suc n) = units_over missing library image now (units_within missing library image now n)
 
 -- a program as its runs need it: the units of its text, its instance and its body
 pub record Program : Type 0 where
@@ -87,13 +87,27 @@ pub record Program : Type 0 where
   pub owner : Owner
   pub body : Body
 
--- where the program's body runs, with calls at most n deep
-abbrev pub scope_of : Program → Store → ℕ → ℕ → Scope
-scope_of p image now n = record { units = units_within p.library image now n; frame = of_program p.owner; body = p.body; image = image; now = now }
+-- where the program's body runs, with calls at most n deep, and with this fault where a name has no value
+abbrev pub scope_where : Fault → Program → Store → ℕ → ℕ → Scope
+scope_where missing p image now n = record {
+  units = units_within missing p.library image now n;
+  frame = of_program p.owner;
+  body = p.body;
+  image = image;
+  now = now;
+  missing = missing;
+}
 
--- the program's statements with a budget of ticks
+-- the program's statements with a budget of ticks, and with this fault where a name has no value
+unfoldable pub ran_where : Fault → Program → Store → ℕ → ℕ → Store → Result (End × ℕ) Fault
+ran_where missing p image now budget s = exec_all (scope_where missing p image now budget) p.body.statements s budget
+
+-- F3 stands where a name has no value
+abbrev pub scope_of : Program → Store → ℕ → ℕ → Scope
+scope_of = scope_where Index
+
 unfoldable pub ran : Program → Store → ℕ → ℕ → Store → Result (End × ℕ) Fault
-ran p image now budget s = exec_all (scope_of p image now budget) p.body.statements s budget
+ran = ran_where Index
 
 abbrev pub outcome_in : Result (End × ℕ) Fault → Outcome
 outcome_in (Ok r) = Done

@@ -3,15 +3,17 @@
 ghost use Rattle.std.specs.Prelude.{◌≡◌, ◌∷◌, [], Ok, Err, Some, None, pos, negsuc, codes, true, false};
 ghost use Rattle.st_words.specs.declared.kind.Kind.TheVariants.{Int, Dint, Sint, Usint, Lint, Byte, Lword, Bool};
 ghost use Rattle.st_words.specs.declared.fault.Fault.TheVariants.{Range, DivisionByZero, Conversion, Budget, ZeroStep};
-ghost use Rattle.st_words.specs.declared.operator.BinaryOperator.TheVariants.{And, Equal, Divide, Modulo, Add};
-ghost use Rattle.st_trees.specs.Expressions.{binary, call, exprs_of};
+ghost use Rattle.st_words.specs.declared.operator.BinaryOperator.TheVariants.{And, Equal, Divide, Modulo, Add, Multiply};
+ghost use Rattle.st_trees.specs.Expressions.{binary, call, exprs_of, read};
+ghost use Rattle.st_trees.specs.Statements.{assign, invoke};
+ghost use Rattle.st_types.specs.Scopes.{unowned};
 ghost use Rattle.st_types.specs.Operators.{apply, value_of_literal};
 ghost use Rattle.st_words.specs.declared.literal.Literal.TheVariants as literals;
 ghost use Rattle.st_types.specs.Resolution.{resolved_expr};
 ghost use Rattle.st_types.specs.StandardFunctions.{standard_value, standard_of, ABS, CONVERT, SHL, SHR, ROL, ROR};
 ghost use Rattle.st_types.specs.StandardBlocks.{TON, TOF, TP, F_TRIG, CTU, CTUD};
 ghost use Rattle.st_types.specs.Loops.{goes_on};
-ghost use Rattle.st_types.specs.Examples.{ran_with, outcome_with, after_with, variables, datum, set, number, name, truth, while_to_3, to_the_end, to_3, by_0, exit_at_3, repeat_to_3, square, squared, outputs_of, fresh_members, timed, q_et, bool, int, untyped, identifier, three_variables, its_text, I, K, X, Y, Z};
+ghost use Rattle.st_types.specs.Examples.{ran_with, outcome_with, after_with, variables, datum, set, number, name, truth, while_to_3, to_the_end, to_3, by_0, exit_at_3, repeat_to_3, square, squared, outputs_of, fresh_members, timed, q_et, bool, int, untyped, identifier, three_variables, its_text, Asks, element, element_of_a, if_then, faulting, assigned_if_c, A, C, I, K, P, X, Y, Z};
 
 use crate::entry::Outcome;
 
@@ -26,7 +28,7 @@ pub fn division()
 {}
 
 /// A fault undoes what the run had assigned: `x := 5; y := y + 1;` with y an INT of 32767, and `y := 10 / d;`.
-#[tactic(auto, unfolding(crate::specs::Runs::ran, crate::specs::Runs::outcome_of, crate::specs::Runs::store_after, crate::specs::Runs::units_within))]
+#[tactic(auto, unfolding(crate::specs::Runs::ran, crate::specs::Runs::ran_where, crate::specs::Runs::outcome_of, crate::specs::Runs::store_after, crate::specs::Runs::units_within))]
 pub fn faults()
     ensures leaves_the_type { outcome_with [] (set X (number Int (pos 5)) ∷ set Y (binary Add (name Y) (number Int (pos 1))) ∷ []) ((X, int (pos 0)) ∷ (Y, int (pos 32767)) ∷ []) ≡ Outcome.Faulted Range }
     ensures undone { after_with [] (set X (number Int (pos 5)) ∷ set Y (binary Add (name Y) (number Int (pos 1))) ∷ []) ((X, int (pos 0)) ∷ (Y, int (pos 32767)) ∷ []) ≡ variables ((X, int (pos 0)) ∷ (Y, int (pos 32767)) ∷ []) }
@@ -36,7 +38,7 @@ pub fn faults()
 {}
 
 /// A WHILE of three turns needs 8 ticks, and a REPEAT of three turns 6.
-#[tactic(auto, unfolding(crate::specs::Runs::ran, crate::specs::Runs::units_within, crate::specs::Loops::looped, crate::specs::Loops::turns, crate::specs::Loops::guarded, crate::specs::Loops::until, crate::specs::Evaluation::truth_of))]
+#[tactic(auto, unfolding(crate::specs::Runs::ran, crate::specs::Runs::ran_where, crate::specs::Runs::units_within, crate::specs::Loops::looped, crate::specs::Loops::turns, crate::specs::Loops::guarded, crate::specs::Loops::until, crate::specs::Evaluation::truth_of))]
 pub fn loops_with_conditions()
     ensures budget_of_8 { ran_with [] 8 while_to_3 ((I, int (pos 0)) ∷ []) ≡ Ok (goes_on (variables ((I, int (pos 3)) ∷ [])), 0) }
     ensures budget_of_7 { ran_with [] 7 while_to_3 ((I, int (pos 0)) ∷ []) ≡ Err Budget }
@@ -45,7 +47,7 @@ pub fn loops_with_conditions()
 {}
 
 /// A FOR ends at the end of its type with the variable unchanged, else with the variable past the limit.
-#[tactic(auto, unfolding(crate::specs::Runs::ran, crate::specs::Runs::units_within, crate::specs::Loops::looped, crate::specs::Loops::turns, crate::specs::Loops::guarded, crate::specs::Loops::runs_on, crate::specs::Loops::step_on, crate::specs::Evaluation::truth_of))]
+#[tactic(auto, unfolding(crate::specs::Runs::ran, crate::specs::Runs::ran_where, crate::specs::Runs::units_within, crate::specs::Loops::looped, crate::specs::Loops::turns, crate::specs::Loops::guarded, crate::specs::Loops::runs_on, crate::specs::Loops::step_on, crate::specs::Evaluation::truth_of))]
 pub fn loops_with_a_variable()
     ensures end_of_type { ran_with [] 17 to_the_end ((I, int (pos 0)) ∷ (K, int (pos 0)) ∷ []) ≡ Ok (goes_on (variables ((I, int (pos 32767)) ∷ (K, int (pos 8)) ∷ [])), 0) }
     ensures past_the_limit { ran_with [] 100 to_3 ((I, int (pos 0)) ∷ []) ≡ Ok (goes_on (variables ((I, int (pos 4)) ∷ [])), 93) }
@@ -100,7 +102,7 @@ pub fn edges_and_counters()
 {}
 
 /// A function of the text runs on variables of its own: `y := Sq(46340);` takes 2 ticks, and the square of 46341 is no DINT.
-#[tactic(auto, unfolding(crate::specs::Runs::ran, crate::specs::Runs::units_within, crate::specs::StandardFunctions::standard_of, crate::specs::StandardFunctions::standard_functions))]
+#[tactic(auto, unfolding(crate::specs::Runs::ran, crate::specs::Runs::ran_where, crate::specs::Runs::units_within, crate::specs::StandardFunctions::standard_of, crate::specs::StandardFunctions::standard_functions))]
 pub fn function_calls()
     ensures two_ticks { ran_with (square ∷ []) 2 (squared (pos 46340)) ((Y, datum Dint (pos 0)) ∷ []) ≡ Ok (goes_on (variables ((Y, datum Dint (pos 2147395600)) ∷ [])), 0) }
     ensures one_tick { ran_with (square ∷ []) 1 (squared (pos 46340)) ((Y, datum Dint (pos 0)) ∷ []) ≡ Err Budget }
@@ -124,4 +126,39 @@ pub fn untyped_literals()
     // n := MIN(1, 2); and n := MIN(n, 2);
     ensures untyped_arguments { resolved_expr its_text three_variables (Some Int) (call (identifier (codes "MIN")) (exprs_of (untyped (pos 1) ∷ untyped (pos 2) ∷ []))) ≡ call (identifier (codes "MIN")) (exprs_of (number Lint (pos 1) ∷ number Lint (pos 2) ∷ [])) }
     ensures argument_beside_a_typed_one { resolved_expr its_text three_variables (Some Dint) (call (identifier (codes "MIN")) (exprs_of (name (codes "N") ∷ untyped (pos 2) ∷ []))) ≡ call (identifier (codes "MIN")) (exprs_of (name (codes "N") ∷ number Int (pos 2) ∷ [])) }
+{}
+
+/// A run asks for a global's value where it looks it up before it assigns it, whatever becomes of the value.
+pub fn asked_globals()
+    // x := p * 0;
+    ensures without_effect { Asks false (set X (binary Multiply (name P) (number Int (pos 0))) ∷ []) (unowned P) }
+    // IF c THEN x := 1; END_IF;
+    ensures condition { Asks false (if_then (name C) (set X (number Int (pos 1)) ∷ []) ∷ []) (unowned C) }
+    // x := a[p];
+    ensures subscript { Asks false (set X (read (element_of_a (name P))) ∷ []) (unowned P) }
+    ensures element { Asks false (set X (read (element_of_a (name P))) ∷ []) (element (pos 1)) }
+    // a[p] := 1;
+    ensures subscript_of_a_target { Asks false (assign (element_of_a (name P)) (number Int (pos 1)) ∷ []) (unowned P) }
+    // x := p; y := 1 / 0;
+    ensures before_a_fault { Asks false (set X (name P) ∷ faulting ∷ []) (unowned P) }
+    ensures unless_assigned { Asks false assigned_if_c (unowned P) }
+    // x := z;
+    ensures input { Asks false (set X (name Z) ∷ []) (unowned Z) }
+    // i();
+    ensures in_a_block { Asks false (invoke (identifier I) [] ∷ []) (unowned P) }
+{}
+
+/// A run does not ask for a global that it has assigned, that stands where it does not come, or that it only assigns.
+pub fn globals_not_asked()
+    // p := 1; x := p;
+    ensures assigned { Asks false (set P (number Int (pos 1)) ∷ set X (name P) ∷ []) (unowned P) → ⊥ }
+    // IF FALSE THEN x := p; END_IF;
+    ensures in_no_branch { Asks false (if_then (truth false) (set X (name P) ∷ []) ∷ []) (unowned P) → ⊥ }
+    // y := 1 / 0; x := p;
+    ensures behind_a_fault { Asks false (faulting ∷ set X (name P) ∷ []) (unowned P) → ⊥ }
+    ensures assigned_in_a_branch { Asks true assigned_if_c (unowned P) → ⊥ }
+    // x := a[p];
+    ensures other_element { Asks false (set X (read (element_of_a (name P))) ∷ []) (element (pos 0)) → ⊥ }
+    // p := 1;
+    ensures only_assigned { Asks false (set P (number Int (pos 1)) ∷ []) (unowned P) → ⊥ }
 {}

@@ -13,14 +13,15 @@ ghost use Rattle.st_words.specs.declared.fault.Fault.TheVariants.{Index};
 ghost use Rattle.std.specs.Prelude.{length, slice_get};
 ghost use Rattle.st_types.specs.Scopes.{seen};
 ghost use Rattle.st_types.specs.Slots.{Slot, IsLayout, variables_in, inputs_in, written_slot};
-ghost use Rattle.st_types.specs.Stores.{Store, shape_of, IsStore, assigned};
+ghost use Rattle.st_types.specs.Stores.{Store, get, shape_of, all_held, IsStore, assigned};
 ghost use Rattle.st_types.specs.StandardBlocks.{on_delay, off_delay, pulse, set_first, reset_first, up_count, down_count, up_down_count};
 ghost use Rattle.st_types.specs.TimerRuns.{TimerCall, timer_after, WasOnFor};
 ghost use Rattle.st_types.specs.Scopes.{Scope};
-ghost use Rattle.st_types.specs.Evaluation.{value};
+ghost use Rattle.st_types.specs.Evaluation.{value, known};
 ghost use Rattle.st_types.specs.Loops.{End, Turn, turns, looped};
 ghost use Rattle.st_types.specs.Execution.{exec_all};
 ghost use Rattle.st_types.specs.Runs.{Program, ran, scope_of, outcome_of, store_after};
+ghost use Rattle.st_types.specs.Asked.{without_value};
 
 use crate::entry::Outcome;
 
@@ -101,4 +102,13 @@ pub fn paths_and_slots()
     ensures assigned { (layout : List Slot) (vs : List Datum) → IsLayout layout → length layout ≡ length vs → (k : ℕ) (l : Slot) (old v : Datum) → slice_get layout k ≡ Some l → l.is_input ≡ false → slice_get vs k ≡ Some old
         → assigned (variables_in layout vs) l.path v ≡ written_slot layout vs k old v }
     ensures input { (layout : List Slot) (vs : List Datum) → IsLayout layout → (k : ℕ) (l : Slot) (v : Datum) → slice_get layout k ≡ Some l → l.is_input ≡ true → assigned (variables_in layout vs) l.path v ≡ Err Index }
+{}
+
+/// Where an image and a store hold their values, a look-up finds each of them. A store without a value has the same variables with the
+/// same types and the same other values; a look-up finds the value that was taken away no more.
+pub fn values_that_are_not_there()
+    ensures none { (image s : Store) (p : Path) → all_held image ≡ true → all_held s ≡ true → known (seen image s p) ≡ seen image s p }
+    ensures shape { (s : Store) (p : Path) → shape_of (without_value s p) ≡ shape_of s }
+    ensures gone { (s : Store) (p : Path) → known (get (without_value s p) p) ≡ None }
+    ensures others { (s : Store) (p q : Path) → same_path p q ≡ false → get (without_value s p) q ≡ get s q }
 {}

@@ -8,14 +8,14 @@ mod schedules;
 
 pub use entry::{Activation, Entry, Outcome, Row};
 pub use examples::{
-    division, edges_and_counters, faults, function_calls, loops_with_a_variable,
-    loops_with_conditions, names_of_standard_functions, standard_functions, timers,
-    untyped_literals,
+    asked_globals, division, edges_and_counters, faults, function_calls, globals_not_asked,
+    loops_with_a_variable, loops_with_conditions, names_of_standard_functions, standard_functions,
+    timers, untyped_literals,
 };
 pub use laws::{
     bistables, bounds_of_recursion, budgets, counters_stay_within_their_type,
     faults_change_nothing, on_delay_waits, operands_are_all_evaluated, paths_and_slots,
-    paths_are_compared, timers_stop_at_their_time, variables_stay,
+    paths_are_compared, timers_stop_at_their_time, values_that_are_not_there, variables_stay,
 };
 pub use schedules::{
     intervals, logs_grow_by_one_step, one_activation_waits,
