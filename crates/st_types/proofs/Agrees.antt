@@ -107,15 +107,15 @@ units_agree missing library image now (suc t) (suc n) zero le le' = absurd (omeg
 units_agree missing library image now (suc t) (suc n) (suc m) le le' =
     let u = units_agree missing library image now t n m (omega arith) (omega arith) in
     record {
-      functions = functions_q (Agrees t) (Agrees (suc t)) (agrees_closed t) missing library image now (units_within missing library image now n) (units_within missing library image now m) u.functions u.blocks;
-      blocks = λ b. instances_q (Agrees t) (Agrees (suc t)) (agrees_closed t) missing library image now (units_within missing library image now n) (units_within missing library image now m) u.functions u.blocks b (block_of b);
+      functions = functions_q (Agrees t) (Agrees (suc t)) (agrees_closed t) missing missing library image now (units_within missing library image now n) (units_within missing library image now m) u.functions u.blocks (agrees_fault t missing);
+      blocks = λ b. instances_q (Agrees t) (Agrees (suc t)) (agrees_closed t) missing missing library image now (units_within missing library image now n) (units_within missing library image now m) u.functions u.blocks (agrees_fault t missing) b (block_of b);
     }
 
 pub ran_agrees : (p : Program) (image : Store) (now b n : ℕ) (s : Store) → b ≤ n → ran p image now b s ≡ exec_all (scope_of p image now n) p.body.statements s b
 unfolding ran ran_where
 ran_agrees p image now b n s le =
     let u = units_agree Index p.library image now b b n (omega arith) le in
-    (exec_all_q (Agrees b) (Agrees (suc b)) (agrees_closed b) (scope_of p image now b) (units_within Index p.library image now n) u.functions u.blocks p.body.statements s).same b (omega arith)
+    (exec_all_q (Agrees b) (Agrees (suc b)) (agrees_closed b) (scope_of p image now b) (units_within Index p.library image now n) Index u.functions u.blocks (agrees_fault b Index) p.body.statements s).same b (omega arith)
 
 -- a loop whose turns never give ticks back needs no more turns than it has ticks
 module _ (turn : Store → Run Turn) (step : Store → Option Store) (falls : (s : Store) (b : ℕ) (t : Turn) (c : ℕ) → turn s b ≡ Ok (t, c) → c ≤ b) where

@@ -116,15 +116,15 @@ units_last missing library image now (suc n) zero le = absurd (omega arith)
 units_last missing library image now (suc n) (suc m) le =
     let u = units_last missing library image now n m (omega arith) in
     record {
-      functions = functions_q Lasts Lasts lasts_closed missing library image now (units_within missing library image now n) (units_within missing library image now m) u.functions u.blocks;
-      blocks = λ b. instances_q Lasts Lasts lasts_closed missing library image now (units_within missing library image now n) (units_within missing library image now m) u.functions u.blocks b (block_of b);
+      functions = functions_q Lasts Lasts lasts_closed missing missing library image now (units_within missing library image now n) (units_within missing library image now m) u.functions u.blocks (lasts_fault missing);
+      blocks = λ b. instances_q Lasts Lasts lasts_closed missing missing library image now (units_within missing library image now n) (units_within missing library image now m) u.functions u.blocks (lasts_fault missing) b (block_of b);
     }
 
 -- the statements of a program, with calls at most n deep and with deeper ones
 pub program_lasts : (p : Program) (image : Store) (now n m : ℕ) → n ≤ m → (xs : Stmts) (s : Store) → Lasts End (exec_all (scope_of p image now n) xs s) (exec_all (scope_of p image now m) xs s)
 program_lasts p image now n m le xs s =
     let u = units_last Index p.library image now n m le in
-    exec_all_q Lasts Lasts lasts_closed (scope_of p image now n) (units_within Index p.library image now m) u.functions u.blocks xs s
+    exec_all_q Lasts Lasts lasts_closed (scope_of p image now n) (units_within Index p.library image now m) Index u.functions u.blocks (lasts_fault Index) xs s
 
 pub ran_falls : (p : Program) (image : Store) (now b : ℕ) (s : Store) (e : End) (c : ℕ) → ran p image now b s ≡ Ok (e, c) → c ≤ b
 unfolding ran ran_where

@@ -1,4 +1,5 @@
 pub mod Agrees
+pub mod Alike
 pub mod AskedLemmas
 pub mod DueLemmas
 pub mod Lasts

@@ -1,4 +1,4 @@
--- Two runs of one tree, whose calls are related, are related. P is a relation of runs, and Q is P before the tick that a statement takes.
+-- Two runs of one tree, whose calls and whose faults for what has no value are related, are related. P is a relation of runs, and Q is P before the tick that a statement takes.
 use Rattle.std.proofs.Common.{ℕ, zero, ℤ, pos, Bool, true, false, if◌then◌else◌, List, [], ◌∷◌, Option, Some, None, Result, Ok, Err}
 use Rattle.std.specs.List.{list_any}
 use Rattle.st_words.specs.declared.fault.Fault.{Fault}
@@ -34,13 +34,14 @@ pub record IsClosed (P Q : (A : Type 0) → Run A → Run A → Type 0) : Type 1
 module _
     (P Q : (A : Type 0) → Run A → Run A → Type 0)
     (closed : IsClosed P Q)
-    (w : Scope) (units : Units)
+    (w : Scope) (units : Units) (missing : Fault)
     (functions : (f : Name) (vs : List Datum) → P Datum (w.units.functions f vs) (units.functions f vs))
     (blocks : (b : Name) (at : Path) (s : Store) → P Store (w.units.blocks b at s) (units.blocks b at s))
+    (lacks : P Datum (fault w.missing) (fault missing))
   where
-    -- the same place with the other units
+    -- the same place with the other units and the other fault
     abbrev other : Scope
-    other = record { units = units; frame = w.frame; body = w.body; image = w.image; now = w.now; missing = w.missing }
+    other = record { units = units; frame = w.frame; body = w.body; image = w.image; now = w.now; missing = missing }
 
     p_give : {A : Type 0} (a : A) → P A (give a) (give a)
     p_give a = closed.gives a
@@ -59,6 +60,10 @@ module _
     p_or e (Some a) = p_give a
     p_or e None = p_fault e
 
+    p_known : (o : Option Datum) → P Datum (or_fault w.missing o) (or_fault missing o)
+    p_known (Some v) = p_give v
+    p_known None = lacks
+
     p_bounded : (s : Store) (p : Path) (b : Bool) → P Path (if b then give p else fault Index) (if b then give p else fault Index)
     p_bounded s p true = p_give p
     p_bounded s p false = p_fault Index
@@ -70,7 +75,7 @@ module _
     mutual
       value_p : (s : Store) (e : Expr) → P Datum (value w s e) (value other s e)
       value_p s (literal l) = p_take (value_of_literal l)
-      value_p s (read v) = p_then (place_p s v) (λ p. p_or w.missing (known (seen w.image s p)))
+      value_p s (read v) = p_then (place_p s v) (λ p. p_known (known (seen w.image s p)))
       value_p s (call f es) = p_then (values_p s es) (λ vs. p_called (standard_of f.name) f.name vs)
       value_p s (parenthesis at e) = value_p s e
       value_p s (unary op at e) = p_then (value_p s e) (λ x. p_take (apply_unary op x))
@@ -181,9 +186,10 @@ module _
 module _
     (P Q : (A : Type 0) → Run A → Run A → Type 0)
     (closed : IsClosed P Q)
-    (missing : Fault) (library : Library) (image : Store) (now : ℕ) (units units' : Units)
+    (missing missing' : Fault) (library : Library) (image : Store) (now : ℕ) (units units' : Units)
     (functions : (f : Name) (vs : List Datum) → P Datum (units.functions f vs) (units'.functions f vs))
     (blocks : (b : Name) (at : Path) (s : Store) → P Store (units.blocks b at s) (units'.blocks b at s))
+    (lacks : P Datum (fault missing) (fault missing'))
   where
     q_take : {A : Type 0} (r : Result A Fault) → Q A (take r) (take r)
     q_take (Ok a) = closed.begins a
@@ -193,21 +199,21 @@ module _
     q_or e (Some a) = closed.begins a
     q_or e None = closed.stops e
 
-    body_q : (frame : Frame) (body : Body) (seen : Store) (s : Store) → Q End (exec_all (record { units = units; frame = frame; body = body; image = seen; now = now; missing = missing }) body.statements s) (exec_all (record { units = units'; frame = frame; body = body; image = seen; now = now; missing = missing }) body.statements s)
-    body_q frame body seen s = exec_all_q P Q closed (record { units = units; frame = frame; body = body; image = seen; now = now; missing = missing }) units' functions blocks body.statements s
+    body_q : (frame : Frame) (body : Body) (seen : Store) (s : Store) → Q End (exec_all (record { units = units; frame = frame; body = body; image = seen; now = now; missing = missing }) body.statements s) (exec_all (record { units = units'; frame = frame; body = body; image = seen; now = now; missing = missing' }) body.statements s)
+    body_q frame body seen s = exec_all_q P Q closed (record { units = units; frame = frame; body = body; image = seen; now = now; missing = missing }) units' missing' functions blocks lacks body.statements s
 
-    function_q : (f : Function) (vs : List Datum) → Q Datum (function_value missing units now f vs) (function_value missing units' now f vs)
+    function_q : (f : Function) (vs : List Datum) → Q Datum (function_value missing units now f vs) (function_value missing' units' now f vs)
     function_q f vs = closed.continues (q_take (begun f.fresh f.inputs vs)) (λ s. closed.continues (body_q of_call f.body [] s) (λ e. q_or Index _))
 
-    block_call_q : (b : Block) (at : Path) (s : Store) → Q Store (block_call missing units image now b at s) (block_call missing units' image now b at s)
+    block_call_q : (b : Block) (at : Path) (s : Store) → Q Store (block_call missing units image now b at s) (block_call missing' units' image now b at s)
     block_call_q b at s = closed.continues (body_q (of_block at) b.body image s) (λ e. closed.begins (store_of e))
 
     standard_q : (k : standard.Block) (at : Path) (s : Store) → Q Store (standard_call k now at s) (standard_call k now at s)
     standard_q k at s = closed.continues (q_or Index (member_values s at (members_of k))) (λ vs. q_take (members_assigned s at (members_of k) (stepped k now vs)))
 
-    pub functions_q : (f : Name) (vs : List Datum) → Q Datum (function_call missing library units now f vs) (function_call missing library units' now f vs)
+    pub functions_q : (f : Name) (vs : List Datum) → Q Datum (function_call missing library units now f vs) (function_call missing' library units' now f vs)
     functions_q f vs = closed.continues (q_or Index (function_in library.functions f)) (λ g. function_q g vs)
 
-    pub instances_q : (b : Name) (o : Option standard.Block) (at : Path) (s : Store) → Q Store (instance_call missing library image units now b o at s) (instance_call missing library image units' now b o at s)
+    pub instances_q : (b : Name) (o : Option standard.Block) (at : Path) (s : Store) → Q Store (instance_call missing library image units now b o at s) (instance_call missing' library image units' now b o at s)
     instances_q b (Some k) at s = standard_q k at s
     instances_q b None at s = closed.continues (q_or Index (block_in library.blocks b)) (λ c. block_call_q c at s)

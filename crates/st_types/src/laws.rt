@@ -1,6 +1,6 @@
 //! Laws of what programs mean, each proved of the definitions. The functions do nothing: their contracts are the laws.
 
-ghost use Rattle.std.specs.Prelude.{◌≡◌, ◌+◌, ◌<◌, ◌≤◌, ◌≤ℤ◌, ◌∷◌, ◌++◌, [], ℕ, ℤ, pos, List, Bool, true, false, Option, Result, Ok, Err, Some, None};
+ghost use Rattle.std.specs.Prelude.{◌≡◌, ◌+◌, ◌<◌, ◌≤◌, ◌≤ℤ◌, ◌∷◌, ◌++◌, [], ℕ, ℤ, pos, List, Bool, true, false, Option, Result, Ok, Err, Some, None, IsSome, ◌⊎◌};
 ghost use Rattle.st_words.specs.declared.fault.Fault.{Fault};
 ghost use Rattle.st_words.specs.declared.fault.Fault.TheVariants.{Budget};
 ghost use Rattle.st_words.specs.declared.kind.Kind.TheVariants.{Int};
@@ -20,8 +20,8 @@ ghost use Rattle.st_types.specs.Scopes.{Scope};
 ghost use Rattle.st_types.specs.Evaluation.{value, known};
 ghost use Rattle.st_types.specs.Loops.{End, Turn, turns, looped};
 ghost use Rattle.st_types.specs.Execution.{exec_all};
-ghost use Rattle.st_types.specs.Runs.{Program, ran, scope_of, outcome_of, store_after};
-ghost use Rattle.st_types.specs.Asked.{without_value};
+ghost use Rattle.st_types.specs.Runs.{Program, ran, scope_of, outcome_of, store_after, ran_where};
+ghost use Rattle.st_types.specs.Asked.{IsAsked, without_value};
 
 use crate::entry::Outcome;
 
@@ -111,4 +111,15 @@ pub fn values_that_are_not_there()
     ensures shape { (s : Store) (p : Path) → shape_of (without_value s p) ≡ shape_of s }
     ensures gone { (s : Store) (p : Path) → known (get (without_value s p) p) ≡ None }
     ensures others { (s : Store) (p q : Path) → same_path p q ≡ false → get (without_value s p) q ≡ get s q }
+{}
+
+/// Where a run comes to something that has no value, it ends with the fault that stands for it; else it ends the same way whatever this
+/// fault is. So two faults tell whether a value is asked for.
+pub fn two_faults_tell_what_is_asked()
+    ensures ends { (f g : Fault) (p : Program) (image : Store) (now budget : ℕ) (s : Store)
+        → (ran_where f p image now budget s ≡ ran_where g p image now budget s) ⊎ ((ran_where f p image now budget s ≡ Err f) × (ran_where g p image now budget s ≡ Err g)) }
+    ensures asked { (f g : Fault) (program : Program) (budget : ℕ) (s image : Store) (now : ℕ) (p : Path) → (f ≡ g → ⊥) → p.owner ≡ None → IsSome (seen image s p)
+        → ran_where f program (without_value image p) now budget (without_value s p) ≡ Err f
+        → ran_where g program (without_value image p) now budget (without_value s p) ≡ Err g
+        → IsAsked program budget s image now p }
 {}

@@ -15,7 +15,8 @@ pub use examples::{
 pub use laws::{
     bistables, bounds_of_recursion, budgets, counters_stay_within_their_type,
     faults_change_nothing, on_delay_waits, operands_are_all_evaluated, paths_and_slots,
-    paths_are_compared, timers_stop_at_their_time, values_that_are_not_there, variables_stay,
+    paths_are_compared, timers_stop_at_their_time, two_faults_tell_what_is_asked,
+    values_that_are_not_there, variables_stay,
 };
 pub use schedules::{
     intervals, logs_grow_by_one_step, one_activation_waits,

@@ -1,0 +1,8 @@
+use Rattle.st_types.proofs.Alike.{ran_alike, asked_by_two}
+use Rattle.st_types.proofs.laws.two_faults_tell_what_is_asked.Goals as goal
+
+pub returns-clause-ends : goal.returns-clause-ends
+returns-clause-ends c = ran_alike
+
+pub returns-clause-asked : goal.returns-clause-asked
+returns-clause-asked c = asked_by_two
