@@ -5,7 +5,7 @@ use Rattle.std.proofs.Math.Seq.{get_or-append_seam}
 use Rattle.std.proofs.lemmas.List.Sums.{fold-append}
 use Rattle.std.proofs.lemmas.Bool.Decides.{nat_tests, eqb_tells, leb_tells}
 use Rattle.st_types.specs.declared.entry.Activation.{Activation}
-use Rattle.st_types.specs.Plans.{Place}
+use Rattle.st_types.specs.declared.plan.Place.{Place}
 use Rattle.st_types.specs.Due.{Tick, Served, History, sample, tick_at, rule, is_due, place_at, due, last_served, served, one_more, run_count, due_count, Waits, no_history, with_tick, with_run}
 
 and_false : (b : Bool) → (b && false) ≡ false

@@ -1,7 +1,7 @@
 -- Lemmas on overruns.
 use Rattle.std.proofs.Common.{◌≡◌, ℕ, zero, suc, ◌+◌, ◌<◌, ◌≤◌, ◌==◌, inl, inr, Bool, true, false, if◌then◌else◌, List, [], ◌∷◌, length, refl, sym, ap, ◌∙◌, arith, length-append}
 use Rattle.std.proofs.lemmas.Bool.Decides.{nat_tests, eqb_tells}
-use Rattle.st_types.specs.Plans.{Place}
+use Rattle.st_types.specs.declared.plan.Place.{Place}
 use Rattle.st_types.specs.Due.{Tick, History, due, served, run_count, due_count, Waits, HasOverruns, no_history, with_tick, with_run}
 use Rattle.st_types.proofs.DueLemmas.{due-there, due-old, due_count-new, run_count-add, done_waits_no_more}
 

@@ -1,7 +1,7 @@
 -- When a program is due, what waits, and what runs first.
 use Rattle.std.specs.Prelude.{◌≡◌, ℕ, zero, suc, ◌+◌, ◌-◌, ◌/◌, ◌<◌, ◌≤◌, ◌==◌, nat_lt, Bool, true, false, not, ◌&&◌, ◌||◌, if◌then◌else◌, List, [], ◌∷◌, ◌++◌, length, fold, slice_index_or}
 use Rattle.st_types.specs.declared.entry.Activation.{Activation}
-use Rattle.st_types.specs.Plans.{Place}
+use Rattle.st_types.specs.declared.plan.Place.{Place}
 
 -- a row's moment, with the sample of SINGLE for each task
 pub record Tick : Type 0 where

@@ -8,20 +8,12 @@ use Rattle.st_words.specs.Kinds.{same_kind, holds}
 use Rattle.st_words.specs.Values.{Datum, is_true}
 use Rattle.st_words.specs.Paths.{Path, same_path}
 use Rattle.st_types.specs.Stores.{Store, get}
+use Rattle.st_types.specs.declared.plan.PlanVariable.{PlanVariable}
+use Rattle.st_types.specs.declared.plan.PlanInput.{PlanInput}
+use Rattle.st_types.specs.declared.plan.Place.{Place}
 use Rattle.st_types.specs.Rows.{Latch}
 use Rattle.st_types.specs.Runs as runs
 use Rattle.st_types.specs.Runs.{outcome_of, store_after}
-
--- a variable of the layout that is no input: its path, the value that it starts with, and whether it is kept over a power failure
-pub record Variable : Type 0 where
-  pub path : Path
-  pub initial : Datum
-  pub retained : Bool
-
--- an input of the plant
-pub record Input : Type 0 where
-  pub path : Path
-  pub kind : Kind
 
 -- what makes a task due beside its interval: its SINGLE is absent, an input or a global
 pub data Trigger : Type 0 where
@@ -42,8 +34,8 @@ pub record Program : Type 0 where
   pub code : runs.Program
 
 pub record Plan : Type 0 where
-  pub variables : List Variable
-  pub inputs : List Input
+  pub variables : List PlanVariable
+  pub inputs : List PlanInput
   pub resources : ℕ
   pub tasks : List Task
   pub programs : List Program
@@ -77,13 +69,13 @@ abbrev pub initial_image : Plan → Store
 initial_image plan = map (λ i. (i.path, initial_value i.kind None)) plan.inputs
 
 -- the inputs of the plant at a row
-abbrev pub image_of : List Input → List Datum → Store
+abbrev pub image_of : List PlanInput → List Datum → Store
 image_of [] vs = []
 image_of (i ∷ is) [] = []
 image_of (i ∷ is) (v ∷ vs) = (i.path, v) ∷ image_of is vs
 
 -- a value that its type holds for each input
-abbrev pub holds_each : List Input → List Datum → Bool
+abbrev pub holds_each : List PlanInput → List Datum → Bool
 holds_each [] [] = true
 holds_each (i ∷ is) (v ∷ vs) = same_kind i.kind v.kind && (holds v.kind v.number && holds_each is vs)
 holds_each [] (v ∷ vs) = false
@@ -92,13 +84,6 @@ holds_each (i ∷ is) [] = false
 -- a row has a value of its type for each input of the plan, and its moment is in its limit
 abbrev pub fits : Plan → Latch → Bool
 fits plan row = holds_each plan.inputs row.image && nat_lt row.moment (2 ^ 62)
-
--- where and how often an instance runs
-pub record Place : Type 0 where
-  pub resource : ℕ
-  pub task : ℕ
-  pub interval : ℕ
-  pub priority : ℕ
 
 abbrev pub task_at : List Task → ℕ → Task
 task_at tasks t = slice_index_or tasks t record { single = no_single; interval = 0; priority = 0 }

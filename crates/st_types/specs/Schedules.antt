@@ -1,6 +1,6 @@
 -- Words for worked examples of what is due.
 use Rattle.std.specs.Prelude.{ℕ, zero, suc, List, [], ◌∷◌, ◌++◌, length, Bool, true, false}
-use Rattle.st_types.specs.Plans.{Place}
+use Rattle.st_types.specs.declared.plan.Place.{Place}
 use Rattle.st_types.specs.declared.entry.Activation.{Activation}
 use Rattle.st_types.specs.Due.{Tick, History, due, with_run}
 

@@ -4,6 +4,8 @@
 mod entry;
 mod examples;
 mod laws;
+mod literals;
+mod plan;
 mod schedules;
 
 pub use entry::{Activation, Entry, Outcome, Row};
@@ -18,6 +20,8 @@ pub use laws::{
     paths_are_compared, timers_stop_at_their_time, two_faults_tell_what_is_asked,
     values_that_are_not_there, variables_stay,
 };
+pub use literals::{number_of, value_of_number};
+pub use plan::{Place, PlanInput, PlanVariable};
 pub use schedules::{
     intervals, logs_grow_by_one_step, one_activation_waits,
     overruns_are_rows_that_meet_a_waiting_program, served_for_good, single_and_interval,

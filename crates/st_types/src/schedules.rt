@@ -3,7 +3,8 @@
 ghost use Rattle.std.specs.Prelude.{◌≡◌, ℕ, ◌+◌, ◌<◌, ◌≤◌, ◌∷◌, ◌++◌, [], List, length, Bool, true, false};
 ghost use Rattle.st_types.specs.declared.entry.Entry.{Entry};
 ghost use Rattle.st_types.specs.Stores.{Store};
-ghost use Rattle.st_types.specs.Plans.{Place, Plan};
+ghost use Rattle.st_types.specs.declared.plan.Place.{Place};
+ghost use Rattle.st_types.specs.Plans.{Plan};
 ghost use Rattle.st_types.specs.Due.{History, due, served, Waits, IsBest, NoneWaits, HasOverruns, no_history, with_tick, with_run};
 ghost use Rattle.st_types.specs.Logs.{past_of, with_entry};
 ghost use Rattle.st_types.specs.Schedules.{every, ticks_at, dues, three_programs, four_rows, of, ran_3, ran_3_1, ran_all};

@@ -1,0 +1,11 @@
+pub mod CheckLemmas
+pub mod PlanLemmas
+pub mod RecordLemmas
+pub mod FillLemmas
+pub mod StatementLemmas
+pub mod ResolveLemmas
+pub mod ExternalLemmas
+pub mod PlainLemmas
+pub mod ThinLemmas
+pub mod PlaceLemmas
+pub mod SoundLemmas

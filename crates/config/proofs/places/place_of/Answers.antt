@@ -1,0 +1,9 @@
+use Rattle.std.proofs.Common.{sym}
+use Rattle.config.proofs.PlaceLemmas.{variable_place, input_place}
+use Rattle.config.proofs.places.place_of.Goals as goal
+
+pub returns-in-Some : goal.returns-in-Some
+returns-in-Some c = variable_place c.args.variables.now c.args.inputs.now c.args.name.now c.in-Some.slot (sym c.in-Some.ensures)
+
+pub returns : goal.returns
+returns c = input_place c.args.variables.now c.args.inputs.now c.args.name.now c.in_ok-input.input (sym c.in_ok-input.ensures)

@@ -1,0 +1,8 @@
+pub mod Thin
+pub mod Sound
+pub mod PlanViews
+pub mod ThinPlans
+pub mod RecordLengths
+pub mod Filled
+pub mod Places
+pub mod ThinParts

@@ -1,0 +1,36 @@
+-- The plan that the code's plan stands for.
+use Rattle.std.specs.Prelude.{List, map, slice_get, Option, Some, None}
+use Rattle.st_types.specs.declared.plan.PlanVariable.{PlanVariable}
+use Rattle.st_types.specs.Plans as plans
+use Rattle.st_types.specs.Plans.{no_single, single_input, single_global}
+use Rattle.slot_code.specs.Codes.{text_of, program_of}
+use Rattle.config.specs.declared.task.Trigger.{Trigger}
+use Rattle.config.specs.declared.task.Trigger.TheVariants.{Absent, Input, Variable}
+use Rattle.config.specs.declared.task.Task.{Task}
+use Rattle.config.specs.declared.task.Program.{Program}
+use Rattle.config.specs.declared.plan.Plan.{Plan}
+
+abbrev pub single_of : Option PlanVariable → plans.Trigger
+single_of None = no_single
+single_of (Some v) = single_global v.path
+
+abbrev pub trigger_view : List PlanVariable → Trigger → plans.Trigger
+trigger_view variables Absent = no_single
+trigger_view variables (Input i) = single_input i
+trigger_view variables (Variable k) = single_of (slice_get variables k)
+
+abbrev pub task_view : List PlanVariable → Task → plans.Task
+task_view variables t = record { single = trigger_view variables t.single; interval = t.interval; priority = t.priority }
+
+abbrev pub program_view : Program → plans.Program
+program_view p = record { resource = p.resource; task = p.task; code = program_of (text_of p.code.value) }
+
+abbrev pub plan_view : Plan → plans.Plan
+plan_view plan = record {
+  variables = plan.variables.items;
+  inputs = plan.inputs.items;
+  resources = plan.resources;
+  tasks = map (task_view plan.variables.items) plan.tasks.items;
+  programs = map program_view plan.programs.items;
+  budget = plan.budget;
+}

@@ -1,0 +1,67 @@
+-- What the parts of a plan have to do with each other, and their limits.
+use Rattle.std.specs.Prelude.{◌≡◌, ℕ, ◌+◌, ◌<◌, ◌≤◌, ◌==◌, nat_le, List, [], ◌∷◌, length, map, filter, Bool, true, false, not, ◌&&◌, Option, Some, None, slice_get}
+use Rattle.std.specs.List.{list_all}
+use Rattle.st_words.specs.declared.kind.Kind.TheVariants.{Bool as Boolean}
+use Rattle.st_words.specs.Kinds.{same_kind}
+use Rattle.st_types.specs.declared.plan.PlanVariable.{PlanVariable}
+use Rattle.st_types.specs.declared.plan.PlanInput.{PlanInput}
+use Rattle.st_types.specs.Scopes.{Name, contains_name}
+use Rattle.st_types.specs.Slots.{IsLayout}
+use Rattle.st_types.specs.Layouts.{layout_of, path_text, record_length}
+use Rattle.slot_code.specs.Globals.{Fits}
+use Rattle.config.specs.declared.task.Trigger.{Trigger}
+use Rattle.config.specs.declared.task.Trigger.TheVariants.{Absent, Input, Variable}
+use Rattle.config.specs.declared.task.Task.{Task}
+use Rattle.config.specs.declared.task.Program.{Program}
+
+-- each name stands once
+abbrev pub are_different : List Name → Bool
+are_different [] = true
+are_different (x ∷ xs) = not (contains_name xs x) && are_different xs
+
+-- the bytes that a path in a record's layout text may have
+abbrev pub is_spelled : Name → Bool
+is_spelled x = not (length x == 0) && list_all (λ b. nat_le 33 b && nat_le b 126) x
+
+abbrev pub is_boolean_variable : Option PlanVariable → Bool
+is_boolean_variable None = false
+is_boolean_variable (Some v) = same_kind v.initial.kind Boolean
+
+abbrev pub is_boolean_input : Option PlanInput → Bool
+is_boolean_input None = false
+is_boolean_input (Some i) = same_kind i.kind Boolean
+
+-- SINGLE is a BOOL
+abbrev pub is_sound_trigger : List PlanVariable → List PlanInput → Trigger → Bool
+is_sound_trigger variables inputs Absent = true
+is_sound_trigger variables inputs (Input i) = is_boolean_input (slice_get inputs i)
+is_sound_trigger variables inputs (Variable k) = is_boolean_variable (slice_get variables k)
+
+abbrev pub is_of_resource : ℕ → Option Task → Bool
+is_of_resource r None = false
+is_of_resource r (Some t) = t.resource == r
+
+abbrev pub tasks_of : ℕ → List Task → ℕ
+tasks_of r tasks = length (filter (λ t. t.resource == r) tasks)
+
+-- The limits: 4,096 paths, 8 resources with 32 tasks each, 64 programs, 1 to 1,000,000 ticks, a record of 131,059 bytes.
+pub record IsWithinLimits (variables : List PlanVariable) (inputs : List PlanInput) (resources : ℕ) (tasks : List Task) (programs budget : ℕ) : Type 0 where
+  pub paths : length variables + length inputs ≤ 4096
+  pub resources_are : resources ≤ 8
+  pub tasks_each : list_all (λ t. nat_le (tasks_of t.resource tasks) 32) tasks ≡ true
+  pub programs_are : programs ≤ 64
+  pub some_ticks : 1 ≤ budget
+  pub ticks : budget ≤ 1000000
+  pub record_is : record_length variables ≤ 131059
+
+-- Each path has one slot, and the code of each program the slots of the globals that it names; each program runs in a task of its
+-- resource; each path can be spelled in a record, and no two are spelled alike.
+pub record IsSound (variables : List PlanVariable) (inputs : List PlanInput) (resources : ℕ) (tasks : List Task) (programs : List Program) (budget : ℕ) : Type 0 where
+  pub layout : IsLayout (layout_of variables inputs)
+  pub codes : (k : ℕ) (p : Program) → slice_get programs k ≡ Some p → Fits (layout_of variables inputs) p.code.value.globals.items
+  pub resources_are : (k : ℕ) (t : Task) → slice_get tasks k ≡ Some t → t.resource < resources
+  pub places : (k : ℕ) (p : Program) → slice_get programs k ≡ Some p → is_of_resource p.resource (slice_get tasks p.task) ≡ true
+  pub singles : list_all (λ t. is_sound_trigger variables inputs t.single) tasks ≡ true
+  pub spelled : list_all (λ v. is_spelled (path_text v.path)) variables ≡ true
+  pub different : are_different (map (λ v. path_text v.path) variables) ≡ true
+  pub limits : IsWithinLimits variables inputs resources tasks (length programs) budget

@@ -1,0 +1,142 @@
+//! The slots of the globals that a unit names.
+
+ghost use Rattle.std.specs.Prelude.{◌≡◌, ◌++◌, map, true, false, position, slice_get, IfOk, MatchOption};
+ghost use Rattle.std.specs.List.{list_all};
+ghost use Rattle.st_words.specs.Paths.{same_path};
+ghost use Rattle.st_trees.specs.DeclarationViews.{declaration_view, variable_block_view};
+ghost use Rattle.st_types.specs.Scopes.{unowned};
+ghost use Rattle.st_types.specs.Bodies.{is_external, names_of, declared_names, externals_in};
+ghost use Rattle.st_types.specs.Layouts.{layout_of};
+ghost use Rattle.config.specs.Places.{is_named_in, HasPlace, HavePlaces};
+
+use crate::global_path::is_global_of;
+use slot_code::GlobalSlot;
+use st_types::{Declaration, Identifier, Name, PlanInput, PlanVariable, Section, VariableBlock};
+use std::alloc::{AllocError, Global};
+
+fn is_external(section: Section) -> bool
+    ensures { result ≡ is_external section }
+{
+    matches!(section, Section::External | Section::ConstantExternal)
+}
+
+fn push_names(
+    alloc: Global,
+    names: &mut Vec<Name>,
+    identifiers: &[Identifier],
+) -> Result<(), AllocError>
+    ensures { IfOk result (λ done. names.new.items ≡ names.old.items ++ names_of identifiers.now) }
+{
+    for identifier in identifiers {
+        names.push(identifier.name.copied(alloc)?)?;
+    }
+    Ok(())
+}
+
+fn push_declared_names(
+    alloc: Global,
+    names: &mut Vec<Name>,
+    declarations: &[Declaration],
+) -> Result<(), AllocError>
+    ensures { IfOk result (λ done. names.new.items ≡ names.old.items ++ declared_names (map declaration_view declarations.now)) }
+{
+    for declaration in declarations {
+        push_names(alloc, names, &declaration.names)?;
+    }
+    Ok(())
+}
+
+/// The names of the externals, in order.
+pub fn externals_in(alloc: Global, blocks: &[VariableBlock]) -> Result<Vec<Name>, AllocError>
+    ensures { IfOk result (λ names. names.items ≡ externals_in (map variable_block_view blocks.now)) }
+{
+    let mut names = Vec::new(alloc);
+    for block in blocks {
+        if is_external(block.section) {
+            push_declared_names(alloc, &mut names, &block.declarations)?;
+        }
+    }
+    Ok(names)
+}
+
+/// Where a global stands.
+#[derive(Clone, Copy)]
+struct Place {
+    /// The number of its slot in the layout, from 0.
+    slot: usize,
+    /// Whether its value comes from the plant.
+    is_input: bool,
+}
+
+/// The number of the variable of this name.
+fn variable_at(variables: &[PlanVariable], name: &Name) -> Option<usize>
+    ensures { result ≡ position (λ v. same_path (unowned name.now) v.path) variables.now }
+{
+    variables.iter().position(|v| is_global_of(&v.path, name))
+}
+
+/// The number of the input of this name.
+fn input_at(inputs: &[PlanInput], name: &Name) -> Option<usize>
+    ensures { result ≡ position (λ i. same_path (unowned name.now) i.path) inputs.now }
+{
+    inputs.iter().position(|i| is_global_of(&i.path, name))
+}
+
+/// The place of a name: that of a variable, or behind the variables that of an input.
+#[tactic(auto, using(crate::proofs::PlaceLemmas::no_place))]
+fn place_of(variables: &[PlanVariable], inputs: &[PlanInput], name: &Name) -> Option<Place>
+    ensures { MatchOption result
+        (is_named_in variables.now inputs.now name.now ≡ false)
+        (λ place. slice_get (layout_of variables.now inputs.now) place.slot ≡ Some (record { path = unowned name.now; is_input = place.is_input })) }
+{
+    if let Some(slot) = variable_at(variables, name) {
+        return Some(Place {
+            slot,
+            is_input: false,
+        });
+    }
+    let input = input_at(inputs, name)?;
+    Some(Place {
+        slot: variables.len() + input,
+        is_input: true,
+    })
+}
+
+/// The global of a name with its slot.
+fn global_of(
+    alloc: Global,
+    variables: &[PlanVariable],
+    inputs: &[PlanInput],
+    name: &Name,
+) -> Result<GlobalSlot, AllocError>
+    requires known { is_named_in variables.now inputs.now name.now ≡ true }
+    ensures name { IfOk result (λ global. global.name ≡ name.now) }
+    ensures place { IfOk result (λ global. HasPlace (layout_of variables.now inputs.now) global) }
+{
+    let Some(place) = place_of(variables, inputs, name) else {
+        unreachable!()
+    };
+    Ok(GlobalSlot {
+        name: name.copied(alloc)?,
+        slot: place.slot,
+        is_input: place.is_input,
+    })
+}
+
+/// The globals of these names with their slots, in order.
+pub fn places_of(
+    alloc: Global,
+    variables: &[PlanVariable],
+    inputs: &[PlanInput],
+    names: &[Name],
+) -> Result<Vec<GlobalSlot>, AllocError>
+    requires known { list_all (is_named_in variables.now inputs.now) names.now ≡ true }
+    ensures names { IfOk result (λ globals. map (λ g. g.name) globals.items ≡ names.now) }
+    ensures places { IfOk result (λ globals. HavePlaces (layout_of variables.now inputs.now) globals.items) }
+{
+    let mut globals = Vec::new(alloc);
+    for name in names {
+        globals.push(global_of(alloc, variables, inputs, name)?)?;
+    }
+    Ok(globals)
+}

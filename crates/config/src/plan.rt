@@ -1,0 +1,73 @@
+//! The plan of a text.
+
+ghost use Rattle.std.specs.Prelude.{◌≡◌, length, filter};
+ghost use Rattle.config.specs.Sound.{IsSound};
+
+use crate::task::{Program, Task};
+use st_types::{PlanInput, PlanVariable};
+
+/// What the runtime needs of a text: its variables, inputs, tasks and programs. It keeps the limits of the language.
+#[derive(Drop)]
+pub struct Plan {
+    /// The variables in layout order; the number of each is its slot.
+    pub variables: Vec<PlanVariable>,
+    /// The inputs of the plant in declaration order; their slots stand behind those of the variables.
+    pub inputs: Vec<PlanInput>,
+    pub resources: usize,
+    pub tasks: Vec<Task>,
+    pub programs: Vec<Program>,
+    /// How many ticks an execution may take: 1 to 1,000,000.
+    pub budget: u32,
+    ghost sound: { IsSound variables.items inputs.items resources tasks.items programs.items budget },
+}
+
+impl Plan {
+    /// How many resources it has.
+    pub fn resources(&self) -> usize
+        ensures { result ≡ self.now.resources }
+    {
+        self.resources
+    }
+
+    /// How many tasks it has.
+    pub fn tasks(&self) -> usize
+        ensures { result ≡ length self.now.tasks.items }
+    {
+        self.tasks.len()
+    }
+
+    /// How many instances of programs it has.
+    pub fn programs(&self) -> usize
+        ensures { result ≡ length self.now.programs.items }
+    {
+        self.programs.len()
+    }
+
+    /// How many variables it has; inputs are none.
+    pub fn slots(&self) -> usize
+        ensures { result ≡ length self.now.variables.items }
+    {
+        self.variables.len()
+    }
+
+    /// How many of the variables are kept over a power failure.
+    pub fn retained(&self) -> usize
+        ensures { result ≡ length (filter (λ v. v.retained) self.now.variables.items) }
+    {
+        self.variables.iter().filter(|v| v.retained).count()
+    }
+
+    /// The inputs of the plant in declaration order.
+    pub fn inputs(&self) -> &[PlanInput]
+        ensures { result.now ≡ self.now.inputs.items }
+    {
+        &self.inputs
+    }
+
+    /// How many ticks an execution may take.
+    pub fn budget(&self) -> u32
+        ensures { result ≡ self.now.budget }
+    {
+        self.budget
+    }
+}
