@@ -1,0 +1,50 @@
+-- Cells of the code as the definitions see them.
+use Rattle.std.proofs.Common.{◌≡◌, ℕ, zero, suc, nat_lt, arith, ◌+◌, ◌<◌, length, take, get_or, Some, sym, ◌==◌, Bool, true, false, not, if◌then◌else◌, List, [], ◌∷◌, ◌++◌, map, refl, ap, ◌∙◌}
+use Rattle.std.specs.List.{filter, list_all}
+use Rattle.std.proofs.lemmas.Bool.Decides.{nat_tests}
+use Rattle.std.proofs.lemmas.List.{map-append, take_more}
+use Rattle.std.proofs.lemmas.Option.{slice_get-get_or}
+use Rattle.st_words.specs.Values.{Datum}
+use Rattle.st_types.specs.Slots.{agrees}
+use Rattle.slot_code.specs.declared.global.GlobalSlot.{GlobalSlot}
+use Rattle.slot_run.proofs.CellLemmas.{agrees_more}
+use Rattle.st_types.specs.Slots as slots
+use Rattle.slot_run.specs.declared.cell.Cell.{Cell}
+use Rattle.slot_run.specs.Cells.{cut, with_cell}
+use Rattle.slot_run.proofs.Bools.{both}
+
+kept_or_not : (c : Cell) (t : Bool) (xs : List Cell) (ys : List slots.Cell) → map cut xs ≡ ys → map cut (if t then c ∷ xs else xs) ≡ (if t then cut c ∷ ys else ys)
+kept_or_not c true xs ys h = ap (λ zs. cut c ∷ zs) h
+kept_or_not c false xs ys h = h
+
+filter_cut : (c : Cell) (xs : List Cell) → map cut (filter (λ d. not (d.slot == c.slot)) xs) ≡ filter (λ d. not (d.0 == c.slot)) (map cut xs)
+filter_cut c [] = refl
+filter_cut c (x ∷ xs) = kept_or_not x (not (x.slot == c.slot)) (filter (λ d. not (d.slot == c.slot)) xs) (filter (λ d. not (d.0 == c.slot)) (map cut xs)) (filter_cut c xs)
+
+pub cut_with : (old kept new : List Cell) (c : Cell) → kept ≡ filter (λ d. not (d.slot == c.slot)) old → new ≡ kept ++ c ∷ [] → map cut new ≡ with_cell (map cut old) (cut c)
+cut_with old kept new c e f =
+    ap (map cut) (f ∙ ap (λ xs. xs ++ c ∷ []) e) ∙ map-append cut (filter (λ d. not (d.slot == c.slot)) old) (c ∷ []) ∙ ap (λ xs. xs ++ cut c ∷ []) (filter_cut c old)
+
+-- each global has its slot
+below : (k n : ℕ) → nat_lt k n ≡ true → k < n
+below k n h = grind (arith, nat_tests)
+
+slot_at : (globals : List GlobalSlot) (n i : ℕ) (d : GlobalSlot) → list_all (λ h. nat_lt h.slot n) globals ≡ true → i < length globals → nat_lt (get_or globals i d).slot n ≡ true
+slot_at [] n i d there lt = absurd (omega arith)
+slot_at (h ∷ globals) n zero d there lt = (both (nat_lt h.slot n) (list_all (λ g. nat_lt g.slot n) globals) there).0
+slot_at (h ∷ globals) n (suc i) d there lt = slot_at globals n i d (both (nat_lt h.slot n) (list_all (λ g. nat_lt g.slot n) globals) there).1 (omega arith)
+
+pub slot_within : (globals : List GlobalSlot) (n i : ℕ) (g : GlobalSlot) → list_all (λ h. nat_lt h.slot n) globals ≡ true → i < length globals → g ≡ get_or globals i g → g.slot < n
+slot_within globals n i g there lt is = below g.slot n (ap (λ h. nat_lt h.slot n) is ∙ slot_at globals n i g there lt)
+
+-- one read more
+pub reads_more : (globals : List GlobalSlot) (us : List Datum) (i : ℕ) (g : GlobalSlot) (v : Datum) (old new : List Cell) → i < length globals → g ≡ get_or globals i g → g.slot < length us → v ≡ get_or us g.slot v
+    → new ≡ old ++ record { slot = g.slot; value = v } ∷ [] → agrees us (map cut old) ≡ true → map (λ c. c.0) (map cut old) ≡ map (λ h. h.slot) (take i globals)
+    → (agrees us (map cut new) ≡ true) × (map (λ c. c.0) (map cut new) ≡ map (λ h. h.slot) (take (i + 1) globals))
+reads_more globals us i g v old new lt is within at more agree all =
+    let cells = ap (map cut) more ∙ map-append cut old (record { slot = g.slot; value = v } ∷ []) in
+    let here = slice_get-get_or us g.slot v within ∙ ap Some (sym at) in
+    let taken = take_more globals i g lt ∙ ap (λ h. take i globals ++ h ∷ []) (sym is) in (
+      ap (agrees us) cells ∙ agrees_more us (map cut old) g.slot v agree here,
+      ap (map (λ c. c.0)) cells ∙ map-append (λ c. c.0) (map cut old) ((g.slot, v) ∷ []) ∙ ap (λ ks. ks ++ g.slot ∷ []) all ∙ sym (ap (map (λ h. h.slot)) taken ∙ map-append (λ h. h.slot) (take i globals) (g ∷ [])),
+    )

@@ -1,0 +1,6 @@
+pub mod Bools
+pub mod SumLemmas
+pub mod CellLemmas
+pub mod StepLemmas
+pub mod CutLemmas
+pub mod RunLemmas

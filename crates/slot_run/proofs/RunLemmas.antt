@@ -1,0 +1,174 @@
+-- How the statements of plain code run one after another.
+use Rattle.std.proofs.Common.{◌≡◌, ℕ, suc, ◌+◌, ◌<◌, ◌==◌, Bool, true, false, not, ◌&&◌, ◌||◌, if◌then◌else◌, List, [], ◌∷◌, map, length, drop, get_or, slice_set, Option, Some, Result, Ok, Err, refl, sym, ap, ◌∙◌}
+use Rattle.std.specs.Prelude.{bytes_eq}
+use Rattle.std.specs.List.{filter, list_all}
+use Rattle.std.proofs.Math.Seq.{drop-cons}
+use Rattle.std.proofs.Math.Numerals.{suc-eq-add-one}
+use Rattle.std.proofs.lemmas.List.Folds.{list_all-append}
+use Rattle.st_words.specs.declared.fault.Fault.{Fault}
+use Rattle.st_words.specs.declared.fault.Fault.TheVariants.{Budget}
+use Rattle.st_words.specs.Values.{Datum}
+use Rattle.st_trees.specs.Statements.{Stmt, empty, assign, invoke, IF, CASE, FOR, WHILE, REPEAT, EXIT, RETURN, stmts_of}
+use Rattle.st_trees.specs.declared.statement.Stmt as code_stmt
+use Rattle.st_trees.specs.StatementViews.{stmt_view}
+use Rattle.st_types.specs.declared.entry.Outcome.{Outcome}
+use Rattle.st_types.specs.declared.entry.Outcome.TheVariants.{Done, Faulted}
+use Rattle.st_types.specs.Stores.{Store}
+use Rattle.st_types.specs.Scopes.{Name, Scope}
+use Rattle.st_types.specs.Loops.{End, goes_on}
+use Rattle.st_types.specs.Execution.{exec, exec_all}
+use Rattle.st_types.specs.Slots.{Slot, Cell, variables_in, inputs_in, agrees, written}
+use Rattle.st_types.specs.Runs.{outcome_in, store_in, ran, ran_where, outcome_of, store_after}
+use Rattle.slot_code.specs.declared.code.Code.{Code}
+use Rattle.slot_code.specs.declared.global.GlobalSlot.{GlobalSlot}
+use Rattle.slot_code.specs.Globals.{global_named, is_plain, are_plain, Fits}
+use Rattle.slot_code.specs.Codes.{Text, text_of, program_of}
+use Rattle.slot_run.specs.Cells.{with_cell}
+use Rattle.slot_run.specs.Effects.{is_variable_slot, IsTrueOf}
+use Rattle.slot_run.specs.Steps.{AreAlike, IsVariable, scope_over, Steps, IsEnd, Runs, kept}
+use Rattle.slot_run.proofs.CellLemmas.{alike_written, length_written, inputs_stay, written_with, alike_by_reads}
+use Rattle.slot_run.proofs.Bools.{both, same_itself}
+
+-- the whole run from here is the rest from where it stands
+abbrev pub GoesOn : Text → List Datum → List Stmt → ℕ → ℕ → List Cell → Type 0
+GoesOn text us rest budget left writes =
+    (layout : List Slot) (vs : List Datum) (moment : ℕ) → Fits layout text.globals → length layout ≡ length vs → AreAlike text.globals vs us
+    → exec_all (scope_over text layout vs moment budget) (stmts_of text.unit.body) (variables_in layout vs) budget
+    ≡ exec_all (scope_over text layout (written vs writes) moment budget) (stmts_of rest) (variables_in layout (written vs writes)) left
+
+-- where a run stands before the rest of its statements
+pub record Reached (text : Text) (us : List Datum) (rest : List Stmt) (budget left : ℕ) (slots : List Datum) (writes : List Cell) : Type 0 where
+  pub goes_on : GoesOn text us rest budget left writes
+  pub now : slots ≡ written us writes
+  pub plain : are_plain text.globals rest ≡ true
+  pub variables : list_all (λ c. is_variable_slot text.globals c.0) writes ≡ true
+
+-- the slots of what is written are those of variables
+or_true : (a b : Bool) → b ≡ true → (a || b) ≡ true
+or_true true b h = refl
+or_true false b h = h
+
+found_slot : (h g : GlobalSlot) (t : Bool) (rest : Option GlobalSlot) (others : Bool) → g.is_input ≡ false → (rest ≡ Some g → others ≡ true) → (if t then Some h else rest) ≡ Some g → (((h.slot == g.slot) && not h.is_input) || others) ≡ true
+found_slot h g true rest others out later e = let is : h ≡ g = cc in rw (is, same_itself g.slot, out) refl
+found_slot h g false rest others out later e = or_true ((h.slot == g.slot) && not h.is_input) others (later e)
+
+variable_slot_at : (globals : List GlobalSlot) (x : Name) (g : GlobalSlot) → global_named globals x ≡ Some g → g.is_input ≡ false → is_variable_slot globals g.slot ≡ true
+variable_slot_at [] x g known out = absurd (cc)
+variable_slot_at (h ∷ globals) x g known out = found_slot h g (bytes_eq x h.name) (global_named globals x) (is_variable_slot globals g.slot) out (λ e. variable_slot_at globals x g e out) known
+
+variable_slot : (globals : List GlobalSlot) (k : ℕ) → IsVariable globals k → is_variable_slot globals k ≡ true
+variable_slot globals k v = ap (is_variable_slot globals) (sym v.slot) ∙ variable_slot_at globals v.name v.global v.known v.sort
+
+kept_or_not : (p : Cell → Bool) (c : Cell) (t : Bool) (cells : List Cell) → p c ≡ true → list_all p cells ≡ true → list_all p (if t then c ∷ cells else cells) ≡ true
+kept_or_not p c true cells here rest = rw here rest
+kept_or_not p c false cells here rest = rest
+
+all_kept : (p q : Cell → Bool) (cells : List Cell) → list_all p cells ≡ true → list_all p (filter q cells) ≡ true
+all_kept p q [] h = refl
+all_kept p q (c ∷ cells) h = let b = both (p c) (list_all p cells) h in kept_or_not p c (q c) (filter q cells) b.0 (all_kept p q cells b.1)
+
+variables_with : (globals : List GlobalSlot) (cells : List Cell) (c : Cell) → list_all (λ d. is_variable_slot globals d.0) cells ≡ true → IsVariable globals c.0 → list_all (λ d. is_variable_slot globals d.0) (with_cell cells c) ≡ true
+variables_with globals cells c h v =
+    let rest = all_kept (λ d. is_variable_slot globals d.0) (λ d. not (d.0 == c.0)) cells h in
+    rw (list_all-append, rest, variable_slot globals c.0 v) refl
+
+-- one statement more
+moved : (text : Text) (x : Stmt) (rest : List Stmt) (layout : List Slot) (vs ts : List Datum) (moment budget left : ℕ)
+    → exec (scope_over text layout vs moment budget) x (variables_in layout vs) (suc left) ≡ Ok (goes_on (variables_in layout ts), left) → inputs_in layout ts ≡ inputs_in layout vs
+    → exec_all (scope_over text layout vs moment budget) (stmts_of (x ∷ rest)) (variables_in layout vs) (suc left) ≡ exec_all (scope_over text layout ts moment budget) (stmts_of rest) (variables_in layout ts) left
+moved text x rest layout vs ts moment budget left h e = rw (h, e) refl
+
+pub reached_next : (text : Text) (us : List Datum) (x : Stmt) (rest : List Stmt) (budget before left : ℕ) (slots : List Datum) (writes : List Cell) (c : Cell) → before ≡ suc left
+    → Reached text us (x ∷ rest) budget before slots writes → Steps text x slots (Ok c) → IsVariable text.globals c.0 → Reached text us rest budget left (slice_set slots c.0 c.1) (with_cell writes c)
+reached_next text us x rest budget before left slots writes c one r steps variable = record {
+  goes_on = λ layout vs moment fits len alike.
+      let ts = written vs writes in
+      let alike_there : AreAlike text.globals ts slots = rw r.now (alike_written text.globals vs us writes alike) in
+      let stepped = steps layout ts moment budget left fits (len ∙ sym (length_written writes vs)) alike_there in
+      let next = moved text x rest layout ts (slice_set ts c.0 c.1) moment budget left stepped (inputs_stay text.globals layout ts c.0 c.1 fits variable) in
+      r.goes_on layout vs moment fits len alike
+      ∙ ap (exec_all (scope_over text layout ts moment budget) (stmts_of (x ∷ rest)) (variables_in layout ts)) one
+      ∙ next
+      ∙ ap (λ zs. exec_all (scope_over text layout zs moment budget) (stmts_of rest) (variables_in layout zs) left) (sym (written_with writes vs c));
+  now = ap (λ zs. slice_set zs c.0 c.1) r.now ∙ sym (written_with writes us c);
+  plain = (both (is_plain text.globals x) (are_plain text.globals rest) r.plain).1;
+  variables = variables_with text.globals writes c r.variables variable;
+}
+
+-- a statement that faults
+pub ends_by_fault : (text : Text) (us : List Datum) (x : Stmt) (rest : List Stmt) (budget before left : ℕ) (slots : List Datum) (writes : List Cell) (f : Fault) → before ≡ suc left
+    → Reached text us (x ∷ rest) budget before slots writes → Steps text x slots (Err f) → Runs text us budget writes (Faulted f)
+ends_by_fault text us x rest budget before left slots writes f one r steps layout vs moment fits len alike =
+    let ts = written vs writes in
+    let alike_there : AreAlike text.globals ts slots = rw r.now (alike_written text.globals vs us writes alike) in
+    let stepped = steps layout ts moment budget left fits (len ∙ sym (length_written writes vs)) alike_there in
+    r.goes_on layout vs moment fits len alike
+    ∙ ap (exec_all (scope_over text layout ts moment budget) (stmts_of (x ∷ rest)) (variables_in layout ts)) one
+    ∙ rw stepped refl
+
+-- no tick is left for a statement
+no_tick : (w : Scope) (x : Stmt) (s : Store) → exec w x s 0 ≡ Err Budget
+no_tick w empty s = refl
+no_tick w (assign v e) s = refl
+no_tick w (invoke x arguments) s = refl
+no_tick w (IF arms otherwise) s = refl
+no_tick w (CASE e arms otherwise) s = refl
+no_tick w (FOR x start limit step body) s = refl
+no_tick w (WHILE e body) s = refl
+no_tick w (REPEAT body e) s = refl
+no_tick w (EXIT at) s = refl
+no_tick w RETURN s = refl
+
+pub ends_by_budget : (text : Text) (us : List Datum) (x : Stmt) (rest : List Stmt) (budget left : ℕ) (slots : List Datum) (writes : List Cell) → left ≡ 0
+    → Reached text us (x ∷ rest) budget left slots writes → Runs text us budget writes (Faulted Budget)
+ends_by_budget text us x rest budget left slots writes none r layout vs moment fits len alike =
+    let ts = written vs writes in
+    r.goes_on layout vs moment fits len alike
+    ∙ ap (exec_all (scope_over text layout ts moment budget) (stmts_of (x ∷ rest)) (variables_in layout ts)) none
+    ∙ rw (no_tick (scope_over text layout ts moment budget) x (variables_in layout ts)) refl
+
+-- the statements from a place on
+pub rest_at : {A : Type 0} → (xs : List A) (i : ℕ) (x : A) → i < length xs → x ≡ get_or xs i x → drop i xs ≡ x ∷ drop (i + 1) xs
+rest_at xs i x lt e = drop-cons xs i x lt ∙ ap (λ y. y ∷ drop (suc i) xs) (sym e) ∙ ap (λ n. x ∷ drop n xs) (suc-eq-add-one i)
+
+pub at_statement : (text : Text) (us : List Datum) (xs ys : List code_stmt.Stmt) (i : ℕ) (x : code_stmt.Stmt) (budget left : ℕ) (slots : List Datum) (writes : List Cell) → ys ≡ xs → i < length ys → x ≡ get_or ys i x
+    → Reached text us (map stmt_view (drop i xs)) budget left slots writes → Reached text us (stmt_view x ∷ map stmt_view (drop (i + 1) xs)) budget left slots writes
+at_statement text us xs ys i x budget left slots writes same lt is r =
+    let here = ap (map stmt_view) (rest_at xs i x (rw same at lt) (rw same at is)) in rw here at r
+
+-- what the whole is, by what is read
+outcome_at : (outcome : Outcome) (t : Store) (r : Result (End × ℕ) Fault) → IsEnd outcome t r → outcome_in r ≡ outcome
+outcome_at Done t r h = rw h.1 refl
+outcome_at (Faulted f) t r h = rw h refl
+
+store_at : (outcome : Outcome) (layout : List Slot) (vs : List Datum) (writes : List Cell) (r : Result (End × ℕ) Fault) → IsEnd outcome (variables_in layout (written vs writes)) r
+    → store_in r (variables_in layout vs) ≡ variables_in layout (written vs (kept outcome writes))
+store_at Done layout vs writes r h = rw h.1 refl
+store_at (Faulted f) layout vs writes r h = rw h refl
+
+kept_variables : (globals : List GlobalSlot) (outcome : Outcome) (writes : List Cell) → list_all (λ c. is_variable_slot globals c.0) writes ≡ true → list_all (λ c. is_variable_slot globals c.0) (kept outcome writes) ≡ true
+kept_variables globals Done writes h = h
+kept_variables globals (Faulted f) writes h = refl
+
+none_kept : (outcome : Outcome) (writes : List Cell) (f : Fault) → outcome ≡ Faulted f → kept outcome writes ≡ []
+none_kept Done writes f e = absurd (cc)
+none_kept (Faulted g) writes f e = refl
+
+run_whole : (code : Code) (us : List Datum) (moment budget : ℕ) (reads writes : List Cell) (outcome : Outcome) → map (λ c. c.0) reads ≡ map (λ g. g.slot) code.globals.items → agrees us reads ≡ true
+    → Runs (text_of code) us budget writes outcome → (layout : List Slot) (vs : List Datum) → Fits layout code.globals.items → length layout ≡ length vs → agrees vs reads ≡ true
+    → IsEnd outcome (variables_in layout (written vs writes)) (ran (program_of (text_of code)) (inputs_in layout vs) moment budget (variables_in layout vs))
+unfolding ran ran_where
+run_whole code us moment budget reads writes outcome all agreed runs layout vs fits len agree =
+    runs layout vs moment fits len (alike_by_reads code.globals.items reads vs us all agree agreed)
+
+pub run_is_true : (code : Code) (us : List Datum) (moment budget : ℕ) (reads writes : List Cell) (outcome : Outcome) → map (λ c. c.0) reads ≡ map (λ g. g.slot) code.globals.items → agrees us reads ≡ true
+    → Runs (text_of code) us budget writes outcome → list_all (λ c. is_variable_slot code.globals.items c.0) writes ≡ true → IsTrueOf code moment budget reads (kept outcome writes) outcome
+unfolding outcome_of store_after
+run_is_true code us moment budget reads writes outcome all agreed runs variables = record {
+  run = λ layout vs fits len agree.
+      let h = run_whole code us moment budget reads writes outcome all agreed runs layout vs fits len agree in
+      let r = ran (program_of (text_of code)) (inputs_in layout vs) moment budget (variables_in layout vs) in
+      (outcome_at outcome (variables_in layout (written vs writes)) r h, store_at outcome layout vs writes r h);
+  variables = kept_variables code.globals.items outcome writes variables;
+  none = none_kept outcome writes;
+}

@@ -1,0 +1,41 @@
+-- What a run did, and when that is true of it.
+use Rattle.std.specs.Prelude.{◌≡◌, ℕ, ◌==◌, List, [], length, Bool, true, not, ◌&&◌}
+use Rattle.std.specs.List.{list_any, list_all}
+use Rattle.st_words.specs.Values.{Datum}
+use Rattle.st_words.specs.declared.fault.Fault.{Fault}
+use Rattle.st_types.specs.declared.entry.Activation.{Activation}
+use Rattle.st_types.specs.declared.entry.Outcome.{Outcome}
+use Rattle.st_types.specs.declared.entry.Outcome.TheVariants.{Faulted}
+use Rattle.st_types.specs.Runs.{outcome_of, store_after}
+use Rattle.st_types.specs.Slots.{Slot, Cell, variables_in, inputs_in, agrees, written}
+use Rattle.slot_code.specs.declared.code.Code.{Code}
+use Rattle.slot_code.specs.declared.global.GlobalSlot.{GlobalSlot}
+use Rattle.slot_code.specs.Globals.{Fits}
+use Rattle.slot_code.specs.Codes.{text_of, program_of}
+
+-- an execution: what ran, what it read, what it writes, and how it ended
+pub record Effect : Type 0 where
+  pub code : Code
+  pub activation : Activation
+  pub moment : ℕ
+  pub budget : ℕ
+  pub reads : List Cell
+  pub writes : List Cell
+  pub outcome : Outcome
+
+-- In every layout that has the code's globals, and wherever what was read stands, the program ends so and leaves these writes.
+abbrev pub IsRunOf : Code → ℕ → ℕ → List Cell → List Cell → Outcome → Type 0
+IsRunOf code moment budget reads writes outcome =
+    (layout : List Slot) (vs : List Datum) → Fits layout code.globals.items → length layout ≡ length vs → agrees vs reads ≡ true
+    → (outcome_of (program_of (text_of code)) budget (variables_in layout vs) (inputs_in layout vs) moment ≡ outcome)
+    × (store_after (program_of (text_of code)) budget (variables_in layout vs) (inputs_in layout vs) moment ≡ variables_in layout (written vs writes))
+
+-- the slot of a global that is no input
+abbrev pub is_variable_slot : List GlobalSlot → ℕ → Bool
+is_variable_slot globals k = list_any (λ g. (g.slot == k) && not g.is_input) globals
+
+-- What a run did is true of it, its writes go to variables alone, and a fault leaves none.
+pub record IsTrueOf (code : Code) (moment budget : ℕ) (reads writes : List Cell) (outcome : Outcome) : Type 0 where
+  pub run : IsRunOf code moment budget reads writes outcome
+  pub variables : list_all (λ c. is_variable_slot code.globals.items c.0) writes ≡ true
+  pub none : (f : Fault) → outcome ≡ Faulted f → writes ≡ []

@@ -1,0 +1,141 @@
+//! Runs of code.
+
+ghost use Rattle.std.specs.Prelude.{◌≡◌, ◌<◌, [], IfOk, length, map, nat_lt, true};
+ghost use Rattle.std.specs.List.{list_all};
+ghost use Rattle.st_trees.specs.StatementViews.{stmt_view};
+ghost use Rattle.st_types.specs.Slots.{agrees};
+ghost use Rattle.st_types.specs.Stores.{may_replace};
+ghost use Rattle.slot_code.specs.Globals.{is_plain};
+ghost use Rattle.slot_code.specs.Codes.{text_of};
+ghost use Rattle.slot_run.specs.Cells.{cut, cut_of, with_cell};
+ghost use Rattle.slot_run.specs.Effects.{is_variable_slot};
+ghost use Rattle.slot_run.specs.Steps.{IsVariable, Runs, Steps, kept};
+
+use crate::cell::Cell;
+use crate::execution::Execution;
+use crate::snapshot::Snapshot;
+use crate::sum::value;
+use slot_code::{Code, GlobalSlot, global_named};
+use st_types::{Fault, Outcome, Stmt, Value};
+use std::alloc::{AllocError, Global};
+
+/// The values of the globals that the code names, in the order of its externals.
+fn reads_of(alloc: Global, globals: &[GlobalSlot], slots: &[Value]) -> Result<Vec<Cell>, AllocError>
+    requires there { list_all (λ g. nat_lt g.slot (length slots.now)) globals.now ≡ true }
+    ensures agrees { IfOk result (λ cells. agrees slots.now (map cut cells.items) ≡ true) }
+    ensures all { IfOk result (λ cells. map (λ c. c.0) (map cut cells.items) ≡ map (λ g. g.slot) globals.now) }
+{
+    let mut reads = Vec::new(alloc);
+    for global in globals {
+        reads.push(Cell {
+            slot: global.slot,
+            value: slots[global.slot],
+        })?;
+    }
+    Ok(reads)
+}
+
+/// Whether a variable of the old value's type may take the new value.
+fn may_replace(old: Value, new: Value) -> bool
+    ensures { result ≡ may_replace old new }
+{
+    old.kind().is(new.kind())
+}
+
+/// The cell that an assignment writes, or its fault. It takes one tick, which the caller counts.
+fn step(code: &Code, statement: &Stmt, slots: &[Value]) -> Result<Cell, Fault>
+    requires plain { is_plain code.now.globals.items (stmt_view statement.now) ≡ true }
+    ensures steps { Steps (text_of code.now) (stmt_view statement.now) slots.now (cut_of result) }
+    ensures variable { IfOk result (λ c. IsVariable code.now.globals.items c.slot) }
+    ensures there { IfOk result (λ c. c.slot < length slots.now) }
+{
+    let Stmt::Assign(target, expression) = statement else {
+        return Err(Fault::Conversion);
+    };
+    let new = value(expression, &code.globals, slots)?;
+    let Some(global) = global_named(&code.globals, &target.name.name) else {
+        return Err(Fault::Index);
+    };
+    let Some(old) = slots.get(global.slot) else {
+        return Err(Fault::Index);
+    };
+    if !may_replace(*old, new) {
+        return Err(Fault::Conversion);
+    }
+    Ok(Cell {
+        slot: global.slot,
+        value: new,
+    })
+}
+
+/// Adds a cell, and takes away an earlier one of its slot.
+fn write(writes: &mut Vec<Cell>, cell: Cell) -> Result<(), AllocError>
+    ensures { IfOk result (λ _. map cut writes.new.items ≡ with_cell (map cut writes.old.items) (cut cell)) }
+{
+    writes.retain(|other| other.slot != cell.slot);
+    writes.push(cell)?;
+    Ok(())
+}
+
+/// Runs the statements one after another, each for a tick, and collects what they write up to the end or a fault.
+fn run_all(
+    code: &Code,
+    mut slots: Vec<Value>,
+    writes: &mut Vec<Cell>,
+    budget: u32,
+) -> Result<Outcome, AllocError>
+    requires none { writes.old.items ≡ [] }
+    ensures runs { IfOk result (λ outcome. Runs (text_of code.now) slots.items budget (map cut writes.new.items) outcome) }
+    ensures variables { IfOk result (λ _. list_all (λ c. is_variable_slot code.now.globals.items c.0) (map cut writes.new.items) ≡ true) }
+{
+    let mut left = budget;
+    for statement in &code.unit.body {
+        if left == 0 {
+            return Ok(Outcome::Faulted(Fault::Budget));
+        }
+        left -= 1;
+        let cell = match step(code, statement, &slots) {
+            Ok(cell) => cell,
+            Err(fault) => return Ok(Outcome::Faulted(fault)),
+        };
+        slots[cell.slot] = cell.value;
+        write(writes, cell)?;
+    }
+    Ok(Outcome::Done)
+}
+
+/// The writes that such an end leaves: a fault leaves none.
+fn kept(outcome: Outcome, mut writes: Vec<Cell>) -> Vec<Cell>
+    ensures { map cut result.items ≡ kept outcome (map cut writes.items) }
+{
+    if let Outcome::Faulted(_) = outcome {
+        writes.clear();
+    }
+    writes
+}
+
+/// Runs a snapshot's code on its values. What it reads are all globals that the program names.
+///
+/// An error is want of memory alone.
+pub fn run(alloc: Global, snapshot: Snapshot) -> Result<Execution, AllocError>
+    ensures code { IfOk result (λ e. e.code ≡ snapshot.code.value) }
+    ensures activation { IfOk result (λ e. e.activation ≡ snapshot.activation) }
+    ensures moment { IfOk result (λ e. e.moment ≡ snapshot.moment) }
+    ensures budget { IfOk result (λ e. e.budget ≡ snapshot.budget) }
+    ensures agrees { IfOk result (λ e. agrees snapshot.slots.items e.reads ≡ true) }
+    ensures all { IfOk result (λ e. map (λ c. c.0) e.reads ≡ map (λ g. g.slot) snapshot.code.value.globals.items) }
+{
+    let Snapshot {
+        code,
+        activation,
+        moment,
+        budget,
+        slots,
+        ..
+    } = snapshot;
+    let reads = reads_of(alloc, &code.globals, &slots)?;
+    let mut writes = Vec::new(alloc);
+    let outcome = run_all(&code, slots, &mut writes, budget)?;
+    let writes = kept(outcome, writes);
+    Ok(Execution::new(code, activation, moment, budget, reads, writes, outcome))
+}
