@@ -4,6 +4,7 @@ pub mod AskedLemmas
 pub mod DueLemmas
 pub mod Lasts
 pub mod LogLemmas
+pub mod OnceLemmas
 pub mod OverrunLemmas
 pub mod Related
 pub mod RunLemmas

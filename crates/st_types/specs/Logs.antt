@@ -1,10 +1,12 @@
 -- What a log makes of the variables, and what it may hold.
-use Rattle.std.specs.Prelude.{◌≡◌, ℕ, nat_lt, Bool, true, List, [], ◌∷◌, ◌++◌, fold, slice_index_or, Option, Some, None}
+use Rattle.std.specs.Prelude.{◌≡◌, ℕ, nat_lt, Bool, true, List, [], ◌∷◌, ◌++◌, fold, slice_index_or, Option, Some, None, option_map}
 use Rattle.st_types.specs.declared.entry.Entry.{Entry}
 use Rattle.st_types.specs.declared.entry.Entry.TheVariants.{Row, Done}
 use Rattle.st_types.specs.Rows.{Latch}
 use Rattle.st_types.specs.Stores.{Store}
-use Rattle.st_types.specs.Plans.{Plan, places_of, samples_of, fits, program_at, after_run}
+use Rattle.st_types.specs.declared.entry.Outcome.{Outcome}
+use Rattle.st_types.specs.Runs.{outcome_of}
+use Rattle.st_types.specs.Plans.{Plan, Program, places_of, samples_of, image_of, fits, program_at, after_run}
 use Rattle.st_types.specs.Due.{History, no_history, with_tick, with_run, Waits}
 
 abbrev pub Log : Type 0
@@ -32,6 +34,19 @@ with_entry plan past (Done a) = record {
   store = after_run plan (program_at plan a.program) past.store (row_at past.rows a.row);
 }
 
+-- how the execution of an entry ends on the past before it; a row has none
+abbrev pub ended_by : Plan → Past → Latch → Program → Outcome
+ended_by plan past row p = outcome_of p.code plan.budget past.store (image_of plan.inputs row.image) row.moment
+
+abbrev pub outcome_at : Plan → Past → Entry → Option Outcome
+outcome_at plan past (Row row) = None
+outcome_at plan past (Done a) = option_map (ended_by plan past (row_at past.rows a.row)) (program_at plan a.program)
+
+-- how the executions of a log end, one after another
+abbrev pub outcomes_from : Plan → Past → Log → List (Option Outcome)
+outcomes_from plan past [] = []
+outcomes_from plan past (e ∷ log) = outcome_at plan past e ∷ outcomes_from plan (with_entry plan past e) log
+
 abbrev pub beginning : Store → Past
 beginning s = record { rows = []; history = no_history; store = s }
 
@@ -42,6 +57,10 @@ past_of plan start log = fold (with_entry plan) (beginning start) log
 -- the variables after the log
 abbrev pub after : Plan → Store → Log → Store
 after plan start log = (past_of plan start log).store
+
+-- how the execution of each entry of the log ended
+abbrev pub outcomes_of : Plan → Store → Log → List (Option Outcome)
+outcomes_of plan start log = outcomes_from plan (beginning start) log
 
 -- the moment of the last row, or else the one before the log
 abbrev pub last_moment : Option ℕ → List Latch → Option ℕ

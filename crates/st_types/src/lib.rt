@@ -23,7 +23,7 @@ pub use laws::{
 pub use literals::{number_of, value_of_number};
 pub use plan::{Place, PlanInput, PlanVariable};
 pub use schedules::{
-    intervals, logs_grow_by_one_step, one_activation_waits,
+    each_activation_is_done_once, intervals, logs_grow_by_one_step, one_activation_waits,
     overruns_are_rows_that_meet_a_waiting_program, served_for_good, single_and_interval,
     three_programs_in_order,
 };

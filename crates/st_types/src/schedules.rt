@@ -1,12 +1,14 @@
 //! Laws and worked examples of what is due, what waits and what a log makes of the variables.
 
-ghost use Rattle.std.specs.Prelude.{◌≡◌, ℕ, ◌+◌, ◌<◌, ◌≤◌, ◌∷◌, ◌++◌, [], List, length, Bool, true, false};
+ghost use Rattle.std.specs.Prelude.{◌≡◌, ℕ, ◌+◌, ◌<◌, ◌≤◌, ◌∷◌, ◌++◌, [], List, length, Bool, true, false, Option};
 ghost use Rattle.st_types.specs.declared.entry.Entry.{Entry};
 ghost use Rattle.st_types.specs.Stores.{Store};
 ghost use Rattle.st_types.specs.declared.plan.Place.{Place};
 ghost use Rattle.st_types.specs.Plans.{Plan};
 ghost use Rattle.st_types.specs.Due.{History, due, served, Waits, IsBest, NoneWaits, HasOverruns, no_history, with_tick, with_run};
-ghost use Rattle.st_types.specs.Logs.{past_of, with_entry};
+ghost use Rattle.st_types.specs.declared.entry.Entry.TheVariants.{Done};
+ghost use Rattle.st_types.specs.declared.entry.Activation.{Activation};
+ghost use Rattle.st_types.specs.Logs.{Log, IsLegal, past_of, with_entry};
 ghost use Rattle.st_types.specs.Schedules.{every, ticks_at, dues, three_programs, four_rows, of, ran_3, ran_3_1, ran_all};
 
 /// A program every 10 ms is due at the first row, and where a further whole interval has gone by since then.
@@ -68,4 +70,10 @@ pub fn overruns_are_rows_that_meet_a_waiting_program()
 /// What a log with one entry more makes is one step further.
 pub fn logs_grow_by_one_step()
     ensures { (plan : Plan) (start : Store) (log : List Entry) (e : Entry) → past_of plan start (log ++ e ∷ []) ≡ with_entry plan (past_of plan start log) e }
+{}
+
+/// A legal log has an activation's Done at most once, whatever stands before, between and behind.
+#[tactic(auto, using(crate::proofs::OnceLemmas::done_once))]
+pub fn each_activation_is_done_once()
+    ensures { (plan : Plan) (start : Store) (before : Option ℕ) (a : Activation) (log rest : Log) → IsLegal plan start before (log ++ (Done a ∷ (rest ++ Done a ∷ []))) → ⊥ }
 {}
