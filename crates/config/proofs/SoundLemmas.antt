@@ -181,6 +181,7 @@ sound units us vs is ps budget codes h views places =
     record {
       layout = layout;
       codes = λ k p at. fits vs is p.code.value.globals.items layout (code_fits vs is codes k p places at);
+      placed = λ k p at. code_fits vs is codes k p places at;
       resources_are = resource_below ps;
       places = λ k p at. let f = program_place us 0 ps codes k p views at in let t : p.task ≡ k = f.0 ∙ omega arith in subst (λ n. is_of_resource p.resource (slice_get (map task_in ps) n) ≡ true) (sym t) f.1;
       singles = no_singles vs is ps;

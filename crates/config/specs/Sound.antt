@@ -13,6 +13,7 @@ use Rattle.config.specs.declared.task.Trigger.{Trigger}
 use Rattle.config.specs.declared.task.Trigger.TheVariants.{Absent, Input, Variable}
 use Rattle.config.specs.declared.task.Task.{Task}
 use Rattle.config.specs.declared.task.Program.{Program}
+use Rattle.config.specs.Places.{HavePlaces}
 
 -- each name stands once
 abbrev pub are_different : List Name → Bool
@@ -59,6 +60,7 @@ pub record IsWithinLimits (variables : List PlanVariable) (inputs : List PlanInp
 pub record IsSound (variables : List PlanVariable) (inputs : List PlanInput) (resources : ℕ) (tasks : List Task) (programs : List Program) (budget : ℕ) : Type 0 where
   pub layout : IsLayout (layout_of variables inputs)
   pub codes : (k : ℕ) (p : Program) → slice_get programs k ≡ Some p → Fits (layout_of variables inputs) p.code.value.globals.items
+  pub placed : (k : ℕ) (p : Program) → slice_get programs k ≡ Some p → HavePlaces (layout_of variables inputs) p.code.value.globals.items
   pub resources_are : (k : ℕ) (t : Task) → slice_get tasks k ≡ Some t → t.resource < resources
   pub places : (k : ℕ) (p : Program) → slice_get programs k ≡ Some p → is_of_resource p.resource (slice_get tasks p.task) ≡ true
   pub singles : list_all (λ t. is_sound_trigger variables inputs t.single) tasks ≡ true

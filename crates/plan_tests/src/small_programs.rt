@@ -66,14 +66,19 @@ fn addition(alloc: Global, target: &str, step: u64) -> Result<Stmt, AllocError> 
     Ok(Stmt::assign(variable(alloc, target)?, sum))
 }
 
-fn externals(alloc: Global, text: &str, kind: Kind) -> Result<VariableBlock, AllocError> {
+fn externals(
+    alloc: Global,
+    section: Section,
+    text: &str,
+    kind: Kind,
+) -> Result<VariableBlock, AllocError> {
     let declaration = Declaration {
         names: vec![in alloc; identifier(alloc, text)?]?,
         declared: VariableType::Simple(SimpleType::Elementary(kind, 0)),
         initial: None,
     };
     Ok(VariableBlock {
-        section: Section::External,
+        section,
         declarations: vec![in alloc; declaration]?,
     })
 }
@@ -82,7 +87,7 @@ fn program(alloc: Global, scene: Scene) -> Result<Unit, AllocError> {
     Ok(Unit {
         sort: UnitSort::Program,
         name: identifier(alloc, "ADD")?,
-        blocks: vec![in alloc; externals(alloc, scene.target, scene.declared)?]?,
+        blocks: vec![in alloc; externals(alloc, Section::External, scene.target, scene.declared)?]?,
         body: vec![in alloc; addition(alloc, scene.target, scene.step)?]?,
     })
 }
@@ -129,4 +134,81 @@ pub fn counted(alloc: Global, scene: Scene) -> Result<Option<Counts>, AllocError
         slots: plan.slots(),
         retained: plan.retained(),
     }))
+}
+
+/// `target := source;` over a variable N and an input Z of the plant, both INT.
+fn copying(alloc: Global, target: &str, source: &str) -> Result<Unit, AllocError> {
+    let copy = Stmt::assign(
+        variable(alloc, target)?,
+        Expr::variable(variable(alloc, source)?),
+    );
+    let mut blocks = Vec::new(alloc);
+    blocks.push(externals(alloc, Section::External, "N", Kind::Int)?)?;
+    blocks.push(externals(alloc, Section::ConstantExternal, "Z", Kind::Int)?)?;
+    Ok(Unit {
+        sort: UnitSort::Program,
+        name: identifier(alloc, "COPY")?,
+        blocks,
+        body: vec![in alloc; copy]?,
+    })
+}
+
+/// How many variables and inputs the plan of such a program has, where there is one.
+pub fn copied(
+    alloc: Global,
+    target: &str,
+    source: &str,
+) -> Result<Option<(usize, usize)>, AllocError> {
+    let input = PlanInput {
+        path: Path::global(alloc, name(alloc, "Z")?),
+        kind: Kind::Int,
+    };
+    let line = ThinProgram {
+        resource: 0,
+        unit: 0,
+        interval: 0,
+    };
+    let plan = Plan::thin(
+        alloc,
+        vec![in alloc; copying(alloc, target, source)?]?,
+        vec![in alloc; global(alloc, "N", Kind::Int)?]?,
+        vec![in alloc; input]?,
+        vec![in alloc; line]?,
+        1,
+    )?;
+    match plan {
+        Some(plan) => Ok(Some((plan.slots(), plan.inputs().len()))),
+        None => Ok(None),
+    }
+}
+
+/// The plan of `n := n + 1;` on resource 0 and on resource 1, every 10 ms.
+pub fn two_programs(alloc: Global) -> Result<Option<Plan>, AllocError> {
+    let scene = Scene {
+        globals: ["N", "K"],
+        second_kind: Kind::Dint,
+        target: "N",
+        declared: Kind::Int,
+        step: 1,
+        resource: 0,
+        unit: 0,
+        interval: 10,
+        budget: 10_000,
+    };
+    let mut programs = Vec::new(alloc);
+    for resource in 0..2 {
+        programs.push(ThinProgram {
+            resource,
+            unit: 0,
+            interval: 10,
+        })?;
+    }
+    Plan::thin(
+        alloc,
+        vec![in alloc; program(alloc, scene)?]?,
+        vec![in alloc; global(alloc, "N", Kind::Int)?]?,
+        Vec::new(alloc),
+        programs,
+        10_000,
+    )
 }

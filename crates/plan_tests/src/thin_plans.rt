@@ -1,6 +1,6 @@
 //! Which parts make a plan, and which do not.
 
-use crate::small_programs::{Counts, Scene, counted};
+use crate::small_programs::{Counts, Scene, copied, counted};
 use st_types::Kind;
 use std::test::Fail;
 
@@ -111,5 +111,12 @@ fn the_budget_is_1_to_1000000_ticks(rt: HostRuntime) -> Result<(), Fail> {
         let scene = Scene { budget, ..COUNTER };
         assert_eq!(rt; counted(rt.alloc(), scene)?.is_some(), is_plan, "{budget}");
     }
+    Ok(())
+}
+
+#[test]
+fn an_input_of_the_plant_is_read_and_never_assigned(rt: HostRuntime) -> Result<(), Fail> {
+    assert_eq!(rt; copied(rt.alloc(), "N", "Z")?, Some((1, 1)));
+    assert_eq!(rt; copied(rt.alloc(), "Z", "N")?, None);
     Ok(())
 }

@@ -1,0 +1,4 @@
+pub mod ReadyLemmas
+pub mod BestLemmas
+pub mod PlaceLemmas
+pub mod MarkLemmas

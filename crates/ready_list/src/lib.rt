@@ -1,0 +1,11 @@
+//! What is to run next.
+#![tactic(auto)]
+
+mod list;
+mod order;
+mod places;
+mod standing;
+#[cfg(test)]
+mod tests;
+
+pub use list::ReadyList;

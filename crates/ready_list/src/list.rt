@@ -1,0 +1,186 @@
+//! The ready list.
+
+ghost use Rattle.std.specs.Prelude.{◌≡◌, ◌+◌, ◌≤◌, ◌<◌, ◌^◌, ◌↔◌, ℕ, IsTrue, Some, None, false, if◌then◌else◌, length, IfOk, MatchOption, All};
+ghost use Rattle.st_types.specs.Due.{History, Waits, NoneWaits, IsBest, HasOverruns, with_tick, no_history};
+ghost use Rattle.st_types.specs.Plans.{places_of as places_in};
+ghost use Rattle.config.specs.PlanViews.{plan_view};
+ghost use Rattle.ready_list.specs.Ready.{stand_at, IsReadyOf, Removes};
+
+use crate::order::first_of;
+use crate::places::places_of;
+use crate::standing::{NewRow, Standing, mark_all, taken};
+use config::Plan;
+use st_types::{Activation, Place};
+use std::alloc::{AllocError, Global};
+use std::marker::Model;
+
+/// Which programs wait, and how often each was due while it waited. At most one activation of a program waits.
+#[derive(Drop)]
+pub struct ReadyList {
+    places: Vec<Place>,
+    /// SINGLE of each task at the last row; FALSE before the first.
+    samples: Vec<bool>,
+    standings: Vec<Standing>,
+    /// The moment of the first row in milliseconds; 0 before it.
+    first: u64,
+    /// The moment of the last row in milliseconds; 0 before the first.
+    last: u64,
+    /// How many rows were taken; the next row's number.
+    rows: u64,
+}
+
+impl Model for ReadyList {
+    ghost use Rattle.std.specs.Prelude.{◌≡◌, ◌<◌, ◌≤◌, ◌+◌, ◌^◌, All, length};
+    ghost use Rattle.ready_list.specs.Ready.{Ready};
+
+    ghost Value = { Ready };
+
+    ghost view = { λ x. record {
+      places = x.places.items;
+      samples = x.samples.items;
+      standings = x.standings.items;
+      first = x.first;
+      last = x.last;
+      rows = x.rows;
+    } };
+
+    ghost invariant = { λ x.
+        (length x.standings.items ≡ length x.places.items)
+        × (x.rows ≤ x.last + 1)
+        × (x.last < 2 ^ 62)
+        × All (λ s. s.overruns ≤ x.rows) x.standings.items };
+}
+
+/// What is kept for a program; nothing where it isn't there.
+fn standing_at(standings: &[Standing], program: usize) -> Standing
+    ensures { result ≡ stand_at standings.now program }
+{
+    match standings.get(program) {
+        Some(standing) => *standing,
+        None => Standing {
+            waiting: None,
+            overruns: 0,
+        },
+    }
+}
+
+/// The moment where the row is the first, else the old one.
+fn moment_or(start: bool, moment: u64, old: u64) -> u64
+    ensures { result ≡ (if start then moment else old) }
+{
+    if start { moment } else { old }
+}
+
+/// Whether the program is there and waits with that row.
+fn is_listed(standings: &[Standing], a: Activation) -> bool
+    ensures { IsTrue result ↔ ((a.program < length standings.now) × ((stand_at standings.now a.program).waiting ≡ Some a.row)) }
+{
+    a.program < standings.len() && standings[a.program].waiting == Some(a.row)
+}
+
+/// The list before the first row, of programs at these places and this many tasks.
+pub fn list_of(alloc: Global, places: Vec<Place>, tasks: usize) -> Result<ReadyList, AllocError>
+    ensures places { IfOk result (λ r. r.places ≡ places.items) }
+    ensures number { IfOk result (λ r. length r.samples ≡ tasks) }
+    ensures rows { IfOk result (λ r. r.rows ≡ 0) }
+    ensures new { IfOk result (λ r. IsReadyOf no_history r) }
+{
+    let samples = vec![in alloc; false; tasks]?;
+    let standings = vec![in alloc; Standing {
+        waiting: None,
+        overruns: 0
+    }; places.len()]?;
+    Ok(ReadyList {
+        places,
+        samples,
+        standings,
+        first: 0,
+        last: 0,
+        rows: 0,
+    })
+}
+
+impl ReadyList {
+    /// The list of a plan before its first row: nothing waits. It fails only where memory is short.
+    pub fn new(alloc: Global, plan: &Plan) -> Result<ReadyList, AllocError>
+        ensures places { IfOk result (λ r. r.places ≡ places_in (plan_view plan.now)) }
+        ensures number { IfOk result (λ r. length r.samples ≡ length plan.now.tasks.items) }
+        ensures rows { IfOk result (λ r. r.rows ≡ 0) }
+        ensures new { IfOk result (λ r. IsReadyOf no_history r) }
+    {
+        let places = places_of(alloc, &plan.tasks, &plan.programs)?;
+        list_of(alloc, places, plan.tasks.len())
+    }
+
+    /// Takes a row: its moment in milliseconds, later than that of the row before and less than 2^62, and a sample of SINGLE for
+    /// each task, FALSE where it has none. It takes no memory.
+    pub fn due(&mut self, moment: u64, samples: &[bool])
+        requires number { length samples.now ≡ length self.old.samples }
+        requires later { 0 < self.old.rows → self.old.last < moment }
+        requires limit { moment < 2 ^ 62 }
+        ensures places { self.new.places ≡ self.old.places }
+        ensures number { length self.new.samples ≡ length self.old.samples }
+        ensures last { self.new.last ≡ moment }
+        ensures rows { self.new.rows ≡ self.old.rows + 1 }
+        ensures due { (h : History) → IsReadyOf h self.old → IsReadyOf (with_tick h moment samples.now) self.new }
+    {
+        let start = self.rows == 0;
+        let row = NewRow {
+            number: self.rows,
+            first: moment_or(start, moment, self.first),
+            last: moment_or(start, moment, self.last),
+            moment,
+        };
+        mark_all(
+            &self.places,
+            &mut self.standings,
+            &self.samples,
+            samples,
+            row,
+        );
+        self.samples.copy_from_slice(samples);
+        self.first = row.first;
+        self.last = moment;
+        self.rows += 1;
+    }
+
+    /// What is to run next on the resource, by its number from 0: of what waits there the lowest PRIORITY number, then the lowest
+    /// row, then the program that was declared first. None where nothing waits.
+    #[tactic(auto, using(crate::proofs::BestLemmas::best_first))]
+    pub fn best(&self, resource: usize) -> Option<Activation>
+        ensures { (h : History) → IsReadyOf h self.now → MatchOption result (NoneWaits self.now.places h resource) (IsBest self.now.places h resource) }
+    {
+        first_of(&self.places, &self.standings, resource)
+    }
+
+    /// Whether the activation waits.
+    pub fn waits(&self, a: Activation) -> bool
+        ensures { (h : History) → IsReadyOf h self.now → IsTrue result ↔ Waits self.now.places h a }
+    {
+        is_listed(&self.standings, a)
+    }
+
+    /// Takes the activation away and gives true, where it waits; else it changes nothing.
+    pub fn remove(&mut self, a: Activation) -> bool
+        ensures places { self.new.places ≡ self.old.places }
+        ensures number { length self.new.samples ≡ length self.old.samples }
+        ensures last { self.new.last ≡ self.old.last }
+        ensures rows { self.new.rows ≡ self.old.rows }
+        ensures remove { (h : History) → IsReadyOf h self.old → Removes h self.old a result self.new }
+    {
+        if !is_listed(&self.standings, a) {
+            return false;
+        }
+        self.standings[a.program] = taken(self.standings[a.program]);
+        true
+    }
+
+    /// How often the program, by its number from 0, was due while it waited; 0 for one that isn't there.
+    #[tactic(auto, using(crate::proofs::ReadyLemmas::overruns_there))]
+    pub fn overruns(&self, program: usize) -> u64
+        ensures none { length self.now.places ≤ program → result ≡ 0 }
+        ensures overruns { (h : History) → IsReadyOf h self.now → program < length self.now.places → HasOverruns self.now.places h program result }
+    {
+        standing_at(&self.standings, program).overruns
+    }
+}

@@ -1,0 +1,123 @@
+//! What is kept for each program, and how a row changes it.
+
+ghost use Rattle.std.specs.Prelude.{◌≡◌, ◌<◌, ◌^◌, ◌==◌, None, All, length};
+ghost use Rattle.st_types.specs.Due.{sample as sample_in, rule};
+ghost use Rattle.ready_list.specs.Ready.{is_due_at, marked as marked_by, AreMarked};
+
+use st_types::Place;
+
+/// What is kept for a program.
+#[derive(Clone, Copy)]
+pub struct Standing {
+    /// The row that the program waits with.
+    pub waiting: Option<u64>,
+    /// How often the program was due while it waited.
+    pub overruns: u64,
+}
+
+/// A row that is being latched. Moments are in milliseconds; of the first row all three are its own.
+#[derive(Clone, Copy)]
+pub struct NewRow {
+    /// How many rows stand before it.
+    pub number: u64,
+    /// The moment of the life's first row.
+    pub first: u64,
+    /// The moment of the row before.
+    pub last: u64,
+    pub moment: u64,
+}
+
+/// A task's sample of SINGLE; FALSE where there is none.
+fn sample(samples: &[bool], task: usize) -> bool
+    ensures { result ≡ sample_in samples.now task }
+{
+    match samples.get(task) {
+        Some(b) => *b,
+        None => false,
+    }
+}
+
+/// Whether a program is due at the row, by its task's interval and the samples of SINGLE at the row before and at this one.
+fn is_due(row: NewRow, interval: u64, before: bool, sample: bool) -> bool
+    ensures { result ≡ rule interval (row.number == 0) before sample row.first row.last row.moment }
+{
+    if sample {
+        return !before;
+    }
+    if interval == 0 {
+        return false;
+    }
+    if row.number == 0 {
+        return true;
+    }
+    let intervals = row.last.saturating_sub(row.first) / interval;
+    intervals < row.moment.saturating_sub(row.first) / interval
+}
+
+/// A program that is due waits from then on; where it waits already, it has one overrun more.
+fn marked(standing: Standing, is_due: bool, number: u64) -> Standing
+    requires { standing.overruns < 2 ^ 63 }
+    ensures { result ≡ marked_by standing is_due number }
+{
+    if !is_due {
+        return standing;
+    }
+    match standing.waiting {
+        None => Standing {
+            waiting: Some(number),
+            overruns: standing.overruns,
+        },
+        Some(waiting) => Standing {
+            waiting: Some(waiting),
+            overruns: standing.overruns + 1,
+        },
+    }
+}
+
+/// What is kept for a program behind the row.
+fn next(
+    place: Place,
+    row: NewRow,
+    before: &[bool],
+    samples: &[bool],
+    standing: Standing,
+) -> Standing
+    requires { standing.overruns < 2 ^ 63 }
+    ensures { result ≡ marked_by standing (is_due_at row place before.now samples.now) row.number }
+{
+    let is_due = is_due(
+        row,
+        place.interval,
+        sample(before, place.task),
+        sample(samples, place.task),
+    );
+    marked(standing, is_due, row.number)
+}
+
+/// A program that was taken waits no more.
+pub fn taken(standing: Standing) -> Standing
+    ensures { result ≡ record { waiting = None; overruns = standing.overruns } }
+{
+    Standing {
+        waiting: None,
+        overruns: standing.overruns,
+    }
+}
+
+/// Marks each program that is due at the row.
+pub fn mark_all(
+    places: &[Place],
+    standings: &mut Vec<Standing>,
+    before: &[bool],
+    samples: &[bool],
+    row: NewRow,
+)
+    requires sized { length standings.old.items ≡ length places.now }
+    requires room { All (λ s. s.overruns < 2 ^ 63) standings.old.items }
+    ensures sized { length standings.new.items ≡ length standings.old.items }
+    ensures marked { AreMarked places.now standings.old.items standings.new.items before.now samples.now row }
+{
+    for program in 0..places.len() {
+        standings[program] = next(places[program], row, before, samples, standings[program]);
+    }
+}
