@@ -11,7 +11,7 @@ use Rattle.st_trees.specs.UnitViews.{unit_view}
 use Rattle.st_trees.specs.Depths.{depth_of_stmt}
 use Rattle.st_types.specs.declared.plan.PlanVariable.{PlanVariable}
 use Rattle.st_types.specs.declared.plan.PlanInput.{PlanInput}
-use Rattle.config.specs.Thin.{is_program, is_thin_block, is_undeclared, is_typed_stmt, is_thin_unit}
+use Rattle.config.specs.Thin.{is_program, is_short, is_thin_block, is_undeclared, is_typed_stmt, is_thin_unit}
 
 pub list_all_viewed : {X Y : Type 0} (p : X → Bool) (view : Y → X) (ys : List Y) → list_all p (map view ys) ≡ list_all (λ y. p (view y)) ys
 list_all_viewed p view ys = list_all-map p view ys
@@ -19,13 +19,14 @@ list_all_viewed p view ys = list_all-map p view ys
 -- where all else holds, a unit is thin where its statements are low
 pub unit_low : (variables : List PlanVariable) (inputs : List PlanInput) (u : code_unit.Unit) (low : Bool)
     → is_program u.sort ≡ true
+    → is_short u.name.name ≡ true
     → list_all (λ b. is_thin_block variables inputs (variable_block_view b)) u.blocks.items ≡ true
     → is_undeclared (type_in_blocks (map variable_block_view u.blocks.items) u.name.name) ≡ true
     → list_all (λ x. is_typed_stmt variables (map variable_block_view u.blocks.items) (stmt_view x)) u.body.items ≡ true
     → low ≡ list_all (λ x. nat_lt (depth_of_stmt (stmt_view x)) 65) u.body.items
     → low ≡ is_thin_unit variables inputs (unit_view u)
-unit_low variables inputs u low program blocks name typed is =
+unit_low variables inputs u low program short blocks name typed is =
     let b = list_all_viewed (is_thin_block variables inputs) variable_block_view u.blocks.items ∙ blocks in
     let t = list_all_viewed (is_typed_stmt variables (map variable_block_view u.blocks.items)) stmt_view u.body.items ∙ typed in
     let l = list_all_viewed (λ x. nat_lt (depth_of_stmt x) 65) stmt_view u.body.items in
-    rw (program, b, name, t, l) is
+    rw (program, short, b, name, t, l) is

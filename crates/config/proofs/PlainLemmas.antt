@@ -24,7 +24,7 @@ use Rattle.st_types.specs.Resolution.{resolved_expr, operand_kind}
 use Rattle.st_types.specs.ResolvedUnits.{resolved, resolved_stmt}
 use Rattle.slot_code.specs.declared.global.GlobalSlot.{GlobalSlot}
 use Rattle.slot_code.specs.Globals.{global_named, is_known, is_assignable, is_sum, is_plain, are_plain}
-use Rattle.config.specs.Thin.{is_variable_of, is_thin_block, kind_in, is_of, is_typed, is_typed_for, is_typed_stmt, is_program, is_undeclared, is_thin_unit}
+use Rattle.config.specs.Thin.{is_variable_of, is_thin_block, kind_in, is_of, is_typed, is_typed_for, is_typed_stmt, is_program, is_short, is_undeclared, is_thin_unit}
 use Rattle.config.proofs.ExternalLemmas.{absent}
 
 -- the globals of these names are known
@@ -103,7 +103,7 @@ unit_plain text u variables inputs globals h names out =
     let other = is_undeclared (type_in_blocks u.blocks u.name.name) in
     let typed = list_all (is_typed_stmt variables u.blocks) u.body in
     let low = list_all (λ x. nat_lt (depth_of_stmt x) 65) u.body in
-    let p = and_parts (is_program u.sort) (thin && (other && (typed && low))) h in
+    let p = and_parts (is_program u.sort && is_short u.name.name) (thin && (other && (typed && low))) h in
     let q = and_parts thin (other && (typed && low)) p.1 in
     let r = and_parts other (typed && low) q.1 in
     body_plain text u variables globals u.body (record { known = named_globals variables inputs u.blocks globals q.0 names; assignable = out }) (and_parts typed low r.1).0

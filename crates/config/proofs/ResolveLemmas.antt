@@ -28,7 +28,7 @@ use Rattle.st_types.specs.NameTypes.{Text, is_named, elementary, result_kind, ty
 use Rattle.st_types.specs.Resolution.{own_kind, is_untyped, operand_kind, taken_kind, resolved_expr}
 use Rattle.st_types.specs.ResolvedUnits.{resolved, resolved_stmt, resolved_type, resolved_initial, resolved_declaration, resolved_block}
 use Rattle.st_types.proofs.Shapes.{same_kind_is}
-use Rattle.config.specs.Thin.{is_variable_of, are_there, is_absent, is_thin_declaration, is_thin_block, kind_in, is_of, is_of_or_none, is_typed, is_typed_for, is_typed_stmt, is_program, is_undeclared, is_thin_unit}
+use Rattle.config.specs.Thin.{is_variable_of, are_there, is_absent, is_thin_declaration, is_thin_block, kind_in, is_of, is_of_or_none, is_typed, is_typed_for, is_typed_stmt, is_program, is_short, is_undeclared, is_thin_unit}
 use Rattle.config.specs.Filled.{filled, filled_for, filled_stmt}
 
 -- the types of a unit's names are those of its externals
@@ -167,9 +167,9 @@ unit_resolved text u variables inputs body h e =
     let other = is_undeclared (type_in_blocks u.blocks u.name.name) in
     let typed = list_all (is_typed_stmt variables u.blocks) u.body in
     let low = list_all (λ x. nat_lt (depth_of_stmt x) 65) u.body in
-    let p = and_parts (is_program u.sort) (thin && (other && (typed && low))) h in
+    let p = and_parts (is_program u.sort && is_short u.name.name) (thin && (other && (typed && low))) h in
     let q = and_parts thin (other && (typed && low)) p.1 in
     let r = and_parts other (typed && low) q.1 in
-    let agrees = agrees_in text u variables inputs p.0 q.0 r.0 in
+    let agrees = agrees_in text u variables inputs (and_parts (is_program u.sort) (is_short u.name.name) p.0).0 q.0 r.0 in
     ap (λ b. record u { body = b }) (e ∙ sym (body_is text u variables u.body agrees (and_parts typed low r.1).0))
     ∙ ap (λ bs. record u { blocks = bs; body = map (resolved_stmt text u) u.body }) (sym (blocks_are text variables inputs u.blocks q.0))

@@ -27,7 +27,7 @@ use Rattle.st_types.specs.ResolvedUnits.{resolved}
 use Rattle.slot_code.specs.declared.global.GlobalSlot.{GlobalSlot}
 use Rattle.slot_code.specs.Globals.{IsPlain, global_named, are_plain}
 use Rattle.config.specs.declared.thin_program.ThinProgram.{ThinProgram}
-use Rattle.config.specs.Thin.{is_program, is_thin_block, is_variable_of, is_thin_unit}
+use Rattle.config.specs.Thin.{is_program, is_short, is_thin_block, is_variable_of, is_thin_unit}
 use Rattle.config.specs.declared.task.Program.{Program}
 use Rattle.config.specs.PlanViews.{program_view}
 use Rattle.st_types.specs.Slots.{IsLayout}
@@ -48,7 +48,7 @@ pub plain_unit : (new : code_unit.Unit) (u : OrganisationUnit) (text : Text) (va
     → ((k : Kind) (x : Name) (g : GlobalSlot) → is_variable_of variables k x ≡ true → global_named globals x ≡ Some g → g.is_input ≡ false)
     → IsPlain new globals
 plain_unit new u text variables inputs globals e h names out =
-    let p = and_parts (is_program u.sort) (list_all (is_thin_block variables inputs) u.blocks && _) h in
+    let p = and_parts (is_program u.sort && is_short u.name.name) (list_all (is_thin_block variables inputs) u.blocks && _) h in
     let q = and_parts (list_all (is_thin_block variables inputs) u.blocks) _ p.1 in
     record {
       names = names ∙ ap externals_in (sym (ap (λ v. v.blocks) e ∙ blocks_are text variables inputs u.blocks q.0));
@@ -84,7 +84,7 @@ thin_rest variables inputs left rest new h more = and_parts (is_thin_unit variab
 
 pub known_unit : (variables : List PlanVariable) (inputs : List PlanInput) (u : OrganisationUnit) (names : List Name) → is_thin_unit variables inputs u ≡ true → names ≡ externals_in u.blocks → list_all (is_named_in variables inputs) names ≡ true
 known_unit variables inputs u names h is =
-    let p = and_parts (is_program u.sort) (list_all (is_thin_block variables inputs) u.blocks && _) h in
+    let p = and_parts (is_program u.sort && is_short u.name.name) (list_all (is_thin_block variables inputs) u.blocks && _) h in
     let q = and_parts (list_all (is_thin_block variables inputs) u.blocks) _ p.1 in
     ap (list_all (is_named_in variables inputs)) is ∙ externals_known variables inputs u.blocks q.0
 

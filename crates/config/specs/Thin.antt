@@ -1,5 +1,5 @@
 -- What a unit of a thin plan may be: a program that assigns whole numbers, names and their sums to its externals.
-use Rattle.std.specs.Prelude.{nat_lt, List, Bool, true, false, ◌&&◌, ◌||◌, Option, Some, None, option_and_then}
+use Rattle.std.specs.Prelude.{nat_lt, length, List, Bool, true, false, ◌&&◌, ◌||◌, Option, Some, None, option_and_then}
 use Rattle.std.specs.List.{list_all, list_any}
 use Rattle.st_words.specs.declared.identifier.Identifier.{Identifier}
 use Rattle.st_words.specs.declared.kind.Kind.{Kind}
@@ -98,10 +98,14 @@ abbrev pub is_program : UnitSort → Bool
 is_program Program = true
 is_program _ = false
 
+-- a name of at most 64 characters
+abbrev pub is_short : Name → Bool
+is_short x = nat_lt (length x) 65
+
 -- a program whose externals are there, none of them of its own name, and whose body is of assignments, each at most 64 deep
 abbrev pub is_thin_unit : List PlanVariable → List PlanInput → OrganisationUnit → Bool
 is_thin_unit variables inputs u =
-    is_program u.sort
+    (is_program u.sort && is_short u.name.name)
     && (list_all (is_thin_block variables inputs) u.blocks
     && (is_undeclared (type_in_blocks u.blocks u.name.name)
     && (list_all (is_typed_stmt variables u.blocks) u.body

@@ -8,7 +8,7 @@ ghost use Rattle.st_trees.specs.DeclarationViews.{declaration_view, variable_blo
 ghost use Rattle.st_trees.specs.Depths.{depth_of_stmt};
 ghost use Rattle.st_trees.specs.UnitViews.{unit_view};
 ghost use Rattle.st_types.specs.NameTypes.{kind_of_type, type_in, type_in_blocks, is_named};
-ghost use Rattle.config.specs.Thin.{is_thin_kind, is_variable_of, is_input_of, is_there, are_there, is_absent, is_thin_declaration, is_thin_block, kind_in, is_of, is_of_or_none, is_literal_of, is_typed, is_typed_for, is_typed_stmt, is_program, is_thin_unit};
+ghost use Rattle.config.specs.Thin.{is_thin_kind, is_variable_of, is_input_of, is_there, are_there, is_absent, is_thin_declaration, is_thin_block, kind_in, is_of, is_of_or_none, is_literal_of, is_typed, is_typed_for, is_typed_stmt, is_program, is_short, is_thin_unit};
 
 use crate::global_path::is_global_of;
 use crate::lookup::{kind_in, kind_of_type, type_in_blocks};
@@ -197,6 +197,13 @@ fn are_low(statements: &[Stmt]) -> bool
     statements.iter().all(|x| is_low(x))
 }
 
+/// Whether the name has at most 64 characters.
+fn is_short(name: &Name) -> bool
+    ensures { result ≡ is_short name.now }
+{
+    name.as_slice().len() < 65
+}
+
 /// Whether the unit is a program of this version, whose externals are there.
 #[tactic(auto, using(crate::proofs::CheckLemmas::list_all_viewed, crate::proofs::CheckLemmas::unit_low))]
 pub fn is_thin_unit(variables: &[PlanVariable], inputs: &[PlanInput], unit: &Unit) -> bool
@@ -205,6 +212,9 @@ pub fn is_thin_unit(variables: &[PlanVariable], inputs: &[PlanInput], unit: &Uni
     let UnitSort::Program = unit.sort else {
         return false;
     };
+    if !is_short(&unit.name.name) {
+        return false;
+    }
     if !are_thin_blocks(variables, inputs, &unit.blocks) {
         return false;
     }
