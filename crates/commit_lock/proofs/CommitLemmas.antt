@@ -1,6 +1,5 @@
 -- What a core keeps when an execution is committed.
-use Rattle.std.proofs.Common.{◌≡◌, ℕ, zero, suc, Bool, true, false, IsTrue, ◌↔◌, List, [], ◌∷◌, ◌++◌, length, map, Option, Some, None, option_map, slice_get, slice_index, refl, sym, ap, subst, ◌∙◌, arith, length-append}
-use Rattle.std.specs.List.{fold}
+use Rattle.std.proofs.Common.{◌≡◌, ℕ, Bool, true, false, IsTrue, ◌↔◌, List, [], ◌∷◌, ◌++◌, length, map, Option, Some, option_map, slice_get, slice_index, refl, sym, ap, subst, ◌∙◌, arith, length-append}
 use Rattle.std.proofs.lemmas.Option.{slice_get-map}
 use Rattle.st_words.specs.Values.{Datum}
 use Rattle.st_types.specs.declared.entry.Entry.{Entry}
@@ -17,7 +16,7 @@ use Rattle.st_types.specs.Layouts.{layout_of}
 use Rattle.st_types.specs.Due.{History, Waits, with_run}
 use Rattle.st_types.specs.Plans as plans
 use Rattle.st_types.specs.Plans.{places_of, image_of, program_at, after_run}
-use Rattle.st_types.specs.Logs.{Past, past_of, row_at, with_entry, outcome_at, outcomes_from, beginning, outcomes_of, done_follows}
+use Rattle.st_types.specs.Logs.{Past, past_of, row_at, outcome_at, outcomes_of, done_follows}
 use Rattle.st_types.proofs.LogLemmas.{past_of-add, IsLegal-add}
 use Rattle.slot_code.specs.declared.code.Code.{Code}
 use Rattle.slot_code.specs.Globals.{Fits}
@@ -30,26 +29,10 @@ use Rattle.config.specs.PlanViews.{plan_view, program_view}
 use Rattle.ready_list.specs.Ready.{Ready, IsReadyOf, Removes}
 use Rattle.commit_lock.specs.Steps.{store_in, code_at, IsOwnOf}
 use Rattle.commit_lock.specs.Kept.{IsOfPast, IsKept}
+use Rattle.commit_lock.proofs.OutcomeLemmas.{outcomes_of-add}
+use Rattle.commit_lock.proofs.VariableLemmas.{get-add}
 use Rattle.commit_lock.proofs.PlanSlots.{variables_alone, inputs_behind, variables_written, length_layout}
 use Rattle.commit_lock.proofs.TakeLemmas.{found, same_row, values_are, waits-row, row-there}
-
--- a log with one entry more
-outcomes_from-add : (plan : plans.Plan) (past : Past) (log : List Entry) (e : Entry) → outcomes_from plan past (log ++ e ∷ []) ≡ outcomes_from plan past log ++ outcome_at plan (fold (with_entry plan) past log) e ∷ []
-outcomes_from-add plan past [] e = refl
-outcomes_from-add plan past (x ∷ log) e = ap (λ t. outcome_at plan past x ∷ t) (outcomes_from-add plan (with_entry plan past x) log e)
-
-pub outcomes_of-add : (plan : plans.Plan) (start : Store) (log : List Entry) (e : Entry) → outcomes_of plan start (log ++ e ∷ []) ≡ outcomes_of plan start log ++ outcome_at plan (past_of plan start log) e ∷ []
-outcomes_of-add plan start log e = outcomes_from-add plan (beginning start) log e
-
-outcomes_counted : (plan : plans.Plan) (past : Past) (log : List Entry) → length (outcomes_from plan past log) ≡ length log
-outcomes_counted plan past [] = refl
-outcomes_counted plan past (x ∷ log) = ap suc (outcomes_counted plan (with_entry plan past x) log)
-
-entry_stays : (xs ys : List Entry) (i : ℕ) (x : Entry) → slice_get xs i ≡ Some x → slice_get (xs ++ ys) i ≡ Some x
-entry_stays [] ys zero x h = absurd (let y : ◌≡◌ {A = Option Entry} None (Some x) = h in cc)
-entry_stays [] ys (suc i) x h = absurd (let y : ◌≡◌ {A = Option Entry} None (Some x) = h in cc)
-entry_stays (y ∷ xs) ys zero x h = h
-entry_stays (y ∷ xs) ys (suc i) x h = entry_stays xs ys i x h
 
 -- equal texts run alike
 same_run : (X : Type 0) (f : runs.Program → ℕ → Store → Store → ℕ → X) (t t' : Text) (b b' : ℕ) (s s' i i' : Store) (m m' : ℕ) → t ≡ t' → b ≡ b' → s ≡ s' → i ≡ i' → m ≡ m' → f (program_of t) b s i m ≡ f (program_of t') b' s' i' m'
@@ -120,9 +103,6 @@ pub IsTrueOf-same : (e e' : Effect) → e ≡ e' → IsTrueOf e.code e.moment e.
 IsTrueOf-same e e' same h = subst (λ (x : Effect). IsTrueOf x.code x.moment x.budget x.reads x.writes x.outcome) same h
 
 module _ {plan : Plan} {start values : List Datum} {before : Option ℕ} {samples : List Bool} {log : List Entry} {outcomes : List (Option Outcome)} {rows : List ℕ} {last : Option ℕ} {ready : Ready} (kept : IsKept plan start before values samples log outcomes rows last ready) where
-  pub outcomes_kept : length outcomes ≡ length log
-  outcomes_kept = ap length kept.outcomes_are ∙ outcomes_counted (plan_view plan) (beginning (store_in plan start)) log
-
   -- with a Done of what waits
   IsKept-done : (a : Activation) (outcome : Outcome) (values' : List Datum) (ready' : Ready) → Waits (places_of (plan_view plan)) (past_of (plan_view plan) (store_in plan start) log).history a → length values' ≡ length values
       → store_in plan values' ≡ after_run (plan_view plan) (program_at (plan_view plan) a.program) (past_of (plan_view plan) (store_in plan start) log).store (row_at (past_of (plan_view plan) (store_in plan start) log).rows a.row)
@@ -142,7 +122,7 @@ module _ {plan : Plan} {start values : List Datum} {before : Option ℕ} {sample
         tasks = tasks ∙ kept.tasks;
         of_past = subst (IsOfPast plan before values' (log ++ Done a ∷ []) rows last ready') (sym (past_of-add (plan_view plan) (store_in plan start) log (Done a))) record {
           variables = store;
-          rows_are = λ k h. entry_stays log (Done a ∷ []) (slice_index rows k) _ (kept.of_past.rows_are k h);
+          rows_are = λ k h. get-add log (Done a ∷ []) (slice_index rows k) _ (kept.of_past.rows_are k h);
           row_count = kept.of_past.row_count;
           tick_count = kept.of_past.tick_count;
           images = kept.of_past.images;

@@ -1,6 +1,6 @@
 -- What a core keeps, after a row.
 use Rattle.std.proofs.Common.{◌≡◌, ℕ, ◌+◌, ◌<◌, inl, inr, Bool, true, false, ◌&&◌, List, [], ◌∷◌, ◌++◌, length, map, Option, Some, None, slice_get, slice_index, refl, sym, ap, subst, ◌∙◌, arith, length-append}
-use Rattle.std.specs.List.{list_all, fold}
+use Rattle.std.specs.List.{list_all}
 use Rattle.std.proofs.lemmas.List.{get_or_append_left, length-map}
 use Rattle.std.proofs.Math.Seq.{get_or-append_seam}
 use Rattle.std.proofs.lemmas.Bool.Decides.{eqb_tells}
@@ -11,13 +11,11 @@ use Rattle.st_types.specs.declared.entry.Outcome.{Outcome}
 use Rattle.st_types.specs.declared.plan.PlanVariable.{PlanVariable}
 use Rattle.st_types.specs.declared.plan.PlanInput.{PlanInput}
 use Rattle.st_types.specs.Rows.{Latch}
-use Rattle.st_types.specs.Stores.{Store}
 use Rattle.st_types.specs.Slots.{IsLayout, variables_in}
 use Rattle.st_types.specs.Layouts.{layout_of}
 use Rattle.st_types.specs.Due.{History, with_tick}
-use Rattle.st_types.specs.Plans as plans
-use Rattle.st_types.specs.Plans.{places_of, samples_of, sample_of, is_on, holds_each, fits}
-use Rattle.st_types.specs.Logs.{Past, with_entry, beginning, past_of, row_at, is_later, outcome_at, outcomes_from, outcomes_of, row_follows}
+use Rattle.st_types.specs.Plans.{samples_of, sample_of, is_on, fits}
+use Rattle.st_types.specs.Logs.{past_of, row_at, is_later, row_follows}
 use Rattle.st_types.proofs.LogLemmas.{past_of-add, IsLegal-add, last_moment-add}
 use Rattle.config.specs.declared.task.Trigger.{Trigger}
 use Rattle.config.specs.declared.task.Trigger.TheVariants.{Absent, Input, Variable}
@@ -29,6 +27,7 @@ use Rattle.ready_list.specs.Ready.{Ready, IsReadyOf}
 use Rattle.commit_lock.specs.Samples.{sample_at, sample_task}
 use Rattle.commit_lock.specs.Steps.{store_in}
 use Rattle.commit_lock.specs.Kept.{IsOfPast, IsKept}
+use Rattle.commit_lock.proofs.OutcomeLemmas.{outcomes_of-add}
 use Rattle.commit_lock.proofs.RowLemmas.{length_held}
 use Rattle.commit_lock.proofs.VariableLemmas.{get-add, get-end, get_in}
 
@@ -42,17 +41,6 @@ right_of_and false b e = absurd (cc)
 
 image_length : (plan : Plan) (row : Latch) → fits (plan_view plan) row ≡ true → length row.image ≡ length plan.inputs.items
 image_length plan row e = length_held plan.inputs.items row.image (left_of_and _ _ e)
-
-outcomes_from-add : (plan : plans.Plan) (past : Past) (log : List Entry) (e : Entry) → outcomes_from plan past (log ++ e ∷ []) ≡ outcomes_from plan past log ++ outcome_at plan (fold (with_entry plan) past log) e ∷ []
-outcomes_from-add plan past [] e = refl
-outcomes_from-add plan past (x ∷ log) e = ap (λ (os : List (Option Outcome)). outcome_at plan past x ∷ os) (outcomes_from-add plan (with_entry plan past x) log e)
-
-pub outcomes_of-add : (plan : plans.Plan) (start : Store) (log : List Entry) (e : Entry) → outcomes_of plan start (log ++ e ∷ []) ≡ outcomes_of plan start log ++ outcome_at plan (past_of plan start log) e ∷ []
-outcomes_of-add plan start log e = outcomes_from-add plan (beginning start) log e
-
-length_outcomes : (plan : plans.Plan) (past : Past) (log : List Entry) → length (outcomes_from plan past log) ≡ length log
-length_outcomes plan past [] = refl
-length_outcomes plan past (e ∷ log) = let r = length_outcomes plan (with_entry plan past e) log in omega arith
 
 -- the samples by slots are those by paths
 variable_same : (vs : List PlanVariable) (ins : List PlanInput) (ds image : List Datum) (k : ℕ) (o : Option PlanVariable) → IsLayout (layout_of vs ins) → length ds ≡ length vs → slice_get vs k ≡ o → is_boolean_variable o ≡ true
@@ -79,9 +67,6 @@ module _ {plan : Plan} {start values : List Datum} {before : Option ℕ} {sample
   sampled row =
       samples_same plan.variables.items plan.inputs.items values row.image plan.tasks.items plan.sound.layout kept.sized plan.sound.singles
       ∙ ap (λ s. samples_of (plan_view plan) s row.image) kept.of_past.variables
-
-  pub outcomes_long : length outcomes ≡ length log
-  outcomes_long = ap (λ (os : List (Option Outcome)). length os) kept.outcomes_are ∙ length_outcomes (plan_view plan) (beginning (store_in plan start)) log
 
   rows_then : (row : Latch) (k : ℕ) → k < length (rows ++ length log ∷ []) → slice_get (log ++ Row row ∷ []) (slice_index (rows ++ length log ∷ []) k) ≡ Some (Row (row_at ((past_of (plan_view plan) (store_in plan start) log).rows ++ row ∷ []) k))
   rows_then row k h = elim (eqb_tells k (length rows)) [

@@ -6,3 +6,5 @@ pub mod PlanSlots
 pub mod TakeLemmas
 pub mod CommitLemmas
 pub mod ReadingLemmas
+pub mod DriveLemmas
+pub mod OutcomeLemmas

@@ -1,6 +1,8 @@
 //! Committing an execution.
 
 ghost use Rattle.std.specs.Prelude.{◌≡◌, ◌<◌, ◌↔◌, IsTrue, length};
+ghost use Rattle.st_types.specs.Due.{History};
+ghost use Rattle.ready_list.specs.Ready.{IsReadyOf, Removes};
 ghost use Rattle.commit_lock.specs.Steps.{Commits, IsOwnOf};
 
 use crate::cells::{stand, write_all};
@@ -8,8 +10,9 @@ use crate::refusal::{Answer, Refusal};
 use crate::rows::row_of;
 use crate::serial::{Core, push_within};
 use config::Plan;
+use ready_list::ReadyList;
 use slot_run::Execution;
-use st_types::{Entry, Row};
+use st_types::{Activation, Entry, Row};
 
 /// Whether the execution is of its activation's own program and row, under the plan's budget.
 fn is_own(plan: &Plan, row: &Row, execution: &Execution) -> bool
@@ -20,6 +23,17 @@ fn is_own(plan: &Plan, row: &Row, execution: &Execution) -> bool
     execution.moment() == row.moment()
         && execution.budget() == plan.budget
         && plan.programs[program].code.is(execution.code())
+}
+
+/// Takes an activation that is done off the list of those that wait.
+fn settle(ready: &mut ReadyList, activation: Activation) -> bool
+    ensures places { ready.new.places ≡ ready.old.places }
+    ensures number { length ready.new.samples ≡ length ready.old.samples }
+    ensures last { ready.new.last ≡ ready.old.last }
+    ensures rows { ready.new.rows ≡ ready.old.rows }
+    ensures remove { (h : History) → IsReadyOf h ready.old → Removes h ready.old activation result ready.new }
+{
+    ready.remove(activation)
 }
 
 impl Core {
@@ -48,7 +62,7 @@ impl Core {
         write_all(&mut self.values, execution.writes());
         push_within(&mut self.outcomes, Some(execution.outcome()));
         push_within(&mut self.log, Entry::Done(activation));
-        let _ = self.ready.remove(activation);
+        let _ = settle(&mut self.ready, activation);
         Ok(Answer::Committed(self.log.len()))
     }
 }

@@ -3,6 +3,8 @@
 
 mod cells;
 mod committing;
+mod driving;
+mod event;
 mod latching;
 mod lookup;
 mod reading;
@@ -13,5 +15,7 @@ mod serial;
 mod starting;
 mod taking;
 
+pub use driving::drive;
+pub use event::{Event, Reply};
 pub use refusal::{Answer, Refusal, StartFault};
 pub use serial::Core;

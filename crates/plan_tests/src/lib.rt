@@ -2,7 +2,13 @@
 #![tactic(auto)]
 
 #[cfg(test)]
+mod adding_programs;
+#[cfg(test)]
 mod commits;
+#[cfg(test)]
+mod drives;
+#[cfg(test)]
+mod foreign;
 #[cfg(test)]
 mod runs;
 #[cfg(test)]

@@ -34,18 +34,18 @@ pub struct Counts {
     pub retained: usize,
 }
 
-fn name(alloc: Global, text: &str) -> Result<Name, AllocError> {
+pub(crate) fn name(alloc: Global, text: &str) -> Result<Name, AllocError> {
     Name::from_slice(alloc, text.as_bytes())
 }
 
-fn identifier(alloc: Global, text: &str) -> Result<Identifier, AllocError> {
+pub(crate) fn identifier(alloc: Global, text: &str) -> Result<Identifier, AllocError> {
     Ok(Identifier {
         name: name(alloc, text)?,
         place: 0,
     })
 }
 
-fn variable(alloc: Global, text: &str) -> Result<Variable, AllocError> {
+pub(crate) fn variable(alloc: Global, text: &str) -> Result<Variable, AllocError> {
     Ok(Variable::new(identifier(alloc, text)?, Vec::new(alloc)))
 }
 
@@ -66,7 +66,7 @@ fn addition(alloc: Global, target: &str, step: u64) -> Result<Stmt, AllocError> 
     Ok(Stmt::assign(variable(alloc, target)?, sum))
 }
 
-fn externals(
+pub(crate) fn externals(
     alloc: Global,
     section: Section,
     text: &str,
@@ -92,7 +92,7 @@ fn program(alloc: Global, scene: Scene) -> Result<Unit, AllocError> {
     })
 }
 
-fn global(alloc: Global, text: &str, kind: Kind) -> Result<PlanVariable, AllocError> {
+pub(crate) fn global(alloc: Global, text: &str, kind: Kind) -> Result<PlanVariable, AllocError> {
     Ok(PlanVariable {
         path: Path::global(alloc, name(alloc, text)?),
         initial: Value::new(kind, 0).unwrap_or(Value::truth(false)),

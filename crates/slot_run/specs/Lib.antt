@@ -1,3 +1,4 @@
 pub mod Cells
 pub mod Steps
 pub mod Effects
+pub mod Executions

@@ -9,6 +9,7 @@ ghost use Rattle.slot_code.specs.Globals.{is_plain};
 ghost use Rattle.slot_code.specs.Codes.{text_of};
 ghost use Rattle.slot_run.specs.Cells.{cut, cut_of, with_cell};
 ghost use Rattle.slot_run.specs.Effects.{is_variable_slot};
+ghost use Rattle.slot_run.specs.Executions.{IsEffectOf};
 ghost use Rattle.slot_run.specs.Steps.{IsVariable, Runs, Steps, kept};
 
 use crate::cell::Cell;
@@ -118,12 +119,7 @@ fn kept(outcome: Outcome, mut writes: Vec<Cell>) -> Vec<Cell>
 ///
 /// An error is want of memory alone.
 pub fn run(alloc: Global, snapshot: Snapshot) -> Result<Execution, AllocError>
-    ensures code { IfOk result (λ e. e.code ≡ snapshot.code.value) }
-    ensures activation { IfOk result (λ e. e.activation ≡ snapshot.activation) }
-    ensures moment { IfOk result (λ e. e.moment ≡ snapshot.moment) }
-    ensures budget { IfOk result (λ e. e.budget ≡ snapshot.budget) }
-    ensures agrees { IfOk result (λ e. agrees snapshot.slots.items e.reads ≡ true) }
-    ensures all { IfOk result (λ e. map (λ c. c.0) e.reads ≡ map (λ g. g.slot) snapshot.code.value.globals.items) }
+    ensures { IfOk result (IsEffectOf snapshot) }
 {
     let Snapshot {
         code,

@@ -8,11 +8,12 @@ use Rattle.config.specs.PlanViews.{plan_view}
 use Rattle.ready_list.specs.Ready.{IsReadyOf}
 use Rattle.commit_lock.specs.Samples.{sample_task}
 use Rattle.commit_lock.specs.Steps.{State, made, store_in, comes_later, grown}
-use Rattle.commit_lock.proofs.LatchLemmas.{kept_latch, outcomes_long}
+use Rattle.commit_lock.proofs.LatchLemmas.{kept_latch}
+use Rattle.commit_lock.proofs.OutcomeLemmas.{outcomes_kept}
 use Rattle.commit_lock.proofs.serial.Core.latch.Goals as goal
 
 pub push_within-requires-2 : goal.push_within-requires-2
-push_within-requires-2 c = record { room = omega (arith, c.self.inside.outcomes.ok.0, c.self.inside.log.ok.0, outcomes_long c.self.invariant.0) }
+push_within-requires-2 c = record { room = omega (arith, c.self.inside.outcomes.ok.0, c.self.inside.log.ok.0, outcomes_kept c.self.invariant.0) }
 
 pub invariant_of-self : goal.invariant_of-self
 invariant_of-self c =

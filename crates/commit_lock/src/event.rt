@@ -1,0 +1,27 @@
+//! Calls of a core as data, and what they are answered.
+
+use crate::refusal::{Answer, Refusal};
+use st_types::Row;
+
+/// A call of a core.
+#[derive(Drop)]
+pub enum Event {
+    /// Latches a row.
+    Latch(Row),
+    /// Takes the best activation that waits on a resource, and holds it.
+    Take(usize),
+    /// Runs and commits what the take of this number gave. The takes of a list are counted from 0.
+    Commit(usize),
+}
+
+/// What an event is answered.
+#[derive(Clone, Copy, Debug, PartialEq, Eq)]
+pub enum Reply {
+    /// The number of the row that was latched, from 0.
+    Latched(usize),
+    /// Whether something was taken.
+    Taken(bool),
+    /// What became of an execution.
+    Answered(Answer),
+    Refused(Refusal),
+}
