@@ -1,10 +1,5 @@
-pub mod RowLemmas
-pub mod VariableLemmas
-pub mod LatchLemmas
-pub mod LookupLemmas
-pub mod PlanSlots
-pub mod TakeLemmas
-pub mod CommitLemmas
-pub mod ReadingLemmas
+pub mod RecordLemmas
+pub mod StartLemmas
+pub mod SurvivalLemmas
+pub mod CallLemmas
 pub mod DriveLemmas
-pub mod OutcomeLemmas

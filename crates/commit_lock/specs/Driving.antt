@@ -1,16 +1,21 @@
 -- A list of calls, one after another.
 use Rattle.std.specs.Prelude.{◌≡◌, ◌⊎◌, ℕ, true, false, List, [], ◌∷◌, ◌++◌, Option, Some, None, Result, Ok, Err, slice_get, slice_set, option_and_then}
+use Rattle.disk.specs.Runs.{LeavesOnly}
 use Rattle.slot_run.specs.Effects.{Effect}
 use Rattle.slot_run.specs.Executions.{IsEffectOf}
 use Rattle.slot_run.specs.declared.snapshot.Snapshot.{Snapshot}
-use Rattle.commit_lock.specs.declared.refusal.Answer.{Answer}
+use Rattle.serial_core.specs.declared.refusal.Answer.{Answer}
+use Rattle.serial_core.specs.declared.refusal.Refusal.TheVariants.{NotWaiting, NoMemory}
+use Rattle.serial_core.specs.Steps.{Latches, Takes, Commits, CommitsHere}
+use Rattle.retain_store.specs.Recovered.{recovered}
 use Rattle.commit_lock.specs.declared.refusal.Refusal.{Refusal}
-use Rattle.commit_lock.specs.declared.refusal.Refusal.TheVariants.{NotWaiting, NoMemory}
+use Rattle.commit_lock.specs.declared.refusal.Refusal.TheVariants.{Serial}
 use Rattle.commit_lock.specs.declared.event.Event.{Event}
-use Rattle.commit_lock.specs.declared.event.Event.TheVariants.{Latch, Take, Commit}
+use Rattle.commit_lock.specs.declared.event.Event.TheVariants.{Latch, Take, Commit, CommitHere, Flush}
 use Rattle.commit_lock.specs.declared.event.Reply.{Reply}
-use Rattle.commit_lock.specs.declared.event.Reply.TheVariants.{Latched, Taken, Answered, Refused}
-use Rattle.commit_lock.specs.Steps.{State, Latches, Commits, none_waits, IsSnapshotOf}
+use Rattle.commit_lock.specs.declared.event.Reply.TheVariants.{Latched, Taken, Answered, Here, Flushed, Refused}
+use Rattle.commit_lock.specs.Cores.{CoreView, Guards, survives}
+use Rattle.commit_lock.specs.Flushing.{Flushes}
 
 -- what each take gave so far: none where nothing waited or the take was refused, and none once it was used
 abbrev pub Held : Type 0
@@ -19,37 +24,56 @@ Held = List (Option Snapshot)
 abbrev pub held_at : Held → ℕ → Option Snapshot
 held_at held i = option_and_then (λ o. o) (slice_get held i)
 
-abbrev pub reply_to_latch : Result ℕ Refusal → Reply
-reply_to_latch (Ok n) = Latched n
-reply_to_latch (Err refusal) = Refused refusal
+-- what an answer is as a reply
+abbrev pub reply_to : {A : Type 0} → (A → Reply) → Result A Refusal → Reply
+reply_to said (Ok a) = said a
+reply_to said (Err refusal) = Refused refusal
 
--- what a take is answered, and what is held of it
-abbrev pub TakesHeld : State → ℕ → Reply → Option Snapshot → Type 0
-TakesHeld state resource (Taken there) None = (there ≡ false) × none_waits state resource
-TakesHeld state resource (Taken there) (Some snapshot) = (there ≡ true) × IsSnapshotOf state resource snapshot
-TakesHeld state resource (Refused refusal) o = (refusal ≡ NoMemory) × (o ≡ None) × (none_waits state resource → ⊥)
-TakesHeld state resource reply o = ⊥
+-- whether something was taken
+abbrev pub taken_of : Option Snapshot → Reply
+taken_of None = Taken false
+taken_of (Some snapshot) = Taken true
 
-abbrev pub reply_to_commit : Result Answer Refusal → Reply
-reply_to_commit (Ok answer) = Answered answer
-reply_to_commit (Err refusal) = Refused refusal
+-- what is held of what a take gives
+abbrev pub held_of : Result (Option Snapshot) Refusal → Option Snapshot
+held_of (Ok taken) = taken
+held_of (Err refusal) = None
 
--- what was held is run and committed, unless there is nothing, or no memory to run it
-abbrev pub CommitsHeld : State → Option Snapshot → Reply → State → Type 0
-CommitsHeld old None reply new = (reply ≡ Refused NotWaiting) × (new ≡ old)
-CommitsHeld old (Some snapshot) reply new =
-    ((reply ≡ Refused NoMemory) × (new ≡ old)) ⊎
-    ((effect : Effect) × (result : Result Answer Refusal) × IsEffectOf snapshot effect × Commits old effect result new × (reply ≡ reply_to_commit result))
+module _ {D : Type 0} where
+  -- what was held is run and committed, unless there is nothing, or no memory to run it
+  abbrev pub CommitsHeld : CoreView D → Option Snapshot → Reply → CoreView D → Type 0
+  CommitsHeld old None reply new = (reply ≡ Refused (Serial NotWaiting)) × (new ≡ old)
+  CommitsHeld old (Some snapshot) reply new =
+      ((reply ≡ Refused (Serial NoMemory)) × (new ≡ old)) ⊎
+      ((effect : Effect) × (result : Result Answer Refusal) × IsEffectOf snapshot effect × Guards old result new (λ r. Commits old.state effect r new.state) × (reply ≡ reply_to Answered result))
 
--- one event, its reply, and what is there and held after it
-abbrev pub Step : State → Held → Event → Reply → State → Held → Type 0
-Step old held (Latch row) reply new kept = (result : Result ℕ Refusal) × Latches old row result new × (reply ≡ reply_to_latch result) × (kept ≡ held)
-Step old held (Take resource) reply new kept = (taken : Option Snapshot) × TakesHeld old resource reply taken × (new ≡ old) × (kept ≡ held ++ taken ∷ [])
-Step old held (Commit i) reply new kept = CommitsHeld old (held_at held i) reply new × (kept ≡ slice_set held i None)
+  -- one event, its reply, and what is there and held after it
+  abbrev pub Step : CoreView D → Held → Event → Reply → CoreView D → Held → Type 0
+  Step old held (Latch row) reply new kept = (result : Result ℕ Refusal) × Guards old result new (λ r. Latches old.state row r new.state) × (reply ≡ reply_to Latched result) × (kept ≡ held)
+  Step old held (Take resource) reply new kept = (result : Result (Option Snapshot) Refusal) × Guards old result new (λ r. Takes old.state resource r) × (reply ≡ reply_to taken_of result) × (new ≡ old) × (kept ≡ held ++ held_of result ∷ [])
+  Step old held (Commit i) reply new kept = CommitsHeld old (held_at held i) reply new × (kept ≡ slice_set held i None)
+  Step old held (CommitHere resource) reply new kept = (result : Result (Option ℕ) Refusal) × Guards old result new (λ r. CommitsHere old.state resource r new.state) × (reply ≡ reply_to Here result) × (kept ≡ held)
+  Step old held Flush reply new kept = (result : Result ℕ Refusal) × Flushes old result new × (reply ≡ reply_to Flushed result) × (kept ≡ held)
 
--- the events one after another, with their replies
-abbrev pub Drives : State → Held → List Event → List Reply → State → Held → Type 0
-Drives old held [] [] new kept = (new ≡ old) × (kept ≡ held)
-Drives old held (event ∷ events) (reply ∷ replies) new kept = (mid : State) × (between : Held) × Step old held event reply mid between × Drives mid between events replies new kept
-Drives old held [] (reply ∷ replies) new kept = ⊥
-Drives old held (event ∷ events) [] new kept = ⊥
+-- A stop at any moment of the step leaves a file that survives for the core before it, and a stop after it one that survives for the
+-- core after it.
+pub record Outlives {D : Type 0} (left_since : D → D → List ℕ → Type 0) (may_leave : D → List ℕ → Type 0) (old new : CoreView D) : Type 0 where
+  pub during : LeavesOnly left_since may_leave old.store.disk new.store.disk (λ file. survives old (recovered file))
+  pub after : (file : List ℕ) → may_leave new.store.disk file → survives new (recovered file)
+
+-- The events one after another, with their replies; each survives a stop, on a disk that tells its facts.
+module _ {D : Type 0} (tells : Type 0) (left_since : D → D → List ℕ → Type 0) (may_leave : D → List ℕ → Type 0) where
+  abbrev pub Drives : CoreView D → Held → List Event → List Reply → CoreView D → Held → Type 0
+  Drives old held [] [] new kept = (new ≡ old) × (kept ≡ held)
+  Drives old held (event ∷ events) (reply ∷ replies) new kept =
+      (mid : CoreView D) × (between : Held) × Step old held event reply mid between × (tells → Outlives left_since may_leave old mid) × Drives mid between events replies new kept
+  Drives old held [] (reply ∷ replies) new kept = ⊥
+  Drives old held (event ∷ events) [] new kept = ⊥
+
+  -- The calls before the last led to a core for which every file survives that a stop within the last call might have left.
+  pub record SurvivesLast (old : CoreView D) (held : Held) (events : List Event) (new : CoreView D) : Type 0 where
+    pub before : CoreView D
+    pub replies : List Reply
+    pub then : Held
+    pub so_far : Drives old held events replies before then
+    pub survives : (file : List ℕ) → left_since before.store.disk new.store.disk file → survives before (recovered file)

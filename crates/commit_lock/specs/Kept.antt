@@ -1,34 +1,21 @@
--- What a core keeps of its fields.
-use Rattle.std.specs.Prelude.{◌≡◌, ℕ, ◌<◌, ◌≤◌, List, Bool, length, Option, Some, slice_get, slice_index}
-use Rattle.st_words.specs.Values.{Datum}
-use Rattle.st_types.specs.declared.entry.Entry.{Entry}
-use Rattle.st_types.specs.declared.entry.Entry.TheVariants.{Row}
-use Rattle.st_types.specs.declared.entry.Outcome.{Outcome}
-use Rattle.st_types.specs.Plans.{places_of}
-use Rattle.st_types.specs.Logs.{Past, past_of, row_at, last_moment, outcomes_of, IsLegal}
-use Rattle.config.specs.declared.plan.Plan.{Plan}
-use Rattle.config.specs.PlanViews.{plan_view}
-use Rattle.ready_list.specs.Ready.{Ready, IsReadyOf}
-use Rattle.commit_lock.specs.Steps.{store_in}
+-- What a core over a disk keeps of its fields.
+use Rattle.std.specs.Prelude.{◌≡◌, ◌≤◌, ℕ, List, Bool, true, false, length, Option, Some, None}
+use Rattle.st_types.specs.Layouts.{layout_text, record_length}
+use Rattle.retain_store.specs.declared.fault.StoreFault.{StoreFault}
+use Rattle.retain_store.specs.Kept.{StoreView}
+use Rattle.serial_core.specs.Steps.{State}
+use Rattle.commit_lock.specs.Restart.{Survives}
 
--- The fields are what this past makes of them.
-pub record IsOfPast (plan : Plan) (before : Option ℕ) (values : List Datum) (log : List Entry) (rows : List ℕ) (last : Option ℕ) (ready : Ready) (now : Past) : Type 0 where
-  pub variables : store_in plan values ≡ now.store
-  pub rows_are : (k : ℕ) → k < length rows → slice_get log (slice_index rows k) ≡ Some (Row (row_at now.rows k))
-  pub row_count : length rows ≡ length now.rows
-  pub tick_count : length now.history.ticks ≡ length now.rows
-  pub images : (k : ℕ) → k < length now.rows → length (row_at now.rows k).image ≡ length plan.inputs.items
-  pub last_is : last ≡ last_moment before now.rows
-  pub later : 0 < ready.rows → last ≡ Some ready.last
-  pub ready_is : IsReadyOf now.history ready
+abbrev pub is_failed : Option StoreFault → Bool
+is_failed None = false
+is_failed (Some fault) = true
 
--- The log is legal, the variables and outcomes are what it makes, and the ready list has all that waits.
-pub record IsKept (plan : Plan) (start : List Datum) (before : Option ℕ) (values : List Datum) (samples : List Bool) (log : List Entry) (outcomes : List (Option Outcome)) (rows : List ℕ) (last : Option ℕ) (ready : Ready) : Type 0 where
-  pub legal : IsLegal (plan_view plan) (store_in plan start) before log
-  pub sized : length values ≡ length plan.variables.items
-  pub numbered : length samples ≡ length plan.tasks.items
-  pub few_rows : length rows ≤ length log
-  pub outcomes_are : outcomes ≡ outcomes_of (plan_view plan) (store_in plan start) log
-  pub places : ready.places ≡ places_of (plan_view plan)
-  pub tasks : length ready.samples ≡ length plan.tasks.items
-  pub of_past : IsOfPast plan before values log rows last ready (past_of (plan_view plan) (store_in plan start) log)
+-- The last record survives, and so does one that a failed save tried.
+pub record IsKept {D : Type 0} (state : State) (acked : ℕ) (failed : Option StoreFault) (store : StoreView D) (layout : List ℕ) (room : ℕ) : Type 0 where
+  pub last : Survives state.plan state.start state.before state.log acked store.last
+  pub tried : Survives state.plan state.start state.before state.log acked store.tried
+  pub few : acked ≤ length state.log
+  pub met : is_failed failed ≡ store.failed
+  pub layout_is : layout ≡ layout_text state.plan.variables.items
+  pub saves : record_length state.plan.variables.items ≤ store.room
+  pub room_is : length state.plan.variables.items ≤ room

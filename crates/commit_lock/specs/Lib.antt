@@ -1,4 +1,6 @@
-pub mod Steps
+pub mod Restart
+pub mod Cores
 pub mod Kept
-pub mod Samples
+pub mod Starting
+pub mod Flushing
 pub mod Driving

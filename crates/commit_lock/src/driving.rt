@@ -1,11 +1,18 @@
 //! A list of calls, one after another.
 
-ghost use Rattle.std.specs.Prelude.{◌≡◌, ◌+◌, ◌<◌, ◌≤◌, [], None, slice_set, vec_len, vec_capacity, IfOk, OnErr};
-ghost use Rattle.commit_lock.specs.Driving.{Held, Step, Drives, CommitsHeld, TakesHeld, held_at};
+ghost use Rattle.std.specs.Prelude.{◌≡◌, ◌+◌, ◌<◌, ◌≤◌, ◌++◌, ◌∷◌, [], List, Option, None, Result, slice_set, vec_len, vec_capacity, IfOk, OnErr};
+ghost use Rattle.slot_run.specs.declared.snapshot.Snapshot.{Snapshot};
+ghost use Rattle.serial_core.specs.Steps.{Takes};
+ghost use Rattle.commit_lock.specs.declared.refusal.Refusal.{Refusal};
+ghost use Rattle.commit_lock.specs.declared.event.Event.{Event};
+ghost use Rattle.commit_lock.specs.Cores.{Guards};
+ghost use Rattle.commit_lock.specs.Driving.{Held, Step, Outlives, Drives, SurvivesLast, CommitsHeld, held_at, held_of, reply_to, taken_of};
 
+use crate::core_state::Core;
 use crate::event::{Event, Reply};
 use crate::refusal::Refusal;
-use crate::serial::{Core, push_within};
+use disk::Disk;
+use serial_core::push_within;
 use slot_run::{Snapshot, run};
 use std::alloc::{AllocError, Global};
 
@@ -18,60 +25,100 @@ fn take_held(held: &mut Vec<Option<Snapshot>>, i: usize) -> Option<Snapshot>
     if i < held.len() { held[i].take() } else { None }
 }
 
-/// Takes for a resource, and gives what is held of it.
-fn take_to_hold(core: &Core, alloc: Global, resource: usize) -> (Reply, Option<Snapshot>)
-    ensures { TakesHeld core.now resource result.0 result.1 }
-{
-    match core.take(alloc, resource) {
-        Ok(taken) => (Reply::Taken(taken.is_some()), taken),
-        Err(refusal) => (Reply::Refused(refusal), None),
-    }
-}
-
 /// Runs what was held, and commits it.
-fn commit_held(core: &mut Core, alloc: Global, held: Option<Snapshot>) -> Reply
-    ensures { CommitsHeld core.old held result core.new }
+fn commit_held<D: Disk>(core: &mut Core<D>, alloc: Global, held: Option<Snapshot>) -> Reply
+    ensures commits { CommitsHeld core.old held result core.new }
+    ensures outlives { D.tells → Outlives D.left_since D.may_leave core.old core.new }
 {
+    core.kept();
     let Some(snapshot) = held else {
-        return Reply::Refused(Refusal::NotWaiting);
+        return Reply::Refused(Refusal::Serial(serial_core::Refusal::NotWaiting));
     };
     match run(alloc, snapshot) {
         Ok(execution) => match core.commit(execution) {
             Ok(answer) => Reply::Answered(answer),
             Err(refusal) => Reply::Refused(refusal),
         },
-        Err(_) => Reply::Refused(Refusal::NoMemory),
+        Err(_) => Reply::Refused(Refusal::Serial(serial_core::Refusal::NoMemory)),
+    }
+}
+
+/// Takes for a resource, and holds what it gives.
+fn take_to_hold<D: Disk>(
+    core: &Core<D>,
+    alloc: Global,
+    held: &mut Vec<Option<Snapshot>>,
+    resource: usize,
+) -> Reply
+    requires room { vec_len held.old < vec_capacity held.old }
+    ensures takes { (taken : Result (Option Snapshot) Refusal) × Guards core.now taken core.now (λ r. Takes core.now.state resource r) × (result ≡ reply_to taken_of taken) × (held.new.items ≡ held.old.items ++ held_of taken ∷ []) }
+    ensures len { vec_len held.new ≤ vec_len held.old + 1 }
+    ensures capacity { vec_capacity held.old ≤ vec_capacity held.new }
+{
+    match core.take(alloc, resource) {
+        Ok(taken) => {
+            let reply = Reply::Taken(taken.is_some());
+            push_within(held, taken);
+            reply
+        }
+        Err(refusal) => {
+            push_within(held, None);
+            Reply::Refused(refusal)
+        }
     }
 }
 
 /// One event.
-fn step(core: &mut Core, alloc: Global, held: &mut Vec<Option<Snapshot>>, event: Event) -> Reply
+fn step<D: Disk>(
+    core: &mut Core<D>,
+    alloc: Global,
+    held: &mut Vec<Option<Snapshot>>,
+    event: Event,
+) -> Reply
     requires room { vec_len held.old < vec_capacity held.old }
     ensures step { Step core.old held.old.items event result core.new held.new.items }
+    ensures outlives { D.tells → Outlives D.left_since D.may_leave core.old core.new }
     ensures len { vec_len held.new ≤ vec_len held.old + 1 }
     ensures capacity { vec_capacity held.old ≤ vec_capacity held.new }
 {
+    core.kept();
     match event {
         Event::Latch(row) => match core.latch(row) {
             Ok(number) => Reply::Latched(number),
             Err(refusal) => Reply::Refused(refusal),
         },
-        Event::Take(resource) => {
-            let (reply, taken) = take_to_hold(core, alloc, resource);
-            push_within(held, taken);
-            reply
-        }
+        Event::Take(resource) => take_to_hold(core, alloc, held, resource),
         Event::Commit(i) => {
             let snapshot = take_held(held, i);
             commit_held(core, alloc, snapshot)
         }
+        Event::CommitHere(resource) => match core.commit_here(alloc, resource) {
+            Ok(length) => Reply::Here(length),
+            Err(refusal) => Reply::Refused(refusal),
+        },
+        Event::Flush => match core.flush() {
+            Ok(length) => Reply::Flushed(length),
+            Err(refusal) => Reply::Refused(refusal),
+        },
     }
 }
 
 /// The events one after another, with what each is answered. An error, which is want of memory for the list of replies,
 /// leaves the core as it was.
-pub fn drive(core: &mut Core, alloc: Global, events: Vec<Event>) -> Result<Vec<Reply>, AllocError>
-    ensures drives { IfOk result (λ replies. (held : Held) × Drives core.old [] events.items replies.items core.new held) }
+///
+/// A stop at any moment leaves a file from which a warm restart gives the initial values, with what is kept after a front of the
+/// log written over them; this front holds all that was acknowledged before the event in which the stop fell.
+pub fn drive<D: Disk>(
+    core: &mut Core<D>,
+    alloc: Global,
+    events: Vec<Event>,
+) -> Result<Vec<Reply>, AllocError>
+    ensures drives { IfOk result (λ replies. (held : Held) × Drives D.tells D.left_since D.may_leave core.old [] events.items replies.items core.new held) }
+
+    // The whole promise: whatever the calls are, and wherever a stop falls within the last of them, a warm restart gives what a
+    // front of the log leaves, and this front holds all that is acknowledged.
+    ensures survives { D.tells → IfOk result (λ replies. (front : List Event) (last : Event) → events.items ≡ front ++ last ∷ []
+        → SurvivesLast D.tells D.left_since D.may_leave core.old [] front core.new) }
     ensures err { OnErr result (core.new ≡ core.old) }
 {
     let mut held = Vec::with_capacity(alloc, events.len())?;

@@ -1,6 +1,7 @@
 //! Calls of a core as data, and what they are answered.
 
-use crate::refusal::{Answer, Refusal};
+use crate::refusal::Refusal;
+use serial_core::Answer;
 use st_types::Row;
 
 /// A call of a core.
@@ -12,6 +13,10 @@ pub enum Event {
     Take(usize),
     /// Runs and commits what the take of this number gave. The takes of a list are counted from 0.
     Commit(usize),
+    /// Takes, runs and commits the best activation that waits on a resource, in one step.
+    CommitHere(usize),
+    /// Acknowledges what is in the log.
+    Flush,
 }
 
 /// What an event is answered.
@@ -23,5 +28,9 @@ pub enum Reply {
     Taken(bool),
     /// What became of an execution.
     Answered(Answer),
+    /// The log's length after a commit in one step; none where nothing waited.
+    Here(Option<usize>),
+    /// How many entries are acknowledged.
+    Flushed(usize),
     Refused(Refusal),
 }

@@ -1,21 +1,20 @@
-//! The core under the lock: rows are latched, snapshots taken and executions committed.
+//! The core under the lock, over a disk: what is acknowledged is there when power returns.
 #![tactic(auto)]
 
-mod cells;
-mod committing;
+mod calling;
+mod core_state;
 mod driving;
 mod event;
-mod latching;
-mod lookup;
+mod flushing;
+mod parts;
 mod reading;
 mod refusal;
-mod rows;
-mod sampling;
-mod serial;
+mod saving;
 mod starting;
-mod taking;
 
+pub use core_state::Core;
 pub use driving::drive;
 pub use event::{Event, Reply};
-pub use refusal::{Answer, Refusal, StartFault};
-pub use serial::Core;
+pub use refusal::{Refusal, StartFault};
+pub use serial_core::Answer;
+pub use starting::StartMode;

@@ -1,101 +1,71 @@
 //! What a core tells.
 
-ghost use Rattle.std.specs.Prelude.{◌≡◌, ◌<◌, ◌≤◌, option_map, option_and_then, slice_get, length, Some, None};
+ghost use Rattle.std.specs.Prelude.{◌≡◌, ◌<◌, ◌≤◌, List, ℕ, option_map, option_and_then, slice_get, length};
 ghost use Rattle.st_types.specs.Due.{HasOverruns};
 ghost use Rattle.st_types.specs.Logs.{IsLegal, outcomes_of};
-ghost use Rattle.st_types.specs.Plans.{places_of, initial_value};
+ghost use Rattle.st_types.specs.Plans.{places_of};
 ghost use Rattle.st_types.specs.Scopes.{seen};
-ghost use Rattle.st_types.specs.Stores.{get};
 ghost use Rattle.config.specs.PlanViews.{plan_view};
-ghost use Rattle.commit_lock.specs.Steps.{made, first_image, last_image, inputs_now};
+ghost use Rattle.retain_store.specs.Recovered.{recovered};
+ghost use Rattle.serial_core.specs.Steps.{made, inputs_now};
+ghost use Rattle.commit_lock.specs.Cores.{survives};
 
-use crate::lookup::{input_at, variable_at};
-use crate::rows::row_of;
-use crate::serial::Core;
-use st_types::{Entry, Kind, Outcome, Path, Value};
+use crate::core_state::Core;
+use disk::Disk;
+use st_types::{Entry, Outcome, Path, Value};
 
-fn value_at(values: &[Value], slot: usize) -> Option<Value>
-    ensures { result ≡ slice_get values.now slot }
-{
-    match values.get(slot) {
-        Some(value) => Some(*value),
-        None => None,
-    }
-}
-
-/// 0, FALSE or T#0s.
-fn zero(kind: Kind) -> Value
-    ensures { result ≡ initial_value kind None }
-{
-    match Value::new(kind, 0) {
-        Ok(value) => value,
-        Err(_) => unreachable!(),
-    }
-}
-
-impl Core {
+impl<D: Disk> Core<D> {
     /// How many entries the log has.
     pub fn len(&self) -> usize
-        ensures len { result ≡ length self.now.log }
-        ensures room { result ≤ self.now.room }
-        ensures legal { IsLegal (plan_view self.now.plan) self.now.start self.now.before self.now.log }
+        ensures len { result ≡ length self.now.state.log }
+        ensures legal { IsLegal (plan_view self.now.state.plan) self.now.state.start self.now.state.before self.now.state.log }
     {
-        self.log.len()
+        self.serial.len()
     }
 
     /// The entry of a number from 0; none where the log has no such entry.
     pub fn entry(&self, number: usize) -> Option<&Entry>
-        ensures { option_map (λ e. e.now) result ≡ slice_get self.now.log number }
+        ensures { option_map (λ e. e.now) result ≡ slice_get self.now.state.log number }
     {
-        self.log.get(number)
+        self.serial.entry(number)
     }
 
     /// How the execution of an entry ended; none for a row, and where the log has no such entry.
     pub fn outcome(&self, number: usize) -> Option<Outcome>
-        ensures { result ≡ option_and_then (λ o. o) (slice_get (outcomes_of (plan_view self.now.plan) self.now.start self.now.log) number) }
+        ensures { result ≡ option_and_then (λ o. o) (slice_get (outcomes_of (plan_view self.now.state.plan) self.now.state.start self.now.state.log) number) }
     {
-        match self.outcomes.get(number) {
-            Some(outcome) => *outcome,
-            None => None,
-        }
+        self.serial.outcome(number)
     }
 
     /// The value of a variable, or of an input at the last row, 0 or FALSE before the first; none where no such path is there.
     pub fn value(&self, path: &Path) -> Option<Value>
-        ensures { result ≡ seen (inputs_now self.now) (made self.now).store path.now }
+        ensures { result ≡ seen (inputs_now self.now.state) (made self.now.state).store path.now }
     {
-        match input_at(&self.plan.inputs, path) {
-            Some(number) => Some(self.input(number)),
-            None => self.variable(path),
-        }
-    }
-
-    /// The value of a variable now.
-    fn variable(&self, path: &Path) -> Option<Value>
-        ensures { result ≡ get (made self.now).store path.now }
-    {
-        match variable_at(&self.plan.variables, path) {
-            Some(slot) => value_at(&self.values, slot),
-            None => None,
-        }
-    }
-
-    /// The value of an input at the last row, or 0 or FALSE.
-    fn input(&self, number: usize) -> Value
-        requires there { number < length self.now.plan.inputs.items }
-        ensures { Some result ≡ slice_get (last_image (first_image self.now.plan.inputs.items) (made self.now).rows) number }
-    {
-        match self.rows.len().checked_sub(1) {
-            Some(last) => row_of(&self.log, &self.rows, last).image()[number],
-            None => zero(self.plan.inputs[number].kind),
-        }
+        self.serial.value(path)
     }
 
     /// How often the program was due while it waited already; 0 for a program that is not there.
     pub fn overruns(&self, program: usize) -> u64
-        ensures none { length self.now.plan.programs.items ≤ program → result ≡ 0 }
-        ensures overruns { program < length self.now.plan.programs.items → HasOverruns (places_of (plan_view self.now.plan)) (made self.now).history program result }
+        ensures none { length self.now.state.plan.programs.items ≤ program → result ≡ 0 }
+        ensures overruns { program < length self.now.state.plan.programs.items → HasOverruns (places_of (plan_view self.now.state.plan)) (made self.now.state).history program result }
     {
-        self.ready.overruns(program)
+        self.serial.overruns(program)
+    }
+
+    /// Ends the life and gives the disk back, without a call of it.
+    pub fn stop(self) -> D
+        ensures disk { result ≡ self.store.disk }
+        ensures survives { D.tells → (file : List ℕ) → D.may_leave result file → survives self (recovered file) }
+    {
+        self.kept();
+        let Core {
+            serial: _,
+            store,
+            layout: _,
+            kept: _,
+            acked: _,
+            failed: _,
+        } = self;
+        store.into_disk()
     }
 }

@@ -1,41 +1,30 @@
 //! What the calls of a core answer.
 
+use retain_store::StoreFault;
 use thiserror::Error;
 
-/// Why a call was refused. It shows as its number. Every refusal leaves the core as it was.
+/// Why a call was refused. It shows as its number. Every refusal leaves the log and the variables as they were.
 #[derive(Clone, Copy, Debug, PartialEq, Eq, Error)]
 pub enum Refusal {
-    /// The log is full.
-    #[error("K1")]
-    Full,
-    /// The activation is not waiting.
-    #[error("K2")]
-    NotWaiting,
-    /// An execution whose program, code, moment or budget is not that of the activation in this core, or a row whose inputs
-    /// are not the plan's or whose moment is over its limit.
-    #[error("K3")]
-    Foreign,
-    /// A moment not later than the last one.
-    #[error("K4")]
-    NotLater,
-    /// Want of memory.
-    #[error("K6")]
-    NoMemory,
+    /// The store has failed, for this cause: the device (S3), or generations that are used up (S4). A core whose flush met
+    /// it answers so from then on.
+    #[error("K5")]
+    StoreFailed(StoreFault),
+    /// K1 to K4, and K6 for want of memory.
+    #[error(transparent)]
+    Serial(#[from] serial_core::Refusal),
 }
 
-/// Why no core was made. It shows as its number.
+/// Why no core was started. It shows as its number.
 #[derive(Clone, Copy, Debug, PartialEq, Eq, Error)]
 pub enum StartFault {
+    /// S1 to S5: the store was not opened, or the initial record of a cold start was not saved.
+    #[error(transparent)]
+    Store(#[from] StoreFault),
+    /// A warm start met a record of another layout.
+    #[error("N1")]
+    OtherLayout,
     /// Want of memory.
     #[error("N2")]
     NoMemory,
-}
-
-/// What became of an execution that was not refused.
-#[derive(Clone, Copy, Debug, PartialEq, Eq)]
-pub enum Answer {
-    /// It is in the log, which has this length now.
-    Committed(usize),
-    /// Something that it read has another value now.
-    Stale,
 }

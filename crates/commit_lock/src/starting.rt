@@ -1,61 +1,191 @@
 //! Starting a core.
 
-ghost use Rattle.std.specs.Prelude.{◌≡◌, ◌≤◌, [], None, IfOk, map};
-ghost use Rattle.st_types.specs.Plans.{initial_store};
-ghost use Rattle.config.specs.PlanViews.{plan_view};
+ghost use Rattle.std.specs.Prelude.{◌≡◌, ◌≤◌, ◌+◌, ◌-◌, ◌^◌, List, ℕ, [], None, IsTrue, true, false, length, vec_capacity, IfOk, IfErr, MatchResult};
+ghost use Rattle.disk.specs.Disk.{Only};
+ghost use Rattle.disk.specs.Runs.{LeavesOnly};
+ghost use Rattle.st_types.specs.Layouts.{layout_text};
+ghost use Rattle.retain_store.specs.Recovered.{recovered, Found};
+ghost use Rattle.retain_store.specs.Areas.{IsEither};
+ghost use Rattle.retain_store.specs.Kept.{IsLast};
+ghost use Rattle.commit_lock.specs.Restart.{Survives, IsOfPlan, IsInitialAgain, begun, record_now, warm};
+ghost use Rattle.commit_lock.specs.Cores.{survives};
+ghost use Rattle.commit_lock.specs.Starting.{start_of, started, HasOtherLayout, CanStart, RefusesStart, CountsStart, LeftByStart};
 
+use crate::core_state::Core;
+use crate::parts::Parts;
 use crate::refusal::StartFault;
-use crate::serial::Core;
+use crate::saving::save_record;
 use config::Plan;
-use ready_list::ReadyList;
-use st_types::{PlanVariable, Value};
-use std::alloc::{AllocError, Global};
+use disk::Disk;
+use retain_store::Store;
+use serial_core::SerialCore;
+use std::alloc::Global;
 use std::sync::Arc;
 
-/// The values that the variables start with.
-fn initial_values(alloc: Global, variables: &[PlanVariable]) -> Result<Vec<Value>, AllocError>
-    ensures { IfOk result (λ values. values.items ≡ map (λ v. v.initial) variables.now) }
-{
-    let mut values = Vec::new(alloc);
-    for variable in variables {
-        values.push(variable.initial)?;
-    }
-    Ok(values)
+/// The longest body of a record in bytes, which the record of every plan keeps to.
+const MOST_BODY: usize = 131_059;
+
+/// How a life starts.
+#[derive(Clone, Copy, Debug, PartialEq, Eq)]
+pub enum StartMode {
+    /// The retained variables take the values of the last record, if there is one; all others their initial values.
+    Warm,
+    /// All variables take their initial values.
+    Cold,
 }
 
-impl Core {
-    /// A core of the plan without a disk: every variable has its initial value, and the log is empty with room for so many
-    /// entries, 1 to 65,536. It makes all the memory that `latch`, `commit` and the calls that only tell need.
-    pub fn start(alloc: Global, plan: Arc<Plan>, log_room: usize) -> Result<Core, StartFault>
-        requires room { log_room ≤ 65536 }
-        ensures { IfOk result (λ core. core ≡ record { plan = plan.value; start = initial_store (plan_view plan.value); before = None; log = []; room = log_room }) }
-    {
-        Core::empty(alloc, plan, log_room).map_err(|_| StartFault::NoMemory)
-    }
+/// Goes on from the last record, if there is one; false where it is of another layout.
+fn resume_from<D: Disk>(serial: &mut SerialCore, layout: &[u8], store: &Store<D>) -> bool
+    requires begun { serial.old ≡ begun serial.old.plan serial.old.room }
+    requires initial { IsInitialAgain serial.old.plan }
+    requires layout { layout.now ≡ layout_text serial.old.plan.variables.items }
+    requires last { IsLast store.now.generation store.now.last }
 
-    fn empty(alloc: Global, plan: Arc<Plan>, log_room: usize) -> Result<Core, AllocError>
+    ensures resumed { IsTrue result → serial.new ≡ started serial.old.plan serial.old.room (warm serial.old.plan store.now.last) }
+    ensures survives { IsTrue result → Survives serial.new.plan serial.new.start serial.new.before [] 0 store.now.last }
+    ensures other { result ≡ false → HasOtherLayout serial.old.plan store.now.last }
+{
+    let Some(record) = store.last() else {
+        return true;
+    };
+    if record.layout() != layout {
+        return false;
+    }
+    serial.resume(record.values(), record.moment());
+    true
+}
+
+/// A core that goes on from the last record of the store.
+fn warm<D: Disk>(parts: Parts, store: Store<D>) -> Result<Core<D>, (StartFault, D)>
+    requires begun { parts.serial ≡ begun parts.serial.plan parts.serial.room }
+    requires initial { IsInitialAgain parts.serial.plan }
+    requires layout { parts.layout.items ≡ layout_text parts.serial.plan.variables.items }
+    requires kept { length parts.serial.plan.variables.items ≤ vec_capacity parts.kept }
+    requires last { IsLast store.generation store.last }
+    requires tried { store.tried ≡ store.last }
+    requires fresh { store.failed ≡ false }
+    requires room { store.room ≡ 131059 }
+
+    ensures state { IfOk result (λ core. core.state ≡ started parts.serial.plan parts.serial.room (warm parts.serial.plan store.last)) }
+    ensures fresh { IfOk result (λ core. (core.acked ≡ 0) × (core.failed ≡ None)) }
+    ensures store { IfOk result (λ core. core.store ≡ store) }
+    ensures layout { IfOk result (λ core. IsOfPlan parts.serial.plan store.last) }
+    ensures survives { D.tells → IfOk result (λ core. (file : List ℕ) → D.may_leave core.store.disk file → survives core (recovered file)) }
+    ensures refused { IfErr result (λ e. (e.0 ≡ StartFault.OtherLayout) × HasOtherLayout parts.serial.plan store.last × (e.1 ≡ store.disk)) }
+{
+    let Parts {
+        mut serial,
+        layout,
+        kept,
+    } = parts;
+    if !resume_from(&mut serial, &layout, &store) {
+        return Err((StartFault::OtherLayout, store.into_disk()));
+    }
+    let core = Core {
+        serial,
+        store,
+        layout,
+        kept,
+        acked: 0,
+        failed: None,
+    };
+    core.kept();
+    Ok(core)
+}
+
+/// A core that starts anew. The record of the initial values, without a moment, is saved before.
+fn cold<D: Disk>(parts: Parts, store: Store<D>) -> Result<Core<D>, (StartFault, D)>
+    requires begun { parts.serial ≡ begun parts.serial.plan parts.serial.room }
+    requires initial { IsInitialAgain parts.serial.plan }
+    requires layout { parts.layout.items ≡ layout_text parts.serial.plan.variables.items }
+    requires kept { length parts.serial.plan.variables.items ≤ vec_capacity parts.kept }
+    requires last { IsLast store.generation store.last }
+    requires fresh { store.failed ≡ false }
+    requires room { store.room ≡ 131059 }
+
+    ensures state { IfOk result (λ core. core.state ≡ begun parts.serial.plan parts.serial.room) }
+    ensures fresh { IfOk result (λ core. (core.acked ≡ 0) × (core.failed ≡ None)) }
+    ensures survives { D.tells → IfOk result (λ core. (file : List ℕ) → D.may_leave core.store.disk file → survives core (recovered file)) }
+    ensures answers { D.tells → MatchResult result
+        (λ core. CanStart StartMode.Cold parts.serial.plan store.last)
+        (λ e. RefusesStart StartMode.Cold parts.serial.plan store.last e.0) }
+    ensures any_moment { D.tells → MatchResult result
+        (λ core. LeavesOnly D.left_since D.may_leave store.disk core.store.disk (λ file. IsEither store.last (Found (store.generation + 1) (record_now parts.serial)) (recovered file)))
+        (λ e. LeavesOnly D.left_since D.may_leave store.disk e.1 (λ file. IsEither store.last (Found (store.generation + 1) (record_now parts.serial)) (recovered file))) }
+    ensures device { MatchResult result
+        (λ core. D.failure_count core.store.disk ≡ D.failure_count store.disk)
+        (λ e. CountsStart e.0 (D.failure_count store.disk) (D.failure_count e.1)) }
+{
+    let Parts {
+        serial,
+        layout,
+        mut kept,
+    } = parts;
+    let mut store = store;
+    match save_record(&serial, &mut store, &layout, &mut kept) {
+        Ok(()) => {}
+        Err(fault) => return Err((StartFault::Store(fault), store.into_disk())),
+    }
+    let core = Core {
+        serial,
+        store,
+        layout,
+        kept,
+        acked: 0,
+        failed: None,
+    };
+    core.kept();
+    Ok(core)
+}
+
+impl<D: Disk> Core<D> {
+    /// Starts a life of the plan over this disk, with room for so many entries of its log, 1 to 65,536. Its memory is taken
+    /// before the first device call. A cold start saves the record of the initial values before it answers.
+    ///
+    /// S1 to S5, N1 where a warm start meets a record of another layout, N2 for want of memory. An error gives the disk back.
+    pub fn start(
+        alloc: Global,
+        plan: Arc<Plan>,
+        disk: D,
+        mode: StartMode,
+        log_room: usize,
+    ) -> Result<Core<D>, (StartFault, D)>
         requires room { log_room ≤ 65536 }
-        ensures { IfOk result (λ core. core ≡ record { plan = plan.value; start = initial_store (plan_view plan.value); before = None; log = []; room = log_room }) }
+
+        // The values and the moment are those of a warm or a cold start, and the log is empty.
+        ensures started { D.tells → IfOk result (λ core. core.state ≡ started plan.value log_room (start_of mode plan.value (recovered (D.seen disk)))) }
+        ensures cold { mode ≡ StartMode.Cold → IfOk result (λ core. core.state ≡ begun plan.value log_room) }
+        ensures fresh { IfOk result (λ core. (core.acked ≡ 0) × (core.failed ≡ None)) }
+
+        // It is answered and refused exactly by what the file is recovered to, faults of the device and want of memory aside.
+        ensures answers { D.tells → MatchResult result
+            (λ core. CanStart mode plan.value (recovered (D.seen disk)))
+            (λ e. RefusesStart mode plan.value (recovered (D.seen disk)) e.0) }
+
+        // S3 exactly where a call of the disk failed, and then one did.
+        ensures device { MatchResult result
+            (λ core. D.failure_count core.store.disk ≡ D.failure_count disk)
+            (λ e. CountsStart e.0 (D.failure_count disk) (D.failure_count e.1)) }
+
+        // Every file that a stop may leave after it survives.
+        ensures survives { D.tells → IfOk result (λ core. (file : List ℕ) → D.may_leave core.store.disk file → survives core (recovered file)) }
+
+        // On a disk with nothing unsynced, a stop at any moment leaves what was recovered before, or for a cold start the
+        // record of the initial values.
+        ensures any_moment { D.tells → Only (D.seen disk) (D.may_leave disk) → MatchResult result
+            (λ core. LeavesOnly D.left_since D.may_leave disk core.store.disk (λ file. LeftByStart mode plan.value log_room (recovered (D.seen disk)) (recovered file)))
+            (λ e. LeavesOnly D.left_since D.may_leave disk e.1 (λ file. LeftByStart mode plan.value log_room (recovered (D.seen disk)) (recovered file))) }
     {
-        let start = initial_values(alloc, &plan.variables)?;
-        let values = initial_values(alloc, &plan.variables)?;
-        let samples = vec![in alloc; false; plan.tasks.len()]?;
-        let log = Vec::with_capacity(alloc, log_room)?;
-        let outcomes = Vec::with_capacity(alloc, log_room)?;
-        let rows = Vec::with_capacity(alloc, log_room)?;
-        let ready = ReadyList::new(alloc, &plan)?;
-        Ok(Core {
-            plan,
-            start,
-            before: None,
-            values,
-            samples,
-            log,
-            outcomes,
-            rows,
-            last: None,
-            ready,
-            room: log_room,
-        })
+        let Ok(parts) = Parts::new(alloc, plan, log_room) else {
+            return Err((StartFault::NoMemory, disk));
+        };
+        let store = match Store::open(alloc, disk, MOST_BODY) {
+            Ok(store) => store,
+            Err((fault, disk)) => return Err((StartFault::Store(fault), disk)),
+        };
+        match mode {
+            StartMode::Warm => warm(parts, store),
+            StartMode::Cold => cold(parts, store),
+        }
     }
 }

@@ -3,7 +3,9 @@
 
 mod global_path;
 mod instance_name;
+mod layout_text;
 mod lookup;
+mod path_text;
 mod places;
 mod plan;
 mod plan_check;
@@ -15,6 +17,7 @@ mod thin_program;
 mod thin_unit;
 mod unit_check;
 
+pub use path_text::push_path;
 pub use plan::Plan;
 pub use task::{Program, Task, Trigger};
 pub use thin_program::ThinProgram;

@@ -3,11 +3,14 @@
 ghost use Rattle.std.specs.Prelude.{◌≤◌};
 
 use crate::small_programs::two_programs;
+use crate::started::started;
 use commit_lock::{Answer, Core, Refusal};
+use disk::SimDisk;
+use serial_core::Refusal as Serial;
+use retain_store::StoreFault;
 use slot_run::{Snapshot, run};
 use st_types::{Row, Value};
 use std::alloc::Global;
-use std::sync::Arc;
 use std::test::Fail;
 
 /// How a commit ended: the log's length, Stale, or a refusal.
@@ -27,20 +30,20 @@ fn ended(answer: Result<Answer, Refusal>) -> End {
     }
 }
 
-fn latched(core: &mut Core, alloc: Global, moment: u64) -> Result<usize, Refusal> {
+fn latched(core: &mut Core<SimDisk>, alloc: Global, moment: u64) -> Result<usize, Refusal> {
     core.latch(Row::new(moment, Vec::<Value>::new(alloc)))
 }
 
-fn started(alloc: Global, room: usize) -> Result<Option<Core>, Fail>
-    requires { room ≤ 100 }
+fn begun(alloc: Global, room: usize) -> Result<Option<Core<SimDisk>>, Fail>
+    requires { room ≤ 300 }
 {
     match two_programs(alloc)? {
-        Some(plan) => Ok(Some(Core::start(alloc, Arc::new(alloc, plan)?, room)?)),
+        Some(plan) => Ok(Some(started(alloc, plan, room)?)),
         None => Ok(None),
     }
 }
 
-fn committed(core: &mut Core, alloc: Global, taken: Option<Snapshot>) -> Result<End, Fail> {
+fn committed(core: &mut Core<SimDisk>, alloc: Global, taken: Option<Snapshot>) -> Result<End, Fail> {
     let Some(snapshot) = taken else {
         return Ok(End::NothingTaken);
     };
@@ -50,7 +53,7 @@ fn committed(core: &mut Core, alloc: Global, taken: Option<Snapshot>) -> Result<
 
 /// Latches a row, takes on two resources, then runs and commits what was taken, one after another.
 fn two_commits(alloc: Global, first: usize, second: usize) -> Result<Option<[End; 2]>, Fail> {
-    let Some(mut core) = started(alloc, 10)? else {
+    let Some(mut core) = begun(alloc, 10)? else {
         return Ok(None);
     };
     let _ = latched(&mut core, alloc, 0)?;
@@ -68,9 +71,9 @@ fn two_rows(
     first: u64,
     second: u64,
 ) -> Result<Option<[Result<usize, Refusal>; 2]>, Fail>
-    requires { room ≤ 100 }
+    requires { room ≤ 300 }
 {
-    let Some(mut core) = started(alloc, room)? else {
+    let Some(mut core) = begun(alloc, room)? else {
         return Ok(None);
     };
     let one = latched(&mut core, alloc, first);
@@ -88,7 +91,7 @@ fn of_two_taken_on_one_variable_the_second_is_stale(rt: HostRuntime) -> Result<(
 #[test]
 fn an_activation_taken_twice_is_committed_once(rt: HostRuntime) -> Result<(), Fail> {
     let ends = two_commits(rt.alloc(), 0, 0)?;
-    let refused = End::Refused(Refusal::NotWaiting);
+    let refused = End::Refused(Refusal::Serial(Serial::NotWaiting));
     assert_eq!(rt; ends, Some([End::Committed(2), refused]));
     Ok(())
 }
@@ -102,7 +105,7 @@ fn a_resource_without_programs_has_nothing_to_take(rt: HostRuntime) -> Result<()
 
 #[test]
 fn a_moment_is_later_than_the_last(rt: HostRuntime) -> Result<(), Fail> {
-    let late = Err(Refusal::NotLater);
+    let late = Err(Refusal::Serial(Serial::NotLater));
     assert_eq!(rt; two_rows(rt.alloc(), 10, 5, 6)?, Some([Ok(0), Ok(1)]));
     assert_eq!(rt; two_rows(rt.alloc(), 10, 5, 5)?, Some([Ok(0), late]));
     assert_eq!(rt; two_rows(rt.alloc(), 10, 5, 4)?, Some([Ok(0), late]));
@@ -112,18 +115,19 @@ fn a_moment_is_later_than_the_last(rt: HostRuntime) -> Result<(), Fail> {
 #[test]
 fn a_full_log_takes_no_row(rt: HostRuntime) -> Result<(), Fail> {
     let rows = two_rows(rt.alloc(), 1, 0, 0)?;
-    assert_eq!(rt; rows, Some([Ok(0), Err(Refusal::Full)]));
+    assert_eq!(rt; rows, Some([Ok(0), Err(Refusal::Serial(Serial::Full))]));
     Ok(())
 }
 
 #[test]
 fn refusals_show_as_their_numbers(rt: HostRuntime) -> Result<(), Fail> {
     for (refusal, number) in [
-        (Refusal::Full, "K1"),
-        (Refusal::NotWaiting, "K2"),
-        (Refusal::Foreign, "K3"),
-        (Refusal::NotLater, "K4"),
-        (Refusal::NoMemory, "K6"),
+        (Refusal::Serial(Serial::Full), "K1"),
+        (Refusal::StoreFailed(StoreFault::Device), "K5"),
+        (Refusal::Serial(Serial::NotWaiting), "K2"),
+        (Refusal::Serial(Serial::Foreign), "K3"),
+        (Refusal::Serial(Serial::NotLater), "K4"),
+        (Refusal::Serial(Serial::NoMemory), "K6"),
     ] {
         let text = format!(in rt.alloc(); "{refusal}")?;
         assert_eq!(rt; text.as_str(), number);

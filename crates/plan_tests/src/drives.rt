@@ -4,10 +4,11 @@ ghost use Rattle.std.specs.Prelude.{◌≤◌};
 
 use crate::adding_programs::{Adding, plan_of};
 use crate::small_programs::name;
+use crate::started::started;
 use commit_lock::{Answer, Core, Event, Reply, drive};
+use disk::SimDisk;
 use st_types::{Fault, Kind, Outcome, Path, Row, Value};
 use std::alloc::{AllocError, Global};
-use std::sync::Arc;
 use std::test::Fail;
 
 const COUNT: Adding = Adding {
@@ -18,16 +19,16 @@ const COUNT: Adding = Adding {
     step: 1,
 };
 
-fn started(
+fn begun(
     alloc: Global,
     kind: Kind,
     programs: &[Adding],
     room: usize,
-) -> Result<Option<Core>, Fail>
+) -> Result<Option<Core<SimDisk>>, Fail>
     requires { room ≤ 300 }
 {
     match plan_of(alloc, kind, programs, 10_000)? {
-        Some(plan) => Ok(Some(Core::start(alloc, Arc::new(alloc, plan)?, room)?)),
+        Some(plan) => Ok(Some(started(alloc, plan, room)?)),
         None => Ok(None),
     }
 }
@@ -36,7 +37,7 @@ fn latch(alloc: Global, moment: u64) -> Event {
     Event::Latch(Row::new(moment, Vec::<Value>::new(alloc)))
 }
 
-fn number_of(core: &Core, alloc: Global, global: &str) -> Result<Option<i128>, AllocError> {
+fn number_of(core: &Core<SimDisk>, alloc: Global, global: &str) -> Result<Option<i128>, AllocError> {
     let path = Path::global(alloc, name(alloc, global)?);
     Ok(core.value(&path).map(Value::number))
 }
@@ -63,7 +64,7 @@ fn hundred_rows(alloc: Global) -> Result<Option<(Option<i128>, usize)>, Fail> {
         resource: 1,
         ..COUNT
     };
-    let Some(mut core) = started(alloc, Kind::Dint, &[COUNT, other], 300)? else {
+    let Some(mut core) = begun(alloc, Kind::Dint, &[COUNT, other], 300)? else {
         return Ok(None);
     };
     let mut events = Vec::new(alloc);
@@ -82,6 +83,9 @@ fn word_of(alloc: Global, reply: Reply) -> Result<String, Fail> {
         Reply::Taken(false) => format!(in alloc; "none")?,
         Reply::Answered(Answer::Committed(length)) => format!(in alloc; "committed {length}")?,
         Reply::Answered(Answer::Stale) => format!(in alloc; "stale")?,
+        Reply::Here(Some(length)) => format!(in alloc; "here {length}")?,
+        Reply::Here(None) => format!(in alloc; "nothing here")?,
+        Reply::Flushed(length) => format!(in alloc; "flushed {length}")?,
         Reply::Refused(refusal) => format!(in alloc; "{refusal}")?,
     })
 }
@@ -95,7 +99,7 @@ fn told(
 ) -> Result<Option<String>, Fail>
     requires { room ≤ 300 }
 {
-    let Some(mut core) = started(alloc, Kind::Int, programs, room)? else {
+    let Some(mut core) = begun(alloc, Kind::Int, programs, room)? else {
         return Ok(None);
     };
     let mut text = String::new(alloc);
@@ -210,7 +214,7 @@ fn a_faulted_execution_is_committed_once_and_writes_nothing(rt: HostRuntime) -> 
 
 /// How each entry of that log ended, and one that is not there.
 fn outcomes(alloc: Global) -> Result<Option<[Option<Outcome>; 5]>, Fail> {
-    let Some(mut core) = started(alloc, Kind::Int, &[LARGE], 10)? else {
+    let Some(mut core) = begun(alloc, Kind::Int, &[LARGE], 10)? else {
         return Ok(None);
     };
     drive(&mut core, alloc, overflowing(alloc)?)?;

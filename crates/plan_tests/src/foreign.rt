@@ -1,12 +1,13 @@
 //! Executions and rows that are not the core's own.
 
 use crate::adding_programs::{Adding, plan_of};
+use crate::started::started;
 use commit_lock::{Answer, Core, Refusal};
-use slot_code::Code;
+use disk::SimDisk;
+use serial_core::Refusal as Serial;
 use slot_run::{Snapshot, run};
-use st_types::{Activation, Kind, Row, Value};
+use st_types::{Kind, Row, Value};
 use std::alloc::Global;
-use std::sync::Arc;
 use std::test::Fail;
 
 /// What is changed of a snapshot before it is run.
@@ -34,12 +35,12 @@ const ONE: Adding = Adding {
 const BUDGET: u32 = 100;
 
 /// A core of two programs, at its first row, where the first adds this step.
-fn at_a_row(alloc: Global, step: i32) -> Result<Option<Core>, Fail> {
+fn at_a_row(alloc: Global, step: i32) -> Result<Option<Core<SimDisk>>, Fail> {
     let programs = [Adding { step, ..ONE }, Adding { step: 7, ..ONE }];
     let Some(plan) = plan_of(alloc, Kind::Int, &programs, BUDGET)? else {
         return Ok(None);
     };
-    let mut core = Core::start(alloc, Arc::new(alloc, plan)?, 10)?;
+    let mut core = started(alloc, plan, 10)?;
     let _ = core.latch(Row::new(50, Vec::<Value>::new(alloc)))?;
     Ok(Some(core))
 }
@@ -97,7 +98,7 @@ fn another_program_code_moment_or_budget_is_foreign(rt: HostRuntime) -> Result<(
         Change::Moment,
         Change::Budget,
     ] {
-        assert_eq!(rt; answered(rt.alloc(), change)?, Some(Err(Refusal::Foreign)));
+        assert_eq!(rt; answered(rt.alloc(), change)?, Some(Err(Refusal::Serial(Serial::Foreign))));
     }
     Ok(())
 }
@@ -118,7 +119,7 @@ fn latched(
 #[test]
 fn a_row_with_a_value_for_no_input_is_foreign(rt: HostRuntime) -> Result<(), Fail> {
     assert_eq!(rt; latched(rt.alloc(), 60, 0)?, Some(Ok(1)));
-    assert_eq!(rt; latched(rt.alloc(), 60, 1)?, Some(Err(Refusal::Foreign)));
+    assert_eq!(rt; latched(rt.alloc(), 60, 1)?, Some(Err(Refusal::Serial(Serial::Foreign))));
     Ok(())
 }
 
@@ -128,7 +129,7 @@ fn a_moment_is_at_most_its_limit(rt: HostRuntime) -> Result<(), Fail> {
     assert_eq!(rt; latched(rt.alloc(), limit, 0)?, Some(Ok(1)));
     assert_eq!(rt;
         latched(rt.alloc(), limit + 1, 0)?,
-        Some(Err(Refusal::Foreign))
+        Some(Err(Refusal::Serial(Serial::Foreign)))
     );
     Ok(())
 }

@@ -14,4 +14,6 @@ mod runs;
 #[cfg(test)]
 mod small_programs;
 #[cfg(test)]
+mod started;
+#[cfg(test)]
 mod thin_plans;

@@ -1,6 +1,7 @@
 //! Why the program ends early.
 
 use commit_lock::{Refusal, StartFault};
+use serial_core::Refusal as SerialRefusal;
 use std::alloc::{AllocError, AllocFailed};
 use thiserror::Error;
 
@@ -17,7 +18,7 @@ pub enum Fault {
 
 impl Fault {
     /// Want of memory outside a start.
-    pub const NO_MEMORY: Fault = Fault::Refused(Refusal::NoMemory);
+    pub const NO_MEMORY: Fault = Fault::Refused(Refusal::Serial(SerialRefusal::NoMemory));
 
     /// The exit status that tells of it.
     pub fn status(self) -> u8 {

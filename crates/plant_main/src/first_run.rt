@@ -1,9 +1,12 @@
-//! The run of the built-in configuration.
+//! The run of the built-in configuration, over a simulated disk.
 
 use crate::fault::Fault;
 use crate::first;
 use crate::serial_run::run_row;
-use commit_lock::{Core, Refusal};
+use commit_lock::{Core, Refusal, StartMode};
+use config::Plan;
+use disk::SimDisk;
+use serial_core::Refusal as SerialRefusal;
 use st_types::{Row, Value};
 use std::alloc::Global;
 use std::sync::Arc;
@@ -14,19 +17,37 @@ const ROWS: u64 = 100;
 /// Room in the log for each row, and for an execution of both programs at it.
 const LOG_ROOM: usize = 300;
 
+/// What a built-in plan that is none would be.
+const FOREIGN: Fault = Fault::Refused(Refusal::Serial(SerialRefusal::Foreign));
+
+/// A core of the plan, started cold over an empty simulated disk.
+fn started(alloc: Global, plan: Plan) -> Result<Core<SimDisk>, Fault> {
+    let disk = SimDisk::new(alloc, Vec::new(alloc))?;
+    match Core::start(
+        alloc,
+        Arc::new(alloc, plan)?,
+        disk,
+        StartMode::Cold,
+        LOG_ROOM,
+    ) {
+        Ok(core) => Ok(core),
+        Err((fault, _)) => Err(Fault::Start(fault)),
+    }
+}
+
 /// Serves 100 rows of no inputs, at 0, 10, .., 990 ms, and gives the value of n after them.
 pub fn run(alloc: Global) -> Result<Value, Fault> {
     let Some(plan) = first::plan(alloc)? else {
-        return Err(Fault::Refused(Refusal::Foreign));
+        return Err(FOREIGN);
     };
     let resources = plan.resources();
-    let mut core = Core::start(alloc, Arc::new(alloc, plan)?, LOG_ROOM)?;
+    let mut core = started(alloc, plan)?;
     for k in 0..ROWS {
         let row = Row::new(k * first::INTERVAL, Vec::new(alloc));
         run_row(alloc, &mut core, resources, LOG_ROOM, row)?;
     }
     match core.value(&first::path(alloc)?) {
         Some(value) => Ok(value),
-        None => Err(Fault::Refused(Refusal::Foreign)),
+        None => Err(FOREIGN),
     }
 }

@@ -1,0 +1,18 @@
+use Rattle.std.proofs.Common.{inl}
+use Rattle.disk.specs.Runs.{joins, weakens}
+use Rattle.retain_store.specs.Recovered.{recovered}
+use Rattle.commit_lock.proofs.StartLemmas.{match_both, left_cold}
+use Rattle.commit_lock.proofs.core_state.Core.start.Goals as goal
+
+pub returns-in-Cold-clause-any_moment : goal.returns-in-Cold-clause-any_moment
+returns-in-Cold-clause-any_moment g c = λ tells only.
+    let found = c.in-Ok-open.ensures.found tells in
+    let opened = c.in-Ok-open.ensures.any_moment tells only in
+    let before = recovered (g.D.Disk.seen c.args.disk) in
+    let plan = c.args.plan.value in
+    let room = c.args.log_room in
+    rw c.in-Cold.is
+    (match_both c.cold.result _ _ _ _
+    (λ core save. joins g.D.Disk.left_since g.D.Disk.may_leave _ _ _ _ _ (weakens g.D.Disk.left_since g.D.Disk.may_leave _ _ _ _ opened (λ file. inl)) save (λ file. left_cold plan room c.in-Ok.parts.serial before c.in-Ok-open.store.last (recovered file) _ c.in-Ok.ensures.serial found))
+    (λ e save. joins g.D.Disk.left_since g.D.Disk.may_leave _ _ _ _ _ (weakens g.D.Disk.left_since g.D.Disk.may_leave _ _ _ _ opened (λ file. inl)) save (λ file. left_cold plan room c.in-Ok.parts.serial before c.in-Ok-open.store.last (recovered file) _ c.in-Ok.ensures.serial found))
+    (c.cold.ensures.any_moment tells))

@@ -1,6 +1,0 @@
-use Rattle.std.proofs.Common.{◌≡◌, map, take, length}
-use Rattle.commit_lock.specs.Samples.{sample_task}
-use Rattle.commit_lock.proofs.sampling.sample_all.Given as goal
-
-abbrev pub invariant-loop-t : goal.invariant-loop-t
-invariant-loop-t l = (length l.samples.items ≡ length l.tasks) × (take l.t l.samples.items ≡ map (sample_task l.values l.image) (take l.t l.tasks))

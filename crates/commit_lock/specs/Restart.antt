@@ -1,0 +1,66 @@
+-- What a restart makes of a retain file.
+use Rattle.std.specs.Prelude.{◌≡◌, ◌≤◌, ◌++◌, ℕ, List, [], length, map, Option, Some, None}
+use Rattle.st_types.specs.declared.entry.Entry.{Entry}
+use Rattle.st_types.specs.Stores.{Store}
+use Rattle.st_types.specs.Restarts.{Kept, Start, kept, written_over, warm_start}
+use Rattle.st_types.specs.Plans.{initial_store}
+use Rattle.st_types.specs.Layouts.{layout_text}
+use Rattle.st_types.specs.Logs.{past_of, after, last_moment}
+use Rattle.retain_store.specs.Records.{Content}
+use Rattle.retain_store.specs.Recovered.{Recovered, TooLong, Refused, Nothing, Found}
+use Rattle.config.specs.declared.plan.Plan.{Plan}
+use Rattle.config.specs.PlanViews.{plan_view}
+use Rattle.serial_core.specs.Steps.{State, made}
+use Rattle.serial_core.specs.Retained.{retained_paths, paired, told_by}
+
+-- the record of a plan's variables: its layout text, and the values of what is kept, in order
+abbrev pub record_of : Plan → Store → Option ℕ → Content
+record_of plan store moment = record { moment = moment; layout = layout_text plan.variables.items; values = map (λ e. e.1) (kept (plan_view plan) store) }
+
+-- a core before anything came to it: the initial values, and an empty log
+abbrev pub begun : Plan → ℕ → State
+begun plan room = record { plan = plan; start = initial_store (plan_view plan); before = None; log = []; room = room }
+
+-- what is kept of the initial values makes the initial values
+abbrev pub IsInitialAgain : Plan → Type 0
+IsInitialAgain plan = written_over (initial_store (plan_view plan)) (kept (plan_view plan) (initial_store (plan_view plan))) ≡ initial_store (plan_view plan)
+
+-- the record of a core as it is now
+abbrev pub record_now : State → Content
+record_now state = record_of state.plan (made state).store (last_moment state.before (made state).rows)
+
+-- the values of that record, with their paths, are what is kept
+abbrev pub IsNamed : State → Type 0
+IsNamed state = paired (retained_paths state.plan.variables.items) (record_now state).values ≡ kept (plan_view state.plan) (made state).store
+
+-- what a record tells of the plan's variables
+abbrev pub told : Plan → Content → Kept
+told plan content = told_by plan.variables.items content.values content.moment
+
+-- a warm start from what a file is recovered to
+abbrev pub warm : Plan → Recovered → Start
+warm plan (Found generation content) = warm_start (plan_view plan) (Some (told plan content))
+warm plan other = warm_start (plan_view plan) None
+
+-- the file is not refused, and a record in it has the plan's layout text
+abbrev pub IsOfPlan : Plan → Recovered → Type 0
+IsOfPlan plan TooLong = ⊥
+IsOfPlan plan Refused = ⊥
+IsOfPlan plan Nothing = Unit {0}
+IsOfPlan plan (Found generation content) = content.layout ≡ layout_text plan.variables.items
+
+-- the start that a front of a log leaves: the initial values with what is kept after it, and the moment of its last row
+abbrev pub start_after : Plan → Store → Option ℕ → List Entry → Start
+start_after plan start before front = record {
+  store = written_over (initial_store (plan_view plan)) (kept (plan_view plan) (after (plan_view plan) start front));
+  moment = last_moment before (past_of (plan_view plan) start front).rows;
+}
+
+-- A warm restart gives what a front of the log leaves, and this front holds all that is acknowledged.
+pub record Survives (plan : Plan) (start : Store) (before : Option ℕ) (log : List Entry) (acked : ℕ) (file : Recovered) : Type 0 where
+  pub of_plan : IsOfPlan plan file
+  pub front : List Entry
+  pub rest : List Entry
+  pub parts : log ≡ front ++ rest
+  pub acknowledged : acked ≤ length front
+  pub restarted : warm plan file ≡ start_after plan start before front

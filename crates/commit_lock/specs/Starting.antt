@@ -1,0 +1,64 @@
+-- Starting a core.
+use Rattle.std.specs.Prelude.{◌≡◌, ◌≢◌, ◌⊎◌, ◌-◌, ◌^◌, ℕ, []}
+use Rattle.st_types.specs.Restarts.{Start, cold_start}
+use Rattle.st_types.specs.Layouts.{layout_text}
+use Rattle.retain_store.specs.declared.fault.StoreFault.TheVariants as stores
+use Rattle.retain_store.specs.Recovered.{Recovered, TooLong, Refused, Nothing, Found}
+use Rattle.retain_store.specs.Opening.{CountsFault}
+use Rattle.config.specs.declared.plan.Plan.{Plan}
+use Rattle.config.specs.PlanViews.{plan_view}
+use Rattle.serial_core.specs.Steps.{State}
+use Rattle.commit_lock.specs.declared.refusal.StartFault.{StartFault}
+use Rattle.commit_lock.specs.declared.refusal.StartFault.TheVariants as faults
+use Rattle.commit_lock.specs.declared.starting.StartMode.{StartMode}
+use Rattle.commit_lock.specs.declared.starting.StartMode.TheVariants.{Warm, Cold}
+use Rattle.commit_lock.specs.Restart.{warm, begun, record_now}
+
+-- what a life starts with, by what the file is recovered to
+abbrev pub start_of : StartMode → Plan → Recovered → Start
+start_of Warm plan file = warm plan file
+start_of Cold plan file = cold_start (plan_view plan)
+
+-- a core with this start, and an empty log
+abbrev pub started : Plan → ℕ → Start → State
+started plan room start = record { plan = plan; start = start.store; before = start.moment; log = []; room = room }
+
+-- a record of another layout text
+abbrev pub HasOtherLayout : Plan → Recovered → Type 0
+HasOtherLayout plan (Found generation content) = content.layout ≢ layout_text plan.variables.items
+HasOtherLayout plan other = ⊥
+
+-- a start that can be answered: no record, or one of the plan's layout; and for a cold start a generation that is left
+abbrev pub CanStart : StartMode → Plan → Recovered → Type 0
+CanStart mode plan TooLong = ⊥
+CanStart mode plan Refused = ⊥
+CanStart mode plan Nothing = Unit {0}
+CanStart Warm plan (Found generation content) = content.layout ≡ layout_text plan.variables.items
+CanStart Cold plan (Found generation content) = generation ≢ 2 ^ 64 - 1
+
+-- the generations are used up
+abbrev pub IsLastGeneration : Recovered → Type 0
+IsLastGeneration (Found generation content) = generation ≡ 2 ^ 64 - 1
+IsLastGeneration other = ⊥
+
+-- The fault says of the file what is so. Faults of the device and want of memory say nothing of it.
+abbrev pub RefusesStart : StartMode → Plan → Recovered → StartFault → Type 0
+RefusesStart mode plan file (faults.Store stores.TooLong) = file ≡ TooLong
+RefusesStart mode plan file (faults.Store stores.Damaged) = file ≡ Refused
+RefusesStart mode plan file (faults.Store stores.Device) = Unit {0}
+RefusesStart mode plan file (faults.Store stores.Generations) = (mode ≡ Cold) × IsLastGeneration file
+RefusesStart mode plan file (faults.Store stores.NoMemory) = Unit {0}
+RefusesStart mode plan file (faults.Store stores.Failed) = ⊥
+RefusesStart mode plan file faults.OtherLayout = (mode ≡ Warm) × HasOtherLayout plan file
+RefusesStart mode plan file faults.NoMemory = Unit {0}
+
+-- a failure of the device is one failure more, and any other fault is none
+abbrev pub CountsStart : StartFault → ℕ → ℕ → Type 0
+CountsStart (faults.Store fault) old new = CountsFault fault old new
+CountsStart faults.OtherLayout old new = new ≡ old
+CountsStart faults.NoMemory old new = new ≡ old
+
+-- what a stop during a start leaves: what was recovered before, or for a cold start the record of the initial values
+abbrev pub LeftByStart : StartMode → Plan → ℕ → Recovered → Recovered → Type 0
+LeftByStart Warm plan room before file = file ≡ before
+LeftByStart Cold plan room before file = (file ≡ before) ⊎ ((generation : ℕ) × (file ≡ Found generation (record_now (begun plan room))))

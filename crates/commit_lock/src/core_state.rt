@@ -1,0 +1,57 @@
+//! The core over a disk.
+
+ghost use Rattle.std.specs.Prelude.{◌≤◌, List, ℕ, length};
+ghost use Rattle.retain_store.specs.Recovered.{recovered};
+ghost use Rattle.commit_lock.specs.Cores.{survives};
+
+use disk::Disk;
+use retain_store::{Store, StoreFault};
+use serial_core::SerialCore;
+use st_types::Value;
+use std::marker::Model;
+
+/// A core over a disk. Contracts see its plan, start and log, how many entries are acknowledged, and its store.
+///
+/// Its log is legal, its variables are what the executions of the log give, one after another, and every file that a stop now
+/// may leave survives: a warm restart gives what a front of the log leaves, which holds all that is acknowledged.
+#[derive(Drop)]
+pub struct Core<D: Disk> {
+    pub(crate) serial: SerialCore,
+    pub(crate) store: Store<D>,
+    /// The layout text of the plan's records.
+    pub(crate) layout: Vec<u8>,
+    /// Room for the values of a record.
+    pub(crate) kept: Vec<Value>,
+    /// How many entries of the log are acknowledged.
+    pub(crate) acked: usize,
+    /// Why the store failed, once a flush has met it.
+    pub(crate) failed: Option<StoreFault>,
+}
+
+impl<D: Disk> Model for Core<D> {
+    ghost use Rattle.std.specs.Coded.{codes};
+    ghost use Rattle.slot_code.specs.contracts.code.Code as code;
+    ghost use Rattle.commit_lock.specs.Cores.{CoreView};
+
+    ghost Value = { CoreView D };
+
+    ghost coded = { Prim.hlevel (codes, code.the_row.coded) };
+
+    ghost use Rattle.std.specs.Prelude.{◌≡◌, ◌≤◌, length, vec_capacity};
+    ghost use Rattle.st_types.specs.Layouts.{layout_text};
+    ghost use Rattle.commit_lock.specs.Kept.{IsKept};
+
+    ghost view = { λ x. record { state = x.serial; acked = x.acked; failed = x.failed; store = x.store } };
+
+    ghost invariant = { λ x. IsKept x.serial x.acked x.failed x.store x.layout.items (vec_capacity x.kept) };
+}
+
+impl<D: Disk> Core<D> {
+    /// Tells what the type keeps: every file that a stop now may leave survives.
+    pub fn kept(&self)
+        ensures survives { D.tells → (file : List ℕ) → D.may_leave self.now.store.disk file → survives self.now (recovered file) }
+        ensures few { self.now.acked ≤ length self.now.state.log }
+    {
+        self.store.kept();
+    }
+}

@@ -1,0 +1,56 @@
+//! Acknowledging what is in the log.
+
+ghost use Rattle.std.specs.Prelude.{◌≡◌, ◌≤◌, List, ℕ, None, IfOk, IfErr, MatchResult, length};
+ghost use Rattle.disk.specs.Runs.{LeavesOnly};
+ghost use Rattle.retain_store.specs.Recovered.{recovered};
+ghost use Rattle.commit_lock.specs.Cores.{survives};
+ghost use Rattle.commit_lock.specs.Flushing.{Flushes, CountsFlush};
+
+use crate::core_state::Core;
+use crate::refusal::Refusal;
+use crate::saving::save_record;
+use disk::Disk;
+
+impl<D: Disk> Core<D> {
+    /// How many entries of the log are acknowledged: a restart gives what a front of the log leaves that holds them all.
+    pub fn acked(&self) -> usize
+        ensures acked { result ≡ self.now.acked }
+        ensures few { result ≤ length self.now.state.log }
+    {
+        self.kept();
+        self.acked
+    }
+
+    /// Saves what is kept of the variables, where the log is longer than what is acknowledged, and gives the log's length, which
+    /// is acknowledged then. It takes no memory, and makes no device call where all is acknowledged.
+    ///
+    /// K5 where the store has failed before or fails now, for good; what is acknowledged stays as it was.
+    pub fn flush(&mut self) -> Result<usize, Refusal>
+        ensures flushes { Flushes self.old result self.new }
+        ensures device { CountsFlush result (D.failure_count self.old.store.disk) (D.failure_count self.new.store.disk) self.old self.new }
+        ensures any_moment { D.tells → LeavesOnly D.left_since D.may_leave self.old.store.disk self.new.store.disk (λ file. survives self.old (recovered file)) }
+        ensures survives { D.tells → (file : List ℕ) → D.may_leave self.new.store.disk file → survives self.new (recovered file) }
+    {
+        self.kept();
+        if let Some(cause) = self.failed {
+            return Err(Refusal::StoreFailed(cause));
+        }
+        let length = self.serial.len();
+        if self.acked == length {
+            return Ok(length);
+        }
+        let saved = save_record(&self.serial, &mut self.store, &self.layout, &mut self.kept);
+        match saved {
+            Ok(()) => {
+                self.acked = length;
+                self.kept();
+                Ok(length)
+            }
+            Err(cause) => {
+                self.failed = Some(cause);
+                self.kept();
+                Err(Refusal::StoreFailed(cause))
+            }
+        }
+    }
+}

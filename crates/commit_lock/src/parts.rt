@@ -1,0 +1,46 @@
+//! The memory of a core.
+
+ghost use Rattle.std.specs.Prelude.{◌≡◌, ◌≤◌, [], None, length, map, vec_capacity, IfOk};
+ghost use Rattle.st_types.specs.Layouts.{layout_text};
+ghost use Rattle.st_types.specs.Plans.{initial_store};
+ghost use Rattle.st_types.specs.Restarts.{kept, written_over};
+ghost use Rattle.config.specs.PlanViews.{plan_view};
+ghost use Rattle.serial_core.specs.Steps.{State};
+ghost use Rattle.commit_lock.specs.Restart.{begun, IsInitialAgain};
+
+use config::Plan;
+use serial_core::SerialCore;
+use st_types::Value;
+use std::alloc::{AllocError, Global};
+use std::sync::Arc;
+
+/// What a core is made of but for its store: all the memory of its life.
+#[derive(Drop)]
+pub(crate) struct Parts {
+    pub serial: SerialCore,
+    /// The layout text of the plan's records.
+    pub layout: Vec<u8>,
+    /// Room for the values of a record.
+    pub kept: Vec<Value>,
+}
+
+impl Parts {
+    /// The parts of a core with the plan's initial values and room for so many entries of its log.
+    pub fn new(alloc: Global, plan: Arc<Plan>, log_room: usize) -> Result<Parts, AllocError>
+        requires room { log_room ≤ 65536 }
+        ensures serial { IfOk result (λ parts. parts.serial ≡ begun plan.value log_room) }
+        ensures layout { IfOk result (λ parts. parts.layout.items ≡ layout_text plan.value.variables.items) }
+        ensures kept { IfOk result (λ parts. length plan.value.variables.items ≤ vec_capacity parts.kept) }
+        ensures initial { IfOk result (λ parts. IsInitialAgain plan.value) }
+    {
+        let layout = plan.layout_text(alloc)?;
+        let mut kept = Vec::with_capacity(alloc, plan.variables.len())?;
+        let serial = SerialCore::start(alloc, plan, log_room)?;
+        serial.retain(&mut kept);
+        Ok(Parts {
+            serial,
+            layout,
+            kept,
+        })
+    }
+}

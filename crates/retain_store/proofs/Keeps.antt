@@ -1,0 +1,103 @@
+-- What a store keeps after a save.
+use Rattle.std.proofs.Common.{◌≡◌, inl, inr, ℕ, ◌+◌, ◌-◌, ◌<◌, ◌≤◌, List, get_or, refl, sym, ◌∙◌, ap, subst, arith}
+use Rattle.std.proofs.lemmas.Bool.{cases_eq}
+use Rattle.std.proofs.lemmas.Bool.Decides.{nat_tests}
+use Rattle.disk.specs.Disk.{Only}
+use Rattle.retain_store.specs.declared.area.Areas.{Areas}
+use Rattle.retain_store.specs.declared.area.Gate.{Gate}
+use Rattle.retain_store.specs.declared.area.Gate.TheVariants as gates
+use Rattle.retain_store.specs.declared.area.Place.{Place}
+use Rattle.retain_store.specs.declared.area.Place.TheVariants.{First, Second}
+use Rattle.retain_store.specs.declared.store.Saves.{Saves}
+use Rattle.retain_store.specs.declared.store.Saves.TheVariants as saves
+use Rattle.retain_store.specs.Records.{Content}
+use Rattle.retain_store.specs.Recovered.{Recovered, Open, Nothing, Found, area, recovered}
+use Rattle.retain_store.specs.Areas.{alone, at_of, other_of, IsOlder, IsOpen, GateIs, IsReady, IsEither, IsSaved, IsSurveyed, areas_after_save}
+use Rattle.retain_store.specs.Surveys.{held}
+use Rattle.retain_store.specs.Opening.{IsSettled}
+use Rattle.retain_store.specs.Kept.{IsKept, IsLast}
+use Rattle.retain_store.proofs.Surveys.{twice, is_place, held_some}
+
+other_at : (place : Place) → at_of (other_of place) ≡ 131072 - at_of place
+other_at First = refl
+other_at Second = refl
+
+gate_moves : (gate : Gate) (at : ℕ) (c d : List ℕ) → get_or c at 0 ≡ get_or d at 0 → GateIs gate at d → GateIs gate at c
+gate_moves gates.Open at c d same gate = same ∙ gate
+gate_moves gates.Closed at c d same gate = λ here. gate (sym same ∙ here)
+
+-- the record of a generation
+pub held_last : (generation : ℕ) (content : Content) → IsLast generation (held generation content)
+held_last generation content = elim (cases_eq generation 0) [
+  | inl none ↦ let is : held generation content ≡ Nothing = grind (arith, nat_tests) in subst (IsLast generation) (sym is) none
+  | inr some ↦ let is : held generation content ≡ Found generation content = grind (arith, nat_tests) in subst (IsLast generation) (sym is) (refl, omega arith)
+]
+
+-- by the numbers of the places
+surveyed_at : (file : List ℕ) (target : Place) (gate other_gate : Gate) (generation : ℕ) (last : Recovered) (n : ℕ) → at_of target ≡ n → IsReady (generation + 1) n file → GateIs gate n file → GateIs other_gate (131072 - n) file → recovered file ≡ last
+    → IsSurveyed file (record { target = target; target_gate = gate; other_gate = other_gate; generation = generation }) last
+surveyed_at file target gate other_gate generation last n is ready gate_is other_is last_is = record {
+  ready = subst (λ (k : ℕ). IsReady (generation + 1) k file) (sym is) ready;
+  gate = subst (λ (k : ℕ). GateIs gate k file) (sym is) gate_is;
+  other_gate = subst (λ (k : ℕ). GateIs other_gate (131072 - k) file) (sym is) other_is;
+  last_is = last_is;
+}
+
+surveyed_next : (first file : List ℕ) (areas : Areas) (last : Recovered) (content : Content) → IsSurveyed first areas last → IsSaved (areas.generation + 1) (at_of areas.target) content first file
+    → IsSurveyed file (areas_after_save areas) (Found (areas.generation + 1) content)
+surveyed_next first file areas last content surveyed saved =
+    let at = at_of areas.target in
+    let place = is_place areas.target in
+    let generation = areas.generation + 1 in
+    let here : area (131072 - (131072 - at)) file ≡ Open generation content = subst (λ (n : ℕ). area n file ≡ Open generation content) (sym (twice at place)) saved.saved in
+    surveyed_at file (other_of areas.target) areas.other_gate gates.Open generation (Found generation content) (131072 - at) (other_at areas.target)
+    (record {
+      spare = record { size = saved.size; last = saved.found ∙ ap alone (sym here) };
+      older = subst (IsOlder (generation + 1)) (sym here) (let below : generation < generation + 1 = omega arith in below);
+    })
+    (gate_moves areas.other_gate (131072 - at) file first saved.other_gate surveyed.other_gate)
+    (subst (λ (n : ℕ). IsOpen n file) (sym (twice at place)) saved.gate)
+    saved.found
+
+-- after a save that succeeded
+pub kept_ok : (tells : Type 0) (first file : List ℕ) (files files' : List ℕ → Type 0) (areas : Areas) (met : Saves) (last : Recovered) (content : Content) (size : ℕ) → 12 ≤ size → size ≤ 131071
+    → (tells → IsSettled first files areas last) → (tells → IsSaved (areas.generation + 1) (at_of areas.target) content first file) → (tells → Only file files')
+    → IsKept tells file files' (areas_after_save areas) met (held (areas.generation + 1) content) (held (areas.generation + 1) content) size
+kept_ok tells first file files files' areas met last content size least greatest settled saved synced =
+    let is : held (areas.generation + 1) content ≡ Found (areas.generation + 1) content = held_some (areas.generation + 1) content (let some : 0 < areas.generation + 1 = omega arith in some) in
+    record {
+      left = λ t c may. inl (ap recovered (synced t c may) ∙ (saved t).found ∙ sym is);
+      settled = λ t ok. record { synced = synced t; surveyed = subst (IsSurveyed file (areas_after_save areas)) (sym is) (surveyed_next first file areas last content (settled t).surveyed (saved t)) };
+      least = least;
+      greatest = greatest;
+    }
+
+-- after one that failed
+pub kept_err : (tells : Type 0) (file : List ℕ) (files : List ℕ → Type 0) (areas : Areas) (last tried : Recovered) (size : ℕ) → 12 ≤ size → size ≤ 131071
+    → (tells → (c : List ℕ) → files c → IsEither last tried (recovered c)) → IsKept tells file files areas saves.Broken last tried size
+kept_err tells file files areas last tried size least greatest left = record {
+  left = left;
+  settled = λ t ok. cc;
+  least = least;
+  greatest = greatest;
+}
+
+-- after the file was opened
+pub kept_opened : (tells : Type 0) (file : List ℕ) (files : List ℕ → Type 0) (areas : Areas) (last : Recovered) (size : ℕ) → 12 ≤ size → size ≤ 131071 → (tells → IsSettled file files areas last)
+    → IsKept tells file files areas saves.Working last last size
+kept_opened tells file files areas last size least greatest settled = record {
+  left = λ t c may. inl (ap recovered ((settled t).synced c may) ∙ (settled t).surveyed.last_is);
+  settled = λ t ok. settled t;
+  least = least;
+  greatest = greatest;
+}
+
+-- after a save that was refused for want of generations
+pub kept_used_up : (tells : Type 0) (file : List ℕ) (files : List ℕ → Type 0) (areas : Areas) (last tried : Recovered) (size : ℕ) → IsKept tells file files areas saves.Working last tried size
+    → IsKept tells file files areas saves.UsedUp last tried size
+kept_used_up tells file files areas last tried size kept = record {
+  left = kept.left;
+  settled = λ t ok. cc;
+  least = kept.least;
+  greatest = kept.greatest;
+}

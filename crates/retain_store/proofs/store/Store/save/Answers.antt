@@ -1,0 +1,108 @@
+use Rattle.std.proofs.Common.{◌≡◌, ◌-◌, ◌≤◌, ◌++◌, ◌∙◌, Some, List, ℕ, take, drop, length, inl, inr, ⊎_elim, refl, ap, arith}
+use Rattle.std.proofs.lemmas.List.{take_at}
+use Rattle.disk.specs.Runs.{weakens}
+use Rattle.retain_store.specs.Records.{record_bytes}
+use Rattle.retain_store.specs.Reading.{decoded}
+use Rattle.retain_store.specs.Recovered.{recovered}
+use Rattle.retain_store.specs.Kept.{content_of}
+use Rattle.retain_store.proofs.Images.{image_spells}
+use Rattle.retain_store.proofs.Surveys.{held_some}
+use Rattle.retain_store.proofs.Keeps.{kept_ok, kept_err}
+use Rattle.retain_store.proofs.store.Store.save.Goals as goal
+
+pub write_image-requires-clause-ready : goal.write_image-requires-clause-ready
+write_image-requires-clause-ready g c = λ tells. rw c.at-target.ensures.at (c.self.invariant.0.settled tells c.in-Working.is).surveyed.ready
+
+pub write_image-requires-clause-gate : goal.write_image-requires-clause-gate
+write_image-requires-clause-gate g c = λ tells. rw c.at-target.ensures.at (c.self.invariant.0.settled tells c.in-Working.is).surveyed.gate
+
+pub write_image-requires-clause-synced : goal.write_image-requires-clause-synced
+write_image-requires-clause-synced g c = λ tells. (c.self.invariant.0.settled tells c.in-Working.is).synced
+
+pub write_image-requires-clause-image : goal.write_image-requires-clause-image
+write_image-requires-clause-image g c =
+    let buffer = c.put_image-size.new.image in
+    let size : length buffer ≡ c.self.inside.image.len = omega (arith, c.put_image-size.ensures.room, c.deref_mut.ensures.len) in
+    let items : take c.self.inside.image.len (buffer ++ drop (length buffer) c.self.inside.image.items) ≡ buffer = take_at buffer (drop (length buffer) c.self.inside.image.items) c.self.inside.image.len size in
+    let slice : c.deref.result.now ≡ buffer = c.deref.ensures.value ∙ items in
+    rw slice c.put_image-size.ensures.image
+
+pub returns-in-Ok-clause-any_moment : goal.returns-in-Ok-clause-any_moment
+returns-in-Ok-clause-any_moment g c = λ tells ok.
+    let buffer = c.put_image-size.new.image in
+    let size : length buffer ≡ c.self.inside.image.len = omega (arith, c.put_image-size.ensures.room, c.deref_mut.ensures.len) in
+    let items : take c.self.inside.image.len (buffer ++ drop (length buffer) c.self.inside.image.items) ≡ buffer = take_at buffer (drop (length buffer) c.self.inside.image.items) c.self.inside.image.len size in
+    let slice : c.deref.result.now ≡ buffer = c.deref.ensures.value ∙ items in
+    let content = content_of c.args.moment c.args.layout.now c.args.values.now in
+    let fits : length (record_bytes content) ≤ length c.self.inside.image.items - 12 = rw (← c.self.view_is) at c.requires.room in
+    let spells : decoded (drop 12 (take c.put_image-size.result c.deref.result.now)) ≡ Some content = image_spells content (take c.put_image-size.result c.deref.result.now) c.requires.sound (omega (arith, c.self.invariant.0.greatest)) (ap (λ (l : List ℕ). drop 12 (take c.put_image-size.result l)) slice ∙ c.put_image-size.ensures.body) in
+    rw (← c.self.view_is) (weakens g.D.Disk.left_since g.D.Disk.may_leave _ _ _ _ (c.write_image.ensures.any_moment tells content spells)
+    (λ file. ⊎_elim (λ before. inl (before ∙ (c.self.invariant.0.settled tells c.in-Working.is).surveyed.last_is)) inr))
+
+pub returns-in-Err-clause-any_moment : goal.returns-in-Err-clause-any_moment
+returns-in-Err-clause-any_moment g c = λ tells ok.
+    let buffer = c.put_image-size.new.image in
+    let size : length buffer ≡ c.self.inside.image.len = omega (arith, c.put_image-size.ensures.room, c.deref_mut.ensures.len) in
+    let items : take c.self.inside.image.len (buffer ++ drop (length buffer) c.self.inside.image.items) ≡ buffer = take_at buffer (drop (length buffer) c.self.inside.image.items) c.self.inside.image.len size in
+    let slice : c.deref.result.now ≡ buffer = c.deref.ensures.value ∙ items in
+    let content = content_of c.args.moment c.args.layout.now c.args.values.now in
+    let fits : length (record_bytes content) ≤ length c.self.inside.image.items - 12 = rw (← c.self.view_is) at c.requires.room in
+    let spells : decoded (drop 12 (take c.put_image-size.result c.deref.result.now)) ≡ Some content = image_spells content (take c.put_image-size.result c.deref.result.now) c.requires.sound (omega (arith, c.self.invariant.0.greatest)) (ap (λ (l : List ℕ). drop 12 (take c.put_image-size.result l)) slice ∙ c.put_image-size.ensures.body) in
+    rw (← c.self.view_is) (weakens g.D.Disk.left_since g.D.Disk.may_leave _ _ _ _ (c.write_image.ensures.any_moment tells content spells)
+    (λ file. ⊎_elim (λ before. inl (before ∙ (c.self.invariant.0.settled tells c.in-Working.is).surveyed.last_is)) inr))
+
+pub returns-in-Ok-clause-settled : goal.returns-in-Ok-clause-settled
+returns-in-Ok-clause-settled g c = λ tells file may.
+    let buffer = c.put_image-size.new.image in
+    let size : length buffer ≡ c.self.inside.image.len = omega (arith, c.put_image-size.ensures.room, c.deref_mut.ensures.len) in
+    let items : take c.self.inside.image.len (buffer ++ drop (length buffer) c.self.inside.image.items) ≡ buffer = take_at buffer (drop (length buffer) c.self.inside.image.items) c.self.inside.image.len size in
+    let slice : c.deref.result.now ≡ buffer = c.deref.ensures.value ∙ items in
+    let content = content_of c.args.moment c.args.layout.now c.args.values.now in
+    let fits : length (record_bytes content) ≤ length c.self.inside.image.items - 12 = rw (← c.self.view_is) at c.requires.room in
+    let spells : decoded (drop 12 (take c.put_image-size.result c.deref.result.now)) ≡ Some content = image_spells content (take c.put_image-size.result c.deref.result.now) c.requires.sound (omega (arith, c.self.invariant.0.greatest)) (ap (λ (l : List ℕ). drop 12 (take c.put_image-size.result l)) slice ∙ c.put_image-size.ensures.body) in
+    rw (← c.self.view_is) (ap recovered (c.in-Ok.ensures.synced tells file may) ∙ (c.in-Ok.ensures.saved tells content spells).found)
+
+pub returns-in-Ok-clause-saved : goal.returns-in-Ok-clause-saved
+returns-in-Ok-clause-saved g c = rw (← c.self.view_is) (rw (c.after_save-self-inside.ensures, c.in-Working.is, c.swap.ensures.x_after, c.set.ensures) (refl, held_some _ _ (omega arith), refl, refl))
+
+pub returns-in-Err-clause-tried : goal.returns-in-Err-clause-tried
+returns-in-Err-clause-tried g c = rw (← c.self.view_is) (rw c.set.ensures refl)
+
+pub returns-in-Err-clause-unchanged : goal.returns-in-Err-clause-unchanged
+returns-in-Err-clause-unchanged g c = rw (← c.self.view_is) (refl, refl, refl)
+
+pub invariant_of-self-in-Ok : goal.invariant_of-self-in-Ok
+invariant_of-self-in-Ok g c =
+    let buffer = c.put_image-size.new.image in
+    let size : length buffer ≡ c.self.inside.image.len = omega (arith, c.put_image-size.ensures.room, c.deref_mut.ensures.len) in
+    let items : take c.self.inside.image.len (buffer ++ drop (length buffer) c.self.inside.image.items) ≡ buffer = take_at buffer (drop (length buffer) c.self.inside.image.items) c.self.inside.image.len size in
+    let slice : c.deref.result.now ≡ buffer = c.deref.ensures.value ∙ items in
+    let content = content_of c.args.moment c.args.layout.now c.args.values.now in
+    let fits : length (record_bytes content) ≤ length c.self.inside.image.items - 12 = rw (← c.self.view_is) at c.requires.room in
+    let spells : decoded (drop 12 (take c.put_image-size.result c.deref.result.now)) ≡ Some content = image_spells content (take c.put_image-size.result c.deref.result.now) c.requires.sound (omega (arith, c.self.invariant.0.greatest)) (ap (λ (l : List ℕ). drop 12 (take c.put_image-size.result l)) slice ∙ c.put_image-size.ensures.body) in
+    let least : 12 ≤ length buffer = omega (arith, c.self.invariant.0.least) in
+    let greatest : length buffer ≤ 131071 = omega (arith, c.self.invariant.0.greatest) in
+    rw (c.after_save-self-inside.ensures, c.in-Working.is, c.swap.ensures.x_after, c.set.ensures, items) (
+      kept_ok g.D.Disk.tells (g.D.Disk.seen c.self.inside.disk) _ (g.D.Disk.may_leave c.self.inside.disk) _ c.self.inside.areas _ _ content (length buffer) least greatest
+          (λ tells. c.self.invariant.0.settled tells c.in-Working.is)
+          (λ tells. rw (← c.at-target.ensures.at) (c.in-Ok.ensures.saved tells content spells))
+          (λ tells. c.in-Ok.ensures.synced tells),
+      λ some. c.requires.sound,
+    )
+
+pub invariant_of-self-in-Err : goal.invariant_of-self-in-Err
+invariant_of-self-in-Err g c =
+    let buffer = c.put_image-size.new.image in
+    let size : length buffer ≡ c.self.inside.image.len = omega (arith, c.put_image-size.ensures.room, c.deref_mut.ensures.len) in
+    let items : take c.self.inside.image.len (buffer ++ drop (length buffer) c.self.inside.image.items) ≡ buffer = take_at buffer (drop (length buffer) c.self.inside.image.items) c.self.inside.image.len size in
+    let slice : c.deref.result.now ≡ buffer = c.deref.ensures.value ∙ items in
+    let content = content_of c.args.moment c.args.layout.now c.args.values.now in
+    let fits : length (record_bytes content) ≤ length c.self.inside.image.items - 12 = rw (← c.self.view_is) at c.requires.room in
+    let spells : decoded (drop 12 (take c.put_image-size.result c.deref.result.now)) ≡ Some content = image_spells content (take c.put_image-size.result c.deref.result.now) c.requires.sound (omega (arith, c.self.invariant.0.greatest)) (ap (λ (l : List ℕ). drop 12 (take c.put_image-size.result l)) slice ∙ c.put_image-size.ensures.body) in
+    let least : 12 ≤ length buffer = omega (arith, c.self.invariant.0.least) in
+    let greatest : length buffer ≤ 131071 = omega (arith, c.self.invariant.0.greatest) in
+    rw (c.set.ensures, items) (
+      kept_err g.D.Disk.tells _ _ c.self.inside.areas _ _ (length buffer) least greatest
+          (λ tells file may. ⊎_elim (λ before. inl (before ∙ (c.self.invariant.0.settled tells c.in-Working.is).surveyed.last_is)) inr ((c.write_image.ensures.any_moment tells content spells).now file may)),
+      c.self.invariant.1,
+    )

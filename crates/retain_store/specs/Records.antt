@@ -1,0 +1,70 @@
+-- Records: what a body of an area holds, and the bytes that spell it.
+use Rattle.std.specs.Prelude.{◌≡◌, ◌+◌, ◌<◌, ◌≤◌, nat_le, ℕ, Bool, false, true, ◌&&◌, if◌then◌else◌, Option, Some, None, IfSome, List, [], ◌∷◌, ◌++◌, length, map, bytes_eq, codes}
+use Rattle.std.specs.List.{flat_map, list_all, AllByRecursion, IsDistinct}
+use Rattle.std.specs.Int.{Width, w8, w16, w32, w64, to_be_bytes, cast_unsigned}
+use Rattle.st_words.specs.declared.kind.Kind.{Kind}
+use Rattle.st_words.specs.Kinds.{row_of}
+use Rattle.st_words.specs.Values.{Datum, IsHeld}
+
+-- what a record holds: the moment of the last row in milliseconds, the layout text, and the values in order
+pub record Content : Type 0 where
+  pub moment : Option ℕ
+  pub layout : List ℕ
+  pub values : List Datum
+
+-- a line of a layout text
+pub record Line : Type 0 where
+  pub path : List ℕ
+  pub kind : Kind
+
+-- PATH TYPE and LF
+abbrev pub line_text : Line → List ℕ
+line_text l = l.path ++ codes " " ++ (row_of l.kind).keyword ++ 10 ∷ []
+
+abbrev pub text_of : List Line → List ℕ
+text_of lines = flat_map line_text lines
+
+-- a byte that a path may have: a visible one
+abbrev pub is_visible : ℕ → Bool
+is_visible b = nat_le 33 b && nat_le b 126
+
+abbrev pub is_path_text : List ℕ → Bool
+is_path_text [] = false
+is_path_text (b ∷ bs) = list_all is_visible (b ∷ bs)
+
+-- a text that is lines for variables of these types: each path is sound, and none stands twice
+pub record IsLayout (text : List ℕ) (kinds : List Kind) : Type 0 where
+  pub lines : List Line
+  pub paths : AllByRecursion (λ l. is_path_text l.path ≡ true) lines
+  pub once : IsDistinct bytes_eq (map (λ l. l.path) lines)
+  pub spelled : text ≡ text_of lines
+  pub typed : kinds ≡ map (λ l. l.kind) lines
+
+-- 0 for no moment, else the moment plus 1
+abbrev pub moment_code : Option ℕ → ℕ
+moment_code None = 0
+moment_code (Some t) = t + 1
+
+-- the whole bytes that hold a value of the type
+abbrev pub wide_of : Kind → Width
+wide_of k = if nat_le (row_of k).bits 8 then w8 else if nat_le (row_of k).bits 16 then w16 else if nat_le (row_of k).bits 32 then w32 else w64
+
+-- big-endian, two's complement; a BOOL is one byte 0 or 1
+abbrev pub value_bytes : Datum → List ℕ
+value_bytes d = to_be_bytes (wide_of d.kind) (cast_unsigned (wide_of d.kind) d.number)
+
+-- the spelling of a record
+abbrev pub record_bytes : Content → List ℕ
+record_bytes c = to_be_bytes w64 (moment_code c.moment) ++ to_be_bytes w32 (length c.layout) ++ c.layout ++ flat_map value_bytes c.values
+
+-- what a record may hold: a moment below its limit, values that their types hold, and a line for each of them
+pub record IsSound (c : Content) : Type 0 where
+  pub moment : IfSome c.moment (λ t. t < 4611686018427387904)
+  pub layout : IsLayout c.layout (map (λ d. d.kind) c.values)
+  pub values : AllByRecursion IsHeld c.values
+
+-- a body of an area that is a record of this content
+pub record IsRecord (body : List ℕ) (c : Content) : Type 0 where
+  pub short : length body ≤ 131059
+  pub sound : IsSound c
+  pub spelled : body ≡ record_bytes c

@@ -1,0 +1,57 @@
+-- What a retain file is recovered to.
+use Rattle.std.specs.Prelude.{◌+◌, ◌==◌, nat_lt, nat_le, ℕ, Option, Some, None, List, length, take, drop, slice_index, if◌then◌else◌}
+use Rattle.std.specs.Int.{w32, w64, from_be_bytes}
+use Rattle.retain_store.specs.Records.{Content}
+use Rattle.retain_store.specs.Reading.{decoded}
+
+-- An area is closed, or it is open with the record of a generation, or it is open and damaged.
+pub data Area : Type 0 where
+  Closed : Area
+  Damaged : Area
+  Open : ℕ → Content → Area
+
+-- A file is too long, or refused for what is damaged in it, or it holds no record, or the one of that generation.
+pub data Recovered : Type 0 where
+  TooLong : Recovered
+  Refused : Recovered
+  Nothing : Recovered
+  Found : ℕ → Content → Recovered
+
+-- generations begin with 1, and a body that is no record is damaged
+abbrev pub area_with : ℕ → Option Content → Area
+area_with generation None = Damaged
+area_with generation (Some content) = if generation == 0 then Damaged else Open generation content
+
+-- the body is the next bytes behind the header, and at most 131,059
+abbrev pub area_of_parts : ℕ → ℕ → List ℕ → Area
+area_of_parts size generation behind =
+    if nat_le size 131059 then area_with generation (decoded (take size (drop 12 behind))) else Damaged
+
+-- behind an open gate: 8 bytes of the generation, 4 of the body's length, and the body
+unfoldable pub opened : List ℕ → Area
+opened behind = area_of_parts (from_be_bytes w32 (take 4 (drop 8 behind))) (from_be_bytes w64 (take 8 behind)) behind
+
+-- by the gate and what stands behind it: 0xA5 is open, all else closed
+abbrev pub gated : ℕ → List ℕ → Area
+gated gate behind = if gate == 165 then opened behind else Closed
+
+-- the area of 131,072 bytes at this place of a file
+unfoldable pub area : ℕ → List ℕ → Area
+area at file = gated (slice_index file at) (take 131071 (drop (at + 1) file))
+
+-- the one open area, or of two that of the greater generation
+abbrev pub chosen : Area → Area → Recovered
+chosen Closed Closed = Nothing
+chosen Closed Damaged = Refused
+chosen Closed (Open g c) = Found g c
+chosen Damaged b = Refused
+chosen (Open g c) Closed = Found g c
+chosen (Open g c) Damaged = Refused
+chosen (Open g c) (Open h d) = if g == h then Refused else if nat_lt g h then Found h d else Found g c
+
+-- A file holds a record only where it has exactly its two areas.
+unfoldable pub recovered : List ℕ → Recovered
+recovered file =
+    if nat_lt 262144 (length file) then TooLong
+    else if nat_lt (length file) 262144 then Nothing
+    else chosen (area 0 file) (area 131072 file)

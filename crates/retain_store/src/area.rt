@@ -1,0 +1,232 @@
+//! The two areas of a file, and the device steps of a save.
+
+ghost use Rattle.std.specs.Prelude.{◌≡◌, ◌+◌, ◌-◌, ◌<◌, ◌^◌, Some, length, drop, OnOk};
+ghost use Rattle.disk.specs.Disk.{Only, Counts, Torn, overwritten};
+ghost use Rattle.disk.specs.Runs.{LeavesOnly};
+ghost use Rattle.retain_store.specs.Records.{Content};
+ghost use Rattle.retain_store.specs.Reading.{decoded};
+ghost use Rattle.retain_store.specs.Recovered.{recovered, Found, Nothing};
+ghost use Rattle.retain_store.specs.Areas.{at_of, other_of, closed_areas, areas_after_save};
+ghost use Rattle.retain_store.specs.Areas.{IsPlace, IsOpen, IsShut, GateIs, IsSpare, IsReady, IsClosedNow};
+ghost use Rattle.retain_store.specs.Areas.{IsImage, IsSaved, IsEither, IsZeros, IsEmpty};
+
+use disk::{Disk, DiskError};
+
+/// The length of an area in bytes.
+pub(crate) const AREA: usize = 131_072;
+
+/// The mark of an open gate.
+pub(crate) const OPEN: u8 = 0xA5;
+
+/// The mark that closes a gate. Any byte but the mark of an open gate is a closed one.
+const CLOSED: u8 = 0;
+
+/// One of the two areas.
+#[derive(Clone, Copy, Debug, PartialEq, Eq)]
+pub(crate) enum Place {
+    First,
+    Second,
+}
+
+impl Place {
+    /// Where it begins, in bytes.
+    pub(crate) fn at(self) -> u64
+        ensures at { result ≡ at_of self }
+        ensures place { IsPlace result }
+    {
+        match self {
+            Place::First => 0,
+            Place::Second => AREA as u64,
+        }
+    }
+
+    /// The other area.
+    pub(crate) fn other(self) -> Place
+        ensures { result ≡ other_of self }
+    {
+        match self {
+            Place::First => Place::Second,
+            Place::Second => Place::First,
+        }
+    }
+}
+
+/// The gate of an area.
+#[derive(Clone, Copy, Debug, PartialEq, Eq)]
+pub(crate) enum Gate {
+    Open,
+    Closed,
+}
+
+/// How the two areas of a whole file stand.
+#[derive(Clone, Copy, Debug, PartialEq, Eq)]
+pub(crate) struct Areas {
+    /// The area that the next record goes to. It does not hold the last one.
+    pub(crate) target: Place,
+    pub(crate) target_gate: Gate,
+    /// The gate of the area that holds the last record, if there is one.
+    pub(crate) other_gate: Gate,
+    /// The generation of the last record, or 0 where there is none.
+    pub(crate) generation: u64,
+}
+
+impl Areas {
+    /// Two closed areas.
+    pub(crate) fn closed() -> Areas
+        ensures { result ≡ closed_areas }
+    {
+        Areas {
+            target: Place::First,
+            target_gate: Gate::Closed,
+            other_gate: Gate::Closed,
+            generation: 0,
+        }
+    }
+
+    /// After a record was saved.
+    pub(crate) fn after_save(self) -> Areas
+        requires { self.generation < 2 ^ 64 - 1 }
+        ensures { result ≡ areas_after_save self }
+    {
+        Areas {
+            target: self.target.other(),
+            target_gate: self.other_gate,
+            other_gate: Gate::Open,
+            generation: self.generation + 1,
+        }
+    }
+}
+
+/// Writes and syncs, over a file that is synced. No other function of this crate writes.
+pub(crate) fn write_synced<D: Disk>(disk: &mut D, at: u64, bytes: &[u8]) -> Result<(), DiskError>
+    requires synced { D.tells → Only (D.seen disk.old) (D.may_leave disk.old) }
+
+    ensures written { D.tells → OnOk result (D.seen disk.new ≡ overwritten (D.seen disk.old) at bytes.now) }
+    ensures synced { D.tells → OnOk result (Only (D.seen disk.new) (D.may_leave disk.new)) }
+
+    // A stop at any moment leaves the file with this one write, whole or torn.
+    ensures any_moment { D.tells →
+        LeavesOnly D.left_since D.may_leave disk.old disk.new (Torn at (length bytes.now) (D.seen disk.old)) }
+    ensures count { Counts result (D.failure_count disk.old) (D.failure_count disk.new) }
+{
+    disk.write_at(at, bytes)?;
+    disk.sync()
+}
+
+/// Closes the open gate there, where what stands behind it doesn't count.
+pub(crate) fn close<D: Disk>(disk: &mut D, at: u64) -> Result<(), DiskError>
+    requires place { IsPlace at }
+    requires spare { D.tells → IsSpare at (D.seen disk.old) }
+    requires open { D.tells → IsOpen at (D.seen disk.old) }
+    requires synced { D.tells → Only (D.seen disk.old) (D.may_leave disk.old) }
+
+    ensures closed { D.tells → OnOk result (IsClosedNow at (D.seen disk.old) (D.seen disk.new)) }
+    ensures synced { D.tells → OnOk result (Only (D.seen disk.new) (D.may_leave disk.new)) }
+
+    // A stop at any moment leaves the last record.
+    ensures any_moment { D.tells → LeavesOnly D.left_since D.may_leave disk.old disk.new
+        (λ file. recovered file ≡ recovered (D.seen disk.old)) }
+    ensures count { Counts result (D.failure_count disk.old) (D.failure_count disk.new) }
+{
+    write_synced(disk, at, &[CLOSED])?;
+    Ok(())
+}
+
+/// Writes an image behind a gate, and syncs it.
+fn write_behind<D: Disk>(disk: &mut D, at: u64, image: &[u8]) -> Result<(), DiskError>
+    requires place { IsPlace at }
+    requires synced { D.tells → Only (D.seen disk.old) (D.may_leave disk.old) }
+
+    ensures written { D.tells →
+        OnOk result (D.seen disk.new ≡ overwritten (D.seen disk.old) (at + 1) image.now) }
+    ensures synced { D.tells → OnOk result (Only (D.seen disk.new) (D.may_leave disk.new)) }
+    ensures any_moment { D.tells → LeavesOnly D.left_since D.may_leave disk.old disk.new
+        (Torn (at + 1) (length image.now) (D.seen disk.old)) }
+    ensures count { Counts result (D.failure_count disk.old) (D.failure_count disk.new) }
+{
+    write_synced(disk, at + 1, image)
+}
+
+/// Writes an image behind a closed gate, and opens the gate over it once it is synced.
+pub(crate) fn fill<D: Disk>(
+    disk: &mut D,
+    at: u64,
+    generation: u64,
+    image: &[u8],
+) -> Result<(), DiskError>
+    requires place { IsPlace at }
+    requires image { IsImage generation image.now }
+    requires ready { D.tells → IsReady generation at (D.seen disk.old) }
+    requires shut { D.tells → IsShut at (D.seen disk.old) }
+    requires synced { D.tells → Only (D.seen disk.old) (D.may_leave disk.old) }
+
+    ensures saved { D.tells → OnOk result ((content : Content) → decoded (drop 12 image.now) ≡ Some content
+        → IsSaved generation at content (D.seen disk.old) (D.seen disk.new)) }
+    ensures synced { D.tells → OnOk result (Only (D.seen disk.new) (D.may_leave disk.new)) }
+
+    // A stop at any moment leaves the last record or the new one.
+    ensures any_moment { D.tells → (content : Content) → decoded (drop 12 image.now) ≡ Some content
+        → LeavesOnly D.left_since D.may_leave disk.old disk.new
+        (λ file. IsEither (recovered (D.seen disk.old)) (Found generation content) (recovered file)) }
+    ensures count { Counts result (D.failure_count disk.old) (D.failure_count disk.new) }
+{
+    write_behind(disk, at, image)?;
+    write_synced(disk, at, &[OPEN])?;
+    Ok(())
+}
+
+/// Writes an image into that area, whose gate is closed first where it is open.
+pub(crate) fn write_image<D: Disk>(
+    disk: &mut D,
+    at: u64,
+    gate: Gate,
+    generation: u64,
+    image: &[u8],
+) -> Result<(), DiskError>
+    requires place { IsPlace at }
+    requires image { IsImage generation image.now }
+    requires ready { D.tells → IsReady generation at (D.seen disk.old) }
+    requires gate { D.tells → GateIs gate at (D.seen disk.old) }
+    requires synced { D.tells → Only (D.seen disk.old) (D.may_leave disk.old) }
+
+    ensures saved { D.tells → OnOk result ((content : Content) → decoded (drop 12 image.now) ≡ Some content
+        → IsSaved generation at content (D.seen disk.old) (D.seen disk.new)) }
+    ensures synced { D.tells → OnOk result (Only (D.seen disk.new) (D.may_leave disk.new)) }
+
+    // A stop at any moment leaves the last record or the new one.
+    ensures any_moment { D.tells → (content : Content) → decoded (drop 12 image.now) ≡ Some content
+        → LeavesOnly D.left_since D.may_leave disk.old disk.new
+        (λ file. IsEither (recovered (D.seen disk.old)) (Found generation content) (recovered file)) }
+    ensures count { Counts result (D.failure_count disk.old) (D.failure_count disk.new) }
+{
+    match gate {
+        Gate::Open => {
+            close(disk, at)?;
+            fill(disk, at, generation, image)?;
+            Ok(())
+        }
+        Gate::Closed => {
+            fill(disk, at, generation, image)?;
+            Ok(())
+        }
+    }
+}
+
+/// Makes a file that is too short one of two closed areas.
+pub(crate) fn format<D: Disk>(disk: &mut D, zeros: &[u8]) -> Result<(), DiskError>
+    requires zeros { IsZeros zeros.now }
+    requires short { D.tells → length (D.seen disk.old) < 262144 }
+    requires synced { D.tells → Only (D.seen disk.old) (D.may_leave disk.old) }
+
+    ensures empty { D.tells → OnOk result (IsEmpty (D.seen disk.new)) }
+    ensures synced { D.tells → OnOk result (Only (D.seen disk.new) (D.may_leave disk.new)) }
+
+    // A stop at any moment leaves a file without a record.
+    ensures any_moment { D.tells →
+        LeavesOnly D.left_since D.may_leave disk.old disk.new (λ file. recovered file ≡ Nothing) }
+    ensures count { Counts result (D.failure_count disk.old) (D.failure_count disk.new) }
+{
+    write_synced(disk, 0, zeros)?;
+    write_synced(disk, 262_143, &[CLOSED])?;
+    Ok(())
+}

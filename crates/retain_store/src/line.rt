@@ -1,0 +1,84 @@
+//! The lines of a layout text.
+
+ghost use Rattle.std.specs.Prelude.{◌≡◌, ◌==◌, option_map, position};
+ghost use Rattle.std.specs.List.{list_all};
+ghost use Rattle.retain_store.specs.Records.{is_path_text, is_visible};
+ghost use Rattle.retain_store.specs.Reading.{cut, kind_of, line_at};
+
+use st_types::Kind;
+
+const KINDS: [Kind; 14] = [
+    Kind::Sint,
+    Kind::Int,
+    Kind::Dint,
+    Kind::Lint,
+    Kind::Usint,
+    Kind::Uint,
+    Kind::Udint,
+    Kind::Ulint,
+    Kind::Byte,
+    Kind::Word,
+    Kind::Dword,
+    Kind::Lword,
+    Kind::Time,
+    Kind::Bool,
+];
+
+/// A line of a layout text: a path and its type.
+#[derive(Clone, Copy)]
+pub(crate) struct Line<'a> {
+    pub(crate) path: &'a [u8],
+    pub(crate) kind: Kind,
+}
+
+/// The line at the front of the text, and the text behind it.
+#[tactic(auto, unfolding(crate::specs::Reading::line_at))]
+pub(crate) fn line_at(text: &[u8]) -> Option<(Line<'_>, &[u8])>
+    ensures { option_map (λ p. (record { path = p.0.path.now; kind = p.0.kind }, p.1.now)) result ≡ line_at text.now }
+{
+    let (path, behind_path) = cut(b' ', text)?;
+    let (keyword, behind) = cut(b'\n', behind_path)?;
+    let kind = kind_of(keyword)?;
+    if !is_path_text(path) {
+        return None;
+    }
+    Some((Line { path, kind }, behind))
+}
+
+/// What stands before the first such byte, and what stands behind it.
+pub(crate) fn cut(mark: u8, bytes: &[u8]) -> Option<(&[u8], &[u8])>
+    ensures { option_map (λ p. (p.0.now, p.1.now)) result ≡ cut mark bytes.now }
+{
+    let end = place_of(mark, bytes)?;
+    Some((&bytes[..end], &bytes[end + 1..]))
+}
+
+fn place_of(mark: u8, bytes: &[u8]) -> Option<usize>
+    ensures { result ≡ position (λ byte. byte == mark) bytes.now }
+{
+    bytes.iter().position(|byte| *byte == mark)
+}
+
+/// The type that has this keyword.
+#[tactic(auto, unfolding(crate::specs::Reading::kind_of))]
+fn kind_of(word: &[u8]) -> Option<Kind>
+    ensures { result ≡ kind_of word.now }
+{
+    KINDS
+        .iter()
+        .copied()
+        .find(|kind| kind.row().keyword.as_bytes() == word)
+}
+
+/// Whether the bytes may be a path: at least one, and each of them visible.
+fn is_path_text(path: &[u8]) -> bool
+    ensures { result ≡ is_path_text path.now }
+{
+    !path.is_empty() && are_visible(path)
+}
+
+fn are_visible(bytes: &[u8]) -> bool
+    ensures { result ≡ list_all is_visible bytes.now }
+{
+    bytes.iter().all(|byte| (33..=126).contains(byte))
+}

@@ -1,0 +1,129 @@
+//! The device steps of opening a store.
+
+ghost use Rattle.std.specs.Prelude.{◌≡◌, length, take, IfOk, IfErr, OnOk, MatchResult};
+ghost use Rattle.disk.specs.Disk.{Only, Counts};
+ghost use Rattle.disk.specs.Runs.{LeavesOnly};
+ghost use Rattle.retain_store.specs.Recovered.{recovered};
+ghost use Rattle.retain_store.specs.Areas.{IsZeros};
+ghost use Rattle.retain_store.specs.Surveys.{held, IsSoundAt};
+ghost use Rattle.retain_store.specs.Opening.{IsSettled, IsLoaded, IsOfFile, RefusesFor, CountsFault};
+
+use crate::area::{AREA, Areas, format};
+use crate::fault::StoreFault;
+use crate::paths::LineRoom;
+use crate::record::Record;
+use crate::surveying::survey;
+use disk::{Disk, DiskError};
+
+/// The length of a file with its two areas, in bytes.
+pub(crate) const FILE: usize = 2 * AREA;
+
+/// Syncs the file, and tells its length.
+fn synced_len<D: Disk>(disk: &mut D) -> Result<u64, DiskError>
+    ensures len { D.tells → IfOk result (λ n. n ≡ length (D.seen disk.old)) }
+    ensures seen { D.tells → D.seen disk.new ≡ D.seen disk.old }
+    ensures synced { D.tells → OnOk result (Only (D.seen disk.new) (D.may_leave disk.new)) }
+
+    // On a disk with nothing unsynced a stop at any moment leaves the file as it was.
+    ensures any_moment { D.tells → Only (D.seen disk.old) (D.may_leave disk.old)
+        → LeavesOnly D.left_since D.may_leave disk.old disk.new (λ file. file ≡ D.seen disk.old) }
+    ensures count { Counts result (D.failure_count disk.old) (D.failure_count disk.new) }
+{
+    disk.sync()?;
+    let len = disk.len()?;
+    Ok(len)
+}
+
+/// Reads one area after the other, of a file that is synced.
+fn read_areas<D: Disk>(disk: &mut D, file: &mut [u8]) -> Result<(), DiskError>
+    requires room { length file.old ≡ 262144 }
+    requires whole { D.tells → length (D.seen disk.old) ≡ 262144 }
+    requires synced { D.tells → Only (D.seen disk.old) (D.may_leave disk.old) }
+
+    ensures length { length file.new ≡ 262144 }
+    ensures value { D.tells → OnOk result (file.new ≡ D.seen disk.old) }
+    ensures seen { D.tells → D.seen disk.new ≡ D.seen disk.old }
+    ensures synced { D.tells → Only (D.seen disk.new) (D.may_leave disk.new) }
+
+    // A stop at any moment leaves the file as it was.
+    ensures any_moment { D.tells →
+        LeavesOnly D.left_since D.may_leave disk.old disk.new (λ file. file ≡ D.seen disk.old) }
+    ensures count { Counts result (D.failure_count disk.old) (D.failure_count disk.new) }
+{
+    let (first, second) = file.split_at_mut(AREA);
+    disk.read(0, first)?;
+    disk.read(AREA as u64, second)?;
+    Ok(())
+}
+
+/// What a file that is not too long is.
+#[derive(Clone, Copy)]
+enum Loaded {
+    /// It was too short, and has two closed areas now.
+    Formatted,
+    /// It is whole, and was read.
+    Whole,
+}
+
+/// Brings the file to its two areas, and reads it where it had them.
+fn load<D: Disk>(disk: &mut D, file: &mut [u8]) -> Result<Loaded, StoreFault>
+    requires room { length file.old ≡ 262144 }
+    requires zeros { IsZeros (take 262143 file.old) }
+
+    ensures length { length file.new ≡ 262144 }
+    ensures found { D.tells → IfOk result (λ loaded. IsLoaded loaded file.new (D.seen disk.old) (D.seen disk.new)) }
+    ensures synced { D.tells → OnOk result (Only (D.seen disk.new) (D.may_leave disk.new)) }
+    ensures faults { IfErr result IsOfFile }
+    ensures refused { D.tells → IfErr result (λ fault. RefusesFor fault (recovered (D.seen disk.old))) }
+
+    // On a disk with nothing unsynced a stop at any moment leaves what is recovered as the file was.
+    ensures any_moment { D.tells → Only (D.seen disk.old) (D.may_leave disk.old)
+        → LeavesOnly D.left_since D.may_leave disk.old disk.new (λ file. recovered file ≡ recovered (D.seen disk.old)) }
+    ensures count { MatchResult result (λ _. D.failure_count disk.new ≡ D.failure_count disk.old)
+        (λ fault. CountsFault fault (D.failure_count disk.old) (D.failure_count disk.new)) }
+{
+    let len = synced_len(disk)?;
+    if len > FILE as u64 {
+        return Err(StoreFault::TooLong);
+    }
+    if len < FILE as u64 {
+        format(disk, &file[..FILE - 1])?;
+        return Ok(Loaded::Formatted);
+    }
+    read_areas(disk, file)?;
+    Ok(Loaded::Whole)
+}
+
+/// Finds the last record of the file, and leaves it in `last` where there is one.
+pub(crate) fn recover<D: Disk>(
+    disk: &mut D,
+    file: &mut [u8],
+    last: &mut Record,
+    next: &mut Record,
+    lines: &mut LineRoom,
+) -> Result<Areas, StoreFault>
+    requires room { length file.old ≡ 262144 }
+    requires zeros { IsZeros (take 262143 file.old) }
+
+    ensures found { D.tells → IfOk result (λ areas. held areas.generation last.new ≡ recovered (D.seen disk.old)) }
+    ensures sound { IfOk result (λ areas. IsSoundAt areas.generation last.new) }
+    ensures settled { D.tells → IfOk result (λ areas.
+        IsSettled (D.seen disk.new) (D.may_leave disk.new) areas (held areas.generation last.new)) }
+    ensures faults { IfErr result IsOfFile }
+    ensures refused { D.tells → IfErr result (λ fault. RefusesFor fault (recovered (D.seen disk.old))) }
+
+    // On a disk with nothing unsynced a stop at any moment leaves what is recovered as the file was.
+    ensures any_moment { D.tells → Only (D.seen disk.old) (D.may_leave disk.old)
+        → LeavesOnly D.left_since D.may_leave disk.old disk.new (λ file. recovered file ≡ recovered (D.seen disk.old)) }
+    ensures count { MatchResult result (λ _. D.failure_count disk.new ≡ D.failure_count disk.old)
+        (λ fault. CountsFault fault (D.failure_count disk.old) (D.failure_count disk.new)) }
+{
+    match load(disk, file) {
+        Ok(Loaded::Formatted) => Ok(Areas::closed()),
+        Ok(Loaded::Whole) => match survey(file, last, next, lines) {
+            Some(areas) => Ok(areas),
+            None => Err(StoreFault::Damaged),
+        },
+        Err(fault) => Err(fault),
+    }
+}

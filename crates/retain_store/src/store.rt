@@ -1,0 +1,274 @@
+//! A store that saves records, one after another.
+
+ghost use Rattle.std.specs.Prelude.{◌≡◌, ◌≢◌, ◌≤◌, ◌+◌, ◌-◌, ◌^◌, ◌↔◌, List, ℕ, true, false, IfOk, IfErr, IfSome, OnOk, OnErr, IsErrOf, MatchResult, length, take};
+ghost use Rattle.std.specs.Option.{option_copied};
+ghost use Rattle.disk.specs.Disk.{Only};
+ghost use Rattle.disk.specs.Runs.{LeavesOnly};
+ghost use Rattle.retain_store.specs.Records.{IsSound, record_bytes};
+ghost use Rattle.retain_store.specs.Recovered.{recovered, Found};
+ghost use Rattle.retain_store.specs.Areas.{IsEither, IsZeros};
+ghost use Rattle.retain_store.specs.Opening.{RefusesFor, CountsFault};
+ghost use Rattle.retain_store.specs.Kept.{content_of, record_in, IsLast, IsTriedAfter};
+
+use crate::area::{Areas, write_image};
+use crate::fault::StoreFault;
+use crate::image::put_image;
+use crate::loading::{FILE, recover};
+use crate::paths::LineRoom;
+use crate::record::Record;
+use crate::surveying::HEADER;
+use disk::Disk;
+use st_types::Value;
+use std::alloc::{AllocError, Global};
+use std::marker::Model;
+
+/// What saves have met since the store was opened.
+#[derive(Clone, Copy, Debug, PartialEq, Eq)]
+enum Saves {
+    /// Each has succeeded.
+    Working,
+    /// One failed in the device.
+    Broken,
+    /// One was refused for want of generations.
+    UsedUp,
+}
+
+/// A retain file with its last record. It saves a record in such an order that a stop at any moment leaves the last record
+/// or the one being saved. Contracts see its disk, the last record and the one that a failed save tried.
+///
+/// The type keeps that the last record is sound, and that each file which a stop now may leave is recovered to one of these
+/// two; on a disk that tells nothing it keeps nothing of files.
+#[derive(Drop)]
+pub struct Store<D: Disk> {
+    disk: D,
+    areas: Areas,
+    /// The last record, if there is one.
+    last: Record,
+    /// The record that was tried, after a save that failed in the device.
+    next: Record,
+    /// The room of an area behind its gate.
+    image: Vec<u8>,
+    saves: Saves,
+}
+
+impl<D: Disk> Model for Store<D> {
+    ghost use Rattle.std.specs.Prelude.{◌-◌, ◌≤◌, length};
+    ghost use Rattle.retain_store.specs.Surveys.{held, IsSoundAt};
+    ghost use Rattle.retain_store.specs.Kept.{StoreView, IsKept, tried_by, has_failed};
+
+    ghost Value = { StoreView D };
+
+    ghost view = { λ s. record {
+      disk = s.disk;
+      generation = s.areas.generation;
+      last = held s.areas.generation s.last;
+      tried = tried_by s.saves s.areas.generation s.last s.next;
+      failed = has_failed s.saves;
+      room = length s.image.items - 12;
+    } };
+
+    ghost invariant = { λ s. IsKept D.tells (D.seen s.disk) (D.may_leave s.disk) s.areas s.saves
+        (held s.areas.generation s.last) (tried_by s.saves s.areas.generation s.last s.next)
+        (length s.image.items) × IsSoundAt s.areas.generation s.last };
+}
+
+/// The memory of a store, which is taken before its first device call.
+#[derive(Drop)]
+struct Room {
+    /// Zero bytes, for the whole file.
+    file: Vec<u8>,
+    last: Record,
+    next: Record,
+    lines: LineRoom,
+    image: Vec<u8>,
+}
+
+impl Room {
+    fn new(alloc: Global, room: usize) -> Result<Room, AllocError>
+        requires { room ≤ 131059 }
+        ensures file { IfOk result (λ r. length r.file.items ≡ 262144) }
+        ensures zeros { IfOk result (λ r. IsZeros (take 262143 r.file.items)) }
+        ensures image { IfOk result (λ r. length r.image.items ≡ room + 12) }
+    {
+        let file = vec![in alloc; 0; FILE]?;
+        let last = Record::with_room(alloc)?;
+        let next = Record::with_room(alloc)?;
+        let lines = LineRoom::new(alloc)?;
+        let image = vec![in alloc; 0; room + HEADER]?;
+        Ok(Room {
+            file,
+            last,
+            next,
+            lines,
+            image,
+        })
+    }
+}
+
+impl<D: Disk> Store<D> {
+    /// Opens the file of a disk. Its memory, for any record that the file may hold and for saves of bodies of at most `room`
+    /// bytes, is taken before the first device call.
+    ///
+    /// S1 to S3, and S5 for want of memory. An error gives the disk back, and makes no more calls of it.
+    pub fn open(alloc: Global, disk: D, room: usize) -> Result<Store<D>, (StoreFault, D)>
+        requires room { room ≤ 131059 }
+
+        // The last record is what is recovered of the file that a read gives.
+        ensures found { D.tells → IfOk result (λ store. store.last ≡ recovered (D.seen disk)) }
+        ensures refused { D.tells → IfErr result (λ e. RefusesFor e.0 (recovered (D.seen disk))) }
+        ensures opened { IfOk result (λ store. IsLast store.generation store.last) }
+        ensures tried { IfOk result (λ store. store.tried ≡ store.last) }
+        ensures fresh { IfOk result (λ store. store.failed ≡ false) }
+        ensures room { IfOk result (λ store. store.room ≡ room) }
+
+        // After Ok a stop leaves the last record.
+        ensures settled { D.tells → IfOk result (λ store. (file : List ℕ) → D.may_leave store.disk file
+            → recovered file ≡ store.last) }
+
+        // S3 exactly where a call of the disk failed, and then one did.
+        ensures device { MatchResult result
+            (λ store. D.failure_count store.disk ≡ D.failure_count disk)
+            (λ e. CountsFault e.0 (D.failure_count disk) (D.failure_count e.1)) }
+        ensures faults { IfErr result (λ e. (e.0 ≢ StoreFault.Generations) × (e.0 ≢ StoreFault.Failed)) }
+        ensures memory { IfErr result (λ e. e.0 ≡ StoreFault.NoMemory → e.1 ≡ disk) }
+
+        // On a disk with nothing unsynced, a stop at any moment leaves what is recovered as the file was.
+        ensures any_moment { D.tells → Only (D.seen disk) (D.may_leave disk) → MatchResult result
+            (λ store. LeavesOnly D.left_since D.may_leave disk store.disk
+            (λ file. recovered file ≡ recovered (D.seen disk)))
+            (λ e. LeavesOnly D.left_since D.may_leave disk e.1
+            (λ file. recovered file ≡ recovered (D.seen disk))) }
+    {
+        let mut disk = disk;
+        let Room {
+            mut file,
+            mut last,
+            mut next,
+            mut lines,
+            image,
+        } = match Room::new(alloc, room) {
+            Ok(room) => room,
+            Err(_) => return Err((StoreFault::NoMemory, disk)),
+        };
+        match recover(&mut disk, &mut file, &mut last, &mut next, &mut lines) {
+            Ok(areas) => Ok(Store {
+                disk,
+                areas,
+                last,
+                next,
+                image,
+                saves: Saves::Working,
+            }),
+            Err(fault) => Err((fault, disk)),
+        }
+    }
+
+    /// The last record, if there is one.
+    pub fn last(&self) -> Option<&Record>
+        ensures record { option_copied result ≡ record_in self.now.last }
+        ensures sound { IfSome result (λ r. IsSound r.now) }
+    {
+        if self.areas.generation == 0 {
+            return None;
+        }
+        Some(&self.last)
+    }
+
+    /// Saves a record. At `Ok` it is the last, and a stop leaves it. It takes no memory.
+    ///
+    /// S3 where the device failed, S4 before any device call where the generations are used up; after one of these S6, until
+    /// the disk is opened again. An error leaves the last record as it was.
+    pub fn save(
+        &mut self,
+        moment: Option<u64>,
+        layout: &[u8],
+        values: &[Value],
+    ) -> Result<(), StoreFault>
+        requires sound { IsSound (content_of moment layout.now values.now) }
+        requires room { length (record_bytes (content_of moment layout.now values.now)) ≤ self.old.room }
+
+        ensures saved { OnOk result ((self.new.generation ≡ self.old.generation + 1)
+            × (self.new.last ≡ Found (self.old.generation + 1) (content_of moment layout.now values.now))
+            × (self.new.tried ≡ self.new.last) × (self.new.failed ≡ false)) }
+        ensures unchanged { OnErr result ((self.new.generation ≡ self.old.generation)
+            × (self.new.last ≡ self.old.last) × (self.new.failed ≡ true)) }
+        ensures tried { IfErr result (λ fault.
+            IsTriedAfter fault (content_of moment layout.now values.now) self.old self.new) }
+        ensures room { self.new.room ≡ self.old.room }
+
+        // A stop at any moment leaves the last record or the new one.
+        ensures any_moment { D.tells → self.old.failed ≡ false →
+            LeavesOnly D.left_since D.may_leave self.old.disk self.new.disk (λ file. IsEither self.old.last
+            (Found (self.old.generation + 1) (content_of moment layout.now values.now)) (recovered file)) }
+
+        // After Ok a stop leaves the new one.
+        ensures settled { D.tells → OnOk result ((file : List ℕ) → D.may_leave self.new.disk file
+            → recovered file ≡ Found (self.old.generation + 1) (content_of moment layout.now values.now)) }
+
+        // S3 exactly where a call of the disk failed, and then one did.
+        ensures device { MatchResult result
+            (λ _. D.failure_count self.new.disk ≡ D.failure_count self.old.disk)
+            (λ fault. CountsFault fault (D.failure_count self.old.disk) (D.failure_count self.new.disk)) }
+        ensures again { IsErrOf result StoreFault.Failed ↔ (self.old.failed ≡ true) }
+        ensures generations { IsErrOf result StoreFault.Generations
+            ↔ ((self.old.failed ≡ false) × (self.old.generation ≡ 2 ^ 64 - 1)) }
+    {
+        match self.saves {
+            Saves::Working => {}
+            Saves::Broken | Saves::UsedUp => return Err(StoreFault::Failed),
+        }
+        if self.areas.generation == u64::MAX {
+            self.saves = Saves::UsedUp;
+            return Err(StoreFault::Generations);
+        }
+        self.next.set(moment, layout, values);
+        let generation = self.areas.generation + 1;
+        let size = put_image(&mut self.image, generation, moment, layout, values);
+        let target = self.areas.target.at();
+        let gate = self.areas.target_gate;
+        match write_image(
+            &mut self.disk,
+            target,
+            gate,
+            generation,
+            &self.image[..size],
+        ) {
+            Ok(()) => {
+                std::mem::swap(&mut self.last, &mut self.next);
+                self.areas = self.areas.after_save();
+                Ok(())
+            }
+            Err(_) => {
+                self.saves = Saves::Broken;
+                Err(StoreFault::Device)
+            }
+        }
+    }
+
+    /// Tells what the type keeps: each file that a stop now may leave is recovered to the last record or to a failed
+    /// save's.
+    pub fn kept(&self)
+        ensures left { D.tells → (file : List ℕ) → D.may_leave self.now.disk file
+            → IsEither self.now.last self.now.tried (recovered file) }
+        ensures last { IsLast self.now.generation self.now.last }
+    {
+        let _ = &self.saves;
+    }
+
+    /// Gives the disk back, without a call of it.
+    pub fn into_disk(self) -> D
+        ensures disk { result ≡ self.disk }
+        ensures left { D.tells → (file : List ℕ) → D.may_leave result file
+            → IsEither self.last self.tried (recovered file) }
+    {
+        let Store {
+            disk,
+            areas: _,
+            last: _,
+            next: _,
+            image: _,
+            saves: _,
+        } = self;
+        disk
+    }
+}

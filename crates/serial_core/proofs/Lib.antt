@@ -1,0 +1,12 @@
+pub mod RowLemmas
+pub mod VariableLemmas
+pub mod LatchLemmas
+pub mod LookupLemmas
+pub mod PlanSlots
+pub mod TakeLemmas
+pub mod CommitLemmas
+pub mod ReadingLemmas
+pub mod OutcomeLemmas
+pub mod RetainedLemmas
+pub mod StartLemmas
+pub mod ResumeLemmas

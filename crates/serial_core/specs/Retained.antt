@@ -1,0 +1,46 @@
+-- The retained variables of a plan by their order.
+use Rattle.std.specs.Prelude.{ℕ, List, [], ◌∷◌, if◌then◌else◌, Option}
+use Rattle.st_words.specs.declared.kind.Kind.{Kind}
+use Rattle.st_words.specs.Values.{Datum}
+use Rattle.st_words.specs.Paths.{Path}
+use Rattle.st_types.specs.declared.plan.PlanVariable.{PlanVariable}
+use Rattle.st_types.specs.Stores.{Store}
+use Rattle.st_types.specs.Restarts.{Kept}
+
+abbrev pub retained_paths : List PlanVariable → List Path
+retained_paths [] = []
+retained_paths (v ∷ vs) = if v.retained then v.path ∷ retained_paths vs else retained_paths vs
+
+abbrev pub retained_kinds : List PlanVariable → List Kind
+retained_kinds [] = []
+retained_kinds (v ∷ vs) = if v.retained then v.initial.kind ∷ retained_kinds vs else retained_kinds vs
+
+-- of these values of all variables, those of the retained ones
+abbrev pub retained_values : List PlanVariable → List Datum → List Datum
+retained_values [] ds = []
+retained_values (v ∷ vs) [] = []
+retained_values (v ∷ vs) (d ∷ ds) = if v.retained then d ∷ retained_values vs ds else retained_values vs ds
+
+-- the first of these values, or else that one
+abbrev pub first_or : Datum → List Datum → Datum
+first_or d [] = d
+first_or d (w ∷ ws) = w
+
+abbrev pub others : List Datum → List Datum
+others [] = []
+others (w ∷ ws) = ws
+
+-- the initial values, but these for the retained variables, in order
+abbrev pub restored : List PlanVariable → List Datum → List Datum
+restored [] ws = []
+restored (v ∷ vs) ws = if v.retained then first_or v.initial ws ∷ restored vs (others ws) else v.initial ∷ restored vs ws
+
+-- each path with its value
+abbrev pub paired : List Path → List Datum → Store
+paired [] ds = []
+paired (p ∷ ps) [] = []
+paired (p ∷ ps) (d ∷ ds) = (p, d) ∷ paired ps ds
+
+-- what a record of these values of the retained variables tells
+abbrev pub told_by : List PlanVariable → List Datum → Option ℕ → Kept
+told_by variables values moment = record { values = paired (retained_paths variables) values; moment = moment }

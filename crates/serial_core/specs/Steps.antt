@@ -1,0 +1,128 @@
+-- The steps of a core, each by the cases of its answer. Each refusal carries that those before it do not apply.
+use Rattle.std.specs.Prelude.{◌≡◌, ℕ, ◌<◌, ◌≤◌, Bool, true, false, List, [], ◌∷◌, ◌++◌, map, length, Option, Some, None, option_map, Result, Ok, Err, slice_get}
+use Rattle.st_words.specs.Values.{Datum}
+use Rattle.st_types.specs.declared.entry.Entry.{Entry}
+use Rattle.st_types.specs.declared.entry.Entry.TheVariants.{Row, Done}
+use Rattle.st_types.specs.declared.entry.Activation.{Activation}
+use Rattle.st_types.specs.Rows.{Latch}
+use Rattle.st_types.specs.Stores.{Store}
+use Rattle.st_types.specs.Slots.{variables_in, agrees}
+use Rattle.st_types.specs.Layouts.{layout_of}
+use Rattle.st_types.specs.Due.{Waits, NoneWaits, IsBest}
+use Rattle.st_types.specs.declared.plan.PlanInput.{PlanInput}
+use Rattle.st_types.specs.Plans.{places_of, fits, initial_value, image_of}
+use Rattle.st_types.specs.Logs.{Past, past_of, row_at, last_moment, is_later}
+use Rattle.slot_code.specs.declared.code.Code.{Code}
+use Rattle.slot_code.specs.Codes.{text_of}
+use Rattle.slot_run.specs.Effects.{Effect}
+use Rattle.slot_run.specs.declared.snapshot.Snapshot.{Snapshot}
+use Rattle.config.specs.declared.plan.Plan.{Plan}
+use Rattle.config.specs.PlanViews.{plan_view}
+use Rattle.serial_core.specs.declared.refusal.Answer.{Answer}
+use Rattle.serial_core.specs.declared.refusal.Answer.TheVariants.{Committed, Stale}
+use Rattle.serial_core.specs.declared.refusal.Refusal.{Refusal}
+use Rattle.serial_core.specs.declared.refusal.Refusal.TheVariants.{Full, NotWaiting, Foreign, NotLater, NoMemory}
+
+-- a core: its plan, what its variables and its last moment were at the start, and its log, with room for so many entries
+pub record State : Type 0 where
+  pub plan : Plan
+  pub start : Store
+  pub before : Option ℕ
+  pub log : List Entry
+  pub room : ℕ
+
+-- the variables of a plan with these values
+abbrev pub store_in : Plan → List Datum → Store
+store_in plan values = variables_in (layout_of plan.variables.items plan.inputs.items) values
+
+-- what the log makes
+abbrev pub made : State → Past
+made state = past_of (plan_view state.plan) state.start state.log
+
+-- the core with one entry more
+abbrev pub grown : State → Entry → State
+grown state entry = record { plan = state.plan; start = state.start; before = state.before; log = state.log ++ entry ∷ []; room = state.room }
+
+abbrev pub comes_later : State → Latch → Bool
+comes_later state row = is_later (last_moment state.before (made state).rows) row.moment
+
+-- what a row that is latched is answered, and the core after it
+abbrev pub Latches : State → Latch → Result ℕ Refusal → State → Type 0
+Latches old row (Err Full) new = (old.room ≤ length old.log) × (new ≡ old)
+Latches old row (Err Foreign) new = (length old.log < old.room) × (fits (plan_view old.plan) row ≡ false) × (new ≡ old)
+Latches old row (Err NotLater) new = (length old.log < old.room) × (fits (plan_view old.plan) row ≡ true) × (comes_later old row ≡ false) × (new ≡ old)
+Latches old row (Ok n) new = (length old.log < old.room) × (fits (plan_view old.plan) row ≡ true) × (comes_later old row ≡ true) × (n ≡ length (made old).rows) × (new ≡ grown old (Row row))
+Latches old row (Err NotWaiting) new = ⊥
+Latches old row (Err NoMemory) new = ⊥
+
+-- the values of all slots for an activation: the variables now, and the inputs of its own row
+abbrev pub slots_for : State → Activation → List Datum
+slots_for state a = map (λ e. e.1) (made state).store ++ (row_at (made state).rows a.row).image
+
+-- the code of a program
+abbrev pub code_at : Plan → ℕ → Option Code
+code_at plan p = option_map (λ q. q.code.value) (slice_get plan.programs.items p)
+
+-- what is taken for a resource: the best activation with its program's code, its row's moment and the values of all slots
+pub record IsSnapshotOf (state : State) (resource : ℕ) (snapshot : Snapshot) : Type 0 where
+  pub best : IsBest (places_of (plan_view state.plan)) (made state).history resource snapshot.activation
+  pub code : code_at state.plan snapshot.activation.program ≡ Some snapshot.code.value
+  pub moment : snapshot.moment ≡ (row_at (made state).rows snapshot.activation.row).moment
+  pub budget : snapshot.budget ≡ state.plan.budget
+  pub slots : snapshot.slots.items ≡ slots_for state snapshot.activation
+
+abbrev pub none_waits : State → ℕ → Type 0
+none_waits state resource = NoneWaits (places_of (plan_view state.plan)) (made state).history resource
+
+abbrev pub Takes : State → ℕ → Result (Option Snapshot) Refusal → Type 0
+Takes state resource (Ok None) = none_waits state resource
+Takes state resource (Ok (Some snapshot)) = IsSnapshotOf state resource snapshot
+Takes state resource (Err NoMemory) = none_waits state resource → ⊥
+Takes state resource (Err _) = ⊥
+
+-- The code is that of the activation's program, the moment is its row's, and the budget is the plan's.
+pub record IsOwnOf (plan : Plan) (row : Latch) (effect : Effect) : Type 0 where
+  pub text : option_map text_of (code_at plan effect.activation.program) ≡ Some (text_of effect.code)
+  pub moment : effect.moment ≡ row.moment
+  pub budget : effect.budget ≡ plan.budget
+
+abbrev pub IsOwn : State → Effect → Type 0
+IsOwn state effect = IsOwnOf state.plan (row_at (made state).rows effect.activation.row) effect
+
+-- what was read has its value still
+abbrev pub stands : State → Effect → Bool
+stands state effect = agrees (slots_for state effect.activation) effect.reads
+
+abbrev pub waits_in : State → Activation → Type 0
+waits_in state a = Waits (places_of (plan_view state.plan)) (made state).history a
+
+-- what a commit is answered, and the core after it
+abbrev pub Commits : State → Effect → Result Answer Refusal → State → Type 0
+Commits old effect (Err Full) new = (old.room ≤ length old.log) × (new ≡ old)
+Commits old effect (Err NotWaiting) new = (length old.log < old.room) × (waits_in old effect.activation → ⊥) × (new ≡ old)
+Commits old effect (Err Foreign) new = (length old.log < old.room) × waits_in old effect.activation × (IsOwn old effect → ⊥) × (new ≡ old)
+Commits old effect (Ok Stale) new = (length old.log < old.room) × waits_in old effect.activation × IsOwn old effect × (stands old effect ≡ false) × (new ≡ old)
+Commits old effect (Ok (Committed n)) new = (length old.log < old.room) × waits_in old effect.activation × IsOwn old effect × (stands old effect ≡ true) × (new ≡ grown old (Done effect.activation)) × (n ≡ length new.log)
+Commits old effect (Err NotLater) new = ⊥
+Commits old effect (Err NoMemory) new = ⊥
+
+-- the values of the inputs at the last row, or 0 and FALSE before the first
+abbrev pub first_image : List PlanInput → List Datum
+first_image inputs = map (λ i. initial_value i.kind None) inputs
+
+abbrev pub last_image : List Datum → List Latch → List Datum
+last_image image [] = image
+last_image image (row ∷ rows) = last_image row.image rows
+
+abbrev pub inputs_now : State → Store
+inputs_now state = image_of state.plan.inputs.items (last_image (first_image state.plan.inputs.items) (made state).rows)
+
+-- what is answered where the best activation of a resource is run and committed in one step, and the core after it
+abbrev pub CommitsHere : State → ℕ → Result (Option ℕ) Refusal → State → Type 0
+CommitsHere old resource (Ok None) new = none_waits old resource × (new ≡ old)
+CommitsHere old resource (Err NoMemory) new = (none_waits old resource → ⊥) × (new ≡ old)
+CommitsHere old resource (Err Full) new = (none_waits old resource → ⊥) × (old.room ≤ length old.log) × (new ≡ old)
+CommitsHere old resource (Ok (Some n)) new =
+    (a : Activation) × IsBest (places_of (plan_view old.plan)) (made old).history resource a
+    × (length old.log < old.room) × (new ≡ grown old (Done a)) × (n ≡ length new.log)
+CommitsHere old resource (Err _) new = ⊥

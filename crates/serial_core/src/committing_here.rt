@@ -1,0 +1,31 @@
+//! Committing in one step.
+
+ghost use Rattle.std.specs.Prelude.{◌≡◌};
+ghost use Rattle.serial_core.specs.Steps.{CommitsHere};
+
+use crate::refusal::{Answer, Refusal};
+use crate::serial::SerialCore;
+use slot_run::run;
+use std::alloc::Global;
+
+impl SerialCore {
+    /// Takes, runs and commits the best activation that waits on the resource, in one step, and gives the log's length after it;
+    /// none where nothing waits there. Nothing that was read can have changed, so it is never stale.
+    ///
+    /// K1 where the log is full, K6 for want of memory.
+    pub fn commit_here(&mut self, alloc: Global, resource: usize) -> Result<Option<usize>, Refusal>
+        ensures { CommitsHere self.old resource result self.new }
+    {
+        let Some(snapshot) = self.take(alloc, resource)? else {
+            return Ok(None);
+        };
+        let Ok(execution) = run(alloc, snapshot) else {
+            return Err(Refusal::NoMemory);
+        };
+        match self.commit(execution) {
+            Ok(Answer::Committed(length)) => Ok(Some(length)),
+            Err(Refusal::Full) => Err(Refusal::Full),
+            _ => unreachable!(),
+        }
+    }
+}

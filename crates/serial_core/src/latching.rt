@@ -1,0 +1,40 @@
+//! Latching a row.
+
+ghost use Rattle.std.specs.Prelude.{◌≡◌};
+ghost use Rattle.serial_core.specs.Steps.{Latches};
+
+use crate::refusal::Refusal;
+use crate::rows::{fits, is_later};
+use crate::sampling::sample_all;
+use crate::serial::{SerialCore, push_within};
+use config::Plan;
+use st_types::{Entry, Row};
+
+impl SerialCore {
+    /// Latches a row, and gives its number from 0. It takes no memory.
+    ///
+    /// K1 where the log is full, else K3 where the row is not one of the plan's, else K4 where its moment is not later.
+    pub fn latch(&mut self, row: Row) -> Result<usize, Refusal>
+        ensures { Latches self.old row result self.new }
+    {
+        if self.log.len() >= self.room {
+            return Err(Refusal::Full);
+        }
+        let plan: &Plan = &self.plan;
+        if !fits(plan, &row) {
+            return Err(Refusal::Foreign);
+        }
+        let moment = row.moment();
+        if !is_later(self.last, moment) {
+            return Err(Refusal::NotLater);
+        }
+        let number = self.rows.len();
+        sample_all(&plan.tasks, &self.values, row.image(), &mut self.samples);
+        self.ready.due(moment, &self.samples);
+        push_within(&mut self.rows, self.log.len());
+        push_within(&mut self.outcomes, None);
+        push_within(&mut self.log, Entry::Row(row));
+        self.last = Some(moment);
+        Ok(number)
+    }
+}

@@ -1,0 +1,7 @@
+mod Numbers
+pub mod Durations
+pub mod Within
+mod Sound
+mod Orders
+pub mod Decided
+mod Fronts

@@ -1,0 +1,13 @@
+pub mod Characters
+pub mod Tables
+pub mod ReservedWords
+pub mod Numbers
+pub mod Durations
+pub mod Addresses
+pub mod Literals
+pub mod Words
+pub mod Comments
+pub mod Marks
+pub mod Fronts
+pub mod Texts
+pub mod Laws

@@ -1,0 +1,55 @@
+-- Words: the longest runs of letters, digits, `_` and `#`, each with a `%` directly before it where there is one.
+use Rattle.std.specs.Prelude.{ℕ, ◌+◌, List, [], ◌∷◌, length, map, Bool, false, ◌&&◌, ◌||◌, ◌==◌, nat_le, if◌then◌else◌, Option, Some, None}
+use Rattle.std.specs.Option.{unwrap_or}
+use Rattle.std.specs.List.{list_any, prefix_len}
+use Rattle.std.specs.Char.{to_ascii_uppercase, is_ascii_digit}
+use Rattle.st_lex.specs.declared.token.TokenKind.{TokenKind}
+use Rattle.st_lex.specs.declared.token.TokenKind.TheVariants.{Name}
+use Rattle.st_lex.specs.declared.fault.LexFault.{LexFault}
+use Rattle.st_lex.specs.declared.fault.LexFault.TheVariants as faults
+use Rattle.st_lex.specs.declared.front.Front.{Front}
+use Rattle.st_lex.specs.declared.front.Front.TheVariants as fronts
+use Rattle.st_lex.specs.Characters.{is_word_character, is_spaced}
+use Rattle.st_lex.specs.ReservedWords.{reserved}
+use Rattle.st_lex.specs.Literals.{literal}
+
+abbrev pub with_percent : ℕ → ℕ
+with_percent n = if n == 0 then 0 else n + 1
+
+-- how many bytes the word in front has, 0 where there is none
+abbrev pub word_length : List ℕ → ℕ
+word_length [] = 0
+word_length (b ∷ bs) = if b == 37 then with_percent (prefix_len is_word_character bs) else prefix_len is_word_character (b ∷ bs)
+
+abbrev pub upper : List ℕ → List ℕ
+upper word = map to_ascii_uppercase word
+
+abbrev pub starts_with_decimal_digit : List ℕ → Bool
+starts_with_decimal_digit [] = false
+starts_with_decimal_digit (b ∷ bs) = is_ascii_digit b
+
+-- it has `%` or `#`, or begins with a digit
+abbrev pub must_be_literal : List ℕ → Bool
+must_be_literal word = starts_with_decimal_digit word || list_any (λ b. (b == 35) || (b == 37)) word
+
+-- of such a word that need not be a literal: at most 64 characters, without two underscores in a row and without a trailing one
+abbrev pub is_identifier : List ℕ → Bool
+is_identifier word = nat_le (length word) 64 && is_spaced word
+
+-- a reserved word is no name
+abbrev pub named : List ℕ → TokenKind
+named word = unwrap_or (reserved word) (Name (upper word))
+
+abbrev pub read_as : LexFault → ℕ → Option TokenKind → Front
+read_as fault n None = fronts.Fault fault 0
+read_as fault n (Some kind) = fronts.Token kind n
+
+abbrev pub identifier : List ℕ → Option TokenKind
+identifier word = if is_identifier word then Some (named word) else None
+
+-- what a word is
+unfoldable pub word_front : List ℕ → Front
+word_front word =
+    if must_be_literal word
+    then read_as faults.Literal (length word) (literal word)
+    else read_as faults.Identifier (length word) (identifier word)

@@ -1,0 +1,47 @@
+//! The lexer.
+
+ghost use Rattle.std.specs.Prelude.{◌≡◌, ◌≤◌, ◌<◌, length, List, IfOk, IfErr};
+ghost use Rattle.st_lex.specs.declared.token.Token.{Token};
+ghost use Rattle.st_lex.specs.Texts as texts;
+
+use crate::fault::LexError;
+use crate::front::{Front, read_front};
+use crate::token::Token;
+use std::alloc::Global;
+
+/// The greatest length of a text, in bytes.
+const LIMIT: usize = 1_048_576;
+
+/// The tokens of a text, in order.
+///
+/// L5 comes where the text is longer than 1,048,576 bytes, else the first of the faults L1 to L4 by place, or L6 where
+/// memory runs out.
+pub fn lex(alloc: Global, text: &[u8]) -> Result<Vec<Token>, LexError>
+    // What is read is spelled so.
+    ensures found { IfOk result (λ tokens. texts.IsSpelledBy text.now tokens.items) }
+    // A refusal applies, at its place.
+    ensures refused { IfErr result (λ e. texts.Applies text.now e) }
+    // What is spelled so is read, unless memory runs out.
+    ensures only { (tokens : List Token) → texts.IsSpelledBy text.now tokens → texts.Gives result tokens }
+{
+    if text.len() > LIMIT {
+        return Err(LexError::TooLong);
+    }
+    let mut tokens = Vec::new(alloc);
+    let mut at = 0;
+    loop {
+        match read_front(alloc, &text[at..])? {
+            Front::End => return Ok(tokens),
+            Front::Blank(n) => at += n,
+            Front::Token(kind, n) => {
+                tokens.push(Token {
+                    kind,
+                    start: at,
+                    end: at + n,
+                })?;
+                at += n;
+            }
+            Front::Fault(fault, n) => return Err(LexError::Fault(fault, at + n)),
+        }
+    }
+}

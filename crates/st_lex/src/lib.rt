@@ -1,0 +1,28 @@
+//! Tokens of a text in Structured Text.
+#![tactic(auto)]
+
+mod address;
+mod character;
+mod comment;
+mod duration;
+mod fault;
+mod front;
+mod keyword;
+mod laws;
+mod lexer;
+mod literal;
+mod mark;
+mod number;
+mod table;
+mod token;
+mod word;
+
+pub use fault::{LexError, LexFault};
+pub use keyword::Keyword;
+pub use laws::{
+    a_text_is_read_in_one_way, tokens_are_their_slices, tokens_stand_in_order,
+    words_are_longest_runs,
+};
+pub use lexer::lex;
+pub use mark::Mark;
+pub use token::{Token, TokenKind, WholeNumber};

@@ -1,0 +1,44 @@
+//! Tokens.
+
+use crate::keyword::Keyword;
+use crate::mark::Mark;
+use st_trees::Address;
+use st_words::{Kind, Name};
+
+/// A whole-number or bit-string literal, which has no sign.
+#[derive(Clone, Copy, Debug, PartialEq, Eq)]
+pub struct WholeNumber {
+    /// The type that is written before a `#`, as in `INT#5`.
+    pub written: Option<Kind>,
+    pub magnitude: u64,
+    /// It is written as decimal digits alone, with no type and no base.
+    pub is_decimal: bool,
+}
+
+/// What a token is. Spellings of one thing are one kind.
+#[derive(Drop)]
+pub enum TokenKind {
+    /// A name that is no reserved word, in upper case.
+    Name(Name),
+    /// The name of an elementary type.
+    Elementary(Kind),
+    /// Any other reserved word but TRUE and FALSE; `&` is AND.
+    Keyword(Keyword),
+    Mark(Mark),
+    Number(WholeNumber),
+    /// TRUE or FALSE, also as `BOOL#1` or `BOOL#0`.
+    Truth(bool),
+    /// A duration in milliseconds, at most 9,223,372,036,854,775,807.
+    Duration(u64),
+    Address(Address),
+}
+
+/// A token, and where it stands in the text.
+#[derive(Drop)]
+pub struct Token {
+    pub kind: TokenKind,
+    /// The offset of its first byte.
+    pub start: usize,
+    /// The offset behind its last byte.
+    pub end: usize,
+}

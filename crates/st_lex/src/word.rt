@@ -1,0 +1,97 @@
+//! Words.
+
+ghost use Rattle.std.specs.Prelude.{◌≡◌, ◌≤◌, ◌<◌, ◌==◌, ◌||◌, length, IfOk};
+ghost use Rattle.std.specs.List.{list_any, prefix_len};
+ghost use Rattle.st_lex.specs.Characters.{is_word_character};
+ghost use Rattle.st_lex.specs.declared.fault.LexFault.TheVariants as faults;
+ghost use Rattle.st_lex.specs.Literals.{literal};
+ghost use Rattle.st_lex.specs.Words as words;
+
+use crate::character::{is_spaced, is_word_character};
+use crate::fault::LexFault;
+use crate::front::Front;
+use crate::keyword::reserved;
+use crate::literal::literal;
+use crate::token::TokenKind;
+use st_words::Name;
+use std::alloc::{AllocError, Global};
+
+fn run_length(text: &[u8]) -> usize
+    ensures value { result ≡ prefix_len is_word_character text.now }
+    ensures bound { result ≤ length text.now }
+{
+    text.iter().take_while(|b| is_word_character(**b)).count()
+}
+
+/// How many bytes the word in front has, 0 where there is none.
+pub fn word_length(text: &[u8]) -> usize
+    ensures value { result ≡ words.word_length text.now }
+    ensures bound { result ≤ length text.now }
+{
+    let [b'%', behind @ ..] = text else {
+        return run_length(text);
+    };
+    match run_length(behind) {
+        0 => 0,
+        n => n + 1,
+    }
+}
+
+fn starts_with_digit(word: &[u8]) -> bool
+    ensures { result ≡ words.starts_with_decimal_digit word.now }
+{
+    match word {
+        [b, ..] => b.is_ascii_digit(),
+        [] => false,
+    }
+}
+
+fn has_hash_or_percent(word: &[u8]) -> bool
+    ensures { result ≡ list_any (λ b. (b == 35) || (b == 37)) word.now }
+{
+    word.iter().any(|b| *b == b'#' || *b == b'%')
+}
+
+fn must_be_literal(word: &[u8]) -> bool
+    ensures { result ≡ words.must_be_literal word.now }
+{
+    starts_with_digit(word) || has_hash_or_percent(word)
+}
+
+fn is_identifier(word: &[u8]) -> bool
+    ensures { result ≡ words.is_identifier word.now }
+{
+    word.len() <= 64 && is_spaced(word)
+}
+
+fn named(alloc: Global, word: &[u8]) -> Result<TokenKind, AllocError>
+    ensures { IfOk result (λ kind. kind ≡ words.named word.now) }
+{
+    match reserved(word) {
+        Some(kind) => Ok(kind),
+        None => Ok(TokenKind::Name(Name::upper(alloc, word)?)),
+    }
+}
+
+fn literal_front(word: &[u8]) -> Front
+    ensures { result ≡ words.read_as faults.Literal (length word.now) (literal word.now) }
+{
+    match literal(word) {
+        Some(kind) => Front::Token(kind, word.len()),
+        None => Front::Fault(LexFault::Literal, 0),
+    }
+}
+
+/// What a word is.
+#[tactic(auto, unfolding(crate::specs::Words::word_front))]
+pub fn word_front(alloc: Global, word: &[u8]) -> Result<Front, AllocError>
+    ensures { IfOk result (λ front. front ≡ words.word_front word.now) }
+{
+    if must_be_literal(word) {
+        return Ok(literal_front(word));
+    }
+    if !is_identifier(word) {
+        return Ok(Front::Fault(LexFault::Identifier, 0));
+    }
+    Ok(Front::Token(named(alloc, word)?, word.len()))
+}
