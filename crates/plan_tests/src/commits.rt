@@ -6,8 +6,8 @@ use crate::small_programs::two_programs;
 use crate::started::started;
 use commit_lock::{Answer, Core, Refusal};
 use disk::SimDisk;
-use serial_core::Refusal as Serial;
 use retain_store::StoreFault;
+use serial_core::Refusal as Serial;
 use slot_run::{Snapshot, run};
 use st_types::{Row, Value};
 use std::alloc::Global;
@@ -43,7 +43,11 @@ fn begun(alloc: Global, room: usize) -> Result<Option<Core<SimDisk>>, Fail>
     }
 }
 
-fn committed(core: &mut Core<SimDisk>, alloc: Global, taken: Option<Snapshot>) -> Result<End, Fail> {
+fn committed(
+    core: &mut Core<SimDisk>,
+    alloc: Global,
+    taken: Option<Snapshot>,
+) -> Result<End, Fail> {
     let Some(snapshot) = taken else {
         return Ok(End::NothingTaken);
     };
@@ -52,16 +56,27 @@ fn committed(core: &mut Core<SimDisk>, alloc: Global, taken: Option<Snapshot>) -
 }
 
 /// Latches a row, takes on two resources, then runs and commits what was taken, one after another.
+fn both_ends(
+    core: &mut Core<SimDisk>,
+    alloc: Global,
+    first: usize,
+    second: usize,
+) -> Result<[End; 2], Fail> {
+    let _ = latched(core, alloc, 0)?;
+    let one = core.take(alloc, first)?;
+    let other = core.take(alloc, second)?;
+    let one = committed(core, alloc, one)?;
+    let other = committed(core, alloc, other)?;
+    Ok([one, other])
+}
+
 fn two_commits(alloc: Global, first: usize, second: usize) -> Result<Option<[End; 2]>, Fail> {
     let Some(mut core) = begun(alloc, 10)? else {
         return Ok(None);
     };
-    let _ = latched(&mut core, alloc, 0)?;
-    let one = core.take(alloc, first)?;
-    let other = core.take(alloc, second)?;
-    let one = committed(&mut core, alloc, one)?;
-    let other = committed(&mut core, alloc, other)?;
-    Ok(Some([one, other]))
+    let ends = both_ends(&mut core, alloc, first, second);
+    let _ = core.stop();
+    Ok(Some(ends?))
 }
 
 /// What two rows are answered, where the log has so much room.
@@ -78,6 +93,7 @@ fn two_rows(
     };
     let one = latched(&mut core, alloc, first);
     let other = latched(&mut core, alloc, second);
+    let _ = core.stop();
     Ok(Some([one, other]))
 }
 

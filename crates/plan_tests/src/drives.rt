@@ -37,7 +37,11 @@ fn latch(alloc: Global, moment: u64) -> Event {
     Event::Latch(Row::new(moment, Vec::<Value>::new(alloc)))
 }
 
-fn number_of(core: &Core<SimDisk>, alloc: Global, global: &str) -> Result<Option<i128>, AllocError> {
+fn number_of(
+    core: &Core<SimDisk>,
+    alloc: Global,
+    global: &str,
+) -> Result<Option<i128>, AllocError> {
     let path = Path::global(alloc, name(alloc, global)?);
     Ok(core.value(&path).map(Value::number))
 }
@@ -58,7 +62,26 @@ fn serve_both(alloc: Global, row: usize, events: &mut Vec<Event>) -> Result<(), 
     Ok(())
 }
 
-/// N and the length of the log after a hundred rows, each served on both resources.
+/// A hundred rows, each served on both resources.
+fn hundred_events(alloc: Global) -> Result<Vec<Event>, AllocError> {
+    let mut events = Vec::new(alloc);
+    for row in 0..100 {
+        serve_both(alloc, row, &mut events)?;
+    }
+    Ok(events)
+}
+
+/// N and the length of the log after these events.
+fn n_and_length(
+    core: &mut Core<SimDisk>,
+    alloc: Global,
+    events: Vec<Event>,
+) -> Result<(Option<i128>, usize), Fail> {
+    drive(core, alloc, events)?;
+    Ok((number_of(core, alloc, "N")?, core.len()))
+}
+
+/// N and the length of the log after a hundred rows.
 fn hundred_rows(alloc: Global) -> Result<Option<(Option<i128>, usize)>, Fail> {
     let other = Adding {
         resource: 1,
@@ -67,12 +90,12 @@ fn hundred_rows(alloc: Global) -> Result<Option<(Option<i128>, usize)>, Fail> {
     let Some(mut core) = begun(alloc, Kind::Dint, &[COUNT, other], 300)? else {
         return Ok(None);
     };
-    let mut events = Vec::new(alloc);
-    for row in 0..100 {
-        serve_both(alloc, row, &mut events)?;
-    }
-    drive(&mut core, alloc, events)?;
-    Ok(Some((number_of(&core, alloc, "N")?, core.len())))
+    let counted = match hundred_events(alloc) {
+        Ok(events) => n_and_length(&mut core, alloc, events),
+        Err(error) => Err(error.into()),
+    };
+    let _ = core.stop();
+    Ok(Some(counted?))
 }
 
 /// A reply in a word.
@@ -90,6 +113,17 @@ fn word_of(alloc: Global, reply: Reply) -> Result<String, Fail> {
     })
 }
 
+/// What the core answers to the events, and what N and K are then.
+fn told_by(core: &mut Core<SimDisk>, alloc: Global, events: Vec<Event>) -> Result<String, Fail> {
+    let mut text = String::new(alloc);
+    for reply in drive(core, alloc, events)? {
+        text.push_str(&word_of(alloc, reply)?)?;
+        text.push_str("; ")?;
+    }
+    let (n, k) = (number_of(core, alloc, "N")?, number_of(core, alloc, "K")?);
+    Ok(format!(in alloc; "{text}N {n:?}, K {k:?}")?)
+}
+
 /// What a core of these INT programs answers to the events, and what N and K are then.
 fn told(
     alloc: Global,
@@ -102,13 +136,9 @@ fn told(
     let Some(mut core) = begun(alloc, Kind::Int, programs, room)? else {
         return Ok(None);
     };
-    let mut text = String::new(alloc);
-    for reply in drive(&mut core, alloc, events)? {
-        text.push_str(&word_of(alloc, reply)?)?;
-        text.push_str("; ")?;
-    }
-    let (n, k) = (number_of(&core, alloc, "N")?, number_of(&core, alloc, "K")?);
-    Ok(Some(format!(in alloc; "{text}N {n:?}, K {k:?}")?))
+    let text = told_by(&mut core, alloc, events);
+    let _ = core.stop();
+    Ok(Some(text?))
 }
 
 #[test]
@@ -213,12 +243,18 @@ fn a_faulted_execution_is_committed_once_and_writes_nothing(rt: HostRuntime) -> 
 }
 
 /// How each entry of that log ended, and one that is not there.
+fn outcomes_of(core: &mut Core<SimDisk>, alloc: Global) -> Result<[Option<Outcome>; 5], Fail> {
+    drive(core, alloc, overflowing(alloc)?)?;
+    Ok([0, 1, 2, 3, 4].map(|entry| core.outcome(entry)))
+}
+
 fn outcomes(alloc: Global) -> Result<Option<[Option<Outcome>; 5]>, Fail> {
     let Some(mut core) = begun(alloc, Kind::Int, &[LARGE], 10)? else {
         return Ok(None);
     };
-    drive(&mut core, alloc, overflowing(alloc)?)?;
-    Ok(Some([0, 1, 2, 3, 4].map(|entry| core.outcome(entry))))
+    let outcomes = outcomes_of(&mut core, alloc);
+    let _ = core.stop();
+    Ok(Some(outcomes?))
 }
 
 #[test]

@@ -5,7 +5,7 @@ use crate::started::started;
 use commit_lock::{Answer, Core, Refusal};
 use disk::SimDisk;
 use serial_core::Refusal as Serial;
-use slot_run::{Snapshot, run};
+use slot_run::{Execution, Snapshot, run};
 use st_types::{Kind, Row, Value};
 use std::alloc::Global;
 use std::test::Fail;
@@ -41,8 +41,13 @@ fn at_a_row(alloc: Global, step: i32) -> Result<Option<Core<SimDisk>>, Fail> {
         return Ok(None);
     };
     let mut core = started(alloc, plan, 10)?;
-    let _ = core.latch(Row::new(50, Vec::<Value>::new(alloc)))?;
-    Ok(Some(core))
+    match core.latch(Row::new(50, Vec::<Value>::new(alloc))) {
+        Ok(_) => Ok(Some(core)),
+        Err(refusal) => {
+            let _ = core.stop();
+            Err(refusal.into())
+        }
+    }
 }
 
 /// A snapshot with this change.
@@ -64,23 +69,39 @@ fn changed(snapshot: Snapshot, change: Change) -> Snapshot {
     Snapshot::new(code, activation, moment, budget, slots)
 }
 
-/// What the core of step 1 answers to an execution with this change. That of another step has the same slots.
-fn answered(alloc: Global, change: Change) -> Result<Option<Result<Answer, Refusal>>, Fail> {
-    let Some(mut core) = at_a_row(alloc, 1)? else {
+/// What is taken of a core of this step.
+fn taken(alloc: Global, step: i32) -> Result<Option<Snapshot>, Fail> {
+    let Some(core) = at_a_row(alloc, step)? else {
         return Ok(None);
     };
+    let taken = core.take(alloc, 0);
+    let _ = core.stop();
+    Ok(taken?)
+}
+
+/// An execution with this change. The core of another step has the same slots.
+fn execution(alloc: Global, change: Change) -> Result<Option<Execution>, Fail> {
     let step = match change {
         Change::Code => 2,
         _ => 1,
     };
-    let Some(other) = at_a_row(alloc, step)? else {
+    match taken(alloc, step)? {
+        Some(snapshot) => Ok(Some(run(alloc, changed(snapshot, change))?)),
+        None => Ok(None),
+    }
+}
+
+/// What the core of step 1 answers to an execution with this change.
+fn answered(alloc: Global, change: Change) -> Result<Option<Result<Answer, Refusal>>, Fail> {
+    let Some(execution) = execution(alloc, change)? else {
         return Ok(None);
     };
-    let Some(snapshot) = other.take(alloc, 0)? else {
+    let Some(mut core) = at_a_row(alloc, 1)? else {
         return Ok(None);
     };
-    let execution = run(alloc, changed(snapshot, change))?;
-    Ok(Some(core.commit(execution)))
+    let answer = core.commit(execution);
+    let _ = core.stop();
+    Ok(Some(answer))
 }
 
 #[test]
@@ -98,7 +119,10 @@ fn another_program_code_moment_or_budget_is_foreign(rt: HostRuntime) -> Result<(
         Change::Moment,
         Change::Budget,
     ] {
-        assert_eq!(rt; answered(rt.alloc(), change)?, Some(Err(Refusal::Serial(Serial::Foreign))));
+        assert_eq!(rt;
+            answered(rt.alloc(), change)?,
+            Some(Err(Refusal::Serial(Serial::Foreign)))
+        );
     }
     Ok(())
 }
@@ -109,17 +133,22 @@ fn latched(
     moment: u64,
     values: usize,
 ) -> Result<Option<Result<usize, Refusal>>, Fail> {
+    let image = vec![in alloc; Value::truth(true); values]?;
     let Some(mut core) = at_a_row(alloc, 1)? else {
         return Ok(None);
     };
-    let image = vec![in alloc; Value::truth(true); values]?;
-    Ok(Some(core.latch(Row::new(moment, image))))
+    let answer = core.latch(Row::new(moment, image));
+    let _ = core.stop();
+    Ok(Some(answer))
 }
 
 #[test]
 fn a_row_with_a_value_for_no_input_is_foreign(rt: HostRuntime) -> Result<(), Fail> {
     assert_eq!(rt; latched(rt.alloc(), 60, 0)?, Some(Ok(1)));
-    assert_eq!(rt; latched(rt.alloc(), 60, 1)?, Some(Err(Refusal::Serial(Serial::Foreign))));
+    assert_eq!(rt;
+        latched(rt.alloc(), 60, 1)?,
+        Some(Err(Refusal::Serial(Serial::Foreign)))
+    );
     Ok(())
 }
 
