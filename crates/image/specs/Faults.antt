@@ -1,0 +1,33 @@
+-- What keeps records from being a plant.
+use Rattle.std.specs.Prelude.{◌≡◌, ◌≢◌, ◌<◌, ◌≤◌, List, [], ◌∷◌, ◌++◌, length, drop, Any, ⊤}
+use Rattle.st_types.specs.declared.plan.PlanInput.{PlanInput}
+use Rattle.st_types.specs.Rows.{Latch}
+use Rattle.image.specs.Plants.{Fields, IsRowOf, IsHeader, spelled}
+
+-- the first record is no header, or there is no record
+abbrev pub HasNoHeader : List PlanInput → List Fields → Type 0
+HasNoHeader inputs [] = ⊤
+HasNoHeader inputs (first ∷ records) = ¬ (IsHeader inputs first)
+
+-- no row of the inputs is spelled by the record: a field is wrong in form, number or range
+abbrev pub IsNoRow : List PlanInput → Fields → Type 0
+IsNoRow inputs fields = (row : Latch) → IsRowOf inputs row → fields ≢ spelled row
+
+-- some record behind the header spells no row
+abbrev pub HasWrongField : List PlanInput → List Fields → Type 0
+HasWrongField inputs records = Any (IsNoRow inputs) (drop 1 records)
+
+-- of two rows that follow each other, the second is not later
+pub record HasNoRise (inputs : List PlanInput) (records : List Fields) : Type 0 where
+  pub before : List Fields
+  pub first : Latch
+  pub second : Latch
+  pub behind : List Fields
+  pub place : drop 1 records ≡ before ++ (spelled first ∷ spelled second ∷ behind)
+  pub first_is : IsRowOf inputs first
+  pub second_is : IsRowOf inputs second
+  pub not_later : second.moment ≤ first.moment
+
+-- there are more than 10,000 records behind the header
+abbrev pub HasTooManyRows : List Fields → Type 0
+HasTooManyRows records = 10000 < length (drop 1 records)

@@ -1,0 +1,77 @@
+//! Numbers in the fields of a plant.
+
+ghost use Rattle.std.specs.Prelude.{◌≡◌, ◌≢◌, ◌^◌, ◌<◌, ◌+◌, ◌∷◌, ℕ, ℤ, IfSome, IfNone};
+ghost use Rattle.std.specs.Fmt.{decimal, signed_decimal};
+ghost use Rattle.st_words.specs.Values.{Datum};
+ghost use Rattle.image.specs.Numbers.{IsShort, SpellsValue, may_begin};
+
+use st_types::{Kind, Value};
+
+/// Whether the bytes begin as a decimal number does: with another digit than 0, or they are a 0 alone.
+fn may_begin(field: &[u8]) -> bool
+    ensures { result ≡ may_begin field.now }
+{
+    match field {
+        [] => false,
+        [b'0', rest @ ..] => rest.is_empty(),
+        [first, ..] => b'1' <= *first && *first <= b'9',
+    }
+}
+
+/// The number below 2^64 that the field spells in decimal.
+fn number(field: &[u8]) -> Option<u64>
+    ensures spelled { IfSome result (λ n. field.now ≡ decimal n) }
+    ensures none { IfNone result ((n : ℕ) → n < 2 ^ 64 → field.now ≢ decimal n) }
+{
+    if !may_begin(field) {
+        return None;
+    }
+    match str::from_utf8(field) {
+        Ok(text) => text.parse().ok(),
+        Err(_) => None,
+    }
+}
+
+/// The negative number whose digits these are.
+fn negative(digits: &[u8]) -> Option<i128>
+    ensures spelled { IfSome result (λ z. 45 ∷ digits.now ≡ signed_decimal z) }
+    ensures short { IfSome result IsShort }
+    ensures none { IfNone result ((n : ℕ) → n + 1 < 2 ^ 64 → digits.now ≢ decimal (n + 1)) }
+{
+    let magnitude = number(digits)?;
+    if magnitude == 0 {
+        return None;
+    }
+    Some(-i128::from(magnitude))
+}
+
+/// The number that the field spells in decimal, with a `-` where it is negative.
+fn whole_number(field: &[u8]) -> Option<i128>
+    ensures spelled { IfSome result (λ z. field.now ≡ signed_decimal z) }
+    ensures short { IfSome result IsShort }
+    ensures none { IfNone result ((z : ℤ) → IsShort z → field.now ≢ signed_decimal z) }
+{
+    if let [b'-', digits @ ..] = field {
+        return negative(digits);
+    }
+    Some(i128::from(number(field)?))
+}
+
+/// The moment in milliseconds that the field spells: at most 4,611,686,018,427,387,903.
+pub(crate) fn moment(field: &[u8]) -> Option<u64>
+    ensures spelled { IfSome result (λ n. field.now ≡ decimal n) }
+    ensures limit { IfSome result (λ n. n < 2 ^ 62) }
+    ensures none { IfNone result ((n : ℕ) → n < 2 ^ 62 → field.now ≢ decimal n) }
+{
+    let moment = number(field)?;
+    if moment < 1 << 62 { Some(moment) } else { None }
+}
+
+/// The value of the type that the field spells.
+pub(crate) fn value(kind: Kind, field: &[u8]) -> Option<Value>
+    ensures spelled { IfSome result (SpellsValue kind field.now) }
+    ensures none { IfNone result ((v : Datum) → ¬ (SpellsValue kind field.now v)) }
+{
+    let number = whole_number(field)?;
+    Value::new(kind, number).ok()
+}

@@ -1,0 +1,107 @@
+//! Plants, row by row.
+
+ghost use Rattle.std.specs.Prelude.{◌≡◌, ◌≤◌, ◌<◌, ◌++◌, ◌∷◌, [], ◌⊎◌, true, if◌then◌else◌, length, List, MatchBool, OnOk, OnErr, IfOk, IfErr, IsErrOf, IfSome};
+ghost use Rattle.csv.specs.Records.{fields_of};
+ghost use Rattle.st_types.specs.Rows.{Latch};
+ghost use Rattle.image.specs.Plants.{AreRowsOf, IsLater, IsNotLater, IsPlant, IsRowOf, spelled};
+ghost use Rattle.csv.specs.Reading.{error_kind, is_io, stops_reader};
+ghost use Rattle.image.specs.Faults.{HasNoHeader, HasNoRise, HasTooManyRows, HasWrongField, IsNoRow};
+ghost use Rattle.image.specs.Records.{OfRecords};
+
+use crate::header::is_header;
+use crate::plant_error::PlantError;
+use crate::row::row;
+use config::Plan;
+use csv::{ByteRecord, ReaderBuilder};
+use st_types::{PlanInput, Row};
+use std::alloc::Global;
+use std::io::Read;
+
+/// How many rows a plant may have.
+const MOST_ROWS: usize = 10_000;
+
+/// Whether the moment is later than that of the last row, if there is one.
+fn is_later(rows: &[Row], moment: u64) -> bool
+    ensures { MatchBool result (IsLater rows.now moment) (IsNotLater rows.now moment) }
+{
+    match rows.last() {
+        Some(last) => last.moment() < moment,
+        None => true,
+    }
+}
+
+/// Adds the row that the record spells.
+fn add_row(
+    alloc: Global,
+    inputs: &[PlanInput],
+    rows: &mut Vec<Row>,
+    record: &ByteRecord,
+) -> Result<(), PlantError>
+    requires { AreRowsOf inputs.now rows.old.items }
+    ensures added { OnOk result ((row : Latch) × (rows.new.items ≡ rows.old.items ++ row ∷ []) × (fields_of record.now ≡ spelled row)) }
+    ensures rows_are { OnOk result (AreRowsOf inputs.now rows.new.items) }
+    ensures field { IsErrOf result PlantError.Field → IsNoRow inputs.now (fields_of record.now) }
+    ensures not_later { IsErrOf result PlantError.NotLater → (row : Latch) × IsRowOf inputs.now row × (fields_of record.now ≡ spelled row) × IsNotLater rows.old.items row.moment }
+    ensures too_many { IsErrOf result PlantError.TooManyRows → length rows.old.items ≡ 10000 }
+    ensures never { IsErrOf result PlantError.Header → ⊥ }
+{
+    if rows.len() >= MOST_ROWS {
+        return Err(PlantError::TooManyRows);
+    }
+    let row = row(alloc, inputs, record)?;
+    if !is_later(rows, row.moment()) {
+        return Err(PlantError::NotLater);
+    }
+    rows.push(row)?;
+    Ok(())
+}
+
+/// Why a read failed. Only the reader and memory fail it.
+fn refusal(error: csv::Error) -> PlantError
+    requires { stops_reader (error_kind error) ≡ true }
+    ensures { result ≡ (if is_io (error_kind error) then PlantError.Reading else PlantError.NoMemory) }
+{
+    match error.kind() {
+        csv::ErrorKind::Io(_) => PlantError::Reading,
+        _ => PlantError::NoMemory,
+    }
+}
+
+/// The rows of a plant: a CSV text with a header. Moments are in milliseconds; each row has a value for each input of the
+/// plan, in declaration order. At most 10,000 rows.
+///
+/// I1 to I4 come only where they apply; which of several comes is not promised. I5 is a reader that fails, I6 want of memory.
+pub fn read_plant<R: Read + Drop>(
+    alloc: Global,
+    reader: R,
+    plan: &Plan,
+) -> Result<Vec<Row>, PlantError>
+    ensures rows { IfOk result (λ rows. AreRowsOf plan.now.inputs.items rows.items) }
+    ensures plant { IfOk result (λ rows. OfRecords (R.remaining reader) (IsPlant plan.now.inputs.items rows.items)) }
+    ensures header { IsErrOf result PlantError.Header → OfRecords (R.remaining reader) (HasNoHeader plan.now.inputs.items) }
+    ensures field { IsErrOf result PlantError.Field → OfRecords (R.remaining reader) (HasWrongField plan.now.inputs.items) }
+    ensures not_later { IsErrOf result PlantError.NotLater → OfRecords (R.remaining reader) (HasNoRise plan.now.inputs.items) }
+    ensures too_many { IsErrOf result PlantError.TooManyRows → OfRecords (R.remaining reader) HasTooManyRows }
+{
+    let mut records = ReaderBuilder::new()
+        .has_headers(false)
+        .flexible(true)
+        .from_reader(alloc, reader)
+        .into_byte_records();
+    let header = match records.next() {
+        Some(Ok(header)) => header,
+        Some(Err(e)) => return Err(refusal(e)),
+        None => return Err(PlantError::Header),
+    };
+    if !is_header(plan.inputs(), &header) {
+        return Err(PlantError::Header);
+    }
+    let mut rows = Vec::new(alloc);
+    for record in records {
+        match record {
+            Ok(record) => add_row(alloc, plan.inputs(), &mut rows, &record)?,
+            Err(e) => return Err(refusal(e)),
+        }
+    }
+    Ok(rows)
+}

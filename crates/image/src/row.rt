@@ -1,0 +1,77 @@
+//! Rows of a plant.
+
+ghost use Rattle.std.specs.Prelude.{◌≡◌, ◌≢◌, ◌<◌, ◌⊎◌, ◌^◌, ◌∷◌, ℕ, List, true, drop, IfOk, IfErr, IsErrOf, IfSome, IfNone, Err};
+ghost use Rattle.std.specs.Fmt.{decimal};
+ghost use Rattle.csv.specs.Records.{field_at, fields_of};
+ghost use Rattle.st_words.specs.Values.{Datum};
+ghost use Rattle.st_types.specs.Plans.{holds_each};
+ghost use Rattle.image.specs.Numbers.{SpellsValueAt};
+ghost use Rattle.image.specs.Plants.{IsRowOf, spelled, spelled_values};
+ghost use Rattle.image.specs.Faults.{IsNoRow};
+
+use crate::number::{moment, value};
+use crate::plant_error::PlantError;
+use csv::ByteRecord;
+use st_types::{Kind, PlanInput, Row, Value};
+use std::alloc::Global;
+
+/// The value of the type that the field at this place spells.
+fn value_at(kind: Kind, record: &ByteRecord, place: usize) -> Option<Value>
+    ensures spelled { IfSome result (SpellsValueAt kind (field_at (fields_of record.now) place)) }
+    ensures none { IfNone result ((v : Datum) → ¬ (SpellsValueAt kind (field_at (fields_of record.now) place) v)) }
+{
+    match record.get(place) {
+        Some(field) => value(kind, field),
+        None => None,
+    }
+}
+
+/// The values of the inputs that the fields behind the first spell.
+fn image(alloc: Global, inputs: &[PlanInput], record: &ByteRecord) -> Result<Vec<Value>, PlantError>
+    ensures spelled { IfOk result (λ image. drop 1 (fields_of record.now) ≡ spelled_values image.items) }
+    ensures held { IfOk result (λ image. holds_each inputs.now image.items ≡ true) }
+    ensures none { IsErrOf result PlantError.Field → (first : List ℕ) (values : List Datum) → holds_each inputs.now values ≡ true → fields_of record.now ≢ first ∷ spelled_values values }
+    ensures only { IfErr result (λ e. (e ≡ PlantError.Field) ⊎ (e ≡ PlantError.NoMemory)) }
+{
+    if record.len() != inputs.len() + 1 {
+        return Err(PlantError::Field);
+    }
+    let mut image = Vec::new(alloc);
+    for i in 0..inputs.len() {
+        match value_at(inputs[i].kind, record, i + 1) {
+            Some(value) => image.push(value)?,
+            None => return Err(PlantError::Field),
+        }
+    }
+    Ok(image)
+}
+
+/// The moment that the first field spells.
+fn moment_of(record: &ByteRecord) -> Option<u64>
+    ensures spelled { IfSome result (λ n. field_at (fields_of record.now) 0 ≡ Some (decimal n)) }
+    ensures limit { IfSome result (λ n. n < 2 ^ 62) }
+    ensures none { IfNone result ((n : ℕ) → n < 2 ^ 62 → field_at (fields_of record.now) 0 ≢ Some (decimal n)) }
+{
+    match record.get(0) {
+        Some(field) => moment(field),
+        None => None,
+    }
+}
+
+/// The row that the record spells.
+pub(crate) fn row(
+    alloc: Global,
+    inputs: &[PlanInput],
+    record: &ByteRecord,
+) -> Result<Row, PlantError>
+    ensures spelled { IfOk result (λ row. fields_of record.now ≡ spelled row) }
+    ensures fits { IfOk result (IsRowOf inputs.now) }
+    ensures none { IsErrOf result PlantError.Field → IsNoRow inputs.now (fields_of record.now) }
+    ensures only { IfErr result (λ e. (e ≡ PlantError.Field) ⊎ (e ≡ PlantError.NoMemory)) }
+{
+    let Some(moment) = moment_of(record) else {
+        return Err(PlantError::Field);
+    };
+    let image = image(alloc, inputs, record)?;
+    Ok(Row::new(moment, image))
+}
