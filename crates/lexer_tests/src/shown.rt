@@ -1,36 +1,34 @@
 //! What the lexer answers, as a text.
 
-use st_lex::{TokenKind, WholeNumber, lex};
+use st_lex::{Token, TokenKind, WholeNumber, lex};
 use st_trees::{AddressWidth, Direction};
-use std::alloc::{AllocGlobal, Global};
+use std::alloc::{AllocError, Global};
 use std::fmt::Write;
-use std::process::Abort;
 use std::str;
-use std::test::Fail;
 
-fn number(out: &mut String, number: &WholeNumber) -> Result<(), Fail> {
+fn number(out: &mut String, number: &WholeNumber) -> Result<(), AllocError> {
     if let Some(kind) = number.written {
         write!(out, "{}#", kind.row().keyword)?;
     }
     if number.is_decimal {
         write!(out, "decimal ")?;
     }
-    write!(out, "{}", number.magnitude)?;
-    Ok(())
+    write!(out, "{}", number.magnitude)
 }
 
-fn kind(out: &mut String, kind: &TokenKind) -> Result<(), Fail> {
+fn kind(out: &mut String, kind: &TokenKind) -> Result<(), AllocError> {
     match kind {
-        TokenKind::Name(name) => {
-            let name = str::from_utf8(name.as_slice()).ok().ok_or("letters")?;
-            write!(out, "name {name}")?;
-        }
-        TokenKind::Elementary(kind) => write!(out, "type {}", kind.row().keyword)?,
-        TokenKind::Keyword(keyword) => write!(out, "{keyword:?}")?,
-        TokenKind::Mark(mark) => write!(out, "{mark:?}")?,
-        TokenKind::Number(whole) => number(out, whole)?,
-        TokenKind::Truth(truth) => write!(out, "{truth}")?,
-        TokenKind::Duration(milliseconds) => write!(out, "{milliseconds} ms")?,
+        TokenKind::Name(name) => write!(
+            out,
+            "name {}",
+            str::from_utf8(name.as_slice()).unwrap_or("")
+        ),
+        TokenKind::Elementary(kind) => write!(out, "type {}", kind.row().keyword),
+        TokenKind::Keyword(keyword) => write!(out, "{keyword:?}"),
+        TokenKind::Mark(mark) => write!(out, "{mark:?}"),
+        TokenKind::Number(whole) => number(out, whole),
+        TokenKind::Truth(truth) => write!(out, "{truth}"),
+        TokenKind::Duration(milliseconds) => write!(out, "{milliseconds} ms"),
         TokenKind::Address(address) => {
             let direction = match address.direction {
                 Direction::Input => "I",
@@ -40,34 +38,53 @@ fn kind(out: &mut String, kind: &TokenKind) -> Result<(), Fail> {
                 AddressWidth::Bit => "X",
                 AddressWidth::Word => "W",
             };
-            write!(out, "{direction}{width} {}", address.number)?;
+            write!(out, "{direction}{width} {}", address.number)
         }
+    }
+}
+
+/// One token behind another, with this between them.
+fn separated(out: &mut String, i: usize, between: &str) -> Result<(), AllocError> {
+    if i > 0 {
+        write!(out, "{between}")
+    } else {
+        Ok(())
+    }
+}
+
+fn kinds(out: &mut String, tokens: &[Token]) -> Result<(), AllocError> {
+    for i in 0..tokens.len() {
+        separated(out, i, ", ")?;
+        kind(out, &tokens[i].kind)?;
     }
     Ok(())
 }
 
-/// The kinds of the text's tokens, with `, ` between them, or the refusal.
-pub fn shown(alloc: Global, text: &[u8]) -> Result<String, Fail> {
+fn places(out: &mut String, tokens: &[Token]) -> Result<(), AllocError> {
+    for i in 0..tokens.len() {
+        separated(out, i, " ")?;
+        write!(out, "{}-{}", tokens[i].start, tokens[i].end)?;
+    }
+    Ok(())
+}
+
+/// The kinds of the text's tokens, `nothing` where there are none, or the refusal.
+pub fn tokens(alloc: Global, text: &[u8]) -> Result<String, AllocError> {
     let mut out = String::new(alloc);
     match lex(alloc, text) {
-        Ok(tokens) => {
-            for i in 0..tokens.len() {
-                if i > 0 {
-                    write!(out, ", ")?;
-                }
-                kind(&mut out, &tokens[i].kind)?;
-            }
-        }
+        Ok(tokens) if tokens.is_empty() => write!(out, "nothing")?,
+        Ok(tokens) => kinds(&mut out, &tokens)?,
         Err(error) => write!(out, "{error}")?,
     }
     Ok(out)
 }
 
-/// Each text is answered so.
-pub fn all_shown(rt: &(impl Abort + AllocGlobal), rows: &[(&[u8], &str)]) -> Result<(), Fail> {
-    for (text, wanted) in rows {
-        let found = shown(rt.alloc(), text)?;
-        assert_eq!(rt; found.as_str(), *wanted);
+/// Where each token begins, and where it ends, or the refusal.
+pub fn spans(alloc: Global, text: &[u8]) -> Result<String, AllocError> {
+    let mut out = String::new(alloc);
+    match lex(alloc, text) {
+        Ok(tokens) => places(&mut out, &tokens)?,
+        Err(error) => write!(out, "{error}")?,
     }
-    Ok(())
+    Ok(out)
 }

@@ -1,0 +1,8 @@
+//! Tables of scenes that the test programs read: what is given, and what has to be answered.
+#![tactic(auto)]
+
+mod escapes;
+mod table;
+
+pub use crate::escapes::{repeated, unescaped};
+pub use crate::table::read_table;
