@@ -1,51 +1,53 @@
-//! The program `plant`.
+//! The program `plant`: its words, the real files and the standard outputs.
 #![tactic(auto)]
 
-mod fault;
-mod first;
-mod first_run;
-mod serial_run;
-
-use crate::fault::Fault;
-use st_types::Value;
+use plant_program::{Fault, RealFiles, plant};
+use std::alloc::{AllocError, Global};
+use std::io::Write;
 use std::process::ExitCode;
 use std::rt::Env;
 use std::{env, io};
 
-/// Whether the words behind the program's name are `first` alone.
-fn is_first(rt: &(impl Env + Alloc)) -> Result<bool, Fault> {
-    let mut words = match env::args(rt) {
+/// The exit status where the words can't be read as text.
+const NO_TEXT: u8 = 1;
+
+fn words_of(alloc: Global, rt: &(impl Env + AllocGlobal)) -> io::Result<Vec<String>> {
+    env::args(rt)?.collect(alloc).map_err(io::Error::from)
+}
+
+fn texts_of<'a>(alloc: Global, words: &'a [String]) -> Result<Vec<&'a str>, AllocError> {
+    words.iter().map(|word| word.as_str()).collect(alloc)
+}
+
+/// Tells that memory is wanted for the words, and gives the exit status.
+fn no_memory<E: Write>(err: &mut E) -> u8 {
+    let _ = writeln!(err, "fault {}", Fault::NO_MEMORY);
+    Fault::NO_MEMORY.status()
+}
+
+/// Tells why there are no words, and gives the exit status.
+fn no_words<E: Write>(error: &io::Error, err: &mut E) -> u8 {
+    if error.kind() == io::ErrorKind::OutOfMemory {
+        return no_memory(err);
+    }
+    let _ = writeln!(err, "error: the words are no UTF-8 text");
+    NO_TEXT
+}
+
+fn main(rt: HostRuntime) -> ExitCode {
+    let alloc = rt.alloc();
+    let mut out = rt.stdout();
+    let mut err = rt.stderr();
+    let words = match words_of(alloc, &rt) {
         Ok(words) => words,
-        Err(error) if error.kind() == io::ErrorKind::OutOfMemory => return Err(Fault::NO_MEMORY),
-        Err(_) => return Ok(false),
+        Err(error) => return ExitCode::from(no_words(&error, &mut err)),
     };
-    let Some(word) = words.nth(1) else {
-        return Ok(false);
+    let status = match texts_of(alloc, &words) {
+        Ok(texts) => {
+            let mut files = RealFiles::new(&rt);
+            plant(alloc, &texts, &mut files, &mut out, &mut err)
+        }
+        Err(_) => no_memory(&mut err),
     };
-    Ok(word.as_str() == "first" && words.next().is_none())
-}
-
-/// Prints the value of N, or why there is none. The exit status tells of a fault even where its line cannot be written.
-fn report(rt: &(impl Print + Eprint), end: Result<Value, Fault>) -> io::Result<ExitCode> {
-    match end {
-        Ok(value) => {
-            println!(rt; "N = {}", value.number())?;
-            Ok(ExitCode::SUCCESS)
-        }
-        Err(fault) => {
-            let _ = eprintln!(rt; "fault {fault}");
-            Ok(ExitCode::from(fault.status()))
-        }
-    }
-}
-
-fn main(rt: HostRuntime) -> io::Result<ExitCode> {
-    match is_first(&rt) {
-        Ok(true) => report(&rt, first_run::run(rt.alloc())),
-        Ok(false) => {
-            eprintln!(rt; "usage: plant first")?;
-            Ok(ExitCode::FAILURE)
-        }
-        Err(fault) => report(&rt, Err(fault)),
-    }
+    ExitCode::from(status)
 }

@@ -1,13 +1,14 @@
 //! The run of the built-in configuration, over a simulated disk.
 
+use crate::built_in;
 use crate::fault::Fault;
-use crate::first;
+use crate::report::write_variable;
 use crate::serial_run::run_row;
 use commit_lock::{Core, Refusal, StartMode};
 use config::Plan;
 use disk::SimDisk;
 use serial_core::Refusal as SerialRefusal;
-use st_types::{Row, Value};
+use st_types::Row;
 use std::alloc::Global;
 use std::sync::Arc;
 
@@ -23,31 +24,31 @@ const FOREIGN: Fault = Fault::Refused(Refusal::Serial(SerialRefusal::Foreign));
 /// A core of the plan, started cold over an empty simulated disk.
 fn started(alloc: Global, plan: Plan) -> Result<Core<SimDisk>, Fault> {
     let disk = SimDisk::new(alloc, Vec::new(alloc))?;
-    match Core::start(
-        alloc,
-        Arc::new(alloc, plan)?,
-        disk,
-        StartMode::Cold,
-        LOG_ROOM,
-    ) {
+    let plan = Arc::new(alloc, plan)?;
+    match Core::start(alloc, plan, disk, StartMode::Cold, LOG_ROOM) {
         Ok(core) => Ok(core),
         Err((fault, _)) => Err(Fault::Start(fault)),
     }
 }
 
-/// Serves 100 rows of no inputs, at 0, 10, .., 990 ms, and gives the value of n after them.
-pub fn run(alloc: Global) -> Result<Value, Fault> {
-    let Some(plan) = first::plan(alloc)? else {
+/// Serves 100 rows of no inputs, at 0, 10, .., 990 ms, and gives the line that tells the value of n after them.
+pub fn first(alloc: Global) -> Result<Vec<u8>, Fault> {
+    let Some(plan) = built_in::plan(alloc)? else {
         return Err(FOREIGN);
     };
     let resources = plan.resources();
     let mut core = started(alloc, plan)?;
     for k in 0..ROWS {
-        let row = Row::new(k * first::INTERVAL, Vec::new(alloc));
+        let row = Row::new(k * built_in::INTERVAL, Vec::new(alloc));
         run_row(alloc, &mut core, resources, LOG_ROOM, row)?;
     }
-    match core.value(&first::path(alloc)?) {
-        Some(value) => Ok(value),
-        None => Err(FOREIGN),
+    let path = built_in::path(alloc)?;
+    let Some(value) = core.value(&path) else {
+        return Err(FOREIGN);
+    };
+    let mut line = Vec::new(alloc);
+    match write_variable(&mut line, &path, value) {
+        Ok(()) => Ok(line),
+        Err(_) => Err(Fault::NO_MEMORY),
     }
 }

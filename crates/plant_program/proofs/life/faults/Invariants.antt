@@ -1,0 +1,9 @@
+use Rattle.std.proofs.Common.{◌≡◌, take, count_by}
+use Rattle.st_types.specs.Logs.{outcomes_of}
+use Rattle.config.specs.PlanViews.{plan_view}
+use Rattle.plant_program.specs.Lives.{is_faulted}
+use Rattle.plant_program.proofs.life.faults.Given as goal
+
+abbrev pub invariant-loop-number : goal.invariant-loop-number
+invariant-loop-number g l =
+    let state = l.core.state in l.faults ≡ count_by is_faulted (take l.number (outcomes_of (plan_view state.plan) state.start state.log))

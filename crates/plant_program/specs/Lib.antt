@@ -1,0 +1,6 @@
+pub mod Ends
+pub mod Lives
+pub mod Reports
+pub mod Settling
+pub mod Sizes
+pub mod Statuses

@@ -1,0 +1,60 @@
+-- What is told of a life.
+use Rattle.std.specs.Prelude.{◌≡◌, ◌-◌, ◌^◌, ◌<◌, ◌≤◌, ℕ, min, List, Bool, true, false, length, sum, count_by, slice_index, Option, Some, None}
+use Rattle.st_types.specs.declared.entry.Entry.{Entry}
+use Rattle.st_types.specs.declared.entry.Entry.TheVariants.{Row, Done}
+use Rattle.st_types.specs.declared.entry.Outcome.{Outcome}
+use Rattle.st_types.specs.declared.entry.Outcome.TheVariants.{Done as Ended, Faulted}
+use Rattle.st_types.specs.Logs.{outcomes_of}
+use Rattle.st_types.specs.Due.{HasOverruns}
+use Rattle.st_types.specs.Plans.{places_of}
+use Rattle.config.specs.PlanViews.{plan_view}
+use Rattle.st_types.specs.Scopes.{seen}
+use Rattle.st_types.specs.declared.plan.PlanVariable.{PlanVariable}
+use Rattle.serial_core.specs.Steps.{State, inputs_now, made}
+use Rattle.plant_program.specs.declared.report.Counts.{Counts}
+use Rattle.plant_program.specs.Reports.{report_text}
+
+abbrev pub is_row : Entry → Bool
+is_row (Row row) = true
+is_row (Done a) = false
+
+abbrev pub is_done : Entry → Bool
+is_done (Row row) = false
+is_done (Done a) = true
+
+abbrev pub is_faulted : Option Outcome → Bool
+is_faulted None = false
+is_faulted (Some Ended) = false
+is_faulted (Some (Faulted f)) = true
+
+-- how many rows, executions and faulted executions the log has
+abbrev pub row_count : State → ℕ
+row_count state = count_by is_row state.log
+
+abbrev pub done_count : State → ℕ
+done_count state = count_by is_done state.log
+
+abbrev pub fault_count : State → ℕ
+fault_count state = count_by is_faulted (outcomes_of (plan_view state.plan) state.start state.log)
+
+-- the overruns of so many programs, one after another; one that the core hasn't has none
+pub record AreOverruns (state : State) (programs : ℕ) (each : List ℕ) : Type 0 where
+  pub number : length each ≡ programs
+  pub overruns : (p : ℕ) → p < programs → p < length state.plan.programs.items → HasOverruns (places_of (plan_view state.plan)) (made state).history p (slice_index each p)
+  pub none : (p : ℕ) → p < programs → length state.plan.programs.items ≤ p → slice_index each p ≡ 0
+
+-- the overruns of so many programs in all, up to the greatest number of 64 bits
+pub record HasOverrunsInAll (state : State) (programs n : ℕ) : Type 0 where
+  pub each : List ℕ
+  pub are : AreOverruns state programs each
+  pub total : n ≡ min (sum each) (2 ^ 64 - 1)
+
+-- the report of a life: its counts, and the values of these variables
+pub record IsReport (state : State) (acked programs : ℕ) (variables : List PlanVariable) (text : List ℕ) : Type 0 where
+  pub counts : Counts
+  pub rows : counts.rows ≡ row_count state
+  pub done : counts.done ≡ done_count state
+  pub faults : counts.faults ≡ fault_count state
+  pub overruns : HasOverrunsInAll state programs counts.overruns
+  pub acked_are : counts.acked ≡ Some acked
+  pub spelled : text ≡ report_text counts (seen (inputs_now state) (made state).store) variables

@@ -1,0 +1,40 @@
+-- The report of a run.
+use Rattle.std.specs.Prelude.{ℕ, List, [], ◌∷◌, ◌++◌, Option, Some, None, codes}
+use Rattle.std.specs.Fmt.{decimal}
+use Rattle.st_words.specs.Values.{Datum}
+use Rattle.st_words.specs.Paths.{Path}
+use Rattle.st_types.specs.Layouts.{path_text}
+use Rattle.st_types.specs.declared.plan.PlanVariable.{PlanVariable}
+use Rattle.st_print.specs.Spelling.{value_text}
+use Rattle.plant_program.specs.declared.report.Counts.{Counts}
+
+-- a count: its name, a space, the number and LF
+abbrev pub count_line : List ℕ → ℕ → List ℕ
+count_line name n = name ++ codes " " ++ decimal n ++ 10 ∷ []
+
+-- the line of what is acknowledged, where it is told
+abbrev pub acked_line : Option ℕ → List ℕ
+acked_line None = []
+acked_line (Some n) = count_line (codes "acked") n
+
+-- PATH = VALUE and LF
+abbrev pub variable_line : Path → Datum → List ℕ
+variable_line path value = path_text path ++ codes " = " ++ value_text value ++ 10 ∷ []
+
+-- the same of a value that may not be there
+abbrev pub value_line : Path → Option Datum → List ℕ
+value_line path None = []
+value_line path (Some value) = variable_line path value
+
+abbrev pub counts_text : Counts → List ℕ
+counts_text c = count_line (codes "rows") c.rows ++ count_line (codes "done") c.done
+    ++ count_line (codes "faults") c.faults ++ count_line (codes "overruns") c.overruns ++ acked_line c.acked
+
+-- a line for each variable, in layout order
+abbrev pub variables_text : (Path → Option Datum) → List PlanVariable → List ℕ
+variables_text value_of [] = []
+variables_text value_of (v ∷ vs) = value_line v.path (value_of v.path) ++ variables_text value_of vs
+
+-- the counts, and then the variables
+abbrev pub report_text : Counts → (Path → Option Datum) → List PlanVariable → List ℕ
+report_text counts value_of variables = counts_text counts ++ variables_text value_of variables

@@ -1,0 +1,85 @@
+//! Why a job ends early.
+
+ghost use Rattle.std.specs.Prelude.{◌≡◌};
+
+use commit_lock::{Refusal, StartFault};
+use image::PlantError;
+use serial_core::Refusal as SerialRefusal;
+use st_lex::LexError;
+use std::alloc::{AllocError, AllocFailed};
+use thiserror::Error;
+
+/// Why a job ends early. It shows as its number, with the place in the source where there is one.
+#[derive(Clone, Copy, Debug, PartialEq, Eq, Error)]
+pub enum Fault {
+    /// The source can't be read.
+    #[error("X1")]
+    Source,
+    /// The budget is not 1 to 1,000,000 ticks.
+    #[error("G7")]
+    Budget,
+    /// The source has no tokens.
+    #[error("{0}")]
+    Words(LexError),
+    /// The plant is refused.
+    #[error("{0}")]
+    Plant(PlantError),
+    /// The trace can't be opened, read or written.
+    #[error("V6")]
+    Trace,
+    /// No life was started.
+    #[error("{0}")]
+    Start(StartFault),
+    /// A call of the core was refused, or memory was wanted outside it.
+    #[error("{0}")]
+    Refused(Refusal),
+}
+
+impl Fault {
+    ghost use Rattle.plant_program.specs.Statuses.{status_of};
+
+    /// Want of memory in a run, or while its words are read or its report is made.
+    pub const NO_MEMORY: Fault = Fault::Refused(Refusal::Serial(SerialRefusal::NoMemory));
+
+    /// The exit status that tells of it: 2 for the source, 3 for a plant or a trace, 4 for the start, 5 for the run.
+    pub fn status(self) -> u8
+        ensures { result ≡ status_of self }
+    {
+        match self {
+            Fault::Source | Fault::Budget | Fault::Words(_) => 2,
+            Fault::Plant(_) | Fault::Trace => 3,
+            Fault::Start(_) => 4,
+            Fault::Refused(_) => 5,
+        }
+    }
+}
+
+impl From<LexError> for Fault {
+    fn from(fault: LexError) -> Fault {
+        Fault::Words(fault)
+    }
+}
+
+impl From<PlantError> for Fault {
+    fn from(fault: PlantError) -> Fault {
+        Fault::Plant(fault)
+    }
+}
+
+impl From<Refusal> for Fault {
+    fn from(refusal: Refusal) -> Fault {
+        Fault::Refused(refusal)
+    }
+}
+
+impl From<AllocError> for Fault {
+    fn from(_: AllocError) -> Fault {
+        Fault::NO_MEMORY
+    }
+}
+
+impl<T: Drop> From<AllocFailed<T>> for Fault {
+    fn from(_: AllocFailed<T>) -> Fault {
+        Fault::NO_MEMORY
+    }
+}

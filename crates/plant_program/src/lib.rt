@@ -1,0 +1,26 @@
+//! What the program `plant` does, over any files and outputs.
+#![tactic(auto)]
+
+mod built_in;
+mod fault;
+mod files;
+mod first_run;
+mod life;
+mod program;
+mod real_files;
+mod report;
+mod running;
+mod serial_run;
+mod sizes;
+mod sources;
+mod telling;
+
+pub use fault::Fault;
+pub use files::Files;
+pub use first_run::first;
+pub use life::report_of;
+pub use program::plant;
+pub use real_files::RealFiles;
+pub use report::{Counts, Findings, write_report};
+pub use running::run_plan;
+pub use sizes::sizes_of;

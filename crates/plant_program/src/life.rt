@@ -1,0 +1,113 @@
+//! What is told of a life.
+
+ghost use Rattle.std.specs.Prelude.{◌≡◌, IfOk, Some, option_map, slice_get, unwrap_or, false, length};
+ghost use Rattle.st_types.specs.Logs.{outcomes_of};
+ghost use Rattle.config.specs.PlanViews.{plan_view};
+ghost use Rattle.plant_program.specs.Lives.{done_count, fault_count, HasOverrunsInAll, IsReport, is_faulted, is_row, row_count};
+
+use crate::report::{Counts, Findings, write_report};
+use commit_lock::Core;
+use config::Plan;
+use disk::Disk;
+use st_types::{Entry, Outcome, Path, Value};
+use std::alloc::{AllocError, Global};
+
+/// Whether the entry of that number is a row.
+fn is_row_at<D: Disk>(core: &Core<D>, number: usize) -> bool
+    ensures { result ≡ unwrap_or (option_map is_row (slice_get core.now.state.log number)) false }
+{
+    match core.entry(number) {
+        Some(Entry::Row(_)) => true,
+        Some(Entry::Done(_)) => false,
+        None => false,
+    }
+}
+
+/// Whether the execution of that entry ended with a fault.
+fn is_faulted_at<D: Disk>(core: &Core<D>, number: usize) -> bool
+    ensures { result ≡ unwrap_or (option_map is_faulted (slice_get (outcomes_of (plan_view core.now.state.plan) core.now.state.start core.now.state.log) number)) false }
+{
+    match core.outcome(number) {
+        Some(Outcome::Faulted(_)) => true,
+        Some(Outcome::Done) => false,
+        None => false,
+    }
+}
+
+/// How many rows the log has.
+fn rows<D: Disk>(core: &Core<D>) -> usize
+    ensures { result ≡ row_count core.now.state }
+{
+    let mut rows = 0;
+    for number in 0..core.len() {
+        if is_row_at(core, number) {
+            rows += 1;
+        }
+    }
+    rows
+}
+
+/// How many executions of the log ended with a fault.
+fn faults<D: Disk>(core: &Core<D>) -> usize
+    ensures { result ≡ fault_count core.now.state }
+{
+    let mut faults = 0;
+    for number in 0..core.len() {
+        if is_faulted_at(core, number) {
+            faults += 1;
+        }
+    }
+    faults
+}
+
+/// How often a program of the plan was due while it still waited, up to the greatest number of 64 bits.
+fn overruns<D: Disk>(plan: &Plan, core: &Core<D>) -> u64
+    ensures { HasOverrunsInAll core.now.state (length plan.now.programs.items) result }
+{
+    let mut overruns = 0u64;
+    for program in 0..plan.programs() {
+        overruns = overruns.saturating_add(core.overruns(program));
+    }
+    overruns
+}
+
+/// The counts of a life of the plan.
+fn counts<D: Disk>(plan: &Plan, core: &Core<D>) -> Counts
+    ensures rows { result.rows ≡ row_count core.now.state }
+    ensures done { result.done ≡ done_count core.now.state }
+    ensures faults { result.faults ≡ fault_count core.now.state }
+    ensures overruns { HasOverrunsInAll core.now.state (length plan.now.programs.items) result.overruns }
+    ensures acked { result.acked ≡ Some core.now.acked }
+{
+    let rows = rows(core);
+    Counts {
+        rows: rows as u64,
+        done: (core.len() - rows) as u64,
+        faults: faults(core) as u64,
+        overruns: overruns(plan, core),
+        acked: Some(core.acked() as u64),
+    }
+}
+
+/// The report of a life of the plan; an error is want of memory.
+pub fn report_of<D: Disk>(alloc: Global, plan: &Plan, core: &Core<D>) -> Result<Vec<u8>, AllocError>
+    ensures report { IfOk result (λ text. IsReport core.now.state core.now.acked (length plan.now.programs.items) plan.now.variables.items text.items) }
+{
+    let mut report = Vec::new(alloc);
+    let counts = counts(plan, core);
+    match write_report(&mut report, &counts, &plan.variables, core) {
+        Ok(()) => Ok(report),
+        Err(_) => Err(AllocError),
+    }
+}
+
+impl<D: Disk> Findings for Core<D> {
+    ghost use Rattle.st_types.specs.Scopes.{seen};
+    ghost use Rattle.serial_core.specs.Steps.{made, inputs_now};
+
+    ghost value_of = { λ core. seen (inputs_now core.state) (made core.state).store };
+
+    fn value(&self, path: &Path) -> Option<Value> {
+        Core::value(self, path)
+    }
+}

@@ -1,0 +1,83 @@
+//! The program, from its words to its exit status.
+
+ghost use Rattle.std.specs.Prelude.{◌≡◌, ◌≢◌, ◌≤◌};
+
+use crate::fault::Fault;
+use crate::files::Files;
+use crate::first_run::first;
+use crate::running::run_plan;
+use crate::sizes::sizes_of;
+use crate::sources::{build, read_source};
+use crate::telling::{End, tell, tell_words};
+use plant_words::{Job, ReplayJob, RunJob, read_words, wants_memory};
+use std::alloc::Global;
+use std::io::{Read, Write};
+
+/// The exit status where the standard output can't be written.
+const UNTOLD: u8 = 5;
+
+/// The budget of `check`, in ticks.
+const BUDGET: u32 = 10_000;
+
+/// Reads and builds the source, and gives its sizes.
+fn check<F: Files>(alloc: Global, files: &mut F, source: &str) -> Result<End, Fault> {
+    let text = read_source(alloc, files, source)?;
+    match build(alloc, &text, BUDGET)? {
+        Some(plan) => Ok(End::Report(sizes_of(alloc, &plan)?)),
+        None => Ok(End::NotYet),
+    }
+}
+
+/// Reads and builds the source, then reads the plant, then opens the store and starts, then runs.
+fn run<F: Files>(alloc: Global, files: &mut F, job: &RunJob<'_>) -> Result<End, Fault> {
+    let text = read_source(alloc, files, job.source)?;
+    match build(alloc, &text, job.budget)? {
+        Some(plan) => Ok(End::Report(run_plan(alloc, files, plan, job)?)),
+        None => Ok(End::NotYet),
+    }
+}
+
+/// Reads the trace, then the source. This version goes no further.
+fn replay<F: Files>(alloc: Global, files: &mut F, job: &ReplayJob<'_>) -> Result<End, Fault> {
+    let Some(mut reader) = files.read(job.trace) else {
+        return Err(Fault::Trace);
+    };
+    let mut trace = Vec::new(alloc);
+    if reader.read_to_end(&mut trace).is_err() {
+        return Err(Fault::Trace);
+    }
+    let text = read_source(alloc, files, job.source)?;
+    build(alloc, &text, BUDGET)?;
+    Ok(End::NotYet)
+}
+
+fn done<F: Files>(alloc: Global, files: &mut F, job: &Job<'_>) -> Result<End, Fault> {
+    match job {
+        Job::First => Ok(End::Report(first(alloc)?)),
+        Job::Check { source } => check(alloc, files, source),
+        Job::Run(job) => run(alloc, files, job),
+        Job::Replay(job) => replay(alloc, files, job),
+    }
+}
+
+/// Does what the words ask, the program's name first, and gives the exit status: 0 done, 1 for words that are refused, and those of
+/// `Fault`. A fault is one line `fault CODE` or `fault CODE at PLACE` on the standard error, and nothing is on the standard output
+/// then.
+pub fn plant<F: Files, O: Write, E: Write>(
+    alloc: Global,
+    words: &[&str],
+    files: &mut F,
+    out: &mut O,
+    err: &mut E,
+) -> u8
+    ensures known { result ≤ 5 }
+    // A status of 5 may also be that of a standard output that takes no more.
+    ensures silent { result ≢ 0 → result ≢ 5 → out.new ≡ out.old }
+{
+    let told = match read_words(alloc, words) {
+        Ok(job) => tell(done(alloc, files, &job), out, err),
+        Err(refused) if wants_memory(&refused) => tell(Err(Fault::NO_MEMORY), out, err),
+        Err(refused) => tell_words(&refused, out, err),
+    };
+    told.unwrap_or(UNTOLD)
+}

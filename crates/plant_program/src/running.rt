@@ -1,0 +1,121 @@
+//! The run of a plan.
+
+ghost use Rattle.std.specs.Prelude.{IfOk, OnOk, length};
+ghost use Rattle.commit_lock.specs.Cores.{CoreView};
+ghost use Rattle.plant_program.specs.Lives.{IsReport};
+ghost use Rattle.plant_program.specs.Settling.{IsSettled};
+
+use crate::fault::Fault;
+use crate::files::Files;
+use crate::life::report_of;
+use crate::serial_run::{run_row, settle};
+use commit_lock::{Core, Refusal, StartFault, StartMode};
+use config::Plan;
+use disk::Disk;
+use image::{PlantError, read_plant};
+use plant_words::{Pace, RunJob, Start};
+use retain_store::StoreFault;
+use st_types::Row;
+use std::alloc::Global;
+use std::sync::Arc;
+
+/// Room in the log of a life.
+const LOG_ROOM: usize = 65_536;
+
+/// The rows of the plant of that name; I5 where it can't be opened.
+fn read_rows<F: Files>(
+    alloc: Global,
+    files: &mut F,
+    name: &str,
+    plan: &Plan,
+) -> Result<Vec<Row>, Fault> {
+    let Some(reader) = files.read(name) else {
+        return Err(Fault::Plant(PlantError::Reading));
+    };
+    Ok(read_plant(alloc, reader, plan)?)
+}
+
+fn mode(start: Start) -> StartMode {
+    match start {
+        Start::Warm => StartMode::Warm,
+        Start::Cold => StartMode::Cold,
+    }
+}
+
+/// A life over the retain file of that name; S3 where it can't be opened.
+fn start<F: Files>(
+    alloc: Global,
+    files: &mut F,
+    plan: Arc<Plan>,
+    store: &str,
+    start: Start,
+) -> Result<Core<F::Disk>, Fault> {
+    let Some(disk) = files.store(store) else {
+        return Err(Fault::Start(StartFault::Store(StoreFault::Device)));
+    };
+    match Core::start(alloc, plan, disk, mode(start), LOG_ROOM) {
+        Ok(core) => Ok(core),
+        Err((fault, disk)) => {
+            files.back(disk);
+            Err(Fault::Start(fault))
+        }
+    }
+}
+
+/// Latches all rows, and runs and commits until nothing waits and all is acknowledged.
+fn run_rows<D: Disk>(
+    alloc: Global,
+    core: &mut Core<D>,
+    resources: usize,
+    pace: Pace,
+    rows: Vec<Row>,
+) -> Result<(), Refusal>
+    ensures { OnOk result (IsSettled core.new resources) }
+{
+    for row in rows {
+        match pace {
+            Pace::Settle => run_row(alloc, core, resources, LOG_ROOM, row)?,
+            Pace::Free => {
+                core.latch(row)?;
+            }
+        }
+    }
+    settle(alloc, core, resources, LOG_ROOM)
+}
+
+/// Runs the rows, and gives the report.
+fn served<D: Disk>(
+    alloc: Global,
+    plan: &Plan,
+    core: &mut Core<D>,
+    pace: Pace,
+    rows: Vec<Row>,
+) -> Result<Vec<u8>, Fault>
+    ensures settled { OnOk result (IsSettled core.new plan.now.resources) }
+    ensures report { IfOk result (λ text. IsReport core.new.state core.new.acked (length plan.now.programs.items) plan.now.variables.items text.items) }
+{
+    run_rows(alloc, core, plan.resources(), pace, rows)?;
+    Ok(report_of(alloc, plan, core)?)
+}
+
+/// Reads the plant, opens the store and starts, then runs on one thread, and gives the report; the first fault ends it. It writes no
+/// trace yet.
+pub fn run_plan<F: Files>(
+    alloc: Global,
+    files: &mut F,
+    plan: Plan,
+    job: &RunJob<'_>,
+) -> Result<Vec<u8>, Fault>
+    // The report is that of a life in which nothing waits and all is acknowledged.
+    ensures report { IfOk result (λ text. (life : CoreView F.Disk) × IsSettled life plan.resources
+        × IsReport life.state life.acked (length plan.programs.items) plan.variables.items text.items) }
+{
+    let rows = read_rows(alloc, files, job.plant, &plan)?;
+    let Ok(plan) = Arc::new(alloc, plan) else {
+        return Err(Fault::Start(StartFault::NoMemory));
+    };
+    let mut core = start(alloc, files, Arc::clone(&plan)?, job.store, job.start)?;
+    let report = served(alloc, &plan, &mut core, job.pace, rows);
+    files.back(core.stop());
+    report
+}

@@ -1,0 +1,90 @@
+//! The words that `plant` takes.
+
+use clap::{Arg, Command, value_parser};
+use std::alloc::{AllocError, Global};
+
+static STARTS: [&str; 2] = ["warm", "cold"];
+
+static PACES: [&str; 2] = ["settle", "free"];
+
+/// What `check`, `run` and `replay` say of themselves today.
+const NOT_YET: &str =
+    "This version tells faults of files, budget and words of a source, and goes no further.";
+
+fn source<'a>(alloc: Global) -> Arg<'a> {
+    Arg::new(alloc, "source")
+        .value_name("SRC")
+        .help("The source, in Structured Text")
+        .required(true)
+}
+
+fn file<'a>(alloc: Global, name: &'a str, help: &'a str) -> Arg<'a> {
+    Arg::new(alloc, name).long(name).value_name("F").help(help)
+}
+
+fn start<'a>(alloc: Global) -> Arg<'a> {
+    Arg::new(alloc, "start")
+        .long("start")
+        .help("Go on from the retain file, or begin with initial values")
+        .value_parser(STARTS.as_slice())
+        .required(true)
+}
+
+fn budget<'a>(alloc: Global) -> Arg<'a> {
+    Arg::new(alloc, "budget")
+        .long("budget")
+        .value_name("N")
+        .help("How many ticks an execution may take")
+        .value_parser(value_parser!(u32))
+        .default_value("10000")
+}
+
+fn pace<'a>(alloc: Global) -> Arg<'a> {
+    Arg::new(alloc, "pace")
+        .long("pace")
+        .help("Latch a row when all before it is settled, or at once")
+        .value_parser(PACES.as_slice())
+        .default_value("settle")
+}
+
+fn check<'a>(alloc: Global) -> Result<Command<'a>, AllocError> {
+    Command::new(alloc, "check")
+        .about("Builds a source and prints its sizes (not yet)")
+        .after_help(NOT_YET)
+        .arg(source(alloc))
+}
+
+fn run<'a>(alloc: Global) -> Result<Command<'a>, AllocError> {
+    Command::new(alloc, "run")
+        .about("Runs a source against a plant and prints the report (not yet)")
+        .after_help(NOT_YET)
+        .arg(source(alloc))?
+        .arg(file(alloc, "plant", "The plant, a CSV file").required(true))?
+        .arg(file(alloc, "store", "The retain file").required(true))?
+        .arg(start(alloc))?
+        .arg(budget(alloc))?
+        .arg(pace(alloc))?
+        .arg(file(alloc, "trace", "The trace to write"))
+}
+
+fn replay<'a>(alloc: Global) -> Result<Command<'a>, AllocError> {
+    Command::new(alloc, "replay")
+        .about("Runs a trace again and prints the report (not yet)")
+        .after_help(NOT_YET)
+        .arg(source(alloc))?
+        .arg(file(alloc, "plant", "The plant, a CSV file").required(true))?
+        .arg(file(alloc, "trace", "The trace to run").required(true))
+}
+
+/// The command `plant` with its subcommands.
+pub(crate) fn command<'a>(alloc: Global) -> Result<Command<'a>, AllocError> {
+    let first = Command::new(alloc, "first").about("Runs the built-in configuration");
+    Command::new(alloc, "plant")
+        .bin_name("plant")?
+        .about("Runs Structured Text against a recorded plant")
+        .subcommand_required(true)
+        .subcommand(first)?
+        .subcommand(check(alloc)?)?
+        .subcommand(run(alloc)?)?
+        .subcommand(replay(alloc)?)
+}

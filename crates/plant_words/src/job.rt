@@ -1,0 +1,51 @@
+//! What a command line asks for.
+
+/// How a life starts.
+#[derive(Clone, Copy, Debug, PartialEq, Eq)]
+pub enum Start {
+    /// The retained variables take the values of the last record.
+    Warm,
+    /// All variables take their initial values.
+    Cold,
+}
+
+/// When the next row of the plant is latched.
+#[derive(Clone, Copy, Debug, PartialEq, Eq)]
+pub enum Pace {
+    /// When nothing waits and all is acknowledged.
+    Settle,
+    /// One row after another.
+    Free,
+}
+
+/// A run of a source against a plant.
+#[derive(Clone, Copy, Debug, PartialEq, Eq)]
+pub struct RunJob<'a> {
+    pub source: &'a str,
+    pub plant: &'a str,
+    pub store: &'a str,
+    pub start: Start,
+    /// How many ticks an execution may take, as the words say: any number of 32 bits.
+    pub budget: u32,
+    pub pace: Pace,
+    pub trace: Option<&'a str>,
+}
+
+/// The run of a trace again.
+#[derive(Clone, Copy, Debug, PartialEq, Eq)]
+pub struct ReplayJob<'a> {
+    pub source: &'a str,
+    pub plant: &'a str,
+    pub trace: &'a str,
+}
+
+/// What a command line asks for. Files go by their names.
+#[derive(Clone, Copy, Debug, PartialEq, Eq)]
+pub enum Job<'a> {
+    /// The built-in configuration.
+    First,
+    /// The sizes of a source.
+    Check { source: &'a str },
+    Run(RunJob<'a>),
+    Replay(ReplayJob<'a>),
+}

@@ -1,0 +1,11 @@
+//! The command line of the program `plant`.
+#![tactic(auto)]
+
+mod command;
+mod job;
+mod number;
+mod reading;
+
+pub use job::{Job, Pace, ReplayJob, RunJob, Start};
+pub use number::plain_number;
+pub use reading::{WordsError, read_words, wants_memory};

@@ -1,0 +1,86 @@
+//! Reading a command line.
+
+use crate::command::command;
+use crate::job::{Job, Pace, ReplayJob, RunJob, Start};
+use crate::number::plain_number;
+use clap::error::ErrorKind;
+use clap::{ArgMatches, Error};
+use std::alloc::{AllocError, Global};
+
+/// Why no job was read. It shows as clap's text.
+pub use clap::Error as WordsError;
+
+fn start(text: &str) -> Option<Start> {
+    match text {
+        "warm" => Some(Start::Warm),
+        "cold" => Some(Start::Cold),
+        _ => None,
+    }
+}
+
+fn pace(text: &str) -> Option<Pace> {
+    match text {
+        "settle" => Some(Pace::Settle),
+        "free" => Some(Pace::Free),
+        _ => None,
+    }
+}
+
+fn run<'a>(given: &ArgMatches<'a>) -> Option<RunJob<'a>> {
+    Some(RunJob {
+        source: given.get_str("source")?,
+        plant: given.get_str("plant")?,
+        store: given.get_str("store")?,
+        start: start(given.get_str("start")?)?,
+        budget: plain_number(given.get_str("budget")?)?,
+        pace: pace(given.get_str("pace")?)?,
+        trace: given.get_str("trace"),
+    })
+}
+
+fn replay<'a>(given: &ArgMatches<'a>) -> Option<ReplayJob<'a>> {
+    Some(ReplayJob {
+        source: given.get_str("source")?,
+        plant: given.get_str("plant")?,
+        trace: given.get_str("trace")?,
+    })
+}
+
+fn chosen<'a>(name: &str, given: &ArgMatches<'a>) -> Option<Job<'a>> {
+    match name {
+        "first" => Some(Job::First),
+        "check" => Some(Job::Check {
+            source: given.get_str("source")?,
+        }),
+        "run" => Some(Job::Run(run(given)?)),
+        "replay" => Some(Job::Replay(replay(given)?)),
+        _ => None,
+    }
+}
+
+/// The refusal of what clap takes and `plant` does not: a budget with a sign.
+fn signed(alloc: Global) -> Result<Error, AllocError> {
+    command(alloc)?.error(
+        ErrorKind::ValueValidation,
+        "invalid value for '--budget <N>': a whole number of 32 bits without a sign is wanted",
+    )
+}
+
+/// Whether memory ran out while the words were read.
+pub fn wants_memory(error: &WordsError) -> bool {
+    error.kind() == ErrorKind::OutOfMemory
+}
+
+/// Reads the words, the program's name first. A refusal shows as the text for the user; one that asks for help is for the standard
+/// output.
+pub fn read_words<'a>(alloc: Global, words: &'a [&'a str]) -> Result<Job<'a>, Error> {
+    let matches = command(alloc)?.try_get_matches_from(words)?;
+    let job = match matches.subcommand() {
+        Some((name, given)) => chosen(name, given),
+        None => None,
+    };
+    match job {
+        Some(job) => Ok(job),
+        None => Err(signed(alloc)?),
+    }
+}
