@@ -5,6 +5,7 @@ use Rattle.st_types.specs.Layouts.{layout_text}
 use Rattle.retain_store.specs.declared.fault.StoreFault.TheVariants as stores
 use Rattle.retain_store.specs.Recovered.{Recovered, TooLong, Refused, Nothing, Found}
 use Rattle.retain_store.specs.Opening.{CountsFault}
+use Rattle.retain_store.specs.Kept.{StoreView}
 use Rattle.config.specs.declared.plan.Plan.{Plan}
 use Rattle.config.specs.PlanViews.{plan_view}
 use Rattle.serial_core.specs.Steps.{State}
@@ -62,3 +63,11 @@ CountsStart faults.NoMemory old new = new ≡ old
 abbrev pub LeftByStart : StartMode → Plan → ℕ → Recovered → Recovered → Type 0
 LeftByStart Warm plan room before file = file ≡ before
 LeftByStart Cold plan room before file = (file ≡ before) ⊎ ((generation : ℕ) × (file ≡ Found generation (record_now (begun plan room))))
+
+-- the last record is that of the initial values, without a moment
+abbrev pub IsSavedAnew : {D : Type 0} → Plan → ℕ → StoreView D → Type 0
+IsSavedAnew plan room store = store.last ≡ Found store.generation (record_now (begun plan room))
+
+-- want of memory
+abbrev pub IsWantOfMemory : StartFault → Type 0
+IsWantOfMemory fault = (fault ≡ faults.NoMemory) ⊎ (fault ≡ faults.Store stores.NoMemory)

@@ -9,7 +9,7 @@ ghost use Rattle.retain_store.specs.Areas.{IsEither};
 ghost use Rattle.retain_store.specs.Kept.{IsLast};
 ghost use Rattle.commit_lock.specs.Restart.{Survives, IsOfPlan, IsInitialAgain, begun, record_now, warm};
 ghost use Rattle.commit_lock.specs.Cores.{survives};
-ghost use Rattle.commit_lock.specs.Starting.{start_of, started, HasOtherLayout, CanStart, RefusesStart, CountsStart, LeftByStart};
+ghost use Rattle.commit_lock.specs.Starting.{start_of, started, HasOtherLayout, CanStart, RefusesStart, CountsStart, LeftByStart, IsSavedAnew, IsWantOfMemory};
 
 use crate::core_state::Core;
 use crate::parts::Parts;
@@ -105,6 +105,8 @@ fn cold<D: Disk>(parts: Parts, store: Store<D>) -> Result<Core<D>, (StartFault, 
 
     ensures state { IfOk result (λ core. core.state ≡ begun parts.serial.plan parts.serial.room) }
     ensures fresh { IfOk result (λ core. (core.acked ≡ 0) × (core.failed ≡ None)) }
+    ensures saved { IfOk result (λ core. core.store.last ≡ Found core.store.generation (record_now parts.serial)) }
+    ensures memory { IfErr result (λ e. IsWantOfMemory e.0 → ⊥) }
     ensures survives { D.tells → IfOk result (λ core. (file : List ℕ) → D.may_leave core.store.disk file → survives core (recovered file)) }
     ensures answers { D.tells → MatchResult result
         (λ core. CanStart StartMode.Cold parts.serial.plan store.last)
@@ -156,6 +158,12 @@ impl<D: Disk> Core<D> {
         ensures started { D.tells → IfOk result (λ core. core.state ≡ started plan.value log_room (start_of mode plan.value (recovered (D.seen disk)))) }
         ensures cold { mode ≡ StartMode.Cold → IfOk result (λ core. core.state ≡ begun plan.value log_room) }
         ensures fresh { IfOk result (λ core. (core.acked ≡ 0) × (core.failed ≡ None)) }
+
+        // A cold start has saved the record of the initial values.
+        ensures saved { mode ≡ StartMode.Cold → IfOk result (λ core. IsSavedAnew plan.value log_room core.store) }
+
+        // All memory is taken before the first call of the disk.
+        ensures memory { IfErr result (λ e. IsWantOfMemory e.0 → e.1 ≡ disk) }
 
         // It is answered and refused exactly by what the file is recovered to, faults of the device and want of memory aside.
         ensures answers { D.tells → MatchResult result

@@ -1,5 +1,5 @@
 use crate::{Disk, DiskError, FileDisk, SimDisk, Stop};
-use std::fs::{File, Metadata, OpenFile};
+use std::fs::{File, Metadata, OpenFile, OpenOptions};
 use std::io::ErrorKind;
 use std::os::unix::fs::FileExt;
 use std::process::Abort;
@@ -493,6 +493,7 @@ fn real_file_that_is_not_there_is_made_empty(rt: HostRuntime) -> Result<(), Fail
     let name = scratch_name(&rt, "made")?;
     let mut disk: FileDisk<File> = FileDisk::open(&rt, name.as_str())?;
     assert_eq!(rt; disk.len()?, 0);
+    assert_eq!(rt; disk.read(0, &mut []), DONE);
     assert_eq!(rt; disk.read(0, &mut [0]), Err(DiskError::OutOfRange));
     assert_eq!(rt; disk.read(1, &mut []), Err(DiskError::OutOfRange));
     assert_eq!(rt;
@@ -545,4 +546,108 @@ fn errors_of_a_file_are_failures(rt: HostRuntime) {
     assert_eq!(rt; disk.write_at(0, &[1]), Err(DiskError::Failed));
     assert_eq!(rt; disk.sync(), Err(DiskError::Failed));
     assert_eq!(rt; disk.failures(), 4);
+}
+
+/// A file of which each call moves one byte at most.
+#[derive(Drop)]
+struct SlowFile(File);
+
+impl FileExt for SlowFile {
+    fn read_at(&self, buf: &mut [u8], offset: u64) -> io::Result<usize> {
+        let most = buf.len().min(1);
+        self.0.read_at(&mut buf[..most], offset)
+    }
+
+    fn write_at(&self, buf: &[u8], offset: u64) -> io::Result<usize> {
+        let most = buf.len().min(1);
+        self.0.write_at(&buf[..most], offset)
+    }
+}
+
+impl OpenFile for SlowFile {
+    fn metadata(&self) -> io::Result<Metadata> {
+        self.0.metadata()
+    }
+
+    fn set_len(&self, size: u64) -> io::Result<()> {
+        self.0.set_len(size)
+    }
+
+    fn sync_all(&self) -> io::Result<()> {
+        self.0.sync_all()
+    }
+
+    fn sync_data(&self) -> io::Result<()> {
+        self.0.sync_data()
+    }
+}
+
+/// A file that tells its length, and whose bytes can be neither read nor written.
+#[derive(Drop)]
+struct DeafFile(File);
+
+impl FileExt for DeafFile {
+    fn read_at(&self, _buf: &mut [u8], _offset: u64) -> io::Result<usize> {
+        Err(io::Error::from(ErrorKind::Other))
+    }
+
+    fn write_at(&self, _buf: &[u8], _offset: u64) -> io::Result<usize> {
+        Err(io::Error::from(ErrorKind::Other))
+    }
+}
+
+impl OpenFile for DeafFile {
+    fn metadata(&self) -> io::Result<Metadata> {
+        self.0.metadata()
+    }
+
+    fn set_len(&self, size: u64) -> io::Result<()> {
+        self.0.set_len(size)
+    }
+
+    fn sync_all(&self) -> io::Result<()> {
+        self.0.sync_all()
+    }
+
+    fn sync_data(&self) -> io::Result<()> {
+        self.0.sync_data()
+    }
+}
+
+/// A new file of this test alone with these bytes, open for reading and writing.
+fn scratch_file(rt: &HostRuntime, name: &str, bytes: &[u8]) -> Result<File, Fail> {
+    fs::write(rt, name, bytes)?;
+    Ok(OpenOptions::new().read(true).write(true).open(rt, name)?)
+}
+
+#[test]
+fn real_file_that_moves_a_byte_a_call_is_read_and_written_whole(
+    rt: HostRuntime,
+) -> Result<(), Fail> {
+    let name = scratch_name(&rt, "slow")?;
+    let mut disk = FileDisk::new(SlowFile(scratch_file(&rt, name.as_str(), &[1, 2, 3, 4])?));
+    disk.write_at(3, &[40, 50, 60])?;
+    let mut buf = [0; 4];
+    disk.read(1, &mut buf)?;
+    assert_eq!(rt; buf, [2, 3, 40, 50]);
+    assert_eq!(rt;
+        fs::read(&rt, name.as_str())?.as_slice(),
+        [1, 2, 3, 40, 50, 60].as_slice()
+    );
+    assert_eq!(rt; disk.failures(), 0);
+    fs::remove_file(&rt, name.as_str())?;
+    Ok(())
+}
+
+#[test]
+fn error_within_a_read_or_write_of_a_file_is_a_failure(rt: HostRuntime) -> Result<(), Fail> {
+    let name = scratch_name(&rt, "deaf")?;
+    let mut disk = FileDisk::new(DeafFile(scratch_file(&rt, name.as_str(), &[1, 2, 3, 4])?));
+    assert_eq!(rt; disk.len(), Ok(4));
+    assert_eq!(rt; disk.read(1, &mut [0; 2]), FAILED);
+    assert_eq!(rt; disk.write_at(1, &[9]), FAILED);
+    assert_eq!(rt; disk.sync(), DONE);
+    assert_eq!(rt; disk.failures(), 2);
+    fs::remove_file(&rt, name.as_str())?;
+    Ok(())
 }

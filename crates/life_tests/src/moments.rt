@@ -68,3 +68,20 @@ fn after_a_record_of_the_greatest_moment_every_row_is_refused(rt: HostRuntime) -
     assert_eq!(rt; told, expected);
     Ok(())
 }
+
+#[test]
+fn a_warm_life_without_a_record_takes_a_first_row_of_moment_0(rt: HostRuntime) -> Result<(), Fail> {
+    let calls = rows([0, 0, 1]);
+    let life = Life {
+        calls: &calls,
+        ..WARM
+    };
+    let told = last_told(rt.alloc(), &[life])?;
+    let expected = Told {
+        replies: replies(&[Reply::Latched(0), NOT_LATER, Reply::Latched(1)]),
+        len: 2,
+        ..idle_told(0)
+    };
+    assert_eq!(rt; told, expected);
+    Ok(())
+}

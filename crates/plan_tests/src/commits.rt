@@ -4,7 +4,7 @@ ghost use Rattle.std.specs.Prelude.{◌≤◌};
 
 use crate::small_programs::two_programs;
 use crate::started::started;
-use commit_lock::{Answer, Core, Refusal};
+use commit_lock::{Answer, Core, Refusal, StartFault};
 use disk::SimDisk;
 use retain_store::StoreFault;
 use serial_core::Refusal as Serial;
@@ -146,6 +146,20 @@ fn refusals_show_as_their_numbers(rt: HostRuntime) -> Result<(), Fail> {
         (Refusal::Serial(Serial::NoMemory), "K6"),
     ] {
         let text = format!(in rt.alloc(); "{refusal}")?;
+        assert_eq!(rt; text.as_str(), number);
+    }
+    Ok(())
+}
+
+#[test]
+fn faults_of_a_start_show_as_their_numbers(rt: HostRuntime) -> Result<(), Fail> {
+    for (fault, number) in [
+        (StartFault::Store(StoreFault::TooLong), "S1"),
+        (StartFault::Store(StoreFault::Device), "S3"),
+        (StartFault::OtherLayout, "N1"),
+        (StartFault::NoMemory, "N2"),
+    ] {
+        let text = format!(in rt.alloc(); "{fault}")?;
         assert_eq!(rt; text.as_str(), number);
     }
     Ok(())

@@ -168,6 +168,28 @@ fn a_full_log_takes_no_third_commit_and_the_third_still_waits(rt: HostRuntime) -
     Ok(())
 }
 
+/// Three programs due at one row, where the log has room for two of them, each run and committed in one step; then another take and
+/// another row.
+fn full_log_in_one_step(alloc: Global) -> Result<Option<String>, Fail> {
+    let mut events = vec![in alloc; latch(alloc, 0)]?;
+    for _ in 0..3 {
+        events.push(Event::CommitHere(0))?;
+    }
+    events.push(Event::Take(0))?;
+    events.push(latch(alloc, 10))?;
+    told(alloc, &[COUNT, COUNT, COUNT], 3, events)
+}
+
+#[test]
+fn a_full_log_takes_no_third_commit_in_one_step_and_the_third_still_waits(
+    rt: HostRuntime,
+) -> Result<(), Fail> {
+    let text = full_log_in_one_step(rt.alloc())?;
+    let expected = "row 0; here 2; here 3; K1; taken; K1; N Some(2), K Some(0)";
+    assert_eq!(rt; text.as_deref(), Some(expected));
+    Ok(())
+}
+
 /// What a program on resource 0 has read is raised and lowered again on resource 1 before its commit.
 fn changed_and_back(alloc: Global) -> Result<Option<String>, Fail> {
     let reads = Adding {

@@ -76,6 +76,24 @@ fn damaged_areas_are_refused(rt: HostRuntime) -> Result<(), Fail> {
 }
 
 #[test]
+fn damaged_area_of_another_generation_is_refused(rt: HostRuntime) -> Result<(), Fail> {
+    // A length one short, of an older generation than the sound record's and of a newer one.
+    for generation in [1, 3] {
+        let mut damaged = changed(12, 0x13);
+        damaged[8] = generation;
+        for (first, second) in [(&VECTOR, &damaged), (&damaged, &VECTOR)] {
+            let file = file_with(&rt, &[(0, first), (AREA, second)])?;
+            assert_eq!(rt;
+                last_of(&rt, file)?,
+                Err(StoreFault::Damaged),
+                "generation {generation}"
+            );
+        }
+    }
+    Ok(())
+}
+
+#[test]
 fn one_generation_twice_is_refused(rt: HostRuntime) -> Result<(), Fail> {
     let file = file_with(&rt, &[(0, &VECTOR), (AREA, &VECTOR)])?;
     assert_eq!(rt; last_of(&rt, file)?, Err(StoreFault::Damaged));

@@ -1,6 +1,9 @@
-use Rattle.std.proofs.Common.{inl}
+use Rattle.std.proofs.Common.{◌≡◌, inl, subst}
+use Rattle.std.specs.Prelude.{IfOk}
 use Rattle.disk.specs.Runs.{joins, weakens}
-use Rattle.retain_store.specs.Recovered.{recovered}
+use Rattle.retain_store.specs.Recovered.{recovered, Found}
+use Rattle.serial_core.specs.Steps.{State}
+use Rattle.commit_lock.specs.Restart.{record_now}
 use Rattle.commit_lock.proofs.StartLemmas.{match_both, left_cold}
 use Rattle.commit_lock.proofs.core_state.Core.start.Goals as goal
 
@@ -16,3 +19,7 @@ returns-in-Cold-clause-any_moment g c = λ tells only.
     (λ core save. joins g.D.Disk.left_since g.D.Disk.may_leave _ _ _ _ _ (weakens g.D.Disk.left_since g.D.Disk.may_leave _ _ _ _ opened (λ file. inl)) save (λ file. left_cold plan room c.in-Ok.parts.serial before c.in-Ok-open.store.last (recovered file) _ c.in-Ok.ensures.serial found))
     (λ e save. joins g.D.Disk.left_since g.D.Disk.may_leave _ _ _ _ _ (weakens g.D.Disk.left_since g.D.Disk.may_leave _ _ _ _ opened (λ file. inl)) save (λ file. left_cold plan room c.in-Ok.parts.serial before c.in-Ok-open.store.last (recovered file) _ c.in-Ok.ensures.serial found))
     (c.cold.ensures.any_moment tells))
+
+pub returns-in-Cold-clause-saved : goal.returns-in-Cold-clause-saved
+returns-in-Cold-clause-saved g c = λ mode.
+    subst (λ (s : State). IfOk c.cold.result (λ core. core.store.last ≡ Found core.store.generation (record_now s))) c.in-Ok.ensures.serial c.cold.ensures.saved
