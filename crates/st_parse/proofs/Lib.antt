@@ -1,0 +1,15 @@
+pub mod Turns
+pub mod Lists
+pub mod Parts
+pub mod Shorter
+pub mod TypeReads
+pub mod UnitReads
+pub mod ConfigurationReads
+pub mod SourceReads
+pub mod AgainParts
+pub mod AgainTypes
+pub mod AgainUnits
+pub mod AgainConfigurations
+pub mod AgainSources
+pub mod Bounds
+pub mod AnswerLemmas

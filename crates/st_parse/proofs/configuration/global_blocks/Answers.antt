@@ -1,0 +1,12 @@
+use Rattle.std.proofs.Common.{rules}
+use Rattle.st_lex.specs.declared.keyword.Keyword.TheVariants as w
+use Rattle.st_statements.specs.Tokens.{is_keyword}
+use Rattle.st_parse.specs.ConfigurationReading.{global_block_at}
+use Rattle.st_parse.specs.Reading.{many}
+use Rattle.st_parse.proofs.configuration.global_blocks.Goals as goal
+
+pub returns : goal.returns
+unfolding many
+returns c =
+    let read = c.several.ensures (is_keyword w.VarGlobal) (global_block_at 64) (λ ts r e. search rules) (λ ts r e. search rules) in
+    search rules

@@ -1,0 +1,12 @@
+use Rattle.std.proofs.Common.{rules}
+use Rattle.st_statements.specs.Tokens.{is_name}
+use Rattle.st_parse.specs.TypeReading.{field_at}
+use Rattle.st_parse.specs.TypeReading.{fields_at}
+use Rattle.st_parse.specs.Reading.{at_least_one}
+use Rattle.st_parse.proofs.data_type.fields.Goals as goal
+
+pub returns : goal.returns
+unfolding fields_at at_least_one
+returns c =
+    let read = c.several.ensures is_name (field_at 64) (λ ts r e. search rules) (λ ts r e. search rules) in
+    search rules

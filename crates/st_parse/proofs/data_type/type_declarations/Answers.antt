@@ -1,0 +1,12 @@
+use Rattle.std.proofs.Common.{rules}
+use Rattle.st_statements.specs.Tokens.{is_name}
+use Rattle.st_parse.specs.TypeReading.{type_declaration_at}
+use Rattle.st_parse.specs.TypeReading.{type_declarations_at}
+use Rattle.st_parse.specs.Reading.{at_least_one}
+use Rattle.st_parse.proofs.data_type.type_declarations.Goals as goal
+
+pub returns : goal.returns
+unfolding type_declarations_at at_least_one
+returns c =
+    let read = c.several.ensures is_name (type_declaration_at 64) (λ ts r e. search rules) (λ ts r e. search rules) in
+    search rules

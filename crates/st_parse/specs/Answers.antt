@@ -1,0 +1,52 @@
+-- What parsing answers.
+use Rattle.std.specs.Prelude.{◌≡◌, ℕ, [], ◌∷◌, ◌++◌, Result, Ok, Err}
+use Rattle.st_trees.specs.Sources.{Source}
+use Rattle.st_trees.specs.SourceViews.{source_view}
+use Rattle.st_trees.specs.declared.source.Source.{Source as Tree}
+use Rattle.st_statements.specs.declared.fault.ParseError.{ParseError}
+use Rattle.st_statements.specs.declared.fault.ParseError.TheVariants as errors
+use Rattle.st_statements.specs.Tokens.{Tokens}
+use Rattle.st_statements.specs.Places.{end_of}
+use Rattle.st_statements.specs.Laws.{SameHead}
+use Rattle.st_parse.specs.Sources.{IsSource}
+use Rattle.st_parse.specs.Depths.{SourceWithin}
+
+-- the place of the token behind a front: its first byte, or where there is none the end of the front's last token
+abbrev pub place_behind : Tokens → Tokens → ℕ
+place_behind front [] = end_of 0 front
+place_behind front (t ∷ rest) = t.start
+
+-- The tokens begin some text of the grammar.
+pub record BeginsSource (front : Tokens) : Type 0 where
+  pub more : Tokens
+  pub source : Source
+  pub whole : IsSource (front ++ more) source
+
+-- What stands before the place begins some text of the grammar, and with the next token it no longer does.
+pub record IsUnexpectedAt (tokens : Tokens) (place : ℕ) : Type 0 where
+  pub front : Tokens
+  pub rest : Tokens
+  pub parts : tokens ≡ front ++ rest
+  pub here : place ≡ place_behind front rest
+  pub begins : BeginsSource front
+  pub none : (more : Tokens) (source : Source) → SameHead rest more → IsSource (front ++ more) source → ⊥
+
+-- A front of the tokens begins some text of the grammar, and no text that begins so is within the depth.
+pub record IsTooDeep (tokens : Tokens) : Type 0 where
+  pub front : Tokens
+  pub rest : Tokens
+  pub parts : tokens ≡ front ++ rest
+  pub begins : BeginsSource front
+  pub none : (more : Tokens) (source : Source) → IsSource (front ++ more) source → SourceWithin 64 source → ⊥
+
+-- why tokens are refused; want of memory says nothing of them
+abbrev pub Refused : Tokens → ParseError → Type 0
+Refused tokens (errors.Unexpected place) = IsUnexpectedAt tokens place
+Refused tokens errors.Deep = IsTooDeep tokens
+Refused tokens errors.Memory = Unit {0}
+
+-- this source is the answer, unless memory ran out
+abbrev pub Answers : Source → Result Tree ParseError → Type 0
+Answers source (Ok tree) = source_view tree ≡ source
+Answers source (Err errors.Memory) = Unit {0}
+Answers source (Err other) = ⊥

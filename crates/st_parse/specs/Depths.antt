@@ -1,0 +1,50 @@
+-- How deep the trees of a text may be: every initial value and every statement is at most so deep.
+use Rattle.std.specs.Prelude.{ℕ, ◌≤◌, Option, IfSome}
+use Rattle.std.specs.List.{AllByRecursion}
+use Rattle.st_trees.specs.Initials.{Initial}
+use Rattle.st_trees.specs.Statements.{stmts_of}
+use Rattle.st_trees.specs.Declarations.{Field, TypeDefinition, array, structure, TypeDeclaration, Declaration, VariableBlock}
+use Rattle.st_trees.specs.Units.{OrganisationUnit}
+use Rattle.st_trees.specs.Configurations.{GlobalDeclaration, GlobalBlock, Configuration}
+use Rattle.st_trees.specs.Sources.{LibraryElement, types, unit, configuration, Source}
+use Rattle.st_trees.specs.Depths.{depth_of_initial, deepest_stmt}
+
+module _ (depth : ℕ) where
+  abbrev pub ValueWithin : Option Initial → Type 0
+  ValueWithin o = IfSome o (λ v. depth_of_initial v ≤ depth)
+
+  abbrev pub FieldWithin : Field → Type 0
+  FieldWithin f = ValueWithin f.initial
+
+  abbrev pub DefinitionWithin : TypeDefinition → Type 0
+  DefinitionWithin (array a) = Unit {0}
+  DefinitionWithin (structure fields) = AllByRecursion FieldWithin fields
+
+  abbrev pub TypeWithin : TypeDeclaration → Type 0
+  TypeWithin t = DefinitionWithin t.definition
+
+  abbrev pub DeclarationWithin : Declaration → Type 0
+  DeclarationWithin d = ValueWithin d.initial
+
+  abbrev pub BlockWithin : VariableBlock → Type 0
+  BlockWithin b = AllByRecursion DeclarationWithin b.declarations
+
+  abbrev pub UnitWithin : OrganisationUnit → Type 0
+  UnitWithin u = AllByRecursion BlockWithin u.blocks × (deepest_stmt (stmts_of u.body) ≤ depth)
+
+  abbrev pub GlobalWithin : GlobalDeclaration → Type 0
+  GlobalWithin g = ValueWithin g.initial
+
+  abbrev pub GlobalBlockWithin : GlobalBlock → Type 0
+  GlobalBlockWithin b = AllByRecursion GlobalWithin b.declarations
+
+  abbrev pub ConfigurationWithin : Configuration → Type 0
+  ConfigurationWithin c = AllByRecursion GlobalBlockWithin c.globals
+
+  abbrev pub ElementWithin : LibraryElement → Type 0
+  ElementWithin (types ts) = AllByRecursion TypeWithin ts
+  ElementWithin (unit u) = UnitWithin u
+  ElementWithin (configuration c) = ConfigurationWithin c
+
+  abbrev pub SourceWithin : Source → Type 0
+  SourceWithin s = AllByRecursion ElementWithin s

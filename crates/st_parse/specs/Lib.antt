@@ -1,0 +1,12 @@
+pub mod Lists
+pub mod Types
+pub mod Units
+pub mod Configurations
+pub mod Sources
+pub mod Reading
+pub mod TypeReading
+pub mod UnitReading
+pub mod ConfigurationReading
+pub mod SourceReading
+pub mod Depths
+pub mod Answers

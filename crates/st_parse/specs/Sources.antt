@@ -1,0 +1,21 @@
+-- The grammar of whole texts.
+use Rattle.std.specs.Prelude.{◌≡◌, List, []}
+use Rattle.st_trees.specs.Declarations.{TypeDeclaration}
+use Rattle.st_trees.specs.Units.{OrganisationUnit}
+use Rattle.st_trees.specs.Configurations.{Configuration}
+use Rattle.st_trees.specs.Sources.{LibraryElement, Source}
+use Rattle.st_trees.specs.Sources as e
+use Rattle.st_statements.specs.Tokens.{Tokens}
+use Rattle.st_parse.specs.Lists.{Many}
+use Rattle.st_parse.specs.Types.{IsTypes}
+use Rattle.st_parse.specs.Units.{IsUnit}
+use Rattle.st_parse.specs.Configurations.{IsConfiguration}
+
+pub data IsElement : Tokens → LibraryElement → Tokens → Type 0 where
+  types : {ts us : Tokens} {x : LibraryElement} (xs : List TypeDeclaration) → IsTypes ts xs us → x ≡ e.types xs → IsElement ts x us
+  unit : {ts us : Tokens} {x : LibraryElement} (u : OrganisationUnit) → IsUnit ts u us → x ≡ e.unit u → IsElement ts x us
+  configuration : {ts us : Tokens} {x : LibraryElement} (c : Configuration) → IsConfiguration ts c us → x ≡ e.configuration c → IsElement ts x us
+
+-- All of the tokens are those of the source.
+abbrev pub IsSource : Tokens → Source → Type 0
+IsSource ts source = Many IsElement ts source []

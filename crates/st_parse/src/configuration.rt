@@ -1,0 +1,65 @@
+//! Configurations.
+
+ghost use Rattle.std.specs.Prelude.{◌≡◌, ◌∷◌, [], map};
+ghost use Rattle.st_lex.specs.declared.keyword.Keyword.TheVariants as keywords;
+ghost use Rattle.st_trees.specs.ConfigurationViews.{global_block_view, resource_view, configuration_view};
+ghost use Rattle.st_statements.specs.Tokens.{is_keyword};
+ghost use Rattle.st_statements.specs.Parsers.{Gives};
+ghost use Rattle.st_parse.specs.Reading.{many, at_least_one};
+ghost use Rattle.st_parse.specs.ConfigurationReading as reading;
+
+use crate::global::global_block;
+use crate::list::several;
+use crate::resource::resource;
+use st_lex::{Keyword, Token};
+use st_statements::{ReadError, keyword, leads, name};
+use st_trees::{Configuration, GlobalBlock, Resource};
+use std::alloc::Global;
+
+#[tactic(auto, unfolding(crate::specs::Reading::many))]
+fn global_blocks(alloc: Global, tokens: &[Token]) -> Result<(Vec<GlobalBlock>, &[Token]), ReadError>
+    ensures { Gives (λ x. (map global_block_view x.0.items, x.1.now)) result (many (is_keyword keywords.VarGlobal) (reading.global_block_at 64) tokens.now) }
+{
+    several(
+        Vec::new(alloc),
+        tokens,
+        |tokens| leads(Keyword::VarGlobal, tokens),
+        |tokens| global_block(alloc, tokens),
+    )
+}
+
+#[tactic(auto, unfolding(crate::specs::Reading::at_least_one))]
+fn resources(alloc: Global, tokens: &[Token]) -> Result<(Vec<Resource>, &[Token]), ReadError>
+    ensures { Gives (λ x. (map resource_view x.0.items, x.1.now)) result (at_least_one (is_keyword keywords.Resource) reading.resource_at tokens.now) }
+{
+    let (first, rest) = resource(alloc, tokens)?;
+    let mut found = Vec::new(alloc);
+    found.push(first)?;
+    several(
+        found,
+        rest,
+        |tokens| leads(Keyword::Resource, tokens),
+        |tokens| resource(alloc, tokens),
+    )
+}
+
+/// A configuration, from CONFIGURATION to END_CONFIGURATION.
+#[tactic(auto, unfolding(crate::specs::ConfigurationReading::configuration_at))]
+pub fn configuration(
+    alloc: Global,
+    tokens: &[Token],
+) -> Result<(Configuration, &[Token]), ReadError>
+    ensures { Gives (λ x. (configuration_view x.0, x.1.now)) result (reading.configuration_at 64 tokens.now) }
+{
+    let (_, rest) = keyword(Keyword::Configuration, tokens)?;
+    let (configuration, rest) = name(alloc, rest)?;
+    let (globals, rest) = global_blocks(alloc, rest)?;
+    let (resources, rest) = resources(alloc, rest)?;
+    let (_, rest) = keyword(Keyword::EndConfiguration, rest)?;
+    let configuration = Configuration {
+        name: configuration,
+        globals,
+        resources,
+    };
+    Ok((configuration, rest))
+}

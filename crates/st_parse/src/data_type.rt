@@ -1,0 +1,186 @@
+//! Types.
+
+ghost use Rattle.std.specs.Prelude.{◌≡◌, ◌∷◌, [], map, option_map};
+ghost use Rattle.st_trees.specs.InitialViews.{initial_view};
+ghost use Rattle.st_trees.specs.DeclarationViews.{field_view, type_definition_view, type_declaration_view};
+ghost use Rattle.st_statements.specs.Tokens.{is_name};
+ghost use Rattle.st_statements.specs.Parsers.{Gives, one};
+ghost use Rattle.st_parse.specs.Types as specs;
+ghost use Rattle.st_parse.specs.TypeReading as reading;
+
+use crate::list::several;
+use st_lex::{Keyword, Mark, Token, TokenKind};
+use st_statements::{
+    ReadError, begins, begins_name, keyword, leads, mark, name, read_initial, read_number, refused,
+};
+use st_trees::{
+    ArrayType, Field, Initial, SimpleType, TypeDeclaration, TypeDefinition, VariableType,
+};
+use st_words::Identifier;
+use std::alloc::Global;
+
+/// A type that is named by one word.
+fn simple(alloc: Global, tokens: &[Token]) -> Result<(SimpleType, &[Token]), ReadError>
+    ensures { Gives (λ x. (x.0, x.1.now)) result (one specs.simple tokens.now) }
+{
+    let [t, rest @ ..] = tokens else {
+        return Err(refused(tokens));
+    };
+    match &t.kind {
+        TokenKind::Elementary(kind) => Ok((SimpleType::Elementary(*kind, t.start), rest)),
+        TokenKind::Name(found) => {
+            let name = Identifier {
+                name: found.copied(alloc)?,
+                place: t.start,
+            };
+            Ok((SimpleType::Named(name), rest))
+        }
+        _ => Err(refused(tokens)),
+    }
+}
+
+#[tactic(auto, unfolding(crate::specs::TypeReading::array_at))]
+fn array(alloc: Global, tokens: &[Token]) -> Result<(ArrayType, &[Token]), ReadError>
+    ensures { Gives (λ x. (x.0, x.1.now)) result (reading.array_at tokens.now) }
+{
+    let (place, rest) = keyword(Keyword::Array, tokens)?;
+    let (_, rest) = mark(Mark::OpenBracket, rest)?;
+    let (lower, rest) = read_number(rest)?;
+    let (_, rest) = mark(Mark::Range, rest)?;
+    let (upper, rest) = read_number(rest)?;
+    let (_, rest) = mark(Mark::CloseBracket, rest)?;
+    let (_, rest) = keyword(Keyword::Of, rest)?;
+    let (element, rest) = simple(alloc, rest)?;
+    let array = ArrayType {
+        place,
+        lower,
+        upper,
+        element,
+    };
+    Ok((array, rest))
+}
+
+/// The type of a variable or a field, and the tokens after it.
+#[tactic(auto, unfolding(crate::specs::TypeReading::type_at, crate::specs::TypeReading::array_type_at, crate::specs::TypeReading::simple_type_at))]
+pub fn variable_type(alloc: Global, tokens: &[Token]) -> Result<(VariableType, &[Token]), ReadError>
+    ensures { Gives (λ x. (x.0, x.1.now)) result (reading.type_at tokens.now) }
+{
+    if leads(Keyword::Array, tokens) {
+        let (found, rest) = array(alloc, tokens)?;
+        return Ok((VariableType::Array(found), rest));
+    }
+    let (found, rest) = simple(alloc, tokens)?;
+    Ok((VariableType::Simple(found), rest))
+}
+
+#[tactic(auto, unfolding(crate::specs::TypeReading::given_at))]
+fn given(alloc: Global, tokens: &[Token]) -> Result<(Initial, &[Token]), ReadError>
+    ensures { Gives (λ x. (initial_view x.0, x.1.now)) result (reading.given_at 64 tokens.now) }
+{
+    let (_, rest) = mark(Mark::Assign, tokens)?;
+    read_initial(alloc, rest)
+}
+
+/// An initial value behind `:=`, if there is one, and the tokens after it.
+#[tactic(auto, unfolding(crate::specs::TypeReading::given_or_not, crate::specs::Reading::optional))]
+pub fn given_or_not(
+    alloc: Global,
+    tokens: &[Token],
+) -> Result<(Option<Initial>, &[Token]), ReadError>
+    ensures { Gives (λ x. (option_map initial_view x.0, x.1.now)) result (reading.given_or_not 64 tokens.now) }
+{
+    if !begins(Mark::Assign, tokens) {
+        return Ok((None, tokens));
+    }
+    let (value, rest) = given(alloc, tokens)?;
+    Ok((Some(value), rest))
+}
+
+#[tactic(auto, unfolding(crate::specs::TypeReading::field_at))]
+fn field(alloc: Global, tokens: &[Token]) -> Result<(Field, &[Token]), ReadError>
+    ensures { Gives (λ x. (field_view x.0, x.1.now)) result (reading.field_at 64 tokens.now) }
+{
+    let (name, rest) = name(alloc, tokens)?;
+    let (_, rest) = mark(Mark::Colon, rest)?;
+    let (declared, rest) = variable_type(alloc, rest)?;
+    let (initial, rest) = given_or_not(alloc, rest)?;
+    let (_, rest) = mark(Mark::Semicolon, rest)?;
+    let field = Field {
+        name,
+        declared,
+        initial,
+    };
+    Ok((field, rest))
+}
+
+#[tactic(auto, unfolding(crate::specs::TypeReading::fields_at, crate::specs::Reading::at_least_one))]
+fn fields(alloc: Global, tokens: &[Token]) -> Result<(Vec<Field>, &[Token]), ReadError>
+    ensures { Gives (λ x. (map field_view x.0.items, x.1.now)) result (reading.fields_at 64 tokens.now) }
+{
+    let (first, rest) = field(alloc, tokens)?;
+    let mut found = Vec::new(alloc);
+    found.push(first)?;
+    several(
+        found,
+        rest,
+        |tokens| begins_name(tokens),
+        |tokens| { field(alloc, tokens) },
+    )
+}
+
+#[tactic(auto, unfolding(crate::specs::TypeReading::definition_at, crate::specs::TypeReading::array_definition_at, crate::specs::TypeReading::structure_at))]
+fn definition(alloc: Global, tokens: &[Token]) -> Result<(TypeDefinition, &[Token]), ReadError>
+    ensures { Gives (λ x. (type_definition_view x.0, x.1.now)) result (reading.definition_at 64 tokens.now) }
+{
+    if leads(Keyword::Array, tokens) {
+        let (found, rest) = array(alloc, tokens)?;
+        return Ok((TypeDefinition::Array(found), rest));
+    }
+    let (_, rest) = keyword(Keyword::Struct, tokens)?;
+    let (fields, rest) = fields(alloc, rest)?;
+    let (_, rest) = keyword(Keyword::EndStruct, rest)?;
+    Ok((TypeDefinition::Structure(fields), rest))
+}
+
+#[tactic(auto, unfolding(crate::specs::TypeReading::type_declaration_at))]
+fn type_declaration(
+    alloc: Global,
+    tokens: &[Token],
+) -> Result<(TypeDeclaration, &[Token]), ReadError>
+    ensures { Gives (λ x. (type_declaration_view x.0, x.1.now)) result (reading.type_declaration_at 64 tokens.now) }
+{
+    let (name, rest) = name(alloc, tokens)?;
+    let (_, rest) = mark(Mark::Colon, rest)?;
+    let (definition, rest) = definition(alloc, rest)?;
+    let (_, rest) = mark(Mark::Semicolon, rest)?;
+    Ok((TypeDeclaration { name, definition }, rest))
+}
+
+#[tactic(auto, unfolding(crate::specs::TypeReading::type_declarations_at, crate::specs::Reading::at_least_one))]
+fn type_declarations(
+    alloc: Global,
+    tokens: &[Token],
+) -> Result<(Vec<TypeDeclaration>, &[Token]), ReadError>
+    ensures { Gives (λ x. (map type_declaration_view x.0.items, x.1.now)) result (reading.type_declarations_at 64 tokens.now) }
+{
+    let (first, rest) = type_declaration(alloc, tokens)?;
+    let mut found = Vec::new(alloc);
+    found.push(first)?;
+    several(
+        found,
+        rest,
+        |tokens| begins_name(tokens),
+        |tokens| { type_declaration(alloc, tokens) },
+    )
+}
+
+/// A block from TYPE to END_TYPE, and the tokens after it.
+#[tactic(auto, unfolding(crate::specs::TypeReading::types_at))]
+pub fn types(alloc: Global, tokens: &[Token]) -> Result<(Vec<TypeDeclaration>, &[Token]), ReadError>
+    ensures { Gives (λ x. (map type_declaration_view x.0.items, x.1.now)) result (reading.types_at 64 tokens.now) }
+{
+    let (_, rest) = keyword(Keyword::Type, tokens)?;
+    let (found, rest) = type_declarations(alloc, rest)?;
+    let (_, rest) = keyword(Keyword::EndType, rest)?;
+    Ok((found, rest))
+}

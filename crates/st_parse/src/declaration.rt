@@ -1,0 +1,79 @@
+//! Declarations of variables.
+
+ghost use Rattle.std.specs.Prelude.{◌≡◌, [], map};
+ghost use Rattle.st_trees.specs.DeclarationViews.{declaration_view};
+ghost use Rattle.st_statements.specs.Tokens.{is_name};
+ghost use Rattle.st_statements.specs.Parsers.{Gives};
+ghost use Rattle.st_parse.specs.Reading.{many};
+ghost use Rattle.st_parse.specs.UnitReading as reading;
+
+use crate::data_type::{given_or_not, variable_type};
+use crate::list::several;
+use crate::names::names;
+use st_lex::{Mark, Token};
+use st_statements::{ReadError, begins_name, mark};
+use st_trees::Declaration;
+use std::alloc::Global;
+
+type Declarations<'a> = Result<(Vec<Declaration>, &'a [Token]), ReadError>;
+
+/// Names of one type, with an initial value or without.
+#[tactic(auto, unfolding(crate::specs::UnitReading::declaration_at))]
+fn declaration(alloc: Global, tokens: &[Token]) -> Result<(Declaration, &[Token]), ReadError>
+    ensures { Gives (λ x. (declaration_view x.0, x.1.now)) result (reading.declaration_at 64 tokens.now) }
+{
+    let (names, rest) = names(alloc, tokens)?;
+    let (_, rest) = mark(Mark::Colon, rest)?;
+    let (declared, rest) = variable_type(alloc, rest)?;
+    let (initial, rest) = given_or_not(alloc, rest)?;
+    let (_, rest) = mark(Mark::Semicolon, rest)?;
+    let declaration = Declaration {
+        names,
+        declared,
+        initial,
+    };
+    Ok((declaration, rest))
+}
+
+/// Names of one type, without an initial value.
+#[tactic(auto, unfolding(crate::specs::UnitReading::external_at))]
+fn external(alloc: Global, tokens: &[Token]) -> Result<(Declaration, &[Token]), ReadError>
+    ensures { Gives (λ x. (declaration_view x.0, x.1.now)) result (reading.external_at tokens.now) }
+{
+    let (names, rest) = names(alloc, tokens)?;
+    let (_, rest) = mark(Mark::Colon, rest)?;
+    let (declared, rest) = variable_type(alloc, rest)?;
+    let (_, rest) = mark(Mark::Semicolon, rest)?;
+    let declaration = Declaration {
+        names,
+        declared,
+        initial: None,
+    };
+    Ok((declaration, rest))
+}
+
+/// Any number of declarations.
+#[tactic(auto, unfolding(crate::specs::Reading::many))]
+pub fn declarations(alloc: Global, tokens: &[Token]) -> Declarations<'_>
+    ensures { Gives (λ x. (map declaration_view x.0.items, x.1.now)) result (many is_name (reading.declaration_at 64) tokens.now) }
+{
+    several(
+        Vec::new(alloc),
+        tokens,
+        |tokens| begins_name(tokens),
+        |tokens| declaration(alloc, tokens),
+    )
+}
+
+/// Any number of declarations of externals.
+#[tactic(auto, unfolding(crate::specs::Reading::many))]
+pub fn externals(alloc: Global, tokens: &[Token]) -> Declarations<'_>
+    ensures { Gives (λ x. (map declaration_view x.0.items, x.1.now)) result (many is_name reading.external_at tokens.now) }
+{
+    several(
+        Vec::new(alloc),
+        tokens,
+        |tokens| begins_name(tokens),
+        |tokens| external(alloc, tokens),
+    )
+}

@@ -1,0 +1,18 @@
+//! The tree of a text from its tokens.
+#![tactic(auto)]
+
+mod block;
+mod configuration;
+mod data_type;
+mod declaration;
+mod global;
+mod list;
+mod names;
+mod parsing;
+mod resource;
+mod section;
+mod source;
+mod unit;
+
+pub use crate::parsing::parse;
+pub use st_statements::ParseError;

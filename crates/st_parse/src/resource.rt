@@ -1,0 +1,207 @@
+//! Resources, with their tasks and their instances of programs.
+
+ghost use Rattle.std.specs.Prelude.{◌≡◌, ◌∷◌, [], map};
+ghost use Rattle.st_lex.specs.declared.keyword.Keyword.TheVariants as keywords;
+ghost use Rattle.st_trees.specs.ConfigurationViews.{resource_view};
+ghost use Rattle.st_statements.specs.Tokens.{is_keyword};
+ghost use Rattle.st_statements.specs.Parsers.{Gives, one};
+ghost use Rattle.st_parse.specs.Reading.{many, at_least_one, optional};
+ghost use Rattle.st_parse.specs.Configurations as specs;
+ghost use Rattle.st_parse.specs.ConfigurationReading as reading;
+
+use crate::list::several;
+use st_lex::{Keyword, Mark, Token, TokenKind};
+use st_statements::{ReadError, keyword, leads, mark, name, refused};
+use st_trees::{Instance, Priority, Resource, Task};
+use st_words::Identifier;
+use std::alloc::Global;
+
+/// A duration in milliseconds.
+fn duration(tokens: &[Token]) -> Result<(u64, &[Token]), ReadError>
+    ensures { Gives (λ x. (x.0, x.1.now)) result (one specs.duration tokens.now) }
+{
+    let [t, rest @ ..] = tokens else {
+        return Err(refused(tokens));
+    };
+    match &t.kind {
+        TokenKind::Duration(found) => Ok((*found, rest)),
+        _ => Err(refused(tokens)),
+    }
+}
+
+/// A number that is written as decimal digits alone.
+fn decimal(tokens: &[Token]) -> Result<(Priority, &[Token]), ReadError>
+    ensures { Gives (λ x. (x.0, x.1.now)) result (one specs.decimal tokens.now) }
+{
+    let [t, rest @ ..] = tokens else {
+        return Err(refused(tokens));
+    };
+    match &t.kind {
+        TokenKind::Number(found) if found.is_decimal => Ok((
+            Priority {
+                place: t.start,
+                number: found.magnitude,
+            },
+            rest,
+        )),
+        _ => Err(refused(tokens)),
+    }
+}
+
+#[tactic(auto, unfolding(crate::specs::ConfigurationReading::single_at))]
+fn single(alloc: Global, tokens: &[Token]) -> Result<(Identifier, &[Token]), ReadError>
+    ensures { Gives (λ x. (x.0, x.1.now)) result (reading.single_at tokens.now) }
+{
+    let (_, rest) = keyword(Keyword::Single, tokens)?;
+    let (_, rest) = mark(Mark::Assign, rest)?;
+    let (found, rest) = name(alloc, rest)?;
+    let (_, rest) = mark(Mark::Comma, rest)?;
+    Ok((found, rest))
+}
+
+#[tactic(auto, unfolding(crate::specs::Reading::optional))]
+fn single_or_not(
+    alloc: Global,
+    tokens: &[Token],
+) -> Result<(Option<Identifier>, &[Token]), ReadError>
+    ensures { Gives (λ x. (x.0, x.1.now)) result (optional (is_keyword keywords.Single) reading.single_at tokens.now) }
+{
+    if !leads(Keyword::Single, tokens) {
+        return Ok((None, tokens));
+    }
+    let (found, rest) = single(alloc, tokens)?;
+    Ok((Some(found), rest))
+}
+
+#[tactic(auto, unfolding(crate::specs::ConfigurationReading::interval_at))]
+fn interval(tokens: &[Token]) -> Result<(u64, &[Token]), ReadError>
+    ensures { Gives (λ x. (x.0, x.1.now)) result (reading.interval_at tokens.now) }
+{
+    let (_, rest) = keyword(Keyword::Interval, tokens)?;
+    let (_, rest) = mark(Mark::Assign, rest)?;
+    let (found, rest) = duration(rest)?;
+    let (_, rest) = mark(Mark::Comma, rest)?;
+    Ok((found, rest))
+}
+
+#[tactic(auto, unfolding(crate::specs::Reading::optional))]
+fn interval_or_not(tokens: &[Token]) -> Result<(Option<u64>, &[Token]), ReadError>
+    ensures { Gives (λ x. (x.0, x.1.now)) result (optional (is_keyword keywords.Interval) reading.interval_at tokens.now) }
+{
+    if !leads(Keyword::Interval, tokens) {
+        return Ok((None, tokens));
+    }
+    let (found, rest) = interval(tokens)?;
+    Ok((Some(found), rest))
+}
+
+/// A task, with its semicolon.
+#[tactic(auto, unfolding(crate::specs::ConfigurationReading::task_at))]
+fn task(alloc: Global, tokens: &[Token]) -> Result<(Task, &[Token]), ReadError>
+    ensures { Gives (λ x. (x.0, x.1.now)) result (reading.task_at tokens.now) }
+{
+    let (_, rest) = keyword(Keyword::Task, tokens)?;
+    let (name, rest) = name(alloc, rest)?;
+    let (_, rest) = mark(Mark::Open, rest)?;
+    let (single, rest) = single_or_not(alloc, rest)?;
+    let (interval, rest) = interval_or_not(rest)?;
+    let (_, rest) = keyword(Keyword::Priority, rest)?;
+    let (_, rest) = mark(Mark::Assign, rest)?;
+    let (priority, rest) = decimal(rest)?;
+    let (_, rest) = mark(Mark::Close, rest)?;
+    let (_, rest) = mark(Mark::Semicolon, rest)?;
+    let task = Task {
+        name,
+        single,
+        interval,
+        priority,
+    };
+    Ok((task, rest))
+}
+
+#[tactic(auto, unfolding(crate::specs::Reading::many))]
+fn tasks(alloc: Global, tokens: &[Token]) -> Result<(Vec<Task>, &[Token]), ReadError>
+    ensures { Gives (λ x. (x.0.items, x.1.now)) result (many (is_keyword keywords.Task) reading.task_at tokens.now) }
+{
+    several(
+        Vec::new(alloc),
+        tokens,
+        |tokens| leads(Keyword::Task, tokens),
+        |tokens| task(alloc, tokens),
+    )
+}
+
+#[tactic(auto, unfolding(crate::specs::ConfigurationReading::with_at))]
+fn with(alloc: Global, tokens: &[Token]) -> Result<(Identifier, &[Token]), ReadError>
+    ensures { Gives (λ x. (x.0, x.1.now)) result (reading.with_at tokens.now) }
+{
+    let (_, rest) = keyword(Keyword::With, tokens)?;
+    let (found, rest) = name(alloc, rest)?;
+    Ok((found, rest))
+}
+
+#[tactic(auto, unfolding(crate::specs::Reading::optional))]
+fn with_or_not(alloc: Global, tokens: &[Token]) -> Result<(Option<Identifier>, &[Token]), ReadError>
+    ensures { Gives (λ x. (x.0, x.1.now)) result (optional (is_keyword keywords.With) reading.with_at tokens.now) }
+{
+    if !leads(Keyword::With, tokens) {
+        return Ok((None, tokens));
+    }
+    let (found, rest) = with(alloc, tokens)?;
+    Ok((Some(found), rest))
+}
+
+/// An instance of a program, with its semicolon.
+#[tactic(auto, unfolding(crate::specs::ConfigurationReading::instance_at))]
+fn instance(alloc: Global, tokens: &[Token]) -> Result<(Instance, &[Token]), ReadError>
+    ensures { Gives (λ x. (x.0, x.1.now)) result (reading.instance_at tokens.now) }
+{
+    let (_, rest) = keyword(Keyword::Program, tokens)?;
+    let (instance, rest) = name(alloc, rest)?;
+    let (task, rest) = with_or_not(alloc, rest)?;
+    let (_, rest) = mark(Mark::Colon, rest)?;
+    let (program, rest) = name(alloc, rest)?;
+    let (_, rest) = mark(Mark::Semicolon, rest)?;
+    let instance = Instance {
+        name: instance,
+        task,
+        program,
+    };
+    Ok((instance, rest))
+}
+
+#[tactic(auto, unfolding(crate::specs::Reading::at_least_one))]
+fn instances(alloc: Global, tokens: &[Token]) -> Result<(Vec<Instance>, &[Token]), ReadError>
+    ensures { Gives (λ x. (x.0.items, x.1.now)) result (at_least_one (is_keyword keywords.Program) reading.instance_at tokens.now) }
+{
+    let (first, rest) = instance(alloc, tokens)?;
+    let mut found = Vec::new(alloc);
+    found.push(first)?;
+    several(
+        found,
+        rest,
+        |tokens| leads(Keyword::Program, tokens),
+        |tokens| instance(alloc, tokens),
+    )
+}
+
+/// A resource, from RESOURCE to END_RESOURCE.
+#[tactic(auto, unfolding(crate::specs::ConfigurationReading::resource_at))]
+pub fn resource(alloc: Global, tokens: &[Token]) -> Result<(Resource, &[Token]), ReadError>
+    ensures { Gives (λ x. (resource_view x.0, x.1.now)) result (reading.resource_at tokens.now) }
+{
+    let (_, rest) = keyword(Keyword::Resource, tokens)?;
+    let (resource, rest) = name(alloc, rest)?;
+    let (_, rest) = keyword(Keyword::On, rest)?;
+    let (processor, rest) = name(alloc, rest)?;
+    let (tasks, rest) = tasks(alloc, rest)?;
+    let (instances, rest) = instances(alloc, rest)?;
+    let (_, rest) = keyword(Keyword::EndResource, rest)?;
+    let resource = Resource {
+        name: resource,
+        processor,
+        tasks,
+        instances,
+    };
+    Ok((resource, rest))
+}

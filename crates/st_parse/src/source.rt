@@ -1,0 +1,92 @@
+//! Whole texts.
+
+ghost use Rattle.std.specs.Prelude.{◌≡◌, [], map};
+ghost use Rattle.st_trees.specs.SourceViews.{element_view, source_view};
+ghost use Rattle.st_statements.specs.Parsers.{Gives};
+ghost use Rattle.st_parse.specs.SourceReading as reading;
+
+use crate::configuration::configuration;
+use crate::data_type::types;
+use crate::list::several;
+use crate::unit::{function, function_block, program};
+use st_lex::{Keyword, Token, TokenKind};
+use st_statements::{ReadError, refused};
+use st_trees::{LibraryElement, Source};
+use std::alloc::Global;
+
+/// A part of a text, and the tokens after it.
+type Found<'a> = Result<(LibraryElement, &'a [Token]), ReadError>;
+
+#[tactic(auto, unfolding(crate::specs::SourceReading::types_element_at))]
+fn types_element(alloc: Global, tokens: &[Token]) -> Found<'_>
+    ensures { Gives (λ x. (element_view x.0, x.1.now)) result (reading.types_element_at 64 tokens.now) }
+{
+    let (found, rest) = types(alloc, tokens)?;
+    Ok((LibraryElement::Types(found), rest))
+}
+
+#[tactic(auto, unfolding(crate::specs::SourceReading::function_element_at))]
+fn function_element(alloc: Global, tokens: &[Token]) -> Found<'_>
+    ensures { Gives (λ x. (element_view x.0, x.1.now)) result (reading.function_element_at 64 tokens.now) }
+{
+    let (found, rest) = function(alloc, tokens)?;
+    Ok((LibraryElement::Unit(found), rest))
+}
+
+#[tactic(auto, unfolding(crate::specs::SourceReading::block_element_at))]
+fn block_element(alloc: Global, tokens: &[Token]) -> Found<'_>
+    ensures { Gives (λ x. (element_view x.0, x.1.now)) result (reading.block_element_at 64 tokens.now) }
+{
+    let (found, rest) = function_block(alloc, tokens)?;
+    Ok((LibraryElement::Unit(found), rest))
+}
+
+#[tactic(auto, unfolding(crate::specs::SourceReading::program_element_at))]
+fn program_element(alloc: Global, tokens: &[Token]) -> Found<'_>
+    ensures { Gives (λ x. (element_view x.0, x.1.now)) result (reading.program_element_at 64 tokens.now) }
+{
+    let (found, rest) = program(alloc, tokens)?;
+    Ok((LibraryElement::Unit(found), rest))
+}
+
+#[tactic(auto, unfolding(crate::specs::SourceReading::configuration_element_at))]
+fn configuration_element(alloc: Global, tokens: &[Token]) -> Found<'_>
+    ensures { Gives (λ x. (element_view x.0, x.1.now)) result (reading.configuration_element_at 64 tokens.now) }
+{
+    let (found, rest) = configuration(alloc, tokens)?;
+    Ok((LibraryElement::Configuration(found), rest))
+}
+
+/// Types, a unit or a configuration.
+#[tactic(auto, unfolding(crate::specs::SourceReading::element_at))]
+fn element(alloc: Global, tokens: &[Token]) -> Found<'_>
+    ensures { Gives (λ x. (element_view x.0, x.1.now)) result (reading.element_at 64 tokens.now) }
+{
+    let [t, ..] = tokens else {
+        return Err(refused(tokens));
+    };
+    match &t.kind {
+        TokenKind::Keyword(Keyword::Type) => types_element(alloc, tokens),
+        TokenKind::Keyword(Keyword::Function) => function_element(alloc, tokens),
+        TokenKind::Keyword(Keyword::FunctionBlock) => block_element(alloc, tokens),
+        TokenKind::Keyword(Keyword::Program) => program_element(alloc, tokens),
+        TokenKind::Keyword(Keyword::Configuration) => configuration_element(alloc, tokens),
+        _ => Err(refused(tokens)),
+    }
+}
+
+/// All elements up to the last token.
+#[tactic(auto, unfolding(crate::specs::SourceReading::source_at, crate::specs::Reading::many))]
+pub fn elements(
+    alloc: Global,
+    tokens: &[Token],
+) -> Result<(Vec<LibraryElement>, &[Token]), ReadError>
+    ensures { Gives (λ x. (map element_view x.0.items, x.1.now)) result (reading.source_at 64 tokens.now) }
+{
+    several(
+        Vec::new(alloc),
+        tokens,
+        |tokens| !tokens.is_empty(),
+        |tokens| element(alloc, tokens),
+    )
+}

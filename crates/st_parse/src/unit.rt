@@ -1,0 +1,89 @@
+//! Functions, function blocks and programs.
+
+ghost use Rattle.std.specs.Prelude.{◌≡◌};
+ghost use Rattle.st_trees.specs.UnitViews.{unit_view};
+ghost use Rattle.st_statements.specs.Parsers.{Gives, one};
+ghost use Rattle.st_parse.specs.Units as specs;
+ghost use Rattle.st_parse.specs.UnitReading as reading;
+
+use crate::block::{function_blocks, program_blocks, variable_blocks};
+use st_lex::{Keyword, Mark, Token, TokenKind};
+use st_statements::{ReadError, keyword, mark, name, read_statements, refused};
+use st_trees::{Unit, UnitSort};
+use st_words::Kind;
+use std::alloc::Global;
+
+/// A unit, and the tokens after it.
+type Found<'a> = Result<(Unit, &'a [Token]), ReadError>;
+
+/// An elementary type, at its place.
+fn elementary(tokens: &[Token]) -> Result<((Kind, usize), &[Token]), ReadError>
+    ensures { Gives (λ x. ((x.0.0, x.0.1), x.1.now)) result (one specs.elementary tokens.now) }
+{
+    let [t, rest @ ..] = tokens else {
+        return Err(refused(tokens));
+    };
+    match &t.kind {
+        TokenKind::Elementary(kind) => Ok(((*kind, t.start), rest)),
+        _ => Err(refused(tokens)),
+    }
+}
+
+/// A function.
+#[tactic(auto, unfolding(crate::specs::UnitReading::function_at))]
+pub fn function(alloc: Global, tokens: &[Token]) -> Found<'_>
+    ensures { Gives (λ x. (unit_view x.0, x.1.now)) result (reading.function_at 64 tokens.now) }
+{
+    let (_, rest) = keyword(Keyword::Function, tokens)?;
+    let (name, rest) = name(alloc, rest)?;
+    let (_, rest) = mark(Mark::Colon, rest)?;
+    let ((kind, place), rest) = elementary(rest)?;
+    let (blocks, rest) = function_blocks(alloc, rest)?;
+    let (body, rest) = read_statements(alloc, rest)?;
+    let (_, rest) = keyword(Keyword::EndFunction, rest)?;
+    let unit = Unit {
+        sort: UnitSort::Function(kind, place),
+        name,
+        blocks,
+        body,
+    };
+    Ok((unit, rest))
+}
+
+/// A function block.
+#[tactic(auto, unfolding(crate::specs::UnitReading::function_block_unit_at))]
+pub fn function_block(alloc: Global, tokens: &[Token]) -> Found<'_>
+    ensures { Gives (λ x. (unit_view x.0, x.1.now)) result (reading.function_block_unit_at 64 tokens.now) }
+{
+    let (_, rest) = keyword(Keyword::FunctionBlock, tokens)?;
+    let (name, rest) = name(alloc, rest)?;
+    let (blocks, rest) = variable_blocks(alloc, rest)?;
+    let (body, rest) = read_statements(alloc, rest)?;
+    let (_, rest) = keyword(Keyword::EndFunctionBlock, rest)?;
+    let unit = Unit {
+        sort: UnitSort::FunctionBlock,
+        name,
+        blocks,
+        body,
+    };
+    Ok((unit, rest))
+}
+
+/// A program.
+#[tactic(auto, unfolding(crate::specs::UnitReading::program_at))]
+pub fn program(alloc: Global, tokens: &[Token]) -> Found<'_>
+    ensures { Gives (λ x. (unit_view x.0, x.1.now)) result (reading.program_at 64 tokens.now) }
+{
+    let (_, rest) = keyword(Keyword::Program, tokens)?;
+    let (name, rest) = name(alloc, rest)?;
+    let (blocks, rest) = program_blocks(alloc, rest)?;
+    let (body, rest) = read_statements(alloc, rest)?;
+    let (_, rest) = keyword(Keyword::EndProgram, rest)?;
+    let unit = Unit {
+        sort: UnitSort::Program,
+        name,
+        blocks,
+        body,
+    };
+    Ok((unit, rest))
+}

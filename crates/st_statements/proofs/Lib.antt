@@ -1,0 +1,16 @@
+pub mod Turns
+pub mod Told
+pub mod ToldTurns
+pub mod Readings
+pub mod Lists
+pub mod ExpressionFacts
+pub mod ToldExpressions
+pub mod ToldInitials
+pub mod StatementFacts
+pub mod ToldStatements
+pub mod Again
+pub mod AgainExpressions
+pub mod AgainInitials
+pub mod AgainStatements
+pub mod Answered
+pub mod Wholes

@@ -1,0 +1,12 @@
+pub mod Tokens
+pub mod Operators
+pub mod Parsers
+pub mod Laws
+pub mod Places
+pub mod Expressions
+pub mod ExpressionReading
+pub mod Initials
+pub mod InitialReading
+pub mod Statements
+pub mod StatementReading
+pub mod Limits

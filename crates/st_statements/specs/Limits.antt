@@ -1,0 +1,33 @@
+-- How deep a tree of a text may be, and behind what an expression and statements end.
+use Rattle.std.specs.Prelude.{◌≡◌, ◌≤◌, false, List, ℕ}
+use Rattle.st_words.specs.declared.literal.Number.{Number}
+use Rattle.st_trees.specs.Expressions.{Expr}
+use Rattle.st_trees.specs.Initials.{Initial}
+use Rattle.st_trees.specs.Statements.{Stmt, stmts_of}
+use Rattle.st_trees.specs.Depths.{depth_of, depth_of_initial, deepest_stmt}
+use Rattle.st_statements.specs.Tokens.{Tokens, next}
+use Rattle.st_statements.specs.ExpressionReading.{continues}
+use Rattle.st_statements.specs.StatementReading.{starts_stmt}
+
+abbrev pub limit : ℕ
+limit = 64
+
+abbrev pub IsShallow : Expr → Type 0
+IsShallow x = depth_of x ≤ limit
+
+abbrev pub IsShallowInitial : Initial → Type 0
+IsShallowInitial x = depth_of_initial x ≤ limit
+
+abbrev pub AreShallow : List Stmt → Type 0
+AreShallow xs = deepest_stmt (stmts_of xs) ≤ limit
+
+abbrev pub HasDepthOne : Number → Type 0
+HasDepthOne n = Unit {0}
+
+-- before a token that can't go on an expression: an operator, `(`, `[` or `.`
+abbrev pub EndsExpression : Tokens → Type 0
+EndsExpression us = next continues us ≡ false
+
+-- before a token that begins no statement
+abbrev pub EndsStatements : Tokens → Type 0
+EndsStatements us = next starts_stmt us ≡ false

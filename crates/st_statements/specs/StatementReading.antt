@@ -1,0 +1,208 @@
+-- Reading statements.
+use Rattle.std.specs.Prelude.{ℕ, zero, suc, ◌-◌, Bool, true, false, ◌||◌, List, [], ◌∷◌, Option, Some, None}
+use Rattle.st_words.specs.declared.identifier.Identifier.{Identifier}
+use Rattle.st_words.specs.declared.literal.Number.{Number as NumberLeaf}
+use Rattle.st_lex.specs.declared.token.TokenKind.{TokenKind}
+use Rattle.st_lex.specs.declared.token.TokenKind.TheVariants.{Name, Mark, Keyword}
+use Rattle.st_lex.specs.declared.mark.Mark.TheVariants as m
+use Rattle.st_lex.specs.declared.keyword.Keyword.TheVariants as w
+use Rattle.st_trees.specs.declared.statement.Label.{Label}
+use Rattle.st_trees.specs.declared.statement.Label.TheVariants as labels
+use Rattle.st_trees.specs.Expressions.{Expr}
+use Rattle.st_trees.specs.Statements.{Argument, Stmt, Arm, CaseArm, stmts_of, arms_of, case_arms_of}
+use Rattle.st_trees.specs.Statements as s
+use Rattle.st_statements.specs.Tokens.{is_mark, is_keyword, is_number, mark, keyword, name}
+use Rattle.st_statements.specs.Parsers.{Parser, ◌>>=◌, ◌>>◌, pure, refuse, one, by_kind, if_next, too_deep, several, listed, number_at}
+use Rattle.st_statements.specs.ExpressionReading.{expr_at, variable_at, variable_of}
+
+abbrev pub starts_number : TokenKind → Bool
+starts_number k = is_number k || is_mark m.Minus k
+
+abbrev pub starts_stmt : TokenKind → Bool
+starts_stmt (Name x) = true
+starts_stmt (Mark m.Semicolon) = true
+starts_stmt (Keyword w.If) = true
+starts_stmt (Keyword w.Case) = true
+starts_stmt (Keyword w.For) = true
+starts_stmt (Keyword w.While) = true
+starts_stmt (Keyword w.Repeat) = true
+starts_stmt (Keyword w.Exit) = true
+starts_stmt (Keyword w.Return) = true
+starts_stmt k = false
+
+unfoldable pub range_of : NumberLeaf → Parser Label
+range_of least = do
+  one (mark m.Range)
+  greatest ← number_at
+  pure (labels.Range least greatest)
+
+unfoldable pub label_at : Parser Label
+label_at = do
+  n ← number_at
+  if_next (is_mark m.Range) (range_of n) (pure (labels.Single n))
+
+unfoldable pub exit_at : Parser Stmt
+exit_at = do
+  at ← one (keyword w.Exit)
+  pure (s.EXIT at)
+
+unfoldable pub return_at : Parser Stmt
+return_at = do
+  one (keyword w.Return)
+  pure s.RETURN
+
+-- expressions one level down
+module _ (below : ℕ) where
+  unfoldable pub assign_of : Identifier → Parser Stmt
+  assign_of x = do
+    v ← variable_of (expr_at (below - 1)) x
+    one (mark m.Assign)
+    value ← expr_at below 1
+    pure (s.assign v value)
+
+  unfoldable pub given_of : Identifier → Parser Argument
+  given_of x = do
+    one (mark m.Assign)
+    v ← expr_at below 1
+    pure (s.given x v)
+
+  unfoldable pub copied_of : Identifier → Parser Argument
+  copied_of x = do
+    one (mark m.Arrow)
+    v ← variable_at below
+    pure (s.copied x v)
+
+  unfoldable pub argument_at : Parser Argument
+  argument_at = do
+    x ← one name
+    if_next (is_mark m.Assign) (given_of x) (copied_of x)
+
+  unfoldable pub arguments_at : Parser (List Argument)
+  arguments_at = if_next (is_mark m.Close) (pure []) (listed argument_at)
+
+  unfoldable pub invoke_of : Identifier → Parser Stmt
+  invoke_of f = do
+    one (mark m.Open)
+    xs ← arguments_at
+    one (mark m.Close)
+    pure (s.invoke f xs)
+
+  unfoldable pub named_at : Parser Stmt
+  named_at = do
+    x ← one name
+    if_next (is_mark m.Open) (invoke_of x) (assign_of x)
+
+  unfoldable pub by_at : Parser (Option Expr)
+  by_at = do
+    one (keyword w.By)
+    x ← expr_at below 1
+    pure (Some x)
+
+  unfoldable pub step_at : Parser (Option Expr)
+  step_at = if_next (is_keyword w.By) by_at (pure None)
+
+  -- statements one level down
+  module _ (stmts : Parser (List Stmt)) where
+    unfoldable pub arm_at : Parser Arm
+    arm_at = do
+      condition ← expr_at below 1
+      one (keyword w.Then)
+      body ← stmts
+      pure (condition, stmts_of body)
+
+    unfoldable pub elsif_at : Parser Arm
+    elsif_at = one (keyword w.Elsif) >> arm_at
+
+    unfoldable pub otherwise_at : Parser (List Stmt)
+    otherwise_at = one (keyword w.Else) >> stmts
+
+    unfoldable pub else_at : Parser (List Stmt)
+    else_at = if_next (is_keyword w.Else) otherwise_at (pure [])
+
+    unfoldable pub if_at : Parser Stmt
+    if_at = do
+      one (keyword w.If)
+      arm ← arm_at
+      arms ← several (is_keyword w.Elsif) elsif_at (arm ∷ [])
+      other ← else_at
+      one (keyword w.EndIf)
+      pure (s.IF (arms_of arms) (stmts_of other))
+
+    unfoldable pub case_arm_at : Parser CaseArm
+    case_arm_at = do
+      ls ← listed label_at
+      one (mark m.Colon)
+      body ← stmts
+      pure (ls, stmts_of body)
+
+    unfoldable pub case_at : Parser Stmt
+    case_at = do
+      one (keyword w.Case)
+      selector ← expr_at below 1
+      one (keyword w.Of)
+      arms ← several starts_number case_arm_at []
+      other ← else_at
+      one (keyword w.EndCase)
+      pure (s.CASE selector (case_arms_of arms) (stmts_of other))
+
+    unfoldable pub for_at : Parser Stmt
+    for_at = do
+      one (keyword w.For)
+      control ← one name
+      one (mark m.Assign)
+      start ← expr_at below 1
+      one (keyword w.To)
+      limit ← expr_at below 1
+      step ← step_at
+      one (keyword w.Do)
+      body ← stmts
+      one (keyword w.EndFor)
+      pure (s.FOR control start limit step (stmts_of body))
+
+    unfoldable pub while_at : Parser Stmt
+    while_at = do
+      one (keyword w.While)
+      condition ← expr_at below 1
+      one (keyword w.Do)
+      body ← stmts
+      one (keyword w.EndWhile)
+      pure (s.WHILE condition (stmts_of body))
+
+    unfoldable pub repeat_at : Parser Stmt
+    repeat_at = do
+      one (keyword w.Repeat)
+      body ← stmts
+      one (keyword w.Until)
+      condition ← expr_at below 1
+      one (keyword w.EndRepeat)
+      pure (s.REPEAT (stmts_of body) condition)
+
+    abbrev pub stmt_by : TokenKind → Parser Stmt
+    stmt_by (Name x) = named_at
+    stmt_by (Mark m.Semicolon) = pure s.empty
+    stmt_by (Keyword w.If) = if_at
+    stmt_by (Keyword w.Case) = case_at
+    stmt_by (Keyword w.For) = for_at
+    stmt_by (Keyword w.While) = while_at
+    stmt_by (Keyword w.Repeat) = repeat_at
+    stmt_by (Keyword w.Exit) = exit_at
+    stmt_by (Keyword w.Return) = return_at
+    stmt_by k = refuse
+
+    unfoldable pub stmt_at : Parser Stmt
+    stmt_at = by_kind stmt_by
+
+unfoldable pub lines : Parser Stmt → Parser (List Stmt)
+lines line = several starts_stmt line []
+
+-- a statement of at most a depth, with its semicolon
+unfoldable pub line_at : ℕ → Parser Stmt
+line_at zero = too_deep starts_stmt
+line_at (suc below) = do
+  x ← stmt_at below (lines (line_at below))
+  one (mark m.Semicolon)
+  pure x
+
+-- statements of at most a depth
+abbrev pub stmts_at : ℕ → Parser (List Stmt)
+stmts_at depth = lines (line_at depth)

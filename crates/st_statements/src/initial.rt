@@ -1,0 +1,225 @@
+//! Initial values.
+
+ghost use Rattle.std.specs.Prelude.{◌≡◌, ◌≤◌, ◌<◌, map};
+ghost use Rattle.st_lex.specs.declared.mark.Mark.TheVariants as marks;
+ghost use Rattle.st_trees.specs.InitialViews.{initial_view, element_view, member_view};
+ghost use Rattle.st_statements.specs.Tokens.{next, is_mark};
+ghost use Rattle.st_statements.specs.Parsers as parsers;
+ghost use Rattle.st_statements.specs.Parsers.{Gives, several};
+ghost use Rattle.st_statements.specs.ExpressionReading.{starts_literal};
+ghost use Rattle.st_statements.specs.InitialReading as reading;
+
+use crate::fault::ReadError;
+use crate::next::{begins, begins_number, is_mark, sunk};
+use crate::sign::negative_number;
+use crate::terminal::{literal, mark, name, whole};
+use st_lex::{Mark, Token, TokenKind};
+use st_trees::{Initial, InitialElement, InitialMember};
+use st_words::{Literal, Number};
+use std::alloc::Global;
+
+/// An initial value and the tokens after it.
+type Found<'a> = Result<(Initial, &'a [Token]), ReadError>;
+
+/// An element of an array's initial value and the tokens after it.
+type FoundElement<'a> = Result<(InitialElement, &'a [Token]), ReadError>;
+
+/// A field with its initial value and the tokens after it.
+type FoundMember<'a> = Result<(InitialMember, &'a [Token]), ReadError>;
+
+fn starts_literal(kind: &TokenKind) -> bool
+    ensures { result ≡ starts_literal kind.now }
+{
+    match kind {
+        TokenKind::Number(_) | TokenKind::Truth(_) | TokenKind::Duration(_) => true,
+        _ => false,
+    }
+}
+
+fn starts_initial(tokens: &[Token]) -> bool
+    ensures { result ≡ next reading.starts_initial tokens.now }
+{
+    match tokens {
+        [t, ..] => {
+            is_mark(Mark::OpenBracket, &t.kind)
+                || is_mark(Mark::Open, &t.kind)
+                || is_mark(Mark::Minus, &t.kind)
+                || starts_literal(&t.kind)
+        }
+        [] => false,
+    }
+}
+
+#[cycle(initial)]
+#[tactic(auto, unfolding(crate::specs::InitialReading::member_at))]
+fn member(alloc: Global, depth: usize, tokens: &[Token]) -> FoundMember<'_>
+    requires { depth ≤ 64 }
+    ensures { Gives (λ x. (member_view x.0, x.1.now)) result (reading.member_at (reading.initial_at depth) tokens.now) }
+{
+    let (name, rest) = name(alloc, tokens)?;
+    let (_, rest) = mark(Mark::Assign, rest)?;
+    let (value, rest) = initial(alloc, depth, rest)?;
+    Ok((InitialMember { name, value }, rest))
+}
+
+#[cycle(initial)]
+#[tactic(auto, unfolding(crate::specs::Parsers::after_comma))]
+fn next_member(alloc: Global, depth: usize, tokens: &[Token]) -> FoundMember<'_>
+    requires { depth ≤ 64 }
+    ensures { Gives (λ x. (member_view x.0, x.1.now)) result (parsers.after_comma (reading.member_at (reading.initial_at depth)) tokens.now) }
+{
+    let (_, rest) = mark(Mark::Comma, tokens)?;
+    member(alloc, depth, rest)
+}
+
+#[cycle(initial)]
+fn more_members<'a>(
+    alloc: Global,
+    depth: usize,
+    mut found: Vec<InitialMember>,
+    mut tokens: &'a [Token],
+) -> Result<(Vec<InitialMember>, &'a [Token]), ReadError>
+    requires { depth ≤ 64 }
+    ensures { Gives (λ x. (map member_view x.0.items, x.1.now)) result (several (is_mark marks.Comma) (parsers.after_comma (reading.member_at (reading.initial_at depth))) (map member_view found.items) tokens.entry.now) }
+{
+    for _turn in 0..tokens.len() {
+        if !begins(Mark::Comma, tokens) {
+            return Ok((found, tokens));
+        }
+        let (next, rest) = next_member(alloc, depth, tokens)?;
+        found.push(next)?;
+        tokens = rest;
+    }
+    Ok((found, tokens))
+}
+
+#[cycle(initial)]
+#[tactic(auto, unfolding(crate::specs::InitialReading::structure_at, crate::specs::Parsers::listed))]
+fn structure(alloc: Global, below: usize, tokens: &[Token]) -> Found<'_>
+    requires { below < 64 }
+    ensures { Gives (λ x. (initial_view x.0, x.1.now)) result (reading.structure_at (reading.initial_at below) tokens.now) }
+{
+    let (place, rest) = mark(Mark::Open, tokens)?;
+    let (first, rest) = member(alloc, below, rest)?;
+    let mut found = Vec::new(alloc);
+    found.push(first)?;
+    let (members, rest) = more_members(alloc, below, found, rest)?;
+    let (_, rest) = mark(Mark::Close, rest)?;
+    Ok((Initial::structure(place, members), rest))
+}
+
+#[cycle(initial)]
+#[tactic(auto, unfolding(crate::specs::InitialReading::repetition_of, crate::specs::InitialReading::defaults_of, crate::specs::InitialReading::repeated_of))]
+fn repetition_of(alloc: Global, depth: usize, count: Number, tokens: &[Token]) -> FoundElement<'_>
+    requires { depth ≤ 64 }
+    ensures { Gives (λ x. (element_view x.0, x.1.now)) result (reading.repetition_of (reading.initial_at depth) count tokens.now) }
+{
+    let (_, rest) = mark(Mark::Open, tokens)?;
+    if begins(Mark::Close, rest) {
+        let (_, rest) = mark(Mark::Close, rest)?;
+        return Ok((InitialElement::defaults(count), rest));
+    }
+    let (value, rest) = initial(alloc, depth, rest)?;
+    let (_, rest) = mark(Mark::Close, rest)?;
+    Ok((InitialElement::repeated(count, value), rest))
+}
+
+#[cycle(initial)]
+#[tactic(auto, unfolding(crate::specs::InitialReading::counted_at))]
+fn counted(alloc: Global, depth: usize, tokens: &[Token]) -> FoundElement<'_>
+    requires { depth ≤ 64 }
+    ensures { Gives (λ x. (element_view x.0, x.1.now)) result (reading.counted_at (reading.initial_at depth) tokens.now) }
+{
+    let (number, rest) = whole(tokens)?;
+    if begins(Mark::Open, rest) {
+        return repetition_of(alloc, depth, number, rest);
+    }
+    let constant = Initial::constant(Literal::Number(number));
+    Ok((InitialElement::single(constant), rest))
+}
+
+#[cycle(initial)]
+#[tactic(auto, unfolding(crate::specs::InitialReading::element_at, crate::specs::InitialReading::single_at))]
+fn element(alloc: Global, depth: usize, tokens: &[Token]) -> FoundElement<'_>
+    requires { depth ≤ 64 }
+    ensures { Gives (λ x. (element_view x.0, x.1.now)) result (reading.element_at (reading.initial_at depth) depth tokens.now) }
+{
+    if depth == 0 {
+        return Err(sunk(starts_initial(tokens), tokens));
+    }
+    if begins_number(tokens) {
+        return counted(alloc, depth, tokens);
+    }
+    let (value, rest) = initial(alloc, depth, tokens)?;
+    Ok((InitialElement::single(value), rest))
+}
+
+#[cycle(initial)]
+#[tactic(auto, unfolding(crate::specs::Parsers::after_comma))]
+fn next_element(alloc: Global, depth: usize, tokens: &[Token]) -> FoundElement<'_>
+    requires { depth ≤ 64 }
+    ensures { Gives (λ x. (element_view x.0, x.1.now)) result (parsers.after_comma (reading.element_at (reading.initial_at depth) depth) tokens.now) }
+{
+    let (_, rest) = mark(Mark::Comma, tokens)?;
+    element(alloc, depth, rest)
+}
+
+#[cycle(initial)]
+fn more_elements<'a>(
+    alloc: Global,
+    depth: usize,
+    mut found: Vec<InitialElement>,
+    mut tokens: &'a [Token],
+) -> Result<(Vec<InitialElement>, &'a [Token]), ReadError>
+    requires { depth ≤ 64 }
+    ensures { Gives (λ x. (map element_view x.0.items, x.1.now)) result (several (is_mark marks.Comma) (parsers.after_comma (reading.element_at (reading.initial_at depth) depth)) (map element_view found.items) tokens.entry.now) }
+{
+    for _turn in 0..tokens.len() {
+        if !begins(Mark::Comma, tokens) {
+            return Ok((found, tokens));
+        }
+        let (next, rest) = next_element(alloc, depth, tokens)?;
+        found.push(next)?;
+        tokens = rest;
+    }
+    Ok((found, tokens))
+}
+
+#[cycle(initial)]
+#[tactic(auto, unfolding(crate::specs::InitialReading::list_at, crate::specs::Parsers::listed))]
+fn list(alloc: Global, below: usize, tokens: &[Token]) -> Found<'_>
+    requires { below < 64 }
+    ensures { Gives (λ x. (initial_view x.0, x.1.now)) result (reading.list_at (reading.element_at (reading.initial_at below) below) tokens.now) }
+{
+    let (place, rest) = mark(Mark::OpenBracket, tokens)?;
+    let (first, rest) = element(alloc, below, rest)?;
+    let mut found = Vec::new(alloc);
+    found.push(first)?;
+    let (elements, rest) = more_elements(alloc, below, found, rest)?;
+    let (_, rest) = mark(Mark::CloseBracket, rest)?;
+    Ok((Initial::list(place, elements), rest))
+}
+
+/// An initial value of at most a depth.
+#[cycle(initial)]
+#[tactic(auto, unfolding(crate::specs::InitialReading::initial_at, crate::specs::InitialReading::negative_constant_at, crate::specs::InitialReading::literal_constant_at))]
+pub fn initial(alloc: Global, depth: usize, tokens: &[Token]) -> Found<'_>
+    requires { depth ≤ 64 }
+    ensures { Gives (λ x. (initial_view x.0, x.1.now)) result (reading.initial_at depth tokens.now) }
+{
+    if depth == 0 {
+        return Err(sunk(starts_initial(tokens), tokens));
+    }
+    if begins(Mark::OpenBracket, tokens) {
+        return list(alloc, depth - 1, tokens);
+    }
+    if begins(Mark::Open, tokens) {
+        return structure(alloc, depth - 1, tokens);
+    }
+    if begins(Mark::Minus, tokens) {
+        let (number, rest) = negative_number(tokens)?;
+        return Ok((Initial::constant(Literal::Number(number)), rest));
+    }
+    let (found, rest) = literal(tokens)?;
+    Ok((Initial::constant(found), rest))
+}

@@ -1,0 +1,21 @@
+//! Trees of expressions, initial values and statements from the tokens of a text.
+#![tactic(auto)]
+
+mod argument;
+mod expression;
+mod fault;
+mod initial;
+mod label;
+mod next;
+mod operator;
+mod place;
+mod reader;
+mod sign;
+mod statement;
+mod terminal;
+
+pub use fault::{ParseError, ReadError, Refusal};
+pub use next::{begins, begins_name, leads, refused};
+pub use place::parse_error;
+pub use reader::{read_expression, read_initial, read_number, read_statements};
+pub use terminal::{keyword, literal, mark, name, whole};

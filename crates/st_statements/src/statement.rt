@@ -1,0 +1,359 @@
+//! Statements.
+
+ghost use Rattle.std.specs.Prelude.{◌≡◌, ◌≤◌, ◌<◌, [], map, option_map};
+ghost use Rattle.st_lex.specs.declared.keyword.Keyword.TheVariants as words;
+ghost use Rattle.st_trees.specs.ExpressionViews.{expr_view};
+ghost use Rattle.st_trees.specs.StatementViews.{stmt_view, arm_view, case_arm_view};
+ghost use Rattle.st_statements.specs.Tokens.{next, is_keyword};
+ghost use Rattle.st_statements.specs.Parsers.{Gives, several};
+ghost use Rattle.st_statements.specs.StatementReading as reading;
+
+use crate::argument::arguments;
+use crate::expression::{expr, variable_of};
+use crate::fault::ReadError;
+use crate::label::labels;
+use crate::next::{begins, is_mark, leads, refused, sunk};
+use crate::terminal::{keyword, mark, name};
+use st_lex::{Keyword, Mark, Token, TokenKind};
+use st_trees::{Arm, CaseArm, Expr, Stmt};
+use st_words::Identifier;
+use std::alloc::Global;
+
+/// A statement and the tokens after it.
+type Found<'a> = Result<(Stmt, &'a [Token]), ReadError>;
+
+/// Statements and the tokens after them.
+type Block<'a> = Result<(Vec<Stmt>, &'a [Token]), ReadError>;
+
+/// A condition with its statements and the tokens after them.
+type FoundArm<'a> = Result<(Arm, &'a [Token]), ReadError>;
+
+/// Labels with their statements and the tokens after them.
+type FoundCaseArm<'a> = Result<(CaseArm, &'a [Token]), ReadError>;
+
+fn starts_number(tokens: &[Token]) -> bool
+    ensures { result ≡ next reading.starts_number tokens.now }
+{
+    match tokens {
+        [t, ..] => match &t.kind {
+            TokenKind::Number(_) => true,
+            _ => is_mark(Mark::Minus, &t.kind),
+        },
+        [] => false,
+    }
+}
+
+fn starts_stmt(tokens: &[Token]) -> bool
+    ensures { result ≡ next reading.starts_stmt tokens.now }
+{
+    match tokens {
+        [t, ..] => matches!(
+            &t.kind,
+            TokenKind::Name(_)
+                | TokenKind::Mark(Mark::Semicolon)
+                | TokenKind::Keyword(Keyword::If)
+                | TokenKind::Keyword(Keyword::Case)
+                | TokenKind::Keyword(Keyword::For)
+                | TokenKind::Keyword(Keyword::While)
+                | TokenKind::Keyword(Keyword::Repeat)
+                | TokenKind::Keyword(Keyword::Exit)
+                | TokenKind::Keyword(Keyword::Return)
+        ),
+        [] => false,
+    }
+}
+
+#[tactic(auto, unfolding(crate::specs::StatementReading::exit_at))]
+fn exit_stmt(tokens: &[Token]) -> Found<'_>
+    ensures { Gives (λ x. (stmt_view x.0, x.1.now)) result (reading.exit_at tokens.now) }
+{
+    let (place, rest) = keyword(Keyword::Exit, tokens)?;
+    Ok((Stmt::exit(place), rest))
+}
+
+#[tactic(auto, unfolding(crate::specs::StatementReading::return_at))]
+fn return_stmt(tokens: &[Token]) -> Found<'_>
+    ensures { Gives (λ x. (stmt_view x.0, x.1.now)) result (reading.return_at tokens.now) }
+{
+    let (_, rest) = keyword(Keyword::Return, tokens)?;
+    Ok((Stmt::leave(), rest))
+}
+
+#[tactic(auto, unfolding(crate::specs::StatementReading::assign_of))]
+fn assign_of<'a>(alloc: Global, below: usize, target: Identifier, tokens: &'a [Token]) -> Found<'a>
+    requires { below < 64 }
+    ensures { Gives (λ x. (stmt_view x.0, x.1.now)) result (reading.assign_of below target tokens.now) }
+{
+    let (variable, rest) = variable_of(alloc, below.saturating_sub(1), target, tokens)?;
+    let (_, rest) = mark(Mark::Assign, rest)?;
+    let (value, rest) = expr(alloc, below, 1, rest)?;
+    Ok((Stmt::assign(variable, value), rest))
+}
+
+#[tactic(auto, unfolding(crate::specs::StatementReading::invoke_of))]
+fn invoke_of<'a>(
+    alloc: Global,
+    below: usize,
+    instance: Identifier,
+    tokens: &'a [Token],
+) -> Found<'a>
+    requires { below < 64 }
+    ensures { Gives (λ x. (stmt_view x.0, x.1.now)) result (reading.invoke_of below instance tokens.now) }
+{
+    let (_, rest) = mark(Mark::Open, tokens)?;
+    let (found, rest) = arguments(alloc, below, rest)?;
+    let (_, rest) = mark(Mark::Close, rest)?;
+    Ok((Stmt::invoke(instance, found), rest))
+}
+
+#[tactic(auto, unfolding(crate::specs::StatementReading::named_at))]
+fn named(alloc: Global, below: usize, tokens: &[Token]) -> Found<'_>
+    requires { below < 64 }
+    ensures { Gives (λ x. (stmt_view x.0, x.1.now)) result (reading.named_at below tokens.now) }
+{
+    let (found, rest) = name(alloc, tokens)?;
+    if begins(Mark::Open, rest) {
+        return invoke_of(alloc, below, found, rest);
+    }
+    assign_of(alloc, below, found, rest)
+}
+
+#[tactic(auto, unfolding(crate::specs::StatementReading::step_at, crate::specs::StatementReading::by_at))]
+fn step(
+    alloc: Global,
+    below: usize,
+    tokens: &[Token],
+) -> Result<(Option<Expr>, &[Token]), ReadError>
+    requires { below < 64 }
+    ensures { Gives (λ x. (option_map expr_view x.0, x.1.now)) result (reading.step_at below tokens.now) }
+{
+    if leads(Keyword::By, tokens) {
+        let (_, rest) = keyword(Keyword::By, tokens)?;
+        let (step, rest) = expr(alloc, below, 1, rest)?;
+        return Ok((Some(step), rest));
+    }
+    Ok((None, tokens))
+}
+
+#[cycle(line)]
+#[tactic(auto, unfolding(crate::specs::StatementReading::arm_at))]
+fn arm(alloc: Global, below: usize, tokens: &[Token]) -> FoundArm<'_>
+    requires { below < 64 }
+    ensures { Gives (λ x. (arm_view x.0, x.1.now)) result (reading.arm_at below (reading.stmts_at below) tokens.now) }
+{
+    let (condition, rest) = expr(alloc, below, 1, tokens)?;
+    let (_, rest) = keyword(Keyword::Then, rest)?;
+    let (body, rest) = stmts(alloc, below, rest)?;
+    Ok((Arm { condition, body }, rest))
+}
+
+#[cycle(line)]
+#[tactic(auto, unfolding(crate::specs::StatementReading::elsif_at))]
+fn elsif(alloc: Global, below: usize, tokens: &[Token]) -> FoundArm<'_>
+    requires { below < 64 }
+    ensures { Gives (λ x. (arm_view x.0, x.1.now)) result (reading.elsif_at below (reading.stmts_at below) tokens.now) }
+{
+    let (_, rest) = keyword(Keyword::Elsif, tokens)?;
+    arm(alloc, below, rest)
+}
+
+#[cycle(line)]
+fn more_arms<'a>(
+    alloc: Global,
+    below: usize,
+    mut found: Vec<Arm>,
+    mut tokens: &'a [Token],
+) -> Result<(Vec<Arm>, &'a [Token]), ReadError>
+    requires { below < 64 }
+    ensures { Gives (λ x. (map arm_view x.0.items, x.1.now)) result (several (is_keyword words.Elsif) (reading.elsif_at below (reading.stmts_at below)) (map arm_view found.items) tokens.entry.now) }
+{
+    for _turn in 0..tokens.len() {
+        if !leads(Keyword::Elsif, tokens) {
+            return Ok((found, tokens));
+        }
+        let (next, rest) = elsif(alloc, below, tokens)?;
+        found.push(next)?;
+        tokens = rest;
+    }
+    Ok((found, tokens))
+}
+
+#[cycle(line)]
+#[tactic(auto, unfolding(crate::specs::StatementReading::else_at, crate::specs::StatementReading::otherwise_at))]
+fn else_part(alloc: Global, below: usize, tokens: &[Token]) -> Block<'_>
+    requires { below < 64 }
+    ensures { Gives (λ x. (map stmt_view x.0.items, x.1.now)) result (reading.else_at below (reading.stmts_at below) tokens.now) }
+{
+    if leads(Keyword::Else, tokens) {
+        let (_, rest) = keyword(Keyword::Else, tokens)?;
+        return stmts(alloc, below, rest);
+    }
+    Ok((Vec::new(alloc), tokens))
+}
+
+#[cycle(line)]
+#[tactic(auto, unfolding(crate::specs::StatementReading::if_at))]
+fn if_stmt(alloc: Global, below: usize, tokens: &[Token]) -> Found<'_>
+    requires { below < 64 }
+    ensures { Gives (λ x. (stmt_view x.0, x.1.now)) result (reading.if_at below (reading.stmts_at below) tokens.now) }
+{
+    let (_, rest) = keyword(Keyword::If, tokens)?;
+    let (first, rest) = arm(alloc, below, rest)?;
+    let mut found = Vec::new(alloc);
+    found.push(first)?;
+    let (arms, rest) = more_arms(alloc, below, found, rest)?;
+    let (other, rest) = else_part(alloc, below, rest)?;
+    let (_, rest) = keyword(Keyword::EndIf, rest)?;
+    Ok((Stmt::choose(arms, other), rest))
+}
+
+#[cycle(line)]
+#[tactic(auto, unfolding(crate::specs::StatementReading::case_arm_at))]
+fn case_arm(alloc: Global, below: usize, tokens: &[Token]) -> FoundCaseArm<'_>
+    requires { below < 64 }
+    ensures { Gives (λ x. (case_arm_view x.0, x.1.now)) result (reading.case_arm_at below (reading.stmts_at below) tokens.now) }
+{
+    let (labels, rest) = labels(alloc, tokens)?;
+    let (_, rest) = mark(Mark::Colon, rest)?;
+    let (body, rest) = stmts(alloc, below, rest)?;
+    Ok((CaseArm { labels, body }, rest))
+}
+
+#[cycle(line)]
+fn case_arms<'a>(
+    alloc: Global,
+    below: usize,
+    mut tokens: &'a [Token],
+) -> Result<(Vec<CaseArm>, &'a [Token]), ReadError>
+    requires { below < 64 }
+    ensures { Gives (λ x. (map case_arm_view x.0.items, x.1.now)) result (several reading.starts_number (reading.case_arm_at below (reading.stmts_at below)) [] tokens.entry.now) }
+{
+    let mut found = Vec::new(alloc);
+    for _turn in 0..tokens.len() {
+        if !starts_number(tokens) {
+            return Ok((found, tokens));
+        }
+        let (next, rest) = case_arm(alloc, below, tokens)?;
+        found.push(next)?;
+        tokens = rest;
+    }
+    Ok((found, tokens))
+}
+
+#[cycle(line)]
+#[tactic(auto, unfolding(crate::specs::StatementReading::case_at))]
+fn case_stmt(alloc: Global, below: usize, tokens: &[Token]) -> Found<'_>
+    requires { below < 64 }
+    ensures { Gives (λ x. (stmt_view x.0, x.1.now)) result (reading.case_at below (reading.stmts_at below) tokens.now) }
+{
+    let (_, rest) = keyword(Keyword::Case, tokens)?;
+    let (selector, rest) = expr(alloc, below, 1, rest)?;
+    let (_, rest) = keyword(Keyword::Of, rest)?;
+    let (arms, rest) = case_arms(alloc, below, rest)?;
+    let (other, rest) = else_part(alloc, below, rest)?;
+    let (_, rest) = keyword(Keyword::EndCase, rest)?;
+    Ok((Stmt::select(selector, arms, other), rest))
+}
+
+#[cycle(line)]
+#[tactic(auto, unfolding(crate::specs::StatementReading::for_at))]
+fn for_stmt(alloc: Global, below: usize, tokens: &[Token]) -> Found<'_>
+    requires { below < 64 }
+    ensures { Gives (λ x. (stmt_view x.0, x.1.now)) result (reading.for_at below (reading.stmts_at below) tokens.now) }
+{
+    let (_, rest) = keyword(Keyword::For, tokens)?;
+    let (control, rest) = name(alloc, rest)?;
+    let (_, rest) = mark(Mark::Assign, rest)?;
+    let (start, rest) = expr(alloc, below, 1, rest)?;
+    let (_, rest) = keyword(Keyword::To, rest)?;
+    let (limit, rest) = expr(alloc, below, 1, rest)?;
+    let (by, rest) = step(alloc, below, rest)?;
+    let (_, rest) = keyword(Keyword::Do, rest)?;
+    let (body, rest) = stmts(alloc, below, rest)?;
+    let (_, rest) = keyword(Keyword::EndFor, rest)?;
+    Ok((Stmt::count(control, start, limit, by, body), rest))
+}
+
+#[cycle(line)]
+#[tactic(auto, unfolding(crate::specs::StatementReading::while_at))]
+fn while_stmt(alloc: Global, below: usize, tokens: &[Token]) -> Found<'_>
+    requires { below < 64 }
+    ensures { Gives (λ x. (stmt_view x.0, x.1.now)) result (reading.while_at below (reading.stmts_at below) tokens.now) }
+{
+    let (_, rest) = keyword(Keyword::While, tokens)?;
+    let (condition, rest) = expr(alloc, below, 1, rest)?;
+    let (_, rest) = keyword(Keyword::Do, rest)?;
+    let (body, rest) = stmts(alloc, below, rest)?;
+    let (_, rest) = keyword(Keyword::EndWhile, rest)?;
+    Ok((Stmt::repeat_while(condition, body), rest))
+}
+
+#[cycle(line)]
+#[tactic(auto, unfolding(crate::specs::StatementReading::repeat_at))]
+fn repeat_stmt(alloc: Global, below: usize, tokens: &[Token]) -> Found<'_>
+    requires { below < 64 }
+    ensures { Gives (λ x. (stmt_view x.0, x.1.now)) result (reading.repeat_at below (reading.stmts_at below) tokens.now) }
+{
+    let (_, rest) = keyword(Keyword::Repeat, tokens)?;
+    let (body, rest) = stmts(alloc, below, rest)?;
+    let (_, rest) = keyword(Keyword::Until, rest)?;
+    let (condition, rest) = expr(alloc, below, 1, rest)?;
+    let (_, rest) = keyword(Keyword::EndRepeat, rest)?;
+    Ok((Stmt::repeat_until(body, condition), rest))
+}
+
+#[cycle(line)]
+#[tactic(auto, unfolding(crate::specs::StatementReading::stmt_at))]
+fn stmt(alloc: Global, below: usize, tokens: &[Token]) -> Found<'_>
+    requires { below < 64 }
+    ensures { Gives (λ x. (stmt_view x.0, x.1.now)) result (reading.stmt_at below (reading.stmts_at below) tokens.now) }
+{
+    let [t, ..] = tokens else {
+        return Err(refused(tokens));
+    };
+    match &t.kind {
+        TokenKind::Name(_) => named(alloc, below, tokens),
+        TokenKind::Mark(Mark::Semicolon) => Ok((Stmt::empty(), tokens)),
+        TokenKind::Keyword(Keyword::If) => if_stmt(alloc, below, tokens),
+        TokenKind::Keyword(Keyword::Case) => case_stmt(alloc, below, tokens),
+        TokenKind::Keyword(Keyword::For) => for_stmt(alloc, below, tokens),
+        TokenKind::Keyword(Keyword::While) => while_stmt(alloc, below, tokens),
+        TokenKind::Keyword(Keyword::Repeat) => repeat_stmt(alloc, below, tokens),
+        TokenKind::Keyword(Keyword::Exit) => exit_stmt(tokens),
+        TokenKind::Keyword(Keyword::Return) => return_stmt(tokens),
+        _ => Err(refused(tokens)),
+    }
+}
+
+/// A statement of at most a depth, with its semicolon.
+#[cycle(line)]
+#[tactic(auto, unfolding(crate::specs::StatementReading::line_at))]
+fn line(alloc: Global, depth: usize, tokens: &[Token]) -> Found<'_>
+    requires { depth ≤ 64 }
+    ensures { Gives (λ x. (stmt_view x.0, x.1.now)) result (reading.line_at depth tokens.now) }
+{
+    if depth == 0 {
+        return Err(sunk(starts_stmt(tokens), tokens));
+    }
+    let (found, rest) = stmt(alloc, depth - 1, tokens)?;
+    let (_, rest) = mark(Mark::Semicolon, rest)?;
+    Ok((found, rest))
+}
+
+/// Statements of at most a depth.
+#[cycle(line)]
+pub fn stmts<'a>(alloc: Global, depth: usize, mut tokens: &'a [Token]) -> Block<'a>
+    requires { depth ≤ 64 }
+    ensures { Gives (λ x. (map stmt_view x.0.items, x.1.now)) result (reading.stmts_at depth tokens.entry.now) }
+{
+    let mut found = Vec::new(alloc);
+    for _turn in 0..tokens.len() {
+        if !starts_stmt(tokens) {
+            return Ok((found, tokens));
+        }
+        let (next, rest) = line(alloc, depth, tokens)?;
+        found.push(next)?;
+        tokens = rest;
+    }
+    Ok((found, tokens))
+}

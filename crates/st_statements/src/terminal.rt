@@ -1,0 +1,105 @@
+//! Single tokens: marks, keywords, names and literals.
+
+ghost use Rattle.std.specs.Prelude.{◌≡◌};
+ghost use Rattle.st_statements.specs.Tokens as specs;
+ghost use Rattle.st_statements.specs.Parsers.{Gives, one};
+
+use crate::fault::ReadError;
+use crate::next::{is_keyword, is_mark, refused};
+use st_lex::{Keyword, Mark, Token, TokenKind, WholeNumber};
+use st_words::{Identifier, Literal, Number};
+use std::alloc::Global;
+
+/// A mark, at its place, and the tokens after it.
+pub fn mark(mark: Mark, tokens: &[Token]) -> Result<(usize, &[Token]), ReadError>
+    ensures { Gives (λ x. (x.0, x.1.now)) result (one (specs.mark mark) tokens.now) }
+{
+    match tokens {
+        [t, rest @ ..] if is_mark(mark, &t.kind) => Ok((t.start, rest)),
+        _ => Err(refused(tokens)),
+    }
+}
+
+/// A keyword, at its place, and the tokens after it.
+pub fn keyword(keyword: Keyword, tokens: &[Token]) -> Result<(usize, &[Token]), ReadError>
+    ensures { Gives (λ x. (x.0, x.1.now)) result (one (specs.keyword keyword) tokens.now) }
+{
+    match tokens {
+        [t, rest @ ..] if is_keyword(keyword, &t.kind) => Ok((t.start, rest)),
+        _ => Err(refused(tokens)),
+    }
+}
+
+/// A name, and the tokens after it.
+pub fn name(alloc: Global, tokens: &[Token]) -> Result<(Identifier, &[Token]), ReadError>
+    ensures { Gives (λ x. (x.0, x.1.now)) result (one specs.name tokens.now) }
+{
+    let [t, rest @ ..] = tokens else {
+        return Err(refused(tokens));
+    };
+    match &t.kind {
+        TokenKind::Name(found) => Ok((
+            Identifier {
+                name: found.copied(alloc)?,
+                place: t.start,
+            },
+            rest,
+        )),
+        _ => Err(refused(tokens)),
+    }
+}
+
+fn unsigned(place: usize, number: WholeNumber) -> Number
+    ensures { result ≡ specs.unsigned place number }
+{
+    Number {
+        place,
+        is_negative: false,
+        magnitude: number.magnitude,
+        written: number.written,
+        is_decimal: number.is_decimal,
+        taken: None,
+    }
+}
+
+/// The same with a `-` at a place directly before it.
+pub fn negative_at(place: usize, number: Number) -> Number
+    ensures { result ≡ specs.negative_at place number }
+{
+    Number {
+        place,
+        is_negative: true,
+        magnitude: number.magnitude,
+        written: number.written,
+        is_decimal: number.is_decimal,
+        taken: None,
+    }
+}
+
+/// A whole number or bit string without a sign, and the tokens after it.
+pub fn whole(tokens: &[Token]) -> Result<(Number, &[Token]), ReadError>
+    ensures { Gives (λ x. (x.0, x.1.now)) result (one specs.whole tokens.now) }
+{
+    let [t, rest @ ..] = tokens else {
+        return Err(refused(tokens));
+    };
+    match &t.kind {
+        TokenKind::Number(found) => Ok((unsigned(t.start, *found), rest)),
+        _ => Err(refused(tokens)),
+    }
+}
+
+/// A literal without a sign, and the tokens after it.
+pub fn literal(tokens: &[Token]) -> Result<(Literal, &[Token]), ReadError>
+    ensures { Gives (λ x. (x.0, x.1.now)) result (one specs.literal tokens.now) }
+{
+    let [t, rest @ ..] = tokens else {
+        return Err(refused(tokens));
+    };
+    match &t.kind {
+        TokenKind::Number(found) => Ok((Literal::Number(unsigned(t.start, *found)), rest)),
+        TokenKind::Truth(truth) => Ok((Literal::Truth(t.start, *truth), rest)),
+        TokenKind::Duration(duration) => Ok((Literal::Duration(t.start, *duration), rest)),
+        _ => Err(refused(tokens)),
+    }
+}
