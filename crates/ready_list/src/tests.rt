@@ -5,6 +5,7 @@ ghost use Rattle.std.specs.Prelude.{◌≡◌, IfOk, length};
 use crate::list::{ReadyList, list_of};
 use st_types::Place;
 use std::alloc::{AllocError, Global};
+use std::test::Fail;
 
 fn place(task: usize, interval: u64, priority: u64) -> Place {
     Place {
@@ -35,10 +36,8 @@ fn take_best(list: &mut ReadyList) -> Option<(usize, u64)> {
 }
 
 #[test]
-fn takes_in_order(rt: HostRuntime) {
-    let Ok(mut list) = three_programs(rt.alloc()) else {
-        return;
-    };
+fn takes_in_order(rt: HostRuntime) -> Result<(), Fail> {
+    let mut list = three_programs(rt.alloc())?;
     list.due(0, &[false, false, false]);
     list.due(5, &[true, false, true]);
     list.due(10, &[true, false, true]);
@@ -50,4 +49,5 @@ fn takes_in_order(rt: HostRuntime) {
     assert_eq!(rt; list.overruns(0), 2);
     assert_eq!(rt; list.overruns(1), 1);
     assert_eq!(rt; list.overruns(2), 0);
+    Ok(())
 }
