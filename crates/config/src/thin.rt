@@ -169,7 +169,7 @@ impl Plan {
     /// The plan of programs that assign whole numbers, names and their sums to INT and DINT globals, each in a task of its own
     /// with this INTERVAL and PRIORITY 0. Resource number i is named Ri, and the program of number k is the instance Pk.
     ///
-    /// There is none where two globals bear one name or a name is no identifier in capital letters, where a name stands for no
+    /// There is none where two globals bear one name or a name is not 1 to 64 capital letters, digits and underscores, where a name stands for no
     /// global of its type or a literal is outside its type, where a unit or a declaration is of another form, and where a limit of
     /// the language is passed. An error is want of memory alone.
     pub fn thin(
