@@ -1,4 +1,3 @@
-pub mod Turns
 pub mod Lists
 pub mod Parts
 pub mod Shorter
