@@ -2,10 +2,12 @@
 
 .PHONY: run test
 
-# Proves, builds and runs the built-in configuration. Its last line is 'N = 200'.
+# Proves and builds the program, and runs an example over a real retain file: cold, then warm with the rows behind it.
 run:
-	@cd crates/plant_main && rt run -- first
+	@mkdir -p out && rm -f out/dosing.retain
+	@cd crates/plant_main && rt run -- run ../../examples/dosing/dosing.st --plant ../../examples/dosing/plant.csv --store ../../out/dosing.retain --start cold
+	@crates/plant_main/out/plant_main run examples/dosing/dosing.st --plant examples/dosing/next.csv --store out/dosing.retain --start warm
 
-# The gate: every proof from nothing, the must-fail edits, the tests, the program. Its last line is 'N passed, 0 failed'.
+# The gate, and then the built program over real files. Its last line is 'N passed, 0 failed'.
 test:
-	@rt ci
+	@tests/gate.sh

@@ -1,9 +1,10 @@
 //! Whether the parts of a thin plan make one.
 
-ghost use Rattle.std.specs.Prelude.{◌≡◌, nat_le, map, true, IfOk};
+ghost use Rattle.std.specs.Prelude.{◌≡◌, ◌<◌, nat_le, map, true, IfOk};
 ghost use Rattle.std.specs.List.{list_all};
 ghost use Rattle.st_trees.specs.UnitViews.{unit_view};
 ghost use Rattle.st_types.specs.Scopes.{contains_name};
+ghost use Rattle.st_types.specs.Layouts.{record_length};
 ghost use Rattle.config.specs.Thin.{is_thin_unit};
 ghost use Rattle.config.specs.Sound.{are_different};
 ghost use Rattle.config.specs.ThinPlans.{is_word_byte, is_name, is_global, is_thin_variable, is_input_kind, is_thin_input, names_of, is_thin_program, programs_on, is_within, is_thin};
@@ -160,6 +161,16 @@ fn are_thin_variables(variables: &[PlanVariable]) -> bool
     ensures { result ≡ list_all is_thin_variable variables.now }
 {
     variables.iter().all(|v| is_thin_variable(v))
+}
+
+/// Whether a record of these variables would be longer than 131,059 bytes. It is told of at most 4,096 variables of a thin plan alone.
+pub fn has_long_record(variables: &[PlanVariable]) -> bool
+    ensures { result ≡ true → 131059 < record_length variables.now }
+{
+    if variables.len() > 4096 || !are_thin_variables(variables) {
+        return false;
+    }
+    record_length(variables) > 131_059
 }
 
 fn are_thin_inputs(inputs: &[PlanInput]) -> bool

@@ -1,13 +1,12 @@
 -- Exit statuses.
 use Rattle.std.specs.Prelude.{ℕ}
 use Rattle.plant_program.specs.declared.fault.Fault.{Fault}
-use Rattle.plant_program.specs.declared.fault.Fault.TheVariants.{Source, Budget, Words, Plant, Trace, Start, Refused}
+use Rattle.plant_program.specs.declared.fault.Fault.TheVariants.{Source, Build, Plant, Trace, Start, Refused}
 
 -- 2 for the source, 3 for a plant or a trace, 4 for the start, 5 for the run
 abbrev pub status_of : Fault → ℕ
 status_of Source = 2
-status_of Budget = 2
-status_of (Words e) = 2
+status_of (Build e) = 2
 status_of (Plant e) = 3
 status_of Trace = 3
 status_of (Start e) = 4

@@ -5,7 +5,7 @@ ghost use Rattle.std.specs.Prelude.{◌≡◌};
 use commit_lock::{Refusal, StartFault};
 use image::PlantError;
 use serial_core::Refusal as SerialRefusal;
-use st_lex::LexError;
+use st_build::BuildError;
 use std::alloc::{AllocError, AllocFailed};
 use thiserror::Error;
 
@@ -15,12 +15,9 @@ pub enum Fault {
     /// The source can't be read.
     #[error("X1")]
     Source,
-    /// The budget is not 1 to 1,000,000 ticks.
-    #[error("G7")]
-    Budget,
-    /// The source has no tokens.
+    /// The source has no plan.
     #[error("{0}")]
-    Words(LexError),
+    Build(BuildError),
     /// The plant is refused.
     #[error("{0}")]
     Plant(PlantError),
@@ -46,7 +43,7 @@ impl Fault {
         ensures { result ≡ status_of self }
     {
         match self {
-            Fault::Source | Fault::Budget | Fault::Words(_) => 2,
+            Fault::Source | Fault::Build(_) => 2,
             Fault::Plant(_) | Fault::Trace => 3,
             Fault::Start(_) => 4,
             Fault::Refused(_) => 5,
@@ -54,9 +51,9 @@ impl Fault {
     }
 }
 
-impl From<LexError> for Fault {
-    fn from(fault: LexError) -> Fault {
-        Fault::Words(fault)
+impl From<BuildError> for Fault {
+    fn from(fault: BuildError) -> Fault {
+        Fault::Build(fault)
     }
 }
 

@@ -7,9 +7,10 @@ use crate::files::Files;
 use crate::first_run::first;
 use crate::running::run_plan;
 use crate::sizes::sizes_of;
-use crate::sources::{build, read_source};
+use crate::sources::read_source;
 use crate::telling::{End, tell, tell_words};
 use plant_words::{Job, ReplayJob, RunJob, read_words, wants_memory};
+use st_build::build;
 use std::alloc::Global;
 use std::io::{Read, Write};
 
@@ -22,19 +23,15 @@ const BUDGET: u32 = 10_000;
 /// Reads and builds the source, and gives its sizes.
 fn check<F: Files>(alloc: Global, files: &mut F, source: &str) -> Result<End, Fault> {
     let text = read_source(alloc, files, source)?;
-    match build(alloc, &text, BUDGET)? {
-        Some(plan) => Ok(End::Report(sizes_of(alloc, &plan)?)),
-        None => Ok(End::NotYet),
-    }
+    let plan = build(alloc, &text, BUDGET)?;
+    Ok(End::Report(sizes_of(alloc, &plan)?))
 }
 
 /// Reads and builds the source, then reads the plant, then opens the store and starts, then runs.
 fn run<F: Files>(alloc: Global, files: &mut F, job: &RunJob<'_>) -> Result<End, Fault> {
     let text = read_source(alloc, files, job.source)?;
-    match build(alloc, &text, job.budget)? {
-        Some(plan) => Ok(End::Report(run_plan(alloc, files, plan, job)?)),
-        None => Ok(End::NotYet),
-    }
+    let plan = build(alloc, &text, job.budget)?;
+    Ok(End::Report(run_plan(alloc, files, plan, job)?))
 }
 
 /// Reads the trace, then the source. This version goes no further.

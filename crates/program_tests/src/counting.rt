@@ -1,121 +1,66 @@
-//! Plans of one program `n := n + 1;` every 10 ms.
+//! Plans of one program that adds 1 to its globals every 10 ms.
 
-use config::{Plan, ThinProgram};
-use st_types::{
-    BinaryOperator, Declaration, Expr, Identifier, Kind, Literal, Name, Number, Path, PlanVariable,
-    Section, SimpleType, Stmt, Unit, UnitSort, Value, Variable, VariableBlock, VariableType,
-};
-use std::alloc::{AllocError, Global};
-
-fn identifier(alloc: Global, text: &str) -> Result<Identifier, AllocError> {
-    Ok(Identifier {
-        name: Name::from_slice(alloc, text.as_bytes())?,
-        place: 0,
-    })
-}
-
-fn variable(alloc: Global, text: &str) -> Result<Variable, AllocError> {
-    Ok(Variable::new(identifier(alloc, text)?, Vec::new(alloc)))
-}
-
-fn one() -> Expr {
-    Expr::literal(Literal::Number(Number {
-        place: 0,
-        is_negative: false,
-        magnitude: 1,
-        written: None,
-        is_decimal: true,
-        taken: None,
-    }))
-}
-
-/// `text := text + 1;`
-fn increment(alloc: Global, text: &str) -> Result<Stmt, AllocError> {
-    let before = Expr::variable(variable(alloc, text)?);
-    let sum = Expr::binary(alloc, BinaryOperator::Add, before, one())?;
-    Ok(Stmt::assign(variable(alloc, text)?, sum))
-}
-
-/// `VAR_EXTERNAL text : kind; END_VAR`
-fn external(alloc: Global, text: &str, kind: Kind) -> Result<VariableBlock, AllocError> {
-    let declaration = Declaration {
-        names: vec![in alloc; identifier(alloc, text)?]?,
-        declared: VariableType::Simple(SimpleType::Elementary(kind, 0)),
-        initial: None,
-    };
-    Ok(VariableBlock {
-        section: Section::External,
-        declarations: vec![in alloc; declaration]?,
-    })
-}
-
-/// The program over these globals of one type.
-fn unit(alloc: Global, globals: &[Counted]) -> Result<Unit, AllocError> {
-    let mut blocks = Vec::new(alloc);
-    let mut body = Vec::new(alloc);
-    for global in globals {
-        blocks.push(external(alloc, global.name, global.kind)?)?;
-        body.push(increment(alloc, global.name)?)?;
-    }
-    Ok(Unit {
-        sort: UnitSort::Program,
-        name: identifier(alloc, "ADD")?,
-        blocks,
-        body,
-    })
-}
+use config::Plan;
+use st_build::build;
+use std::alloc::Global;
+use std::test::Fail;
 
 /// A global that is counted.
 #[derive(Clone, Copy)]
 pub struct Counted {
     pub name: &'static str,
-    pub kind: Kind,
-    pub initial: i128,
+    /// The name of its type.
+    pub kind: &'static str,
+    pub initial: u64,
     pub retained: bool,
 }
 
 /// The RETAIN INT n.
 pub const N: Counted = Counted {
-    name: "N",
-    kind: Kind::Int,
+    name: "n",
+    kind: "INT",
     initial: 0,
     retained: true,
 };
 
 /// The INT k, not RETAIN, that begins with 7.
 pub const K: Counted = Counted {
-    name: "K",
-    kind: Kind::Int,
+    name: "k",
+    kind: "INT",
     initial: 7,
     retained: false,
 };
 
-fn declared(alloc: Global, globals: &[Counted]) -> Result<Vec<PlanVariable>, AllocError> {
-    let mut variables = Vec::new(alloc);
+/// The text of a program that adds 1 to each of these globals every 10 ms.
+fn text(alloc: Global, globals: &[Counted]) -> Result<String, Fail> {
+    let mut externals = String::new(alloc);
+    let mut body = String::new(alloc);
+    let mut declared = String::new(alloc);
     for global in globals {
-        let name = Name::from_slice(alloc, global.name.as_bytes())?;
-        variables.push(PlanVariable {
-            path: Path::global(alloc, name),
-            initial: Value::new(global.kind, global.initial).unwrap_or(Value::truth(false)),
-            retained: global.retained,
-        })?;
+        let Counted {
+            name,
+            kind,
+            initial,
+            retained,
+        } = *global;
+        let retain = if retained { "RETAIN" } else { "" };
+        externals.push_str(&format!(in alloc; "{name} : {kind}; ")?)?;
+        body.push_str(&format!(in alloc; "{name} := {name} + 1; ")?)?;
+        declared.push_str(
+            &format!(in alloc; "VAR_GLOBAL {retain} {name} : {kind} := {initial}; END_VAR ")?,
+        )?;
     }
-    Ok(variables)
+    Ok(format!(
+        in alloc;
+        "PROGRAM Add VAR_EXTERNAL {externals}END_VAR {body}END_PROGRAM
+        CONFIGURATION C {declared}RESOURCE R ON CPU
+        TASK T (INTERVAL := T#10ms, PRIORITY := 0);
+        PROGRAM P WITH T : Add; END_RESOURCE END_CONFIGURATION"
+    )?)
 }
 
 /// The plan of a program that adds 1 to each of these globals every 10 ms.
-pub fn plan(alloc: Global, globals: &[Counted]) -> Result<Option<Plan>, AllocError> {
-    let program = ThinProgram {
-        resource: 0,
-        unit: 0,
-        interval: 10,
-    };
-    Plan::thin(
-        alloc,
-        vec![in alloc; unit(alloc, globals)?]?,
-        declared(alloc, globals)?,
-        Vec::new(alloc),
-        vec![in alloc; program]?,
-        10_000,
-    )
+pub fn plan(alloc: Global, globals: &[Counted]) -> Result<Plan, Fail> {
+    let text = text(alloc, globals)?;
+    Ok(build(alloc, text.as_bytes(), 10_000)?)
 }

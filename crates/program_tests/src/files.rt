@@ -28,7 +28,7 @@ fn sources_are_read_first(rt: HostRuntime) -> Result<(), Fail> {
         ("none.st", "2 fault X1\n"),
         ("bad.st", "2 fault L3 at 0\n"),
         ("open.st", "2 fault L4 at 1\n"),
-        ("good.st", "1 this version of plant can't do this yet\n"),
+        ("good.st", "2 fault G2\n"),
     ] {
         let check = refusal(rt.alloc(), &["check", source], "")?;
         assert!(rt; check.as_str() == expected, "check {source}");
@@ -67,7 +67,8 @@ fn a_trace_is_read_before_the_source(rt: HostRuntime) -> Result<(), Fail> {
 #[test]
 fn a_budget_is_1_to_1_000_000_ticks(rt: HostRuntime) -> Result<(), Fail> {
     const FAULT: &str = "2 fault G7\n";
-    const TAKEN: &str = "1 this version of plant can't do this yet\n";
+    // The budget is taken, and then the text has no configuration.
+    const TAKEN: &str = "2 fault G2\n";
     for (source, budget, expected) in [
         ("good.st", "0", FAULT),
         ("good.st", "1", TAKEN),

@@ -38,7 +38,7 @@ fn report<'a>(
     store: &'a str,
     start: Start,
 ) -> Result<String, Fail> {
-    let plan = plan(rt.alloc(), &[N, K])?.ok_or("no plan")?;
+    let plan = plan(rt.alloc(), &[N, K])?;
     let job = job(plant, plant, store, start);
     match run_plan(rt.alloc(), &mut RealFiles::new(rt), plan, &job) {
         Ok(report) => Ok(String::from_utf8(report)?),
@@ -106,7 +106,7 @@ fn real_sources_are_read(rt: HostRuntime) -> Result<(), Fail> {
 fn sources_are_read_as_far_as_their_limit(rt: HostRuntime) -> Result<(), Fail> {
     let source = scratch(&rt, "long")?;
     for (length, status, expected) in [
-        (1_048_576, 1, "this version of plant can't do this yet\n"),
+        (1_048_576, 2, "fault G2\n"),
         (1_048_577, 2, "fault L5 at 0\n"),
         (2_000_000, 2, "fault L5 at 0\n"),
     ] {

@@ -49,7 +49,7 @@ fn report(
     files: &mut Fakes,
     job: &RunJob<'_>,
 ) -> Result<String, Fail> {
-    let plan = plan(alloc, globals)?.ok_or("no plan")?;
+    let plan = plan(alloc, globals)?;
     match run_plan(alloc, files, plan, job) {
         Ok(report) => Ok(String::from_utf8(report)?),
         Err(fault) => Ok(format!(in alloc; "{} fault {fault}", fault.status())?),

@@ -1,20 +1,22 @@
 -- What is written to slots, and what stays.
-use Rattle.std.proofs.Common.{◌≡◌, ℕ, zero, suc, ◌==◌, ℤ, Bool, true, false, not, if◌then◌else◌, List, [], ◌∷◌, ◌++◌, map, length, slice_get, slice_set, Option, Some, None, option_map, refl, sym, ap, ◌∙◌, arith}
+use Rattle.std.proofs.Common.{◌≡◌, ℕ, zero, suc, ◌==◌, ℤ, Bool, true, false, not, ◌||◌, if◌then◌else◌, List, [], ◌∷◌, ◌++◌, map, length, slice_get, slice_set, Option, Some, None, option_map, refl, sym, ap, ◌∙◌, arith}
 use Rattle.std.specs.Prelude.{bytes_eq}
-use Rattle.std.specs.List.{filter}
+use Rattle.std.specs.List.{filter, list_any}
 use Rattle.std.specs.Ordering.{int_eq}
 use Rattle.std.proofs.lemmas.List.{length-set}
 use Rattle.std.proofs.lemmas.Bool.Decides.{nat_tests, Decides-int_eq}
 use Rattle.st_words.specs.declared.kind.Kind.{Kind}
 use Rattle.st_words.specs.Kinds.{same_kind, place_of}
 use Rattle.st_words.specs.Values.{Datum, same_datum}
+use Rattle.st_types.specs.Scopes.{Name}
 use Rattle.st_types.specs.Slots.{Slot, Cell, inputs_in, is_value, agrees, written}
 use Rattle.st_types.proofs.Shapes.{same_kind_is}
 use Rattle.slot_code.specs.declared.global.GlobalSlot.{GlobalSlot}
 use Rattle.slot_code.specs.Globals.{global_named, Fits}
-use Rattle.slot_run.specs.Cells.{with_cell}
+use Rattle.slot_run.specs.Cells.{with_cell, each_once}
 use Rattle.slot_run.specs.Steps.{AreAlike, IsVariable}
-use Rattle.slot_run.proofs.Bools.{both, same_itself}
+use Rattle.slot_run.proofs.Bools.{both, or_true, same_itself}
+use Rattle.slot_run.proofs.OnceLemmas.{each_once_any}
 
 -- the value at a place, after another is written at a place
 abbrev at_set : ℕ → ℕ → Datum → Option Datum → Option Datum
@@ -123,23 +125,31 @@ value_is : (o : Option Datum) (v : Datum) → is_value o v ≡ true → o ≡ So
 value_is None v h = absurd (cc)
 value_is (Some w) v h = ap Some (same_datum_is w v h)
 
-abbrev IsRead : GlobalSlot → List Datum → List Datum → Type 0
-IsRead g vs us = slice_get vs g.slot ≡ slice_get us g.slot
+named_among : (globals : List GlobalSlot) (x : Name) (g : GlobalSlot) → global_named globals x ≡ Some g → list_any (λ k. g.slot == k) (map (λ h. h.slot) globals) ≡ true
+named_among [] x g known = absurd (cc)
+named_among (h ∷ globals) x g known = by_test (bytes_eq x h.name) known (named_among globals x g)
+  where
+    by_test : (t : Bool) → (if t then Some h else global_named globals x) ≡ Some g → (global_named globals x ≡ Some g → list_any (λ k. g.slot == k) (map (λ i. i.slot) globals) ≡ true)
+        → ((g.slot == h.slot) || list_any (λ k. g.slot == k) (map (λ i. i.slot) globals)) ≡ true
+    by_test true e later = let is : h ≡ g = cc in rw (is, same_itself g.slot) refl
+    by_test false e later = or_true (g.slot == h.slot) (list_any (λ k. g.slot == k) (map (λ i. i.slot) globals)) (later e)
 
-found_alike : (globals : List GlobalSlot) (h : GlobalSlot) (vs us : List Datum) (g : GlobalSlot) (t : Bool) (rest : Option GlobalSlot) → IsRead h vs us → (rest ≡ Some g → IsRead g vs us) → (if t then Some h else rest) ≡ Some g → IsRead g vs us
-found_alike globals h vs us g true rest here later e = let is : h ≡ g = cc in rw (← is) here
-found_alike globals h vs us g false rest here later e = later e
-
-pub alike_by_reads : (globals : List GlobalSlot) (reads : List Cell) (vs us : List Datum) → map (λ c. c.0) reads ≡ map (λ g. g.slot) globals → agrees vs reads ≡ true → agrees us reads ≡ true → AreAlike globals vs us
-alike_by_reads [] reads vs us all a b x g known = absurd (cc)
-alike_by_reads (h ∷ globals) [] vs us all a b x g known = absurd (cc)
-alike_by_reads (h ∷ globals) (c ∷ reads) vs us all a b x g known =
+read_alike : (reads : List Cell) (vs us : List Datum) (k : ℕ) → list_any (λ j. k == j) (map (λ c. c.0) reads) ≡ true → agrees vs reads ≡ true → agrees us reads ≡ true → slice_get vs k ≡ slice_get us k
+read_alike [] vs us k among a b = absurd (cc)
+read_alike (c ∷ reads) vs us k among a b =
     let p = both (is_value (slice_get vs c.0) c.1) (agrees vs reads) a in
     let q = both (is_value (slice_get us c.0) c.1) (agrees us reads) b in
-    let slot : c.0 ≡ h.slot = cc in
-    let rest : map (λ d. d.0) reads ≡ map (λ d. d.slot) globals = cc in
     let here : slice_get vs c.0 ≡ slice_get us c.0 = value_is (slice_get vs c.0) c.1 p.0 ∙ sym (value_is (slice_get us c.0) c.1 q.0) in
-    found_alike globals h vs us g (bytes_eq x h.name) (global_named globals x) (rw (← slot) here) (alike_by_reads globals reads vs us rest p.1 q.1 x g) known
+    by_test (k == c.0) (same_slot k c.0) among here (λ m. read_alike reads vs us k m p.1 q.1)
+  where
+    by_test : (t : Bool) → (t ≡ true → k ≡ c.0) → (t || list_any (λ j. k == j) (map (λ d. d.0) reads)) ≡ true → slice_get vs c.0 ≡ slice_get us c.0 → (list_any (λ j. k == j) (map (λ d. d.0) reads) ≡ true → slice_get vs k ≡ slice_get us k)
+        → slice_get vs k ≡ slice_get us k
+    by_test true same m here rest = rw (same refl) here
+    by_test false same m here rest = rest m
+
+pub alike_by_reads : (globals : List GlobalSlot) (reads : List Cell) (vs us : List Datum) → map (λ c. c.0) reads ≡ each_once (map (λ g. g.slot) globals) → agrees vs reads ≡ true → agrees us reads ≡ true → AreAlike globals vs us
+alike_by_reads globals reads vs us all a b x g known =
+    read_alike reads vs us g.slot (ap (list_any (λ k. g.slot == k)) all ∙ each_once_any (map (λ h. h.slot) globals) g.slot ∙ named_among globals x g known) a b
 
 -- one read more
 pub agrees_more : (vs : List Datum) (reads : List Cell) (k : ℕ) (v : Datum) → agrees vs reads ≡ true → slice_get vs k ≡ Some v → agrees vs (reads ++ (k, v) ∷ []) ≡ true

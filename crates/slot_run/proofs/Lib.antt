@@ -1,4 +1,5 @@
 pub mod Bools
+pub mod OnceLemmas
 pub mod SumLemmas
 pub mod CellLemmas
 pub mod StepLemmas

@@ -1,10 +1,10 @@
 -- How the statements of plain code run one after another.
 use Rattle.std.proofs.Common.{◌≡◌, ℕ, suc, ◌+◌, ◌<◌, ◌==◌, Bool, true, false, not, ◌&&◌, ◌||◌, if◌then◌else◌, List, [], ◌∷◌, map, length, drop, get_or, slice_set, Option, Some, Result, Ok, Err, refl, sym, ap, ◌∙◌}
 use Rattle.std.specs.Prelude.{bytes_eq}
-use Rattle.std.specs.List.{filter, list_all}
+use Rattle.std.specs.List.{filter, list_any, list_all}
 use Rattle.std.proofs.Math.Seq.{drop-cons}
 use Rattle.std.proofs.Math.Numerals.{suc-eq-add-one}
-use Rattle.std.proofs.lemmas.List.Folds.{list_all-append}
+use Rattle.std.proofs.lemmas.List.Folds.{list_any-append, list_all-append}
 use Rattle.st_words.specs.declared.fault.Fault.{Fault}
 use Rattle.st_words.specs.declared.fault.Fault.TheVariants.{Budget}
 use Rattle.st_words.specs.Values.{Datum}
@@ -23,11 +23,13 @@ use Rattle.slot_code.specs.declared.code.Code.{Code}
 use Rattle.slot_code.specs.declared.global.GlobalSlot.{GlobalSlot}
 use Rattle.slot_code.specs.Globals.{global_named, is_plain, are_plain, Fits}
 use Rattle.slot_code.specs.Codes.{Text, text_of, program_of}
-use Rattle.slot_run.specs.Cells.{with_cell}
-use Rattle.slot_run.specs.Effects.{is_variable_slot, IsTrueOf}
+use Rattle.slot_run.specs.Cells.{with_cell, EachSlotOnce, each_once}
+use Rattle.slot_run.specs.Targets.{targets, all_targets}
+use Rattle.slot_run.specs.Effects.{is_variable_slot, has_slot, is_slot_of, is_target_slot, IsTrueOf}
 use Rattle.slot_run.specs.Steps.{AreAlike, IsVariable, scope_over, Steps, IsEnd, Runs, kept}
 use Rattle.slot_run.proofs.CellLemmas.{alike_written, length_written, inputs_stay, written_with, alike_by_reads}
-use Rattle.slot_run.proofs.Bools.{both, same_itself}
+use Rattle.slot_run.proofs.Bools.{both, or_left, or_true, same_itself}
+use Rattle.slot_run.proofs.OnceLemmas.{none_once, once_with}
 
 -- the whole run from here is the rest from where it stands
 abbrev pub GoesOn : Text → List Datum → List Stmt → ℕ → ℕ → List Cell → Type 0
@@ -42,12 +44,11 @@ pub record Reached (text : Text) (us : List Datum) (rest : List Stmt) (budget le
   pub now : slots ≡ written us writes
   pub plain : are_plain text.globals rest ≡ true
   pub variables : list_all (λ c. is_variable_slot text.globals c.0) writes ≡ true
+  pub behind : (p : Name → Bool) → list_any p (all_targets (stmts_of rest)) ≡ true → list_any p (all_targets (stmts_of text.unit.body)) ≡ true
+  pub targets : list_all (λ c. is_target_slot text c.0) writes ≡ true
+  pub once : EachSlotOnce writes
 
 -- the slots of what is written are those of variables
-or_true : (a b : Bool) → b ≡ true → (a || b) ≡ true
-or_true true b h = refl
-or_true false b h = h
-
 found_slot : (h g : GlobalSlot) (t : Bool) (rest : Option GlobalSlot) (others : Bool) → g.is_input ≡ false → (rest ≡ Some g → others ≡ true) → (if t then Some h else rest) ≡ Some g → (((h.slot == g.slot) && not h.is_input) || others) ≡ true
 found_slot h g true rest others out later e = let is : h ≡ g = cc in rw (is, same_itself g.slot, out) refl
 found_slot h g false rest others out later e = or_true ((h.slot == g.slot) && not h.is_input) others (later e)
@@ -67,10 +68,18 @@ all_kept : (p q : Cell → Bool) (cells : List Cell) → list_all p cells ≡ tr
 all_kept p q [] h = refl
 all_kept p q (c ∷ cells) h = let b = both (p c) (list_all p cells) h in kept_or_not p c (q c) (filter q cells) b.0 (all_kept p q cells b.1)
 
-variables_with : (globals : List GlobalSlot) (cells : List Cell) (c : Cell) → list_all (λ d. is_variable_slot globals d.0) cells ≡ true → IsVariable globals c.0 → list_all (λ d. is_variable_slot globals d.0) (with_cell cells c) ≡ true
-variables_with globals cells c h v =
-    let rest = all_kept (λ d. is_variable_slot globals d.0) (λ d. not (d.0 == c.0)) cells h in
-    rw (list_all-append, rest, variable_slot globals c.0 v) refl
+all_with : (p : Cell → Bool) (cells : List Cell) (c : Cell) → list_all p cells ≡ true → p c ≡ true → list_all p (with_cell cells c) ≡ true
+all_with p cells c h here = rw (list_all-append, all_kept p (λ d. not (d.0 == c.0)) cells h, here) refl
+
+-- the targets of a statement and of those behind it
+here_or_behind : (p : Name → Bool) (x : Stmt) (rest : List Stmt) → list_any p (all_targets (stmts_of (x ∷ rest))) ≡ (list_any p (targets x) || list_any p (all_targets (stmts_of rest)))
+here_or_behind p x rest = list_any-append p (targets x) (all_targets (stmts_of rest))
+
+among_here : (p : Name → Bool) (x : Stmt) (rest : List Stmt) → list_any p (targets x) ≡ true → list_any p (all_targets (stmts_of (x ∷ rest))) ≡ true
+among_here p x rest h = here_or_behind p x rest ∙ or_left (list_any p (targets x)) (list_any p (all_targets (stmts_of rest))) h
+
+among_rest : (p : Name → Bool) (x : Stmt) (rest : List Stmt) → list_any p (all_targets (stmts_of rest)) ≡ true → list_any p (all_targets (stmts_of (x ∷ rest))) ≡ true
+among_rest p x rest h = here_or_behind p x rest ∙ or_true (list_any p (targets x)) (list_any p (all_targets (stmts_of rest))) h
 
 -- one statement more
 moved : (text : Text) (x : Stmt) (rest : List Stmt) (layout : List Slot) (vs ts : List Datum) (moment budget left : ℕ)
@@ -79,8 +88,9 @@ moved : (text : Text) (x : Stmt) (rest : List Stmt) (layout : List Slot) (vs ts 
 moved text x rest layout vs ts moment budget left h e = rw (h, e) refl
 
 pub reached_next : (text : Text) (us : List Datum) (x : Stmt) (rest : List Stmt) (budget before left : ℕ) (slots : List Datum) (writes : List Cell) (c : Cell) → before ≡ suc left
-    → Reached text us (x ∷ rest) budget before slots writes → Steps text x slots (Ok c) → IsVariable text.globals c.0 → Reached text us rest budget left (slice_set slots c.0 c.1) (with_cell writes c)
-reached_next text us x rest budget before left slots writes c one r steps variable = record {
+    → Reached text us (x ∷ rest) budget before slots writes → Steps text x slots (Ok c) → IsVariable text.globals c.0 → is_slot_of text.globals (targets x) c.0 ≡ true
+    → Reached text us rest budget left (slice_set slots c.0 c.1) (with_cell writes c)
+reached_next text us x rest budget before left slots writes c one r steps variable target = record {
   goes_on = λ layout vs moment fits len alike.
       let ts = written vs writes in
       let alike_there : AreAlike text.globals ts slots = rw r.now (alike_written text.globals vs us writes alike) in
@@ -92,7 +102,12 @@ reached_next text us x rest budget before left slots writes c one r steps variab
       ∙ ap (λ zs. exec_all (scope_over text layout zs moment budget) (stmts_of rest) (variables_in layout zs) left) (sym (written_with writes vs c));
   now = ap (λ zs. slice_set zs c.0 c.1) r.now ∙ sym (written_with writes us c);
   plain = (both (is_plain text.globals x) (are_plain text.globals rest) r.plain).1;
-  variables = variables_with text.globals writes c r.variables variable;
+  variables = all_with (λ d. is_variable_slot text.globals d.0) writes c r.variables (variable_slot text.globals c.0 variable);
+  behind = λ p h. r.behind p (among_rest p x rest h);
+  targets =
+      let assigned = λ (y : Name). has_slot (global_named text.globals y) c.0 in
+      all_with (λ d. is_target_slot text d.0) writes c r.targets (r.behind assigned (among_here assigned x rest target));
+  once = once_with writes c r.once;
 }
 
 -- a statement that faults
@@ -146,29 +161,37 @@ store_at : (outcome : Outcome) (layout : List Slot) (vs : List Datum) (writes : 
 store_at Done layout vs writes r h = rw h.1 refl
 store_at (Faulted f) layout vs writes r h = rw h refl
 
-kept_variables : (globals : List GlobalSlot) (outcome : Outcome) (writes : List Cell) → list_all (λ c. is_variable_slot globals c.0) writes ≡ true → list_all (λ c. is_variable_slot globals c.0) (kept outcome writes) ≡ true
-kept_variables globals Done writes h = h
-kept_variables globals (Faulted f) writes h = refl
+all_left : (p : Cell → Bool) (outcome : Outcome) (writes : List Cell) → list_all p writes ≡ true → list_all p (kept outcome writes) ≡ true
+all_left p Done writes h = h
+all_left p (Faulted f) writes h = refl
+
+once_left : (outcome : Outcome) (writes : List Cell) → EachSlotOnce writes → EachSlotOnce (kept outcome writes)
+once_left Done writes h = h
+once_left (Faulted f) writes h = none_once
 
 none_kept : (outcome : Outcome) (writes : List Cell) (f : Fault) → outcome ≡ Faulted f → kept outcome writes ≡ []
 none_kept Done writes f e = absurd (cc)
 none_kept (Faulted g) writes f e = refl
 
-run_whole : (code : Code) (us : List Datum) (moment budget : ℕ) (reads writes : List Cell) (outcome : Outcome) → map (λ c. c.0) reads ≡ map (λ g. g.slot) code.globals.items → agrees us reads ≡ true
+run_whole : (code : Code) (us : List Datum) (moment budget : ℕ) (reads writes : List Cell) (outcome : Outcome) → map (λ c. c.0) reads ≡ each_once (map (λ g. g.slot) code.globals.items) → agrees us reads ≡ true
     → Runs (text_of code) us budget writes outcome → (layout : List Slot) (vs : List Datum) → Fits layout code.globals.items → length layout ≡ length vs → agrees vs reads ≡ true
     → IsEnd outcome (variables_in layout (written vs writes)) (ran (program_of (text_of code)) (inputs_in layout vs) moment budget (variables_in layout vs))
 unfolding ran ran_where
 run_whole code us moment budget reads writes outcome all agreed runs layout vs fits len agree =
     runs layout vs moment fits len (alike_by_reads code.globals.items reads vs us all agree agreed)
 
-pub run_is_true : (code : Code) (us : List Datum) (moment budget : ℕ) (reads writes : List Cell) (outcome : Outcome) → map (λ c. c.0) reads ≡ map (λ g. g.slot) code.globals.items → agrees us reads ≡ true
-    → Runs (text_of code) us budget writes outcome → list_all (λ c. is_variable_slot code.globals.items c.0) writes ≡ true → IsTrueOf code moment budget reads (kept outcome writes) outcome
+pub run_is_true : (code : Code) (us : List Datum) (moment budget : ℕ) (reads writes : List Cell) (outcome : Outcome) → map (λ c. c.0) reads ≡ each_once (map (λ g. g.slot) code.globals.items) → agrees us reads ≡ true
+    → Runs (text_of code) us budget writes outcome → list_all (λ c. is_variable_slot code.globals.items c.0) writes ≡ true → list_all (λ c. is_target_slot (text_of code) c.0) writes ≡ true → EachSlotOnce reads → EachSlotOnce writes
+    → IsTrueOf code moment budget reads (kept outcome writes) outcome
 unfolding outcome_of store_after
-run_is_true code us moment budget reads writes outcome all agreed runs variables = record {
+run_is_true code us moment budget reads writes outcome all agreed runs variables targets reads_once writes_once = record {
   run = λ layout vs fits len agree.
       let h = run_whole code us moment budget reads writes outcome all agreed runs layout vs fits len agree in
       let r = ran (program_of (text_of code)) (inputs_in layout vs) moment budget (variables_in layout vs) in
       (outcome_at outcome (variables_in layout (written vs writes)) r h, store_at outcome layout vs writes r h);
-  variables = kept_variables code.globals.items outcome writes variables;
+  variables = all_left (λ c. is_variable_slot code.globals.items c.0) outcome writes variables;
+  targets = all_left (λ c. is_target_slot (text_of code) c.0) outcome writes targets;
+  reads_once = reads_once;
+  writes_once = once_left outcome writes writes_once;
   none = none_kept outcome writes;
 }

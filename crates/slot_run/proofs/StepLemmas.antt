@@ -23,9 +23,11 @@ use Rattle.st_types.proofs.SlotLemmas.{seen_slot, assigned_slot}
 use Rattle.slot_code.specs.declared.global.GlobalSlot.{GlobalSlot}
 use Rattle.slot_code.specs.Globals.{global_named, is_assignable, is_sum, is_plain, Fits}
 use Rattle.slot_code.specs.Codes.{Text}
+use Rattle.slot_run.specs.Targets.{targets}
+use Rattle.slot_run.specs.Effects.{is_slot_of}
 use Rattle.slot_run.specs.Steps.{Sees, AreAlike, scope_over, Steps}
 use Rattle.slot_run.proofs.SumLemmas.{IsValueOf, variable_view_is}
-use Rattle.slot_run.proofs.Bools.{both}
+use Rattle.slot_run.proofs.Bools.{both, same_itself}
 
 -- the globals' names are the externals of the text
 abbrev pub AreNamed : Text → Type 0
@@ -125,3 +127,7 @@ steps_refused text x e us v old g named sum is known out at may layout vs moment
 
 pub at_globals : (gs hs : List GlobalSlot) (us : List Datum) (e : Expr) (r : Result Datum Fault) → gs ≡ hs → IsValueOf gs us e r → IsValueOf hs us e r
 at_globals gs hs us e r is v = rw (← is) v
+
+-- the slot of an assignment's target
+pub target_there : (globals : List GlobalSlot) (x : Identifier) (e : Expr) (g : GlobalSlot) → global_named globals x.name ≡ Some g → is_slot_of globals (targets (assign (variable x no_selectors) e)) g.slot ≡ true
+target_there globals x e g known = rw (known, same_itself g.slot) refl

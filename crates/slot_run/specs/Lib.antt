@@ -1,4 +1,5 @@
 pub mod Cells
+pub mod Targets
 pub mod Steps
 pub mod Effects
 pub mod Executions

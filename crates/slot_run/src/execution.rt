@@ -12,7 +12,8 @@ use std::sync::Arc;
 
 /// A run of an activation's code: what it read, what it writes, and how it ended. Contracts see these as an `Effect`.
 ///
-/// Wherever what it read stands, the program ends so and leaves these writes; one that faulted writes nothing.
+/// Wherever what it read stands, the program ends so and leaves these writes; one that faulted writes nothing. It writes only variables
+/// that the program's statements assign, and no slot stands twice among its reads or among its writes.
 #[derive(Drop)]
 pub struct Execution {
     code: Arc<Code>,
@@ -106,14 +107,14 @@ impl Execution {
         self.budget
     }
 
-    /// What it read, by slots.
+    /// What it read, by slots, each of them once.
     pub fn reads(&self) -> &[Cell]
         ensures { map cut result.now ≡ self.now.reads }
     {
         &self.reads
     }
 
-    /// What it writes, by slots.
+    /// What it writes, by slots, each of them once.
     pub fn writes(&self) -> &[Cell]
         ensures { map cut result.now ≡ self.now.writes }
     {

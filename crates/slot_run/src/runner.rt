@@ -1,14 +1,15 @@
 //! Runs of code.
 
-ghost use Rattle.std.specs.Prelude.{◌≡◌, ◌<◌, [], IfOk, length, map, nat_lt, true};
-ghost use Rattle.std.specs.List.{list_all};
+ghost use Rattle.std.specs.Prelude.{◌≡◌, ◌<◌, ◌==◌, [], IfOk, length, map, nat_lt, true};
+ghost use Rattle.std.specs.List.{list_all, list_any};
 ghost use Rattle.st_trees.specs.StatementViews.{stmt_view};
 ghost use Rattle.st_types.specs.Slots.{agrees};
 ghost use Rattle.st_types.specs.Stores.{may_replace};
 ghost use Rattle.slot_code.specs.Globals.{is_plain};
 ghost use Rattle.slot_code.specs.Codes.{text_of};
-ghost use Rattle.slot_run.specs.Cells.{cut, cut_of, with_cell};
-ghost use Rattle.slot_run.specs.Effects.{is_variable_slot};
+ghost use Rattle.slot_run.specs.Cells.{cut, cut_of, with_cell, EachSlotOnce, each_once};
+ghost use Rattle.slot_run.specs.Targets.{targets};
+ghost use Rattle.slot_run.specs.Effects.{is_variable_slot, is_slot_of, is_target_slot};
 ghost use Rattle.slot_run.specs.Executions.{IsEffectOf};
 ghost use Rattle.slot_run.specs.Steps.{IsVariable, Runs, Steps, kept};
 
@@ -20,18 +21,29 @@ use slot_code::{Code, GlobalSlot, global_named};
 use st_types::{Fault, Outcome, Stmt, Value};
 use std::alloc::{AllocError, Global};
 
-/// The values of the globals that the code names, in the order of its externals.
+/// Whether one of the cells is of that slot.
+fn is_among(cells: &[Cell], slot: usize) -> bool
+    ensures { result ≡ list_any (λ c. slot == c.slot) cells.now }
+{
+    cells.iter().any(|cell| slot == cell.slot)
+}
+
+/// The values of the globals that the code names, in the order of its externals, and each slot once.
+#[tactic(auto, using(crate::proofs::OnceLemmas::none_once))]
 fn reads_of(alloc: Global, globals: &[GlobalSlot], slots: &[Value]) -> Result<Vec<Cell>, AllocError>
     requires there { list_all (λ g. nat_lt g.slot (length slots.now)) globals.now ≡ true }
     ensures agrees { IfOk result (λ cells. agrees slots.now (map cut cells.items) ≡ true) }
-    ensures all { IfOk result (λ cells. map (λ c. c.0) (map cut cells.items) ≡ map (λ g. g.slot) globals.now) }
+    ensures all { IfOk result (λ cells. map (λ c. c.0) (map cut cells.items) ≡ each_once (map (λ g. g.slot) globals.now)) }
+    ensures once { IfOk result (λ cells. EachSlotOnce (map cut cells.items)) }
 {
     let mut reads = Vec::new(alloc);
     for global in globals {
-        reads.push(Cell {
-            slot: global.slot,
-            value: slots[global.slot],
-        })?;
+        if !is_among(&reads, global.slot) {
+            reads.push(Cell {
+                slot: global.slot,
+                value: slots[global.slot],
+            })?;
+        }
     }
     Ok(reads)
 }
@@ -48,6 +60,7 @@ fn step(code: &Code, statement: &Stmt, slots: &[Value]) -> Result<Cell, Fault>
     requires plain { is_plain code.now.globals.items (stmt_view statement.now) ≡ true }
     ensures steps { Steps (text_of code.now) (stmt_view statement.now) slots.now (cut_of result) }
     ensures variable { IfOk result (λ c. IsVariable code.now.globals.items c.slot) }
+    ensures target { IfOk result (λ c. is_slot_of code.now.globals.items (targets (stmt_view statement.now)) c.slot ≡ true) }
     ensures there { IfOk result (λ c. c.slot < length slots.now) }
 {
     let Stmt::Assign(target, expression) = statement else {
@@ -79,6 +92,7 @@ fn write(writes: &mut Vec<Cell>, cell: Cell) -> Result<(), AllocError>
 }
 
 /// Runs the statements one after another, each for a tick, and collects what they write up to the end or a fault.
+#[tactic(auto, using(crate::proofs::OnceLemmas::none_once))]
 fn run_all(
     code: &Code,
     mut slots: Vec<Value>,
@@ -88,6 +102,8 @@ fn run_all(
     requires none { writes.old.items ≡ [] }
     ensures runs { IfOk result (λ outcome. Runs (text_of code.now) slots.items budget (map cut writes.new.items) outcome) }
     ensures variables { IfOk result (λ _. list_all (λ c. is_variable_slot code.now.globals.items c.0) (map cut writes.new.items) ≡ true) }
+    ensures targets { IfOk result (λ _. list_all (λ c. is_target_slot (text_of code.now) c.0) (map cut writes.new.items) ≡ true) }
+    ensures once { IfOk result (λ _. EachSlotOnce (map cut writes.new.items)) }
 {
     let mut left = budget;
     for statement in &code.unit.body {
@@ -115,7 +131,8 @@ fn kept(outcome: Outcome, mut writes: Vec<Cell>) -> Vec<Cell>
     writes
 }
 
-/// Runs a snapshot's code on its values. What it reads are all globals that the program names.
+/// Runs a snapshot's code on its values. What it reads are all globals that the program names, each once; what it writes are variables
+/// that its statements assign, each once.
 ///
 /// An error is want of memory alone.
 pub fn run(alloc: Global, snapshot: Snapshot) -> Result<Execution, AllocError>

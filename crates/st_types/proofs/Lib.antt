@@ -1,6 +1,7 @@
 pub mod Agrees
 pub mod Alike
 pub mod AskedLemmas
+pub mod BestLemmas
 pub mod DueLemmas
 pub mod Lasts
 pub mod LogLemmas

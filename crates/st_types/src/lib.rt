@@ -1,12 +1,19 @@
 //! The words of the language, and what its programs mean.
 #![tactic(auto)]
 
+pub mod case_examples;
+pub mod due_examples;
 mod entry;
 mod examples;
 mod laws;
 mod literals;
+pub mod loop_examples;
+pub mod operator_examples;
 mod plan;
+pub mod restart_examples;
+pub mod row_examples;
 mod schedules;
+pub mod waiting_examples;
 
 pub use entry::{Activation, Entry, Outcome, Row};
 pub use examples::{
@@ -23,9 +30,9 @@ pub use laws::{
 pub use literals::{number_of, value_of_number};
 pub use plan::{Place, PlanInput, PlanVariable};
 pub use schedules::{
-    each_activation_is_done_once, intervals, logs_grow_by_one_step, one_activation_waits,
-    overruns_are_rows_that_meet_a_waiting_program, served_for_good, single_and_interval,
-    three_programs_in_order,
+    each_activation_is_done_once, intervals, logs_grow_by_one_step, one_activation_is_best,
+    one_activation_waits, overruns_are_rows_that_meet_a_waiting_program, served_for_good,
+    single_and_interval, three_programs_in_order,
 };
 pub use st_trees::{
     Address, AddressWidth, Argument, Arm, ArrayType, CaseArm, Configuration, Declaration,

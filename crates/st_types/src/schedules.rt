@@ -36,6 +36,11 @@ pub fn three_programs_in_order()
     ensures overruns_of_p3 { HasOverruns three_programs ran_all 2 0 }
 {}
 
+/// At most one activation of a resource is the best.
+pub fn one_activation_is_best()
+    ensures { (places : List Place) (h : History) (resource : ℕ) (a b : Activation) → IsBest places h resource a → IsBest places h resource b → a ≡ b }
+{}
+
 /// At most one activation of a program waits, and none right behind its Done.
 pub fn one_activation_waits()
     ensures one { (places : List Place) (h : History) (p j k : ℕ) → Waits places h record { program = p; row = j } → Waits places h record { program = p; row = k } → j ≡ k }

@@ -39,5 +39,5 @@ loop-statement-preserved c =
     let writes = map cut c.loop-statement.writes.items in
     let r = at_statement (text_of code) c.args.slots.items body c.deref-statement-items.result.now i x c.args.budget c.loop-statement.left slots writes (search rules) (omega arith) c.statement-item.is c.loop-statement.invariant in
     let steps : Steps (text_of code) (stmt_view x) slots (Ok (cut c.in-Ok.cell)) = rw c.deref-in-loop-statement.ensures.value at c.in-Ok.ensures.steps in
-    let next = reached_next (text_of code) c.args.slots.items (stmt_view x) (map stmt_view (drop (i + 1) body)) c.args.budget c.loop-statement.left (c.loop-statement.left - 1) slots writes (cut c.in-Ok.cell) (omega arith) r steps c.in-Ok.ensures.variable in
+    let next = reached_next (text_of code) c.args.slots.items (stmt_view x) (map stmt_view (drop (i + 1) body)) c.args.budget c.loop-statement.left (c.loop-statement.left - 1) slots writes (cut c.in-Ok.cell) (omega arith) r steps c.in-Ok.ensures.variable c.in-Ok.ensures.target in
     rw c.in_ok-write.ensures next

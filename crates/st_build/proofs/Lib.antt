@@ -1,0 +1,4 @@
+pub mod ListLemmas
+pub mod AddressLemmas
+pub mod PlanLemmas
+pub mod LackLemmas

@@ -1,0 +1,10 @@
+pub mod Lists
+pub mod Lacks
+pub mod TextParts
+pub mod Globals
+pub mod Inputs
+pub mod Programs
+pub mod Addresses
+pub mod Externals
+pub mod Refusals
+pub mod Plans

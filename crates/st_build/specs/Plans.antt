@@ -1,0 +1,124 @@
+-- The plan of a text, and why it has none.
+use Rattle.std.specs.Prelude.{◌≡◌, ◌<◌, ◌⊎◌, ◌==◌, ℕ, true, false, List, [], ◌∷◌, map, length, Some, Result, Ok, Err}
+use Rattle.st_trees.specs.Units.{OrganisationUnit}
+use Rattle.st_trees.specs.Configurations.{Configuration}
+use Rattle.st_trees.specs.Sources.{Source}
+use Rattle.st_lex.specs.declared.token.Token.{Token}
+use Rattle.st_lex.specs.declared.fault.LexError.TheVariants as lexing
+use Rattle.st_lex.specs.Texts as texts
+use Rattle.st_statements.specs.declared.fault.ParseError.TheVariants as grammar
+use Rattle.st_parse.specs.Sources.{IsSource}
+use Rattle.st_parse.specs.Depths.{SourceWithin}
+use Rattle.st_parse.specs.Answers as parsing
+use Rattle.st_types.specs.declared.plan.PlanVariable.{PlanVariable}
+use Rattle.st_types.specs.declared.plan.PlanInput.{PlanInput}
+use Rattle.st_types.specs.NameTypes.{units_in}
+use Rattle.st_types.specs.Plans as plans
+use Rattle.config.specs.declared.plan.Plan.{Plan}
+use Rattle.config.specs.declared.thin_program.ThinProgram.{ThinProgram}
+use Rattle.config.specs.PlanViews.{plan_view}
+use Rattle.config.specs.ThinPlans.{is_thin, thin_plan}
+use Rattle.st_rules.specs.declared.rule.Broken.{Broken}
+use Rattle.st_rules.specs.Rules as rules
+use Rattle.st_build.specs.declared.build_error.BuildError.{BuildError}
+use Rattle.st_build.specs.declared.build_error.BuildError.TheVariants as errors
+use Rattle.st_build.specs.TextParts.{configurations_in, has_types}
+use Rattle.st_build.specs.Programs.{programs_in, have_own_tasks}
+use Rattle.st_build.specs.Externals.{are_known}
+use Rattle.st_build.specs.Refusals.{HasGlobals, has_sound_addresses, are_too_many, is_without_task, HasTooManyPaths, HasTooLongRecord}
+
+-- Names are known, addresses are sound, and there are enough tasks and not too many.
+pub record IsKept (units : List OrganisationUnit) (c : Configuration) : Type 0 where
+  pub known : are_known units c ≡ true
+  pub addresses : has_sound_addresses c.globals ≡ true
+  pub few : are_too_many c.resources ≡ false
+  pub tasked : is_without_task c.resources ≡ false
+
+-- The programs are the instances of the configuration's resources, each in a task of its own.
+pub record HasPrograms (units : List OrganisationUnit) (c : Configuration) (programs : List ThinProgram) : Type 0 where
+  pub programs_are : map Some programs ≡ programs_in units 0 c.resources
+  pub own : have_own_tasks c.resources ≡ true
+
+-- The plan of units and a configuration that this version runs: its variables and inputs are the globals, its programs the instances.
+pub record IsPlanFrom (units : List OrganisationUnit) (c : Configuration) (budget : ℕ) (plan : plans.Plan) : Type 0 where
+  pub variables : List PlanVariable
+  pub inputs : List PlanInput
+  pub programs : List ThinProgram
+  pub kept : IsKept units c
+  pub globals : HasGlobals c variables inputs
+  pub programs_are : HasPrograms units c programs
+  pub thin : is_thin units variables inputs programs budget ≡ true
+  pub is : plan ≡ thin_plan units variables inputs programs budget
+
+-- The plan of a tree that breaks no rule on names, types and ranges, and has no types and one configuration.
+pub record IsPlanOf (source : Source) (budget : ℕ) (plan : plans.Plan) : Type 0 where
+  pub configuration : Configuration
+  pub one : configurations_in source ≡ configuration ∷ []
+  pub unbroken : (broken : Broken) → rules.Breaks source broken → ⊥
+  pub plain : has_types source ≡ false
+  pub from : IsPlanFrom (units_in source) configuration budget plan
+
+-- why a configuration is refused before its parts are made
+abbrev pub BreaksRule : List OrganisationUnit → Configuration → BuildError → Type 0
+BreaksRule units c errors.Unknown = are_known units c ≡ false
+BreaksRule units c errors.Address = has_sound_addresses c.globals ≡ false
+BreaksRule units c errors.TooMany = are_too_many c.resources ≡ true
+BreaksRule units c errors.NoTask = is_without_task c.resources ≡ true
+BreaksRule units c errors.Memory = Unit {0}
+BreaksRule units c _ = ⊥
+
+-- why it has no variables and inputs
+abbrev pub LacksGlobals : Configuration → BuildError → Type 0
+LacksGlobals c errors.TooManyPaths = HasTooManyPaths c
+LacksGlobals c errors.RecordTooLong = HasTooLongRecord c
+LacksGlobals c errors.Memory = Unit {0}
+LacksGlobals c errors.Unsupported = (variables : List PlanVariable) (inputs : List PlanInput) → HasGlobals c variables inputs → ⊥
+LacksGlobals c _ = ⊥
+
+-- why it has no programs
+abbrev pub LacksPrograms : List OrganisationUnit → Configuration → BuildError → Type 0
+LacksPrograms units c errors.Memory = Unit {0}
+LacksPrograms units c errors.Unsupported = (programs : List ThinProgram) → HasPrograms units c programs → ⊥
+LacksPrograms units c _ = ⊥
+
+-- Why units and a configuration have no plan: this number applies. Want of memory says nothing of them.
+abbrev pub Breaks : List OrganisationUnit → Configuration → ℕ → BuildError → Type 0
+Breaks units c budget errors.TooManyPaths = HasTooManyPaths c
+Breaks units c budget errors.RecordTooLong = HasTooLongRecord c
+Breaks units c budget errors.Unsupported = (plan : plans.Plan) → IsPlanFrom units c budget plan → ⊥
+Breaks units c budget e = BreaksRule units c e
+
+-- why a tree has no plan
+abbrev pub Applies : Source → ℕ → BuildError → Type 0
+Applies source budget (errors.Rule broken) = rules.Breaks source broken
+Applies source budget errors.NoConfiguration = (length (configurations_in source) == 1) ≡ false
+Applies source budget errors.Memory = Unit {0}
+Applies source budget errors.Unsupported = (plan : plans.Plan) → IsPlanOf source budget plan → ⊥
+Applies source budget e = (c : Configuration) × (configurations_in source ≡ c ∷ []) × Breaks (units_in source) c budget e
+
+-- The bytes spell the source.
+pub record IsTextOf (text : List ℕ) (source : Source) : Type 0 where
+  pub tokens : List Token
+  pub spelled : texts.IsSpelledBy text tokens
+  pub parsed : IsSource tokens source
+  pub within : SourceWithin 64 source
+
+-- why a text has no plan
+abbrev pub Refused : List ℕ → ℕ → BuildError → Type 0
+Refused text budget errors.Budget = (budget ≡ 0) ⊎ (1000000 < budget)
+Refused text budget (errors.Words e) = texts.Applies text e
+Refused text budget (errors.Grammar e) = (tokens : List Token) × texts.IsSpelledBy text tokens × parsing.Refused tokens e
+Refused text budget errors.Memory = Unit {0}
+Refused text budget e = (source : Source) × IsTextOf text source × Applies source budget e
+
+-- want of memory, by whomever it is told
+abbrev pub IsMemory : BuildError → Type 0
+IsMemory errors.Memory = Unit {0}
+IsMemory (errors.Words lexing.Memory) = Unit {0}
+IsMemory (errors.Grammar grammar.Memory) = Unit {0}
+IsMemory _ = ⊥
+
+-- this plan, unless memory ran out
+abbrev pub GivesPlan : Result Plan BuildError → plans.Plan → Type 0
+GivesPlan (Ok found) plan = plan_view found ≡ plan
+GivesPlan (Err e) plan = IsMemory e

@@ -1,0 +1,49 @@
+-- Why a configuration has no plan.
+use Rattle.std.specs.Prelude.{◌≡◌, ℕ, ◌<◌, ◌+◌, Bool, true, false, ◌&&◌, ◌||◌, nat_lt, List, flat_map, map, length, Option, Some, None}
+use Rattle.std.specs.List.{list_all, list_any}
+use Rattle.st_words.specs.declared.identifier.Identifier.{Identifier}
+use Rattle.st_trees.specs.Configurations.{GlobalBlock, Resource, Configuration}
+use Rattle.st_types.specs.declared.plan.PlanVariable.{PlanVariable}
+use Rattle.st_types.specs.declared.plan.PlanInput.{PlanInput}
+use Rattle.st_types.specs.Layouts.{record_length}
+use Rattle.st_build.specs.Globals.{variables_in}
+use Rattle.st_build.specs.Inputs.{inputs_in}
+use Rattle.st_build.specs.Addresses.{is_sound_block, addresses_in, are_single}
+
+-- Each address is sound where it stands, and none stands twice.
+abbrev pub has_sound_addresses : List GlobalBlock → Bool
+has_sound_addresses blocks = list_all is_sound_block blocks && are_single (addresses_in blocks)
+
+-- more than 8 resources, 32 tasks on one of them, or 64 programs in all
+abbrev pub are_too_many : List Resource → Bool
+are_too_many rs = nat_lt 8 (length rs) || (list_any (λ r. nat_lt 32 (length r.tasks)) rs || nat_lt 64 (length (flat_map (λ r. r.instances) rs)))
+
+abbrev pub is_nothing : Option Identifier → Bool
+is_nothing None = true
+is_nothing (Some x) = false
+
+abbrev pub has_no_task : Resource → Bool
+has_no_task r = list_any (λ i. is_nothing i.task) r.instances
+
+-- some program has no task
+abbrev pub is_without_task : List Resource → Bool
+is_without_task rs = list_any has_no_task rs
+
+-- The globals of a configuration are these variables and inputs.
+pub record HasGlobals (c : Configuration) (variables : List PlanVariable) (inputs : List PlanInput) : Type 0 where
+  pub variables_are : map Some variables ≡ variables_in c.globals
+  pub inputs_are : map Some inputs ≡ inputs_in c.globals
+
+-- more than 4,096 paths
+pub record HasTooManyPaths (c : Configuration) : Type 0 where
+  pub variables : List PlanVariable
+  pub inputs : List PlanInput
+  pub globals : HasGlobals c variables inputs
+  pub many : 4096 < length variables + length inputs
+
+-- a record with a body of more than 131,059 bytes
+pub record HasTooLongRecord (c : Configuration) : Type 0 where
+  pub variables : List PlanVariable
+  pub inputs : List PlanInput
+  pub globals : HasGlobals c variables inputs
+  pub long : 131059 < record_length variables

@@ -1,0 +1,20 @@
+//! From a text in Structured Text to its plan.
+#![tactic(auto)]
+
+mod addresses;
+mod build_error;
+mod counts;
+mod externals;
+mod inputs;
+mod lack;
+mod making;
+mod names;
+mod programs;
+mod source_plan;
+mod tasks;
+mod text_parts;
+mod variables;
+
+pub use build_error::BuildError;
+pub use config::Plan;
+pub use source_plan::build;

@@ -1,0 +1,57 @@
+//! The plan of a text.
+
+ghost use Rattle.std.specs.Prelude.{◌≡◌, IfOk, IfErr};
+ghost use Rattle.st_trees.specs.SourceViews.{source_view};
+ghost use Rattle.st_trees.specs.Sources as tree;
+ghost use Rattle.st_types.specs.Plans as plans;
+ghost use Rattle.config.specs.PlanViews.{plan_view};
+ghost use Rattle.st_build.specs.Plans.{IsTextOf, IsPlanOf, Applies, Refused, GivesPlan};
+
+use crate::build_error::BuildError;
+use crate::making::plan_from;
+use crate::text_parts::{Configured, configuration_of};
+use config::Plan;
+use st_lex::lex;
+use st_parse::parse;
+use st_rules::broken_rule;
+use st_types::Source;
+use std::alloc::Global;
+
+/// The greatest budget, in ticks.
+const MOST_TICKS: u32 = 1_000_000;
+
+/// The plan of a tree.
+fn plan_of(alloc: Global, source: Source, budget: u32) -> Result<Plan, BuildError>
+    ensures plan { IfOk result (λ plan. IsPlanOf (source_view source) budget (plan_view plan)) }
+    ensures refused { IfErr result (λ e. Applies (source_view source) budget e) }
+{
+    if let Some(broken) = broken_rule(alloc, &source)? {
+        return Err(BuildError::Rule(broken));
+    }
+    let Configured {
+        units,
+        configuration,
+    } = configuration_of(alloc, source)?;
+    plan_from(alloc, units, &configuration, budget)
+}
+
+/// The plan of a text in Structured Text for a budget of 1 to 1,000,000 ticks.
+///
+/// This version runs programs that assign whole-number literals, names and their sums to VAR_EXTERNAL globals of INT and DINT, and
+/// inputs of the plant, each program in a task of its own with an INTERVAL and PRIORITY 0. G7 comes first, then the lexer's and the
+/// parser's refusals, then the others, of which any that applies may come; X2 is for what this version can't run.
+pub fn build(alloc: Global, text: &[u8], budget: u32) -> Result<Plan, BuildError>
+    // The plan is that of a tree that the bytes spell.
+    ensures plan { IfOk result (λ plan. (source : tree.Source) × IsTextOf text.now source × IsPlanOf source budget (plan_view plan)) }
+    // A text of which there is such a plan is given it, unless memory runs out.
+    ensures only { (source : tree.Source) (plan : plans.Plan) → IsTextOf text.now source → IsPlanOf source budget plan → GivesPlan result plan }
+    // A refusal applies.
+    ensures refused { IfErr result (λ e. Refused text.now budget e) }
+{
+    if budget == 0 || MOST_TICKS < budget {
+        return Err(BuildError::Budget);
+    }
+    let tokens = lex(alloc, text)?;
+    let source = parse(alloc, &tokens)?;
+    plan_of(alloc, source, budget)
+}

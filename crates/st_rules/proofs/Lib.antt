@@ -1,0 +1,5 @@
+pub mod PlaceLemmas
+pub mod StandardLemmas
+pub mod KindLemmas
+pub mod StepLemmas
+pub mod LoopLemmas

@@ -1,0 +1,183 @@
+//! Names that are declared twice, or that are taken.
+
+ghost use Rattle.std.specs.Prelude.{◌≡◌, ◌++◌, map, IfOk};
+ghost use Rattle.std.specs.List.{flat_map};
+ghost use Rattle.st_trees.specs.DeclarationViews.{type_declaration_view, type_definition_view};
+ghost use Rattle.st_trees.specs.UnitViews.{unit_view};
+ghost use Rattle.st_trees.specs.ConfigurationViews.{resource_view, configuration_view};
+ghost use Rattle.st_trees.specs.SourceViews.{element_view, source_view};
+ghost use Rattle.st_rules.specs.Places.{first, places_where, repeats};
+ghost use Rattle.st_rules.specs.Scopes.{fields_of, names_in, scopes_of_element, variables_of_element};
+ghost use Rattle.st_rules.specs.Declarations.{is_standard, is_taken, twice_declared};
+
+use crate::names::{first_repeat, is_among};
+use crate::scopes::{
+    globals_of, names_in, names_of_fields, names_of_resources, names_of_text, variables_of,
+    variables_of_text,
+};
+use crate::standard::is_standard;
+use st_types::{
+    Configuration, Identifier, LibraryElement, Resource, Source, TypeDeclaration, TypeDefinition,
+};
+use std::alloc::{AllocError, Global};
+
+/// A field that is declared again in its structure.
+fn repeated_field(alloc: Global, definition: &TypeDefinition) -> Result<Option<usize>, AllocError>
+    ensures { IfOk result (λ place. place ≡ first (repeats (fields_of (type_definition_view definition.now)))) }
+{
+    match definition {
+        TypeDefinition::Array(_) => Ok(None),
+        TypeDefinition::Structure(fields) => {
+            let scope = names_of_fields(alloc, fields)?;
+            Ok(first_repeat(&scope))
+        }
+    }
+}
+
+#[tactic(auto, using(crate::proofs::PlaceLemmas::first_front, crate::proofs::PlaceLemmas::first_behind))]
+fn repeat_in_types(alloc: Global, types: &[TypeDeclaration]) -> Result<Option<usize>, AllocError>
+    ensures { IfOk result (λ place. place ≡ first (flat_map repeats (map (λ t. fields_of t.definition) (map type_declaration_view types.now)))) }
+{
+    for declaration in types {
+        if let Some(place) = repeated_field(alloc, &declaration.definition)? {
+            return Ok(Some(place));
+        }
+    }
+    Ok(None)
+}
+
+#[tactic(auto, using(crate::proofs::PlaceLemmas::first_front, crate::proofs::PlaceLemmas::first_behind))]
+fn repeat_in_resources(alloc: Global, resources: &[Resource]) -> Result<Option<usize>, AllocError>
+    ensures { IfOk result (λ place. place ≡ first (flat_map repeats (map names_in (map resource_view resources.now)))) }
+{
+    for resource in resources {
+        let scope = names_in(alloc, resource)?;
+        if let Some(place) = first_repeat(&scope) {
+            return Ok(Some(place));
+        }
+    }
+    Ok(None)
+}
+
+#[tactic(auto, using(crate::proofs::PlaceLemmas::first_front, crate::proofs::PlaceLemmas::first_behind))]
+fn repeat_in_configuration(
+    alloc: Global,
+    configuration: &Configuration,
+) -> Result<Option<usize>, AllocError>
+    ensures { IfOk result (λ place. place ≡ first (flat_map repeats (scopes_of_element (element_view (LibraryElement.Configuration configuration.now))))) }
+{
+    let globals = globals_of(alloc, &configuration.globals)?;
+    if let Some(place) = first_repeat(&globals) {
+        return Ok(Some(place));
+    }
+    let resources = names_of_resources(alloc, &configuration.resources)?;
+    if let Some(place) = first_repeat(&resources) {
+        return Ok(Some(place));
+    }
+    repeat_in_resources(alloc, &configuration.resources)
+}
+
+/// A name that is declared again in a scope of the element's own.
+#[tactic(auto, using(crate::proofs::PlaceLemmas::first_alone))]
+fn repeat_in_element(alloc: Global, element: &LibraryElement) -> Result<Option<usize>, AllocError>
+    ensures { IfOk result (λ place. place ≡ first (flat_map repeats (scopes_of_element (element_view element.now)))) }
+{
+    match element {
+        LibraryElement::Types(types) => repeat_in_types(alloc, types),
+        LibraryElement::Unit(unit) => {
+            let scope = variables_of(alloc, unit)?;
+            Ok(first_repeat(&scope))
+        }
+        LibraryElement::Configuration(configuration) => {
+            repeat_in_configuration(alloc, configuration)
+        }
+    }
+}
+
+#[tactic(auto, using(crate::proofs::PlaceLemmas::first_front, crate::proofs::PlaceLemmas::first_behind, crate::proofs::PlaceLemmas::repeats_append))]
+fn repeat_in_elements(
+    alloc: Global,
+    elements: &[LibraryElement],
+) -> Result<Option<usize>, AllocError>
+    ensures { IfOk result (λ place. place ≡ first (flat_map repeats (flat_map scopes_of_element (map element_view elements.now)))) }
+{
+    for element in elements {
+        if let Some(place) = repeat_in_element(alloc, element)? {
+            return Ok(Some(place));
+        }
+    }
+    Ok(None)
+}
+
+/// The place of a name that is one of a standard function or block.
+fn first_standard(scope: &[&Identifier]) -> Option<usize>
+    ensures { result ≡ first (places_where (λ x. is_standard x.name) (map (λ x. x.now) scope.now)) }
+{
+    for name in scope {
+        if is_standard(&name.name) {
+            return Some(name.place);
+        }
+    }
+    None
+}
+
+fn is_taken(names: &[&Identifier], variable: &Identifier) -> bool
+    ensures { result ≡ is_taken (map (λ x. x.now) names.now) variable.now }
+{
+    is_standard(&variable.name) || is_among(names, &variable.name)
+}
+
+/// The place of a variable whose name is taken.
+fn first_taken(names: &[&Identifier], variables: &[&Identifier]) -> Option<usize>
+    ensures { result ≡ first (places_where (is_taken (map (λ x. x.now) names.now)) (map (λ x. x.now) variables.now)) }
+{
+    for variable in variables {
+        if is_taken(names, variable) {
+            return Some(variable.place);
+        }
+    }
+    None
+}
+
+/// A name that is declared again in its scope; the first scope is of these names.
+#[tactic(auto, using(crate::proofs::PlaceLemmas::first_front, crate::proofs::PlaceLemmas::first_behind))]
+fn first_repeated(
+    alloc: Global,
+    names: &[&Identifier],
+    elements: &[LibraryElement],
+) -> Result<Option<usize>, AllocError>
+    ensures { IfOk result (λ place. place ≡ first (repeats (map (λ x. x.now) names.now) ++ flat_map repeats (flat_map scopes_of_element (map element_view elements.now)))) }
+{
+    if let Some(place) = first_repeat(names) {
+        return Ok(Some(place));
+    }
+    repeat_in_elements(alloc, elements)
+}
+
+/// A name that is taken; the units and types have these names.
+#[tactic(auto, using(crate::proofs::PlaceLemmas::first_front, crate::proofs::PlaceLemmas::first_behind))]
+fn first_refused(
+    alloc: Global,
+    names: &[&Identifier],
+    elements: &[LibraryElement],
+) -> Result<Option<usize>, AllocError>
+    ensures { IfOk result (λ place. place ≡ first (places_where (λ x. is_standard x.name) (map (λ x. x.now) names.now) ++ places_where (is_taken (map (λ x. x.now) names.now)) (flat_map variables_of_element (map element_view elements.now)))) }
+{
+    if let Some(place) = first_standard(names) {
+        return Ok(Some(place));
+    }
+    let variables = variables_of_text(alloc, elements)?;
+    Ok(first_taken(names, &variables))
+}
+
+/// A place at which a name is declared twice, or is taken.
+#[tactic(auto, using(crate::proofs::PlaceLemmas::first_front, crate::proofs::PlaceLemmas::first_behind))]
+pub fn first_declared_twice(alloc: Global, source: &Source) -> Result<Option<usize>, AllocError>
+    ensures { IfOk result (λ place. place ≡ first (twice_declared (source_view source.now))) }
+{
+    let names = names_of_text(alloc, &source.elements)?;
+    if let Some(place) = first_repeated(alloc, &names, &source.elements)? {
+        return Ok(Some(place));
+    }
+    first_refused(alloc, &names, &source.elements)
+}

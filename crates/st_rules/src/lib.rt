@@ -1,0 +1,20 @@
+//! The rules on names and types that a text may break, as far as they are looked into yet.
+#![tactic(auto)]
+
+mod check;
+mod declarations;
+mod elements;
+mod initials;
+mod kinds;
+mod lookup;
+mod names;
+mod operations;
+mod places;
+mod ranges;
+mod rule;
+mod scopes;
+mod standard;
+mod unknown;
+
+pub use check::broken_rule;
+pub use rule::{Broken, Rule};

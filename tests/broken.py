@@ -1,0 +1,159 @@
+#!/usr/bin/env python3
+"""Feeds the built program broken texts, plants and retain files.
+
+Each is accepted, or refused with one fault line and the status of its kind; a place lies inside the text, and a retain file that was
+there stays as it was. Nothing crashes.
+
+usage: tests/broken.py PLANT [TEXTS [PLANTS [STORES]]]     PLANT is the built program; 2000, 500 and 500 where no numbers are given
+"""
+import os
+import pathlib
+import random
+import re
+import subprocess
+import sys
+import tempfile
+
+TOKEN = re.compile(r"\(\*.*?\*\)|[A-Za-z0-9_#%]+|:=|=>|\.\.|<=|>=|<>|\S", re.DOTALL)
+FAULT = re.compile(r"fault ([A-Z])([0-9]+)(?: at ([0-9]+))?\n")
+ROOT = pathlib.Path(__file__).resolve().parent.parent
+
+
+def fail(what, told):
+    sys.exit(f"broken.py: {what}: {told}")
+
+
+class Plant:
+    """The built program in a folder of its own."""
+
+    def __init__(self, program):
+        self.program = program
+
+    def run(self, *words):
+        done = subprocess.run([self.program, *words], capture_output=True, text=True, timeout=60)
+        return done.returncode, done.stdout, done.stderr
+
+    def look(self, what, answer, status, codes):
+        """Whether it was refused, with one line of one of these codes; else it was accepted."""
+        found, out, err = answer
+        if found == 0:
+            if err or not out:
+                fail(what, answer)
+            return None
+        fault = FAULT.fullmatch(err)
+        if found != status or out or not fault or fault[1] not in codes:
+            fail(what, answer)
+        return fault
+
+
+def change(pick, tokens, pool):
+    """One token dropped, doubled, swapped with the next, or changed into another."""
+    changed = list(tokens)
+    at = pick.randrange(len(tokens))
+    kind = pick.randrange(4)
+    if kind == 0:
+        del changed[at]
+    elif kind == 1:
+        changed.insert(at, changed[at])
+    elif kind == 2 and at + 1 < len(changed):
+        changed[at], changed[at + 1] = changed[at + 1], changed[at]
+    else:
+        changed[at] = pick.choice(pool)
+    return changed
+
+
+def texts(plant, pick, count):
+    sources = sorted(ROOT.glob("examples/*/*.st")) + sorted(ROOT.glob("tests/texts/*.st"))
+    tokens = [TOKEN.findall(source.read_text()) for source in sources]
+    pool = sorted({token for each in tokens for token in each})
+    store = pathlib.Path("store")
+    store.write_bytes(b"kept")
+    pathlib.Path("plant.csv").write_text("t\n")
+    accepted = 0
+    for number in range(count):
+        text = " ".join(change(pick, tokens[number % len(tokens)], pool))
+        pathlib.Path("broken.st").write_text(text)
+        fault = plant.look(text, plant.run("check", "broken.st"), 2, "LPCGMX")
+        if fault is None:
+            accepted += 1
+            continue
+        if fault[3] is not None and int(fault[3]) > len(text):
+            fail(text, fault[0])
+        again = plant.run("run", "broken.st", "--plant", "plant.csv", "--store", "store", "--start", "cold")
+        if again != (2, "", fault[0]) or store.read_bytes() != b"kept":
+            fail(text, again)
+    return accepted
+
+
+def spoiled(pick, data, places):
+    """Bytes with one byte changed, dropped or doubled, or the end cut off; the byte is one of the places'."""
+    at = pick.choice(places)
+    kind = pick.randrange(4)
+    if kind == 0:
+        return data[:at] + bytes([pick.randrange(256)]) + data[at + 1 :]
+    if kind == 1:
+        return data[:at] + data[at + 1 :]
+    if kind == 2:
+        return data[:at] + data[at : at + 1] + data[at:]
+    return data[:at]
+
+
+def plants(plant, pick, count):
+    source = str(ROOT / "examples/flow/flow.st")
+    rows = (ROOT / "examples/flow/plant.csv").read_bytes()
+    accepted = 0
+    store = pathlib.Path("plants")
+    for number in range(count):
+        broken = spoiled(pick, rows, range(len(rows)))
+        pathlib.Path("broken.csv").write_bytes(broken)
+        store.write_bytes(b"kept")
+        words = ("run", source, "--plant", "broken.csv", "--store", "plants", "--start", "cold")
+        if plant.look(broken, plant.run(*words), 3, "I") is None:
+            accepted += 1
+        elif store.read_bytes() != b"kept":
+            fail(broken, "the retain file was changed")
+    return accepted
+
+
+def stores(plant, pick, count):
+    folder = ROOT / "examples/dosing"
+    source = str(folder / "dosing.st")
+    plant.run("run", source, "--plant", str(folder / "plant.csv"), "--store", "good", "--start", "cold")
+    good = pathlib.Path("good").read_bytes()
+    if len(good) != 262144:
+        fail("a good run", f"a retain file of {len(good)} bytes")
+    places = [area + at for area in (0, 131072) for at in range(64)] + [262143]
+    pathlib.Path("none.csv").write_text("t\n")
+    store = pathlib.Path("broken")
+    accepted = 0
+    for number in range(count):
+        broken = spoiled(pick, good, places)
+        store.write_bytes(broken)
+        start = ("warm", "cold")[number % 2]
+        words = ("run", source, "--plant", "none.csv", "--store", "broken", "--start", start)
+        if plant.look(broken[:64], plant.run(*words), 4, "SN") is None:
+            accepted += 1
+        elif store.read_bytes() != broken:
+            fail(broken[:64], "a refused retain file was changed")
+    return accepted
+
+
+def main():
+    plant = Plant(str(pathlib.Path(sys.argv[1]).resolve()))
+    counts = [2000, 500, 500]
+    for place, word in enumerate(sys.argv[2:5]):
+        counts[place] = int(word)
+    pick = random.Random(1)
+    with tempfile.TemporaryDirectory() as folder:
+        os.chdir(folder)
+        told = []
+        for name, kind, count in zip(("texts", "plants", "retain files"), (texts, plants, stores), counts):
+            accepted = kind(plant, pick, count)
+            if accepted in (0, count):
+                fail(name, f"{accepted} of {count} accepted")
+            told.append(f"{count} {name}, {accepted} of them accepted")
+        os.chdir("/")
+    print(f"broken.py: {'; '.join(told)}")
+
+
+main()

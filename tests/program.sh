@@ -1,0 +1,174 @@
+#!/usr/bin/env bash
+# Runs the built program over real files, scene by scene, and compares its exit status, its outputs and the retain file.
+#
+# usage: tests/program.sh PLANT     PLANT is the built program
+set -euo pipefail
+
+plant=$(realpath "$1")
+work=$(mktemp -d)
+trap 'rm -rf "$work"' EXIT
+cd "$work"
+
+scenes=0
+fail() {
+    echo "program.sh: $1" >&2
+    exit 1
+}
+
+# scene NAME STATUS OUTPUT ERROR WORD..: the program answers so to these words
+scene() {
+    local name=$1 status=$2 output=$3 error=$4 found=0
+    shift 4
+    "$plant" "$@" > out 2> err || found=$?
+    [ "$found" -eq "$status" ] || fail "$name: status $found: $(cat err)"
+    [ "$(cat out)" = "$output" ] || fail "$name: told $(cat out)"
+    [ "$(cat err)" = "$error" ] || fail "$name: told $(cat err)"
+    scenes=$((scenes + 1))
+}
+
+# told NAME STATUS WORD..: the program ends so, with some text on the standard error and none on the standard output
+refused() {
+    local name=$1 status=$2 found=0
+    shift 2
+    "$plant" "$@" > out 2> err || found=$?
+    [ "$found" -eq "$status" ] || fail "$name: status $found"
+    [ ! -s out ] || fail "$name: told $(cat out)"
+    [ -s err ] || fail "$name: told nothing"
+    scenes=$((scenes + 1))
+}
+
+# bytes HEX FILE: a file of these bytes
+bytes() {
+    printf '%b' "$(sed 's/../\\x&/g' <<< "$1")" > "$2"
+}
+
+# holds NAME FILE HEX: the file begins with these bytes, and zero bytes follow up to 262,144
+holds() {
+    bytes "$3" wanted
+    truncate -s 262144 wanted
+    cmp -s "$2" wanted || fail "$1: the retain file is another"
+    scenes=$((scenes + 1))
+}
+
+# counting TYPE: the text that counts rows in N
+counting() {
+    cat << END
+PROGRAM Add VAR_EXTERNAL n : $1; END_VAR n := n + 1; END_PROGRAM
+CONFIGURATION C
+VAR_GLOBAL RETAIN n : $1; END_VAR
+RESOURCE R ON CPU
+TASK T (INTERVAL := T#10ms, PRIORITY := 0);
+PROGRAM P WITH T : Add;
+END_RESOURCE
+END_CONFIGURATION
+END
+}
+
+counting INT > s.st
+counting DINT > dint.st
+cat > both.st << 'END'
+PROGRAM Add VAR_EXTERNAL n : INT; k : INT; END_VAR n := n + 1; k := k + 1; END_PROGRAM
+CONFIGURATION C
+VAR_GLOBAL RETAIN n : INT; END_VAR
+VAR_GLOBAL k : INT := 7; END_VAR
+RESOURCE R ON CPU
+TASK T (INTERVAL := T#10ms, PRIORITY := 0);
+PROGRAM P WITH T : Add;
+END_RESOURCE
+END_CONFIGURATION
+END
+printf 't\n' > none.csv
+printf 't\n0\n10\n20\n' > rows.csv
+printf 't\n20\n' > last.csv
+printf 't\n30\n' > next.csv
+
+run() {
+    echo run "$1" --plant "$2" --store "$3" --start "$4"
+}
+report() {
+    printf 'rows %s\ndone %s\nfaults %s\noverruns %s\nacked %s\n' "$1" "$2" "$3" "$4" "$5"
+    shift 5
+    printf '%s\n' "$@"
+}
+
+# Rows are counted, and what is retained is there after a restart.
+scene "three rows" 0 "$(report 3 3 0 0 6 'N = 3')" "" $(run s.st rows.csv s cold)
+scene "sizes" 0 "$(printf '%s 1\n' resources tasks programs slots retained)" "" check s.st
+scene "two globals" 0 "$(report 3 3 0 0 6 'N = 3' 'K = 10')" "" $(run both.st rows.csv both cold)
+scene "sizes of two globals" 0 "$(printf '%s\n' 'resources 1' 'tasks 1' 'programs 1' 'slots 2' 'retained 1')" "" check both.st
+scene "a warm restart" 0 "$(report 0 0 0 0 0 'N = 3' 'K = 7')" "" $(run both.st none.csv both warm)
+scene "a row at the record's moment" 5 "" "fault K4" $(run both.st last.csv both warm)
+scene "a later row" 0 "$(report 1 1 0 0 2 'N = 4' 'K = 8')" "" $(run both.st next.csv both warm)
+scene "another layout" 4 "" "fault N1" $(run dint.st none.csv s warm)
+scene "a cold restart" 0 "$(report 0 0 0 0 0 'N = 0')" "" $(run s.st none.csv s cold)
+scene "the built-in configuration" 0 "N = 200" "" first
+
+# The bytes of the retain file.
+scene "no retain file" 0 "$(report 0 0 0 0 0 'N = 0')" "" $(run s.st none.csv new cold)
+holds "no retain file" new A50000000000000001000000140000000000000000000000064E20494E540A0000
+bytes A50000000000000002000000140000000000000015000000064E20494E540A0003 kept
+truncate -s 262144 kept
+scene "a record" 0 "$(report 0 0 0 0 0 'N = 3')" "" $(run s.st none.csv kept warm)
+holds "a record" kept A50000000000000002000000140000000000000015000000064E20494E540A0003
+: > empty
+scene "an empty file" 0 "$(report 0 0 0 0 0 'N = 0')" "" $(run s.st none.csv empty warm)
+[ "$(stat -c %s empty)" -eq 262144 ] || fail "an empty file is not formatted"
+truncate -s 262143 short
+scene "a file one byte short" 0 "$(report 0 0 0 0 0 'N = 0')" "" $(run s.st none.csv short warm)
+[ "$(stat -c %s short)" -eq 262144 ] || fail "a short file is not formatted"
+truncate -s 262145 long
+scene "a file one byte too long" 4 "" "fault S1" $(run s.st none.csv long warm)
+[ "$(stat -c %s long)" -eq 262145 ] || fail "a long file was changed"
+bytes A5 gate
+truncate -s 262144 gate
+cp gate before
+scene "an open gate over nothing" 4 "" "fault S2" $(run s.st none.csv gate warm)
+scene "a cold start over it" 4 "" "fault S2" $(run s.st none.csv gate cold)
+cmp -s gate before || fail "a damaged file was changed"
+scene "a folder that isn't there" 4 "" "fault S3" $(run s.st none.csv folder/store cold)
+
+# Sources that are refused. Their retain file isn't even made.
+printf 'a__b' > word.st
+printf 'PROGRAM Add VAR n : INT; END_VAR n := TRUE; END_PROGRAM' > type.st
+printf 'PROGRAM Add VAR n : INT; END_VAR n := ; END_PROGRAM' > grammar.st
+printf 'PROGRAM Add VAR_EXTERNAL n : INT; END_VAR n := n + 1; END_PROGRAM' > alone.st
+scene "a malformed name" 2 "" "fault L3 at 0" check word.st
+scene "a wrong type" 2 "" "fault C3 at 38" check type.st
+scene "an unexpected token" 2 "" "fault P1 at 38" check grammar.st
+scene "no configuration" 2 "" "fault G2" check alone.st
+scene "no source" 2 "" "fault X1" check none.st
+scene "no ticks" 2 "" "fault G7" $(run word.st rows.csv made cold) --budget 0
+scene "one tick too many" 2 "" "fault G7" $(run s.st rows.csv made cold) --budget 1000001
+scene "a refused source" 2 "" "fault L3 at 0" $(run word.st rows.csv made cold)
+refused "a budget that is no number" 1 $(run s.st rows.csv made cold) --budget x
+refused "a negative budget" 1 $(run s.st rows.csv made cold) --budget -1
+refused "no words" 1
+scene "no plant" 3 "" "fault I5" $(run s.st nowhere.csv made cold)
+[ ! -e made ] || fail "a refused run has made a retain file"
+
+# change NAME OLD NEW FAULT: the first text with one part changed is refused so
+change() {
+    sed "s/$2/$3/" s.st > changed.st
+    cmp -s s.st changed.st && fail "$1: nothing was changed"
+    scene "$1" 2 "" "fault $4" check changed.st
+}
+change "an unknown global" 'RETAIN n' 'RETAIN m' G3
+change "a global of another type" 'RETAIN n : INT' 'RETAIN n : DINT' G3
+change "a constant external" 'VAR_EXTERNAL n' 'VAR_EXTERNAL CONSTANT n' G3
+change "an unknown task" 'WITH T' 'WITH U' G3
+change "an unknown program" ': Add' ': Sub' G3
+change "a program without a task" 'WITH T ' '' G8
+change "an output" 'RETAIN n : INT' 'n AT %QW0 : INT' X2
+change "an address past its range" 'RETAIN n : INT' 'n AT %QW256 : INT' G4
+change "an address of another width" 'RETAIN n : INT' 'n AT %QX0 : INT' G4
+change "an input that is assigned" 'RETAIN n : INT' 'n AT %IW0 : INT' G3
+change "a task with a priority" 'PRIORITY := 0' 'PRIORITY := 1' X2
+change "a priority over 65535" 'PRIORITY := 0' 'PRIORITY := 65536' 'C4 at 175'
+change "a program of its own variable" 'VAR_EXTERNAL n' 'VAR n' X2
+change "a loop" 'n := n + 1' 'WHILE n < 1 DO n := 1; END_WHILE' X2
+change "a literal outside its type" 'n + 1' 'n + 32768' 'C4 at 51'
+change "a variable that isn't declared" 'n + 1' 'm + 1' 'C1 at 47'
+change "a program declared twice" 'CONFIGURATION C' 'PROGRAM Add END_PROGRAM CONFIGURATION C' 'C2 at 74'
+change "a second configuration" 'END_CONFIGURATION' 'END_CONFIGURATION CONFIGURATION D RESOURCE R ON CPU PROGRAM P : Add; END_RESOURCE END_CONFIGURATION' G2
+
+echo "program.sh: $scenes scenes as they should be"
