@@ -6,20 +6,12 @@
 set -euo pipefail
 
 plant=$(realpath "$1")
+text=$(realpath "$(dirname "$0")/../tests/texts/counter.st")
 work=$(mktemp -d -p "${2:-/tmp}")
 trap 'rm -rf "$work"' EXIT
 cd "$work"
 
-cat > n.st <<'END'
-PROGRAM Add VAR_EXTERNAL n : DINT; END_VAR n := n + 1; END_PROGRAM
-CONFIGURATION C
-VAR_GLOBAL RETAIN n : DINT; END_VAR
-RESOURCE R ON CPU
-TASK T (INTERVAL := T#10ms, PRIORITY := 0);
-PROGRAM P WITH T : Add;
-END_RESOURCE
-END_CONFIGURATION
-END
+sed 's/: INT;/: DINT;/' "$text" > n.st
 { echo t; seq 0 10 99990; } > rows.csv
 echo t > none.csv
 

@@ -58,15 +58,18 @@ look() {
     known=$a
 }
 
-# How long a whole life takes, in milliseconds.
-rows 0 10000 > plant.csv
+# A whole life, which tells how many rows take about a second and a half on this disk: 100 to 10,000.
+rows 0 200 > plant.csv
 begin=$(date +%s%3N)
 "$plant" run counters.st --plant plant.csv --store store --start cold > report
-whole=$(($(date +%s%3N) - begin))
+took=$(($(date +%s%3N) - begin + 1))
 known=$(value A)
-[ "$known" -eq 10000 ] || fail "a whole life counted $known of 10000 rows"
-[ "$(value acked)" -eq 20000 ] || fail "a whole life acknowledged $(value acked) of 20000 entries"
-[ "$whole" -ge 20 ] || fail "a whole life takes $whole ms, too short to be killed"
+[ "$known" -eq 200 ] || fail "a whole life counted $known of 200 rows"
+[ "$(value acked)" -eq 400 ] || fail "a whole life acknowledged $(value acked) of 400 entries"
+count=$((1500 * 200 / took))
+[ $count -ge 100 ] || count=100
+[ $count -le 10000 ] || count=10000
+whole=$((took * count / 200))
 
 # A kill counts where the killed life had saved a row: it came within the run, not before it and not after it.
 counted=0
@@ -74,7 +77,7 @@ life=1
 started=$SECONDS
 while [ "$counted" -lt "$kills" ]; do
     [ $((SECONDS - started)) -lt $limit ] || fail "only $counted of $kills kills in $limit seconds"
-    rows $((life * 10000000)) 10000 > plant.csv
+    rows $((life * 10000000)) $count > plant.csv
     before=$known
     "$plant" run counters.st --plant plant.csv --store store --start warm > report 2> fault &
     pid=$!
@@ -82,7 +85,7 @@ while [ "$counted" -lt "$kills" ]; do
     kill -9 $pid 2> killing || true
     if wait $pid 2> killing; then
         known=$(value A)
-        [ "$known" -eq $((before + 10000)) ] || fail "a whole life counted from $before to $known"
+        [ "$known" -eq $((before + count)) ] || fail "a whole life counted from $before to $known"
     else
         [ ! -s report ] || fail "a killed life has printed a report"
         [ ! -s fault ] || fail "a life ended with $(cat fault)"

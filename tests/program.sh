@@ -5,6 +5,7 @@
 set -euo pipefail
 
 plant=$(realpath "$1")
+texts=$(realpath "$(dirname "$0")/texts")
 work=$(mktemp -d)
 trap 'rm -rf "$work"' EXIT
 cd "$work"
@@ -26,7 +27,7 @@ scene() {
     scenes=$((scenes + 1))
 }
 
-# told NAME STATUS WORD..: the program ends so, with some text on the standard error and none on the standard output
+# refused NAME STATUS WORD..: the program ends so, with some text on the standard error and none on the standard output
 refused() {
     local name=$1 status=$2 found=0
     shift 2
@@ -50,33 +51,9 @@ holds() {
     scenes=$((scenes + 1))
 }
 
-# counting TYPE: the text that counts rows in N
-counting() {
-    cat << END
-PROGRAM Add VAR_EXTERNAL n : $1; END_VAR n := n + 1; END_PROGRAM
-CONFIGURATION C
-VAR_GLOBAL RETAIN n : $1; END_VAR
-RESOURCE R ON CPU
-TASK T (INTERVAL := T#10ms, PRIORITY := 0);
-PROGRAM P WITH T : Add;
-END_RESOURCE
-END_CONFIGURATION
-END
-}
-
-counting INT > s.st
-counting DINT > dint.st
-cat > both.st << 'END'
-PROGRAM Add VAR_EXTERNAL n : INT; k : INT; END_VAR n := n + 1; k := k + 1; END_PROGRAM
-CONFIGURATION C
-VAR_GLOBAL RETAIN n : INT; END_VAR
-VAR_GLOBAL k : INT := 7; END_VAR
-RESOURCE R ON CPU
-TASK T (INTERVAL := T#10ms, PRIORITY := 0);
-PROGRAM P WITH T : Add;
-END_RESOURCE
-END_CONFIGURATION
-END
+cp "$texts/counter.st" s.st
+sed 's/: INT;/: DINT;/' s.st > dint.st
+cp "$texts/two_counters.st" both.st
 printf 't\n' > none.csv
 printf 't\n0\n10\n20\n' > rows.csv
 printf 't\n20\n' > last.csv

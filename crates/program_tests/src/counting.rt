@@ -46,12 +46,11 @@ fn text(alloc: Global, globals: &[Counted]) -> Result<String, Fail> {
         let retain = if retained { "RETAIN" } else { "" };
         externals.push_str(&format!(in alloc; "{name} : {kind}; ")?)?;
         body.push_str(&format!(in alloc; "{name} := {name} + 1; ")?)?;
-        declared.push_str(
-            &format!(in alloc; "VAR_GLOBAL {retain} {name} : {kind} := {initial}; END_VAR ")?,
-        )?;
+        declared.push_str(&format!(in alloc;
+            "VAR_GLOBAL {retain} {name} : {kind} := {initial}; END_VAR "
+        )?)?;
     }
-    Ok(format!(
-        in alloc;
+    Ok(format!(in alloc;
         "PROGRAM Add VAR_EXTERNAL {externals}END_VAR {body}END_PROGRAM
         CONFIGURATION C {declared}RESOURCE R ON CPU
         TASK T (INTERVAL := T#10ms, PRIORITY := 0);

@@ -4,7 +4,6 @@ use crate::counting::{Counted, K, N, plan};
 use crate::fakes::{Fakes, Text};
 use plant_program::{run_plan, sizes_of};
 use plant_words::{Pace, RunJob, Start};
-use st_types::Kind;
 use std::alloc::Global;
 use std::process::Abort;
 use std::test::Fail;
@@ -24,8 +23,8 @@ const VECTOR: [u8; 33] = [
 ];
 
 const DINT_N: Counted = Counted {
-    name: "N",
-    kind: Kind::Dint,
+    name: "n",
+    kind: "DINT",
     initial: 0,
     retained: true,
 };
@@ -228,7 +227,7 @@ fn sizes_are_a_line_each(rt: HostRuntime) -> Result<(), Fail> {
             "resources 1\ntasks 1\nprograms 1\nslots 2\nretained 1\n",
         ),
     ] {
-        let plan = plan(rt.alloc(), globals)?.ok_or("no plan")?;
+        let plan = plan(rt.alloc(), globals)?;
         let found = String::from_utf8(sizes_of(rt.alloc(), &plan)?)?;
         assert!(rt; found.as_str() == expected);
     }

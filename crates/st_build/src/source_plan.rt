@@ -1,6 +1,6 @@
 //! The plan of a text.
 
-ghost use Rattle.std.specs.Prelude.{◌≡◌, IfOk, IfErr};
+ghost use Rattle.std.specs.Prelude.{◌≡◌, ◌<◌, ◌⊎◌, IfOk, IfErr, IsErrOf};
 ghost use Rattle.st_trees.specs.SourceViews.{source_view};
 ghost use Rattle.st_trees.specs.Sources as tree;
 ghost use Rattle.st_types.specs.Plans as plans;
@@ -41,6 +41,8 @@ fn plan_of(alloc: Global, source: Source, budget: u32) -> Result<Plan, BuildErro
 /// inputs of the plant, each program in a task of its own with an INTERVAL and PRIORITY 0. G7 comes first, then the lexer's and the
 /// parser's refusals, then the others, of which any that applies may come; X2 is for what this version can't run.
 pub fn build(alloc: Global, text: &[u8], budget: u32) -> Result<Plan, BuildError>
+    // The budget is judged before all else.
+    ensures budget { (budget ≡ 0) ⊎ (1000000 < budget) → IsErrOf result BuildError.Budget }
     // The plan is that of a tree that the bytes spell.
     ensures plan { IfOk result (λ plan. (source : tree.Source) × IsTextOf text.now source × IsPlanOf source budget (plan_view plan)) }
     // A text of which there is such a plan is given it, unless memory runs out.

@@ -8,10 +8,10 @@ pub returns-in_err-variables-clause-refused : goal.returns-in_err-variables-clau
 returns-in_err-variables-clause-refused c =
     let configuration = configuration_view c.args.configuration.now in
     lacking (LacksGlobals configuration) c.variables_in.result c.in_err-variables.field-0.0 c.from_residual.result
-        c.in_err-variables.was (search rules) (search rules) (λ is. no_variables configuration (search rules))
+    c.in_err-variables.was (search rules) (search rules) (λ is. no_variables configuration (search rules))
 
 pub returns-in_err-inputs-clause-refused : goal.returns-in_err-inputs-clause-refused
 returns-in_err-inputs-clause-refused c =
     let configuration = configuration_view c.args.configuration.now in
     lacking (LacksGlobals configuration) c.inputs_in.result c.in_err-inputs.field-0.0 c.from_residual-in_err-inputs.result
-        c.in_err-inputs.was (search rules) (search rules) (λ is. no_inputs configuration (search rules))
+    c.in_err-inputs.was (search rules) (search rules) (λ is. no_inputs configuration (search rules))

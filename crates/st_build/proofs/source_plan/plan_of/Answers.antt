@@ -13,8 +13,8 @@ returns-clause-plan c =
     let units = map unit_view c.in_ok-units.units.items in
     let configuration = configuration_view c.in_ok-units.configuration in
     ok_more (λ plan. IsPlanFrom units configuration c.args.budget (plan_view plan)) (λ plan. IsPlanOf source c.args.budget (plan_view plan)) c.plan_from.result
-        (λ plan from. plan_of_text source units configuration c.args.budget (plan_view plan) (search rules) (search rules) (search rules) (c.in_ok-broken.ensures.clean (search rules)) from)
-        (search rules)
+    (λ plan from. plan_of_text source units configuration c.args.budget (plan_view plan) (search rules) (search rules) (search rules) (c.in_ok-broken.ensures.clean (search rules)) from)
+    (search rules)
 
 pub returns-clause-refused : goal.returns-clause-refused
 returns-clause-refused c =
@@ -22,5 +22,5 @@ returns-clause-refused c =
     let units = map unit_view c.in_ok-units.units.items in
     let configuration = configuration_view c.in_ok-units.configuration in
     err_more (λ e. Breaks units configuration c.args.budget e) (λ e. Applies source c.args.budget e) c.plan_from.result
-        (λ e h. breaks_text source units configuration c.args.budget e (search rules) (search rules) h)
-        (search rules)
+    (λ e h. breaks_text source units configuration c.args.budget e (search rules) (search rules) h)
+    (search rules)
