@@ -1,5 +1,8 @@
 //! Reading a command line.
 
+ghost use Rattle.std.specs.Prelude.{◌≡◌, ◌↔◌, IsTrue};
+ghost use Rattle.clap.specs.Words.{kind_of};
+
 use crate::command::command;
 use crate::job::{Job, Pace, ReplayJob, RunJob, Start};
 use crate::number::plain_number;
@@ -67,7 +70,9 @@ fn signed(alloc: Global) -> Result<Error, AllocError> {
 }
 
 /// Whether memory ran out while the words were read.
-pub fn wants_memory(error: &WordsError) -> bool {
+pub fn wants_memory(error: &WordsError) -> bool
+    ensures { IsTrue result ↔ (kind_of error.now ≡ ErrorKind.OutOfMemory) }
+{
     error.kind() == ErrorKind::OutOfMemory
 }
 

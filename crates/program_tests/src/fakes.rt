@@ -4,7 +4,7 @@ use disk::SimDisk;
 use plant_program::{Files, plant};
 use std::alloc::Global;
 use std::io;
-use std::io::Read;
+use std::io::{Read, Write};
 use std::test::Fail;
 
 /// A file that can be read: its name and its bytes.
@@ -103,4 +103,24 @@ pub fn call_plant<F: Files>(alloc: Global, words: &[&str], files: &mut F) -> Res
         out: String::from_utf8(out)?,
         err: String::from_utf8(err)?,
     })
+}
+
+/// A standard output that has room for so many bytes, and cannot hand them on.
+#[derive(Drop)]
+pub struct Full {
+    pub room: usize,
+}
+
+impl Write for Full {
+    fn write(&mut self, buf: &[u8]) -> io::Result<usize> {
+        if self.room < buf.len() {
+            return Err(io::Error::from(io::ErrorKind::BrokenPipe));
+        }
+        self.room -= buf.len();
+        Ok(buf.len())
+    }
+
+    fn flush(&mut self) -> io::Result<()> {
+        Err(io::Error::from(io::ErrorKind::BrokenPipe))
+    }
 }

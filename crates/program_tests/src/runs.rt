@@ -132,6 +132,9 @@ fn a_warm_start_refuses_another_layout_and_an_old_moment(rt: HostRuntime) -> Res
     assert!(rt; found.as_str() == "4 fault N1");
     let mut files = restarted(files);
     let late = job("late.csv", Start::Warm, Pace::Settle);
+    expect(&rt, &mut files, &late, "5 fault K4")?;
+    let mut files = restarted(files);
+    let late = job("late.csv", Start::Warm, Pace::Free);
     expect(&rt, &mut files, &late, "5 fault K4")
 }
 

@@ -1,7 +1,7 @@
-//! Values as they are printed.
+//! Values and paths as they are printed.
 
-use st_print::write_value;
-use st_types::{Kind, Value};
+use st_print::{write_path, write_value};
+use st_types::{Kind, Name, Owner, Path, Step, Value};
 use std::alloc::Global;
 use std::test::Fail;
 
@@ -67,5 +67,25 @@ fn times_are_milliseconds_and_bools_are_words(rt: HostRuntime) -> Result<(), Fai
         let found = printed(rt.alloc(), kind, number)?;
         assert!(rt; found.as_str() == expected, "{expected}");
     }
+    Ok(())
+}
+
+/// The path `R/P.A.B[-3]`.
+fn part(alloc: Global) -> Result<Path, Fail> {
+    let owner = Owner {
+        resource: Name::from_slice(alloc, b"R")?,
+        instance: Name::from_slice(alloc, b"P")?,
+    };
+    let mut path = Path::owned(alloc, owner, Name::from_slice(alloc, b"A")?);
+    path.push(Step::Member(Name::from_slice(alloc, b"B")?))?;
+    path.push(Step::Element(-3))?;
+    Ok(path)
+}
+
+#[test]
+fn paths_have_their_owner_and_their_steps(rt: HostRuntime) -> Result<(), Fail> {
+    let mut text = Vec::new(rt.alloc());
+    write_path(&mut text, &part(rt.alloc())?)?;
+    assert!(rt; String::from_utf8(text)?.as_str() == "R/P.A.B[-3]");
     Ok(())
 }
