@@ -148,4 +148,42 @@ change "a variable that isn't declared" 'n + 1' 'm + 1' 'C1 at 47'
 change "a program declared twice" 'CONFIGURATION C' 'PROGRAM Add END_PROGRAM CONFIGURATION C' 'C2 at 74'
 change "a second configuration" 'END_CONFIGURATION' 'END_CONFIGURATION CONFIGURATION D RESOURCE R ON CPU PROGRAM P : Add; END_RESOURCE END_CONFIGURATION' G2
 
+# Texts at a limit, and one past it.
+# several COUNT LINE: the line so many times, each with its number in place of @
+several() {
+    local i
+    for ((i = 1; i <= $1; i++)); do echo "${2//@/$i}"; done
+}
+# resource NUMBER COUNT: a resource with so many programs, each in a task of its own
+resource() {
+    echo "RESOURCE R$1 ON CPU"
+    several "$2" 'TASK T@ (INTERVAL := T#10ms, PRIORITY := 0);'
+    several "$2" 'PROGRAM P@ WITH T@ : Add;'
+    echo END_RESOURCE
+}
+# limit NAME STATUS OUTPUT ERROR GLOBALS RESOURCES: the first text with these blocks of globals and these resources is answered so
+limit() {
+    sed '/^CONFIGURATION/,$d' s.st > limit.st
+    printf '%s\n' 'CONFIGURATION C' 'VAR_GLOBAL n : INT; END_VAR' "$5" "$6" END_CONFIGURATION >> limit.st
+    scene "$1" "$2" "$3" "$4" check limit.st
+}
+# sizes RESOURCES PROGRAMS SLOTS RETAINED: what check tells of a text with a task for each program
+sizes() {
+    printf '%s\n' "resources $1" "tasks $2" "programs $2" "slots $3" "retained $4"
+}
+one=$(resource 1 1)
+eight=$(for r in 1 2 3 4 5 6 7 8; do resource $r 1; done)
+limit "8 resources" 0 "$(sizes 8 8 1 0)" "" "" "$eight"
+limit "9 resources" 2 "" "fault G5" "" "$eight $(resource 9 1)"
+limit "32 tasks on a resource" 0 "$(sizes 1 32 1 0)" "" "" "$(resource 1 32)"
+limit "33 tasks on a resource" 2 "" "fault G5" "" "$(resource 1 33)"
+limit "64 programs" 0 "$(sizes 2 64 1 0)" "" "" "$(resource 1 32) $(resource 2 32)"
+limit "65 programs" 2 "" "fault G5" "" "$(resource 1 32) $(resource 2 32) $(resource 3 1)"
+limit "4,096 paths" 0 "$(sizes 1 1 4096 0)" "" "VAR_GLOBAL $(several 4095 'v@ : INT;') END_VAR" "$one"
+limit "4,097 paths" 2 "" "fault M1" "VAR_GLOBAL $(several 4096 'v@ : INT;') END_VAR" "$one"
+# A record's body has 12 bytes and those of each variable: 74 for a DINT with a name of 64 letters, 67 for one of 57.
+retained=$(for ((i = 1; i <= 1770; i++)); do printf 'v%063d : DINT;\n' "$i"; done)
+limit "a record of 131,059 bytes" 0 "$(sizes 1 1 1772 1771)" "" "VAR_GLOBAL RETAIN $retained $(printf 'w%056d' 0) : DINT; END_VAR" "$one"
+limit "a record of 131,060 bytes" 2 "" "fault G6" "VAR_GLOBAL RETAIN $retained $(printf 'w%057d' 0) : DINT; END_VAR" "$one"
+
 echo "program.sh: $scenes scenes as they should be"

@@ -2,6 +2,11 @@
 #![tactic(auto)]
 
 mod row;
+mod shown;
+mod shown_configurations;
+mod shown_sources;
+mod shown_types;
+mod shown_units;
 
 use crate::row::answer;
 use scene_tables::read_table;

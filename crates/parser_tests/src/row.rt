@@ -1,6 +1,7 @@
 //! What is asked of the parser.
 
-use scene_tables::{repeated, unescaped};
+use crate::shown_sources::declarations;
+use scene_tables::{spelled, unescaped};
 use st_lex::{LexError, LexFault, lex};
 use st_parse::{ParseError, parse};
 use st_trees::{LibraryElement, Source};
@@ -69,29 +70,14 @@ fn fronts(alloc: Global, text: &[u8]) -> Result<String, AllocError> {
     format!(in alloc; "{configured} with a configuration, {refused} refused otherwise")
 }
 
-/// The text of head, so many openings, middle, as many closings and tail.
-fn nested(alloc: Global, times: usize, parts: &str) -> Result<Vec<u8>, AllocError> {
-    let mut rest = parts.split('|');
-    let mut text = Vec::new(alloc);
-    text.extend_from_slice(rest.next().unwrap_or("").as_bytes())?;
-    text.extend_from_slice(&repeated(alloc, times, rest.next().unwrap_or("").as_bytes())?)?;
-    text.extend_from_slice(rest.next().unwrap_or("").as_bytes())?;
-    text.extend_from_slice(&repeated(alloc, times, rest.next().unwrap_or("").as_bytes())?)?;
-    text.extend_from_slice(rest.next().unwrap_or("").as_bytes())?;
-    Ok(text)
-}
-
-/// What is answered to a row. `\^62 head|(|1|)|tail` is a text with so many openings and closings, `\<TEXT` asks for its fronts, and any other
-/// row for the text itself.
+/// What is answered to a row. `\<TEXT` asks for its fronts, `\@TEXT` for its declarations with their places, and any other row for the text
+/// itself, as a table spells it.
 pub fn answer(alloc: Global, given: &str) -> Result<String, AllocError> {
     if let Some(text) = given.strip_prefix("\\<") {
         return fronts(alloc, &unescaped(alloc, text)?);
     }
-    if let Some(deep) = given.strip_prefix("\\^") {
-        if let Some((times, parts)) = deep.split_once(' ') {
-            let times = times.parse::<usize>().unwrap_or(0);
-            return told(alloc, &nested(alloc, times, parts)?);
-        }
+    if let Some(text) = given.strip_prefix("\\@") {
+        return declarations(alloc, &unescaped(alloc, text)?);
     }
-    told(alloc, &unescaped(alloc, given)?)
+    told(alloc, &spelled(alloc, given)?)
 }

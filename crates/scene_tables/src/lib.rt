@@ -2,7 +2,9 @@
 #![tactic(auto)]
 
 mod escapes;
+mod nesting;
 mod table;
 
 pub use crate::escapes::{repeated, unescaped};
+pub use crate::nesting::spelled;
 pub use crate::table::read_table;

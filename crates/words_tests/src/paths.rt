@@ -1,6 +1,6 @@
 //! Paths.
 
-use crate::small_trees::compare;
+use crate::small_words::compare;
 use st_words::{Name, Owner, Path, Step, Tree};
 use std::alloc::{AllocError, Global};
 use std::test::Fail;

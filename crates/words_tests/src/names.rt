@@ -1,6 +1,6 @@
 //! Names.
 
-use crate::small_trees::{compare, identifier_at, identifiers};
+use crate::small_words::{compare, identifier_at, identifiers};
 use st_words::{Identifier, Name, same_option, same_trees};
 use std::alloc::{AllocError, Global};
 use std::test::Fail;

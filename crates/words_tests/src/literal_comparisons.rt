@@ -1,6 +1,6 @@
 //! Literals are one tree where nothing that is kept of them differs.
 
-use crate::small_trees::{compare, decimal};
+use crate::small_words::{compare, decimal};
 use st_words::{Kind, Literal, Number};
 
 #[test]

@@ -1,0 +1,27 @@
+//! Texts that repeat a part of themselves.
+
+use crate::escapes::{repeated, unescaped};
+use std::alloc::{AllocError, Global};
+
+/// The text of head, so many openings, middle, as many closings and tail.
+fn nested(alloc: Global, times: usize, parts: &str) -> Result<Vec<u8>, AllocError> {
+    let mut rest = parts.split('|');
+    let mut text = Vec::new(alloc);
+    text.extend_from_slice(rest.next().unwrap_or("").as_bytes())?;
+    text.extend_from_slice(&repeated(alloc, times, rest.next().unwrap_or("").as_bytes())?)?;
+    text.extend_from_slice(rest.next().unwrap_or("").as_bytes())?;
+    text.extend_from_slice(&repeated(alloc, times, rest.next().unwrap_or("").as_bytes())?)?;
+    text.extend_from_slice(rest.next().unwrap_or("").as_bytes())?;
+    Ok(text)
+}
+
+/// The text that a row writes: `\^62 head|(|1|)|tail` is a text with so many openings and closings, and any other has escapes alone.
+pub fn spelled(alloc: Global, written: &str) -> Result<Vec<u8>, AllocError> {
+    if let Some(deep) = written.strip_prefix("\\^") {
+        if let Some((times, parts)) = deep.split_once(' ') {
+            let times = times.parse::<usize>().unwrap_or(0);
+            return nested(alloc, times, parts);
+        }
+    }
+    unescaped(alloc, written)
+}
