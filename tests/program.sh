@@ -113,6 +113,8 @@ scene "a malformed name" 2 "" "fault L3 at 0" check word.st
 scene "a wrong type" 2 "" "fault C3 at 38" check type.st
 scene "an unexpected token" 2 "" "fault P1 at 38" check grammar.st
 scene "no configuration" 2 "" "fault G2" check alone.st
+printf 'TYPE Pair : ARRAY [0..1] OF INT; END_TYPE' > types.st
+scene "types and no configuration" 2 "" "fault G2" check types.st
 scene "no source" 2 "" "fault X1" check none.st
 scene "no ticks" 2 "" "fault G7" $(run word.st rows.csv made cold) --budget 0
 scene "one tick too many" 2 "" "fault G7" $(run s.st rows.csv made cold) --budget 1000001
@@ -148,6 +150,34 @@ change "a variable that isn't declared" 'n + 1' 'm + 1' 'C1 at 47'
 change "a program declared twice" 'CONFIGURATION C' 'PROGRAM Add END_PROGRAM CONFIGURATION C' 'C2 at 74'
 change "a second configuration" 'END_CONFIGURATION' 'END_CONFIGURATION CONFIGURATION D RESOURCE R ON CPU PROGRAM P : Add; END_RESOURCE END_CONFIGURATION' G2
 
+# Addresses. Those that are sound are inputs, or outputs, which this version can't run.
+change "an address one past its range" 'RETAIN n : INT;' 'n : INT; b AT %IX1024 : BOOL;' G4
+change "a word one past its range" 'RETAIN n : INT;' 'n : INT; b AT %IW256 : WORD;' G4
+change "a bit of a word's width" 'RETAIN n : INT;' 'n : INT; b AT %IX0 : WORD;' G4
+change "a word of a bit's width" 'RETAIN n : INT;' 'n : INT; b AT %IW0 : BOOL;' G4
+change "a word of four bytes" 'RETAIN n : INT;' 'n : INT; b AT %IW0 : DINT;' G4
+change "an address twice" 'RETAIN n : INT;' 'n : INT; b AT %IX7 : BOOL; c AT %IX007 : BOOL;' G4
+change "an output twice" 'RETAIN n : INT;' 'n : INT; b AT %QX7 : BOOL; c AT %QX7 : BOOL;' G4
+change "an input with an initial value" 'RETAIN n : INT;' 'n : INT; b AT %IX0 : BOOL := TRUE;' G4
+change "a constant at an address" 'RETAIN n : INT;' 'n : INT; END_VAR VAR_GLOBAL CONSTANT b AT %QX0 : BOOL;' G4
+change "an output with an initial value" 'RETAIN n : INT;' 'n : INT; b AT %QX0 : BOOL := TRUE;' X2
+change "an output beside an input of its number" 'RETAIN n : INT;' 'n : INT; b AT %QX0 : BOOL; c AT %IX0 : BOOL;' X2
+
+# Names that stand for nothing, or for something else.
+change "an external of a program that isn't run" 'CONFIGURATION C' 'PROGRAM Sub VAR_EXTERNAL m : INT; END_VAR END_PROGRAM CONFIGURATION C' G3
+change "an external of a block" 'CONFIGURATION C' 'FUNCTION_BLOCK Sub VAR_EXTERNAL m : INT; END_VAR END_FUNCTION_BLOCK CONFIGURATION C' G3
+change "a constant that is assigned" 'RETAIN n : INT' 'CONSTANT n : INT' G3
+change "a block in place of a program" '^PROGRAM Add\(.*\)END_PROGRAM' 'FUNCTION_BLOCK Add\1END_FUNCTION_BLOCK' G3
+change "a SINGLE that isn't there" 'INTERVAL' 'SINGLE := m, INTERVAL' G3
+change "a SINGLE that is no BOOL" 'INTERVAL' 'SINGLE := n, INTERVAL' G3
+
+# What is of the language and isn't run yet.
+change "a type" 'CONFIGURATION C' 'TYPE Pair : ARRAY [0..1] OF INT; END_TYPE CONFIGURATION C' X2
+change "a constant" 'RETAIN n : INT;' 'RETAIN n : INT; END_VAR VAR_GLOBAL CONSTANT k : INT := 1;' X2
+change "a task without an interval" 'INTERVAL := T#10ms, ' '' X2
+change "a task that two programs run in" 'PROGRAM P WITH T : Add;' 'PROGRAM P WITH T : Add; PROGRAM Q WITH T : Add;' X2
+change "a task that no program runs in" 'PROGRAM P' 'TASK U (INTERVAL := T#10ms, PRIORITY := 0); PROGRAM P' X2
+
 # Texts at a limit, and one past it.
 # several COUNT LINE: the line so many times, each with its number in place of @
 several() {
@@ -181,6 +211,8 @@ limit "64 programs" 0 "$(sizes 2 64 1 0)" "" "" "$(resource 1 32) $(resource 2 3
 limit "65 programs" 2 "" "fault G5" "" "$(resource 1 32) $(resource 2 32) $(resource 3 1)"
 limit "4,096 paths" 0 "$(sizes 1 1 4096 0)" "" "VAR_GLOBAL $(several 4095 'v@ : INT;') END_VAR" "$one"
 limit "4,097 paths" 2 "" "fault M1" "VAR_GLOBAL $(several 4096 'v@ : INT;') END_VAR" "$one"
+limit "4,096 paths and an input" 2 "" "fault M1" "VAR_GLOBAL $(several 4095 'v@ : INT;') i AT %IX0 : BOOL; END_VAR" "$one"
+limit "addresses at the ends of their ranges" 0 "$(sizes 1 1 1 0)" "" "VAR_GLOBAL a AT %IX0 : BOOL; b AT %IX1023 : BOOL; c AT %IW0 : INT; d AT %IW7 : UINT; e AT %IW255 : WORD; END_VAR" "$one"
 # A record's body has 12 bytes and those of each variable: 74 for a DINT with a name of 64 letters, 67 for one of 57.
 retained=$(for ((i = 1; i <= 1770; i++)); do printf 'v%063d : DINT;\n' "$i"; done)
 limit "a record of 131,059 bytes" 0 "$(sizes 1 1 1772 1771)" "" "VAR_GLOBAL RETAIN $retained $(printf 'w%056d' 0) : DINT; END_VAR" "$one"
