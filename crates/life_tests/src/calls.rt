@@ -1,66 +1,62 @@
-//! Calls of a core and their answers as plain data.
+//! The calls of a life, as they are written.
 
-use commit_lock::{Event, Refusal, Reply};
-use retain_store::StoreFault;
-use serial_core::Refusal as Serial;
+use crate::row_error::RowError;
+use commit_lock::Event;
 use st_types::{Row, Value};
 use std::alloc::{AllocError, Global};
 
-/// A call of a core with one resource and no inputs.
-#[derive(Clone, Copy, Debug, PartialEq, Eq)]
-pub(crate) enum Call {
-    /// Latches a row of this moment.
-    Latch(u64),
-    Take,
-    Commit(usize),
-    CommitHere,
-    Flush,
+/// A number of a call, `3`, or `3+10` where it grows by 10 each time that the calls are made.
+fn number_at(written: &str, time: u64) -> Result<u64, RowError> {
+    let (first, step) = written.split_once('+').unwrap_or((written, "0"));
+    let grown = step.parse::<u64>()?.saturating_mul(time);
+    Ok(first.parse::<u64>()?.saturating_add(grown))
 }
 
-/// The most calls of a life.
-const MOST: usize = 12;
-
-/// What the calls of a life are answered, one after another.
-pub(crate) type Replies = [Option<Reply>; MOST];
-
-/// No answers.
-pub(crate) const NO_REPLIES: Replies = [None; MOST];
-
-/// K5, by a device that failed.
-pub(crate) const DEVICE_FAILED: Reply = Reply::Refused(Refusal::StoreFailed(StoreFault::Device));
-
-/// K5, by generations that are used up.
-pub(crate) const USED_UP: Reply = Reply::Refused(Refusal::StoreFailed(StoreFault::Generations));
-
-/// K2.
-pub(crate) const NOT_WAITING: Reply = Reply::Refused(Refusal::Serial(Serial::NotWaiting));
-
-/// K3.
-pub(crate) const FOREIGN: Reply = Reply::Refused(Refusal::Serial(Serial::Foreign));
-
-/// K4.
-pub(crate) const NOT_LATER: Reply = Reply::Refused(Refusal::Serial(Serial::NotLater));
-
-/// These answers.
-pub(crate) fn replies(given: &[Reply]) -> Replies {
-    let mut replies = NO_REPLIES;
-    for (to, from) in replies.iter_mut().zip(given) {
-        *to = Some(*from);
+/// The row of a moment, and a TRUE for each further word.
+fn row_of(alloc: Global, written: &str, time: u64) -> Result<Row, RowError> {
+    let mut words = written.split(' ');
+    let moment = number_at(words.next().unwrap_or(""), time)?;
+    let mut image = Vec::new(alloc);
+    for _ in words {
+        image.push(Value::truth(true)).map_err(AllocError::from)?;
     }
-    replies
+    Ok(Row::new(moment, image))
 }
 
-/// These calls.
-pub(crate) fn events(alloc: Global, calls: &[Call]) -> Result<Vec<Event>, AllocError> {
+/// A call with a number.
+fn numbered(word: &str, number: usize) -> Result<Event, RowError> {
+    match word {
+        "take" => Ok(Event::Take(number)),
+        "commit" => Ok(Event::Commit(number)),
+        "here" => Ok(Event::CommitHere(number)),
+        _ => Err(RowError::Form),
+    }
+}
+
+fn event_of(alloc: Global, call: &str, time: u64) -> Result<Event, RowError> {
+    if call == "flush" {
+        return Ok(Event::Flush);
+    }
+    let (word, given) = call.split_once(' ').ok_or(RowError::Form)?;
+    if word == "row" {
+        return Ok(Event::Latch(row_of(alloc, given, time)?));
+    }
+    numbered(word, number_at(given, time)? as usize)
+}
+
+/// The calls of a list like `row 0, take 0, commit 0, here 1, flush`, or of `100 times row 0+10, here 0`.
+pub fn events_of(alloc: Global, written: &str) -> Result<Vec<Event>, RowError> {
+    let (times, calls) = written.split_once(" times ").unwrap_or(("1", written));
+    let times = times.parse::<u64>()?;
     let mut events = Vec::new(alloc);
-    for call in calls {
-        events.push(match *call {
-            Call::Latch(moment) => Event::Latch(Row::new(moment, Vec::<Value>::new(alloc))),
-            Call::Take => Event::Take(0),
-            Call::Commit(take) => Event::Commit(take),
-            Call::CommitHere => Event::CommitHere(0),
-            Call::Flush => Event::Flush,
-        })?;
+    if calls.is_empty() {
+        return Ok(events);
+    }
+    for time in 0..times {
+        for call in calls.split(", ") {
+            let event = event_of(alloc, call, time)?;
+            events.push(event).map_err(AllocError::from)?;
+        }
     }
     Ok(events)
 }

@@ -1,25 +1,27 @@
-//! Chains of three lives, each whole or stopped within each device step that it has. Two chains that come to one file go on
-//! alike, so a life is lived once over each file that the lives before it may leave.
+//! Chains of lives, each whole or stopped within each device step that it has. Two chains that come to one file go on alike, so a
+//! life is lived once over each file that the lives before it may leave.
 //!
-//! They are thousands of lives. Under `rt try`, whose code is slow, they need many minutes: give it `--seconds 3600`.
+//! They are thousands of lives: a few seconds as they are built, and many minutes under `rt try`, whose code is slow.
 
-use crate::calls::Call;
-use crate::life_one::{LIFE_ONE, n_alone, stopped};
-use crate::lives::{Life, Told, Torn, lived_over};
+use crate::disks::{FILE, Mishap, Steps, Torn};
+use crate::life::{Life, Lived, Setting, Told, live, mode_of};
+use crate::row_error::RowError;
 use commit_lock::{StartFault, StartMode};
 use disk::SimDisk;
 use retain_store::{Store, StoreFault};
 use std::alloc::{AllocError, Global};
-use std::process::Abort;
-use std::test::Fail;
+use std::fmt::Write;
 
 /// No life of two rows has so many device steps.
 const STEPS: u64 = 30;
 
+/// The greatest number that is looked for.
+const MOST: u64 = 9;
+
 const TORN: [Torn; 3] = [Torn::OpenMarks, Torn::Zeros, Torn::Written];
 
 /// N and the moment that a life goes on from.
-#[derive(Clone, Copy, Debug, PartialEq, Eq)]
+#[derive(Clone, Copy, PartialEq, Eq)]
 struct Point {
     n: i128,
     moment: Option<u64>,
@@ -29,7 +31,7 @@ struct Point {
 const INITIAL: Point = Point { n: 0, moment: None };
 
 /// Where a warm start over the file goes on from; none where it is refused.
-fn recovered(alloc: Global, file: &[u8]) -> Result<Option<Point>, Fail> {
+fn recovered(alloc: Global, file: &[u8]) -> Result<Option<Point>, AllocError> {
     let disk = SimDisk::new(alloc, file.to_vec(alloc)?)?;
     let Ok(store) = Store::open(alloc, disk, 0) else {
         return Ok(None);
@@ -53,28 +55,19 @@ struct Chapter {
 }
 
 impl Chapter {
-    fn new(mode: StartMode, moments: [u64; 2]) -> Chapter {
-        Chapter { mode, moments }
+    /// A life that is written `warm 20 30`.
+    fn read(written: &str) -> Result<Chapter, RowError> {
+        let (mode, moments) = written.split_once(' ').ok_or(RowError::Form)?;
+        let (first, second) = moments.split_once(' ').ok_or(RowError::Form)?;
+        Ok(Chapter {
+            mode: mode_of(mode)?,
+            moments: [first.parse::<u64>()?, second.parse::<u64>()?],
+        })
     }
 
-    fn calls(self) -> [Call; 6] {
+    fn calls(self, alloc: Global) -> Result<String, AllocError> {
         let [first, second] = self.moments;
-        [
-            Call::Latch(first),
-            Call::CommitHere,
-            Call::Flush,
-            Call::Latch(second),
-            Call::CommitHere,
-            Call::Flush,
-        ]
-    }
-
-    fn life(self, calls: &[Call]) -> Life<'_> {
-        Life {
-            mode: self.mode,
-            calls,
-            ..LIFE_ONE
-        }
+        format!(in alloc; "row {first}, here 0, flush, row {second}, here 0, flush")
     }
 
     /// Where a warm start goes on from after each front of its log, the empty one first. Each execution adds 1.
@@ -112,35 +105,26 @@ struct Left {
     point: Option<Point>,
 }
 
-/// What a life told, and where a warm start goes on from before it and after it.
-#[derive(Clone, Copy, Debug, PartialEq, Eq)]
-struct Passage {
-    before: Option<Point>,
-    told: Told,
-    after: Option<Point>,
-}
-
 /// Whether a warm start goes on from a front of the life's log that holds all that it acknowledged. A life that was not started
 /// leaves what was there before, or where it begins.
-fn is_kept(passage: Passage, chapter: Chapter) -> bool {
-    let (Some(before), Some(after)) = (passage.before, passage.after) else {
+fn is_kept(before: Option<Point>, told: &Told, after: Option<Point>, chapter: Chapter) -> bool {
+    let (Some(before), Some(after)) = (before, after) else {
         return false;
     };
     let start = match chapter.mode {
         StartMode::Warm => before,
         StartMode::Cold => INITIAL,
     };
-    let told = passage.told;
-    match told.fault {
-        Some(fault) => {
-            fault == StartFault::Store(StoreFault::Device) && (after == before || after == start)
+    match told {
+        Told::NotStarted(fault) => {
+            *fault == StartFault::Store(StoreFault::Device) && (after == before || after == start)
         }
-        None => {
+        Told::Started(course) => {
             let fronts = chapter.fronts(start).into_iter().enumerate();
-            told.began == n_alone(start.n)
+            course.began.as_slice() == [start.n].as_slice()
                 && fronts
-                    .skip(told.acked)
-                    .any(|(len, front)| len <= told.len && front == after)
+                    .skip(course.acked)
+                    .any(|(len, front)| len <= course.len && front == after)
         }
     }
 }
@@ -161,7 +145,11 @@ fn known_point(known: &[Left], file: &[u8], sum: u64) -> Option<Option<Point>> {
 }
 
 /// Where a warm start over the file goes on from. The file is added to those that are known unless it is one of them.
-fn point_of(alloc: Global, known: &mut Vec<Left>, file: Vec<u8>) -> Result<Option<Point>, Fail> {
+fn point_of(
+    alloc: Global,
+    known: &mut Vec<Left>,
+    file: Vec<u8>,
+) -> Result<Option<Point>, AllocError> {
     let sum = sum_of(&file);
     if let Some(point) = known_point(known, &file, sum) {
         return Ok(point);
@@ -171,51 +159,68 @@ fn point_of(alloc: Global, known: &mut Vec<Left>, file: Vec<u8>) -> Result<Optio
     Ok(point)
 }
 
-/// Lives a life over the file, and adds the file that it leaves.
-fn pass(alloc: Global, from: &Left, life: Life<'_>, left: &mut Vec<Left>) -> Result<Passage, Fail> {
-    let (told, next) = lived_over(alloc, &from.file, life)?;
-    let after = point_of(alloc, left, next)?;
-    Ok(Passage {
-        before: from.point,
-        told,
-        after,
-    })
+/// A life of a chain, over each of the files that are there.
+#[derive(Clone, Copy)]
+struct Link<'a> {
+    setting: Setting<'a>,
+    chapter: Chapter,
+    life: Life<'a>,
 }
 
-/// Lives a life over the file with a stop within each step in turn, until it has no such step. Adds the files that are left.
-fn stop_at_each_step(
-    rt: &(impl Abort + AllocGlobal),
-    from: &Left,
-    chapter: Chapter,
-    torn: Torn,
-    left: &mut Vec<Left>,
-) -> Result<(), Fail> {
-    let calls = chapter.calls();
-    for step in 0..STEPS {
-        let life = stopped(chapter.life(&calls), step, torn);
-        let passage = pass(rt.alloc(), from, life, left)?;
-        let is_kept = is_kept(passage, chapter);
-        assert!(rt; is_kept, "step {step}, {torn:?}");
-        if passage.told.failures == 0 {
-            break;
+impl Link<'_> {
+    /// Lives the life over the file with a stop within this step, and adds the file that it leaves. It says whether power went in it.
+    fn stop_at(
+        self,
+        alloc: Global,
+        from: &Left,
+        step: u64,
+        torn: Torn,
+        left: &mut Vec<Left>,
+    ) -> Result<bool, RowError> {
+        let life = self.life.meeting(Mishap::Stops {
+            steps: Steps::one(step),
+            torn,
+            len: FILE,
+        });
+        let Lived {
+            told,
+            failures,
+            left: file,
+        } = live(alloc, self.setting, &from.file, life, 0)?;
+        let after = point_of(alloc, left, file)?;
+        if is_kept(from.point, &told, after, self.chapter) {
+            Ok(failures > 0)
+        } else {
+            Err(RowError::Lost(step))
         }
     }
-    Ok(())
-}
 
-/// The files that a life may leave over these.
-fn left_over(
-    rt: &(impl Abort + AllocGlobal),
-    files: &[Left],
-    chapter: Chapter,
-) -> Result<Vec<Left>, Fail> {
-    let mut left = Vec::new(rt.alloc());
-    for from in files {
-        for torn in TORN {
-            stop_at_each_step(rt, from, chapter, torn, &mut left)?;
+    /// Lives the life over the file with a stop within each step in turn, until it has no such step. Adds the files that are left.
+    fn stop_at_each(
+        self,
+        alloc: Global,
+        from: &Left,
+        torn: Torn,
+        left: &mut Vec<Left>,
+    ) -> Result<(), RowError> {
+        for step in 0..STEPS {
+            if !self.stop_at(alloc, from, step, torn, left)? {
+                break;
+            }
         }
+        Ok(())
     }
-    Ok(left)
+
+    /// The files that the life may leave over these.
+    fn left_over(self, alloc: Global, files: &[Left]) -> Result<Vec<Left>, RowError> {
+        let mut left = Vec::new(alloc);
+        for from in files {
+            for torn in TORN {
+                self.stop_at_each(alloc, from, torn, &mut left)?;
+            }
+        }
+        Ok(left)
+    }
 }
 
 /// The empty file.
@@ -228,48 +233,56 @@ fn empty(alloc: Global) -> Result<Vec<Left>, AllocError> {
     Ok(vec![in alloc; left]?)
 }
 
-/// Whether a warm start over one of the files gives N = 0, N = 1 and so on.
-fn numbers_of(files: &[Left]) -> [bool; 7] {
-    [0, 1, 2, 3, 4, 5, 6].map(|n: i128| {
-        files
-            .iter()
-            .any(|left| left.point.is_some_and(|point| point.n == n))
-    })
+/// Whether a warm start over one of the files gives this number.
+fn is_found(files: &[Left], n: u64) -> bool {
+    let n = i128::from(n);
+    files
+        .iter()
+        .any(|left| matches!(left.point, Some(point) if point.n == n))
 }
 
-/// The numbers that are left by one, two and three lives, of which the first begins over an empty file.
-fn three_lives(
-    rt: &(impl Abort + AllocGlobal),
-    modes: [StartMode; 3],
-) -> Result<[[bool; 7]; 3], Fail> {
-    let [first, second, third] = modes;
-    let once = left_over(rt, &empty(rt.alloc())?, Chapter::new(first, [0, 10]))?;
-    let twice = left_over(rt, &once, Chapter::new(second, [20, 30]))?;
-    let thrice = left_over(rt, &twice, Chapter::new(third, [40, 50]))?;
-    Ok([numbers_of(&once), numbers_of(&twice), numbers_of(&thrice)])
-}
-
-/// The numbers from 0 to this one.
-fn up_to(greatest: usize) -> [bool; 7] {
-    [0, 1, 2, 3, 4, 5, 6].map(|n| n <= greatest)
-}
-
-#[test]
-fn three_lives_stopped_at_any_steps_keep_what_each_acknowledged(
-    rt: HostRuntime,
-) -> Result<(), Fail> {
-    let modes = [StartMode::Cold, StartMode::Warm, StartMode::Warm];
-    let numbers = three_lives(&rt, modes)?;
-    assert_eq!(rt; numbers, [up_to(2), up_to(4), up_to(6)]);
+/// Writes each number that a warm start over one of the files gives.
+fn write_found(text: &mut String, files: &[Left]) -> Result<(), AllocError> {
+    for n in 0..=MOST {
+        if is_found(files, n) {
+            write!(text, " {n}")?;
+        }
+    }
     Ok(())
 }
 
-#[test]
-fn a_cold_life_between_two_lives_keeps_the_one_before_until_it_has_begun(
-    rt: HostRuntime,
-) -> Result<(), Fail> {
-    let modes = [StartMode::Cold, StartMode::Cold, StartMode::Warm];
-    let numbers = three_lives(&rt, modes)?;
-    assert_eq!(rt; numbers, [up_to(2), up_to(2), up_to(4)]);
+/// The files that a life of the chain may leave over these.
+fn next_files(
+    alloc: Global,
+    setting: Setting<'_>,
+    files: &[Left],
+    chapter: &str,
+) -> Result<Vec<Left>, RowError> {
+    let chapter = Chapter::read(chapter)?;
+    let calls = chapter.calls(alloc)?;
+    let life = Life::new(chapter.mode, calls.as_str());
+    let link = Link {
+        setting,
+        chapter,
+        life,
+    };
+    link.left_over(alloc, files)
+}
+
+/// Lives a chain that is written `cold 0 10, warm 20 30`, the first life over an empty file, and writes after each the numbers
+/// from which a warm start over one of its files goes on.
+pub fn write_chain(
+    text: &mut String,
+    alloc: Global,
+    setting: Setting<'_>,
+    written: &str,
+) -> Result<(), RowError> {
+    let mut files = empty(alloc)?;
+    for (number, chapter) in written.split(", ").enumerate() {
+        files = next_files(alloc, setting, &files, chapter)?;
+        let divider = if number == 0 { "" } else { "; " };
+        write!(text, "{divider}{chapter}:")?;
+        write_found(text, &files)?;
+    }
     Ok(())
 }

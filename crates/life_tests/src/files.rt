@@ -1,33 +1,24 @@
-//! Retain files byte by byte.
+//! Files that lie there before the first life, and the bytes that lives leave.
 
+use crate::row_error::RowError;
+use scene_tables::unescaped;
 use std::alloc::{AllocError, Global};
+use std::fmt::Write;
 
-/// The length of a retain file in bytes.
-pub(crate) const LENGTH: usize = 262_144;
-
-/// The length of each of its two areas in bytes.
-pub(crate) const AREA: usize = 131_072;
-
-/// The first bytes of an area: an open gate, generation 2, moment 20, and N = 3 of the type INT.
-pub(crate) const VECTOR: [u8; 33] = [
+/// An area of a retain file: an open gate, generation 2, moment 20, and N = 3 of the type INT.
+const RECORD: [u8; 33] = [
     0xA5, 0, 0, 0, 0, 0, 0, 0, 2, 0, 0, 0, 0x14, 0, 0, 0, 0, 0, 0, 0, 0x15, 0, 0, 0, 6, 0x4E, 0x20,
     0x49, 0x4E, 0x54, 0x0A, 0, 3,
 ];
 
-/// Where the generation stands in an area.
-pub(crate) const GENERATION: usize = 1;
-
-/// Where the length of the body stands.
-pub(crate) const SIZE: usize = 9;
-
-/// Where the moment stands, plus 1.
-pub(crate) const MOMENT: usize = 13;
-
-/// Where the type of N stands.
-pub(crate) const TYPE: usize = 27;
-
-/// Where the value of N stands.
-pub(crate) const VALUE: usize = 31;
+/// Bytes as a row writes them, or that area.
+fn bytes_of(alloc: Global, written: &str) -> Result<Vec<u8>, AllocError> {
+    if written == "record" {
+        RECORD.to_vec(alloc)
+    } else {
+        unescaped(alloc, written)
+    }
+}
 
 /// Writes these bytes from a place on, as far as there is room.
 fn put(file: &mut [u8], at: usize, part: &[u8]) {
@@ -36,10 +27,34 @@ fn put(file: &mut [u8], at: usize, part: &[u8]) {
     }
 }
 
-/// A file of zeros with that area at its beginning, and in it these bytes from a place on.
-pub(crate) fn file_with(alloc: Global, at: usize, part: &[u8]) -> Result<Vec<u8>, AllocError> {
-    let mut file = vec![in alloc; 0; LENGTH]?;
-    put(&mut file, 0, &VECTOR);
-    put(&mut file, at, part);
+/// Writes what is written `PLACE BYTES`.
+fn put_written(alloc: Global, file: &mut [u8], written: &str) -> Result<(), RowError> {
+    let (at, bytes) = written.split_once(' ').ok_or(RowError::Form)?;
+    put(file, at.parse::<usize>()?, &bytes_of(alloc, bytes)?);
+    Ok(())
+}
+
+fn zeros(alloc: Global, len: &str) -> Result<Vec<u8>, RowError> {
+    let len = len.parse::<usize>()?;
+    Ok(vec![in alloc; 0; len]?)
+}
+
+/// A file that is written `LENGTH, PLACE BYTES, PLACE BYTES`: zeros, and these bytes over them.
+pub fn file_of(alloc: Global, written: &str) -> Result<Vec<u8>, RowError> {
+    let Some((len, parts)) = written.split_once(", ") else {
+        return zeros(alloc, written);
+    };
+    let mut file = zeros(alloc, len)?;
+    for part in parts.split(", ") {
+        put_written(alloc, &mut file, part)?;
+    }
     Ok(file)
+}
+
+/// Writes so many first bytes of the file in base 16.
+pub fn write_first(text: &mut String, file: &[u8], count: usize) -> Result<(), AllocError> {
+    for byte in file.iter().take(count) {
+        write!(text, "{byte:02X}")?;
+    }
+    Ok(())
 }

@@ -9,7 +9,7 @@ const COUNTER: Scene = Scene {
     globals: ["N", "K"],
     second_kind: Kind::Dint,
     target: "N",
-    declared: Kind::Int,
+    declared: "INT",
     step: 1,
     resource: 1,
     unit: 0,
@@ -53,11 +53,11 @@ fn two_globals_of_one_name_make_no_plan(rt: HostRuntime) -> Result<(), Fail> {
 #[test]
 fn a_name_is_that_of_a_global_of_its_type(rt: HostRuntime) -> Result<(), Fail> {
     for (target, declared, is_plan) in [
-        ("N", Kind::Int, true),
-        ("K", Kind::Dint, true),
-        ("N", Kind::Dint, false),
-        ("M", Kind::Int, false),
-        ("ADD", Kind::Int, false),
+        ("N", "INT", true),
+        ("K", "DINT", true),
+        ("N", "DINT", false),
+        ("M", "INT", false),
+        ("ADD", "INT", false),
     ] {
         let scene = Scene {
             target,

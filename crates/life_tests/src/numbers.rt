@@ -1,0 +1,37 @@
+//! The numbers that refusals and faults show as.
+
+use commit_lock::{Refusal, StartFault};
+use retain_store::StoreFault;
+use serial_core::Refusal as Serial;
+use std::alloc::AllocError;
+use std::fmt::Write;
+
+/// Writes the numbers of the refusals of a core: full, not waiting, foreign, not later, a store that failed, want of memory.
+pub fn write_refusals(text: &mut String) -> Result<(), AllocError> {
+    write!(text, "refusals")?;
+    for refusal in [
+        Refusal::Serial(Serial::Full),
+        Refusal::Serial(Serial::NotWaiting),
+        Refusal::Serial(Serial::Foreign),
+        Refusal::Serial(Serial::NotLater),
+        Refusal::StoreFailed(StoreFault::Device),
+        Refusal::Serial(Serial::NoMemory),
+    ] {
+        write!(text, " {refusal}")?;
+    }
+    Ok(())
+}
+
+/// Writes the numbers of the faults of a start: a file that is too long, a device that failed, another layout, want of memory.
+pub fn write_start_faults(text: &mut String) -> Result<(), AllocError> {
+    write!(text, "faults")?;
+    for fault in [
+        StartFault::Store(StoreFault::TooLong),
+        StartFault::Store(StoreFault::Device),
+        StartFault::OtherLayout,
+        StartFault::NoMemory,
+    ] {
+        write!(text, " {fault}")?;
+    }
+    Ok(())
+}

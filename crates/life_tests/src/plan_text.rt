@@ -1,0 +1,108 @@
+//! The text of a row's plan.
+
+use crate::row_error::RowError;
+use std::alloc::{AllocError, Global};
+use std::fmt::Write;
+
+/// The most resources of a plan.
+const RESOURCES: usize = 8;
+
+/// A global that is declared.
+#[derive(Clone, Copy)]
+pub struct Declared<'a> {
+    pub name: &'a str,
+    kind: &'a str,
+}
+
+/// A program on a resource.
+#[derive(Clone, Copy)]
+struct Placed<'a> {
+    resource: usize,
+    body: &'a str,
+}
+
+/// The globals of these blocks, each in a declaration of its own.
+pub fn declared_in<'a>(alloc: Global, blocks: &'a str) -> Result<Vec<Declared<'a>>, AllocError> {
+    let mut globals = Vec::new(alloc);
+    for declaration in blocks.split(';') {
+        if let Some((left, right)) = declaration.split_once(" : ") {
+            globals.push(Declared {
+                name: left.split_whitespace().last().unwrap_or(""),
+                kind: right.split_whitespace().next().unwrap_or(""),
+            })?;
+        }
+    }
+    Ok(globals)
+}
+
+/// The program that is written `RESOURCE: BODY`.
+fn program_of(written: &str) -> Result<Placed<'_>, RowError> {
+    let (resource, body) = written.split_once(": ").ok_or(RowError::Form)?;
+    Ok(Placed {
+        resource: resource.parse::<usize>()?,
+        body,
+    })
+}
+
+fn placed_in<'a>(alloc: Global, programs: &'a str) -> Result<Vec<Placed<'a>>, RowError> {
+    let mut all = Vec::new(alloc);
+    for program in programs.split(" / ") {
+        let program = program_of(program)?;
+        all.push(program).map_err(AllocError::from)?;
+    }
+    Ok(all)
+}
+
+/// Writes a program that declares all globals as its externals.
+fn write_unit(
+    text: &mut String,
+    number: usize,
+    globals: &[Declared<'_>],
+    body: &str,
+) -> Result<(), AllocError> {
+    write!(text, "PROGRAM Unit{number} VAR_EXTERNAL ")?;
+    for Declared { name, kind } in globals.iter().copied() {
+        write!(text, "{name} : {kind}; ")?;
+    }
+    write!(text, "END_VAR {body} END_PROGRAM ")
+}
+
+/// Writes the resource of a number, if programs are on it. Each has a task of its own, every 10 ms.
+fn write_resource(
+    text: &mut String,
+    resource: usize,
+    programs: &[Placed<'_>],
+) -> Result<(), AllocError> {
+    if !programs.iter().any(|program| program.resource == resource) {
+        return Ok(());
+    }
+    write!(text, "RESOURCE R{resource} ON CPU ")?;
+    for (number, program) in programs.iter().enumerate() {
+        if program.resource == resource {
+            write!(text, "TASK T{number} (INTERVAL := T#10ms, PRIORITY := 0); ")?;
+        }
+    }
+    for (number, program) in programs.iter().enumerate() {
+        if program.resource == resource {
+            write!(text, "PROGRAM P{number} WITH T{number} : Unit{number}; ")?;
+        }
+    }
+    write!(text, "END_RESOURCE ")
+}
+
+/// The text of programs over globals. The globals are the blocks of a configuration; the programs are written `RESOURCE: BODY`,
+/// with ` / ` between them.
+pub fn text_of(alloc: Global, globals: &str, programs: &str) -> Result<String, RowError> {
+    let declared = declared_in(alloc, globals)?;
+    let programs = placed_in(alloc, programs)?;
+    let mut text = String::new(alloc);
+    for (number, program) in programs.iter().enumerate() {
+        write_unit(&mut text, number, &declared, program.body)?;
+    }
+    write!(text, "CONFIGURATION C {globals} ")?;
+    for resource in 0..RESOURCES {
+        write_resource(&mut text, resource, &programs)?;
+    }
+    write!(text, "END_CONFIGURATION")?;
+    Ok(text)
+}
