@@ -155,6 +155,7 @@ change "an address one past its range" 'RETAIN n : INT;' 'n : INT; b AT %IX1024 
 change "a word one past its range" 'RETAIN n : INT;' 'n : INT; b AT %IW256 : WORD;' G4
 change "a bit of a word's width" 'RETAIN n : INT;' 'n : INT; b AT %IX0 : WORD;' G4
 change "a word of a bit's width" 'RETAIN n : INT;' 'n : INT; b AT %IW0 : BOOL;' G4
+change "an array at an address" 'RETAIN n : INT;' 'n : INT; b AT %IX0 : ARRAY [0..1] OF BOOL;' G4
 change "a word of four bytes" 'RETAIN n : INT;' 'n : INT; b AT %IW0 : DINT;' G4
 change "an address twice" 'RETAIN n : INT;' 'n : INT; b AT %IX7 : BOOL; c AT %IX007 : BOOL;' G4
 change "an output twice" 'RETAIN n : INT;' 'n : INT; b AT %QX7 : BOOL; c AT %QX7 : BOOL;' G4

@@ -24,6 +24,12 @@ start_of Cold plan file = cold_start (plan_view plan)
 abbrev pub started : Plan → ℕ → Start → State
 started plan room start = record { plan = plan; start = start.store; before = start.moment; log = []; room = room }
 
+-- a life of this plan and this room that has done nothing yet
+pub record IsNew (state : State) (plan : Plan) (room : ℕ) : Type 0 where
+  pub plan_is : state.plan ≡ plan
+  pub empty : state.log ≡ []
+  pub room_is : state.room ≡ room
+
 -- a record of another layout text
 abbrev pub HasOtherLayout : Plan → Recovered → Type 0
 HasOtherLayout plan (Found generation content) = content.layout ≢ layout_text plan.variables.items

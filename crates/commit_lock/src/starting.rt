@@ -9,7 +9,7 @@ ghost use Rattle.retain_store.specs.Areas.{IsEither};
 ghost use Rattle.retain_store.specs.Kept.{IsLast};
 ghost use Rattle.commit_lock.specs.Restart.{Survives, IsOfPlan, IsInitialAgain, begun, record_now, warm};
 ghost use Rattle.commit_lock.specs.Cores.{survives};
-ghost use Rattle.commit_lock.specs.Starting.{start_of, started, HasOtherLayout, CanStart, RefusesStart, CountsStart, LeftByStart, IsSavedAnew, IsWantOfMemory};
+ghost use Rattle.commit_lock.specs.Starting.{start_of, started, HasOtherLayout, IsNew, CanStart, RefusesStart, CountsStart, LeftByStart, IsSavedAnew, IsWantOfMemory};
 
 use crate::core_state::Core;
 use crate::parts::Parts;
@@ -158,6 +158,7 @@ impl<D: Disk> Core<D> {
         ensures started { D.tells → IfOk result (λ core. core.state ≡ started plan.value log_room (start_of mode plan.value (recovered (D.seen disk)))) }
         ensures cold { mode ≡ StartMode.Cold → IfOk result (λ core. core.state ≡ begun plan.value log_room) }
         ensures fresh { IfOk result (λ core. (core.acked ≡ 0) × (core.failed ≡ None)) }
+        ensures begun { IfOk result (λ core. IsNew core.state plan.value log_room) }
 
         // A cold start has saved the record of the initial values.
         ensures saved { mode ≡ StartMode.Cold → IfOk result (λ core. IsSavedAnew plan.value log_room core.store) }

@@ -17,7 +17,6 @@ mod thin_program;
 mod thin_unit;
 mod unit_check;
 
-pub use lookup::kind_of_type;
 pub use path_text::push_path;
 pub use plan::Plan;
 pub use plan_check::has_long_record;

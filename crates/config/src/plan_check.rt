@@ -1,6 +1,6 @@
 //! Whether the parts of a thin plan make one.
 
-ghost use Rattle.std.specs.Prelude.{◌≡◌, ◌<◌, nat_le, map, true, IfOk};
+ghost use Rattle.std.specs.Prelude.{◌≡◌, ◌<◌, ◌≤◌, nat_le, map, length, true, false, IfOk};
 ghost use Rattle.std.specs.List.{list_all};
 ghost use Rattle.st_trees.specs.UnitViews.{unit_view};
 ghost use Rattle.st_types.specs.Scopes.{contains_name};
@@ -165,7 +165,8 @@ fn are_thin_variables(variables: &[PlanVariable]) -> bool
 
 /// Whether a record of these variables would be longer than 131,059 bytes. It is told of at most 4,096 variables of a thin plan alone.
 pub fn has_long_record(variables: &[PlanVariable]) -> bool
-    ensures { result ≡ true → 131059 < record_length variables.now }
+    ensures long { result ≡ true → 131059 < record_length variables.now }
+    ensures short { result ≡ false → length variables.now ≤ 4096 → list_all is_thin_variable variables.now ≡ true → record_length variables.now ≤ 131059 }
 {
     if variables.len() > 4096 || !are_thin_variables(variables) {
         return false;

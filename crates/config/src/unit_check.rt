@@ -11,7 +11,8 @@ ghost use Rattle.st_types.specs.NameTypes.{kind_of_type, type_in, type_in_blocks
 ghost use Rattle.config.specs.Thin.{is_thin_kind, is_variable_of, is_input_of, is_there, are_there, is_absent, is_thin_declaration, is_thin_block, kind_in, is_of, is_of_or_none, is_literal_of, is_typed, is_typed_for, is_typed_stmt, is_program, is_short, is_thin_unit};
 
 use crate::global_path::is_global_of;
-use crate::lookup::{kind_in, kind_of_type, type_in_blocks};
+use crate::lookup::kind_in;
+use st_types::lookup::{kind_of_type, type_in_blocks};
 use st_types::{
     BinaryOperator, Declaration, Expr, Identifier, Kind, Literal, Name, Number, PlanInput,
     PlanVariable, Section, SimpleType, Stmt, Unit, UnitSort, VariableBlock, VariableType,

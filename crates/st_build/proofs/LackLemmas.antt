@@ -39,3 +39,8 @@ no_inputs c missing vs is h = not_whole is (inputs_in c.globals) missing h.input
 
 pub no_programs : (units : List OrganisationUnit) (c : Configuration) → list_any is_missing (programs_in units 0 c.resources) ≡ true → (ps : List ThinProgram) → HasPrograms units c ps → ⊥
 no_programs units c missing ps h = not_whole ps (programs_in units 0 c.resources) missing h.programs_are
+
+-- what holds of an error that is handed on
+pub handed_on : {B : Type 0} (P : BuildError → Type 0) (e : BuildError) (told : Result B BuildError) → IsErrAnd told (λ x. x ≡ e) → P e → IfErr told P
+handed_on P e (Ok b) h p = absurd h
+handed_on P e (Err x) h p = subst P (sym h) p

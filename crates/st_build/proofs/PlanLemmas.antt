@@ -32,8 +32,8 @@ use Rattle.st_build.specs.declared.build_error.BuildError.TheVariants as errors
 use Rattle.st_rules.specs.declared.rule.Broken.{Broken}
 use Rattle.st_rules.specs.Rules as broken_rules
 use Rattle.st_build.specs.TextParts.{configurations_in, has_types, IsNotConfigured}
-use Rattle.st_build.specs.Refusals.{HasGlobals}
-use Rattle.st_build.specs.Plans.{HasPrograms, IsPlanFrom, IsPlanOf, Breaks, Applies, IsMemory, GivesPlan}
+use Rattle.st_build.specs.Refusals.{HasGlobals, HasTooManyPaths, HasThinRecordTooLong}
+use Rattle.st_build.specs.Plans.{IsKept, HasPrograms, IsPlanFrom, IsPlanOf, IsUnsupported, IsBeyond, Breaks, Applies, IsMemory, GivesPlan}
 use Rattle.st_build.proofs.ListLemmas.{same_parts}
 
 -- the limits that a thin plan keeps
@@ -89,7 +89,7 @@ not_refused units c budget p errors.RecordTooLong a h =
     let longer : 131059 < record_length a.variables = rw v at h.long in
     let long = (limits_of units a.variables a.inputs a.programs budget a.thin).long in
     absurd (grind (arith, nat_tests))
-not_refused units c budget p errors.Unsupported a h = absurd (h p a)
+not_refused units c budget p errors.Unsupported a h = absurd (h.none p a)
 not_refused units c budget p errors.Memory a h = h
 not_refused units c budget p errors.Budget a h = h
 not_refused units c budget p errors.NoConfiguration a h = h
@@ -107,6 +107,16 @@ not_thin units c budget vs is ps globals programs none plan a =
     let r = same_parts a.programs ps (a.programs_are.programs_are ∙ sym programs.programs_are) in
     let thin : is_thin units vs is ps budget ≡ true = rw (v, i, r) at a.thin in
     absurd (cc)
+
+-- globals whose record is short, as far as this version has them
+pub short_record : (c : Configuration) (vs : List PlanVariable) (is : List PlanInput) → HasGlobals c vs is
+    → (list_all is_thin_variable vs ≡ true → record_length vs ≤ 131059) → HasThinRecordTooLong c → ⊥
+short_record c vs is globals short h =
+    let v = same_variables c h.variables vs h.inputs is h.globals globals in
+    let thin : list_all is_thin_variable vs ≡ true = rw v at h.thin in
+    let longer : 131059 < record_length vs = rw v at h.long in
+    let most = short thin in
+    absurd (omega arith)
 
 abbrev head_or : Configuration → List Configuration → Configuration
 head_or d [] = d
@@ -133,25 +143,51 @@ here : (source : Source) (units : List OrganisationUnit) (c : Configuration) (bu
     → units ≡ units_in source → configurations_in source ≡ c ∷ [] → Breaks units c budget e → (d : Configuration) × (configurations_in source ≡ d ∷ []) × Breaks (units_in source) d budget e
 here source units c budget e us one h = (c, one, subst (λ x. Breaks x c budget e) us h)
 
+-- a text without a plan of its units and its configuration
+beyond : (source : Source) (units : List OrganisationUnit) (c : Configuration) (budget : ℕ) → units ≡ units_in source → configurations_in source ≡ c ∷ []
+    → ((broken : Broken) → broken_rules.Breaks source broken → ⊥) → IsUnsupported units c budget → IsBeyond source budget
+beyond source units c budget us one unbroken h = record {
+  configuration = c;
+  one = one;
+  unbroken = unbroken;
+  kept = subst (λ x. IsKept x c) us h.kept;
+  few = h.few;
+  short = h.short;
+  none = λ plan p. h.none plan (from_text source units c budget plan us one p);
+}
+
+-- a text whose units and configuration have a plan, and that has types
+pub beyond_types : (source : Source) (units : List OrganisationUnit) (c : Configuration) (budget : ℕ) (plan : plans.Plan) → units ≡ units_in source → configurations_in source ≡ c ∷ []
+    → ((broken : Broken) → broken_rules.Breaks source broken → ⊥) → has_types source ≡ true → IsPlanFrom units c budget plan → IsBeyond source budget
+beyond_types source units c budget plan us one unbroken types from = record {
+  configuration = c;
+  one = one;
+  unbroken = unbroken;
+  kept = subst (λ x. IsKept x c) us from.kept;
+  few = λ many. not_refused units c budget plan errors.TooManyPaths from many;
+  short = λ long. not_refused units c budget plan errors.RecordTooLong from record { variables = long.variables; inputs = long.inputs; globals = long.globals; long = long.long };
+  none = λ other p. let plain = p.plain in absurd (cc);
+}
+
 pub breaks_text : (source : Source) (units : List OrganisationUnit) (c : Configuration) (budget : ℕ) (e : BuildError)
-    → units ≡ units_in source → configurations_in source ≡ c ∷ [] → Breaks units c budget e → Applies source budget e
-breaks_text source units c budget errors.Unknown us one h = here source units c budget errors.Unknown us one h
-breaks_text source units c budget errors.Address us one h = here source units c budget errors.Address us one h
-breaks_text source units c budget errors.TooMany us one h = here source units c budget errors.TooMany us one h
-breaks_text source units c budget errors.NoTask us one h = here source units c budget errors.NoTask us one h
-breaks_text source units c budget errors.TooManyPaths us one h = here source units c budget errors.TooManyPaths us one h
-breaks_text source units c budget errors.RecordTooLong us one h = here source units c budget errors.RecordTooLong us one h
-breaks_text source units c budget errors.Unsupported us one h = λ plan p. h plan (from_text source units c budget plan us one p)
-breaks_text source units c budget errors.Memory us one h = h
-breaks_text source units c budget errors.Budget us one h = absurd h
-breaks_text source units c budget errors.NoConfiguration us one h = absurd h
-breaks_text source units c budget (errors.Rule x) us one h = absurd h
-breaks_text source units c budget (errors.Words x) us one h = absurd h
-breaks_text source units c budget (errors.Grammar x) us one h = absurd h
+    → units ≡ units_in source → configurations_in source ≡ c ∷ [] → ((broken : Broken) → broken_rules.Breaks source broken → ⊥) → Breaks units c budget e → Applies source budget e
+breaks_text source units c budget errors.Unknown us one unbroken h = here source units c budget errors.Unknown us one h
+breaks_text source units c budget errors.Address us one unbroken h = here source units c budget errors.Address us one h
+breaks_text source units c budget errors.TooMany us one unbroken h = here source units c budget errors.TooMany us one h
+breaks_text source units c budget errors.NoTask us one unbroken h = here source units c budget errors.NoTask us one h
+breaks_text source units c budget errors.TooManyPaths us one unbroken h = here source units c budget errors.TooManyPaths us one h
+breaks_text source units c budget errors.RecordTooLong us one unbroken h = here source units c budget errors.RecordTooLong us one h
+breaks_text source units c budget errors.Unsupported us one unbroken h = beyond source units c budget us one unbroken h
+breaks_text source units c budget errors.Memory us one unbroken h = h
+breaks_text source units c budget errors.Budget us one unbroken h = absurd h
+breaks_text source units c budget errors.NoConfiguration us one unbroken h = absurd h
+breaks_text source units c budget (errors.Rule x) us one unbroken h = absurd h
+breaks_text source units c budget (errors.Words x) us one unbroken h = absurd h
+breaks_text source units c budget (errors.Grammar x) us one unbroken h = absurd h
 
 pub not_configured : (source : Source) (budget : ℕ) (e : BuildError) → IsNotConfigured source e → Applies source budget e
 not_configured source budget errors.NoConfiguration h = h
-not_configured source budget errors.Unsupported h = λ plan p. let plain = p.plain in absurd (cc)
+not_configured source budget errors.Unsupported h = absurd h
 not_configured source budget errors.Memory h = h
 not_configured source budget errors.Unknown h = absurd h
 not_configured source budget errors.Address h = absurd h
@@ -174,7 +210,7 @@ text_plan source budget p q a b = one_plan (units_in source) b.configuration bud
 -- a text that has a plan is refused for want of memory alone
 pub text_refused : (source : Source) (budget : ℕ) (p : plans.Plan) (e : BuildError) → IsPlanOf source budget p → Applies source budget e → IsMemory e
 text_refused source budget p errors.NoConfiguration a h = absurd (let one = a.one in cc)
-text_refused source budget p errors.Unsupported a h = absurd (h p a)
+text_refused source budget p errors.Unsupported a h = absurd (h.none p a)
 text_refused source budget p (errors.Rule x) a h = absurd (a.unbroken x h)
 text_refused source budget p errors.Memory a h = h
 text_refused source budget p errors.Unknown a h = there source budget p errors.Unknown a h

@@ -28,8 +28,9 @@ abbrev pub is_below_limit : AddressWidth → Address → Bool
 is_below_limit widths.Bit a = nat_lt a.number 1024
 is_below_limit widths.Word a = nat_lt a.number 256
 
+-- an address holds an elementary type of its width, and no other type
 abbrev pub holds_kind : Address → Option Kind → Bool
-holds_kind a None = true
+holds_kind a None = false
 holds_kind a (Some k) = has_width a.width k
 
 -- The address is in its range and has the width of its type, it does not stand with CONSTANT, and an input has no initial value.

@@ -25,7 +25,7 @@ use Rattle.st_build.specs.declared.build_error.BuildError.TheVariants as errors
 use Rattle.st_build.specs.TextParts.{configurations_in, has_types}
 use Rattle.st_build.specs.Programs.{programs_in, have_own_tasks}
 use Rattle.st_build.specs.Externals.{are_known}
-use Rattle.st_build.specs.Refusals.{HasGlobals, has_sound_addresses, are_too_many, is_without_task, HasTooManyPaths, HasTooLongRecord}
+use Rattle.st_build.specs.Refusals.{HasGlobals, has_sound_addresses, are_too_many, is_without_task, HasTooManyPaths, HasTooLongRecord, HasThinRecordTooLong}
 
 -- Names are known, addresses are sound, and there are enough tasks and not too many.
 pub record IsKept (units : List OrganisationUnit) (c : Configuration) : Type 0 where
@@ -81,19 +81,36 @@ LacksPrograms units c errors.Memory = Unit {0}
 LacksPrograms units c errors.Unsupported = (programs : List ThinProgram) → HasPrograms units c programs → ⊥
 LacksPrograms units c _ = ⊥
 
+-- What no other number refuses, and yet has no plan; a record may be too long of variables that this version has not.
+pub record IsUnsupported (units : List OrganisationUnit) (c : Configuration) (budget : ℕ) : Type 0 where
+  pub kept : IsKept units c
+  pub few : HasTooManyPaths c → ⊥
+  pub short : HasThinRecordTooLong c → ⊥
+  pub none : (plan : plans.Plan) → IsPlanFrom units c budget plan → ⊥
+
 -- Why units and a configuration have no plan: this number applies. Want of memory says nothing of them.
 abbrev pub Breaks : List OrganisationUnit → Configuration → ℕ → BuildError → Type 0
 Breaks units c budget errors.TooManyPaths = HasTooManyPaths c
 Breaks units c budget errors.RecordTooLong = HasTooLongRecord c
-Breaks units c budget errors.Unsupported = (plan : plans.Plan) → IsPlanFrom units c budget plan → ⊥
+Breaks units c budget errors.Unsupported = IsUnsupported units c budget
 Breaks units c budget e = BreaksRule units c e
+
+-- A tree that no other number refuses so, and that yet has no plan.
+pub record IsBeyond (source : Source) (budget : ℕ) : Type 0 where
+  pub configuration : Configuration
+  pub one : configurations_in source ≡ configuration ∷ []
+  pub unbroken : (broken : Broken) → rules.Breaks source broken → ⊥
+  pub kept : IsKept (units_in source) configuration
+  pub few : HasTooManyPaths configuration → ⊥
+  pub short : HasThinRecordTooLong configuration → ⊥
+  pub none : (plan : plans.Plan) → IsPlanOf source budget plan → ⊥
 
 -- why a tree has no plan
 abbrev pub Applies : Source → ℕ → BuildError → Type 0
 Applies source budget (errors.Rule broken) = rules.Breaks source broken
 Applies source budget errors.NoConfiguration = (length (configurations_in source) == 1) ≡ false
 Applies source budget errors.Memory = Unit {0}
-Applies source budget errors.Unsupported = (plan : plans.Plan) → IsPlanOf source budget plan → ⊥
+Applies source budget errors.Unsupported = IsBeyond source budget
 Applies source budget e = (c : Configuration) × (configurations_in source ≡ c ∷ []) × Breaks (units_in source) c budget e
 
 -- The bytes spell the source.

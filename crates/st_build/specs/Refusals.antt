@@ -6,6 +6,7 @@ use Rattle.st_trees.specs.Configurations.{GlobalBlock, Resource, Configuration}
 use Rattle.st_types.specs.declared.plan.PlanVariable.{PlanVariable}
 use Rattle.st_types.specs.declared.plan.PlanInput.{PlanInput}
 use Rattle.st_types.specs.Layouts.{record_length}
+use Rattle.config.specs.ThinPlans.{is_thin_variable}
 use Rattle.st_build.specs.Globals.{variables_in}
 use Rattle.st_build.specs.Inputs.{inputs_in}
 use Rattle.st_build.specs.Addresses.{is_sound_block, addresses_in, are_single}
@@ -46,4 +47,12 @@ pub record HasTooLongRecord (c : Configuration) : Type 0 where
   pub variables : List PlanVariable
   pub inputs : List PlanInput
   pub globals : HasGlobals c variables inputs
+  pub long : 131059 < record_length variables
+
+-- the same of variables that this version has
+pub record HasThinRecordTooLong (c : Configuration) : Type 0 where
+  pub variables : List PlanVariable
+  pub inputs : List PlanInput
+  pub globals : HasGlobals c variables inputs
+  pub thin : list_all is_thin_variable variables ≡ true
   pub long : 131059 < record_length variables

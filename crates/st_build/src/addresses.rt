@@ -7,7 +7,7 @@ ghost use Rattle.st_build.specs.Addresses.{is_input, has_width, is_below_limit, 
 ghost use Rattle.st_build.specs.Refusals.{has_sound_addresses};
 
 use crate::variables::is_constant;
-use config::kind_of_type;
+use st_types::lookup::kind_of_type;
 use st_types::{
     Address, AddressWidth, Direction, GlobalBlock, GlobalDeclaration, GlobalNames, GlobalQualifier,
     Kind,
@@ -45,7 +45,7 @@ fn holds_kind(address: Address, kind: Option<Kind>) -> bool
 {
     match kind {
         Some(kind) => has_width(address.width, kind),
-        None => true,
+        None => false,
     }
 }
 

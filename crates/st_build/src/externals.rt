@@ -9,9 +9,8 @@ ghost use Rattle.st_types.specs.NameTypes.{is_named};
 ghost use Rattle.st_build.specs.Externals.{is_among, is_fixed, agree, is_behind, stands_in, is_there, are_there, is_known_block, has_known_externals, is_boolean, has_boolean, is_known_single, is_known_task, is_program_named, is_known_program, is_known_instance, is_known_resource, are_known};
 
 use crate::addresses::is_input;
-use crate::names::{is_listed, is_named};
 use crate::variables::is_constant;
-use config::kind_of_type;
+use st_types::lookup::{is_listed, is_named, kind_of_type};
 use st_types::{
     Configuration, Declaration, GlobalBlock, GlobalDeclaration, GlobalNames, GlobalQualifier,
     Identifier, Instance, Kind, Name, Resource, Section, Task, Unit, UnitSort, VariableBlock,

@@ -8,7 +8,7 @@ ghost use Rattle.st_build.specs.Inputs.{input_kind, input_of, input_declared, in
 
 use crate::addresses::is_input;
 use crate::lack::Lack;
-use config::kind_of_type;
+use st_types::lookup::kind_of_type;
 use st_types::{
     Address, GlobalBlock, GlobalDeclaration, GlobalNames, GlobalQualifier, Identifier, Kind, Path,
     PlanInput,

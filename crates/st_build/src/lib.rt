@@ -8,7 +8,6 @@ mod externals;
 mod inputs;
 mod lack;
 mod making;
-mod names;
 mod programs;
 mod source_plan;
 mod tasks;

@@ -4,7 +4,7 @@ ghost use Rattle.std.specs.Prelude.{◌≡◌, map, IfOk, IfErr, OnOk};
 ghost use Rattle.st_trees.specs.UnitViews.{unit_view};
 ghost use Rattle.st_trees.specs.ConfigurationViews.{configuration_view};
 ghost use Rattle.config.specs.PlanViews.{plan_view};
-ghost use Rattle.st_build.specs.Refusals.{HasGlobals};
+ghost use Rattle.st_build.specs.Refusals.{HasGlobals, HasTooManyPaths, HasThinRecordTooLong};
 ghost use Rattle.st_build.specs.Plans.{IsKept, HasPrograms, IsPlanFrom, BreaksRule, LacksGlobals, LacksPrograms, Breaks};
 
 use crate::addresses::has_sound_addresses;
@@ -51,6 +51,8 @@ fn check(alloc: Global, units: &[Unit], configuration: &Configuration) -> Result
 
 fn globals_of(alloc: Global, configuration: &Configuration) -> Result<Globals, BuildError>
     ensures globals { IfOk result (λ g. HasGlobals (configuration_view configuration.now) g.variables.items g.inputs.items) }
+    ensures few { OnOk result (HasTooManyPaths (configuration_view configuration.now) → ⊥) }
+    ensures short { OnOk result (HasThinRecordTooLong (configuration_view configuration.now) → ⊥) }
     ensures refused { IfErr result (λ e. LacksGlobals (configuration_view configuration.now) e) }
 {
     let variables = variables_in(alloc, &configuration.globals)?;

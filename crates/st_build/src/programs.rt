@@ -9,9 +9,9 @@ ghost use Rattle.st_build.specs.Lists.{is_missing};
 ghost use Rattle.st_build.specs.Programs.{program_of, programs_in};
 
 use crate::lack::Lack;
-use crate::names::is_named;
 use crate::tasks::interval_of;
 use config::ThinProgram;
+use st_types::lookup::is_named;
 use st_types::{Instance, Name, Resource, Task, Unit};
 use std::alloc::Global;
 

@@ -31,15 +31,21 @@ fn plan_of(alloc: Global, source: Source, budget: u32) -> Result<Plan, BuildErro
     let Configured {
         units,
         configuration,
+        has_types,
     } = configuration_of(alloc, source)?;
-    plan_from(alloc, units, &configuration, budget)
+    let plan = plan_from(alloc, units, &configuration, budget)?;
+    if has_types {
+        return Err(BuildError::Unsupported);
+    }
+    Ok(plan)
 }
 
 /// The plan of a text in Structured Text for a budget of 1 to 1,000,000 ticks.
 ///
 /// This version runs programs that assign whole-number literals, names and their sums to VAR_EXTERNAL globals of INT and DINT, and
 /// inputs of the plant, each program in a task of its own with an INTERVAL and PRIORITY 0. G7 comes first, then the lexer's and the
-/// parser's refusals, then the others, of which any that applies may come; X2 is for what this version can't run.
+/// parser's refusals, then the others, of which any that applies may come. X2 is for what this version can't run, where no other
+/// number applies.
 pub fn build(alloc: Global, text: &[u8], budget: u32) -> Result<Plan, BuildError>
     // The budget is judged before all else.
     ensures budget { (budget ≡ 0) ⊎ (1000000 < budget) → IsErrOf result BuildError.Budget }

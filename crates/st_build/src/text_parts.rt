@@ -1,6 +1,6 @@
 //! The parts of a text.
 
-ghost use Rattle.std.specs.Prelude.{◌≡◌, [], ◌∷◌, map, false, IfOk, IfErr};
+ghost use Rattle.std.specs.Prelude.{◌≡◌, [], ◌∷◌, map, IfOk, IfErr};
 ghost use Rattle.st_trees.specs.UnitViews.{unit_view};
 ghost use Rattle.st_trees.specs.ConfigurationViews.{configuration_view};
 ghost use Rattle.st_trees.specs.SourceViews.{source_view};
@@ -48,13 +48,15 @@ pub fn parts_of(alloc: Global, source: Source) -> Result<TextParts, AllocError>
 pub struct Configured {
     pub units: Vec<Unit>,
     pub configuration: Configuration,
+    /// Whether a block from TYPE to END_TYPE stands in it.
+    pub has_types: bool,
 }
 
-/// Takes a text apart that has one configuration and no types.
+/// Takes a text apart that has one configuration.
 pub fn configuration_of(alloc: Global, source: Source) -> Result<Configured, BuildError>
     ensures units { IfOk result (λ text. map unit_view text.units.items ≡ units_in (source_view source)) }
     ensures one { IfOk result (λ text. configurations_in (source_view source) ≡ configuration_view text.configuration ∷ []) }
-    ensures plain { IfOk result (λ text. has_types (source_view source) ≡ false) }
+    ensures types { IfOk result (λ text. text.has_types ≡ has_types (source_view source)) }
     ensures refused { IfErr result (λ e. IsNotConfigured (source_view source) e) }
 {
     let mut parts = parts_of(alloc, source)?;
@@ -64,11 +66,9 @@ pub fn configuration_of(alloc: Global, source: Source) -> Result<Configured, Bui
     if !parts.configurations.is_empty() {
         return Err(BuildError::NoConfiguration);
     }
-    if parts.has_types {
-        return Err(BuildError::Unsupported);
-    }
     Ok(Configured {
         units: parts.units,
         configuration,
+        has_types: parts.has_types,
     })
 }

@@ -9,7 +9,7 @@ ghost use Rattle.st_build.specs.Globals.{is_retain, is_constant, number_value, s
 ghost use Rattle.st_build.specs.Lists.{is_missing};
 
 use crate::lack::Lack;
-use config::kind_of_type;
+use st_types::lookup::kind_of_type;
 use st_types::{
     GlobalBlock, GlobalDeclaration, GlobalNames, GlobalQualifier, Identifier, Initial, Kind,
     Literal, Number, Path, PlanVariable, Value, number_of,

@@ -10,9 +10,9 @@ ghost use Rattle.st_rules.specs.Places.{first};
 ghost use Rattle.st_rules.specs.Initials.{wrong_literal, constant_against, initial_against, variables_against, globals_against, priority_out_of_range, priorities_out_of_range};
 
 use crate::kinds::{kind_of_literal, kind_or_taken, place_of_literal};
-use crate::lookup::kind_of_type;
 use crate::ranges::literal_out_of_range;
 use crate::rule::Rule;
+use st_types::lookup::kind_of_type;
 use st_types::{
     Declaration, GlobalBlock, GlobalDeclaration, Initial, Kind, Literal, Resource, Task,
     VariableBlock,

@@ -1,59 +1,14 @@
 //! The declared types of a unit's variables.
 
-ghost use Rattle.std.specs.Prelude.{◌≡◌, map, option_map, option_and_then};
-ghost use Rattle.std.specs.List.{list_any};
-ghost use Rattle.st_trees.specs.DeclarationViews.{declaration_view, variable_block_view};
+ghost use Rattle.std.specs.Prelude.{◌≡◌, option_and_then};
 ghost use Rattle.st_trees.specs.ExpressionViews.{variable_view};
 ghost use Rattle.st_trees.specs.UnitViews.{unit_view};
-ghost use Rattle.st_types.specs.NameTypes.{is_named, kind_of_type, type_in, type_in_blocks, result_kind, variable_type};
+ghost use Rattle.st_types.specs.NameTypes.{kind_of_type, result_kind, variable_type};
 ghost use Rattle.st_rules.specs.Declarations.{is_there};
 ghost use Rattle.st_rules.specs.Expressions.{kind_of_name};
 
-use crate::names::is_named;
-use st_types::{
-    Declaration, Identifier, Kind, Name, SimpleType, Unit, UnitSort, Variable, VariableBlock,
-    VariableType,
-};
-
-/// The elementary type that a declared type is.
-pub fn kind_of_type(declared: &VariableType) -> Option<Kind>
-    ensures { result ≡ kind_of_type declared.now }
-{
-    match declared {
-        VariableType::Simple(SimpleType::Elementary(kind, _)) => Some(*kind),
-        _ => None,
-    }
-}
-
-fn is_one_of(names: &[Identifier], name: &Name) -> bool
-    ensures { result ≡ list_any (is_named name.now) names.now }
-{
-    names.iter().any(|x| is_named(name, x))
-}
-
-/// The type that a list of declarations gives a name.
-fn type_in<'a>(declarations: &'a [Declaration], name: &Name) -> Option<&'a VariableType>
-    ensures { option_map (λ t. t.now) result ≡ type_in (map declaration_view declarations.now) name.now }
-{
-    for declaration in declarations {
-        if is_one_of(&declaration.names, name) {
-            return Some(&declaration.declared);
-        }
-    }
-    None
-}
-
-/// The type that the blocks give a name.
-fn type_in_blocks<'a>(blocks: &'a [VariableBlock], name: &Name) -> Option<&'a VariableType>
-    ensures { option_map (λ t. t.now) result ≡ type_in_blocks (map variable_block_view blocks.now) name.now }
-{
-    for block in blocks {
-        if let Some(declared) = type_in(&block.declarations, name) {
-            return Some(declared);
-        }
-    }
-    None
-}
+use st_types::lookup::{is_named, kind_of_type, type_in_blocks};
+use st_types::{Kind, Name, Unit, UnitSort, Variable};
 
 fn result_kind(sort: UnitSort) -> Option<Kind>
     ensures { result ≡ result_kind sort }

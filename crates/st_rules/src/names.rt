@@ -5,6 +5,7 @@ ghost use Rattle.std.specs.List.{list_any};
 ghost use Rattle.st_types.specs.NameTypes.{is_named};
 ghost use Rattle.st_rules.specs.Places.{first, places_where, repeats};
 
+use st_types::lookup::is_named;
 use st_types::{Identifier, Name};
 use std::alloc::AllocError;
 
@@ -19,13 +20,6 @@ pub fn push_names<'a>(
         scope.push(name)?;
     }
     Ok(())
-}
-
-/// Whether the identifier is of this name.
-pub fn is_named(name: &Name, identifier: &Identifier) -> bool
-    ensures { result ≡ is_named name.now identifier.now }
-{
-    name.is(&identifier.name)
 }
 
 /// Whether the name is one of these.

@@ -7,6 +7,7 @@ mod entry;
 mod examples;
 mod laws;
 mod literals;
+pub mod lookup;
 pub mod loop_examples;
 pub mod operator_examples;
 mod plan;

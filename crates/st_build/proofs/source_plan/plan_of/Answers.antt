@@ -3,24 +3,24 @@ use Rattle.st_trees.specs.UnitViews.{unit_view}
 use Rattle.st_trees.specs.ConfigurationViews.{configuration_view}
 use Rattle.st_trees.specs.SourceViews.{source_view}
 use Rattle.config.specs.PlanViews.{plan_view}
-use Rattle.st_build.specs.Plans.{IsPlanFrom, IsPlanOf, Breaks, Applies}
-use Rattle.st_build.proofs.PlanLemmas.{ok_more, err_more, plan_of_text, breaks_text}
+use Rattle.st_build.specs.Plans.{Applies}
+use Rattle.st_build.proofs.LackLemmas.{handed_on}
+use Rattle.st_build.proofs.PlanLemmas.{plan_of_text, breaks_text, beyond_types}
 use Rattle.st_build.proofs.source_plan.plan_of.Goals as goal
 
 pub returns-clause-plan : goal.returns-clause-plan
 returns-clause-plan c =
-    let source = source_view c.args.source in
-    let units = map unit_view c.in_ok-units.units.items in
-    let configuration = configuration_view c.in_ok-units.configuration in
-    ok_more (λ plan. IsPlanFrom units configuration c.args.budget (plan_view plan)) (λ plan. IsPlanOf source c.args.budget (plan_view plan)) c.plan_from.result
-    (λ plan from. plan_of_text source units configuration c.args.budget (plan_view plan) (search rules) (search rules) (search rules) (c.in_ok-broken.ensures.clean (search rules)) from)
-    (search rules)
+    plan_of_text (source_view c.args.source) (map unit_view c.in_ok-units.units.items) (configuration_view c.in_ok-units.configuration) c.args.budget (plan_view c.in_ok-plan.plan)
+    (search rules) (search rules) (search rules) (c.in_ok-broken.ensures.clean (search rules)) (search rules)
 
-pub returns-clause-refused : goal.returns-clause-refused
-returns-clause-refused c =
+pub returns-then-has_types-clause-refused : goal.returns-then-has_types-clause-refused
+returns-then-has_types-clause-refused c =
+    beyond_types (source_view c.args.source) (map unit_view c.in_ok-units.units.items) (configuration_view c.in_ok-units.configuration) c.args.budget (plan_view c.in_ok-plan.plan)
+    (search rules) (search rules) (c.in_ok-broken.ensures.clean (search rules)) (search rules) (search rules)
+
+pub returns-in_err-plan-clause-refused : goal.returns-in_err-plan-clause-refused
+returns-in_err-plan-clause-refused c =
     let source = source_view c.args.source in
-    let units = map unit_view c.in_ok-units.units.items in
-    let configuration = configuration_view c.in_ok-units.configuration in
-    err_more (λ e. Breaks units configuration c.args.budget e) (λ e. Applies source c.args.budget e) c.plan_from.result
-    (λ e h. breaks_text source units configuration c.args.budget e (search rules) (search rules) h)
-    (search rules)
+    handed_on (λ e. Applies source c.args.budget e) c.in_err-plan.field-0.0 c.from_residual-in_err-plan.result (search rules)
+    (breaks_text source (map unit_view c.in_ok-units.units.items) (configuration_view c.in_ok-units.configuration) c.args.budget c.in_err-plan.field-0.0
+    (search rules) (search rules) (c.in_ok-broken.ensures.clean (search rules)) (search rules))
