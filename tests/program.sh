@@ -122,6 +122,7 @@ scene "a refused source" 2 "" "fault L3 at 0" $(run word.st rows.csv made cold)
 refused "a budget that is no number" 1 $(run s.st rows.csv made cold) --budget x
 refused "a negative budget" 1 $(run s.st rows.csv made cold) --budget -1
 refused "no words" 1
+scene "a trace, which this version doesn't write" 1 "" "this version of plant can't do this yet" $(run s.st rows.csv made cold) --trace made
 scene "no plant" 3 "" "fault I5" $(run s.st nowhere.csv made cold)
 [ ! -e made ] || fail "a refused run has made a retain file"
 
