@@ -3,7 +3,12 @@ use Rattle.std.proofs.Common.{◌≡◌, ◌∙◌, ap, sym, subst, ℕ, List, l
 use Rattle.serial_core.specs.Steps.{State}
 use Rattle.commit_lock.specs.Cores.{CoreView}
 use Rattle.config.specs.declared.plan.Plan.{Plan}
+use Rattle.st_types.specs.Rows.{Latch}
+use Rattle.image.specs.Plants.{AreRowsOf}
+use Rattle.commit_lock.specs.Starting.{IsNew}
 use Rattle.plant_program.specs.Lives.{IsReport}
+use Rattle.plant_program.specs.Progress.{GoesOn, IsRunOf}
+use Rattle.plant_program.proofs.ProgressLemmas.{run_of}
 use Rattle.plant_program.specs.Settling.{IsSettled, NothingWaits}
 
 -- where nothing waits, a flush settles
@@ -13,14 +18,18 @@ settled old new n resources counted same acked none = (
   subst (λ (s : State). NothingWaits s resources) (sym same) none,
 )
 
--- a report of a settled life of a plan, and of another name for the plan
-pub reported : {D T E : Type 0} (items : T → List ℕ) (life : CoreView D) (here plan : Plan) (r : Result T E) → here ≡ plan
-    → OnOk r (IsSettled life here.resources)
+-- a report of a settled life that is the run of a plan over rows, by another name for the plan
+pub reported : {D T E : Type 0} (items : T → List ℕ) (begun : State) (life : CoreView D) (rows : List Latch) (room : ℕ) (here plan : Plan) (r : Result T E) → here ≡ plan
+    → AreRowsOf plan.inputs.items rows → IsNew begun plan room → OnOk r (GoesOn begun life.state rows) → OnOk r (IsSettled life here.resources)
     → IfOk r (λ t. IsReport life.state life.acked (length here.programs.items) here.variables.items (items t))
-    → IfOk r (λ t. (x : CoreView D) × IsSettled x plan.resources × IsReport x.state x.acked (length plan.programs.items) plan.variables.items (items t))
-reported items life here plan (Ok t) same settles reports = (
+    → IfOk r (λ t. (x : CoreView D) × (xs : List Latch) × AreRowsOf plan.inputs.items xs × IsRunOf plan xs x.state
+    × IsSettled x plan.resources × IsReport x.state x.acked (length plan.programs.items) plan.variables.items (items t))
+reported items begun life rows room here plan (Ok t) same are new goes settles reports = (
   life,
+  rows,
+  are,
+  run_of begun life.state plan rows room new goes,
   subst (λ (p : Plan). IsSettled life p.resources) same settles,
   subst (λ (p : Plan). IsReport life.state life.acked (length p.programs.items) p.variables.items (items t)) same reports,
 )
-reported items life here plan (Err e) same settles reports = tt
+reported items begun life rows room here plan (Err e) same are new goes settles reports = tt

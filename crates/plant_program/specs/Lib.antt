@@ -1,5 +1,6 @@
 pub mod Ends
 pub mod Lives
+pub mod Progress
 pub mod Reports
 pub mod Settling
 pub mod Sizes

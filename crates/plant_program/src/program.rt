@@ -27,8 +27,12 @@ fn check<F: Files>(alloc: Global, files: &mut F, source: &str) -> Result<End, Fa
     Ok(End::Report(sizes_of(alloc, &plan)?))
 }
 
-/// Reads and builds the source, then reads the plant, then opens the store and starts, then runs.
+/// Reads and builds the source, then reads the plant, then opens the store and starts, then runs. This version writes no trace, and
+/// does nothing where one is asked for.
 fn run<F: Files>(alloc: Global, files: &mut F, job: &RunJob<'_>) -> Result<End, Fault> {
+    if job.trace.is_some() {
+        return Ok(End::NotYet);
+    }
     let text = read_source(alloc, files, job.source)?;
     let plan = build(alloc, &text, job.budget)?;
     Ok(End::Report(run_plan(alloc, files, plan, job)?))

@@ -1,8 +1,12 @@
 //! The run of a plan.
 
-ghost use Rattle.std.specs.Prelude.{IfOk, OnOk, length};
+ghost use Rattle.std.specs.Prelude.{◌≡◌, List, IfOk, OnOk, length};
+ghost use Rattle.st_types.specs.Rows.{Latch};
+ghost use Rattle.image.specs.Plants.{AreRowsOf};
 ghost use Rattle.commit_lock.specs.Cores.{CoreView};
+ghost use Rattle.commit_lock.specs.Starting.{IsNew};
 ghost use Rattle.plant_program.specs.Lives.{IsReport};
+ghost use Rattle.plant_program.specs.Progress.{GoesOn, IsRunOf};
 ghost use Rattle.plant_program.specs.Settling.{IsSettled};
 
 use crate::fault::Fault;
@@ -28,7 +32,9 @@ fn read_rows<F: Files>(
     files: &mut F,
     name: &str,
     plan: &Plan,
-) -> Result<Vec<Row>, Fault> {
+) -> Result<Vec<Row>, Fault>
+    ensures { IfOk result (λ rows. AreRowsOf plan.now.inputs.items rows.items) }
+{
     let Some(reader) = files.read(name) else {
         return Err(Fault::Plant(PlantError::Reading));
     };
@@ -49,7 +55,9 @@ fn start<F: Files>(
     plan: Arc<Plan>,
     store: &str,
     start: Start,
-) -> Result<Core<F::Disk>, Fault> {
+) -> Result<Core<F::Disk>, Fault>
+    ensures { IfOk result (λ core. IsNew core.state plan.value 65536) }
+{
     let Some(disk) = files.store(store) else {
         return Err(Fault::Start(StartFault::Store(StoreFault::Device)));
     };
@@ -70,7 +78,8 @@ fn run_rows<D: Disk>(
     pace: Pace,
     rows: Vec<Row>,
 ) -> Result<(), Refusal>
-    ensures { OnOk result (IsSettled core.new resources) }
+    ensures settled { OnOk result (IsSettled core.new resources) }
+    ensures goes_on { OnOk result (GoesOn core.old.state core.new.state rows.items) }
 {
     for row in rows {
         match pace {
@@ -92,6 +101,7 @@ fn served<D: Disk>(
     rows: Vec<Row>,
 ) -> Result<Vec<u8>, Fault>
     ensures settled { OnOk result (IsSettled core.new plan.now.resources) }
+    ensures goes_on { OnOk result (GoesOn core.old.state core.new.state rows.items) }
     ensures report { IfOk result (λ text. IsReport core.new.state core.new.acked (length plan.now.programs.items) plan.now.variables.items text.items) }
 {
     run_rows(alloc, core, plan.resources(), pace, rows)?;
@@ -99,15 +109,16 @@ fn served<D: Disk>(
 }
 
 /// Reads the plant, opens the store and starts, then runs on one thread, and gives the report; the first fault ends it. It writes no
-/// trace yet.
+/// trace.
 pub fn run_plan<F: Files>(
     alloc: Global,
     files: &mut F,
     plan: Plan,
     job: &RunJob<'_>,
 ) -> Result<Vec<u8>, Fault>
-    // The report is that of a life in which nothing waits and all is acknowledged.
-    ensures report { IfOk result (λ text. (life : CoreView F.Disk) × IsSettled life plan.resources
+    // The report is that of a life of the plan in which the rows of a plant are latched, nothing waits and all is acknowledged.
+    ensures report { IfOk result (λ text. (life : CoreView F.Disk) × (rows : List Latch) × AreRowsOf plan.inputs.items rows
+        × IsRunOf plan rows life.state × IsSettled life plan.resources
         × IsReport life.state life.acked (length plan.programs.items) plan.variables.items text.items) }
 {
     let rows = read_rows(alloc, files, job.plant, &plan)?;

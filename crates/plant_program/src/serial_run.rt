@@ -1,6 +1,7 @@
 //! Runs on one thread.
 
-ghost use Rattle.std.specs.Prelude.{◌≡◌, ◌<◌, IfOk, OnOk, Ok, false, vec_len};
+ghost use Rattle.std.specs.Prelude.{◌≡◌, ◌<◌, [], ◌∷◌, IfOk, OnOk, Ok, false, vec_len};
+ghost use Rattle.plant_program.specs.Progress.{GoesOn};
 ghost use Rattle.plant_program.specs.Settling.{IsSettled, NothingWaits};
 
 use commit_lock::{Answer, Core, Refusal};
@@ -41,11 +42,9 @@ fn take_all<D: Disk>(
 }
 
 /// Runs and commits what was taken. What is stale then is still waiting.
-fn serve<D: Disk>(
-    alloc: Global,
-    core: &mut Core<D>,
-    snapshot: Snapshot,
-) -> Result<Answer, Refusal> {
+fn serve<D: Disk>(alloc: Global, core: &mut Core<D>, snapshot: Snapshot) -> Result<Answer, Refusal>
+    ensures goes_on { OnOk result (GoesOn core.old.state core.new.state []) }
+{
     let execution = run(alloc, snapshot).map_err(|_| NO_MEMORY)?;
     core.commit(execution)
 }
@@ -53,6 +52,7 @@ fn serve<D: Disk>(
 /// Takes for every resource, then runs and commits what it took. It gives whether anything waited.
 fn round<D: Disk>(alloc: Global, core: &mut Core<D>, resources: usize) -> Result<bool, Refusal>
     ensures nothing { result ≡ Ok false → NothingWaits core.new.state resources }
+    ensures goes_on { OnOk result (GoesOn core.old.state core.new.state []) }
 {
     let taken = take_all(alloc, core, resources)?;
     if taken.is_empty() {
@@ -75,6 +75,7 @@ pub fn settle<D: Disk>(
     log_room: usize,
 ) -> Result<(), Refusal>
     ensures settled { OnOk result (IsSettled core.new resources) }
+    ensures goes_on { OnOk result (GoesOn core.old.state core.new.state []) }
 {
     for _ in 0..log_room {
         if !round(alloc, core, resources)? {
@@ -94,6 +95,7 @@ pub fn run_row<D: Disk>(
     row: Row,
 ) -> Result<(), Refusal>
     ensures settled { OnOk result (IsSettled core.new resources) }
+    ensures goes_on { OnOk result (GoesOn core.old.state core.new.state (row ∷ [])) }
 {
     core.latch(row)?;
     settle(alloc, core, resources, log_room)

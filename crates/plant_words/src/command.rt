@@ -7,9 +7,8 @@ static STARTS: [&str; 2] = ["warm", "cold"];
 
 static PACES: [&str; 2] = ["settle", "free"];
 
-/// What `check`, `run` and `replay` say of themselves today.
-const NOT_YET: &str =
-    "This version tells faults of files, budget and words of a source, and goes no further.";
+/// What `replay` says of itself today.
+const NOT_YET: &str = "This version reads the trace and builds the source, and goes no further.";
 
 fn source<'a>(alloc: Global) -> Arg<'a> {
     Arg::new(alloc, "source")
@@ -49,22 +48,20 @@ fn pace<'a>(alloc: Global) -> Arg<'a> {
 
 fn check<'a>(alloc: Global) -> Result<Command<'a>, AllocError> {
     Command::new(alloc, "check")
-        .about("Builds a source and prints its sizes (not yet)")
-        .after_help(NOT_YET)
+        .about("Builds a source and prints its sizes")
         .arg(source(alloc))
 }
 
 fn run<'a>(alloc: Global) -> Result<Command<'a>, AllocError> {
     Command::new(alloc, "run")
-        .about("Runs a source against a plant and prints the report (not yet)")
-        .after_help(NOT_YET)
+        .about("Runs a source against a plant and prints the report")
         .arg(source(alloc))?
         .arg(file(alloc, "plant", "The plant, a CSV file").required(true))?
         .arg(file(alloc, "store", "The retain file").required(true))?
         .arg(start(alloc))?
         .arg(budget(alloc))?
         .arg(pace(alloc))?
-        .arg(file(alloc, "trace", "The trace to write"))
+        .arg(file(alloc, "trace", "The trace to write (not yet)"))
 }
 
 fn replay<'a>(alloc: Global) -> Result<Command<'a>, AllocError> {

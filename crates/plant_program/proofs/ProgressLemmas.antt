@@ -1,0 +1,81 @@
+-- How a life goes on.
+use Rattle.std.proofs.Common.{◌≡◌, ◌∙◌, ap, sym, subst, ℕ, List, [], ◌∷◌, ◌++◌, Result, Ok, Err, OnOk}
+use Rattle.std.proofs.lemmas.List.{append-nil, append_assoc}
+use Rattle.st_types.specs.declared.entry.Entry.TheVariants.{Row, Done}
+use Rattle.st_types.specs.Rows.{Latch}
+use Rattle.st_types.specs.Logs.{past_of}
+use Rattle.st_types.proofs.LogLemmas.{past_of-add}
+use Rattle.config.specs.declared.plan.Plan.{Plan}
+use Rattle.config.specs.PlanViews.{plan_view}
+use Rattle.slot_run.specs.Effects.{Effect}
+use Rattle.serial_core.specs.declared.refusal.Answer.{Answer}
+use Rattle.serial_core.specs.declared.refusal.Answer.TheVariants.{Committed, Stale}
+use Rattle.serial_core.specs.Steps.{State, made, grown, Commits}
+use Rattle.commit_lock.specs.declared.refusal.Refusal.{Refusal}
+use Rattle.commit_lock.specs.declared.refusal.Refusal.TheVariants.{StoreFailed, Serial}
+use Rattle.commit_lock.specs.Cores.{CoreView, Guards}
+use Rattle.commit_lock.specs.Starting.{IsNew}
+use Rattle.plant_program.specs.Progress.{GoesOn, IsRunOf}
+
+-- where nothing changes
+pub goes_nowhere : (s t : State) → t ≡ s → GoesOn s t []
+goes_nowhere s t same = record {
+  plan_is = ap (λ (x : State). x.plan) same;
+  start_is = ap (λ (x : State). x.start) same;
+  before_is = ap (λ (x : State). x.before) same;
+  rows_are = ap (λ (x : State). (made x).rows) same ∙ sym (append-nil (made s).rows);
+}
+
+-- one after another
+pub goes_further : (s t u : State) (xs ys : List Latch) → GoesOn s t xs → GoesOn t u ys → GoesOn s u (xs ++ ys)
+goes_further s t u xs ys a b = record {
+  plan_is = b.plan_is ∙ a.plan_is;
+  start_is = b.start_is ∙ a.start_is;
+  before_is = b.before_is ∙ a.before_is;
+  rows_are = b.rows_are ∙ ap (λ x. x ++ ys) a.rows_are ∙ append_assoc (made s).rows xs ys;
+}
+
+-- a row is latched
+pub goes_by_row : (s t : State) (row : Latch) → t ≡ grown s (Row row) → GoesOn s t (row ∷ [])
+goes_by_row s t row same = record {
+  plan_is = ap (λ (x : State). x.plan) same;
+  start_is = ap (λ (x : State). x.start) same;
+  before_is = ap (λ (x : State). x.before) same;
+  rows_are = ap (λ (x : State). (made x).rows) same ∙ ap (λ p. p.rows) (past_of-add (plan_view s.plan) s.start s.log (Row row));
+}
+
+-- an execution is committed, or is stale
+pub goes_by_commit : (s t : State) (effect : Effect) (answer : Answer) → Commits s effect (Ok answer) t → GoesOn s t []
+goes_by_commit s t effect Stale h = goes_nowhere s t h.4
+goes_by_commit s t effect (Committed n) h = record {
+  plan_is = ap (λ (x : State). x.plan) h.4;
+  start_is = ap (λ (x : State). x.start) h.4;
+  before_is = ap (λ (x : State). x.before) h.4;
+  rows_are = ap (λ (x : State). (made x).rows) h.4 ∙ ap (λ p. p.rows) (past_of-add (plan_view s.plan) s.start s.log (Done effect.activation)) ∙ sym (append-nil (made s).rows);
+}
+
+-- a commit that is answered
+pub commit_goes_on : {D : Type 0} (old new : CoreView D) (effect : Effect) (r : Result Answer Refusal)
+    → Guards old r new (λ a. Commits old.state effect a new.state) → OnOk r (GoesOn old.state new.state [])
+commit_goes_on old new effect (Ok answer) h = goes_by_commit old.state new.state effect answer h.2
+commit_goes_on old new effect (Err (StoreFailed cause)) h = tt
+commit_goes_on old new effect (Err (Serial refusal)) h = tt
+
+-- rows, and then none
+pub goes_as_far : (s t u : State) (xs : List Latch) → GoesOn s t xs → GoesOn t u [] → GoesOn s u xs
+goes_as_far s t u xs a b = subst (λ rows. GoesOn s u rows) (append-nil xs) (goes_further s t u xs [] a b)
+
+pub then_no_rows : {A E : Type 0} (s t u : State) (xs : List Latch) (r : Result A E) → GoesOn s t xs → OnOk r (GoesOn t u []) → OnOk r (GoesOn s u xs)
+then_no_rows s t u xs (Ok x) a b = goes_as_far s t u xs a b
+then_no_rows s t u xs (Err e) a b = tt
+
+-- one row of a list is taken off it
+pub one_more : (all front rest : List Latch) (row : Latch) → all ≡ front ++ row ∷ rest → all ≡ (front ++ row ∷ []) ++ rest
+one_more all front rest row h = h ∙ sym (append_assoc front (row ∷ []) rest)
+
+-- from a new life on, it is a run
+pub run_of : (begun s : State) (plan : Plan) (rows : List Latch) (room : ℕ) → IsNew begun plan room → GoesOn begun s rows → IsRunOf plan rows s
+run_of begun s plan rows room new goes = record {
+  plan_is = goes.plan_is ∙ new.plan_is;
+  rows_are = goes.rows_are ∙ ap (λ log. (past_of (plan_view begun.plan) begun.start log).rows ++ rows) new.empty;
+}
