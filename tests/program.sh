@@ -145,6 +145,10 @@ change "an input that is assigned" 'RETAIN n : INT' 'n AT %IW0 : INT' G3
 change "a task with a priority" 'PRIORITY := 0' 'PRIORITY := 1' X2
 change "a priority over 65535" 'PRIORITY := 0' 'PRIORITY := 65536' 'C4 at 175'
 change "a program of its own variable" 'VAR_EXTERNAL n' 'VAR n' X2
+change "a global of another width" 'RETAIN n : INT;' 'RETAIN n : INT; k : LINT;' X2
+change "a global that is no number" 'RETAIN n : INT;' 'RETAIN n : INT; k : BOOL;' X2
+sed 's/n + 1/n + 32767/' s.st > greatest.st
+scene "the greatest literal of its type" 0 "$(printf '%s 1\n' resources tasks programs slots retained)" "" check greatest.st
 change "a loop" 'n := n + 1' 'WHILE n < 1 DO n := 1; END_WHILE' X2
 change "a literal outside its type" 'n + 1' 'n + 32768' 'C4 at 51'
 change "a variable that isn't declared" 'n + 1' 'm + 1' 'C1 at 47'
@@ -219,5 +223,22 @@ limit "addresses at the ends of their ranges" 0 "$(sizes 1 1 1 0)" "" "VAR_GLOBA
 retained=$(for ((i = 1; i <= 1770; i++)); do printf 'v%063d : DINT;\n' "$i"; done)
 limit "a record of 131,059 bytes" 0 "$(sizes 1 1 1772 1771)" "" "VAR_GLOBAL RETAIN $retained $(printf 'w%056d' 0) : DINT; END_VAR" "$one"
 limit "a record of 131,060 bytes" 2 "" "fault G6" "VAR_GLOBAL RETAIN $retained $(printf 'w%057d' 0) : DINT; END_VAR" "$one"
+
+# A retain file of 4,095 counters, beside a variable that isn't retained.
+counters=$(several 4095 'V@ = 0')
+limit "4,095 counters" 0 "$(sizes 1 1 4096 4095)" "" "VAR_GLOBAL RETAIN $(several 4095 'v@ : INT;') END_VAR" "$one"
+printf 't\n0\n' > first.csv
+scene "4,095 counters, cold" 0 "$(report 1 1 0 0 2 'N = 1' "$counters")" "" $(run limit.st first.csv many cold)
+scene "4,095 counters, warm" 0 "$(report 0 0 0 0 0 'N = 0' "$counters")" "" $(run limit.st none.csv many warm)
+# named NAME STATUS ERROR: the last counter of the file has this name instead, which is refused so, and the file is left
+named() {
+    LC_ALL=C sed "s/^V4095 INT$/$1 INT/" many > renamed
+    cp renamed before
+    scene "a counter named $1" "$2" "" "$3" $(run limit.st none.csv renamed warm)
+    cmp -s renamed before || fail "a refused file was changed"
+}
+named V4096 4 "fault N1"
+named V4094 4 "fault S2"
+named V1 4 "fault S2"
 
 echo "program.sh: $scenes scenes as they should be"

@@ -51,9 +51,14 @@ pub fn file_of(alloc: Global, written: &str) -> Result<Vec<u8>, RowError> {
     Ok(file)
 }
 
-/// Writes so many first bytes of the file in base 16.
-pub fn write_first(text: &mut String, file: &[u8], count: usize) -> Result<(), AllocError> {
-    for byte in file.iter().take(count) {
+/// Writes so many bytes of the file from a place on, in base 16.
+pub fn write_bytes(
+    text: &mut String,
+    file: &[u8],
+    at: usize,
+    count: usize,
+) -> Result<(), AllocError> {
+    for byte in file.iter().skip(at).take(count) {
         write!(text, "{byte:02X}")?;
     }
     Ok(())

@@ -27,8 +27,8 @@ pub enum Telling {
     /// All but the replies.
     Numbers,
     All,
-    /// All, and how each entry of the log ended.
-    Outcomes,
+    /// All, and how each entry of the log ended, and the overruns of each program.
+    Whole,
 }
 
 /// A life over a file.
@@ -68,7 +68,7 @@ impl<'a> Life<'a> {
             "stops" => life.mishap = Mishap::stop(given)?,
             "untold" => life.telling = Telling::Nothing,
             "numbers" => life.telling = Telling::Numbers,
-            "outcomes" => life.telling = Telling::Outcomes,
+            "whole" => life.telling = Telling::Whole,
             _ => return Err(RowError::Form),
         }
         Ok(life)
@@ -103,6 +103,8 @@ pub struct Course {
     pub replies: Vec<Reply>,
     /// How each entry of the log ended, and one behind it.
     pub outcomes: Vec<Option<Outcome>>,
+    /// The overruns of each program, and of one behind them.
+    pub overruns: Vec<u64>,
     /// The numbers of the globals at its end.
     pub ended: Vec<i128>,
     /// How many entries are acknowledged at its end.
@@ -157,11 +159,24 @@ fn outcomes_of(core: &Core<SimDisk>, alloc: Global) -> Result<Vec<Option<Outcome
     Ok(outcomes)
 }
 
-/// What a core tells of these calls.
+fn overruns_of(
+    core: &Core<SimDisk>,
+    alloc: Global,
+    programs: usize,
+) -> Result<Vec<u64>, AllocError> {
+    let mut overruns = Vec::new(alloc);
+    for program in 0..=programs {
+        overruns.push(core.overruns(program))?;
+    }
+    Ok(overruns)
+}
+
+/// What a core of so many programs tells of these calls.
 fn course_of(
     core: &mut Core<SimDisk>,
     alloc: Global,
     globals: &[Declared<'_>],
+    programs: usize,
     events: Vec<Event>,
 ) -> Result<Course, AllocError> {
     let began = numbers_of(core, alloc, globals)?;
@@ -170,6 +185,7 @@ fn course_of(
         began,
         replies,
         outcomes: outcomes_of(core, alloc)?,
+        overruns: overruns_of(core, alloc, programs)?,
         ended: numbers_of(core, alloc, globals)?,
         acked: core.acked(),
         len: core.len(),
@@ -201,10 +217,11 @@ pub fn live(
     let events = events_of(alloc, life.calls)?;
     let disk = disk_with(alloc, file.to_vec(alloc)?, life.mishap, turn)?;
     let plan = plan_of(alloc, setting)?;
+    let programs = plan.programs();
     match Core::start(alloc, plan, disk, life.mode, life.room.min(MOST_ROOM)) {
         Ok(core) => {
             let mut core = core;
-            let course = course_of(&mut core, alloc, setting.globals, events);
+            let course = course_of(&mut core, alloc, setting.globals, programs, events);
             let disk = core.stop();
             Ok(lived_of(Told::Started(course?), disk))
         }

@@ -9,6 +9,7 @@ mod files;
 mod life;
 mod numbers;
 mod plan_text;
+mod records;
 mod row;
 mod row_error;
 mod scene;

@@ -22,12 +22,17 @@ pub fn write_refusals(text: &mut String) -> Result<(), AllocError> {
     Ok(())
 }
 
-/// Writes the numbers of the faults of a start: a file that is too long, a device that failed, another layout, want of memory.
+/// Writes the numbers of the faults of a start: a file that is too long or damaged, a device that failed, the greatest generation, want of
+/// memory, a store that failed before, another layout, want of memory.
 pub fn write_start_faults(text: &mut String) -> Result<(), AllocError> {
     write!(text, "faults")?;
     for fault in [
         StartFault::Store(StoreFault::TooLong),
+        StartFault::Store(StoreFault::Damaged),
         StartFault::Store(StoreFault::Device),
+        StartFault::Store(StoreFault::Generations),
+        StartFault::Store(StoreFault::NoMemory),
+        StartFault::Store(StoreFault::Failed),
         StartFault::OtherLayout,
         StartFault::NoMemory,
     ] {

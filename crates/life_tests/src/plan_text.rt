@@ -14,10 +14,14 @@ pub struct Declared<'a> {
     kind: &'a str,
 }
 
-/// A program on a resource.
+/// The task of a program that says none.
+const TASK: &str = "(INTERVAL := T#10ms, PRIORITY := 0)";
+
+/// A program on a resource, in a task of its own.
 #[derive(Clone, Copy)]
 struct Placed<'a> {
     resource: usize,
+    task: &'a str,
     body: &'a str,
 }
 
@@ -35,11 +39,13 @@ pub fn declared_in<'a>(alloc: Global, blocks: &'a str) -> Result<Vec<Declared<'a
     Ok(globals)
 }
 
-/// The program that is written `RESOURCE: BODY`.
+/// The program that is written `RESOURCE: BODY`, or `RESOURCE TASK: BODY` with what a task has in its parentheses.
 fn program_of(written: &str) -> Result<Placed<'_>, RowError> {
-    let (resource, body) = written.split_once(": ").ok_or(RowError::Form)?;
+    let (place, body) = written.split_once(": ").ok_or(RowError::Form)?;
+    let (resource, task) = place.split_once(' ').unwrap_or((place, TASK));
     Ok(Placed {
         resource: resource.parse::<usize>()?,
+        task,
         body,
     })
 }
@@ -67,7 +73,7 @@ fn write_unit(
     write!(text, "END_VAR {body} END_PROGRAM ")
 }
 
-/// Writes the resource of a number, if programs are on it. Each has a task of its own, every 10 ms.
+/// Writes the resource of a number, if programs are on it.
 fn write_resource(
     text: &mut String,
     resource: usize,
@@ -79,7 +85,8 @@ fn write_resource(
     write!(text, "RESOURCE R{resource} ON CPU ")?;
     for (number, program) in programs.iter().enumerate() {
         if program.resource == resource {
-            write!(text, "TASK T{number} (INTERVAL := T#10ms, PRIORITY := 0); ")?;
+            let task = program.task;
+            write!(text, "TASK T{number} {task}; ")?;
         }
     }
     for (number, program) in programs.iter().enumerate() {
@@ -90,8 +97,7 @@ fn write_resource(
     write!(text, "END_RESOURCE ")
 }
 
-/// The text of programs over globals. The globals are the blocks of a configuration; the programs are written `RESOURCE: BODY`,
-/// with ` / ` between them.
+/// The text of programs over globals. The globals are the blocks of a configuration; the programs have ` / ` between them.
 pub fn text_of(alloc: Global, globals: &str, programs: &str) -> Result<String, RowError> {
     let declared = declared_in(alloc, globals)?;
     let programs = placed_in(alloc, programs)?;

@@ -2,10 +2,11 @@
 
 use crate::chains::write_chain;
 use crate::executions::{Change, answered, execution};
-use crate::files::{file_of, write_first};
+use crate::files::{file_of, write_bytes};
 use crate::life::{Life, Setting, Telling, live};
 use crate::numbers::{write_refusals, write_start_faults};
 use crate::plan_text::{declared_in, text_of};
+use crate::records::{resaved, write_recovered};
 use crate::row_error::RowError;
 use crate::telling::{write_execution, write_lived, write_reply};
 use commit_lock::Reply;
@@ -115,11 +116,19 @@ impl<'a> Scene<'a> {
         write!(self.answer, "{} bytes", self.file.len())
     }
 
-    fn tell_first(&mut self, count: &str) -> Result<(), RowError> {
+    /// Answers so many bytes of the file from a place on, which are written `PLACE COUNT`.
+    fn tell_bytes(&mut self, written: &str) -> Result<(), RowError> {
+        let (at, count) = written.split_once(' ').ok_or(RowError::Form)?;
+        let at = at.parse::<usize>()?;
         let count = count.parse::<usize>()?;
         self.divide()?;
-        write_first(&mut self.answer, &self.file, count)?;
+        write_bytes(&mut self.answer, &self.file, at, count)?;
         Ok(())
+    }
+
+    fn tell_recovered(&mut self) -> Result<(), AllocError> {
+        self.divide()?;
+        write_recovered(&mut self.answer, self.alloc, &self.file)
     }
 
     /// A part that needs a plan.
@@ -149,7 +158,9 @@ impl<'a> Scene<'a> {
             "file" => self.file = file_of(self.alloc, given)?,
             "same" => self.tell_same()?,
             "length" => self.tell_length()?,
-            "first" => self.tell_first(given)?,
+            "bytes" => self.tell_bytes(given)?,
+            "recovered" => self.tell_recovered()?,
+            "resaved" => self.file = resaved(self.alloc, &self.file)?,
             "refusals" => write_refusals(&mut self.answer)?,
             "faults" => write_start_faults(&mut self.answer)?,
             _ => self.read_planned(word, part)?,

@@ -55,6 +55,14 @@ fn write_outcomes(text: &mut String, outcomes: &[Option<Outcome>]) -> Result<(),
     write!(text, "; ")
 }
 
+fn write_overruns(text: &mut String, overruns: &[u64]) -> Result<(), AllocError> {
+    write!(text, "overruns")?;
+    for count in overruns {
+        write!(text, " {count}")?;
+    }
+    write!(text, "; ")
+}
+
 fn write_cells(text: &mut String, cells: &[Cell]) -> Result<(), AllocError> {
     for cell in cells {
         write!(text, " {}={}", cell.slot, cell.value.number())?;
@@ -78,9 +86,8 @@ fn write_numbers(
     globals: &[Declared<'_>],
     numbers: &[i128],
 ) -> Result<(), AllocError> {
-    for (global, number) in globals.iter().zip(numbers) {
-        let name = global.name;
-        write!(text, "{name} {number}; ")?;
+    for i in 0..globals.len().min(numbers.len()) {
+        write!(text, "{} {}; ", globals[i].name, numbers[i])?;
     }
     Ok(())
 }
@@ -95,9 +102,10 @@ fn write_course(
     match telling {
         Telling::Nothing | Telling::Numbers => {}
         Telling::All => write_replies(text, &course.replies)?,
-        Telling::Outcomes => {
+        Telling::Whole => {
             write_replies(text, &course.replies)?;
             write_outcomes(text, &course.outcomes)?;
+            write_overruns(text, &course.overruns)?;
         }
     }
     write_numbers(text, globals, &course.ended)?;

@@ -1,12 +1,18 @@
 //! Parses the texts of a table.
 #![tactic(auto)]
 
+mod parts;
 mod row;
-mod shown;
 mod shown_configurations;
+mod shown_expressions;
+mod shown_initials;
 mod shown_sources;
+mod shown_statements;
 mod shown_types;
 mod shown_units;
+mod shown_words;
+mod sources;
+mod terminals;
 
 use crate::row::answer;
 use scene_tables::read_table;

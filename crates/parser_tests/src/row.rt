@@ -1,83 +1,54 @@
 //! What is asked of the parser.
+//!
+//! A row is a word and a text, as a table spells it.
+//!
+//! | Word | What is answered |
+//! |---|---|
+//! | `source` | how many elements the text has, or its refusal |
+//! | `fronts` | how many of its fronts are sources with a configuration |
+//! | `declarations` | its declarations with their places |
+//! | `expression`, `initial`, `number`, `statements` | what the text begins with, and the place where it goes on |
+//! | `tokens`, `next`, `refused` | what is read of single tokens |
+//! | `last`, `end`, `deep`, `memory` | how that refusal is told |
 
+use crate::parts::{shown_expression, shown_initial, shown_number, shown_statements};
 use crate::shown_sources::declarations;
-use scene_tables::{spelled, unescaped};
-use st_lex::{LexError, LexFault, lex};
-use st_parse::{ParseError, parse};
-use st_trees::{LibraryElement, Source};
+use crate::sources::{fronts, told};
+use crate::terminals::{shown_each, shown_fault, shown_next, shown_refused};
+use scene_tables::spelled;
+use st_lex::lex;
 use std::alloc::{AllocError, Global};
+use std::fmt::Write;
 
-/// Whether the source has a configuration.
-fn is_configured(source: &Source) -> bool {
-    for element in &source.elements {
-        if matches!(element, LibraryElement::Configuration(_)) {
-            return true;
-        }
-    }
-    false
-}
-
-/// How many elements a source has, or why the text has none.
-fn told(alloc: Global, text: &[u8]) -> Result<String, AllocError> {
+/// What is answered of a part of a text.
+fn part(alloc: Global, word: &str, text: &[u8]) -> Result<String, AllocError> {
     let tokens = match lex(alloc, text) {
         Ok(tokens) => tokens,
         Err(error) => return format!(in alloc; "{error}"),
     };
-    match parse(alloc, &tokens) {
-        Ok(source) => format!(in alloc; "{} read", source.elements.len()),
-        Err(error) => format!(in alloc; "{error}"),
+    let mut out = String::new(alloc);
+    match word {
+        "expression" => shown_expression(&mut out, alloc, &tokens)?,
+        "initial" => shown_initial(&mut out, alloc, &tokens)?,
+        "number" => shown_number(&mut out, &tokens)?,
+        "statements" => shown_statements(&mut out, alloc, &tokens)?,
+        "tokens" => shown_each(&mut out, alloc, &tokens)?,
+        "next" => shown_next(&mut out, &tokens)?,
+        "refused" => shown_refused(&mut out, alloc, &tokens)?,
+        "last" | "end" | "deep" | "memory" => shown_fault(&mut out, word, &tokens)?,
+        _ => write!(out, "no question")?,
     }
+    Ok(out)
 }
 
-/// What the lexer and the parser make of a text.
-enum Outcome {
-    Configured,
-    Unconfigured,
-    /// L2, L3 or P1.
-    Unfinished,
-    /// Another refusal.
-    Refused,
-}
-
-fn outcome_of(alloc: Global, text: &[u8]) -> Outcome {
-    let tokens = match lex(alloc, text) {
-        Ok(tokens) => tokens,
-        Err(LexError::Fault(LexFault::Literal | LexFault::Identifier, _)) => {
-            return Outcome::Unfinished;
-        }
-        Err(_) => return Outcome::Refused,
-    };
-    match parse(alloc, &tokens) {
-        Ok(source) if is_configured(&source) => Outcome::Configured,
-        Ok(_) => Outcome::Unconfigured,
-        Err(ParseError::Unexpected(_)) => Outcome::Unfinished,
-        Err(_) => Outcome::Refused,
+/// What is answered to a row.
+pub fn answer(alloc: Global, asked: &str) -> Result<String, AllocError> {
+    let (word, written) = asked.split_once(' ').unwrap_or((asked, ""));
+    let text = spelled(alloc, written)?;
+    match word {
+        "source" => told(alloc, &text),
+        "fronts" => fronts(alloc, &text),
+        "declarations" => declarations(alloc, &text),
+        _ => part(alloc, word, &text),
     }
-}
-
-/// Of the fronts of the text, itself included: how many are read as a source with a configuration, and how many are refused otherwise than
-/// a text that ends too early.
-fn fronts(alloc: Global, text: &[u8]) -> Result<String, AllocError> {
-    let mut configured: u64 = 0;
-    let mut refused: u64 = 0;
-    for end in 0..=text.len() {
-        match outcome_of(alloc, &text[..end]) {
-            Outcome::Configured => configured = configured.saturating_add(1),
-            Outcome::Refused => refused = refused.saturating_add(1),
-            Outcome::Unconfigured | Outcome::Unfinished => {}
-        }
-    }
-    format!(in alloc; "{configured} with a configuration, {refused} refused otherwise")
-}
-
-/// What is answered to a row. `\<TEXT` asks for its fronts, `\@TEXT` for its declarations with their places, and any other row for the text
-/// itself, as a table spells it.
-pub fn answer(alloc: Global, given: &str) -> Result<String, AllocError> {
-    if let Some(text) = given.strip_prefix("\\<") {
-        return fronts(alloc, &unescaped(alloc, text)?);
-    }
-    if let Some(text) = given.strip_prefix("\\@") {
-        return declarations(alloc, &unescaped(alloc, text)?);
-    }
-    told(alloc, &spelled(alloc, given)?)
 }

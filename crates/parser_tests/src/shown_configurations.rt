@@ -1,7 +1,8 @@
 //! Configurations as texts.
 
-use crate::shown::{given, name};
+use crate::shown_initials::given;
 use crate::shown_types::variable_type;
+use crate::shown_words::name;
 use st_trees::{
     Address, AddressWidth, Configuration, Direction, GlobalBlock, GlobalDeclaration, GlobalNames,
     GlobalQualifier, Instance, Resource, Task,

@@ -1,6 +1,7 @@
 //! Types as texts.
 
-use crate::shown::{given, name, number};
+use crate::shown_initials::given;
+use crate::shown_words::{name, number};
 use st_trees::{ArrayType, Field, SimpleType, TypeDeclaration, TypeDefinition, VariableType};
 use st_words::Kind;
 use std::alloc::AllocError;

@@ -1,7 +1,8 @@
 //! Units with their blocks of variables as texts.
 
-use crate::shown::{given, name};
+use crate::shown_initials::given;
 use crate::shown_types::{elementary, variable_type};
+use crate::shown_words::name;
 use st_trees::{Declaration, Retention, Section, Unit, UnitSort, VariableBlock};
 use std::alloc::AllocError;
 use std::fmt::Write;

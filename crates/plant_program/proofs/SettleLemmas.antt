@@ -7,7 +7,8 @@ use Rattle.st_types.specs.Rows.{Latch}
 use Rattle.image.specs.Plants.{AreRowsOf}
 use Rattle.commit_lock.specs.Starting.{IsNew}
 use Rattle.plant_program.specs.Lives.{IsReport}
-use Rattle.plant_program.specs.Progress.{GoesOn, IsRunOf}
+use Rattle.plant_program.specs.Jobs.{IsReportOf}
+use Rattle.plant_program.specs.Progress.{GoesOn}
 use Rattle.plant_program.proofs.ProgressLemmas.{run_of}
 use Rattle.plant_program.specs.Settling.{IsSettled, NothingWaits}
 
@@ -22,14 +23,13 @@ settled old new n resources counted same acked none = (
 pub reported : {D T E : Type 0} (items : T → List ℕ) (begun : State) (life : CoreView D) (rows : List Latch) (room : ℕ) (here plan : Plan) (r : Result T E) → here ≡ plan
     → AreRowsOf plan.inputs.items rows → IsNew begun plan room → OnOk r (GoesOn begun life.state rows) → OnOk r (IsSettled life here.resources)
     → IfOk r (λ t. IsReport life.state life.acked (length here.programs.items) here.variables.items (items t))
-    → IfOk r (λ t. (x : CoreView D) × (xs : List Latch) × AreRowsOf plan.inputs.items xs × IsRunOf plan xs x.state
-    × IsSettled x plan.resources × IsReport x.state x.acked (length plan.programs.items) plan.variables.items (items t))
-reported items begun life rows room here plan (Ok t) same are new goes settles reports = (
-  life,
-  rows,
-  are,
-  run_of begun life.state plan rows room new goes,
-  subst (λ (p : Plan). IsSettled life p.resources) same settles,
-  subst (λ (p : Plan). IsReport life.state life.acked (length p.programs.items) p.variables.items (items t)) same reports,
-)
+    → IfOk r (λ t. IsReportOf D plan (items t))
+reported items begun life rows room here plan (Ok t) same are new goes settles reports = record {
+  life = life;
+  rows = rows;
+  rows_are = are;
+  run = run_of begun life.state plan rows room new goes;
+  settled = subst (λ (p : Plan). IsSettled life p.resources) same settles;
+  report = subst (λ (p : Plan). IsReport life.state life.acked (length p.programs.items) p.variables.items (items t)) same reports;
+}
 reported items begun life rows room here plan (Err e) same are new goes settles reports = tt

@@ -1,4 +1,5 @@
 pub mod Ends
+pub mod Jobs
 pub mod Lives
 pub mod Progress
 pub mod Reports

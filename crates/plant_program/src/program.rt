@@ -1,16 +1,17 @@
 //! The program, from its words to its exit status.
 
-ghost use Rattle.std.specs.Prelude.{◌≡◌, ◌≢◌, ◌≤◌};
+ghost use Rattle.std.specs.Prelude.{◌≡◌, ◌≢◌, ◌≤◌, IfOk};
+ghost use Rattle.plant_program.specs.Ends.{end_text};
+ghost use Rattle.plant_program.specs.Jobs.{IsCheck, RunTells, Tells};
 
 use crate::fault::Fault;
 use crate::files::Files;
 use crate::first_run::first;
 use crate::running::run_plan;
 use crate::sizes::sizes_of;
-use crate::sources::read_source;
+use crate::sources::plan_of;
 use crate::telling::{End, tell, tell_words};
 use plant_words::{Job, ReplayJob, RunJob, read_words, wants_memory};
-use st_build::build;
 use std::alloc::Global;
 use std::io::{Read, Write};
 
@@ -21,25 +22,29 @@ const UNTOLD: u8 = 5;
 const BUDGET: u32 = 10_000;
 
 /// Reads and builds the source, and gives its sizes.
-fn check<F: Files>(alloc: Global, files: &mut F, source: &str) -> Result<End, Fault> {
-    let text = read_source(alloc, files, source)?;
-    let plan = build(alloc, &text, BUDGET)?;
+fn check<F: Files>(alloc: Global, files: &mut F, source: &str) -> Result<End, Fault>
+    ensures told { IfOk result (λ end. IsCheck 10000 (end_text end)) }
+{
+    let plan = plan_of(alloc, files, source, BUDGET)?;
     Ok(End::Report(sizes_of(alloc, &plan)?))
 }
 
 /// Reads and builds the source, then reads the plant, then opens the store and starts, then runs. This version writes no trace, and
 /// does nothing where one is asked for.
-fn run<F: Files>(alloc: Global, files: &mut F, job: &RunJob<'_>) -> Result<End, Fault> {
+fn run<F: Files>(alloc: Global, files: &mut F, job: &RunJob<'_>) -> Result<End, Fault>
+    ensures told { IfOk result (λ end. RunTells F.Disk job.now end) }
+{
     if job.trace.is_some() {
         return Ok(End::NotYet);
     }
-    let text = read_source(alloc, files, job.source)?;
-    let plan = build(alloc, &text, job.budget)?;
+    let plan = plan_of(alloc, files, job.source, job.budget)?;
     Ok(End::Report(run_plan(alloc, files, plan, job)?))
 }
 
 /// Reads the trace, then the source. This version goes no further.
-fn replay<F: Files>(alloc: Global, files: &mut F, job: &ReplayJob<'_>) -> Result<End, Fault> {
+fn replay<F: Files>(alloc: Global, files: &mut F, job: &ReplayJob<'_>) -> Result<End, Fault>
+    ensures { IfOk result (λ end. end ≡ End.NotYet) }
+{
     let Some(mut reader) = files.read(job.trace) else {
         return Err(Fault::Trace);
     };
@@ -47,12 +52,14 @@ fn replay<F: Files>(alloc: Global, files: &mut F, job: &ReplayJob<'_>) -> Result
     if reader.read_to_end(&mut trace).is_err() {
         return Err(Fault::Trace);
     }
-    let text = read_source(alloc, files, job.source)?;
-    build(alloc, &text, BUDGET)?;
+    plan_of(alloc, files, job.source, BUDGET)?;
     Ok(End::NotYet)
 }
 
-fn done<F: Files>(alloc: Global, files: &mut F, job: &Job<'_>) -> Result<End, Fault> {
+/// How the job ends.
+fn done<F: Files>(alloc: Global, files: &mut F, job: &Job<'_>) -> Result<End, Fault>
+    ensures { IfOk result (λ end. Tells F.Disk job.now end) }
+{
     match job {
         Job::First => Ok(End::Report(first(alloc)?)),
         Job::Check { source } => check(alloc, files, source),

@@ -1,12 +1,11 @@
 //! The run of a plan.
 
-ghost use Rattle.std.specs.Prelude.{◌≡◌, List, IfOk, OnOk, length};
-ghost use Rattle.st_types.specs.Rows.{Latch};
+ghost use Rattle.std.specs.Prelude.{◌≡◌, IfOk, OnOk, length};
 ghost use Rattle.image.specs.Plants.{AreRowsOf};
-ghost use Rattle.commit_lock.specs.Cores.{CoreView};
 ghost use Rattle.commit_lock.specs.Starting.{IsNew};
+ghost use Rattle.plant_program.specs.Jobs.{IsReportOf};
 ghost use Rattle.plant_program.specs.Lives.{IsReport};
-ghost use Rattle.plant_program.specs.Progress.{GoesOn, IsRunOf};
+ghost use Rattle.plant_program.specs.Progress.{GoesOn};
 ghost use Rattle.plant_program.specs.Settling.{IsSettled};
 
 use crate::fault::Fault;
@@ -117,9 +116,7 @@ pub fn run_plan<F: Files>(
     job: &RunJob<'_>,
 ) -> Result<Vec<u8>, Fault>
     // The report is that of a life of the plan in which the rows of a plant are latched, nothing waits and all is acknowledged.
-    ensures report { IfOk result (λ text. (life : CoreView F.Disk) × (rows : List Latch) × AreRowsOf plan.inputs.items rows
-        × IsRunOf plan rows life.state × IsSettled life plan.resources
-        × IsReport life.state life.acked (length plan.programs.items) plan.variables.items text.items) }
+    ensures report { IfOk result (λ text. IsReportOf F.Disk plan text.items) }
 {
     let rows = read_rows(alloc, files, job.plant, &plan)?;
     let Ok(plan) = Arc::new(alloc, plan) else {

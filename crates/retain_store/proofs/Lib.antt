@@ -11,5 +11,4 @@ pub mod PathLemmas
 pub mod ReadingLemmas
 pub mod RecordLemmas
 pub mod SpellingLemmas
-pub mod TestLemmas
 pub mod ValueLemmas

@@ -21,6 +21,3 @@ pub use fault::StoreFault;
 pub use laws::{records_have_one_spelling, values_have_their_width};
 pub use record::Record;
 pub use store::Store;
-
-#[cfg(test)]
-mod tests;

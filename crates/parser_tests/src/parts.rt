@@ -1,0 +1,72 @@
+//! What stands at the front of a text, and the place where it goes on.
+
+use crate::shown_expressions::expression;
+use crate::shown_initials::initial;
+use crate::shown_statements::block;
+use crate::shown_words::number;
+use st_lex::{LexError, Token, lex};
+use st_statements::{
+    ParseError, ReadError, parse_error, read_expression, read_initial, read_number, read_statements,
+};
+use std::alloc::{AllocError, Global};
+use std::fmt::Write;
+
+/// The place of the token that comes next, where there is one.
+fn left(out: &mut String, rest: &[Token]) -> Result<(), AllocError> {
+    match rest {
+        [next, ..] => write!(out, " then {}", next.start),
+        [] => Ok(()),
+    }
+}
+
+fn refused(out: &mut String, tokens: &[Token], error: ReadError) -> Result<(), AllocError> {
+    write!(out, "{}", parse_error(tokens, error))
+}
+
+pub fn shown_expression(
+    out: &mut String,
+    alloc: Global,
+    tokens: &[Token],
+) -> Result<(), AllocError> {
+    match read_expression(alloc, tokens) {
+        Ok((found, rest)) => {
+            expression(out, &found)?;
+            left(out, rest)
+        }
+        Err(error) => refused(out, tokens, error),
+    }
+}
+
+pub fn shown_initial(out: &mut String, alloc: Global, tokens: &[Token]) -> Result<(), AllocError> {
+    match read_initial(alloc, tokens) {
+        Ok((found, rest)) => {
+            initial(out, &found)?;
+            left(out, rest)
+        }
+        Err(error) => refused(out, tokens, error),
+    }
+}
+
+pub fn shown_number(out: &mut String, tokens: &[Token]) -> Result<(), AllocError> {
+    match read_number(tokens) {
+        Ok((found, rest)) => {
+            number(out, &found)?;
+            left(out, rest)
+        }
+        Err(error) => refused(out, tokens, error),
+    }
+}
+
+pub fn shown_statements(
+    out: &mut String,
+    alloc: Global,
+    tokens: &[Token],
+) -> Result<(), AllocError> {
+    match read_statements(alloc, tokens) {
+        Ok((found, rest)) => {
+            block(out, &found)?;
+            left(out, rest)
+        }
+        Err(error) => refused(out, tokens, error),
+    }
+}

@@ -1,0 +1,68 @@
+-- What jobs tell where they end well, and why their source is refused.
+use Rattle.std.specs.Prelude.{◌≡◌, ℕ, List, length, IsSome, IsNone, ◌≢◌}
+use Rattle.st_trees.specs.Sources.{Source}
+use Rattle.st_types.specs.Rows.{Latch}
+use Rattle.config.specs.declared.plan.Plan.{Plan}
+use Rattle.config.specs.PlanViews.{plan_view}
+use Rattle.image.specs.Plants.{AreRowsOf}
+use Rattle.commit_lock.specs.Cores.{CoreView}
+use Rattle.st_build.specs.Plans.{IsTextOf, IsPlanOf, Refused}
+use Rattle.plant_words.specs.declared.job.Job.{Job}
+use Rattle.plant_words.specs.declared.job.Job.TheVariants as jobs
+use Rattle.plant_words.specs.declared.job.RunJob.{RunJob}
+use Rattle.plant_program.specs.declared.fault.Fault.{Fault}
+use Rattle.plant_program.specs.declared.fault.Fault.TheVariants as faults
+use Rattle.plant_program.specs.declared.telling.End.{End}
+use Rattle.plant_program.specs.declared.telling.End.TheVariants.{Report, NotYet}
+use Rattle.plant_program.specs.Ends.{end_text}
+use Rattle.plant_program.specs.Lives.{IsReport}
+use Rattle.plant_program.specs.Progress.{IsRunOf}
+use Rattle.plant_program.specs.Settling.{IsSettled}
+use Rattle.plant_program.specs.Sizes.{sizes_text}
+
+-- the plan of a text
+pub record IsPlanIn (text : List ℕ) (budget : ℕ) (plan : Plan) : Type 0 where
+  pub source : Source
+  pub spelled : IsTextOf text source
+  pub is : IsPlanOf source budget (plan_view plan)
+
+-- the sizes of the plan of a text
+pub record IsCheck (budget : ℕ) (told : List ℕ) : Type 0 where
+  pub text : List ℕ
+  pub plan : Plan
+  pub is : IsPlanIn text budget plan
+  pub sizes : told ≡ sizes_text plan
+
+-- the report of a life of the plan in which the rows of a plant are latched and no others, nothing waits and all is acknowledged
+pub record IsReportOf (D : Type 0) (plan : Plan) (told : List ℕ) : Type 0 where
+  pub life : CoreView D
+  pub rows : List Latch
+  pub rows_are : AreRowsOf plan.inputs.items rows
+  pub run : IsRunOf plan rows life.state
+  pub settled : IsSettled life plan.resources
+  pub report : IsReport life.state life.acked (length plan.programs.items) plan.variables.items told
+
+-- the report of a run of the plan of a text
+pub record IsRun (D : Type 0) (budget : ℕ) (told : List ℕ) : Type 0 where
+  pub text : List ℕ
+  pub plan : Plan
+  pub is : IsPlanIn text budget plan
+  pub report : IsReportOf D plan told
+
+-- what a run tells; this version does none where a trace is asked for
+abbrev pub RunTells : Type 0 → RunJob → End → Type 0
+RunTells D job (Report text) = IsNone job.trace × IsRun D job.budget text.items
+RunTells D job NotYet = IsSome job.trace
+
+-- what a job tells: the built-in run its line, check the sizes, a run its report; a replay is not there yet
+abbrev pub Tells : Type 0 → Job → End → Type 0
+Tells D jobs.First end = end ≢ NotYet
+Tells D (jobs.Check source) end = IsCheck 10000 (end_text end)
+Tells D (jobs.Run job) end = RunTells D job end
+Tells D (jobs.Replay job) end = end ≡ NotYet
+
+-- the source can't be read, or the number of a text without a plan applies to it
+abbrev pub RefusesSource : ℕ → Fault → Type 0
+RefusesSource budget faults.Source = Unit {0}
+RefusesSource budget (faults.Build e) = (text : List ℕ) × Refused text budget e
+RefusesSource budget _ = ⊥
