@@ -230,7 +230,7 @@ limit "4,095 counters" 0 "$(sizes 1 1 4096 4095)" "" "VAR_GLOBAL RETAIN $(severa
 printf 't\n0\n' > first.csv
 scene "4,095 counters, cold" 0 "$(report 1 1 0 0 2 'N = 1' "$counters")" "" $(run limit.st first.csv many cold)
 scene "4,095 counters, warm" 0 "$(report 0 0 0 0 0 'N = 0' "$counters")" "" $(run limit.st none.csv many warm)
-# named NAME STATUS ERROR: the last counter of the file has this name instead, which is refused so, and the file is left
+# named NAME STATUS ERROR: the last counter of the file has this name of five letters instead, which is refused so, and the file is left
 named() {
     LC_ALL=C sed "s/^V4095 INT$/$1 INT/" many > renamed
     cp renamed before
@@ -239,6 +239,6 @@ named() {
 }
 named V4096 4 "fault N1"
 named V4094 4 "fault S2"
-named V1 4 "fault S2"
+named V1000 4 "fault S2"
 
 echo "program.sh: $scenes scenes as they should be"
