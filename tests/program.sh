@@ -38,6 +38,12 @@ refused() {
     scenes=$((scenes + 1))
 }
 
+# several COUNT LINE: the line so many times, each with its number in place of @
+several() {
+    local i
+    for ((i = 1; i <= $1; i++)); do echo "${2//@/$i}"; done
+}
+
 # bytes HEX FILE: a file of these bytes
 bytes() {
     printf '%b' "$(sed 's/../\\x&/g' <<< "$1")" > "$2"
@@ -119,12 +125,110 @@ scene "no source" 2 "" "fault X1" check none.st
 scene "no ticks" 2 "" "fault G7" $(run word.st rows.csv made cold) --budget 0
 scene "one tick too many" 2 "" "fault G7" $(run s.st rows.csv made cold) --budget 1000001
 scene "a refused source" 2 "" "fault L3 at 0" $(run word.st rows.csv made cold)
-refused "a budget that is no number" 1 $(run s.st rows.csv made cold) --budget x
-refused "a negative budget" 1 $(run s.st rows.csv made cold) --budget -1
-refused "no words" 1
 scene "a trace, which this version doesn't write" 1 "" "this version of plant can't do this yet" $(run s.st rows.csv made cold) --trace made
 scene "no plant" 3 "" "fault I5" $(run s.st nowhere.csv made cold)
+scene "a folder for a plant" 3 "" "fault I5" $(run s.st . made cold)
+printf 't\n5\n5\n' > twice.csv
+printf 't,S\n0,1\n' > input.csv
+scene "an equal moment" 3 "" "fault I3" $(run s.st twice.csv made cold)
+scene "a column for no input" 3 "" "fault I1" $(run s.st input.csv made cold)
+
+# Words that are refused: those of a job with a value that can't be, and those of no job.
+wrong() {
+    refused "the words $*" 1 "$@"
+    [ "$(head -c 7 err)" = "error: " ] || fail "the words $*: told $(cat err)"
+}
+for words in hot "cold --budget x" "cold --budget=" "cold --budget +5" "cold --budget -5" "cold --budget 4294967296" "cold --pace fast" \
+    "cold --trace" "cold t.st"; do
+    wrong run s.st --plant rows.csv --store made --start $words
+done
+jobless() {
+    refused "the words $*" 1 "$@"
+    grep -q 'Usage: plant' err || fail "the words $*: told $(cat err)"
+    ! grep -q 'invalid value' err || fail "the words $*: told $(cat err)"
+}
+jobless
+for words in fly "first s.st" check "check s.st t.st" "run s.st" "run s.st --plant p --store made" "replay s.st --plant p" "replay s.st --trace t"; do
+    jobless $words
+done
 [ ! -e made ] || fail "a refused run has made a retain file"
+
+# Help is no refusal.
+helped() {
+    "$plant" "$@" > out 2> err || fail "the words $*: refused"
+    grep -q 'Usage: plant' out || fail "the words $*: told $(cat out)"
+    [ ! -s err ] || fail "the words $*: told $(cat err)"
+    scenes=$((scenes + 1))
+}
+for words in --help -h help "run --help" "help replay"; do helped $words; done
+
+# Words in any order, with every option.
+scene "words in another order" 0 "$(report 3 3 0 0 6 'N = 3')" "" run --start cold --store ordered --plant rows.csv --pace settle s.st
+scene "rows one after another" 0 "$(report 3 1 0 2 4 'N = 1')" "" $(run s.st rows.csv ordered cold) --pace free
+scene "a row at the record's moment, one after another" 5 "" "fault K4" $(run s.st last.csv ordered warm) --pace free
+
+# A standard output that takes no more.
+full() {
+    local found=0
+    "$plant" "$2" > /dev/full 2> err || found=$?
+    [ "$found" -eq "$1" ] || fail "a full output of $2: status $found"
+    scenes=$((scenes + 1))
+}
+full 5 first
+full 5 --help
+full 1 fly
+
+# The order of work: a trace, then the source, then the plant, then the retain file.
+printf 'PROGRAM p END_PROGRAM' > good.st
+printf 'a(*b' > open.st
+printf 'trace 1\n' > t.txt
+first_told() {
+    scene "check of $1" 2 "" "$2" check "$1"
+    scene "run of $1" 2 "" "$2" $(run "$1" nowhere.csv made cold)
+    scene "replay of $1" 2 "" "$2" replay "$1" --plant nowhere.csv --trace t.txt
+}
+first_told none.st "fault X1"
+first_told . "fault X1"
+first_told word.st "fault L3 at 0"
+first_told open.st "fault L4 at 1"
+first_told good.st "fault G2"
+scene "no trace" 3 "" "fault V6" replay none.st --plant none.csv --trace none.txt
+scene "a folder for a trace" 3 "" "fault V6" replay none.st --plant none.csv --trace .
+
+# A budget is 1 to 1,000,000 ticks. Where it is taken, this text has no configuration.
+for ticks in 1 1000000 0001000000; do
+    scene "$ticks ticks" 2 "" "fault G2" $(run good.st none.csv made warm) --budget $ticks
+done
+for ticks in 0 1000001 4294967295; do
+    scene "$ticks ticks" 2 "" "fault G7" $(run good.st none.csv made warm) --budget $ticks
+done
+# A statement takes a tick; 10,000 are taken where no budget is said. A faulted execution writes nothing.
+statements() {
+    echo "PROGRAM Add VAR_EXTERNAL n : INT; END_VAR $(several "$1" 'n := n + 1;') END_PROGRAM"
+    sed '/^PROGRAM Add/d' s.st
+}
+printf 't\n0\n' > first.csv
+statements 7 > seven.st
+scene "ticks for each statement" 0 "$(report 1 1 0 0 2 'N = 7')" "" $(run seven.st first.csv ticks cold) --budget 007
+scene "a tick too few" 0 "$(report 1 1 1 0 2 'N = 0')" "" $(run seven.st first.csv ticks cold) --budget 6
+statements 10000 > default.st
+scene "10,000 ticks without a word" 0 "$(report 1 1 0 0 2 'N = 10000')" "" $(run default.st first.csv ticks cold)
+statements 10001 > past.st
+scene "one statement more" 0 "$(report 1 1 1 0 2 'N = 0')" "" $(run past.st first.csv ticks cold)
+scene "10,001 ticks" 0 "$(report 1 1 0 0 2 'N = 10001')" "" $(run past.st first.csv ticks cold) --budget 10001
+scene "no ticks for no source" 2 "" "fault X1" $(run none.st none.csv made warm) --budget 0
+[ ! -e made ] || fail "a refused run has made a retain file"
+
+# A source has 1,048,576 bytes at most.
+spaces() {
+    head -c "$1" /dev/zero | tr '\0' ' ' > spaces.st
+}
+spaces 1048576
+scene "a source of 1,048,576 bytes" 2 "" "fault G2" check spaces.st
+spaces 1048577
+scene "a source of 1,048,577 bytes" 2 "" "fault L5 at 0" check spaces.st
+spaces 2000000
+scene "a source of 2,000,000 bytes" 2 "" "fault L5 at 0" check spaces.st
 
 # change NAME OLD NEW FAULT: the first text with one part changed is refused so
 change() {
@@ -185,11 +289,6 @@ change "a task that two programs run in" 'PROGRAM P WITH T : Add;' 'PROGRAM P WI
 change "a task that no program runs in" 'PROGRAM P' 'TASK U (INTERVAL := T#10ms, PRIORITY := 0); PROGRAM P' X2
 
 # Texts at a limit, and one past it.
-# several COUNT LINE: the line so many times, each with its number in place of @
-several() {
-    local i
-    for ((i = 1; i <= $1; i++)); do echo "${2//@/$i}"; done
-}
 # resource NUMBER COUNT: a resource with so many programs, each in a task of its own
 resource() {
     echo "RESOURCE R$1 ON CPU"
@@ -227,7 +326,6 @@ limit "a record of 131,060 bytes" 2 "" "fault G6" "VAR_GLOBAL RETAIN $retained $
 # A retain file of 4,095 counters, beside a variable that isn't retained.
 counters=$(several 4095 'V@ = 0')
 limit "4,095 counters" 0 "$(sizes 1 1 4096 4095)" "" "VAR_GLOBAL RETAIN $(several 4095 'v@ : INT;') END_VAR" "$one"
-printf 't\n0\n' > first.csv
 scene "4,095 counters, cold" 0 "$(report 1 1 0 0 2 'N = 1' "$counters")" "" $(run limit.st first.csv many cold)
 scene "4,095 counters, warm" 0 "$(report 0 0 0 0 0 'N = 0' "$counters")" "" $(run limit.st none.csv many warm)
 # named NAME STATUS ERROR: the last counter of the file has this name of five letters instead, which is refused so, and the file is left

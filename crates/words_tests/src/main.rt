@@ -5,6 +5,7 @@ mod kinds;
 mod names;
 mod numbers;
 mod paths;
+mod printing;
 mod row;
 mod row_error;
 mod sameness;

@@ -5,6 +5,7 @@
 //! | `type SINT` | its keyword, sort, width in bits and range |
 //! | `value SINT -128` | the value, or the fault that it is |
 //! | `truth TRUE` | that value |
+//! | `printed SINT -128`, `spelled r/p x [5] f` | the value or the path as it is printed |
 //! | `faults` | how the faults of programs show |
 //! | `name Ab`, `bytes Ab` | the name that a text spells so, the name of these bytes |
 //! | `identifier a@7`, `owner r/p`, `step [5]`, `path r/p x [5] f` | a copy of it |
@@ -13,6 +14,7 @@
 use crate::kinds::{kind_of, shown_kind};
 use crate::names::{identifier_of, name_of, name_of_bytes, shown_identifier, shown_name};
 use crate::paths::{owner_of, path_of, shown_owner, shown_path, shown_step, step_of};
+use crate::printing::{printed_path, printed_value};
 use crate::row_error::RowError;
 use crate::sameness::shown_counts;
 use crate::values::{shown_faults, shown_value, value_of};
@@ -25,6 +27,8 @@ fn told(alloc: Global, asked: &str) -> Result<String, RowError> {
         "type" => Ok(shown_kind(alloc, kind_of(given)?)?),
         "value" => Ok(shown_value(alloc, value_of(given)?)?),
         "truth" => Ok(shown_value(alloc, Value::truth(given == "TRUE"))?),
+        "printed" => Ok(printed_value(alloc, value_of(given)?)?),
+        "spelled" => Ok(printed_path(alloc, &path_of(alloc, given)?)?),
         "faults" => Ok(shown_faults(alloc)?),
         "name" => Ok(shown_name(alloc, &name_of(alloc, given)?)?),
         "bytes" => Ok(shown_name(alloc, &name_of_bytes(alloc, given)?)?),
