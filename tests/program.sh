@@ -142,6 +142,7 @@ for words in hot "cold --budget x" "cold --budget=" "cold --budget +5" "cold --b
     "cold --trace" "cold t.st"; do
     wrong run s.st --plant rows.csv --store made --start $words
 done
+wrong run s.st --plant rows.csv --store made --start cold --budget " 5"
 jobless() {
     refused "the words $*" 1 "$@"
     grep -q 'Usage: plant' err || fail "the words $*: told $(cat err)"
