@@ -322,6 +322,9 @@ limit "addresses at the ends of their ranges" 0 "$(sizes 1 1 1 0)" "" "VAR_GLOBA
 # A record's body has 12 bytes and those of each variable: 74 for a DINT with a name of 64 letters, 67 for one of 57.
 retained=$(for ((i = 1; i <= 1770; i++)); do printf 'v%063d : DINT;\n' "$i"; done)
 limit "a record of 131,059 bytes" 0 "$(sizes 1 1 1772 1771)" "" "VAR_GLOBAL RETAIN $retained $(printf 'w%056d' 0) : DINT; END_VAR" "$one"
+longest=$(sed -n 's/^v\([0-9]*\) .*/V\1 = 0/p' <<< "$retained")
+scene "a record of 131,059 bytes, cold" 0 "$(report 0 0 0 0 0 'N = 0' "$longest" "W$(printf '%056d' 0) = 0")" "" $(run limit.st none.csv longest cold)
+scene "a record of 131,059 bytes, warm" 0 "$(report 0 0 0 0 0 'N = 0' "$longest" "W$(printf '%056d' 0) = 0")" "" $(run limit.st none.csv longest warm)
 limit "a record of 131,060 bytes" 2 "" "fault G6" "VAR_GLOBAL RETAIN $retained $(printf 'w%057d' 0) : DINT; END_VAR" "$one"
 
 # A retain file of 4,095 counters, beside a variable that isn't retained.
