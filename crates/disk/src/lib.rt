@@ -10,6 +10,3 @@ mod sim_disk;
 pub use disk::{Disk, DiskError};
 pub use file_disk::FileDisk;
 pub use sim_disk::{SimDisk, Stop};
-
-#[cfg(test)]
-mod tests;
