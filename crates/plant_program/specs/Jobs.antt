@@ -54,14 +54,14 @@ abbrev pub RunTells : Type 0 → RunJob → End → Type 0
 RunTells D job (Report text) = IsNone job.trace × IsRun D job.budget text.items
 RunTells D job NotYet = IsSome job.trace
 
--- what a job tells: the built-in run its line, check the sizes, a run its report; a replay is not there yet
+-- what a job tells: the built-in run something, check the sizes, a run its report; a replay is not there yet
 abbrev pub Tells : Type 0 → Job → End → Type 0
 Tells D jobs.First end = end ≢ NotYet
 Tells D (jobs.Check source) end = IsCheck 10000 (end_text end)
 Tells D (jobs.Run job) end = RunTells D job end
 Tells D (jobs.Replay job) end = end ≡ NotYet
 
--- the source can't be read, or the number of a text without a plan applies to it
+-- The source can't be read, of which files tell nothing, so X1 is not held to it; or the number of a text without a plan applies to it.
 abbrev pub RefusesSource : ℕ → Fault → Type 0
 RefusesSource budget faults.Source = Unit {0}
 RefusesSource budget (faults.Build e) = (text : List ℕ) × Refused text budget e
