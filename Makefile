@@ -1,13 +1,19 @@
-# The two commands of the README.
+# What one does with this repository. README.md says more of each.
 
-.PHONY: run test
+.PHONY: run build test strength
 
-# Proves and builds the program, and runs an example over a real retain file: cold, then warm with the rows behind it.
+# The dosing pump over a real retain file, cold and then warm, within two minutes: proved where the program is built, else not.
 run:
-	@mkdir -p out && rm -f out/dosing.retain
-	@cd crates/plant_main && rt run -- run ../../examples/dosing/dosing.st --plant ../../examples/dosing/plant.csv --store ../../out/dosing.retain --start cold
-	@crates/plant_main/out/plant_main run examples/dosing/dosing.st --plant examples/dosing/next.csv --store out/dosing.retain --start warm
+	@tools/run.sh
 
-# The gate, and then the built program over real files. Its last line is 'N passed, 0 failed'.
+# Proves the program and builds it as out/plant.
+build:
+	@tools/build.sh
+
+# The gate: every proof from nothing, edits, tests, and the built program over real files. Its last line is 'N passed, 0 failed'.
 test:
 	@tests/gate.sh
+
+# Wrong bodies that the prover must refuse, for each crate or for CRATE='NAME ..'.
+strength:
+	@tools/strength.sh $(CRATE)

@@ -6,8 +6,20 @@ cd "$(dirname "$0")/.."
 
 plant=crates/plant_main/out/plant_main
 
+# program: the scripts over the built program, side by side, since each works in a folder of its own
 program() {
-    tests/program.sh "$plant" && tests/examples.sh "$plant" && tests/broken.py "$plant" && tests/kill.sh "$plant"
+    local told failed=0 at scripts=(program.sh examples.sh broken.py kill.sh) running=()
+    told=$(mktemp -d)
+    for script in "${scripts[@]}"; do
+        "tests/$script" "$plant" > "$told/$script" 2>&1 &
+        running+=($!)
+    done
+    for at in "${!scripts[@]}"; do
+        wait "${running[at]}" || failed=1
+        cat "$told/${scripts[at]}"
+    done
+    rm -r "$told"
+    return $failed
 }
 
 rt ci | {
@@ -17,7 +29,11 @@ rt ci | {
         last=$line
     done
     case $last in
-        *" passed, 0 failed") program || { echo "the built program has failed" >&2; exit 1; } ;;
+        *" passed, 0 failed")
+            program || { echo "the built program has failed" >&2; exit 1; }
+            mkdir -p out
+            cp "$plant" out/plant
+            ;;
     esac
     printf '%s\n' "$last"
 }

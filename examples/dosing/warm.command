@@ -1,0 +1,1 @@
+run dosing.st --plant next.csv --store dosing.retain --start warm
