@@ -12,7 +12,7 @@ use Rattle.serial_core.specs.declared.refusal.Answer.TheVariants.{Committed, Sta
 use Rattle.serial_core.specs.declared.refusal.Refusal.{Refusal}
 use Rattle.serial_core.specs.declared.refusal.Refusal.TheVariants.{Full, NotWaiting, Foreign, NotLater, NoMemory}
 use Rattle.serial_core.specs.Steps.{State, grown, Latches, Commits, CommitsHere}
-use Rattle.commit_lock.specs.Kept.{IsKept}
+use Rattle.commit_lock.specs.Kept.{CoreInvariant}
 use Rattle.commit_lock.specs.Cores.{IsLonger}
 use Rattle.commit_lock.proofs.SurvivalLemmas.{survives_longer}
 
@@ -43,7 +43,7 @@ here_longer old resource (Err Foreign) new h = absurd h
 here_longer old resource (Err NotLater) new h = absurd h
 
 kept_grown : {D : Type 0} (state : State) (acked : ℕ) (failed : Option StoreFault) (store : StoreView D) (layout : List ℕ) (room : ℕ) (entry : Entry)
-    → IsKept state acked failed store layout room → IsKept (grown state entry) acked failed store layout room
+    → CoreInvariant state acked failed store layout room → CoreInvariant (grown state entry) acked failed store layout room
 kept_grown state acked failed store layout room entry k = record {
   last = survives_longer state.plan state.start state.before state.log acked store.last entry k.last;
   tried = survives_longer state.plan state.start state.before state.log acked store.tried entry k.tried;
@@ -54,7 +54,7 @@ kept_grown state acked failed store layout room entry k = record {
   room_is = k.room_is;
 }
 
-pub kept_longer : {D : Type 0} (old new : State) (acked : ℕ) (failed : Option StoreFault) (store : StoreView D) (layout : List ℕ) (room : ℕ) → IsLonger old new → IsKept old acked failed store layout room → IsKept new acked failed store layout room
-kept_longer old new acked failed store layout room (inl same) k = subst (λ (s : State). IsKept s acked failed store layout room) (sym same) k
+pub kept_longer : {D : Type 0} (old new : State) (acked : ℕ) (failed : Option StoreFault) (store : StoreView D) (layout : List ℕ) (room : ℕ) → IsLonger old new → CoreInvariant old acked failed store layout room → CoreInvariant new acked failed store layout room
+kept_longer old new acked failed store layout room (inl same) k = subst (λ (s : State). CoreInvariant s acked failed store layout room) (sym same) k
 kept_longer old new acked failed store layout room (inr more) k =
-    subst (λ (s : State). IsKept s acked failed store layout room) (sym more.1) (kept_grown old acked failed store layout room more.0 k)
+    subst (λ (s : State). CoreInvariant s acked failed store layout room) (sym more.1) (kept_grown old acked failed store layout room more.0 k)

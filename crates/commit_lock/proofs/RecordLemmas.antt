@@ -3,6 +3,7 @@ use Rattle.std.proofs.Common.{◌≡◌, ℕ, ◌+◌, ◌<◌, ◌^◌, Bool, t
 use Rattle.std.specs.Prelude.{IfSome, bytes_eq, codes}
 use Rattle.std.specs.List.{list_all, flat_map, AllByRecursion, IsDistinct}
 use Rattle.std.proofs.lemmas.Bool.{and_parts, or_parts, not-true}
+use Rattle.st_words.specs.declared.limits.TheConstants.{MOMENT_LIMIT}
 use Rattle.st_words.specs.declared.kind.Kind.{Kind}
 use Rattle.st_words.specs.Kinds.{row_of}
 use Rattle.st_words.specs.Values.{Datum, IsHeld}
@@ -10,7 +11,7 @@ use Rattle.st_types.specs.declared.plan.PlanVariable.{PlanVariable}
 use Rattle.st_types.specs.Scopes.{Name, contains_name}
 use Rattle.st_types.specs.Layouts.{path_text, line_of, layout_text, width_of, values_length, record_length}
 use Rattle.config.specs.Sound.{are_different, is_spelled}
-use Rattle.retain_store.specs.Records.{Line, line_text, text_of, is_path_text, is_visible, IsLayout, IsSound, value_bytes, record_bytes}
+use Rattle.retain_store.specs.Records.{Line, line_text, text_of, is_path_text, is_visible, IsLayout, IsRecordable, value_bytes, record_bytes}
 use Rattle.retain_store.specs.Reading.{line_at}
 use Rattle.retain_store.specs.FieldLaws.{some_is}
 use Rattle.retain_store.specs.LineLaws.{line_again, value_length}
@@ -141,7 +142,7 @@ pub record_long : (vs : List PlanVariable) (ws : List Datum) (moment : Option �
 record_long vs ws moment text is e = body_length moment text (flat_map value_bytes ws) ∙ omega (arith, values_long vs ws e, ap length is)
 
 pub record_sound : (vs : List PlanVariable) (ws : List Datum) (moment : Option ℕ) (text : List ℕ) → list_all (λ v. is_spelled (path_text v.path)) vs ≡ true → are_different (texts vs) ≡ true → text ≡ layout_text vs
-    → IfSome moment (λ t. t < 2 ^ 62) → map (λ d. d.kind) ws ≡ retained_kinds vs → AllByRecursion IsHeld ws → IsSound (record { moment = moment; layout = text; values = ws })
+    → IfSome moment (λ t. t < MOMENT_LIMIT) → map (λ d. d.kind) ws ≡ retained_kinds vs → AllByRecursion IsHeld ws → IsRecordable (record { moment = moment; layout = text; values = ws })
 record_sound vs ws moment text spelled d is early e held = record {
   moment = early;
   layout = subst (λ (t : List ℕ). IsLayout t (map (λ w. w.kind) ws)) (sym is) (layout_is vs (map (λ w. w.kind) ws) spelled d e);

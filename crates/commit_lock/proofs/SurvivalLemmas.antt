@@ -26,7 +26,7 @@ survives_now state acked generation few named = record {
   restarted = ap (λ (s : Store). start_at (written_over (initial_store (plan_view state.plan)) s) (last_moment state.before (made state).rows)) named;
 }
 
--- a longer log has the same fronts
+-- a longer log has the same prefixes
 pub survives_longer : (plan : Plan) (start : Store) (before : Option ℕ) (log : List Entry) (acked : ℕ) (file : Recovered) (entry : Entry) → Survives plan start before log acked file → Survives plan start before (log ++ entry ∷ []) acked file
 survives_longer plan start before log acked file entry s = record {
   of_plan = s.of_plan;

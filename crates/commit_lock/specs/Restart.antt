@@ -49,14 +49,14 @@ IsOfPlan plan Refused = ⊥
 IsOfPlan plan Nothing = Unit {0}
 IsOfPlan plan (Found generation content) = content.layout ≡ layout_text plan.variables.items
 
--- the start that a front of a log leaves: the initial values with what is kept after it, and the moment of its last row
+-- the start that a prefix of a log leaves: the initial values with what is kept after it, and the moment of its last row
 abbrev pub start_after : Plan → Store → Option ℕ → List Entry → Start
 start_after plan start before front = record {
   store = written_over (initial_store (plan_view plan)) (kept (plan_view plan) (after (plan_view plan) start front));
   moment = last_moment before (past_of (plan_view plan) start front).rows;
 }
 
--- A warm restart gives what a front of the log leaves, and this front holds all that is acknowledged.
+-- A warm restart gives what a prefix of the log leaves, and this prefix holds all that is acknowledged.
 pub record Survives (plan : Plan) (start : Store) (before : Option ℕ) (log : List Entry) (acked : ℕ) (file : Recovered) : Type 0 where
   pub of_plan : IsOfPlan plan file
   pub front : List Entry

@@ -48,7 +48,7 @@ abbrev pub IsLastGeneration : Recovered → Type 0
 IsLastGeneration (Found generation content) = generation ≡ 2 ^ 64 - 1
 IsLastGeneration other = ⊥
 
--- The fault says of the file what is so. Faults of the device and want of memory say nothing of it.
+-- The fault says of the file what is so. Faults of the device and out of memory say nothing of it.
 abbrev pub RefusesStart : StartMode → Plan → Recovered → StartFault → Type 0
 RefusesStart mode plan file (faults.Store stores.TooLong) = file ≡ TooLong
 RefusesStart mode plan file (faults.Store stores.Damaged) = file ≡ Refused
@@ -74,6 +74,6 @@ LeftByStart Cold plan room before file = (file ≡ before) ⊎ ((generation : �
 abbrev pub IsSavedAnew : {D : Type 0} → Plan → ℕ → StoreView D → Type 0
 IsSavedAnew plan room store = store.last ≡ Found store.generation (record_now (begun plan room))
 
--- want of memory
+-- out of memory
 abbrev pub IsWantOfMemory : StartFault → Type 0
 IsWantOfMemory fault = (fault ≡ faults.NoMemory) ⊎ (fault ≡ faults.Store stores.NoMemory)

@@ -39,7 +39,7 @@ impl<D: Disk> Core<D> {
     /// Runs and commits the best activation that waits on the resource, in one step, and gives the log's length after it; none
     /// where nothing waits there. It is never stale.
     ///
-    /// K5 where the store has failed; else none; else K1 where the log is full, or K6 for want of memory.
+    /// K5 where the store has failed; else none; else K1 where the log is full, or K6 out of memory.
     pub fn commit_here(&mut self, alloc: Global, resource: usize) -> Result<Option<usize>, Refusal>
         ensures commits { Guards self.old result self.new (λ r. CommitsHere self.old.state resource r self.new.state) }
         ensures any_moment { D.tells → LeavesOnly D.left_since D.may_leave self.old.store.disk self.new.store.disk (λ file. survives self.old (recovered file)) }
@@ -80,7 +80,7 @@ impl<D: Disk> Core<D> {
 
     /// A snapshot of the best activation that waits on the resource; none where nothing waits there.
     ///
-    /// K5 where the store has failed, K6 for want of memory.
+    /// K5 where the store has failed, K6 out of memory.
     pub fn take(&self, alloc: Global, resource: usize) -> Result<Option<Snapshot>, Refusal>
         ensures takes { Guards self.now result self.now (λ r. Takes self.now.state resource r) }
         ensures survives { D.tells → (file : List ℕ) → D.may_leave self.now.store.disk file → survives self.now (recovered file) }

@@ -13,7 +13,7 @@ use std::marker::Model;
 /// A core over a disk. Contracts see its plan, start and log, how many entries are acknowledged, and its store.
 ///
 /// Its log is legal, its variables are what the executions of the log give, one after another, and every file that a stop now
-/// may leave survives: a warm restart gives what a front of the log leaves, which holds all that is acknowledged.
+/// may leave survives: a warm restart gives what a prefix of the log leaves, which holds all that is acknowledged.
 #[derive(Drop)]
 pub struct Core<D: Disk> {
     pub(crate) serial: SerialCore,
@@ -39,11 +39,11 @@ impl<D: Disk> Model for Core<D> {
 
     ghost use Rattle.std.specs.Prelude.{◌≡◌, ◌≤◌, length, vec_capacity};
     ghost use Rattle.st_types.specs.Layouts.{layout_text};
-    ghost use Rattle.commit_lock.specs.Kept.{IsKept};
+    ghost use Rattle.commit_lock.specs.Kept.{CoreInvariant};
 
     ghost view = { λ x. record { state = x.serial; acked = x.acked; failed = x.failed; store = x.store } };
 
-    ghost invariant = { λ x. IsKept x.serial x.acked x.failed x.store x.layout.items (vec_capacity x.kept) };
+    ghost invariant = { λ x. CoreInvariant x.serial x.acked x.failed x.store x.layout.items (vec_capacity x.kept) };
 }
 
 impl<D: Disk> Core<D> {

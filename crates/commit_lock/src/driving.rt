@@ -103,11 +103,11 @@ fn step<D: Disk>(
     }
 }
 
-/// The events one after another, with what each is answered. An error, which is want of memory for the list of replies,
+/// The events one after another, with what each is answered. An error, which is out of memory for the list of replies,
 /// leaves the core as it was.
 ///
-/// A stop at any moment leaves a file from which a warm restart gives the initial values, with what is kept after a front of the
-/// log written over them; this front holds all that was acknowledged before the event in which the stop fell.
+/// A stop at any moment leaves a file from which a warm restart gives the initial values, with what is kept after a prefix of the
+/// log written over them; this prefix holds all that was acknowledged before the event in which the stop fell.
 pub fn drive<D: Disk>(
     core: &mut Core<D>,
     alloc: Global,
@@ -116,7 +116,7 @@ pub fn drive<D: Disk>(
     ensures drives { IfOk result (λ replies. (held : Held) × Drives D.tells D.left_since D.may_leave core.old [] events.items replies.items core.new held) }
 
     // The whole promise: whatever the calls are, and wherever a stop falls within the last of them, a warm restart gives what a
-    // front of the log leaves, and this front holds all that is acknowledged.
+    // prefix of the log leaves, and this prefix holds all that is acknowledged.
     ensures survives { D.tells → IfOk result (λ replies. (front : List Event) (last : Event) → events.items ≡ front ++ last ∷ []
         → SurvivesLast D.tells D.left_since D.may_leave core.old [] front core.new) }
     ensures err { OnErr result (core.new ≡ core.old) }

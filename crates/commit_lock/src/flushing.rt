@@ -12,7 +12,7 @@ use crate::saving::save_record;
 use disk::Disk;
 
 impl<D: Disk> Core<D> {
-    /// How many entries of the log are acknowledged: a restart gives what a front of the log leaves that holds them all.
+    /// How many entries of the log are acknowledged: a restart gives what a prefix of the log leaves that holds them all.
     pub fn acked(&self) -> usize
         ensures acked { result ≡ self.now.acked }
         ensures few { result ≤ length self.now.state.log }

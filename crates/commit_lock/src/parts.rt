@@ -1,6 +1,7 @@
 //! The memory of a core.
 
 ghost use Rattle.std.specs.Prelude.{◌≡◌, ◌≤◌, [], None, length, map, vec_capacity, IfOk};
+ghost use Rattle.st_words.specs.declared.limits.TheConstants.{MAX_LOG_ROOM};
 ghost use Rattle.st_types.specs.Layouts.{layout_text};
 ghost use Rattle.st_types.specs.Plans.{initial_store};
 ghost use Rattle.st_types.specs.Restarts.{kept, written_over};
@@ -27,7 +28,7 @@ pub(crate) struct Parts {
 impl Parts {
     /// The parts of a core with the plan's initial values and room for so many entries of its log.
     pub fn new(alloc: Global, plan: Arc<Plan>, log_room: usize) -> Result<Parts, AllocError>
-        requires room { log_room ≤ 65536 }
+        requires room { log_room ≤ MAX_LOG_ROOM }
         ensures serial { IfOk result (λ parts. parts.serial ≡ begun plan.value log_room) }
         ensures layout { IfOk result (λ parts. parts.layout.items ≡ layout_text plan.value.variables.items) }
         ensures kept { IfOk result (λ parts. length plan.value.variables.items ≤ vec_capacity parts.kept) }

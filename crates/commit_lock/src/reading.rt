@@ -3,7 +3,7 @@
 ghost use Rattle.std.specs.Prelude.{◌≡◌, ◌<◌, ◌≤◌, List, ℕ, option_map, option_and_then, slice_get, length};
 ghost use Rattle.st_types.specs.Due.{HasOverruns};
 ghost use Rattle.st_types.specs.Logs.{IsLegal, outcomes_of};
-ghost use Rattle.st_types.specs.Plans.{places_of};
+ghost use Rattle.st_types.specs.Plans.{schedules_of};
 ghost use Rattle.st_types.specs.Scopes.{seen};
 ghost use Rattle.config.specs.PlanViews.{plan_view};
 ghost use Rattle.retain_store.specs.Recovered.{recovered};
@@ -47,7 +47,7 @@ impl<D: Disk> Core<D> {
     /// How often the program was due while it waited already; 0 for a program that is not there.
     pub fn overruns(&self, program: usize) -> u64
         ensures none { length self.now.state.plan.programs.items ≤ program → result ≡ 0 }
-        ensures overruns { program < length self.now.state.plan.programs.items → HasOverruns (places_of (plan_view self.now.state.plan)) (made self.now.state).history program result }
+        ensures overruns { program < length self.now.state.plan.programs.items → HasOverruns (schedules_of (plan_view self.now.state.plan)) (made self.now.state).history program result }
     {
         self.serial.overruns(program)
     }

@@ -10,7 +10,7 @@ pub enum Refusal {
     /// it answers so from then on.
     #[error("K5")]
     StoreFailed(StoreFault),
-    /// K1 to K4, and K6 for want of memory.
+    /// K1 to K4, and K6 out of memory.
     #[error(transparent)]
     Serial(#[from] serial_core::Refusal),
 }
@@ -24,7 +24,7 @@ pub enum StartFault {
     /// A warm start met a record of another layout.
     #[error("N1")]
     OtherLayout,
-    /// Want of memory.
+    /// Out of memory.
     #[error("N2")]
     NoMemory,
 }

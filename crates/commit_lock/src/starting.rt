@@ -1,6 +1,7 @@
 //! Starting a core.
 
 ghost use Rattle.std.specs.Prelude.{◌≡◌, ◌≤◌, ◌+◌, ◌-◌, ◌^◌, List, ℕ, [], None, IsTrue, true, false, length, vec_capacity, IfOk, IfErr, MatchResult};
+ghost use Rattle.st_words.specs.declared.limits.TheConstants.{MAX_LOG_ROOM};
 ghost use Rattle.disk.specs.Disk.{Only};
 ghost use Rattle.disk.specs.Runs.{LeavesOnly};
 ghost use Rattle.st_types.specs.Layouts.{layout_text};
@@ -19,11 +20,9 @@ use config::Plan;
 use disk::Disk;
 use retain_store::Store;
 use serial_core::SerialCore;
+use st_words::limits::MAX_RECORD_BODY;
 use std::alloc::Global;
 use std::sync::Arc;
-
-/// The longest body of a record in bytes, which the record of every plan keeps to.
-const MOST_BODY: usize = 131_059;
 
 /// How a life starts.
 #[derive(Clone, Copy, Debug, PartialEq, Eq)]
@@ -64,7 +63,7 @@ fn warm<D: Disk>(parts: Parts, store: Store<D>) -> Result<Core<D>, (StartFault, 
     requires last { IsLast store.generation store.last }
     requires tried { store.tried ≡ store.last }
     requires fresh { store.failed ≡ false }
-    requires room { store.room ≡ 131059 }
+    requires room { store.room ≡ MAX_RECORD_BODY }
 
     ensures state { IfOk result (λ core. core.state ≡ started parts.serial.plan parts.serial.room (warm parts.serial.plan store.last)) }
     ensures fresh { IfOk result (λ core. (core.acked ≡ 0) × (core.failed ≡ None)) }
@@ -101,7 +100,7 @@ fn cold<D: Disk>(parts: Parts, store: Store<D>) -> Result<Core<D>, (StartFault, 
     requires kept { length parts.serial.plan.variables.items ≤ vec_capacity parts.kept }
     requires last { IsLast store.generation store.last }
     requires fresh { store.failed ≡ false }
-    requires room { store.room ≡ 131059 }
+    requires room { store.room ≡ MAX_RECORD_BODY }
 
     ensures state { IfOk result (λ core. core.state ≡ begun parts.serial.plan parts.serial.room) }
     ensures fresh { IfOk result (λ core. (core.acked ≡ 0) × (core.failed ≡ None)) }
@@ -144,7 +143,7 @@ impl<D: Disk> Core<D> {
     /// Starts a life of the plan over this disk, with room for so many entries of its log, 1 to 65,536. Its memory is taken
     /// before the first device call. A cold start saves the record of the initial values before it answers.
     ///
-    /// S1 to S5, N1 where a warm start meets a record of another layout, N2 for want of memory. An error gives the disk back.
+    /// S1 to S5, N1 where a warm start meets a record of another layout, N2 out of memory. An error gives the disk back.
     pub fn start(
         alloc: Global,
         plan: Arc<Plan>,
@@ -152,7 +151,7 @@ impl<D: Disk> Core<D> {
         mode: StartMode,
         log_room: usize,
     ) -> Result<Core<D>, (StartFault, D)>
-        requires room { log_room ≤ 65536 }
+        requires room { log_room ≤ MAX_LOG_ROOM }
 
         // The values and the moment are those of a warm or a cold start, and the log is empty.
         ensures started { D.tells → IfOk result (λ core. core.state ≡ started plan.value log_room (start_of mode plan.value (recovered (D.seen disk)))) }
@@ -166,7 +165,7 @@ impl<D: Disk> Core<D> {
         // All memory is taken before the first call of the disk.
         ensures memory { IfErr result (λ e. IsWantOfMemory e.0 → e.1 ≡ disk) }
 
-        // It is answered and refused exactly by what the file is recovered to, faults of the device and want of memory aside.
+        // It is answered and refused exactly by what the file is recovered to, faults of the device and out of memory aside.
         ensures answers { D.tells → MatchResult result
             (λ core. CanStart mode plan.value (recovered (D.seen disk)))
             (λ e. RefusesStart mode plan.value (recovered (D.seen disk)) e.0) }
@@ -188,7 +187,7 @@ impl<D: Disk> Core<D> {
         let Ok(parts) = Parts::new(alloc, plan, log_room) else {
             return Err((StartFault::NoMemory, disk));
         };
-        let store = match Store::open(alloc, disk, MOST_BODY) {
+        let store = match Store::open(alloc, disk, MAX_RECORD_BODY) {
             Ok(store) => store,
             Err((fault, disk)) => return Err((StartFault::Store(fault), disk)),
         };

@@ -7,5 +7,5 @@ pub mod ResolveLemmas
 pub mod ExternalLemmas
 pub mod PlainLemmas
 pub mod ThinLemmas
-pub mod PlaceLemmas
+pub mod GlobalSlotLemmas
 pub mod SoundLemmas

@@ -18,7 +18,7 @@ use Rattle.st_trees.specs.Units.{OrganisationUnit}
 use Rattle.st_types.specs.declared.plan.PlanVariable.{PlanVariable}
 use Rattle.st_types.specs.declared.plan.PlanInput.{PlanInput}
 use Rattle.st_types.specs.Scopes.{Name, contains_name}
-use Rattle.st_types.specs.NameTypes.{Text, kind_of_type, kind_of_variable, type_in_blocks}
+use Rattle.st_types.specs.NameTypes.{Declared, kind_of_type, kind_of_variable, type_in_blocks}
 use Rattle.st_types.specs.Bodies.{externals_in}
 use Rattle.st_types.specs.Resolution.{resolved_expr, operand_kind}
 use Rattle.st_types.specs.ResolvedUnits.{resolved, resolved_stmt}
@@ -52,7 +52,7 @@ pub named_globals : (variables : List PlanVariable) (inputs : List PlanInput) (b
 named_globals variables inputs blocks globals thin names k x h =
     known globals x (ap (λ ns. contains_name ns x) names ∙ external_if (contains_name (externals_in blocks) x) (type_in_blocks blocks x) k (absent variables inputs x blocks thin) h)
 
-sum_plain : (text : Text) (u : OrganisationUnit) (variables : List PlanVariable) (globals : List GlobalSlot) (k : Kind) (o : Option Kind) (e : Expr) → AreGlobals variables u.blocks globals → is_typed u.blocks k e ≡ true → is_sum globals (resolved_expr text u o e) ≡ true
+sum_plain : (text : Declared) (u : OrganisationUnit) (variables : List PlanVariable) (globals : List GlobalSlot) (k : Kind) (o : Option Kind) (e : Expr) → AreGlobals variables u.blocks globals → is_typed u.blocks k e ≡ true → is_sum globals (resolved_expr text u o e) ≡ true
 sum_plain text u variables globals k o (literal (literals.Number n)) are h = refl
 sum_plain text u variables globals k o (literal (literals.Truth at b)) are h = absurd (cc)
 sum_plain text u variables globals k o (literal (literals.Duration at n)) are h = absurd (cc)
@@ -73,7 +73,7 @@ assignable_by (Some g) h out = rw (out g refl) refl
 same_itself : (k : Kind) → same_kind k k ≡ true
 same_itself k = grind (arith, nat_tests)
 
-for_plain : (text : Text) (u : OrganisationUnit) (variables : List PlanVariable) (globals : List GlobalSlot) (x : Name) (e : Expr) (o place : Option Kind) → AreGlobals variables u.blocks globals → kind_in u.blocks x ≡ o → is_typed_for variables u.blocks x e o ≡ true
+for_plain : (text : Declared) (u : OrganisationUnit) (variables : List PlanVariable) (globals : List GlobalSlot) (x : Name) (e : Expr) (o place : Option Kind) → AreGlobals variables u.blocks globals → kind_in u.blocks x ≡ o → is_typed_for variables u.blocks x e o ≡ true
     → (is_assignable (global_named globals x) && is_sum globals (resolved_expr text u place e)) ≡ true
 for_plain text u variables globals x e None place are is h = absurd (cc)
 for_plain text u variables globals x e (Some k) place are is h =
@@ -82,19 +82,19 @@ for_plain text u variables globals x e (Some k) place are is h =
     let a = assignable_by (global_named globals x) (are.known k x of_kind) (λ g there. are.assignable k x g p.0 there) in
     rw (a, sum_plain text u variables globals k place e are p.1) refl
 
-stmt_plain : (text : Text) (u : OrganisationUnit) (variables : List PlanVariable) (globals : List GlobalSlot) (s : Stmt) → AreGlobals variables u.blocks globals → is_typed_stmt variables u.blocks s ≡ true → is_plain globals (resolved_stmt text u s) ≡ true
+stmt_plain : (text : Declared) (u : OrganisationUnit) (variables : List PlanVariable) (globals : List GlobalSlot) (s : Stmt) → AreGlobals variables u.blocks globals → is_typed_stmt variables u.blocks s ≡ true → is_plain globals (resolved_stmt text u s) ≡ true
 stmt_plain text u variables globals (assign (variable x no_selectors) e) are h = for_plain text u variables globals x.name e (kind_in u.blocks x.name) (kind_of_variable text u (variable x no_selectors)) are refl h
 stmt_plain text u variables globals (assign (variable x (selector_then y ys)) e) are h = absurd (cc)
 stmt_plain text u variables globals s are h = absurd (cc)
 
-body_plain : (text : Text) (u : OrganisationUnit) (variables : List PlanVariable) (globals : List GlobalSlot) (xs : List Stmt) → AreGlobals variables u.blocks globals → list_all (is_typed_stmt variables u.blocks) xs ≡ true → are_plain globals (map (resolved_stmt text u) xs) ≡ true
+body_plain : (text : Declared) (u : OrganisationUnit) (variables : List PlanVariable) (globals : List GlobalSlot) (xs : List Stmt) → AreGlobals variables u.blocks globals → list_all (is_typed_stmt variables u.blocks) xs ≡ true → are_plain globals (map (resolved_stmt text u) xs) ≡ true
 body_plain text u variables globals [] are h = refl
 body_plain text u variables globals (s ∷ xs) are h =
     let p = and_parts (is_typed_stmt variables u.blocks s) (list_all (is_typed_stmt variables u.blocks) xs) h in
     rw (stmt_plain text u variables globals s are p.0, body_plain text u variables globals xs are p.1) refl
 
 -- the resolved body of a thin unit is plain
-pub unit_plain : (text : Text) (u : OrganisationUnit) (variables : List PlanVariable) (inputs : List PlanInput) (globals : List GlobalSlot)
+pub unit_plain : (text : Declared) (u : OrganisationUnit) (variables : List PlanVariable) (inputs : List PlanInput) (globals : List GlobalSlot)
     → is_thin_unit variables inputs u ≡ true → map (λ g. g.name) globals ≡ externals_in u.blocks
     → ((k : Kind) (x : Name) (g : GlobalSlot) → is_variable_of variables k x ≡ true → global_named globals x ≡ Some g → g.is_input ≡ false)
     → are_plain globals (resolved text u).body ≡ true

@@ -7,6 +7,7 @@ use Rattle.std.proofs.lemmas.Bool.Decides.{nat_tests}
 use Rattle.std.proofs.lemmas.List.{length-map}
 use Rattle.std.proofs.lemmas.List.Folds.{list_any-append}
 use Rattle.std.proofs.lemmas.Option.{slice_get_within, get_or_from_slice_get}
+use Rattle.st_words.specs.declared.limits.TheConstants.{MAX_BUDGET, MAX_PATHS, MAX_RECORD_BODY}
 use Rattle.st_trees.specs.Units.{OrganisationUnit}
 use Rattle.st_types.specs.declared.plan.PlanVariable.{PlanVariable}
 use Rattle.st_types.specs.declared.plan.PlanInput.{PlanInput}
@@ -16,16 +17,16 @@ use Rattle.st_types.specs.Layouts.{layout_of, path_text, record_length}
 use Rattle.config.specs.declared.task.Task.{Task}
 use Rattle.config.specs.declared.task.Program.{Program}
 use Rattle.config.specs.declared.thin_program.ThinProgram.{ThinProgram}
-use Rattle.config.specs.Places.{HavePlaces}
-use Rattle.config.specs.Sound.{are_different, is_spelled, is_sound_trigger, is_of_resource, tasks_of, IsWithinLimits, IsSound}
+use Rattle.config.specs.GlobalSlots.{HaveSlots}
+use Rattle.config.specs.Sound.{are_different, is_spelled, is_sound_trigger, is_of_resource, tasks_of, IsWithinLimits, PlanInvariant}
 use Rattle.config.specs.PlanViews.{program_view, task_view}
 use Rattle.config.specs.declared.thin_unit.ThinUnit.{ThinUnit}
-use Rattle.st_types.specs.NameTypes.{Text}
+use Rattle.st_types.specs.NameTypes.{Declared}
 use Rattle.st_types.specs.ResolvedUnits.{resolved}
 use Rattle.config.specs.Thin.{is_thin_kind, is_thin_unit}
 use Rattle.config.specs.ThinParts.{task_in, units_in}
 use Rattle.config.specs.ThinPlans.{is_word_byte, is_name, is_nobody, is_global, is_thin_variable, is_thin_input, names_of, is_thin_program, programs_on, is_within, is_thin, resources_of, task_of, program_from, programs_from, thin_plan}
-use Rattle.config.proofs.PlaceLemmas.{layout_distinct, fits}
+use Rattle.config.proofs.GlobalSlotLemmas.{layout_distinct, fits}
 use Rattle.config.proofs.RecordLemmas.{path_is}
 
 global_of : (v : PlanVariable) → is_thin_variable v ≡ true → is_global v.path ≡ true
@@ -146,17 +147,17 @@ programs_counted : (us : List OrganisationUnit) (j : ℕ) (ps : List ThinProgram
 programs_counted us j [] = refl
 programs_counted us j (p ∷ ps) = ap suc (programs_counted us (j + 1) ps)
 
-code_fits : (vs : List PlanVariable) (is : List PlanInput) (codes : List Program) (k : ℕ) (p : Program) → All (λ q. HavePlaces (layout_of vs is) q.code.value.globals.items) codes → slice_get codes k ≡ Some p → HavePlaces (layout_of vs is) p.code.value.globals.items
+code_fits : (vs : List PlanVariable) (is : List PlanInput) (codes : List Program) (k : ℕ) (p : Program) → All (λ q. HaveSlots (layout_of vs is) q.code.value.globals.items) codes → slice_get codes k ≡ Some p → HaveSlots (layout_of vs is) p.code.value.globals.items
 code_fits vs is codes k p all at =
-    subst (λ q. HavePlaces (layout_of vs is) q.code.value.globals.items) (get_or_from_slice_get codes k p p at) (all k p (slice_get_within codes k p at))
+    subst (λ q. HaveSlots (layout_of vs is) q.code.value.globals.items) (get_or_from_slice_get codes k p p at) (all k p (slice_get_within codes k p at))
 
 limits : (vs : List PlanVariable) (is : List PlanInput) (ps : List ThinProgram) (n budget codes : ℕ) → list_all (is_thin_program n) ps ≡ true → is_within vs is ps budget ≡ true → codes ≡ length ps → IsWithinLimits vs is (resources_of ps) (map task_in ps) codes budget
 limits vs is ps n budget codes thin h same =
-    let a = and_parts (nat_le (length vs + length is) 4096) _ h in
+    let a = and_parts (nat_le (length vs + length is) MAX_PATHS) _ h in
     let b = and_parts (nat_le (length ps) 64) _ a.1 in
     let c = and_parts (list_all (λ p. nat_le (programs_on p.resource ps) 32) ps) _ b.1 in
     let d = and_parts (nat_le 1 budget) _ c.1 in
-    let e = and_parts (nat_le budget 1000000) (nat_le (record_length vs) 131059) d.1 in
+    let e = and_parts (nat_le budget MAX_BUDGET) (nat_le (record_length vs) MAX_RECORD_BODY) d.1 in
     let a0 = a.0 in let b0 = b.0 in let d0 = d.0 in let e0 = e.0 in let e1 = e.1 in
     record {
       paths = grind (arith, nat_tests);
@@ -169,8 +170,8 @@ limits vs is ps n budget codes thin h same =
     }
 
 pub sound : (units us : List OrganisationUnit) (vs : List PlanVariable) (is : List PlanInput) (ps : List ThinProgram) (budget : ℕ) (codes : List Program)
-    → is_thin units vs is ps budget ≡ true → map program_view codes ≡ programs_from us 0 ps → All (λ p. HavePlaces (layout_of vs is) p.code.value.globals.items) codes
-    → IsSound vs is (resources_of ps) (map task_in ps) codes budget
+    → is_thin units vs is ps budget ≡ true → map program_view codes ≡ programs_from us 0 ps → All (λ p. HaveSlots (layout_of vs is) p.code.value.globals.items) codes
+    → PlanInvariant vs is (resources_of ps) (map task_in ps) codes budget
 sound units us vs is ps budget codes h views places =
     let a = and_parts (list_all is_thin_variable vs) _ h in
     let b = and_parts (list_all is_thin_input is) _ a.1 in
@@ -199,7 +200,7 @@ plan_with vs is resources tasks programs budget = record { variables = vs; input
 
 -- the plan that these parts make
 pub plan_is : (units : List OrganisationUnit) (vs : List PlanVariable) (is : List PlanInput) (ps : List ThinProgram) (budget resources : ℕ) (tasks : List Task) (codes : List Program) (made : List ThinUnit)
-    → resources ≡ resources_of ps → tasks ≡ map task_in ps → ((text : Text) → units_in made ≡ map (resolved text) units) → map program_view codes ≡ programs_from (units_in made) 0 ps
+    → resources ≡ resources_of ps → tasks ≡ map task_in ps → ((text : Declared) → units_in made ≡ map (resolved text) units) → map program_view codes ≡ programs_from (units_in made) 0 ps
     → plan_with vs is resources (map (task_view vs) tasks) (map program_view codes) budget ≡ thin_plan units vs is ps budget
 plan_is units vs is ps budget resources tasks codes made r t us views =
     ap (λ n. plan_with vs is n (map (task_view vs) tasks) (map program_view codes) budget) r
@@ -207,7 +208,7 @@ plan_is units vs is ps budget resources tasks codes made r t us views =
     ∙ ap (λ qs. plan_with vs is (resources_of ps) (map task_of ps) qs budget) (views ∙ ap (λ rs. programs_from rs 0 ps) (us (record { types = []; units = units })))
 
 pub sound_parts : (units us : List OrganisationUnit) (vs : List PlanVariable) (is : List PlanInput) (ps : List ThinProgram) (budget resources : ℕ) (tasks : List Task) (codes : List Program)
-    → is_thin units vs is ps budget ≡ true → resources ≡ resources_of ps → tasks ≡ map task_in ps → map program_view codes ≡ programs_from us 0 ps → All (λ p. HavePlaces (layout_of vs is) p.code.value.globals.items) codes
-    → IsSound vs is resources tasks codes budget
+    → is_thin units vs is ps budget ≡ true → resources ≡ resources_of ps → tasks ≡ map task_in ps → map program_view codes ≡ programs_from us 0 ps → All (λ p. HaveSlots (layout_of vs is) p.code.value.globals.items) codes
+    → PlanInvariant vs is resources tasks codes budget
 sound_parts units us vs is ps budget resources tasks codes h r t views places =
-    subst (λ n. IsSound vs is n tasks codes budget) (sym r) (subst (λ ts. IsSound vs is (resources_of ps) ts codes budget) (sym t) (sound units us vs is ps budget codes h views places))
+    subst (λ n. PlanInvariant vs is n tasks codes budget) (sym r) (subst (λ ts. PlanInvariant vs is (resources_of ps) ts codes budget) (sym t) (sound units us vs is ps budget codes h views places))

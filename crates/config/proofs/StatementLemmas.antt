@@ -29,7 +29,7 @@ step_behind v f xs ys i d new h k before behind one =
     ∙ ap (map f) (sym (map-append v (take i ys) (get_or ys i d ∷ [])))
     ∙ ap (λ l. map f (map v l)) (sym (take_more ys i d k))
 
--- what stands behind it is as it was
+-- what stands after it is as it was
 pub step_before : {X : Type 0} (xs ys : List X) (i : ℕ) (d new : X) → i < length xs → i < length ys → drop i xs ≡ drop i ys → drop (i + 1) (set xs i new) ≡ drop (i + 1) ys
 step_before xs ys i d new h k before =
     ap (λ n. drop n (set xs i new)) (sym (suc-eq-add-one i)) ∙ drop-set-lt (suc i) xs i new (omega arith) ∙ tail_same xs ys i d h k before ∙ ap (λ n. drop n ys) (suc-eq-add-one i)

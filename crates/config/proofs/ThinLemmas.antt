@@ -6,8 +6,8 @@ use Rattle.std.proofs.lemmas.List.{map-append, length-map}
 use Rattle.std.proofs.lemmas.List.Elements.{All-append}
 use Rattle.st_types.specs.Slots.{Slot}
 use Rattle.config.specs.declared.thin_unit.ThinUnit.{ThinUnit}
-use Rattle.config.specs.Places.{is_named_in, HavePlaces}
-use Rattle.config.proofs.PlaceLemmas.{externals_known}
+use Rattle.config.specs.GlobalSlots.{is_named_in, HaveSlots}
+use Rattle.config.proofs.GlobalSlotLemmas.{externals_known}
 use Rattle.config.specs.ThinParts.{units_in}
 use Rattle.std.specs.List.{list_all}
 use Rattle.std.proofs.Math.Seq.{drop-cons}
@@ -21,7 +21,7 @@ use Rattle.st_trees.specs.UnitViews.{unit_view}
 use Rattle.st_trees.specs.Units.{OrganisationUnit}
 use Rattle.st_types.specs.declared.plan.PlanVariable.{PlanVariable}
 use Rattle.st_types.specs.declared.plan.PlanInput.{PlanInput}
-use Rattle.st_types.specs.NameTypes.{Text}
+use Rattle.st_types.specs.NameTypes.{Declared}
 use Rattle.st_types.specs.Bodies.{externals_in}
 use Rattle.st_types.specs.ResolvedUnits.{resolved}
 use Rattle.slot_code.specs.declared.global.GlobalSlot.{GlobalSlot}
@@ -34,7 +34,7 @@ use Rattle.st_types.specs.Slots.{IsLayout}
 use Rattle.st_types.specs.Layouts.{layout_of}
 use Rattle.config.specs.Sound.{are_different}
 use Rattle.config.specs.ThinPlans.{is_thin_variable, is_thin_input, names_of, is_within, is_thin, resources_of, is_thin_program, program_from, programs_from}
-use Rattle.config.proofs.PlaceLemmas.{layout_distinct}
+use Rattle.config.proofs.GlobalSlotLemmas.{layout_distinct}
 use Rattle.st_types.specs.Plans as plans
 use Rattle.std.specs.Prelude.{nat_lt, ◌^◌}
 use Rattle.std.proofs.Common.{zero, suc, arith}
@@ -43,7 +43,7 @@ use Rattle.config.proofs.PlainLemmas.{unit_plain}
 use Rattle.config.proofs.ResolveLemmas.{blocks_are}
 
 -- what a thin unit resolves to is plain over globals that are there
-pub plain_unit : (new : code_unit.Unit) (u : OrganisationUnit) (text : Text) (variables : List PlanVariable) (inputs : List PlanInput) (globals : List GlobalSlot)
+pub plain_unit : (new : code_unit.Unit) (u : OrganisationUnit) (text : Declared) (variables : List PlanVariable) (inputs : List PlanInput) (globals : List GlobalSlot)
     → unit_view new ≡ resolved text u → is_thin_unit variables inputs u ≡ true → map (λ g. g.name) globals ≡ externals_in u.blocks
     → ((k : Kind) (x : Name) (g : GlobalSlot) → is_variable_of variables k x ≡ true → global_named globals x ≡ Some g → g.is_input ≡ false)
     → IsPlain new globals
@@ -64,7 +64,7 @@ resources_step ps i d lt = ap resources_of (program_at ps i d lt)
 pub resources_none : (ps : List ThinProgram) (i : ℕ) → length ps ≤ i → resources_of (drop i ps) ≡ 0
 resources_none ps i le = ap resources_of (drop_all i ps le)
 
-pub units_step : (text : Text) (done all : List ThinUnit) (u : ThinUnit) (left rest : List code_unit.Unit) (new : code_unit.Unit) (whole : List OrganisationUnit)
+pub units_step : (text : Declared) (done all : List ThinUnit) (u : ThinUnit) (left rest : List code_unit.Unit) (new : code_unit.Unit) (whole : List OrganisationUnit)
     → units_in done ++ map (resolved text) (map unit_view left) ≡ whole → left ≡ new ∷ rest → unit_view u.unit.value ≡ resolved text (unit_view new) → all ≡ done ++ u ∷ []
     → units_in all ++ map (resolved text) (map unit_view rest) ≡ whole
 units_step text done all u left rest new whole h more is pushed =
@@ -75,8 +75,8 @@ units_step text done all u left rest new whole h more is pushed =
     ∙ ap (λ x. units_in done ++ map (resolved text) (map unit_view x)) (sym more)
     ∙ h
 
-pub places_step : (layout : List Slot) (done all : List ThinUnit) (u : ThinUnit) → All (λ v. HavePlaces layout v.globals.items) done → HavePlaces layout u.globals.items → all ≡ done ++ u ∷ [] → All (λ v. HavePlaces layout v.globals.items) all
-places_step layout done all u h is pushed = subst (All (λ v. HavePlaces layout v.globals.items)) (sym pushed) (All-append (λ v. HavePlaces layout v.globals.items) done (u ∷ []) h (search rules))
+pub places_step : (layout : List Slot) (done all : List ThinUnit) (u : ThinUnit) → All (λ v. HaveSlots layout v.globals.items) done → HaveSlots layout u.globals.items → all ≡ done ++ u ∷ [] → All (λ v. HaveSlots layout v.globals.items) all
+places_step layout done all u h is pushed = subst (All (λ v. HaveSlots layout v.globals.items)) (sym pushed) (All-append (λ v. HaveSlots layout v.globals.items) done (u ∷ []) h (search rules))
 
 pub thin_rest : (variables : List PlanVariable) (inputs : List PlanInput) (left rest : List code_unit.Unit) (new : code_unit.Unit) → list_all (is_thin_unit variables inputs) (map unit_view left) ≡ true → left ≡ new ∷ rest
     → (is_thin_unit variables inputs (unit_view new) ≡ true) × (list_all (is_thin_unit variables inputs) (map unit_view rest) ≡ true)
@@ -109,10 +109,10 @@ programs_step us ps k d done all p whole h lt is pushed =
     ∙ ap (λ x. map program_view done ++ programs_from us k x) (sym (program_at ps k d lt))
     ∙ h
 
-pub code_places_step : (layout : List Slot) (done all : List Program) (p : Program) → All (λ v. HavePlaces layout v.code.value.globals.items) done → HavePlaces layout p.code.value.globals.items → all ≡ done ++ p ∷ []
-    → All (λ v. HavePlaces layout v.code.value.globals.items) all
+pub code_places_step : (layout : List Slot) (done all : List Program) (p : Program) → All (λ v. HaveSlots layout v.code.value.globals.items) done → HaveSlots layout p.code.value.globals.items → all ≡ done ++ p ∷ []
+    → All (λ v. HaveSlots layout v.code.value.globals.items) all
 code_places_step layout done all p h is pushed =
-    subst (All (λ v. HavePlaces layout v.code.value.globals.items)) (sym pushed) (All-append (λ v. HavePlaces layout v.code.value.globals.items) done (p ∷ []) h (search rules))
+    subst (All (λ v. HaveSlots layout v.code.value.globals.items)) (sym pushed) (All-append (λ v. HaveSlots layout v.code.value.globals.items) done (p ∷ []) h (search rules))
 
 pub programs_end : (us : List OrganisationUnit) (ps : List ThinProgram) (k : ℕ) → length ps ≤ k → programs_from us k (drop k ps) ≡ []
 programs_end us ps k le = ap (programs_from us k) (drop_all k ps le)
@@ -149,5 +149,5 @@ programs_are_few n (p ∷ ps) h =
     search rules
 
 -- as many units are resolved as there were
-pub count_kept : (made : List ThinUnit) (units : List OrganisationUnit) (text : Text) (ps : List ThinProgram) → units_in made ≡ map (resolved text) units → list_all (is_thin_program (length units)) ps ≡ true → list_all (is_thin_program (length made)) ps ≡ true
+pub count_kept : (made : List ThinUnit) (units : List OrganisationUnit) (text : Declared) (ps : List ThinProgram) → units_in made ≡ map (resolved text) units → list_all (is_thin_program (length units)) ps ≡ true → list_all (is_thin_program (length made)) ps ≡ true
 count_kept made units text ps h thin = ap (λ n. list_all (is_thin_program n) ps) (sym (length-map made (λ u. unit_view u.unit.value)) ∙ ap length h ∙ length-map units (resolved text)) ∙ thin

@@ -4,5 +4,5 @@ pub mod PlanViews
 pub mod ThinPlans
 pub mod RecordLengths
 pub mod Filled
-pub mod Places
+pub mod GlobalSlots
 pub mod ThinParts

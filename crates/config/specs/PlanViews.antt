@@ -3,7 +3,7 @@ use Rattle.std.specs.Prelude.{List, map, slice_get, Option, Some, None}
 use Rattle.st_types.specs.declared.plan.PlanVariable.{PlanVariable}
 use Rattle.st_types.specs.Plans as plans
 use Rattle.st_types.specs.Plans.{no_single, single_input, single_global}
-use Rattle.slot_code.specs.Codes.{text_of, program_of}
+use Rattle.slot_code.specs.Codes.{code_view, program_of}
 use Rattle.config.specs.declared.task.Trigger.{Trigger}
 use Rattle.config.specs.declared.task.Trigger.TheVariants.{Absent, Input, Variable}
 use Rattle.config.specs.declared.task.Task.{Task}
@@ -23,7 +23,7 @@ abbrev pub task_view : List PlanVariable → Task → plans.Task
 task_view variables t = record { single = trigger_view variables t.single; interval = t.interval; priority = t.priority }
 
 abbrev pub program_view : Program → plans.Program
-program_view p = record { resource = p.resource; task = p.task; code = program_of (text_of p.code.value) }
+program_view p = record { resource = p.resource; task = p.task; code = program_of (code_view p.code.value) }
 
 abbrev pub plan_view : Plan → plans.Plan
 plan_view plan = record {

@@ -2,6 +2,7 @@
 use Rattle.std.specs.Prelude.{◌≡◌, ℕ, ◌+◌, ◌^◌, ◌==◌, nat_le, nat_lt, max, List, [], ◌∷◌, ◌++◌, length, map, filter, Bool, true, false, not, ◌&&◌, ◌||◌, Option, Some, None, slice_index_or, codes}
 use Rattle.std.specs.List.{list_all}
 use Rattle.std.specs.Fmt.{decimal}
+use Rattle.st_words.specs.declared.limits.TheConstants.{MAX_BUDGET, MAX_NAME_LENGTH, MAX_PATHS, MAX_PROGRAMS, MAX_RECORD_BODY, MAX_RESOURCES, MAX_TASKS}
 use Rattle.st_words.specs.declared.kind.Kind.{Kind}
 use Rattle.st_words.specs.declared.kind.Kind.TheVariants.{Int, Uint, Word, Bool as Boolean}
 use Rattle.st_words.specs.declared.path.Owner.{Owner}
@@ -28,7 +29,7 @@ abbrev pub is_word_byte : ℕ → Bool
 is_word_byte b = (nat_le 48 b && nat_le b 57) || ((nat_le 65 b && nat_le b 90) || (b == 95))
 
 abbrev pub is_name : Name → Bool
-is_name x = not (length x == 0) && (nat_le (length x) 64 && list_all is_word_byte x)
+is_name x = not (length x == 0) && (nat_le (length x) MAX_NAME_LENGTH && list_all is_word_byte x)
 
 abbrev pub is_nobody : Option Owner → Bool
 is_nobody None = true
@@ -52,7 +53,7 @@ names_of variables inputs = map (λ v. v.path.name) variables ++ map (λ i. i.pa
 
 -- one of 8 resources, a unit that is there, and an INTERVAL that is a TIME
 abbrev pub is_thin_program : ℕ → ThinProgram → Bool
-is_thin_program units p = nat_lt p.resource 8 && (nat_lt p.unit units && nat_lt p.interval (2 ^ 63))
+is_thin_program units p = nat_lt p.resource MAX_RESOURCES && (nat_lt p.unit units && nat_lt p.interval (2 ^ 63))
 
 abbrev pub programs_on : ℕ → List ThinProgram → ℕ
 programs_on r programs = length (filter (λ p. p.resource == r) programs)
@@ -60,12 +61,12 @@ programs_on r programs = length (filter (λ p. p.resource == r) programs)
 -- the limits that the arguments may pass
 abbrev pub is_within : List PlanVariable → List PlanInput → List ThinProgram → ℕ → Bool
 is_within variables inputs programs budget =
-    nat_le (length variables + length inputs) 4096
-    && (nat_le (length programs) 64
-    && (list_all (λ p. nat_le (programs_on p.resource programs) 32) programs
+    nat_le (length variables + length inputs) MAX_PATHS
+    && (nat_le (length programs) MAX_PROGRAMS
+    && (list_all (λ p. nat_le (programs_on p.resource programs) MAX_TASKS) programs
     && (nat_le 1 budget
-    && (nat_le budget 1000000
-    && nat_le (record_length variables) 131059))))
+    && (nat_le budget MAX_BUDGET
+    && nat_le (record_length variables) MAX_RECORD_BODY))))
 
 -- the conditions of a thin plan
 abbrev pub is_thin : List OrganisationUnit → List PlanVariable → List PlanInput → List ThinProgram → ℕ → Bool

@@ -2,11 +2,11 @@
 #![tactic(auto)]
 
 mod global_path;
+mod global_slots;
 mod instance_name;
 mod layout_text;
 mod lookup;
 mod path_text;
-mod places;
 mod plan;
 mod plan_check;
 mod record_length;

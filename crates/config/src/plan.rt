@@ -1,7 +1,7 @@
 //! The plan of a text.
 
 ghost use Rattle.std.specs.Prelude.{◌≡◌, length, filter};
-ghost use Rattle.config.specs.Sound.{IsSound};
+ghost use Rattle.config.specs.Sound.{PlanInvariant};
 
 use crate::task::{Program, Task};
 use st_types::{PlanInput, PlanVariable};
@@ -11,14 +11,14 @@ use st_types::{PlanInput, PlanVariable};
 pub struct Plan {
     /// The variables in layout order; the number of each is its slot.
     pub variables: Vec<PlanVariable>,
-    /// The inputs of the plant in declaration order; their slots stand behind those of the variables.
+    /// The inputs of the plant in declaration order; their slots stand after those of the variables.
     pub inputs: Vec<PlanInput>,
     pub resources: usize,
     pub tasks: Vec<Task>,
     pub programs: Vec<Program>,
     /// How many ticks an execution may take: 1 to 1,000,000.
     pub budget: u32,
-    ghost sound: { IsSound variables.items inputs.items resources tasks.items programs.items budget },
+    ghost sound: { PlanInvariant variables.items inputs.items resources tasks.items programs.items budget },
 }
 
 impl Plan {

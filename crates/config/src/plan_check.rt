@@ -13,6 +13,9 @@ use crate::record_length::record_length;
 use crate::thin_program::ThinProgram;
 use crate::unit_check::{is_thin_kind, is_thin_unit};
 use st_types::{Kind, Name, Path, PlanInput, PlanVariable, Unit};
+use st_words::limits::{
+    MAX_BUDGET, MAX_NAME_LENGTH, MAX_PATHS, MAX_PROGRAMS, MAX_RECORD_BODY, MAX_RESOURCES, MAX_TASKS,
+};
 use std::alloc::{AllocError, Global};
 
 fn is_word_byte(byte: u8) -> bool
@@ -35,7 +38,7 @@ fn is_name(name: &Name) -> bool
     if bytes.is_empty() {
         return false;
     }
-    if bytes.len() > 64 {
+    if bytes.len() > MAX_NAME_LENGTH {
         return false;
     }
     are_word_bytes(bytes)
@@ -72,7 +75,7 @@ fn is_thin_input(input: &PlanInput) -> bool
     is_global(&input.path) && is_input_kind(input.kind)
 }
 
-/// The names of the variables, and behind them those of the inputs.
+/// The names of the variables, and after them those of the inputs.
 fn names_of(
     alloc: Global,
     variables: &[PlanVariable],
@@ -113,7 +116,7 @@ fn are_different(names: &[Name]) -> bool
 fn is_thin_program(units: usize, program: ThinProgram) -> bool
     ensures { result ≡ is_thin_program units program }
 {
-    program.resource < 8 && program.unit < units && program.interval < 1 << 63
+    program.resource < MAX_RESOURCES && program.unit < units && program.interval < 1 << 63
 }
 
 /// How many programs run on a resource.
@@ -125,11 +128,11 @@ fn programs_on(resource: usize, programs: &[ThinProgram]) -> usize
 
 /// Whether no resource runs more than 32 of the programs.
 fn are_few_on_each(programs: &[ThinProgram]) -> bool
-    ensures { result ≡ list_all (λ p. nat_le (programs_on p.resource programs.now) 32) programs.now }
+    ensures { result ≡ list_all (λ p. nat_le (programs_on p.resource programs.now) MAX_TASKS) programs.now }
 {
     programs
         .iter()
-        .all(|p| programs_on(p.resource, programs) <= 32)
+        .all(|p| programs_on(p.resource, programs) <= MAX_TASKS)
 }
 
 /// Whether the limits on paths, programs, tasks, ticks and the record are kept.
@@ -142,19 +145,19 @@ fn is_within(
     requires thin { list_all is_thin_variable variables.now ≡ true }
     ensures { result ≡ is_within variables.now inputs.now programs.now budget }
 {
-    if variables.len() > 4096 || inputs.len() > 4096 - variables.len() {
+    if variables.len() > MAX_PATHS || inputs.len() > MAX_PATHS - variables.len() {
         return false;
     }
-    if programs.len() > 64 {
+    if programs.len() > MAX_PROGRAMS {
         return false;
     }
     if !are_few_on_each(programs) {
         return false;
     }
-    if budget < 1 || budget > 1_000_000 {
+    if budget < 1 || budget > MAX_BUDGET {
         return false;
     }
-    record_length(variables) <= 131_059
+    record_length(variables) <= MAX_RECORD_BODY
 }
 
 fn are_thin_variables(variables: &[PlanVariable]) -> bool
@@ -165,13 +168,13 @@ fn are_thin_variables(variables: &[PlanVariable]) -> bool
 
 /// Whether a record of these variables would be longer than 131,059 bytes. It is told of at most 4,096 variables of a thin plan alone.
 pub fn has_long_record(variables: &[PlanVariable]) -> bool
-    ensures long { result ≡ true → 131059 < record_length variables.now }
-    ensures short { result ≡ false → length variables.now ≤ 4096 → list_all is_thin_variable variables.now ≡ true → record_length variables.now ≤ 131059 }
+    ensures long { result ≡ true → MAX_RECORD_BODY < record_length variables.now }
+    ensures short { result ≡ false → length variables.now ≤ MAX_PATHS → list_all is_thin_variable variables.now ≡ true → record_length variables.now ≤ MAX_RECORD_BODY }
 {
-    if variables.len() > 4096 || !are_thin_variables(variables) {
+    if variables.len() > MAX_PATHS || !are_thin_variables(variables) {
         return false;
     }
-    record_length(variables) > 131_059
+    record_length(variables) > MAX_RECORD_BODY
 }
 
 fn are_thin_inputs(inputs: &[PlanInput]) -> bool

@@ -2,6 +2,7 @@
 
 ghost use Rattle.std.specs.Prelude.{◌≡◌, ◌+◌, ◌≤◌, length, true, if◌then◌else◌};
 ghost use Rattle.std.specs.List.{list_all};
+ghost use Rattle.st_words.specs.declared.limits.TheConstants.{MAX_PATHS};
 ghost use Rattle.st_words.specs.Kinds.{row_of};
 ghost use Rattle.st_types.specs.Layouts.{line_of, width_of, record_length};
 ghost use Rattle.config.specs.ThinPlans.{is_thin_variable};
@@ -52,7 +53,7 @@ fn kept_length(variable: &PlanVariable) -> usize
 /// The length in bytes of a record's body.
 #[tactic(auto, using(crate::proofs::RecordLemmas::record_is, crate::proofs::RecordLemmas::kept_step, crate::proofs::RecordLemmas::none_behind))]
 pub fn record_length(variables: &[PlanVariable]) -> usize
-    requires few { length variables.now ≤ 4096 }
+    requires few { length variables.now ≤ MAX_PATHS }
     requires thin { list_all is_thin_variable variables.now ≡ true }
     ensures { result ≡ record_length variables.now }
 {

@@ -7,7 +7,7 @@ ghost use Rattle.st_trees.specs.ExpressionViews.{expr_view};
 ghost use Rattle.st_trees.specs.StatementViews.{stmt_view};
 ghost use Rattle.st_trees.specs.DeclarationViews.{variable_block_view};
 ghost use Rattle.st_trees.specs.UnitViews.{unit_view};
-ghost use Rattle.st_types.specs.NameTypes.{Text};
+ghost use Rattle.st_types.specs.NameTypes.{Declared};
 ghost use Rattle.st_types.specs.Resolution.{taken_kind, taking_number};
 ghost use Rattle.st_types.specs.ResolvedUnits.{resolved};
 ghost use Rattle.config.specs.Thin.{is_thin_unit};
@@ -18,7 +18,7 @@ use st_types::{Expr, Kind, Literal, Number, Stmt, Unit, VariableBlock};
 
 /// Gives each untyped literal of a program its type: that of the variable that is assigned.
 pub fn resolve(unit: &mut Unit)
-    ensures { (variables : List PlanVariable) (inputs : List PlanInput) (text : Text) → is_thin_unit variables inputs (unit_view unit.old) ≡ true → unit_view unit.new ≡ resolved text (unit_view unit.old) }
+    ensures { (variables : List PlanVariable) (inputs : List PlanInput) (text : Declared) → is_thin_unit variables inputs (unit_view unit.old) ≡ true → unit_view unit.new ≡ resolved text (unit_view unit.old) }
 {
     fill_statements(&unit.blocks, &mut unit.body);
 }

@@ -4,18 +4,18 @@ ghost use Rattle.std.specs.Prelude.{◌≡◌, ◌<◌, ◌≤◌, List, map, le
 ghost use Rattle.std.specs.List.{list_all};
 ghost use Rattle.st_trees.specs.Units.{OrganisationUnit};
 ghost use Rattle.st_trees.specs.UnitViews.{unit_view};
-ghost use Rattle.st_types.specs.NameTypes.{Text};
+ghost use Rattle.st_types.specs.NameTypes.{Declared};
 ghost use Rattle.st_types.specs.ResolvedUnits.{resolved};
 ghost use Rattle.st_types.specs.Slots.{Slot, IsLayout};
 ghost use Rattle.st_types.specs.Layouts.{layout_of};
 ghost use Rattle.config.specs.Thin.{is_thin_unit};
-ghost use Rattle.config.specs.Places.{HavePlaces};
+ghost use Rattle.config.specs.GlobalSlots.{HaveSlots};
 ghost use Rattle.config.specs.PlanViews.{program_view, plan_view};
 ghost use Rattle.config.specs.ThinParts.{task_in, units_in};
 ghost use Rattle.config.specs.ThinPlans.{resources_of, is_thin_program, program_from, programs_from, is_thin, thin_plan, IsThinPlan};
 
+use crate::global_slots::{externals_in, slots_of};
 use crate::instance_name::owner_of;
-use crate::places::{externals_in, places_of};
 use crate::plan::Plan;
 use crate::plan_check::is_thin;
 use crate::resolve::resolve;
@@ -37,11 +37,11 @@ fn thin_unit(
 ) -> Result<ThinUnit, AllocError>
     requires thin { is_thin_unit variables.now inputs.now (unit_view unit) ≡ true }
     requires layout { IsLayout (layout_of variables.now inputs.now) }
-    ensures unit { (text : Text) → IfOk result (λ u. unit_view u.unit.value ≡ resolved text (unit_view unit)) }
-    ensures places { IfOk result (λ u. HavePlaces (layout_of variables.now inputs.now) u.globals.items) }
+    ensures unit { (text : Declared) → IfOk result (λ u. unit_view u.unit.value ≡ resolved text (unit_view unit)) }
+    ensures slots { IfOk result (λ u. HaveSlots (layout_of variables.now inputs.now) u.globals.items) }
 {
     let names = externals_in(alloc, &unit.blocks)?;
-    let globals = places_of(alloc, variables, inputs, &names)?;
+    let globals = slots_of(alloc, variables, inputs, &names)?;
     resolve(&mut unit);
     Ok(ThinUnit {
         unit: Arc::new(alloc, unit)?,
@@ -87,8 +87,8 @@ fn thin_units(
 ) -> Result<Vec<ThinUnit>, AllocError>
     requires thin { list_all (is_thin_unit variables.now inputs.now) (map unit_view units.items) ≡ true }
     requires layout { IsLayout (layout_of variables.now inputs.now) }
-    ensures units { (text : Text) → IfOk result (λ us. units_in us.items ≡ map (resolved text) (map unit_view units.items)) }
-    ensures places { IfOk result (λ us. All (λ u. HavePlaces (layout_of variables.now inputs.now) u.globals.items) us.items) }
+    ensures units { (text : Declared) → IfOk result (λ us. units_in us.items ≡ map (resolved text) (map unit_view units.items)) }
+    ensures slots { IfOk result (λ us. All (λ u. HaveSlots (layout_of variables.now inputs.now) u.globals.items) us.items) }
 {
     let mut resolved = Vec::new(alloc);
     for unit in units {
@@ -106,7 +106,7 @@ fn program_of(
 ) -> Result<Program, AllocError>
     requires there { program.unit < length units.now }
     ensures view { IfOk result (λ p. program_view p ≡ program_from (units_in units.now) number program) }
-    ensures places { (layout : List Slot) → All (λ u. HavePlaces layout u.globals.items) units.now → IfOk result (λ p. HavePlaces layout p.code.value.globals.items) }
+    ensures slots { (layout : List Slot) → All (λ u. HaveSlots layout u.globals.items) units.now → IfOk result (λ p. HaveSlots layout p.code.value.globals.items) }
 {
     let unit = &units[program.unit];
     let code = Code {
@@ -130,7 +130,7 @@ fn programs_of(
 ) -> Result<Vec<Program>, AllocError>
     requires there { list_all (is_thin_program (length units.now)) programs.now ≡ true }
     ensures views { IfOk result (λ ps. map program_view ps.items ≡ programs_from (units_in units.now) 0 programs.now) }
-    ensures places { (layout : List Slot) → All (λ u. HavePlaces layout u.globals.items) units.now → IfOk result (λ ps. All (λ p. HavePlaces layout p.code.value.globals.items) ps.items) }
+    ensures slots { (layout : List Slot) → All (λ u. HaveSlots layout u.globals.items) units.now → IfOk result (λ ps. All (λ p. HaveSlots layout p.code.value.globals.items) ps.items) }
 {
     let mut made = Vec::new(alloc);
     for k in 0..programs.len() {
@@ -171,7 +171,7 @@ impl Plan {
     ///
     /// There is none where two globals bear one name or a name is not 1 to 64 capital letters, digits and underscores, where a name stands for no
     /// global of its type or a literal is outside its type, where a unit or a declaration is of another form, and where a limit of
-    /// the language is passed. An error is want of memory alone.
+    /// the language is passed. The only error is out of memory.
     pub fn thin(
         alloc: Global,
         units: Vec<Unit>,

@@ -5,7 +5,7 @@ use Rattle.std.proofs.lemmas.Grind.{common_steps}
 use Rattle.std.proofs.Math.Seq.{take-append-add}
 use Rattle.std.proofs.lemmas.List.{drop-take, take-replicate, length-take-le, length-replicate, get_or-take, get_or_past, replicate-append-replicate}
 use Rattle.disk.specs.Disk.{put_over}
-use Rattle.disk.specs.Medium.{MediumView, IsSound, IsLeft, with_write, all_synced, torn_byte}
+use Rattle.disk.specs.Medium.{MediumView, MediumInvariant, IsLeft, with_write, all_synced, torn_byte}
 use Rattle.disk.proofs.Places.{rest_at}
 
 -- mediums of the same parts are the same
@@ -34,7 +34,7 @@ drop-take-sub n m xs = elim (cases_lt n m) [
   | inr more ↦ grind (arith, common_steps)
 ]
 
--- a front of a list in which a stretch was filled and overwritten
+-- a prefix of a list in which a stretch was filled and overwritten
 module _ {X : Type 0} (filler : X) (xs new : List X) (len at start : ℕ) (is : start ≡ min at len) (within : len ≤ length xs) (room : at + length new ≤ length xs) where
   front : List X
   front = take start xs ++ replicate (at - start) filler ++ new
@@ -63,7 +63,7 @@ same_items old new n long size = grind (arith, common_steps)
 
 -- a medium after the bytes of a write were put and marked
 module _ (bytes put_bytes : List ℕ) (touched mark_touched : List Bool) (len synced at start end n m : ℕ) (written : List ℕ)
-    (is : start ≡ min at len) (sound : IsSound bytes touched len synced) (room : at + length written ≤ length bytes) (end_is : end ≡ max len (at + length written))
+    (is : start ≡ min at len) (sound : MediumInvariant bytes touched len synced) (room : at + length written ≤ length bytes) (end_is : end ≡ max len (at + length written))
     (long_bytes : length bytes ≡ n) (long_touched : length touched ≡ m)
     (was_put : put_bytes ≡ take start bytes ++ replicate (at - start) 0 ++ written ++ drop (at + length written) bytes)
     (was_marked : mark_touched ≡ take start touched ++ replicate (at + length written - start) true ++ drop (at + length written) touched) where
@@ -113,7 +113,7 @@ module _ (bytes put_bytes : List ℕ) (touched mark_touched : List Bool) (len sy
     ]
   ]
 
-  pub still_sound : IsSound (take n (put_bytes ++ drop (length put_bytes) bytes)) (take m (mark_touched ++ drop (length mark_touched) touched)) end synced
+  pub still_sound : MediumInvariant (take n (put_bytes ++ drop (length put_bytes) bytes)) (take m (mark_touched ++ drop (length mark_touched) touched)) end synced
   unfolding new_bytes new_touched
   still_sound = record {
     flags = length-marked ∙ sound.flags ∙ sym length-put;
@@ -139,14 +139,14 @@ module _ (bytes put_bytes : List ℕ) (touched mark_touched : List Bool) (len sy
       length-put)
 
 -- what was appended since the last sync counts as written
-pub late_written : (bytes : List ℕ) (touched : List Bool) (len synced : ℕ) → IsSound bytes touched len synced → (i : ℕ) → length (take len bytes) - (len - synced) ≤ i → get_or (take len touched) i true ≡ true
+pub late_written : (bytes : List ℕ) (touched : List Bool) (len synced : ℕ) → MediumInvariant bytes touched len synced → (i : ℕ) → length (take len bytes) - (len - synced) ≤ i → get_or (take len touched) i true ≡ true
 late_written bytes touched len synced sound i late = elim (cases_lt i len) [
   | inl low ↦ get_or-take len touched i true low ∙ sound.appended i (omega (arith, length-take-le len bytes sound.within, sound.order)) low
   | inr past ↦ get_or_past (take len touched) i true (omega (arith, length-take len touched))
 ]
 
 -- what a stop leaves of a medium
-module _ (bytes new torn : List ℕ) (touched : List Bool) (len synced wanted size : ℕ) (sound : IsSound bytes touched len synced)
+module _ (bytes new torn : List ℕ) (touched : List Bool) (len synced wanted size : ℕ) (sound : MediumInvariant bytes touched len synced)
     (long : length new ≡ length bytes) (is : size ≡ max (min wanted len) synced)
     (chosen : torn ≢ [] → (i : ℕ) → i < length bytes → get_or touched i true ≡ true → get_or new i 0 ≡ torn_byte torn (count_by (λ t. t) (take i touched)))
     (as_written : torn ≡ [] → (i : ℕ) → i < length bytes → get_or touched i true ≡ true → get_or new i 0 ≡ get_or bytes i 0)

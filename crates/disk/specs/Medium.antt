@@ -62,7 +62,7 @@ pub record IsLeft (medium : MediumView) (torn : List ℕ) (len : ℕ) (left : Li
   pub kept : (i : ℕ) → i < length left → IsSynced medium i → slice_index left i ≡ slice_index medium.file i
 
 -- what a medium keeps: a flag for each byte, and each appended one counts as written
-pub record IsSound (bytes : List ℕ) (touched : List Bool) (len synced : ℕ) : Type 0 where
+pub record MediumInvariant (bytes : List ℕ) (touched : List Bool) (len synced : ℕ) : Type 0 where
   pub flags : length touched ≡ length bytes
   pub within : len ≤ length bytes
   pub order : synced ≤ len

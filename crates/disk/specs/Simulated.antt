@@ -1,5 +1,6 @@
 -- A simulated disk: its steps, the one that fails, and the one within which the machine stops.
 use Rattle.std.specs.Prelude.{◌+◌, ◌-◌, ◌%◌, ◌^◌, ◌==◌, ◌||◌, ◌&&◌, ℕ, min, max, List, length, nat_le, not, Bool, false, if◌then◌else◌, Option, Some, None, Result, Ok, Err, is_ok}
+use Rattle.disk.specs.declared.sim_disk.TheConstants.{ROOM_BYTES}
 use Rattle.disk.specs.Medium.{MediumView, all_synced, with_write}
 use Rattle.disk.specs.declared.disk.DiskError.{DiskError}
 use Rattle.disk.specs.declared.disk.DiskError.TheVariants.{Failed, OutOfRange}
@@ -24,7 +25,7 @@ pub record SimView : Type 0 where
 -- a disk with this file, all of it synced, that neither fails nor stops
 abbrev pub fresh : List ℕ → SimView
 fresh file = record {
-  medium = all_synced file (max (length file) 262144);
+  medium = all_synced file (max (length file) ROOM_BYTES);
   step = 0;
   failing = None;
   stop = None;

@@ -17,7 +17,7 @@ pub struct Medium {
 
 impl Model for Medium {
     ghost use Rattle.std.specs.Prelude.{◌-◌, length, take};
-    ghost use Rattle.disk.specs.Medium.{MediumView, IsSound};
+    ghost use Rattle.disk.specs.Medium.{MediumView, MediumInvariant};
 
     ghost Value = { MediumView };
 
@@ -28,7 +28,7 @@ impl Model for Medium {
       room = length m.bytes.items;
     } };
 
-    ghost invariant = { λ m. IsSound m.bytes.items m.touched.items m.len m.synced_len };
+    ghost invariant = { λ m. MediumInvariant m.bytes.items m.touched.items m.len m.synced_len };
 }
 
 impl Medium {

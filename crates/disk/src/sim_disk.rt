@@ -10,7 +10,7 @@ use std::alloc::{AllocError, Global};
 use std::marker::Model;
 
 /// The room in bytes of a file that is shorter.
-const ROOM: usize = 262_144;
+pub(crate) const ROOM_BYTES: usize = 262_144;
 
 /// A stop of the machine within a call, and what it leaves.
 #[derive(Debug, Drop)]
@@ -66,7 +66,7 @@ impl SimDisk {
         ensures fresh { IfOk result (λ disk. disk ≡ fresh file.items) }
         ensures synced { IfOk result (λ disk. Only file.items (MayLeave disk.medium)) }
     {
-        let room = file.len().max(ROOM);
+        let room = file.len().max(ROOM_BYTES);
         let medium = Medium::new(alloc, file, room)?;
         Ok(SimDisk {
             medium,

@@ -13,7 +13,7 @@ take_suc (f ∷ fs) (suc i) field e = ap (λ xs. f ∷ xs) (take_suc fs i field 
 pub take_field : (fields : Fields) (i : ℕ) (field : List ℕ) → field_at fields i ≡ Some field → take (i + 1) fields ≡ take i fields ++ field ∷ []
 take_field fields i field e = rw add-one (take_suc fields i field e)
 
--- a field behind the first
+-- a field after the first
 field_at-suc : (fields : Fields) (i : ℕ) → field_at fields (suc i) ≡ field_at (drop 1 fields) i
 unfolding field_at
 field_at-suc [] i = refl

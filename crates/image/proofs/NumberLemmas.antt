@@ -10,7 +10,8 @@ use Rattle.st_words.specs.declared.kind.Kind.{Kind}
 use Rattle.st_words.specs.declared.kind.Kind.TheVariants.{Sint, Int, Dint, Lint, Usint, Uint, Udint, Ulint, Byte, Word, Dword, Lword, Time, Bool as Boolean}
 use Rattle.st_words.specs.declared.fault.Fault.{Fault}
 use Rattle.st_words.specs.declared.fault.Fault.TheVariants.{Range}
-use Rattle.st_words.specs.Kinds.{holds, least, greatest, place_of, same_kind}
+use Rattle.st_words.specs.Kinds.{holds, least, greatest, same_kind}
+use Rattle.st_words.proofs.KindLemmas.{same_kind_is, same_kind-refl}
 use Rattle.st_words.specs.Values.{Datum}
 use Rattle.std.specs.Str.{IsUtf8}
 use Rattle.std.specs.Str.Parse.{AllDigits, digits_value, ParsesUnsigned}
@@ -86,7 +87,7 @@ no_minus n small bs e =
 same_rest : (b : ℕ) (bs : List ℕ) → take (length (b ∷ bs) - 1) (drop 1 (b ∷ bs)) ≡ bs
 same_rest b bs = grind (arith, common_steps)
 
--- what stands behind a minus
+-- what stands after a minus
 pub none_behind_minus : (bs : List ℕ) → 1 ≤ length bs → get_or bs 0 0 ≡ 45
     → ((n : ℕ) → n + 1 < 2 ^ 64 → take (length bs - 1) (drop 1 bs) ≢ decimal (n + 1))
     → (z : ℤ) → unsigned_abs z < 2 ^ 64 → bs ≢ signed_decimal z
@@ -96,35 +97,6 @@ none_behind_minus (b ∷ bs) some first none (negsuc n) short e =
     let rest : bs ≡ decimal (suc n) = cc in
     let next : suc n ≡ n + 1 = omega arith in
     none n (omega arith) (same_rest b bs ∙ (rest ∙ ap decimal next))
-
--- one type, by its place in the table
-kind_at : ℕ → Kind
-kind_at n = if n == 0 then Sint else if n == 1 then Int else if n == 2 then Dint else if n == 3 then Lint else if n == 4 then Usint
-    else if n == 5 then Uint else if n == 6 then Udint else if n == 7 then Ulint else if n == 8 then Byte else if n == 9 then Word
-    else if n == 10 then Dword else if n == 11 then Lword else if n == 12 then Time else Boolean
-
-kind_at-place_of : (k : Kind) → kind_at (place_of k) ≡ k
-unfolding kind_at
-kind_at-place_of Sint = refl
-kind_at-place_of Int = refl
-kind_at-place_of Dint = refl
-kind_at-place_of Lint = refl
-kind_at-place_of Usint = refl
-kind_at-place_of Uint = refl
-kind_at-place_of Udint = refl
-kind_at-place_of Ulint = refl
-kind_at-place_of Byte = refl
-kind_at-place_of Word = refl
-kind_at-place_of Dword = refl
-kind_at-place_of Lword = refl
-kind_at-place_of Time = refl
-kind_at-place_of Boolean = refl
-
-pub same_kind_is : (k l : Kind) → same_kind k l ≡ true → k ≡ l
-same_kind_is k l h = let e : place_of k ≡ place_of l = grind (arith, nat_tests) in sym (kind_at-place_of k) ∙ (ap kind_at e ∙ kind_at-place_of l)
-
-pub same_kind-refl : (k : Kind) → same_kind k k ≡ true
-same_kind-refl k = grind (arith, nat_tests)
 
 -- a type's numbers are short
 held_within : (low high z : ℤ) → neg_ℤ (pos (2 ^ 63)) ≤ℤ low → high ≤ℤ pos (2 ^ 64 - 1) → (int_le low z && int_le z high) ≡ true → unsigned_abs z < 2 ^ 64

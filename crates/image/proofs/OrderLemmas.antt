@@ -9,6 +9,7 @@ use Rattle.std.proofs.lemmas.Bool.{cases_lt}
 use Rattle.std.proofs.lemmas.Option.{slice_get_within, slice_get-get_or}
 use Rattle.std.proofs.lemmas.List.{get_or_at, get_or_push, get_or_append_left, map-append, length-append}
 use Rattle.std.proofs.lemmas.List.Elements.{All-push}
+use Rattle.st_words.specs.declared.limits.TheConstants.{MAX_ROWS}
 use Rattle.st_types.specs.declared.plan.PlanInput.{PlanInput}
 use Rattle.st_types.specs.Rows.{Latch}
 use Rattle.image.specs.Plants.{AreRowsOf, IsRowOf, IsLater, IsNotLater}
@@ -66,7 +67,7 @@ rising_push xs x up last = λ k within.
           omega arith
     ]
 
-pub rows_push : (is : List PlanInput) (rows : List Latch) (row : Latch) → AreRowsOf is rows → IsRowOf is row → IsLater rows row.moment → length rows < 10000 → AreRowsOf is (rows ++ row ∷ [])
+pub rows_push : (is : List PlanInput) (rows : List Latch) (row : Latch) → AreRowsOf is rows → IsRowOf is row → IsLater rows row.moment → length rows < MAX_ROWS → AreRowsOf is (rows ++ row ∷ [])
 rows_push is rows row are fits later few = record {
   each = All-push (IsRowOf is) rows row are.each fits;
   rising = rw (map-append (λ (r : Latch). r.moment) rows (row ∷ [])) (rising_push (map (λ (r : Latch). r.moment) rows) row.moment are.rising (before rows later));

@@ -2,6 +2,7 @@
 use Rattle.std.proofs.Common.{◌≡◌, ◌∙◌, sym, refl, ap, subst, ℕ, ◌+◌, ◌<◌, List, [], ◌∷◌, ◌++◌, append_assoc, length, map, get_or, All, true, false, Option, Some, None, Ok, inr, arith}
 use Rattle.std.proofs.lemmas.List.{get_or_at, length-append, length-map, map-append}
 use Rattle.std.proofs.lemmas.List.Elements.{All-nil}
+use Rattle.st_words.specs.declared.limits.TheConstants.{MAX_ROWS}
 use Rattle.csv.specs.Records.{Row, fields_of}
 use Rattle.csv.specs.Reading.{default_config}
 use Rattle.csv.specs.declared.reader.Reader.{Reader}
@@ -27,7 +28,7 @@ pub wrong_header : {R : Type 0} (rem : R → Option (List ℕ)) (known : Option 
     → (IsHeader inputs (fields_of x) → ⊥) → OfRecords known (HasNoHeader inputs)
 wrong_header rem known inputs a b n left x plain has s wrong = begins rem known (fields_of x ∷ []) b (HasNoHeader inputs) (read_more rem known [] a b n left x plain s has) (λ rest. wrong)
 
--- behind the header
+-- after the header
 pub first_reading : {R : Type 0} (rem : R → Option (List ℕ)) (known : Option (List ℕ)) (inputs : List PlanInput) (rows : List Latch) (a b : Reader R) (n left : ℕ) (x : Row) → rows ≡ [] → IsPlain a n → HasRead rem known [] a
     → Steps rem a b left (Some (Ok x)) → IsHeader inputs (fields_of x) → IsReading rem known inputs rows b left
 first_reading rem known inputs rows a b n left x none plain has s names = record {
@@ -38,7 +39,7 @@ first_reading rem known inputs rows a b n left x none plain has s names = record
   rows_are = rw none (record { each = All-nil (IsRowOf inputs); rising = λ k less. absurd (omega arith); few = omega arith });
 }
 
--- the records that were read, with one more behind the rows
+-- the records that were read, with one more after the rows
 read_row : {R : Type 0} (rem : R → Option (List ℕ)) (known : Option (List ℕ)) (inputs : List PlanInput) (rows : List Latch) (a b : Reader R) (n left : ℕ) (x : Row) (P : List Fields → Type 0) → IsReading rem known inputs rows a n
     → Steps rem a b left (Some (Ok x)) → ((header : Fields) (rest : List Fields) → P (header ∷ (map spelled rows ++ fields_of x ∷ rest))) → OfRecords known P
 read_row rem known inputs rows a b n left x P reading s holds =
@@ -83,7 +84,7 @@ no_rise rem known inputs rows a b n left x reading s row fits is late =
     })
 
 pub too_many : {R : Type 0} (rem : R → Option (List ℕ)) (known : Option (List ℕ)) (inputs : List PlanInput) (rows : List Latch) (a b : Reader R) (n left : ℕ) (x : Row) → IsReading rem known inputs rows a n
-    → Steps rem a b left (Some (Ok x)) → length rows ≡ 10000 → OfRecords known HasTooManyRows
+    → Steps rem a b left (Some (Ok x)) → length rows ≡ MAX_ROWS → OfRecords known HasTooManyRows
 too_many rem known inputs rows a b n left x reading s full = read_row rem known inputs rows a b n left x HasTooManyRows reading s (λ header rest.
     let long = length-append (map spelled rows) (fields_of x ∷ rest) in
     let same = length-map rows spelled in

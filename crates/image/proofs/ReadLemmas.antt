@@ -86,7 +86,7 @@ pub opened_read : {R : Type 0} (rem : R → Option (List ℕ)) (known : Option (
 unfolding HasRead Reached
 opened_read rem known a made is state source = λ text k. (strip_bom text, rw is (source ∙ ap (option_map strip_bom) k), (rw is (sym state), refl))
 
--- behind a header and the records of these rows
+-- after a header and the records of these rows
 pub record IsReading {R : Type 0} (rem : R → Option (List ℕ)) (known : Option (List ℕ)) (inputs : List PlanInput) (rows : List Latch) (a : Reader R) (left : ℕ) : Type 0 where
   pub plain : IsPlain a left
   pub header : Fields

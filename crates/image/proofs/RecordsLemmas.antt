@@ -117,7 +117,7 @@ next_takes s (c ∷ rest) p b e = by (is_end (step default_config s c).1) e
         let on = next_goes (step default_config s c).0 (fields_after (step default_config s c).1 [] []) (field_after (step default_config s c).1 c []) rest p e in
         omega (arith, on.less)
 
--- the records of the bytes are those that were read, and behind them those of the bytes that are left
+-- the records of the bytes are those that were read, and after them those of the bytes that are left
 reached_records : (n : ℕ) (s : State) (xs : List ℕ) (read : List Fields) (s2 : State) (ys : List ℕ) → is_between s ≡ true → length xs < n → Reached default_config s xs read s2 ys
     → (m : ℕ) × (records_from default_config n s xs ≡ read ++ records_from default_config m s2 ys)
 unfolding Reached records_from

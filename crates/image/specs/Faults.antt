@@ -1,5 +1,6 @@
 -- What keeps records from being a plant.
 use Rattle.std.specs.Prelude.{◌≡◌, ◌≢◌, ◌<◌, ◌≤◌, List, [], ◌∷◌, ◌++◌, length, drop, Any, ⊤}
+use Rattle.st_words.specs.declared.limits.TheConstants.{MAX_ROWS}
 use Rattle.st_types.specs.declared.plan.PlanInput.{PlanInput}
 use Rattle.st_types.specs.Rows.{Latch}
 use Rattle.image.specs.Plants.{Fields, IsRowOf, IsHeader, spelled}
@@ -13,7 +14,7 @@ HasNoHeader inputs (first ∷ records) = ¬ (IsHeader inputs first)
 abbrev pub IsNoRow : List PlanInput → Fields → Type 0
 IsNoRow inputs fields = (row : Latch) → IsRowOf inputs row → fields ≢ spelled row
 
--- some record behind the header spells no row
+-- some record after the header spells no row
 abbrev pub HasWrongField : List PlanInput → List Fields → Type 0
 HasWrongField inputs records = Any (IsNoRow inputs) (drop 1 records)
 
@@ -28,6 +29,6 @@ pub record HasNoRise (inputs : List PlanInput) (records : List Fields) : Type 0 
   pub second_is : IsRowOf inputs second
   pub not_later : second.moment ≤ first.moment
 
--- there are more than 10,000 records behind the header
+-- there are more than 10,000 records after the header
 abbrev pub HasTooManyRows : List Fields → Type 0
-HasTooManyRows records = 10000 < length (drop 1 records)
+HasTooManyRows records = MAX_ROWS < length (drop 1 records)

@@ -3,6 +3,7 @@ use Rattle.std.specs.Prelude.{[], ◌++◌, ◌≡◌, ℕ, ◌^◌, ◌<◌, �
 use Rattle.std.specs.Char.{to_ascii_lowercase}
 use Rattle.std.specs.Fmt.{decimal, signed_decimal}
 use Rattle.std.specs.List.Sorted.{IsStrictlyIncreasing}
+use Rattle.st_words.specs.declared.limits.TheConstants.{MAX_ROWS, MOMENT_LIMIT}
 use Rattle.st_types.specs.declared.plan.PlanInput.{PlanInput}
 use Rattle.st_words.specs.Values.{Datum}
 use Rattle.st_types.specs.Rows.{Latch}
@@ -14,13 +15,13 @@ Fields = List (List ℕ)
 
 -- a row has a value of its type for each input, and its moment is at most 4,611,686,018,427,387,903
 abbrev pub IsRowOf : List PlanInput → Latch → Type 0
-IsRowOf inputs row = (holds_each inputs row.image ≡ true) × (row.moment < 2 ^ 62)
+IsRowOf inputs row = (holds_each inputs row.image ≡ true) × (row.moment < MOMENT_LIMIT)
 
 -- rows of a plant: their moments rise, and there are at most 10,000
 pub record AreRowsOf (inputs : List PlanInput) (rows : List Latch) : Type 0 where
   pub each : All (IsRowOf inputs) rows
   pub rising : IsStrictlyIncreasing (map (λ r. r.moment) rows)
-  pub few : length rows ≤ 10000
+  pub few : length rows ≤ MAX_ROWS
 
 -- the fields that spell values: their numbers in decimal
 abbrev pub spelled_values : List Datum → Fields
@@ -42,7 +43,7 @@ without_case names = map (map to_ascii_lowercase) names
 abbrev pub IsHeader : List PlanInput → Fields → Type 0
 IsHeader inputs fields = without_case fields ≡ without_case (columns inputs)
 
--- These records are a plant of these rows: a header, and behind it a record for each row.
+-- These records are a plant of these rows: a header, and after it a record for each row.
 pub record IsPlant (inputs : List PlanInput) (rows : List Latch) (records : List Fields) : Type 0 where
   pub header : Fields
   pub names : IsHeader inputs header

@@ -6,6 +6,7 @@ ghost use Rattle.st_words.specs.Values.{Datum};
 ghost use Rattle.image.specs.Numbers.{IsShort, SpellsValue, may_begin};
 
 use st_types::{Kind, Value};
+use st_words::limits::MOMENT_LIMIT;
 
 /// Whether the bytes begin as a decimal number does: with another digit than 0, or they are a 0 alone.
 fn may_begin(field: &[u8]) -> bool
@@ -60,11 +61,15 @@ fn whole_number(field: &[u8]) -> Option<i128>
 /// The moment in milliseconds that the field spells: at most 4,611,686,018,427,387,903.
 pub(crate) fn moment(field: &[u8]) -> Option<u64>
     ensures spelled { IfSome result (λ n. field.now ≡ decimal n) }
-    ensures limit { IfSome result (λ n. n < 2 ^ 62) }
-    ensures none { IfNone result ((n : ℕ) → n < 2 ^ 62 → field.now ≢ decimal n) }
+    ensures limit { IfSome result (λ n. n < MOMENT_LIMIT) }
+    ensures none { IfNone result ((n : ℕ) → n < MOMENT_LIMIT → field.now ≢ decimal n) }
 {
     let moment = number(field)?;
-    if moment < 1 << 62 { Some(moment) } else { None }
+    if moment < MOMENT_LIMIT {
+        Some(moment)
+    } else {
+        None
+    }
 }
 
 /// The value of the type that the field spells.

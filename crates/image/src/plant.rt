@@ -14,11 +14,9 @@ use crate::row::row;
 use config::Plan;
 use csv::{ByteRecord, ReaderBuilder};
 use st_types::{PlanInput, Row};
+use st_words::limits::MAX_ROWS;
 use std::alloc::Global;
 use std::io::Read;
-
-/// How many rows a plant may have.
-const MOST_ROWS: usize = 10_000;
 
 /// Whether the moment is later than that of the last row, if there is one.
 fn is_later(rows: &[Row], moment: u64) -> bool
@@ -42,10 +40,10 @@ fn add_row(
     ensures rows_are { OnOk result (AreRowsOf inputs.now rows.new.items) }
     ensures field { IsErrOf result PlantError.Field → IsNoRow inputs.now (fields_of record.now) }
     ensures not_later { IsErrOf result PlantError.NotLater → (row : Latch) × IsRowOf inputs.now row × (fields_of record.now ≡ spelled row) × IsNotLater rows.old.items row.moment }
-    ensures too_many { IsErrOf result PlantError.TooManyRows → length rows.old.items ≡ 10000 }
+    ensures too_many { IsErrOf result PlantError.TooManyRows → length rows.old.items ≡ MAX_ROWS }
     ensures never { IsErrOf result PlantError.Header → ⊥ }
 {
-    if rows.len() >= MOST_ROWS {
+    if rows.len() >= MAX_ROWS {
         return Err(PlantError::TooManyRows);
     }
     let row = row(alloc, inputs, record)?;
@@ -70,7 +68,7 @@ fn refusal(error: csv::Error) -> PlantError
 /// The rows of a plant: a CSV text with a header. Moments are in milliseconds; each row has a value for each input of the
 /// plan, in declaration order. At most 10,000 rows.
 ///
-/// I1 to I4 come only where they apply; which of several comes is not promised. I5 is a reader that fails, I6 want of memory.
+/// I1 to I4 come only where they apply; which of several comes is not promised. I5 is a reader that fails, I6 out of memory.
 pub fn read_plant<R: Read + Drop>(
     alloc: Global,
     reader: R,

@@ -21,7 +21,7 @@ pub enum PlantError {
     /// The reader failed.
     #[error("I5")]
     Reading,
-    /// Want of memory.
+    /// Out of memory.
     #[error("I6")]
     NoMemory,
 }

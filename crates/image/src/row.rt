@@ -2,6 +2,7 @@
 
 ghost use Rattle.std.specs.Prelude.{◌≡◌, ◌≢◌, ◌<◌, ◌⊎◌, ◌^◌, ◌∷◌, ℕ, List, true, drop, IfOk, IfErr, IsErrOf, IfSome, IfNone, Err};
 ghost use Rattle.std.specs.Fmt.{decimal};
+ghost use Rattle.st_words.specs.declared.limits.TheConstants.{MOMENT_LIMIT};
 ghost use Rattle.csv.specs.Records.{field_at, fields_of};
 ghost use Rattle.st_words.specs.Values.{Datum};
 ghost use Rattle.st_types.specs.Plans.{holds_each};
@@ -15,18 +16,18 @@ use csv::ByteRecord;
 use st_types::{Kind, PlanInput, Row, Value};
 use std::alloc::Global;
 
-/// The value of the type that the field at this place spells.
-fn value_at(kind: Kind, record: &ByteRecord, place: usize) -> Option<Value>
-    ensures spelled { IfSome result (SpellsValueAt kind (field_at (fields_of record.now) place)) }
-    ensures none { IfNone result ((v : Datum) → ¬ (SpellsValueAt kind (field_at (fields_of record.now) place) v)) }
+/// The value of the type that the field at this column spells.
+fn value_at(kind: Kind, record: &ByteRecord, column: usize) -> Option<Value>
+    ensures spelled { IfSome result (SpellsValueAt kind (field_at (fields_of record.now) column)) }
+    ensures none { IfNone result ((v : Datum) → ¬ (SpellsValueAt kind (field_at (fields_of record.now) column) v)) }
 {
-    match record.get(place) {
+    match record.get(column) {
         Some(field) => value(kind, field),
         None => None,
     }
 }
 
-/// The values of the inputs that the fields behind the first spell.
+/// The values of the inputs that the fields after the first spell.
 fn image(alloc: Global, inputs: &[PlanInput], record: &ByteRecord) -> Result<Vec<Value>, PlantError>
     ensures spelled { IfOk result (λ image. drop 1 (fields_of record.now) ≡ spelled_values image.items) }
     ensures held { IfOk result (λ image. holds_each inputs.now image.items ≡ true) }
@@ -49,8 +50,8 @@ fn image(alloc: Global, inputs: &[PlanInput], record: &ByteRecord) -> Result<Vec
 /// The moment that the first field spells.
 fn moment_of(record: &ByteRecord) -> Option<u64>
     ensures spelled { IfSome result (λ n. field_at (fields_of record.now) 0 ≡ Some (decimal n)) }
-    ensures limit { IfSome result (λ n. n < 2 ^ 62) }
-    ensures none { IfNone result ((n : ℕ) → n < 2 ^ 62 → field_at (fields_of record.now) 0 ≢ Some (decimal n)) }
+    ensures limit { IfSome result (λ n. n < MOMENT_LIMIT) }
+    ensures none { IfNone result ((n : ℕ) → n < MOMENT_LIMIT → field_at (fields_of record.now) 0 ≢ Some (decimal n)) }
 {
     match record.get(0) {
         Some(field) => moment(field),

@@ -68,7 +68,7 @@ fn answered(alloc: Global, plan: &Plan, plant: &str) -> Result<String, AllocErro
     told(alloc, plan, reader)
 }
 
-/// What is answered to a row of the table: the inputs, and behind ` | ` the plant.
+/// What is answered to a row of the table: the inputs, and after ` | ` the plant.
 pub fn answer(alloc: Global, given: &str) -> Result<String, AllocError> {
     let Some((inputs, plant)) = given.split_once("| ") else {
         return String::from_str(alloc, "no plant");

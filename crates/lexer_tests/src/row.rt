@@ -6,7 +6,7 @@ use st_lex::LexError;
 use std::alloc::{AllocError, Global};
 
 /// What the lexer answers to a row. `\*1048577 \20` is the text `\20` so many times, `\@TEXT` asks where the tokens of the text stand,
-/// `\!` how want of memory is told, and any other row what the tokens are.
+/// `\!` how out of memory is reported, and any other row what the tokens are.
 pub fn answer(alloc: Global, written: &str) -> Result<String, AllocError> {
     if written == "\\!" {
         return format!(in alloc; "{}", LexError::Memory);

@@ -43,7 +43,7 @@ fn kind(out: &mut String, kind: &TokenKind) -> Result<(), AllocError> {
     }
 }
 
-/// One token behind another, with this between them.
+/// One token after another, with this between them.
 fn separated(out: &mut String, i: usize, between: &str) -> Result<(), AllocError> {
     if i > 0 {
         write!(out, "{between}")

@@ -3,12 +3,12 @@
 //!
 //! They are thousands of lives: a few seconds as they are built, and many minutes under `rt try`, whose code is slow.
 
-use crate::disks::{FILE, Mishap, Steps, Torn};
+use crate::disks::{Mishap, Steps, Torn};
 use crate::life::{Life, Lived, Setting, Told, live, mode_of};
 use crate::row_error::RowError;
 use commit_lock::{StartFault, StartMode};
 use disk::SimDisk;
-use retain_store::{Store, StoreFault};
+use retain_store::{FILE_BYTES, Store, StoreFault};
 use std::alloc::{AllocError, Global};
 use std::fmt::Write;
 
@@ -70,7 +70,7 @@ impl Chapter {
         format!(in alloc; "row {first}, here 0, flush, row {second}, here 0, flush")
     }
 
-    /// Where a warm start goes on from after each front of its log, the empty one first. Each execution adds 1.
+    /// Where a warm start goes on from after each prefix of its log, the empty one first. Each execution adds 1.
     fn fronts(self, start: Point) -> [Point; 5] {
         let [first, second] = self.moments.map(Some);
         let once = start.n.wrapping_add(1);
@@ -105,7 +105,7 @@ struct Left {
     point: Option<Point>,
 }
 
-/// Whether a warm start goes on from a front of the life's log that holds all that it acknowledged. A life that was not started
+/// Whether a warm start goes on from a prefix of the life's log that holds all that it acknowledged. A life that was not started
 /// leaves what was there before, or where it begins.
 fn is_kept(before: Option<Point>, told: &Told, after: Option<Point>, chapter: Chapter) -> bool {
     let (Some(before), Some(after)) = (before, after) else {
@@ -180,7 +180,7 @@ impl Link<'_> {
         let life = self.life.meeting(Mishap::Stops {
             steps: Steps::one(step),
             torn,
-            len: FILE,
+            len: FILE_BYTES as u64,
         });
         let Lived {
             told,

@@ -2,10 +2,8 @@
 
 use crate::row_error::RowError;
 use disk::{SimDisk, Stop};
+use retain_store::FILE_BYTES;
 use std::alloc::{AllocError, Global};
-
-/// The length of a retain file in bytes.
-pub const FILE: u64 = 262_144;
 
 /// Device steps of which each is tried in turn.
 #[derive(Clone, Copy)]
@@ -93,7 +91,7 @@ impl Mishap {
         let (steps, left) = written.split_once(' ').ok_or(RowError::Form)?;
         let (torn, len) = match left.split_once(' ') {
             Some((torn, len)) => (torn, len.parse::<u64>()?),
-            None => (left, FILE),
+            None => (left, FILE_BYTES as u64),
         };
         Ok(Mishap::Stops {
             steps: Steps::read(steps)?,

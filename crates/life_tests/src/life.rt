@@ -8,14 +8,12 @@ use commit_lock::{Core, Event, Reply, StartFault, StartMode, drive};
 use disk::{Disk, SimDisk};
 use st_build::{Plan, build};
 use st_types::{Name, Outcome, Path, Value};
+use st_words::limits::MAX_LOG_ROOM;
 use std::alloc::{AllocError, Global};
 use std::sync::Arc;
 
 /// Room in the log of a life that says nothing else.
 const ROOM: usize = 100;
-
-/// The most room of a log.
-const MOST_ROOM: usize = 65_536;
 
 /// The ticks of an execution.
 const BUDGET: u32 = 10_000;
@@ -101,9 +99,9 @@ pub struct Course {
     /// The numbers of the globals at its begin.
     pub began: Vec<i128>,
     pub replies: Vec<Reply>,
-    /// How each entry of the log ended, and one behind it.
+    /// How each entry of the log ended, and one after it.
     pub outcomes: Vec<Option<Outcome>>,
-    /// The overruns of each program, and of one behind them.
+    /// The overruns of each program, and of one after them.
     pub overruns: Vec<u64>,
     /// The numbers of the globals at its end.
     pub ended: Vec<i128>,
@@ -218,7 +216,7 @@ pub fn live(
     let disk = disk_with(alloc, file.to_vec(alloc)?, life.mishap, turn)?;
     let plan = plan_of(alloc, setting)?;
     let programs = plan.programs();
-    match Core::start(alloc, plan, disk, life.mode, life.room.min(MOST_ROOM)) {
+    match Core::start(alloc, plan, disk, life.mode, life.room.min(MAX_LOG_ROOM)) {
         Ok(core) => {
             let mut core = core;
             let course = course_of(&mut core, alloc, setting.globals, programs, events);

@@ -1,16 +1,14 @@
 //! Records of a store alone, whatever the plan is.
 
-ghost use Rattle.retain_store.specs.Records.{IsSound};
+ghost use Rattle.retain_store.specs.Records.{IsRecordable};
 
 use crate::row_error::RowError;
 use commit_lock::StartFault;
 use disk::SimDisk;
 use retain_store::{Record, Store};
+use st_words::limits::MAX_RECORD_BODY;
 use std::alloc::{AllocError, Global};
 use std::fmt::Write;
-
-/// The greatest length of a record in bytes.
-const LONGEST: usize = 131_059;
 
 /// More values than a record of a row has.
 const VALUES: usize = 10_000;
@@ -49,16 +47,16 @@ pub fn write_recovered(text: &mut String, alloc: Global, file: &[u8]) -> Result<
 
 /// The file that a save of this record makes of an empty one.
 fn saved(alloc: Global, last: &Record) -> Result<Vec<u8>, RowError>
-    requires { IsSound last.now }
+    requires { IsRecordable last.now }
 {
     let layout = last.layout();
     let values = last.values();
     // A record is 12 bytes, its layout text and at most 8 bytes a value.
-    if values.len() > VALUES || layout.len() > LONGEST - 12 - 8 * values.len() {
+    if values.len() > VALUES || layout.len() > MAX_RECORD_BODY - 12 - 8 * values.len() {
         return Err(RowError::Form);
     }
     let disk = SimDisk::new(alloc, Vec::new(alloc))?;
-    match Store::open(alloc, disk, LONGEST) {
+    match Store::open(alloc, disk, MAX_RECORD_BODY) {
         Ok(store) => {
             let mut store = store;
             let saved = store.save(last.moment(), layout, values);

@@ -169,7 +169,7 @@ impl<'a> Scene<'a> {
     }
 }
 
-/// What stands behind the first word of a part.
+/// What stands after the first word of a part.
 fn given_behind<'a>(word: &str, part: &'a str) -> &'a str {
     part.strip_prefix(word).unwrap_or("").trim_start()
 }

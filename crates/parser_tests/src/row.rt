@@ -5,7 +5,7 @@
 //! | Word | What is answered |
 //! |---|---|
 //! | `source` | how many elements the text has, or its refusal |
-//! | `fronts` | how many of its fronts are sources with a configuration |
+//! | `fronts` | how many of its prefixes are sources with a configuration |
 //! | `declarations` | its declarations with their places |
 //! | `expression`, `initial`, `number`, `statements` | what the text begins with, and the place where it goes on |
 //! | `tokens`, `next`, `refused` | what is read of single tokens |

@@ -46,7 +46,7 @@ fn element(out: &mut String, shown: &InitialElement) -> Result<(), AllocError> {
     }
 }
 
-/// The initial value behind `:=`, if there is one.
+/// The initial value after `:=`, if there is one.
 pub fn given(out: &mut String, shown: &Option<Initial>) -> Result<(), AllocError> {
     match shown {
         Some(value) => {

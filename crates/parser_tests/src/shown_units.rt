@@ -7,7 +7,7 @@ use st_trees::{Declaration, Retention, Section, Unit, UnitSort, VariableBlock};
 use std::alloc::AllocError;
 use std::fmt::Write;
 
-/// The word behind VAR, VAR_INPUT or VAR_OUTPUT, with a space before it.
+/// The word after VAR, VAR_INPUT or VAR_OUTPUT, with a space before it.
 fn kept(retention: Option<Retention>) -> &'static str {
     match retention {
         Some(Retention::Retain) => " RETAIN",

@@ -1,4 +1,4 @@
-//! Names and literals as texts. Behind each `@` stands a place.
+//! Names and literals as texts. After each `@` stands a place.
 
 use st_words::{Identifier, Literal, Number};
 use std::alloc::AllocError;

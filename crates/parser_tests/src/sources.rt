@@ -1,4 +1,4 @@
-//! What the parser makes of whole texts and of their fronts.
+//! What the parser makes of whole texts and of their prefixes.
 
 use st_lex::{LexError, LexFault, lex};
 use st_parse::{ParseError, parse};
@@ -53,7 +53,7 @@ fn outcome_of(alloc: Global, text: &[u8]) -> Outcome {
     }
 }
 
-/// Of the fronts of the text, itself included: how many are read as a source with a configuration, and how many are refused otherwise than
+/// Of the prefixes of the text, itself included: how many are read as a source with a configuration, and how many are refused otherwise than
 /// a text that ends too early.
 pub fn fronts(alloc: Global, text: &[u8]) -> Result<String, AllocError> {
     let mut configured: u64 = 0;

@@ -67,7 +67,7 @@ pub fn shown_refused(out: &mut String, alloc: Global, tokens: &[Token]) -> Resul
     write!(out, "{told}")
 }
 
-/// How a refusal is told: that of the last token, of one behind it, of a tree that is too deep, or for want of memory.
+/// How a refusal is told: that of the last token, of one after it, of a tree that is too deep, or out of memory.
 pub fn shown_fault(out: &mut String, word: &str, tokens: &[Token]) -> Result<(), AllocError> {
     let error = match word {
         "last" => ReadError::Refused(Refusal::Unexpected(1)),

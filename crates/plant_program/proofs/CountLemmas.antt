@@ -8,7 +8,7 @@ use Rattle.st_types.specs.declared.entry.Entry.{Entry}
 use Rattle.st_types.specs.declared.entry.Entry.TheVariants.{Row, Done}
 use Rattle.st_types.specs.Due.{HasOverruns}
 use Rattle.st_types.specs.Logs.{Past, beginning, outcomes_from, outcomes_of, with_entry}
-use Rattle.st_types.specs.Plans.{Plan, places_of}
+use Rattle.st_types.specs.Plans.{Plan, schedules_of}
 use Rattle.st_types.specs.Stores.{Store}
 use Rattle.config.specs.PlanViews.{plan_view}
 use Rattle.serial_core.specs.Steps.{State, made}
@@ -53,7 +53,7 @@ outcomes_counted plan start log = outcomes_from_counted plan (beginning start) l
 
 -- the overruns of one program more
 pub overruns_more : (state : State) (i n : ℕ) (each : List ℕ) → AreOverruns state i each
-    → (i < length state.plan.programs.items → HasOverruns (places_of (plan_view state.plan)) (made state).history i n)
+    → (i < length state.plan.programs.items → HasOverruns (schedules_of (plan_view state.plan)) (made state).history i n)
     → (length state.plan.programs.items ≤ i → n ≡ 0) → AreOverruns state (i + 1) (each ++ n ∷ [])
 overruns_more state i n each are has none =
     let last : get_or (each ++ n ∷ []) i 0 ≡ n = get_or_push each n 0 i are.number in

@@ -1,5 +1,6 @@
 -- What jobs tell where they end well, and why their source is refused.
 use Rattle.std.specs.Prelude.{◌≡◌, ℕ, List, length, IsSome, IsNone, ◌≢◌}
+use Rattle.plant_words.specs.declared.command.TheConstants.{DEFAULT_BUDGET}
 use Rattle.st_trees.specs.Sources.{Source}
 use Rattle.st_types.specs.Rows.{Latch}
 use Rattle.config.specs.declared.plan.Plan.{Plan}
@@ -57,7 +58,7 @@ RunTells D job NotYet = IsSome job.trace
 -- what a job tells: the built-in run something, check the sizes, a run its report; a replay is not there yet
 abbrev pub Tells : Type 0 → Job → End → Type 0
 Tells D jobs.First end = end ≢ NotYet
-Tells D (jobs.Check source) end = IsCheck 10000 (end_text end)
+Tells D (jobs.Check source) end = IsCheck DEFAULT_BUDGET (end_text end)
 Tells D (jobs.Run job) end = RunTells D job end
 Tells D (jobs.Replay job) end = end ≡ NotYet
 

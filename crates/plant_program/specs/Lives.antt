@@ -6,7 +6,7 @@ use Rattle.st_types.specs.declared.entry.Outcome.{Outcome}
 use Rattle.st_types.specs.declared.entry.Outcome.TheVariants.{Done as Ended, Faulted}
 use Rattle.st_types.specs.Logs.{outcomes_of}
 use Rattle.st_types.specs.Due.{HasOverruns}
-use Rattle.st_types.specs.Plans.{places_of}
+use Rattle.st_types.specs.Plans.{schedules_of}
 use Rattle.config.specs.PlanViews.{plan_view}
 use Rattle.st_types.specs.Scopes.{seen}
 use Rattle.st_types.specs.declared.plan.PlanVariable.{PlanVariable}
@@ -40,7 +40,7 @@ fault_count state = count_by is_faulted (outcomes_of (plan_view state.plan) stat
 -- the overruns of so many programs, one after another; one that the core hasn't has none
 pub record AreOverruns (state : State) (programs : ℕ) (each : List ℕ) : Type 0 where
   pub number : length each ≡ programs
-  pub overruns : (p : ℕ) → p < programs → p < length state.plan.programs.items → HasOverruns (places_of (plan_view state.plan)) (made state).history p (slice_index each p)
+  pub overruns : (p : ℕ) → p < programs → p < length state.plan.programs.items → HasOverruns (schedules_of (plan_view state.plan)) (made state).history p (slice_index each p)
   pub none : (p : ℕ) → p < programs → length state.plan.programs.items ≤ p → slice_index each p ≡ 0
 
 -- the overruns of so many programs in all, up to the greatest number of 64 bits

@@ -35,7 +35,7 @@ pub enum Fault {
 impl Fault {
     ghost use Rattle.plant_program.specs.Statuses.{status_of};
 
-    /// Want of memory in a run, or while its words are read or its report is made.
+    /// Out of memory in a run, or while its words are read or its report is made.
     pub const NO_MEMORY: Fault = Fault::Refused(Refusal::Serial(SerialRefusal::NoMemory));
 
     /// The exit status that tells of it: 2 for the source, 3 for a plant or a trace, 4 for the start, 5 for the run.

@@ -7,8 +7,10 @@ use crate::serial_run::run_row;
 use commit_lock::{Core, Refusal, StartMode};
 use config::Plan;
 use disk::SimDisk;
+use plant_words::DEFAULT_BUDGET;
 use serial_core::Refusal as SerialRefusal;
-use st_types::Row;
+use st_build::build;
+use st_types::{Name, Path, Row};
 use std::alloc::Global;
 use std::sync::Arc;
 
@@ -18,7 +20,7 @@ const ROWS: u64 = 100;
 /// Room in the log for each row, and for an execution of both programs at it.
 const LOG_ROOM: usize = 300;
 
-/// What a built-in plan that is none would be.
+/// What a built-in plan without its variable would be.
 const FOREIGN: Fault = Fault::Refused(Refusal::Serial(SerialRefusal::Foreign));
 
 /// A core of the plan, started cold over an empty simulated disk.
@@ -33,16 +35,14 @@ fn started(alloc: Global, plan: Plan) -> Result<Core<SimDisk>, Fault> {
 
 /// Serves 100 rows of no inputs, at 0, 10, .., 990 ms, and gives the line that tells the value of n after them.
 pub fn first(alloc: Global) -> Result<Vec<u8>, Fault> {
-    let Some(plan) = built_in::plan(alloc)? else {
-        return Err(FOREIGN);
-    };
+    let plan = build(alloc, built_in::TEXT.as_bytes(), DEFAULT_BUDGET)?;
     let resources = plan.resources();
     let mut core = started(alloc, plan)?;
     for k in 0..ROWS {
         let row = Row::new(k * built_in::INTERVAL, Vec::new(alloc));
         run_row(alloc, &mut core, resources, LOG_ROOM, row)?;
     }
-    let path = built_in::path(alloc)?;
+    let path = Path::global(alloc, Name::from_slice(alloc, built_in::COUNT.as_bytes())?);
     let Some(value) = core.value(&path) else {
         return Err(FOREIGN);
     };

@@ -89,7 +89,7 @@ fn counts<D: Disk>(plan: &Plan, core: &Core<D>) -> Counts
     }
 }
 
-/// The report of a life of the plan; an error is want of memory.
+/// The report of a life of the plan; the only error is out of memory.
 pub fn report_of<D: Disk>(alloc: Global, plan: &Plan, core: &Core<D>) -> Result<Vec<u8>, AllocError>
     ensures report { IfOk result (λ text. IsReport core.now.state core.now.acked (length plan.now.programs.items) plan.now.variables.items text.items) }
 {

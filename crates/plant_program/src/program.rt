@@ -11,21 +11,18 @@ use crate::running::run_plan;
 use crate::sizes::sizes_of;
 use crate::sources::plan_of;
 use crate::telling::{End, tell, tell_words};
-use plant_words::{Job, ReplayJob, RunJob, read_words, wants_memory};
+use plant_words::{DEFAULT_BUDGET, Job, ReplayJob, RunJob, is_out_of_memory, read_words};
 use std::alloc::Global;
 use std::io::{Read, Write};
 
 /// The exit status where the standard output can't be written.
 const UNTOLD: u8 = 5;
 
-/// The budget of `check`, in ticks.
-const BUDGET: u32 = 10_000;
-
 /// Reads and builds the source, and gives its sizes.
 fn check<F: Files>(alloc: Global, files: &mut F, source: &str) -> Result<End, Fault>
-    ensures told { IfOk result (λ end. IsCheck 10000 (end_text end)) }
+    ensures told { IfOk result (λ end. IsCheck DEFAULT_BUDGET (end_text end)) }
 {
-    let plan = plan_of(alloc, files, source, BUDGET)?;
+    let plan = plan_of(alloc, files, source, DEFAULT_BUDGET)?;
     Ok(End::Report(sizes_of(alloc, &plan)?))
 }
 
@@ -52,7 +49,7 @@ fn replay<F: Files>(alloc: Global, files: &mut F, job: &ReplayJob<'_>) -> Result
     if reader.read_to_end(&mut trace).is_err() {
         return Err(Fault::Trace);
     }
-    plan_of(alloc, files, job.source, BUDGET)?;
+    plan_of(alloc, files, job.source, DEFAULT_BUDGET)?;
     Ok(End::NotYet)
 }
 
@@ -84,7 +81,7 @@ pub fn plant<F: Files, O: Write, E: Write>(
 {
     let told = match read_words(alloc, words) {
         Ok(job) => tell(done(alloc, files, &job), out, err),
-        Err(refused) if wants_memory(&refused) => tell(Err(Fault::NO_MEMORY), out, err),
+        Err(refused) if is_out_of_memory(&refused) => tell(Err(Fault::NO_MEMORY), out, err),
         Err(refused) => tell_words(&refused, out, err),
     };
     told.unwrap_or(UNTOLD)

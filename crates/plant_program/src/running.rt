@@ -19,11 +19,9 @@ use image::{PlantError, read_plant};
 use plant_words::{Pace, RunJob, Start};
 use retain_store::StoreFault;
 use st_types::Row;
+use st_words::limits::MAX_LOG_ROOM;
 use std::alloc::Global;
 use std::sync::Arc;
-
-/// Room in the log of a life.
-const LOG_ROOM: usize = 65_536;
 
 /// The rows of the plant of that name; I5 where it can't be opened.
 fn read_rows<F: Files>(
@@ -55,12 +53,12 @@ fn start<F: Files>(
     store: &str,
     start: Start,
 ) -> Result<Core<F::Disk>, Fault>
-    ensures { IfOk result (λ core. IsNew core.state plan.value 65536) }
+    ensures { IfOk result (λ core. IsNew core.state plan.value MAX_LOG_ROOM) }
 {
     let Some(disk) = files.store(store) else {
         return Err(Fault::Start(StartFault::Store(StoreFault::Device)));
     };
-    match Core::start(alloc, plan, disk, mode(start), LOG_ROOM) {
+    match Core::start(alloc, plan, disk, mode(start), MAX_LOG_ROOM) {
         Ok(core) => Ok(core),
         Err((fault, disk)) => {
             files.back(disk);
@@ -82,13 +80,13 @@ fn run_rows<D: Disk>(
 {
     for row in rows {
         match pace {
-            Pace::Settle => run_row(alloc, core, resources, LOG_ROOM, row)?,
+            Pace::Settle => run_row(alloc, core, resources, MAX_LOG_ROOM, row)?,
             Pace::Free => {
                 core.latch(row)?;
             }
         }
     }
-    settle(alloc, core, resources, LOG_ROOM)
+    settle(alloc, core, resources, MAX_LOG_ROOM)
 }
 
 /// Runs the rows, and gives the report.

@@ -20,7 +20,7 @@ fn write_sizes<W: Write>(out: &mut W, plan: &Plan) -> io::Result<()>
     writeln!(out, "retained {}", plan.retained())
 }
 
-/// The sizes of a plan as they are printed; an error is want of memory.
+/// The sizes of a plan as they are printed; the only error is out of memory.
 pub fn sizes_of(alloc: Global, plan: &Plan) -> Result<Vec<u8>, AllocError>
     ensures spelled { IfOk result (λ text. text.items ≡ sizes_text plan.now) }
 {

@@ -3,6 +3,12 @@
 use clap::{Arg, Command, value_parser};
 use std::alloc::{AllocError, Global};
 
+/// The budget of an execution in ticks where none is given.
+pub const DEFAULT_BUDGET: u32 = 10_000;
+
+/// The same as clap takes it.
+const DEFAULT_BUDGET_TEXT: &str = "10000";
+
 static STARTS: [&str; 2] = ["warm", "cold"];
 
 static PACES: [&str; 2] = ["settle", "free"];
@@ -35,7 +41,7 @@ fn budget<'a>(alloc: Global) -> Arg<'a> {
         .value_name("N")
         .help("How many ticks an execution may take")
         .value_parser(value_parser!(u32))
-        .default_value("10000")
+        .default_value(DEFAULT_BUDGET_TEXT)
 }
 
 fn pace<'a>(alloc: Global) -> Arg<'a> {

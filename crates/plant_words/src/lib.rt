@@ -6,6 +6,7 @@ mod job;
 mod number;
 mod reading;
 
+pub use command::DEFAULT_BUDGET;
 pub use job::{Job, Pace, ReplayJob, RunJob, Start};
 pub use number::plain_number;
-pub use reading::{WordsError, read_words, wants_memory};
+pub use reading::{WordsError, is_out_of_memory, read_words};

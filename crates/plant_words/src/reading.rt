@@ -70,7 +70,7 @@ fn signed(alloc: Global) -> Result<Error, AllocError> {
 }
 
 /// Whether memory ran out while the words were read.
-pub fn wants_memory(error: &WordsError) -> bool
+pub fn is_out_of_memory(error: &WordsError) -> bool
     ensures { IsTrue result ↔ (kind_of error.now ≡ ErrorKind.OutOfMemory) }
 {
     error.kind() == ErrorKind::OutOfMemory

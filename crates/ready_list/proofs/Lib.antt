@@ -1,4 +1,4 @@
 pub mod ReadyLemmas
 pub mod BestLemmas
-pub mod PlaceLemmas
+pub mod ScheduleLemmas
 pub mod MarkLemmas

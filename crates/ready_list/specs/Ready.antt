@@ -1,15 +1,15 @@
 -- What the ready list keeps.
 use Rattle.std.specs.Prelude.{◌≡◌, ℕ, ◌+◌, ◌-◌, ◌<◌, ◌≤◌, Bool, true, false, ◌&&◌, ◌==◌, not, List, length, Option, Some, None, option_map, if◌then◌else◌, slice_index_or}
 use Rattle.st_types.specs.declared.entry.Activation.{Activation}
-use Rattle.st_types.specs.declared.plan.Place.{Place}
-use Rattle.st_types.specs.Due.{History, sample, tick_at, rule, place_at, due, served, Waits, sooner, due_count, run_count, with_run}
+use Rattle.st_types.specs.declared.plan.Schedule.{Schedule}
+use Rattle.st_types.specs.Due.{History, sample, sampled_at, rule, schedule_at, due, served, Waits, sooner, due_count, run_count, with_run}
 use Rattle.ready_list.specs.declared.standing.Standing.{Standing}
 use Rattle.ready_list.specs.declared.standing.NewRow.{NewRow}
 
 -- the list as callers see it: where the programs run, SINGLE of each task at the last row, what is kept for each program, the moments
 -- of the first row and of the last, and how many rows there were
 pub record Ready : Type 0 where
-  pub places : List Place
+  pub schedules : List Schedule
   pub samples : List Bool
   pub standings : List Standing
   pub first : ℕ
@@ -21,8 +21,15 @@ abbrev pub stand_at : List Standing → ℕ → Standing
 stand_at standings p = slice_index_or standings p record { waiting = None; overruns = 0 }
 
 -- the program is due at the new row
-abbrev pub is_due_at : NewRow → Place → List Bool → List Bool → Bool
-is_due_at row place before samples = rule place.interval (row.number == 0) (sample before place.task) (sample samples place.task) row.first row.last row.moment
+abbrev pub is_due_at : NewRow → Schedule → List Bool → List Bool → Bool
+is_due_at row schedule before samples = rule schedule.interval record {
+  is_first = row.number == 0;
+  single_before = sample before schedule.task;
+  single = sample samples schedule.task;
+  first = row.first;
+  last = row.last;
+  moment = row.moment;
+}
 
 -- A program that is due waits from that row on; where it waits already, it has one overrun more.
 abbrev pub marked_at : Option ℕ → ℕ → ℕ → Standing
@@ -33,31 +40,31 @@ abbrev pub marked : Standing → Bool → ℕ → Standing
 marked s false row = s
 marked s true row = marked_at s.waiting s.overruns row
 
--- what is kept for each program, before a row and behind it
-abbrev pub AreMarked : List Place → List Standing → List Standing → List Bool → List Bool → NewRow → Type 0
-AreMarked places old new before samples row =
-    (p : ℕ) → p < length places → stand_at new p ≡ marked (stand_at old p) (is_due_at row (place_at places p) before samples) row.number
+-- what is kept for each program, before a row and after it
+abbrev pub AreMarked : List Schedule → List Standing → List Standing → List Bool → List Bool → NewRow → Type 0
+AreMarked schedules old new before samples row =
+    (p : ℕ) → p < length schedules → stand_at new p ≡ marked (stand_at old p) (is_due_at row (schedule_at schedules p) before samples) row.number
 
 -- what waits of the program, if it runs on the resource
-abbrev pub offered : Place → Standing → ℕ → ℕ → Option Activation
-offered place s resource p = if place.resource == resource then option_map (λ k. record { program = p; row = k }) s.waiting else None
+abbrev pub offered : Schedule → Standing → ℕ → ℕ → Option Activation
+offered schedule s resource p = if schedule.resource == resource then option_map (λ k. record { program = p; row = k }) s.waiting else None
 
-abbrev pub offered_at : List Place → List Standing → ℕ → ℕ → Option Activation
-offered_at places standings resource p = offered (place_at places p) (stand_at standings p) resource p
+abbrev pub offered_at : List Schedule → List Standing → ℕ → ℕ → Option Activation
+offered_at schedules standings resource p = offered (schedule_at schedules p) (stand_at standings p) resource p
 
 -- the sooner of the two
-abbrev pub kept : List Place → Option Activation → Option Activation → Option Activation
-kept places None o = o
-kept places (Some a) None = Some a
-kept places (Some a) (Some b) = if sooner places b a then Some b else Some a
+abbrev pub sooner_of : List Schedule → Option Activation → Option Activation → Option Activation
+sooner_of schedules None o = o
+sooner_of schedules (Some a) None = Some a
+sooner_of schedules (Some a) (Some b) = if sooner schedules b a then Some b else Some a
 
 -- of the programs below n, what is to run first on the resource
-abbrev pub IsFirst : List Place → List Standing → ℕ → ℕ → Option Activation → Type 0
-IsFirst places standings resource n None = (p : ℕ) (b : Activation) → p < n → offered_at places standings resource p ≡ Some b → ⊥
-IsFirst places standings resource n (Some a) =
-    (offered_at places standings resource a.program ≡ Some a)
+abbrev pub IsFirst : List Schedule → List Standing → ℕ → ℕ → Option Activation → Type 0
+IsFirst schedules standings resource n None = (p : ℕ) (b : Activation) → p < n → offered_at schedules standings resource p ≡ Some b → ⊥
+IsFirst schedules standings resource n (Some a) =
+    (offered_at schedules standings resource a.program ≡ Some a)
     × (a.program < n)
-    × ((p : ℕ) (b : Activation) → p < n → offered_at places standings resource p ≡ Some b → sooner places b a ≡ false)
+    × ((p : ℕ) (b : Activation) → p < n → offered_at schedules standings resource p ≡ Some b → sooner schedules b a ≡ false)
 
 -- 1 where it waits
 abbrev pub waiting_count : Option ℕ → ℕ
@@ -66,21 +73,21 @@ waiting_count (Some k) = 1
 
 -- What is kept for a program is right: it waits with the row kept, or since its last Done it was due at no row; and the rows at which
 -- it was due are its Dones, its overruns and the one that waits.
-pub record IsPlaced (places : List Place) (h : History) (p : ℕ) (s : Standing) : Type 0 where
-  pub some : (k : ℕ) → s.waiting ≡ Some k → Waits places h record { program = p; row = k }
-  pub none : s.waiting ≡ None → (k : ℕ) → served p h.runs ≤ k → due places p h.ticks k ≡ false
-  pub count : due_count places p h.ticks (length h.ticks) ≡ run_count p h.runs + s.overruns + waiting_count s.waiting
-  pub within : served p h.runs ≤ length h.ticks
+pub record HasStanding (schedules : List Schedule) (h : History) (p : ℕ) (s : Standing) : Type 0 where
+  pub some : (k : ℕ) → s.waiting ≡ Some k → Waits schedules h record { program = p; row = k }
+  pub none : s.waiting ≡ None → (k : ℕ) → served p h.runs ≤ k → due schedules p h.sampled k ≡ false
+  pub count : due_count schedules p h.sampled (length h.sampled) ≡ run_count p h.runs + s.overruns + waiting_count s.waiting
+  pub within : served p h.runs ≤ length h.sampled
 
 -- The list is what these rows and runs make of it.
 pub record IsReadyOf (h : History) (r : Ready) : Type 0 where
-  pub rows : r.rows ≡ length h.ticks
-  pub first : r.first ≡ (tick_at h.ticks 0).moment
-  pub last : r.last ≡ (tick_at h.ticks (length h.ticks - 1)).moment
-  pub samples : (t : ℕ) → sample r.samples t ≡ (not (length h.ticks == 0) && sample (tick_at h.ticks (length h.ticks - 1)).samples t)
-  pub placed : (p : ℕ) → p < length r.places → IsPlaced r.places h p (stand_at r.standings p)
+  pub rows : r.rows ≡ length h.sampled
+  pub first : r.first ≡ (sampled_at h.sampled 0).moment
+  pub last : r.last ≡ (sampled_at h.sampled (length h.sampled - 1)).moment
+  pub samples : (t : ℕ) → sample r.samples t ≡ (not (length h.sampled == 0) && sample (sampled_at h.sampled (length h.sampled - 1)).samples t)
+  pub placed : (p : ℕ) → p < length r.schedules → HasStanding r.schedules h p (stand_at r.standings p)
 
 -- The activation is taken away exactly where it waits.
 abbrev pub Removes : History → Ready → Activation → Bool → Ready → Type 0
-Removes h old a true new = Waits old.places h a × IsReadyOf (with_run h a.program) new
-Removes h old a false new = (Waits old.places h a → ⊥) × (new ≡ old)
+Removes h old a true new = Waits old.schedules h a × IsReadyOf (with_run h a.program) new
+Removes h old a false new = (Waits old.schedules h a → ⊥) × (new ≡ old)

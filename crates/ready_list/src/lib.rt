@@ -3,7 +3,7 @@
 
 mod list;
 mod order;
-mod places;
+mod schedules;
 mod standing;
 #[cfg(test)]
 mod tests;

@@ -1,23 +1,24 @@
 //! The ready list.
 
 ghost use Rattle.std.specs.Prelude.{◌≡◌, ◌+◌, ◌≤◌, ◌<◌, ◌^◌, ◌↔◌, ℕ, IsTrue, Some, None, false, if◌then◌else◌, length, IfOk, MatchOption, All};
-ghost use Rattle.st_types.specs.Due.{History, Waits, NoneWaits, IsBest, HasOverruns, with_tick, no_history};
-ghost use Rattle.st_types.specs.Plans.{places_of as places_in};
+ghost use Rattle.st_words.specs.declared.limits.TheConstants.{MOMENT_LIMIT};
+ghost use Rattle.st_types.specs.Due.{History, Waits, NoneWaits, IsBest, HasOverruns, with_row, no_history};
+ghost use Rattle.st_types.specs.Plans.{schedules_of as schedules_in};
 ghost use Rattle.config.specs.PlanViews.{plan_view};
 ghost use Rattle.ready_list.specs.Ready.{stand_at, IsReadyOf, Removes};
 
 use crate::order::first_of;
-use crate::places::places_of;
+use crate::schedules::schedules_of;
 use crate::standing::{NewRow, Standing, mark_all, taken};
 use config::Plan;
-use st_types::{Activation, Place};
+use st_types::{Activation, Schedule};
 use std::alloc::{AllocError, Global};
 use std::marker::Model;
 
 /// Which programs wait, and how often each was due while it waited. At most one activation of a program waits.
 #[derive(Drop)]
 pub struct ReadyList {
-    places: Vec<Place>,
+    schedules: Vec<Schedule>,
     /// SINGLE of each task at the last row; FALSE before the first.
     samples: Vec<bool>,
     standings: Vec<Standing>,
@@ -31,12 +32,13 @@ pub struct ReadyList {
 
 impl Model for ReadyList {
     ghost use Rattle.std.specs.Prelude.{◌≡◌, ◌<◌, ◌≤◌, ◌+◌, ◌^◌, All, length};
+    ghost use Rattle.st_words.specs.declared.limits.TheConstants.{MOMENT_LIMIT};
     ghost use Rattle.ready_list.specs.Ready.{Ready};
 
     ghost Value = { Ready };
 
     ghost view = { λ x. record {
-      places = x.places.items;
+      schedules = x.schedules.items;
       samples = x.samples.items;
       standings = x.standings.items;
       first = x.first;
@@ -45,9 +47,9 @@ impl Model for ReadyList {
     } };
 
     ghost invariant = { λ x.
-        (length x.standings.items ≡ length x.places.items)
+        (length x.standings.items ≡ length x.schedules.items)
         × (x.rows ≤ x.last + 1)
-        × (x.last < 2 ^ 62)
+        × (x.last < MOMENT_LIMIT)
         × All (λ s. s.overruns ≤ x.rows) x.standings.items };
 }
 
@@ -78,9 +80,13 @@ fn is_listed(standings: &[Standing], a: Activation) -> bool
     a.program < standings.len() && standings[a.program].waiting == Some(a.row)
 }
 
-/// The list before the first row, of programs at these places and this many tasks.
-pub fn list_of(alloc: Global, places: Vec<Place>, tasks: usize) -> Result<ReadyList, AllocError>
-    ensures places { IfOk result (λ r. r.places ≡ places.items) }
+/// The list before the first row, of programs at these schedules and this many tasks.
+pub fn list_of(
+    alloc: Global,
+    schedules: Vec<Schedule>,
+    tasks: usize,
+) -> Result<ReadyList, AllocError>
+    ensures schedules { IfOk result (λ r. r.schedules ≡ schedules.items) }
     ensures number { IfOk result (λ r. length r.samples ≡ tasks) }
     ensures rows { IfOk result (λ r. r.rows ≡ 0) }
     ensures new { IfOk result (λ r. IsReadyOf no_history r) }
@@ -89,9 +95,9 @@ pub fn list_of(alloc: Global, places: Vec<Place>, tasks: usize) -> Result<ReadyL
     let standings = vec![in alloc; Standing {
         waiting: None,
         overruns: 0
-    }; places.len()]?;
+    }; schedules.len()]?;
     Ok(ReadyList {
-        places,
+        schedules,
         samples,
         standings,
         first: 0,
@@ -103,13 +109,13 @@ pub fn list_of(alloc: Global, places: Vec<Place>, tasks: usize) -> Result<ReadyL
 impl ReadyList {
     /// The list of a plan before its first row: nothing waits. It fails only where memory is short.
     pub fn new(alloc: Global, plan: &Plan) -> Result<ReadyList, AllocError>
-        ensures places { IfOk result (λ r. r.places ≡ places_in (plan_view plan.now)) }
+        ensures schedules { IfOk result (λ r. r.schedules ≡ schedules_in (plan_view plan.now)) }
         ensures number { IfOk result (λ r. length r.samples ≡ length plan.now.tasks.items) }
         ensures rows { IfOk result (λ r. r.rows ≡ 0) }
         ensures new { IfOk result (λ r. IsReadyOf no_history r) }
     {
-        let places = places_of(alloc, &plan.tasks, &plan.programs)?;
-        list_of(alloc, places, plan.tasks.len())
+        let schedules = schedules_of(alloc, &plan.tasks, &plan.programs)?;
+        list_of(alloc, schedules, plan.tasks.len())
     }
 
     /// Takes a row: its moment in milliseconds, later than that of the row before and less than 2^62, and a sample of SINGLE for
@@ -117,12 +123,12 @@ impl ReadyList {
     pub fn due(&mut self, moment: u64, samples: &[bool])
         requires number { length samples.now ≡ length self.old.samples }
         requires later { 0 < self.old.rows → self.old.last < moment }
-        requires limit { moment < 2 ^ 62 }
-        ensures places { self.new.places ≡ self.old.places }
+        requires limit { moment < MOMENT_LIMIT }
+        ensures schedules { self.new.schedules ≡ self.old.schedules }
         ensures number { length self.new.samples ≡ length self.old.samples }
         ensures last { self.new.last ≡ moment }
         ensures rows { self.new.rows ≡ self.old.rows + 1 }
-        ensures due { (h : History) → IsReadyOf h self.old → IsReadyOf (with_tick h moment samples.now) self.new }
+        ensures due { (h : History) → IsReadyOf h self.old → IsReadyOf (with_row h moment samples.now) self.new }
     {
         let start = self.rows == 0;
         let row = NewRow {
@@ -132,7 +138,7 @@ impl ReadyList {
             moment,
         };
         mark_all(
-            &self.places,
+            &self.schedules,
             &mut self.standings,
             &self.samples,
             samples,
@@ -148,21 +154,21 @@ impl ReadyList {
     /// row, then the program that was declared first. None where nothing waits.
     #[tactic(auto, using(crate::proofs::BestLemmas::best_first))]
     pub fn best(&self, resource: usize) -> Option<Activation>
-        ensures { (h : History) → IsReadyOf h self.now → MatchOption result (NoneWaits self.now.places h resource) (IsBest self.now.places h resource) }
+        ensures { (h : History) → IsReadyOf h self.now → MatchOption result (NoneWaits self.now.schedules h resource) (IsBest self.now.schedules h resource) }
     {
-        first_of(&self.places, &self.standings, resource)
+        first_of(&self.schedules, &self.standings, resource)
     }
 
     /// Whether the activation waits.
     pub fn waits(&self, a: Activation) -> bool
-        ensures { (h : History) → IsReadyOf h self.now → IsTrue result ↔ Waits self.now.places h a }
+        ensures { (h : History) → IsReadyOf h self.now → IsTrue result ↔ Waits self.now.schedules h a }
     {
         is_listed(&self.standings, a)
     }
 
     /// Takes the activation away and gives true, where it waits; else it changes nothing.
     pub fn remove(&mut self, a: Activation) -> bool
-        ensures places { self.new.places ≡ self.old.places }
+        ensures schedules { self.new.schedules ≡ self.old.schedules }
         ensures number { length self.new.samples ≡ length self.old.samples }
         ensures last { self.new.last ≡ self.old.last }
         ensures rows { self.new.rows ≡ self.old.rows }
@@ -178,8 +184,8 @@ impl ReadyList {
     /// How often the program, by its number from 0, was due while it waited; 0 for one that isn't there.
     #[tactic(auto, using(crate::proofs::ReadyLemmas::overruns_there))]
     pub fn overruns(&self, program: usize) -> u64
-        ensures none { length self.now.places ≤ program → result ≡ 0 }
-        ensures overruns { (h : History) → IsReadyOf h self.now → program < length self.now.places → HasOverruns self.now.places h program result }
+        ensures none { length self.now.schedules ≤ program → result ≡ 0 }
+        ensures overruns { (h : History) → IsReadyOf h self.now → program < length self.now.schedules → HasOverruns self.now.schedules h program result }
     {
         standing_at(&self.standings, program).overruns
     }

@@ -4,7 +4,7 @@ ghost use Rattle.std.specs.Prelude.{◌≡◌, ◌<◌, ◌^◌, ◌==◌, None,
 ghost use Rattle.st_types.specs.Due.{sample as sample_in, rule};
 ghost use Rattle.ready_list.specs.Ready.{is_due_at, marked as marked_by, AreMarked};
 
-use st_types::Place;
+use st_types::Schedule;
 
 /// What is kept for a program.
 #[derive(Clone, Copy)]
@@ -39,7 +39,7 @@ fn sample(samples: &[bool], task: usize) -> bool
 
 /// Whether a program is due at the row, by its task's interval and the samples of SINGLE at the row before and at this one.
 fn is_due(row: NewRow, interval: u64, before: bool, sample: bool) -> bool
-    ensures { result ≡ rule interval (row.number == 0) before sample row.first row.last row.moment }
+    ensures { result ≡ rule interval record { is_first = row.number == 0; single_before = before; single = sample; first = row.first; last = row.last; moment = row.moment } }
 {
     if sample {
         return !before;
@@ -74,22 +74,22 @@ fn marked(standing: Standing, is_due: bool, number: u64) -> Standing
     }
 }
 
-/// What is kept for a program behind the row.
+/// What is kept for a program after the row.
 fn next(
-    place: Place,
+    schedule: Schedule,
     row: NewRow,
     before: &[bool],
     samples: &[bool],
     standing: Standing,
 ) -> Standing
     requires { standing.overruns < 2 ^ 63 }
-    ensures { result ≡ marked_by standing (is_due_at row place before.now samples.now) row.number }
+    ensures { result ≡ marked_by standing (is_due_at row schedule before.now samples.now) row.number }
 {
     let is_due = is_due(
         row,
-        place.interval,
-        sample(before, place.task),
-        sample(samples, place.task),
+        schedule.interval,
+        sample(before, schedule.task),
+        sample(samples, schedule.task),
     );
     marked(standing, is_due, row.number)
 }
@@ -106,18 +106,18 @@ pub fn taken(standing: Standing) -> Standing
 
 /// Marks each program that is due at the row.
 pub fn mark_all(
-    places: &[Place],
+    schedules: &[Schedule],
     standings: &mut Vec<Standing>,
     before: &[bool],
     samples: &[bool],
     row: NewRow,
 )
-    requires sized { length standings.old.items ≡ length places.now }
+    requires sized { length standings.old.items ≡ length schedules.now }
     requires room { All (λ s. s.overruns < 2 ^ 63) standings.old.items }
     ensures sized { length standings.new.items ≡ length standings.old.items }
-    ensures marked { AreMarked places.now standings.old.items standings.new.items before.now samples.now row }
+    ensures marked { AreMarked schedules.now standings.old.items standings.new.items before.now samples.now row }
 {
-    for program in 0..places.len() {
-        standings[program] = next(places[program], row, before, samples, standings[program]);
+    for program in 0..schedules.len() {
+        standings[program] = next(schedules[program], row, before, samples, standings[program]);
     }
 }

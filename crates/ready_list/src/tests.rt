@@ -3,12 +3,12 @@
 ghost use Rattle.std.specs.Prelude.{◌≡◌, IfOk, length};
 
 use crate::list::{ReadyList, list_of};
-use st_types::Place;
+use st_types::Schedule;
 use std::alloc::{AllocError, Global};
 use std::test::Fail;
 
-fn place(task: usize, interval: u64, priority: u64) -> Place {
-    Place {
+fn schedule(task: usize, interval: u64, priority: u64) -> Schedule {
+    Schedule {
         resource: 0,
         task,
         interval,
@@ -21,8 +21,11 @@ fn three_programs(alloc: Global) -> Result<ReadyList, AllocError>
     ensures number { IfOk result (λ r. length r.samples ≡ 3) }
     ensures rows { IfOk result (λ r. r.rows ≡ 0) }
 {
-    let places = Vec::from_array(alloc, [place(0, 10, 1), place(1, 20, 1), place(2, 0, 0)])?;
-    list_of(alloc, places, 3)
+    let schedules = Vec::from_array(
+        alloc,
+        [schedule(0, 10, 1), schedule(1, 20, 1), schedule(2, 0, 0)],
+    )?;
+    list_of(alloc, schedules, 3)
 }
 
 /// The program and the row of what was taken.

@@ -2,12 +2,13 @@
 use Rattle.std.proofs.Common.{◌≡◌, inl, inr, ℕ, ◌+◌, ◌-◌, ◌<◌, ◌≤◌, List, get_or, refl, sym, ◌∙◌, ap, subst, arith}
 use Rattle.std.proofs.lemmas.Bool.{cases_eq}
 use Rattle.std.proofs.lemmas.Bool.Decides.{nat_tests}
+use Rattle.retain_store.specs.declared.format.TheConstants.{AREA_BYTES, HEADER_BYTES}
 use Rattle.disk.specs.Disk.{Only}
 use Rattle.retain_store.specs.declared.area.Areas.{Areas}
 use Rattle.retain_store.specs.declared.area.Gate.{Gate}
 use Rattle.retain_store.specs.declared.area.Gate.TheVariants as gates
-use Rattle.retain_store.specs.declared.area.Place.{Place}
-use Rattle.retain_store.specs.declared.area.Place.TheVariants.{First, Second}
+use Rattle.retain_store.specs.declared.area.Half.{Half}
+use Rattle.retain_store.specs.declared.area.Half.TheVariants.{First, Second}
 use Rattle.retain_store.specs.declared.store.Saves.{Saves}
 use Rattle.retain_store.specs.declared.store.Saves.TheVariants as saves
 use Rattle.retain_store.specs.Records.{Content}
@@ -15,10 +16,10 @@ use Rattle.retain_store.specs.Recovered.{Recovered, Open, Nothing, Found, area, 
 use Rattle.retain_store.specs.Areas.{alone, at_of, other_of, IsOlder, IsOpen, GateIs, IsReady, IsEither, IsSaved, IsSurveyed, areas_after_save}
 use Rattle.retain_store.specs.Surveys.{held}
 use Rattle.retain_store.specs.Opening.{IsSettled}
-use Rattle.retain_store.specs.Kept.{IsKept, IsLast}
-use Rattle.retain_store.proofs.Surveys.{twice, is_place, held_some}
+use Rattle.retain_store.specs.Kept.{StoreInvariant, IsLast}
+use Rattle.retain_store.proofs.Surveys.{twice, is_half, held_some}
 
-other_at : (place : Place) → at_of (other_of place) ≡ 131072 - at_of place
+other_at : (half : Half) → at_of (other_of half) ≡ AREA_BYTES - at_of half
 other_at First = refl
 other_at Second = refl
 
@@ -33,13 +34,13 @@ held_last generation content = elim (cases_eq generation 0) [
   | inr some ↦ let is : held generation content ≡ Found generation content = grind (arith, nat_tests) in subst (IsLast generation) (sym is) (refl, omega arith)
 ]
 
--- by the numbers of the places
-surveyed_at : (file : List ℕ) (target : Place) (gate other_gate : Gate) (generation : ℕ) (last : Recovered) (n : ℕ) → at_of target ≡ n → IsReady (generation + 1) n file → GateIs gate n file → GateIs other_gate (131072 - n) file → recovered file ≡ last
+-- by the offsets of the halves
+surveyed_at : (file : List ℕ) (target : Half) (gate other_gate : Gate) (generation : ℕ) (last : Recovered) (n : ℕ) → at_of target ≡ n → IsReady (generation + 1) n file → GateIs gate n file → GateIs other_gate (AREA_BYTES - n) file → recovered file ≡ last
     → IsSurveyed file (record { target = target; target_gate = gate; other_gate = other_gate; generation = generation }) last
 surveyed_at file target gate other_gate generation last n is ready gate_is other_is last_is = record {
   ready = subst (λ (k : ℕ). IsReady (generation + 1) k file) (sym is) ready;
   gate = subst (λ (k : ℕ). GateIs gate k file) (sym is) gate_is;
-  other_gate = subst (λ (k : ℕ). GateIs other_gate (131072 - k) file) (sym is) other_is;
+  other_gate = subst (λ (k : ℕ). GateIs other_gate (AREA_BYTES - k) file) (sym is) other_is;
   last_is = last_is;
 }
 
@@ -47,22 +48,22 @@ surveyed_next : (first file : List ℕ) (areas : Areas) (last : Recovered) (cont
     → IsSurveyed file (areas_after_save areas) (Found (areas.generation + 1) content)
 surveyed_next first file areas last content surveyed saved =
     let at = at_of areas.target in
-    let place = is_place areas.target in
+    let half = is_half areas.target in
     let generation = areas.generation + 1 in
-    let here : area (131072 - (131072 - at)) file ≡ Open generation content = subst (λ (n : ℕ). area n file ≡ Open generation content) (sym (twice at place)) saved.saved in
-    surveyed_at file (other_of areas.target) areas.other_gate gates.Open generation (Found generation content) (131072 - at) (other_at areas.target)
+    let here : area (AREA_BYTES - (AREA_BYTES - at)) file ≡ Open generation content = subst (λ (n : ℕ). area n file ≡ Open generation content) (sym (twice at half)) saved.saved in
+    surveyed_at file (other_of areas.target) areas.other_gate gates.Open generation (Found generation content) (AREA_BYTES - at) (other_at areas.target)
     (record {
       spare = record { size = saved.size; last = saved.found ∙ ap alone (sym here) };
       older = subst (IsOlder (generation + 1)) (sym here) (let below : generation < generation + 1 = omega arith in below);
     })
-    (gate_moves areas.other_gate (131072 - at) file first saved.other_gate surveyed.other_gate)
-    (subst (λ (n : ℕ). IsOpen n file) (sym (twice at place)) saved.gate)
+    (gate_moves areas.other_gate (AREA_BYTES - at) file first saved.other_gate surveyed.other_gate)
+    (subst (λ (n : ℕ). IsOpen n file) (sym (twice at half)) saved.gate)
     saved.found
 
 -- after a save that succeeded
-pub kept_ok : (tells : Type 0) (first file : List ℕ) (files files' : List ℕ → Type 0) (areas : Areas) (met : Saves) (last : Recovered) (content : Content) (size : ℕ) → 12 ≤ size → size ≤ 131071
+pub kept_ok : (tells : Type 0) (first file : List ℕ) (files files' : List ℕ → Type 0) (areas : Areas) (met : Saves) (last : Recovered) (content : Content) (size : ℕ) → HEADER_BYTES ≤ size → size ≤ (AREA_BYTES - 1)
     → (tells → IsSettled first files areas last) → (tells → IsSaved (areas.generation + 1) (at_of areas.target) content first file) → (tells → Only file files')
-    → IsKept tells file files' (areas_after_save areas) met (held (areas.generation + 1) content) (held (areas.generation + 1) content) size
+    → StoreInvariant tells file files' (areas_after_save areas) met (held (areas.generation + 1) content) (held (areas.generation + 1) content) size
 kept_ok tells first file files files' areas met last content size least greatest settled saved synced =
     let is : held (areas.generation + 1) content ≡ Found (areas.generation + 1) content = held_some (areas.generation + 1) content (let some : 0 < areas.generation + 1 = omega arith in some) in
     record {
@@ -73,8 +74,8 @@ kept_ok tells first file files files' areas met last content size least greatest
     }
 
 -- after one that failed
-pub kept_err : (tells : Type 0) (file : List ℕ) (files : List ℕ → Type 0) (areas : Areas) (last tried : Recovered) (size : ℕ) → 12 ≤ size → size ≤ 131071
-    → (tells → (c : List ℕ) → files c → IsEither last tried (recovered c)) → IsKept tells file files areas saves.Broken last tried size
+pub kept_err : (tells : Type 0) (file : List ℕ) (files : List ℕ → Type 0) (areas : Areas) (last tried : Recovered) (size : ℕ) → HEADER_BYTES ≤ size → size ≤ (AREA_BYTES - 1)
+    → (tells → (c : List ℕ) → files c → IsEither last tried (recovered c)) → StoreInvariant tells file files areas saves.Broken last tried size
 kept_err tells file files areas last tried size least greatest left = record {
   left = left;
   settled = λ t ok. cc;
@@ -83,8 +84,8 @@ kept_err tells file files areas last tried size least greatest left = record {
 }
 
 -- after the file was opened
-pub kept_opened : (tells : Type 0) (file : List ℕ) (files : List ℕ → Type 0) (areas : Areas) (last : Recovered) (size : ℕ) → 12 ≤ size → size ≤ 131071 → (tells → IsSettled file files areas last)
-    → IsKept tells file files areas saves.Working last last size
+pub kept_opened : (tells : Type 0) (file : List ℕ) (files : List ℕ → Type 0) (areas : Areas) (last : Recovered) (size : ℕ) → HEADER_BYTES ≤ size → size ≤ (AREA_BYTES - 1) → (tells → IsSettled file files areas last)
+    → StoreInvariant tells file files areas saves.Working last last size
 kept_opened tells file files areas last size least greatest settled = record {
   left = λ t c may. inl (ap recovered ((settled t).synced c may) ∙ (settled t).surveyed.last_is);
   settled = λ t ok. settled t;
@@ -92,9 +93,9 @@ kept_opened tells file files areas last size least greatest settled = record {
   greatest = greatest;
 }
 
--- after a save that was refused for want of generations
-pub kept_used_up : (tells : Type 0) (file : List ℕ) (files : List ℕ → Type 0) (areas : Areas) (last tried : Recovered) (size : ℕ) → IsKept tells file files areas saves.Working last tried size
-    → IsKept tells file files areas saves.UsedUp last tried size
+-- after a save that was refused because the generations are used up
+pub kept_used_up : (tells : Type 0) (file : List ℕ) (files : List ℕ → Type 0) (areas : Areas) (last tried : Recovered) (size : ℕ) → StoreInvariant tells file files areas saves.Working last tried size
+    → StoreInvariant tells file files areas saves.UsedUp last tried size
 kept_used_up tells file files areas last tried size kept = record {
   left = kept.left;
   settled = λ t ok. cc;

@@ -1,8 +1,8 @@
 mod Areas
 mod Formats
-mod Images
+mod Frames
 mod Keeps
-mod Places
+mod Stretches
 mod Quiet
 mod Steps
 mod Surveys

@@ -8,7 +8,7 @@ use Rattle.std.proofs.lemmas.Option.{none-some}
 use Rattle.retain_store.specs.Reading.{◌>>=◌, cut}
 use Rattle.retain_store.specs.FieldLaws.{chosen, when_some}
 
--- the parts at a place
+-- the parts at an offset
 abbrev pub parts_at_place : List ℕ → ℕ → List ℕ × List ℕ
 parts_at_place bytes n = (take n bytes, drop (suc n) bytes)
 

@@ -3,6 +3,7 @@ use Rattle.std.proofs.Common.{◌≡◌, ℕ, zero, suc, ◌+◌, ◌-◌, ◌*�
 use Rattle.std.specs.Prelude.{◌==◌}
 use Rattle.std.proofs.lemmas.Bool.{eqb-true, eqb-false}
 use Rattle.std.proofs.lemmas.List.{length-append, append-nil, map_push, length_push, drop_at, drop-drop}
+use Rattle.retain_store.specs.declared.format.TheConstants.{MAX_LAYOUT_BYTES, MAX_LINES}
 use Rattle.st_words.specs.declared.kind.Kind.{Kind}
 use Rattle.st_words.specs.declared.kind.Kind.TheVariants.{Sint, Int, Dint, Lint, Usint, Uint, Udint, Ulint, Byte, Word, Dword, Lword, Time, Bool as Boolean}
 use Rattle.st_words.specs.Kinds.{row_of}
@@ -24,7 +25,7 @@ pub record Reads (text bytes left rest starts : List ℕ) (values : List Datum) 
   pub so_far : with_front done (variables_in most left rest) ≡ variables_in (length text) text bytes
   pub found : values ≡ map (λ v. v.value) done
   pub paths : map (path_from text) starts ≡ map (λ v. v.path) done
-  pub place : left ≡ drop (length text - length left) text
+  pub offset : left ≡ drop (length text - length left) text
   pub lines : 6 * length starts + length left ≤ length text
   pub counted : length values ≡ length starts
 
@@ -64,8 +65,8 @@ variable_line text bytes p e =
 
 -- the path where a line begins
 path_there : (text left behind : List ℕ) (start : ℕ) (l : Line) → left ≡ drop start text → left ≡ line_text l ++ behind → is_path_text l.path ≡ true → path_from text start ≡ l.path
-path_there text left behind start l place is sound =
-    let line : drop start text ≡ l.path ++ 32 ∷ ((row_of l.kind).keyword ++ 10 ∷ behind) = sym place ∙ is ∙ line_parts l behind in
+path_there text left behind start l offset is sound =
+    let line : drop start text ≡ l.path ++ 32 ∷ ((row_of l.kind).keyword ++ 10 ∷ behind) = sym offset ∙ is ∙ line_parts l behind in
     ap (λ (t : List ℕ). first_word (cut 32 t)) line ∙ ap first_word (cut_again 32 l.path ((row_of l.kind).keyword ++ 10 ∷ behind) (path_has_no_space l.path sound))
 
 with_nothing : (o : Option (List Variable)) → with_front [] o ≡ o
@@ -114,17 +115,17 @@ reads_none text bytes = record {
   so_far = with_nothing (variables_in (length text) text bytes);
   found = refl;
   paths = refl;
-  place = let none : length text - length text ≡ 0 = omega arith in rw none refl;
+  offset = let none : length text - length text ≡ 0 = omega arith in rw none refl;
   lines = omega arith;
   counted = refl;
 }
 
-place_behind : (text left behind : List ℕ) (start : ℕ) (l : Line) → left ≡ drop start text → left ≡ line_text l ++ behind → length left ≤ length text → start ≡ length text - length left → behind ≡ drop (length text - length behind) text
-place_behind text left behind start l place is within at =
+offset_behind : (text left behind : List ℕ) (start : ℕ) (l : Line) → left ≡ drop start text → left ≡ line_text l ++ behind → length left ≤ length text → start ≡ length text - length left → behind ≡ drop (length text - length behind) text
+offset_behind text left behind start l offset is within at =
     let sizes : length left ≡ length (line_text l) + length behind = ap length is ∙ length-append (line_text l) behind in
     let far : length text - length behind ≡ start + length (line_text l) = omega arith in
     let inner : drop (length (line_text l)) left ≡ behind = ap (drop (length (line_text l))) is ∙ drop_at (line_text l) behind (length (line_text l)) refl in
-    sym inner ∙ ap (drop (length (line_text l))) place ∙ drop-drop (length (line_text l)) start text ∙ ap (λ (n : ℕ). drop n text) (sym far)
+    sym inner ∙ ap (drop (length (line_text l))) offset ∙ drop-drop (length (line_text l)) start text ∙ ap (λ (n : ℕ). drop n text) (sym far)
 
 pub reads_more : (text bytes left rest starts : List ℕ) (values : List Datum) (p : Variable × List ℕ × List ℕ) (start : ℕ) → Reads text bytes left rest starts values → variable_at left rest ≡ Some p → start ≡ length text - length left
     → Reads text bytes p.1 p.2 (starts ++ start ∷ []) (values ++ p.0.value ∷ []) × (length p.1 < length left)
@@ -132,7 +133,7 @@ reads_more text bytes left rest starts values p start r e is =
     let l = variable_line left rest p e in
     let long : 6 + length p.1 ≤ length left = let at : 6 + length p.1 ≤ length (line_text l.0 ++ p.1) = line_long l.0 p.1 l.2 in omega (arith, at, ap length l.1) in
     let s = more_so_far r.most left rest r.done (variables_in (length text) text bytes) p (omega arith) r.enough e r.so_far in
-    let there : left ≡ drop start text = r.place ∙ ap (λ (n : ℕ). drop n text) (sym is) in (
+    let there : left ≡ drop start text = r.offset ∙ ap (λ (n : ℕ). drop n text) (sym is) in (
       record {
         most = s.0;
         done = r.done ++ p.0 ∷ [];
@@ -140,7 +141,7 @@ reads_more text bytes left rest starts values p start r e is =
         so_far = s.2;
         found = ap (λ (ds : List Datum). ds ++ p.0.value ∷ []) r.found ∙ sym (map_push (λ v. v.value) r.done p.0);
         paths = map_push (path_from text) starts start ∙ ap (λ (ps : List (List ℕ)). ps ++ path_from text start ∷ []) r.paths ∙ ap (λ (q : List ℕ). map (λ v. v.path) r.done ++ q ∷ []) (path_there text left p.1 start l.0 there l.1 l.2 ∙ sym l.3) ∙ sym (map_push (λ v. v.path) r.done p.0);
-        place = place_behind text left p.1 start l.0 there l.1 (omega (arith, r.lines)) is;
+        offset = offset_behind text left p.1 start l.0 there l.1 (omega (arith, r.lines)) is;
         lines = omega (arith, r.lines, length_push starts start);
         counted = omega (arith, r.counted, length_push starts start, length_push values p.0.value);
       },
@@ -148,7 +149,7 @@ reads_more text bytes left rest starts values p start r e is =
     )
 
 -- there is room for one more
-pub reads_room : (text bytes left rest starts : List ℕ) (values : List Datum) (p : Variable × List ℕ × List ℕ) → Reads text bytes left rest starts values → variable_at left rest ≡ Some p → length text ≤ 131047 → (length starts < 21841) × (length values < 21841)
+pub reads_room : (text bytes left rest starts : List ℕ) (values : List Datum) (p : Variable × List ℕ × List ℕ) → Reads text bytes left rest starts values → variable_at left rest ≡ Some p → length text ≤ MAX_LAYOUT_BYTES → (length starts < MAX_LINES) × (length values < MAX_LINES)
 reads_room text bytes left rest starts values p r e short =
     let l = variable_line left rest p e in
     let long : 6 + length p.1 ≤ length left = let at : 6 + length p.1 ≤ length (line_text l.0 ++ p.1) = line_long l.0 p.1 l.2 in omega (arith, at, ap length l.1) in

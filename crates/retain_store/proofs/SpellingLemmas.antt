@@ -1,4 +1,4 @@
--- Writing a record's fields one behind the other.
+-- Writing a record's fields one after the other.
 use Rattle.std.proofs.Common.{◌≡◌, ℕ, suc, ◌+◌, ◌-◌, ◌<◌, ◌≤◌, ◌^◌, ◌++◌, [], List, length, take, drop, get_or, refl, sym, ap, ◌∙◌, arith, append_assoc}
 use Rattle.std.specs.Int.{Width, w64, w128, to_be_bytes, cast_unsigned}
 use Rattle.std.specs.Prelude.{ℤ, pos, negsuc, ◌+ℤ◌, ◌<ℤ◌, ◌≤ℤ◌, neg_ℤ, true}
@@ -81,15 +81,15 @@ bits_are d k number span is held kind exact low high number_fits span_fits test 
 -- there is room for the next value
 pub room_left : (values : List Datum) (i : ℕ) (v : Datum) (at end room now : ℕ) → i < length values → v ≡ get_or values i v → at + length (flat_map value_bytes values) ≤ room → now ≡ room
     → end ≡ at + length (flat_map value_bytes (take i values)) → end + length (value_bytes v) ≤ now
-room_left values i v at end room now lt is fits same place =
+room_left values i v at end room now lt is fits same offset =
     let s : length (flat_map value_bytes (take i values)) + (length (value_bytes v) + length (flat_map value_bytes (drop (i + 1) values))) ≡ length (flat_map value_bytes values) = ap (λ (d : Datum). length (flat_map value_bytes (take i values)) + (length (value_bytes d) + length (flat_map value_bytes (drop (i + 1) values)))) is ∙ values_split values i v lt in
     omega (arith, s)
 
--- and behind it the values so far and this one are written
+-- and after it the values so far and this one are written
 pub value_behind : (values : List Datum) (i : ℕ) (v : Datum) (old front after : List ℕ) (at end next : ℕ) → i < length values → v ≡ get_or values i v → front ≡ old ++ flat_map value_bytes (take i values) → after ≡ front ++ value_bytes v
     → end ≡ at + length (flat_map value_bytes (take i values)) → next ≡ end + length (value_bytes v)
     → (next ≡ at + length (flat_map value_bytes (take (i + 1) values))) × (after ≡ old ++ flat_map value_bytes (take (i + 1) values))
-value_behind values i v old front after at end next lt is so_far put place ends =
+value_behind values i v old front after at end next lt is so_far put offset ends =
     let more : flat_map value_bytes (take (i + 1) values) ≡ flat_map value_bytes (take i values) ++ value_bytes v = values_more values i v lt ∙ ap (λ (d : Datum). flat_map value_bytes (take i values) ++ value_bytes d) (sym is) in (
       omega (arith, ap length more, length-append (flat_map value_bytes (take i values)) (value_bytes v)),
       rw (put, so_far, more) (append_assoc old (flat_map value_bytes (take i values)) (value_bytes v)),

@@ -4,16 +4,18 @@ use Rattle.std.proofs.lemmas.Bool.{cases_eq, cases_lt}
 use Rattle.std.proofs.lemmas.Bool.Decides.{nat_tests}
 use Rattle.std.proofs.lemmas.List.{take_all, drop-take, drop-drop, get_or-take, get_or-drop}
 use Rattle.std.specs.Int.{w32, w64, from_be_bytes}
+use Rattle.retain_store.specs.declared.format.TheConstants.{AREA_BYTES, FILE_BYTES, HEADER_BYTES, OPEN_GATE}
+use Rattle.st_words.specs.declared.limits.TheConstants.{MAX_RECORD_BODY}
 use Rattle.retain_store.specs.declared.area.Gate.{Gate}
 use Rattle.retain_store.specs.declared.area.Gate.TheVariants as gates
-use Rattle.retain_store.specs.declared.area.Place.{Place}
-use Rattle.retain_store.specs.declared.area.Place.TheVariants.{First, Second}
+use Rattle.retain_store.specs.declared.area.Half.{Half}
+use Rattle.retain_store.specs.declared.area.Half.TheVariants.{First, Second}
 use Rattle.retain_store.specs.declared.surveying.Look.{Look}
 use Rattle.retain_store.specs.declared.surveying.Look.TheVariants as looks
 use Rattle.retain_store.specs.Records.{Content}
 use Rattle.retain_store.specs.Reading.{decoded}
 use Rattle.retain_store.specs.Recovered.{Area, Closed, Damaged, Open, Nothing, Found, area_with, area_of_parts, opened, gated, area, recovered}
-use Rattle.retain_store.specs.Areas.{alone, IsOlder, IsOpen, IsShut, IsPlace, GateIs, IsSurveyed, at_of, closed_areas}
+use Rattle.retain_store.specs.Areas.{alone, IsOlder, IsOpen, IsShut, IsHalf, GateIs, IsSurveyed, at_of, closed_areas}
 use Rattle.retain_store.specs.Surveys.{area_in, shown, held, gate_of, LooksOlder}
 use Rattle.retain_store.proofs.Areas.{open_area, gated_area, recovered_newer, recovered_shut, shut_area}
 
@@ -26,11 +28,11 @@ with_not_closed generation (Some content) is = elim (cases_eq generation 0) [
 ]
 
 parts_not_closed : (size generation : ℕ) (behind : List ℕ) → area_of_parts size generation behind ≢ Closed
-parts_not_closed size generation behind is = elim (cases_lt 131059 size) [
+parts_not_closed size generation behind is = elim (cases_lt MAX_RECORD_BODY size) [
   | inl long ↦ let damaged : area_of_parts size generation behind ≡ Damaged = grind (arith, nat_tests) in cc
   | inr short ↦
-      let with_body : area_of_parts size generation behind ≡ area_with generation (decoded (take size (drop 12 behind))) = grind (arith, nat_tests) in
-      with_not_closed generation (decoded (take size (drop 12 behind))) (sym with_body ∙ is)
+      let with_body : area_of_parts size generation behind ≡ area_with generation (decoded (take size (drop HEADER_BYTES behind))) = grind (arith, nat_tests) in
+      with_not_closed generation (decoded (take size (drop HEADER_BYTES behind))) (sym with_body ∙ is)
 ]
 
 pub opened_not_closed : (behind : List ℕ) → opened behind ≢ Closed
@@ -46,60 +48,60 @@ with_generation generation g content (Some read) is = elim (cases_eq generation 
 ]
 
 parts_generation : (size generation g : ℕ) (content : Content) (behind : List ℕ) → area_of_parts size generation behind ≡ Open g content → 0 < g
-parts_generation size generation g content behind is = elim (cases_lt 131059 size) [
+parts_generation size generation g content behind is = elim (cases_lt MAX_RECORD_BODY size) [
   | inl long ↦ let damaged : area_of_parts size generation behind ≡ Damaged = grind (arith, nat_tests) in let no : Damaged ≡ Open g content = sym damaged ∙ is in cc
   | inr short ↦
-      let with_body : area_of_parts size generation behind ≡ area_with generation (decoded (take size (drop 12 behind))) = grind (arith, nat_tests) in
-      with_generation generation g content (decoded (take size (drop 12 behind))) (sym with_body ∙ is)
+      let with_body : area_of_parts size generation behind ≡ area_with generation (decoded (take size (drop HEADER_BYTES behind))) = grind (arith, nat_tests) in
+      with_generation generation g content (decoded (take size (drop HEADER_BYTES behind))) (sym with_body ∙ is)
 ]
 
 pub opened_generation : (behind : List ℕ) (g : ℕ) (content : Content) → opened behind ≡ Open g content → 0 < g
 unfolding opened
 opened_generation behind g content is = parts_generation (from_be_bytes w32 (take 4 (drop 8 behind))) (from_be_bytes w64 (take 8 behind)) g content behind is
 
--- what is told of the bytes behind an open gate
+-- what is told of the bytes after an open gate
 module _ (behind : List ℕ) (generation size : ℕ) (is_generation : generation ≡ from_be_bytes w64 (take 8 behind)) (is_size : size ≡ from_be_bytes w32 (take 4 (drop 8 behind))) where
   by_parts : opened behind ≡ area_of_parts size generation behind
   unfolding opened
   by_parts = ap (λ (n : ℕ). area_of_parts n (from_be_bytes w64 (take 8 behind)) behind) (sym is_size) ∙ ap (λ (g : ℕ). area_of_parts size g behind) (sym is_generation)
 
-  pub opened_long : 131059 < size → opened behind ≡ Damaged
+  pub opened_long : MAX_RECORD_BODY < size → opened behind ≡ Damaged
   opened_long long = let damaged : area_of_parts size generation behind ≡ Damaged = grind (arith, nat_tests) in by_parts ∙ damaged
 
-  pub opened_none : generation ≡ 0 → size ≤ 131059 → opened behind ≡ Damaged
-  opened_none none short = by_parts ∙ in_parts ∙ by_read (decoded (take size (drop 12 behind)))
+  pub opened_none : generation ≡ 0 → size ≤ MAX_RECORD_BODY → opened behind ≡ Damaged
+  opened_none none short = by_parts ∙ in_parts ∙ by_read (decoded (take size (drop HEADER_BYTES behind)))
     where
-      in_parts : area_of_parts size generation behind ≡ area_with generation (decoded (take size (drop 12 behind)))
+      in_parts : area_of_parts size generation behind ≡ area_with generation (decoded (take size (drop HEADER_BYTES behind)))
       in_parts = grind (arith, nat_tests)
 
       by_read : (read : Option Content) → area_with generation read ≡ Damaged
       by_read None = refl
       by_read (Some content) = grind (arith, nat_tests)
 
-  module _ (short : size ≤ 131059) where
-    with_read : (read : Option Content) → decoded (take size (drop 12 behind)) ≡ read → opened behind ≡ area_with generation read
+  module _ (short : size ≤ MAX_RECORD_BODY) where
+    with_read : (read : Option Content) → decoded (take size (drop HEADER_BYTES behind)) ≡ read → opened behind ≡ area_with generation read
     with_read read is =
-        let in_parts : area_of_parts size generation behind ≡ area_with generation (decoded (take size (drop 12 behind))) = grind (arith, nat_tests) in
+        let in_parts : area_of_parts size generation behind ≡ area_with generation (decoded (take size (drop HEADER_BYTES behind))) = grind (arith, nat_tests) in
         by_parts ∙ in_parts ∙ ap (λ (o : Option Content). area_with generation o) is
 
-    pub opened_no_record : decoded (take size (drop 12 behind)) ≡ None → opened behind ≡ Damaged
+    pub opened_no_record : decoded (take size (drop HEADER_BYTES behind)) ≡ None → opened behind ≡ Damaged
     opened_no_record is = with_read None is
 
-    pub opened_record : (content : Content) → decoded (take size (drop 12 behind)) ≡ Some content → generation ≢ 0 → opened behind ≡ Open generation content
+    pub opened_record : (content : Content) → decoded (take size (drop HEADER_BYTES behind)) ≡ Some content → generation ≢ 0 → opened behind ≡ Open generation content
     opened_record content is some = let opens : area_with generation (Some content) ≡ Open generation content = grind (arith, nat_tests) in with_read (Some content) is ∙ opens
 
 pub open_generation : (at : ℕ) (file : List ℕ) (g : ℕ) (content : Content) → area at file ≡ Open g content → 0 < g
 open_generation at file g content is = elim (gated_area at file) [
-  | inl counts ↦ opened_generation (take 131071 (drop (at + 1) file)) g content (sym counts ∙ is)
+  | inl counts ↦ opened_generation (take (AREA_BYTES - 1) (drop (at + 1) file)) g content (sym counts ∙ is)
   | inr closed ↦ let no : Closed ≡ Open g content = sym closed ∙ is in cc
 ]
 
 -- gates
 pub closed_shut : (at : ℕ) (file : List ℕ) → area at file ≡ Closed → IsShut at file
-closed_shut at file closed open_gate = opened_not_closed (take 131071 (drop (at + 1) file)) (sym (open_area at file open_gate) ∙ closed)
+closed_shut at file closed open_gate = opened_not_closed (take (AREA_BYTES - 1) (drop (at + 1) file)) (sym (open_area at file open_gate) ∙ closed)
 
 pub not_closed_open : (at : ℕ) (file : List ℕ) → area at file ≢ Closed → IsOpen at file
-not_closed_open at file other = elim (cases_eq (get_or file at 0) 165) [
+not_closed_open at file other = elim (cases_eq (get_or file at 0) OPEN_GATE) [
   | inl open_gate ↦ open_gate
   | inr shut ↦ absurd (other (shut_area at file shut))
 ]
@@ -110,31 +112,31 @@ gate_shows at file looks.Damaged content is = not_closed_open at file (λ closed
 gate_shows at file (looks.Open generation) content is = not_closed_open at file (λ closed. let no : Open generation content ≡ Closed = sym is ∙ closed in cc)
 
 -- the areas of a whole file, by their own bytes
-pub first_area : (file bytes : List ℕ) → bytes ≡ take 131072 file → length file ≡ 262144 → area 0 file ≡ area_in bytes
+pub first_area : (file bytes : List ℕ) → bytes ≡ take AREA_BYTES file → length file ≡ FILE_BYTES → area 0 file ≡ area_in bytes
 unfolding area
 first_area file bytes is size =
-    let gate : get_or bytes 0 0 ≡ get_or file 0 0 = ap (λ (l : List ℕ). get_or l 0 0) is ∙ get_or-take 131072 file 0 0 (omega arith) in
-    let behind : drop 1 bytes ≡ take 131071 (drop 1 file) = ap (λ (l : List ℕ). drop 1 l) is ∙ drop-take 1 131071 file in
+    let gate : get_or bytes 0 0 ≡ get_or file 0 0 = ap (λ (l : List ℕ). get_or l 0 0) is ∙ get_or-take AREA_BYTES file 0 0 (omega arith) in
+    let behind : drop 1 bytes ≡ take (AREA_BYTES - 1) (drop 1 file) = ap (λ (l : List ℕ). drop 1 l) is ∙ drop-take 1 (AREA_BYTES - 1) file in
     sym (ap (λ (g : ℕ). gated g (drop 1 bytes)) gate ∙ ap (λ (l : List ℕ). gated (get_or file 0 0) l) behind)
 
-pub second_area : (file bytes : List ℕ) → bytes ≡ drop 131072 file → length file ≡ 262144 → area 131072 file ≡ area_in bytes
+pub second_area : (file bytes : List ℕ) → bytes ≡ drop AREA_BYTES file → length file ≡ FILE_BYTES → area AREA_BYTES file ≡ area_in bytes
 unfolding area
 second_area file bytes is size =
-    let gate : get_or bytes 0 0 ≡ get_or file 131072 0 = ap (λ (l : List ℕ). get_or l 0 0) is ∙ get_or-drop 131072 file 0 0 in
-    let behind : drop 1 bytes ≡ take 131071 (drop 131073 file) = ap (λ (l : List ℕ). drop 1 l) is ∙ drop-drop 1 131072 file ∙ sym (take_all 131071 (drop 131073 file) (omega (arith, length-drop 131073 file))) in
-    sym (ap (λ (g : ℕ). gated g (drop 1 bytes)) gate ∙ ap (λ (l : List ℕ). gated (get_or file 131072 0) l) behind)
+    let gate : get_or bytes 0 0 ≡ get_or file AREA_BYTES 0 = ap (λ (l : List ℕ). get_or l 0 0) is ∙ get_or-drop AREA_BYTES file 0 0 in
+    let behind : drop 1 bytes ≡ take (AREA_BYTES - 1) (drop (AREA_BYTES + 1) file) = ap (λ (l : List ℕ). drop 1 l) is ∙ drop-drop 1 AREA_BYTES file ∙ sym (take_all (AREA_BYTES - 1) (drop (AREA_BYTES + 1) file) (omega (arith, length-drop (AREA_BYTES + 1) file))) in
+    sym (ap (λ (g : ℕ). gated g (drop 1 bytes)) gate ∙ ap (λ (l : List ℕ). gated (get_or file AREA_BYTES 0) l) behind)
 
-pub other_place : (at : ℕ) → IsPlace at → IsPlace (131072 - at)
-other_place at (inl here) = inr (omega arith)
-other_place at (inr here) = inl (omega arith)
+pub other_half : (at : ℕ) → IsHalf at → IsHalf (AREA_BYTES - at)
+other_half at (inl here) = inr (omega arith)
+other_half at (inr here) = inl (omega arith)
 
-pub twice : (at : ℕ) → IsPlace at → 131072 - (131072 - at) ≡ at
+pub twice : (at : ℕ) → IsHalf at → AREA_BYTES - (AREA_BYTES - at) ≡ at
 twice at (inl here) = omega arith
 twice at (inr here) = omega arith
 
-pub is_place : (place : Place) → IsPlace (at_of place)
-is_place First = inl refl
-is_place Second = inr refl
+pub is_half : (half : Half) → IsHalf (at_of half)
+is_half First = inl refl
+is_half Second = inr refl
 
 -- a record of a generation above 0
 pub held_some : (generation : ℕ) (content : Content) → 0 < generation → held generation content ≡ Found generation content
@@ -151,33 +153,33 @@ shown_older generation looks.Damaged content a is older = absurd older
 shown_older generation (looks.Open g) content a is older = subst (IsOlder generation) (sym is) older
 
 -- two closed areas
-pub surveyed_closed : (file : List ℕ) → length file ≡ 262144 → area 0 file ≡ Closed → area 131072 file ≡ Closed → IsSurveyed file closed_areas Nothing
+pub surveyed_closed : (file : List ℕ) → length file ≡ FILE_BYTES → area 0 file ≡ Closed → area AREA_BYTES file ≡ Closed → IsSurveyed file closed_areas Nothing
 surveyed_closed file size first second =
     let none : recovered file ≡ Nothing = recovered_shut 0 file (inl refl) size first ∙ ap alone second in
     record {
       ready = record { spare = record { size = size; last = none ∙ ap alone (sym second) }; older = subst (IsOlder 1) (sym second) tt };
       gate = closed_shut 0 file first;
-      other_gate = closed_shut 131072 file second;
+      other_gate = closed_shut AREA_BYTES file second;
       last_is = none;
     }
 
 -- The other area holds the last record.
-found_in_other : (at : ℕ) → IsPlace at → (file : List ℕ) → length file ≡ 262144 → (generation : ℕ) (content : Content) → area (131072 - at) file ≡ Open generation content → IsOlder generation (area at file) → recovered file ≡ Found generation content
-found_in_other at place file size generation content holds older =
-    recovered_newer (131072 - at) generation content file (other_place at place) size holds (subst (λ (n : ℕ). IsOlder generation (area n file)) (sym (twice at place)) older)
+found_in_other : (at : ℕ) → IsHalf at → (file : List ℕ) → length file ≡ FILE_BYTES → (generation : ℕ) (content : Content) → area (AREA_BYTES - at) file ≡ Open generation content → IsOlder generation (area at file) → recovered file ≡ Found generation content
+found_in_other at half file size generation content holds older =
+    recovered_newer (AREA_BYTES - at) generation content file (other_half at half) size holds (subst (λ (n : ℕ). IsOlder generation (area n file)) (sym (twice at half)) older)
 
-pub surveyed_one : (target : Place) (gate : Gate) (file : List ℕ) → length file ≡ 262144 → (generation : ℕ) (content : Content) → area (131072 - at_of target) file ≡ Open generation content → IsOlder generation (area (at_of target) file) → GateIs gate (at_of target) file
+pub surveyed_one : (target : Half) (gate : Gate) (file : List ℕ) → length file ≡ FILE_BYTES → (generation : ℕ) (content : Content) → area (AREA_BYTES - at_of target) file ≡ Open generation content → IsOlder generation (area (at_of target) file) → GateIs gate (at_of target) file
     → IsSurveyed file (record { target = target; target_gate = gate; other_gate = gates.Open; generation = generation }) (held generation content)
 surveyed_one target gate file size generation content holds older gate_is =
     let at = at_of target in
-    let found : recovered file ≡ Found generation content = found_in_other at (is_place target) file size generation content holds older in
-    let some : 0 < generation = open_generation (131072 - at) file generation content holds in
+    let found : recovered file ≡ Found generation content = found_in_other at (is_half target) file size generation content holds older in
+    let some : 0 < generation = open_generation (AREA_BYTES - at) file generation content holds in
     record {
       ready = record {
         spare = record { size = size; last = found ∙ ap alone (sym holds) };
         older = subst (IsOlder (generation + 1)) (sym holds) (let below : generation < generation + 1 = omega arith in below);
       };
       gate = gate_is;
-      other_gate = not_closed_open (131072 - at) file (λ closed. let no : Open generation content ≡ Closed = sym holds ∙ closed in cc);
+      other_gate = not_closed_open (AREA_BYTES - at) file (λ closed. let no : Open generation content ≡ Closed = sym holds ∙ closed in cc);
       last_is = found ∙ sym (held_some generation content some);
     }

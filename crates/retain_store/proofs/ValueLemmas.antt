@@ -13,7 +13,7 @@ use Rattle.st_words.specs.Values.{Datum, in_range}
 use Rattle.retain_store.specs.Records.{wide_of}
 use Rattle.retain_store.specs.Reading.{number_of, value_at}
 
--- a value that was made, and the bytes behind it
+-- a value that was made, and the bytes after it
 abbrev pub kept : Result Datum Fault → List ℕ → Option (Datum × List ℕ)
 kept (Ok d) behind = Some (d, behind)
 kept (Err e) behind = None

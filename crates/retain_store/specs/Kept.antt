@@ -1,6 +1,7 @@
 -- What a store keeps.
-use Rattle.std.specs.Prelude.{◌≡◌, ◌+◌, ◌≤◌, ◌<◌, ℕ, Bool, true, false, Option, Some, None, List}
+use Rattle.std.specs.Prelude.{◌≡◌, ◌+◌, ◌-◌, ◌≤◌, ◌<◌, ℕ, Bool, true, false, Option, Some, None, List}
 use Rattle.st_words.specs.Values.{Datum}
+use Rattle.retain_store.specs.declared.format.TheConstants.{AREA_BYTES, HEADER_BYTES}
 use Rattle.retain_store.specs.declared.area.Areas.{Areas}
 use Rattle.retain_store.specs.declared.fault.StoreFault.{StoreFault}
 use Rattle.retain_store.specs.declared.fault.StoreFault.TheVariants as faults
@@ -57,9 +58,9 @@ IsTriedAfter faults.Failed content old new = new ≡ old
 IsTriedAfter other content old new = ⊥
 
 -- Each file that a stop now may leave is recovered to the last record or to a failed save's; where no save has failed, the
--- file is synced and the areas are known. The image has room for a header and a body.
-pub record IsKept (tells : Type 0) (file : List ℕ) (files : List ℕ → Type 0) (areas : Areas) (met : Saves) (last tried : Recovered) (size : ℕ) : Type 0 where
+-- file is synced and the areas are known. The frame has room for a header and a body.
+pub record StoreInvariant (tells : Type 0) (file : List ℕ) (files : List ℕ → Type 0) (areas : Areas) (met : Saves) (last tried : Recovered) (size : ℕ) : Type 0 where
   pub left : tells → (c : List ℕ) → files c → IsEither last tried (recovered c)
   pub settled : tells → met ≡ saves.Working → IsSettled file files areas last
-  pub least : 12 ≤ size
-  pub greatest : size ≤ 131071
+  pub least : HEADER_BYTES ≤ size
+  pub greatest : size ≤ AREA_BYTES - 1

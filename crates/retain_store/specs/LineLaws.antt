@@ -231,7 +231,7 @@ unfolding variable_at
 variable_again l d text bytes sound held same =
     rw (line_again l text sound, same, value_again d bytes held) refl
 
--- a line is not empty: what is behind it is shorter than the text
+-- a line is not empty: what is after it is shorter than the text
 line_is_some : (l : Line) (rest : List ℕ) → (c : ℕ) × (text : List ℕ) × (line_text l ++ rest ≡ c ∷ text) × (length rest ≤ length text)
 line_is_some l rest = from l.path refl
   where

@@ -1,6 +1,7 @@
 -- What opening a store does.
 use Rattle.std.specs.Prelude.{◌≡◌, ◌+◌, ◌%◌, ◌^◌, ◌<◌, ℕ, List, length}
 use Rattle.disk.specs.Disk.{Only}
+use Rattle.retain_store.specs.declared.format.TheConstants.{FILE_BYTES}
 use Rattle.retain_store.specs.declared.area.Areas.{Areas}
 use Rattle.retain_store.specs.declared.fault.StoreFault.{StoreFault}
 use Rattle.retain_store.specs.declared.fault.StoreFault.TheVariants as faults
@@ -32,8 +33,8 @@ CountsFault other old new = new ≡ old
 
 -- the file was too short and has two closed areas now, or it is whole, as it was, and these are its bytes
 abbrev pub IsLoaded : Loaded → List ℕ → List ℕ → List ℕ → Type 0
-IsLoaded loads.Formatted bytes old new = (length old < 262144) × IsEmpty new
-IsLoaded loads.Whole bytes old new = (length old ≡ 262144) × (bytes ≡ old) × (new ≡ old)
+IsLoaded loads.Formatted bytes old new = (length old < FILE_BYTES) × IsEmpty new
+IsLoaded loads.Whole bytes old new = (length old ≡ FILE_BYTES) × (bytes ≡ old) × (new ≡ old)
 
 -- the file is synced and ready for the next record
 pub record IsSettled (file : List ℕ) (files : List ℕ → Type 0) (areas : Areas) (last : Recovered) : Type 0 where

@@ -2,6 +2,7 @@
 use Rattle.std.specs.Prelude.{◌≡◌, ◌-◌, nat_le, nat_lt, ◌==◌, ℕ, zero, suc, ℤ, pos, Bool, true, ◌&&◌, not, if◌then◌else◌, Option, Some, None, List, [], ◌∷◌, length, map, take, drop, bytes_eq}
 use Rattle.std.specs.List.{find, list_any}
 use Rattle.std.specs.Int.{Width, w32, w64, byte_len, from_be_bytes, cast_signed}
+use Rattle.st_words.specs.declared.limits.TheConstants.{MAX_RECORD_BODY, MOMENT_LIMIT}
 use Rattle.st_words.specs.declared.kind.Kind.{Kind}
 use Rattle.st_words.specs.declared.kind.Kind.TheVariants.{Sint, Int, Dint, Lint, Usint, Uint, Udint, Ulint, Byte, Word, Dword, Lword, Time, Bool as Boolean}
 use Rattle.st_words.specs.Kinds.{row_of, is_signed, holds}
@@ -13,11 +14,11 @@ abbrev pub ◌>>=◌ : {A B : Type 0} → Option A → (A → Option B) → Opti
 None >>= f = None
 (Some x) >>= f = f x
 
--- the number in the first bytes, and the bytes behind it
+-- the number in the first bytes, and the bytes after it
 abbrev pub number_at : Width → List ℕ → Option (ℕ × List ℕ)
 number_at w bytes = if nat_lt (length bytes) (byte_len w) then None else Some (from_be_bytes w (take (byte_len w) bytes), drop (byte_len w) bytes)
 
--- what stands before the first such byte, and what stands behind it
+-- what stands before the first such byte, and what stands after it
 abbrev pub cut : ℕ → List ℕ → Option (List ℕ × List ℕ)
 cut mark [] = None
 cut mark (b ∷ bs) = if b == mark then Some ([], bs) else (cut mark bs >>= λ p. Some (b ∷ p.0, p.1))
@@ -29,7 +30,7 @@ all_kinds = Sint ∷ Int ∷ Dint ∷ Lint ∷ Usint ∷ Uint ∷ Udint ∷ Ulin
 unfoldable pub kind_of : List ℕ → Option Kind
 kind_of word = find (λ k. bytes_eq (row_of k).keyword word) all_kinds
 
--- a line, and the text behind it
+-- a line, and the text after it
 unfoldable pub line_at : List ℕ → Option (Line × List ℕ)
 line_at text = do
   word ← cut 32 text
@@ -41,7 +42,7 @@ line_at text = do
 abbrev pub number_of : Kind → ℕ → ℤ
 number_of k n = if is_signed (row_of k).sort then cast_signed (wide_of k) n else pos n
 
--- a value of the type, and the bytes behind it
+-- a value of the type, and the bytes after it
 unfoldable pub value_at : Kind → List ℕ → Option (Datum × List ℕ)
 value_at k bytes = do
   n ← number_at (wide_of k) bytes
@@ -52,7 +53,7 @@ pub record Variable : Type 0 where
   pub path : List ℕ
   pub value : Datum
 
--- a line and a value at the front of the two, and what is behind them
+-- a line and a value at the front of the two, and what is after them
 unfoldable pub variable_at : List ℕ → List ℕ → Option (Variable × List ℕ × List ℕ)
 variable_at text bytes = do
   line ← line_at text
@@ -76,7 +77,7 @@ are_distinct (x ∷ xs) = not (list_any (bytes_eq x) xs) && are_distinct xs
 abbrev pub moment_of : ℕ → Option ℕ
 moment_of n = if n == 0 then None else Some (n - 1)
 
--- the fields before the values: the moment, the layout text, and the bytes behind it
+-- the fields before the values: the moment, the layout text, and the bytes after it
 pub record Parts : Type 0 where
   pub moment : Option ℕ
   pub layout : List ℕ
@@ -86,19 +87,19 @@ unfoldable pub parts_at : List ℕ → Option Parts
 parts_at body = do
   code ← number_at w64 body
   size ← number_at w32 code.1
-  if nat_le code.0 4611686018427387904 && nat_le size.0 (length size.1)
+  if nat_le code.0 MOMENT_LIMIT && nat_le size.0 (length size.1)
       then Some (record { moment = moment_of code.0; layout = take size.0 size.1; rest = drop size.0 size.1 }) else None
 
 -- the record that a body spells, if it is one
 unfoldable pub decoded : List ℕ → Option Content
-decoded body = if nat_le (length body) 131059 then (do
+decoded body = if nat_le (length body) MAX_RECORD_BODY then (do
   parts ← parts_at body
   all ← variables_in (length parts.layout) parts.layout parts.rest
   if are_distinct (map (λ v. v.path) all) then Some (record { moment = parts.moment; layout = parts.layout; values = map (λ v. v.value) all }) else None) else None
 
--- ---- paths by their places
+-- ---- paths by their offsets
 
--- the path that begins at a place of a text: what stands there before the first space, or nothing
+-- the path that begins at an offset of a text: what stands there before the first space, or nothing
 abbrev pub first_word : Option (List ℕ × List ℕ) → List ℕ
 first_word None = []
 first_word (Some p) = p.0
@@ -106,7 +107,7 @@ first_word (Some p) = p.0
 abbrev pub path_from : List ℕ → ℕ → List ℕ
 path_from text start = first_word (cut 32 (drop start text))
 
--- the variables that a text and bytes spell, by the places of their lines and by their values
+-- the variables that a text and bytes spell, by the offsets of their lines and by their values
 pub record AreVariables (text bytes starts : List ℕ) (values : List Datum) : Type 0 where
   pub vs : List Variable
   pub read : variables_in (length text) text bytes ≡ Some vs

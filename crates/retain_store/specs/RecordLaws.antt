@@ -5,6 +5,7 @@ use Rattle.std.specs.List.{list_any, flat_map, AllByRecursion, IsDistinct}
 use Rattle.std.specs.Int.{w32, w64, to_be_bytes}
 use Rattle.std.proofs.lemmas.Bool.{and_parts, and_from, leb-true, le-leb, not-true, not_from_false, eqb-true, eqb-false, ne_eqb, or_parts, or_from, cases_Bool}
 use Rattle.std.proofs.lemmas.List.{take_at, drop_at, take-append-drop, length-append, length-take}
+use Rattle.st_words.specs.declared.limits.TheConstants.{MAX_RECORD_BODY, MOMENT_LIMIT}
 use Rattle.st_words.specs.declared.kind.Kind.{Kind}
 use Rattle.st_words.specs.Values.{IsHeld}
 use Rattle.retain_store.specs.Records.{Content, line_text, text_of, is_path_text, IsLayout, moment_code, value_bytes, record_bytes, IsRecord}
@@ -35,9 +36,9 @@ is_distinct (x ∷ xs) h = and_from (not (list_any (bytes_eq x) xs)) (are_distin
 -- ---- the fields before the values
 
 abbrev pub IsMoment : Option ℕ → Type 0
-IsMoment moment = IfSome moment (λ t. t < 4611686018427387904)
+IsMoment moment = IfSome moment (λ t. t < MOMENT_LIMIT)
 
-moment_takes : (n : ℕ) → n ≤ 4611686018427387904 → (moment_code (moment_of n) ≡ n) × IsMoment (moment_of n)
+moment_takes : (n : ℕ) → n ≤ MOMENT_LIMIT → (moment_code (moment_of n) ≡ n) × IsMoment (moment_of n)
 moment_takes n low = elim (cases_Bool (n == 0)) [
   | inl is ↦ let e : n ≡ 0 = eqb-true n 0 is in rw e (refl, tt)
   | inr not_is ↦ let some : 0 < n = let ne : n ≡ 0 → ⊥ = eqb-false n 0 not_is in omega arith in rw not_is (omega arith, omega arith)
@@ -47,7 +48,7 @@ moment_again : (moment : Option ℕ) → moment_of (moment_code moment) ≡ mome
 moment_again None = refl
 moment_again (Some t) = let other : ((t + 1) == 0) ≡ false = ne_eqb (t + 1) 0 (λ e. omega (arith, e)) in rw other (ap (λ (n : ℕ). Some n) (omega arith))
 
-moment_low : (moment : Option ℕ) → IsMoment moment → moment_code moment ≤ 4611686018427387904
+moment_low : (moment : Option ℕ) → IsMoment moment → moment_code moment ≤ MOMENT_LIMIT
 moment_low None h = omega arith
 moment_low (Some t) h = omega (arith, h)
 
@@ -59,11 +60,11 @@ body_parts : (moment : Option ℕ) (layout rest : List ℕ) → body_of moment l
 body_parts moment layout rest = simp append_assoc
 
 parts_made : (body : List ℕ) (code : ℕ) (after : List ℕ) (size : ℕ) (rest : List ℕ) (p : Parts) → IsBytes body → number_at w64 body ≡ Some (code, after) → number_at w32 after ≡ Some (size, rest)
-    → (nat_le code 4611686018427387904 && nat_le size (length rest)) ≡ true → record { moment = moment_of code; layout = take size rest; rest = drop size rest } ≡ p
+    → (nat_le code MOMENT_LIMIT && nat_le size (length rest)) ≡ true → record { moment = moment_of code; layout = take size rest; rest = drop size rest } ≡ p
     → (body ≡ body_of p.moment p.layout p.rest) × IsBytes p.rest × IsMoment p.moment
 parts_made body code after size rest p fits first second tests is =
-    let t = and_parts (nat_le code 4611686018427387904) (nat_le size (length rest)) tests in
-    let m = moment_takes code (leb-true code 4611686018427387904 t.0) in
+    let t = and_parts (nat_le code MOMENT_LIMIT) (nat_le size (length rest)) tests in
+    let m = moment_takes code (leb-true code MOMENT_LIMIT t.0) in
     let f = number_takes w64 (2 ^ 64) wide64 body (code, after) fits first in
     let s = number_takes w32 (2 ^ 32) wide32 after (size, rest) f.0.rest_fits second in
     let long : size ≤ length rest = leb-true size (length rest) t.1 in
@@ -75,16 +76,16 @@ parts_made body code after size rest p fits first second tests is =
 pub parts_take : (body : List ℕ) (p : Parts) → IsBytes body → parts_at body ≡ Some p → (body ≡ body_of p.moment p.layout p.rest) × IsBytes p.rest × IsMoment p.moment
 unfolding parts_at
 parts_take body p fits e =
-    let a = bind_some (number_at w64 body) (λ code. number_at w32 code.1 >>= λ size. cond (nat_le code.0 4611686018427387904 && nat_le size.0 (length size.1)) (Some (record { moment = moment_of code.0; layout = take size.0 size.1; rest = drop size.0 size.1 })) None) p e in
-    let b = bind_some (number_at w32 a.0.1) (λ size. cond (nat_le a.0.0 4611686018427387904 && nat_le size.0 (length size.1)) (Some (record { moment = moment_of a.0.0; layout = take size.0 size.1; rest = drop size.0 size.1 })) None) p a.2 in
-    let g = when_some (nat_le a.0.0 4611686018427387904 && nat_le b.0.0 (length b.0.1)) (record { moment = moment_of a.0.0; layout = take b.0.0 b.0.1; rest = drop b.0.0 b.0.1 }) p b.2 in
+    let a = bind_some (number_at w64 body) (λ code. number_at w32 code.1 >>= λ size. cond (nat_le code.0 MOMENT_LIMIT && nat_le size.0 (length size.1)) (Some (record { moment = moment_of code.0; layout = take size.0 size.1; rest = drop size.0 size.1 })) None) p e in
+    let b = bind_some (number_at w32 a.0.1) (λ size. cond (nat_le a.0.0 MOMENT_LIMIT && nat_le size.0 (length size.1)) (Some (record { moment = moment_of a.0.0; layout = take size.0 size.1; rest = drop size.0 size.1 })) None) p a.2 in
+    let g = when_some (nat_le a.0.0 MOMENT_LIMIT && nat_le b.0.0 (length b.0.1)) (record { moment = moment_of a.0.0; layout = take b.0.0 b.0.1; rest = drop b.0.0 b.0.1 }) p b.2 in
     parts_made body a.0.0 a.0.1 b.0.0 b.0.1 p fits a.1 b.1 g.0 g.1
 
 pub body_length : (moment : Option ℕ) (layout rest : List ℕ) → length (body_of moment layout rest) ≡ 12 + (length layout + length rest)
 body_length moment layout rest = ap length (body_parts moment layout rest) ∙ omega (arith, length-append layout rest)
 
 -- the length of a layout text fits into its field
-pub layout_below : (c : Content) → length (record_bytes c) ≤ 131059 → length c.layout < 2 ^ 32
+pub layout_below : (c : Content) → length (record_bytes c) ≤ MAX_RECORD_BODY → length c.layout < 2 ^ 32
 layout_below c short = omega (arith, body_length c.moment c.layout (flat_map value_bytes c.values))
 
 pub parts_again : (moment : Option ℕ) (layout rest : List ℕ) → IsMoment moment → length layout < 2 ^ 32 → parts_at (body_of moment layout rest) ≡ Some (record { moment = moment; layout = layout; rest = rest })
@@ -92,7 +93,7 @@ unfolding parts_at
 parts_again moment layout rest low short =
     let code = moment_low moment low in
     let small : moment_code moment < 2 ^ 64 = omega arith in
-    let early : nat_le (moment_code moment) 4611686018427387904 ≡ true = le-leb (moment_code moment) 4611686018427387904 code in
+    let early : nat_le (moment_code moment) MOMENT_LIMIT ≡ true = le-leb (moment_code moment) MOMENT_LIMIT code in
     let long : nat_le (length layout) (length (layout ++ rest)) ≡ true = le-leb (length layout) (length (layout ++ rest)) (omega (arith, length-append layout rest)) in
     ap parts_at (body_parts moment layout rest) ∙ rw (number_again w64 (2 ^ 64) wide64 (moment_code moment) (to_be_bytes w32 (length layout) ++ (layout ++ rest)) small, number_again w32 (2 ^ 32) wide32 (length layout) (layout ++ rest) short, early, long, take_at layout rest (length layout) refl, drop_at layout rest (length layout) refl, moment_again moment) refl
 
@@ -133,7 +134,7 @@ layout_of text vs is all once = record {
 
 -- ---- records
 
-record_made : (body : List ℕ) (p : Parts) (vs : List Variable) (c : Content) → length body ≤ 131059 → IsBytes body → parts_at body ≡ Some p → variables_in (length p.layout) p.layout p.rest ≡ Some vs
+record_made : (body : List ℕ) (p : Parts) (vs : List Variable) (c : Content) → length body ≤ MAX_RECORD_BODY → IsBytes body → parts_at body ≡ Some p → variables_in (length p.layout) p.layout p.rest ≡ Some vs
     → are_distinct (paths_of vs) ≡ true → record { moment = p.moment; layout = p.layout; values = map (λ v. v.value) vs } ≡ c → IsRecord body c
 record_made body p vs c short fits first second once is =
     let f = parts_take body p fits first in
@@ -149,11 +150,11 @@ record_made body p vs c short fits first second once is =
 pub of_decoded : (body : List ℕ) (c : Content) → IsBytes body → decoded body ≡ Some c → IsRecord body c
 unfolding decoded
 of_decoded body c fits e =
-    let s = when_kept (nat_le (length body) 131059) (parts_at body >>= λ parts. variables_in (length parts.layout) parts.layout parts.rest >>= λ all. cond (are_distinct (map (λ v. v.path) all)) (Some (record { moment = parts.moment; layout = parts.layout; values = map (λ v. v.value) all })) None) c e in
+    let s = when_kept (nat_le (length body) MAX_RECORD_BODY) (parts_at body >>= λ parts. variables_in (length parts.layout) parts.layout parts.rest >>= λ all. cond (are_distinct (map (λ v. v.path) all)) (Some (record { moment = parts.moment; layout = parts.layout; values = map (λ v. v.value) all })) None) c e in
     let a = bind_some (parts_at body) (λ parts. variables_in (length parts.layout) parts.layout parts.rest >>= λ all. cond (are_distinct (map (λ v. v.path) all)) (Some (record { moment = parts.moment; layout = parts.layout; values = map (λ v. v.value) all })) None) c s.1 in
     let b = bind_some (variables_in (length a.0.layout) a.0.layout a.0.rest) (λ all. cond (are_distinct (map (λ v. v.path) all)) (Some (record { moment = a.0.moment; layout = a.0.layout; values = map (λ v. v.value) all })) None) c a.2 in
     let g = when_some (are_distinct (paths_of b.0)) (record { moment = a.0.moment; layout = a.0.layout; values = map (λ v. v.value) b.0 }) c b.2 in
-    record_made body a.0 b.0 c (leb-true (length body) 131059 s.0) fits a.1 b.1 g.0 g.1
+    record_made body a.0 b.0 c (leb-true (length body) MAX_RECORD_BODY s.0) fits a.1 b.1 g.0 g.1
 
 -- a record is decoded, to its content
 pub decoded_of : (body : List ℕ) (c : Content) → IsRecord body c → decoded body ≡ Some c
@@ -161,7 +162,7 @@ unfolding decoded
 decoded_of body c h =
     let layout = h.sound.layout in
     let same : body ≡ body_of c.moment c.layout (flat_map value_bytes c.values) = h.spelled in
-    let short : nat_le (length body) 131059 ≡ true = le-leb (length body) 131059 h.short in
+    let short : nat_le (length body) MAX_RECORD_BODY ≡ true = le-leb (length body) MAX_RECORD_BODY h.short in
     let long : length c.layout < 2 ^ 32 = layout_below c (omega (arith, h.short, ap length h.spelled)) in
     let first : parts_at body ≡ Some (record { moment = c.moment; layout = c.layout; rest = flat_map value_bytes c.values }) = ap parts_at same ∙ parts_again c.moment c.layout (flat_map value_bytes c.values) h.sound.moment long in
     let all = variables_again layout.lines c.values (length c.layout) layout.typed layout.paths h.sound.values (omega (arith, ap length layout.spelled)) in

@@ -2,6 +2,7 @@
 use Rattle.std.specs.Prelude.{◌≡◌, ◌+◌, ◌<◌, ◌≤◌, nat_le, ℕ, Bool, false, true, ◌&&◌, if◌then◌else◌, Option, Some, None, IfSome, List, [], ◌∷◌, ◌++◌, length, map, bytes_eq, codes}
 use Rattle.std.specs.List.{flat_map, list_all, AllByRecursion, IsDistinct}
 use Rattle.std.specs.Int.{Width, w8, w16, w32, w64, to_be_bytes, cast_unsigned}
+use Rattle.st_words.specs.declared.limits.TheConstants.{MAX_RECORD_BODY, MOMENT_LIMIT}
 use Rattle.st_words.specs.declared.kind.Kind.{Kind}
 use Rattle.st_words.specs.Kinds.{row_of}
 use Rattle.st_words.specs.Values.{Datum, IsHeld}
@@ -58,13 +59,13 @@ abbrev pub record_bytes : Content → List ℕ
 record_bytes c = to_be_bytes w64 (moment_code c.moment) ++ to_be_bytes w32 (length c.layout) ++ c.layout ++ flat_map value_bytes c.values
 
 -- what a record may hold: a moment below its limit, values that their types hold, and a line for each of them
-pub record IsSound (c : Content) : Type 0 where
-  pub moment : IfSome c.moment (λ t. t < 4611686018427387904)
+pub record IsRecordable (c : Content) : Type 0 where
+  pub moment : IfSome c.moment (λ t. t < MOMENT_LIMIT)
   pub layout : IsLayout c.layout (map (λ d. d.kind) c.values)
   pub values : AllByRecursion IsHeld c.values
 
 -- a body of an area that is a record of this content
 pub record IsRecord (body : List ℕ) (c : Content) : Type 0 where
-  pub short : length body ≤ 131059
-  pub sound : IsSound c
+  pub short : length body ≤ MAX_RECORD_BODY
+  pub sound : IsRecordable c
   pub spelled : body ≡ record_bytes c

@@ -1,6 +1,8 @@
 -- What a retain file is recovered to.
-use Rattle.std.specs.Prelude.{◌+◌, ◌==◌, nat_lt, nat_le, ℕ, Option, Some, None, List, length, take, drop, slice_index, if◌then◌else◌}
+use Rattle.std.specs.Prelude.{◌+◌, ◌-◌, ◌==◌, nat_lt, nat_le, ℕ, Option, Some, None, List, length, take, drop, slice_index, if◌then◌else◌}
 use Rattle.std.specs.Int.{w32, w64, from_be_bytes}
+use Rattle.st_words.specs.declared.limits.TheConstants.{MAX_RECORD_BODY}
+use Rattle.retain_store.specs.declared.format.TheConstants.{AREA_BYTES, FILE_BYTES, HEADER_BYTES, OPEN_GATE}
 use Rattle.retain_store.specs.Records.{Content}
 use Rattle.retain_store.specs.Reading.{decoded}
 
@@ -22,22 +24,22 @@ abbrev pub area_with : ℕ → Option Content → Area
 area_with generation None = Damaged
 area_with generation (Some content) = if generation == 0 then Damaged else Open generation content
 
--- the body is the next bytes behind the header, and at most 131,059
+-- the body is the next bytes after the header, and not too long
 abbrev pub area_of_parts : ℕ → ℕ → List ℕ → Area
 area_of_parts size generation behind =
-    if nat_le size 131059 then area_with generation (decoded (take size (drop 12 behind))) else Damaged
+    if nat_le size MAX_RECORD_BODY then area_with generation (decoded (take size (drop HEADER_BYTES behind))) else Damaged
 
--- behind an open gate: 8 bytes of the generation, 4 of the body's length, and the body
+-- after an open gate: 8 bytes of the generation, 4 of the body's length, and the body
 unfoldable pub opened : List ℕ → Area
 opened behind = area_of_parts (from_be_bytes w32 (take 4 (drop 8 behind))) (from_be_bytes w64 (take 8 behind)) behind
 
--- by the gate and what stands behind it: 0xA5 is open, all else closed
+-- by the gate and what stands after it: 0xA5 is open, all else closed
 abbrev pub gated : ℕ → List ℕ → Area
-gated gate behind = if gate == 165 then opened behind else Closed
+gated gate behind = if gate == OPEN_GATE then opened behind else Closed
 
--- the area of 131,072 bytes at this place of a file
+-- the area at this offset of a file
 unfoldable pub area : ℕ → List ℕ → Area
-area at file = gated (slice_index file at) (take 131071 (drop (at + 1) file))
+area at file = gated (slice_index file at) (take (AREA_BYTES - 1) (drop (at + 1) file))
 
 -- the one open area, or of two that of the greater generation
 abbrev pub chosen : Area → Area → Recovered
@@ -52,6 +54,6 @@ chosen (Open g c) (Open h d) = if g == h then Refused else if nat_lt g h then Fo
 -- A file holds a record only where it has exactly its two areas.
 unfoldable pub recovered : List ℕ → Recovered
 recovered file =
-    if nat_lt 262144 (length file) then TooLong
-    else if nat_lt (length file) 262144 then Nothing
-    else chosen (area 0 file) (area 131072 file)
+    if nat_lt FILE_BYTES (length file) then TooLong
+    else if nat_lt (length file) FILE_BYTES then Nothing
+    else chosen (area 0 file) (area AREA_BYTES file)

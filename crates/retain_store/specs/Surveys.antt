@@ -6,7 +6,7 @@ use Rattle.retain_store.specs.declared.surveying.Choice.{Choice}
 use Rattle.retain_store.specs.declared.surveying.Choice.TheVariants as choices
 use Rattle.retain_store.specs.declared.area.Gate.{Gate}
 use Rattle.retain_store.specs.declared.area.Gate.TheVariants as gates
-use Rattle.retain_store.specs.Records.{Content, IsSound}
+use Rattle.retain_store.specs.Records.{Content, IsRecordable}
 use Rattle.retain_store.specs.Recovered.{Area, Closed, Damaged, Open, gated, Recovered, Nothing, Found, Refused, chosen}
 
 -- the area of these bytes
@@ -24,12 +24,12 @@ abbrev pub held : ℕ → Content → Recovered
 held generation content = if generation == 0 then Nothing else Found generation content
 
 -- a record of a generation, if there is one, is sound
-abbrev pub IsSoundAt : ℕ → Content → Type 0
-IsSoundAt generation content = 0 < generation → IsSound content
+abbrev pub IsRecordableAt : ℕ → Content → Type 0
+IsRecordableAt generation content = 0 < generation → IsRecordable content
 
 -- what was read of an open area is sound
 abbrev pub LooksSound : Look → Content → Type 0
-LooksSound (looks.Open generation) content = IsSound content
+LooksSound (looks.Open generation) content = IsRecordable content
 LooksSound other content = Unit {0}
 
 -- the gate of the area that was seen so

@@ -3,50 +3,43 @@
 ghost use Rattle.std.specs.Prelude.{◌≡◌, ◌+◌, ◌-◌, ◌<◌, ◌^◌, Some, length, drop, OnOk};
 ghost use Rattle.disk.specs.Disk.{Only, Counts, Torn, overwritten};
 ghost use Rattle.disk.specs.Runs.{LeavesOnly};
+ghost use Rattle.retain_store.specs.declared.format.TheConstants.{HEADER_BYTES};
 ghost use Rattle.retain_store.specs.Records.{Content};
 ghost use Rattle.retain_store.specs.Reading.{decoded};
 ghost use Rattle.retain_store.specs.Recovered.{recovered, Found, Nothing};
 ghost use Rattle.retain_store.specs.Areas.{at_of, other_of, closed_areas, areas_after_save};
-ghost use Rattle.retain_store.specs.Areas.{IsPlace, IsOpen, IsShut, GateIs, IsSpare, IsReady, IsClosedNow};
-ghost use Rattle.retain_store.specs.Areas.{IsImage, IsSaved, IsEither, IsZeros, IsEmpty};
+ghost use Rattle.retain_store.specs.Areas.{IsHalf, IsOpen, IsShut, GateIs, IsSpare, IsReady, IsClosedNow};
+ghost use Rattle.retain_store.specs.Areas.{IsFrame, IsSaved, IsEither, IsZeros, IsEmpty};
 
+use crate::format::{AREA_BYTES, CLOSED_GATE, FILE_BYTES, OPEN_GATE};
 use disk::{Disk, DiskError};
-
-/// The length of an area in bytes.
-pub(crate) const AREA: usize = 131_072;
-
-/// The mark of an open gate.
-pub(crate) const OPEN: u8 = 0xA5;
-
-/// The mark that closes a gate. Any byte but the mark of an open gate is a closed one.
-const CLOSED: u8 = 0;
 
 /// One of the two areas.
 #[derive(Clone, Copy, Debug, PartialEq, Eq)]
-pub(crate) enum Place {
+pub(crate) enum Half {
     First,
     Second,
 }
 
-impl Place {
+impl Half {
     /// Where it begins, in bytes.
     pub(crate) fn at(self) -> u64
         ensures at { result ≡ at_of self }
-        ensures place { IsPlace result }
+        ensures half { IsHalf result }
     {
         match self {
-            Place::First => 0,
-            Place::Second => AREA as u64,
+            Half::First => 0,
+            Half::Second => AREA_BYTES as u64,
         }
     }
 
     /// The other area.
-    pub(crate) fn other(self) -> Place
+    pub(crate) fn other(self) -> Half
         ensures { result ≡ other_of self }
     {
         match self {
-            Place::First => Place::Second,
-            Place::Second => Place::First,
+            Half::First => Half::Second,
+            Half::Second => Half::First,
         }
     }
 }
@@ -62,7 +55,7 @@ pub(crate) enum Gate {
 #[derive(Clone, Copy, Debug, PartialEq, Eq)]
 pub(crate) struct Areas {
     /// The area that the next record goes to. It does not hold the last one.
-    pub(crate) target: Place,
+    pub(crate) target: Half,
     pub(crate) target_gate: Gate,
     /// The gate of the area that holds the last record, if there is one.
     pub(crate) other_gate: Gate,
@@ -76,7 +69,7 @@ impl Areas {
         ensures { result ≡ closed_areas }
     {
         Areas {
-            target: Place::First,
+            target: Half::First,
             target_gate: Gate::Closed,
             other_gate: Gate::Closed,
             generation: 0,
@@ -113,9 +106,9 @@ pub(crate) fn write_synced<D: Disk>(disk: &mut D, at: u64, bytes: &[u8]) -> Resu
     disk.sync()
 }
 
-/// Closes the open gate there, where what stands behind it doesn't count.
+/// Closes the open gate there, where what stands after it doesn't count.
 pub(crate) fn close<D: Disk>(disk: &mut D, at: u64) -> Result<(), DiskError>
-    requires place { IsPlace at }
+    requires half { IsHalf at }
     requires spare { D.tells → IsSpare at (D.seen disk.old) }
     requires open { D.tells → IsOpen at (D.seen disk.old) }
     requires synced { D.tells → Only (D.seen disk.old) (D.may_leave disk.old) }
@@ -128,73 +121,73 @@ pub(crate) fn close<D: Disk>(disk: &mut D, at: u64) -> Result<(), DiskError>
         (λ file. recovered file ≡ recovered (D.seen disk.old)) }
     ensures count { Counts result (D.failure_count disk.old) (D.failure_count disk.new) }
 {
-    write_synced(disk, at, &[CLOSED])?;
+    write_synced(disk, at, &[CLOSED_GATE])?;
     Ok(())
 }
 
-/// Writes an image behind a gate, and syncs it.
-fn write_behind<D: Disk>(disk: &mut D, at: u64, image: &[u8]) -> Result<(), DiskError>
-    requires place { IsPlace at }
+/// Writes a frame after a gate, and syncs it.
+fn write_behind<D: Disk>(disk: &mut D, at: u64, frame: &[u8]) -> Result<(), DiskError>
+    requires half { IsHalf at }
     requires synced { D.tells → Only (D.seen disk.old) (D.may_leave disk.old) }
 
     ensures written { D.tells →
-        OnOk result (D.seen disk.new ≡ overwritten (D.seen disk.old) (at + 1) image.now) }
+        OnOk result (D.seen disk.new ≡ overwritten (D.seen disk.old) (at + 1) frame.now) }
     ensures synced { D.tells → OnOk result (Only (D.seen disk.new) (D.may_leave disk.new)) }
     ensures any_moment { D.tells → LeavesOnly D.left_since D.may_leave disk.old disk.new
-        (Torn (at + 1) (length image.now) (D.seen disk.old)) }
+        (Torn (at + 1) (length frame.now) (D.seen disk.old)) }
     ensures count { Counts result (D.failure_count disk.old) (D.failure_count disk.new) }
 {
-    write_synced(disk, at + 1, image)
+    write_synced(disk, at + 1, frame)
 }
 
-/// Writes an image behind a closed gate, and opens the gate over it once it is synced.
+/// Writes a frame after a closed gate, and opens the gate over it once it is synced.
 pub(crate) fn fill<D: Disk>(
     disk: &mut D,
     at: u64,
     generation: u64,
-    image: &[u8],
+    frame: &[u8],
 ) -> Result<(), DiskError>
-    requires place { IsPlace at }
-    requires image { IsImage generation image.now }
+    requires half { IsHalf at }
+    requires frame { IsFrame generation frame.now }
     requires ready { D.tells → IsReady generation at (D.seen disk.old) }
     requires shut { D.tells → IsShut at (D.seen disk.old) }
     requires synced { D.tells → Only (D.seen disk.old) (D.may_leave disk.old) }
 
-    ensures saved { D.tells → OnOk result ((content : Content) → decoded (drop 12 image.now) ≡ Some content
+    ensures saved { D.tells → OnOk result ((content : Content) → decoded (drop HEADER_BYTES frame.now) ≡ Some content
         → IsSaved generation at content (D.seen disk.old) (D.seen disk.new)) }
     ensures synced { D.tells → OnOk result (Only (D.seen disk.new) (D.may_leave disk.new)) }
 
     // A stop at any moment leaves the last record or the new one.
-    ensures any_moment { D.tells → (content : Content) → decoded (drop 12 image.now) ≡ Some content
+    ensures any_moment { D.tells → (content : Content) → decoded (drop HEADER_BYTES frame.now) ≡ Some content
         → LeavesOnly D.left_since D.may_leave disk.old disk.new
         (λ file. IsEither (recovered (D.seen disk.old)) (Found generation content) (recovered file)) }
     ensures count { Counts result (D.failure_count disk.old) (D.failure_count disk.new) }
 {
-    write_behind(disk, at, image)?;
-    write_synced(disk, at, &[OPEN])?;
+    write_behind(disk, at, frame)?;
+    write_synced(disk, at, &[OPEN_GATE])?;
     Ok(())
 }
 
-/// Writes an image into that area, whose gate is closed first where it is open.
-pub(crate) fn write_image<D: Disk>(
+/// Writes a frame into that area, whose gate is closed first where it is open.
+pub(crate) fn write_frame<D: Disk>(
     disk: &mut D,
     at: u64,
     gate: Gate,
     generation: u64,
-    image: &[u8],
+    frame: &[u8],
 ) -> Result<(), DiskError>
-    requires place { IsPlace at }
-    requires image { IsImage generation image.now }
+    requires half { IsHalf at }
+    requires frame { IsFrame generation frame.now }
     requires ready { D.tells → IsReady generation at (D.seen disk.old) }
     requires gate { D.tells → GateIs gate at (D.seen disk.old) }
     requires synced { D.tells → Only (D.seen disk.old) (D.may_leave disk.old) }
 
-    ensures saved { D.tells → OnOk result ((content : Content) → decoded (drop 12 image.now) ≡ Some content
+    ensures saved { D.tells → OnOk result ((content : Content) → decoded (drop HEADER_BYTES frame.now) ≡ Some content
         → IsSaved generation at content (D.seen disk.old) (D.seen disk.new)) }
     ensures synced { D.tells → OnOk result (Only (D.seen disk.new) (D.may_leave disk.new)) }
 
     // A stop at any moment leaves the last record or the new one.
-    ensures any_moment { D.tells → (content : Content) → decoded (drop 12 image.now) ≡ Some content
+    ensures any_moment { D.tells → (content : Content) → decoded (drop HEADER_BYTES frame.now) ≡ Some content
         → LeavesOnly D.left_since D.may_leave disk.old disk.new
         (λ file. IsEither (recovered (D.seen disk.old)) (Found generation content) (recovered file)) }
     ensures count { Counts result (D.failure_count disk.old) (D.failure_count disk.new) }
@@ -202,11 +195,11 @@ pub(crate) fn write_image<D: Disk>(
     match gate {
         Gate::Open => {
             close(disk, at)?;
-            fill(disk, at, generation, image)?;
+            fill(disk, at, generation, frame)?;
             Ok(())
         }
         Gate::Closed => {
-            fill(disk, at, generation, image)?;
+            fill(disk, at, generation, frame)?;
             Ok(())
         }
     }
@@ -215,7 +208,7 @@ pub(crate) fn write_image<D: Disk>(
 /// Makes a file that is too short one of two closed areas.
 pub(crate) fn format<D: Disk>(disk: &mut D, zeros: &[u8]) -> Result<(), DiskError>
     requires zeros { IsZeros zeros.now }
-    requires short { D.tells → length (D.seen disk.old) < 262144 }
+    requires short { D.tells → length (D.seen disk.old) < FILE_BYTES }
     requires synced { D.tells → Only (D.seen disk.old) (D.may_leave disk.old) }
 
     ensures empty { D.tells → OnOk result (IsEmpty (D.seen disk.new)) }
@@ -227,6 +220,6 @@ pub(crate) fn format<D: Disk>(disk: &mut D, zeros: &[u8]) -> Result<(), DiskErro
     ensures count { Counts result (D.failure_count disk.old) (D.failure_count disk.new) }
 {
     write_synced(disk, 0, zeros)?;
-    write_synced(disk, 262_143, &[CLOSED])?;
+    write_synced(disk, FILE_BYTES as u64 - 1, &[CLOSED_GATE])?;
     Ok(())
 }

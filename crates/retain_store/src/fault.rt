@@ -21,7 +21,7 @@ pub enum StoreFault {
     /// The generations are used up.
     #[error("S4")]
     Generations,
-    /// Want of memory, in `open` alone.
+    /// Out of memory, in `open` alone.
     #[error("S5")]
     NoMemory,
     /// A save has failed since the store was opened.

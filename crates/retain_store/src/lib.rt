@@ -4,7 +4,8 @@
 
 mod area;
 mod fault;
-mod image;
+mod format;
+mod frame;
 mod laws;
 mod line;
 mod loading;
@@ -18,6 +19,7 @@ mod surveying;
 mod value_bytes;
 
 pub use fault::StoreFault;
+pub use format::FILE_BYTES;
 pub use laws::{records_have_one_spelling, values_have_their_width};
 pub use record::Record;
 pub use store::Store;

@@ -31,7 +31,7 @@ pub(crate) struct Line<'a> {
     pub(crate) kind: Kind,
 }
 
-/// The line at the front of the text, and the text behind it.
+/// The line at the front of the text, and the text after it.
 #[tactic(auto, unfolding(crate::specs::Reading::line_at))]
 pub(crate) fn line_at(text: &[u8]) -> Option<(Line<'_>, &[u8])>
     ensures { option_map (λ p. (record { path = p.0.path.now; kind = p.0.kind }, p.1.now)) result ≡ line_at text.now }
@@ -45,15 +45,15 @@ pub(crate) fn line_at(text: &[u8]) -> Option<(Line<'_>, &[u8])>
     Some((Line { path, kind }, behind))
 }
 
-/// What stands before the first such byte, and what stands behind it.
+/// What stands before the first such byte, and what stands after it.
 pub(crate) fn cut(mark: u8, bytes: &[u8]) -> Option<(&[u8], &[u8])>
     ensures { option_map (λ p. (p.0.now, p.1.now)) result ≡ cut mark bytes.now }
 {
-    let end = place_of(mark, bytes)?;
+    let end = position_of(mark, bytes)?;
     Some((&bytes[..end], &bytes[end + 1..]))
 }
 
-fn place_of(mark: u8, bytes: &[u8]) -> Option<usize>
+fn position_of(mark: u8, bytes: &[u8]) -> Option<usize>
     ensures { result ≡ position (λ byte. byte == mark) bytes.now }
 {
     bytes.iter().position(|byte| *byte == mark)

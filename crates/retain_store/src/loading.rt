@@ -1,22 +1,20 @@
 //! The device steps of opening a store.
 
-ghost use Rattle.std.specs.Prelude.{◌≡◌, length, take, IfOk, IfErr, OnOk, MatchResult};
+ghost use Rattle.std.specs.Prelude.{◌≡◌, ◌-◌, length, take, IfOk, IfErr, OnOk, MatchResult};
 ghost use Rattle.disk.specs.Disk.{Only, Counts};
 ghost use Rattle.disk.specs.Runs.{LeavesOnly};
 ghost use Rattle.retain_store.specs.Recovered.{recovered};
 ghost use Rattle.retain_store.specs.Areas.{IsZeros};
-ghost use Rattle.retain_store.specs.Surveys.{held, IsSoundAt};
+ghost use Rattle.retain_store.specs.Surveys.{held, IsRecordableAt};
 ghost use Rattle.retain_store.specs.Opening.{IsSettled, IsLoaded, IsOfFile, RefusesFor, CountsFault};
 
-use crate::area::{AREA, Areas, format};
+use crate::area::{Areas, format};
 use crate::fault::StoreFault;
+use crate::format::{AREA_BYTES, FILE_BYTES};
 use crate::paths::LineRoom;
 use crate::record::Record;
 use crate::surveying::survey;
 use disk::{Disk, DiskError};
-
-/// The length of a file with its two areas, in bytes.
-pub(crate) const FILE: usize = 2 * AREA;
 
 /// Syncs the file, and tells its length.
 fn synced_len<D: Disk>(disk: &mut D) -> Result<u64, DiskError>
@@ -36,11 +34,11 @@ fn synced_len<D: Disk>(disk: &mut D) -> Result<u64, DiskError>
 
 /// Reads one area after the other, of a file that is synced.
 fn read_areas<D: Disk>(disk: &mut D, file: &mut [u8]) -> Result<(), DiskError>
-    requires room { length file.old ≡ 262144 }
-    requires whole { D.tells → length (D.seen disk.old) ≡ 262144 }
+    requires room { length file.old ≡ FILE_BYTES }
+    requires whole { D.tells → length (D.seen disk.old) ≡ FILE_BYTES }
     requires synced { D.tells → Only (D.seen disk.old) (D.may_leave disk.old) }
 
-    ensures length { length file.new ≡ 262144 }
+    ensures length { length file.new ≡ FILE_BYTES }
     ensures value { D.tells → OnOk result (file.new ≡ D.seen disk.old) }
     ensures seen { D.tells → D.seen disk.new ≡ D.seen disk.old }
     ensures synced { D.tells → Only (D.seen disk.new) (D.may_leave disk.new) }
@@ -50,9 +48,9 @@ fn read_areas<D: Disk>(disk: &mut D, file: &mut [u8]) -> Result<(), DiskError>
         LeavesOnly D.left_since D.may_leave disk.old disk.new (λ file. file ≡ D.seen disk.old) }
     ensures count { Counts result (D.failure_count disk.old) (D.failure_count disk.new) }
 {
-    let (first, second) = file.split_at_mut(AREA);
+    let (first, second) = file.split_at_mut(AREA_BYTES);
     disk.read(0, first)?;
-    disk.read(AREA as u64, second)?;
+    disk.read(AREA_BYTES as u64, second)?;
     Ok(())
 }
 
@@ -67,10 +65,10 @@ enum Loaded {
 
 /// Brings the file to its two areas, and reads it where it had them.
 fn load<D: Disk>(disk: &mut D, file: &mut [u8]) -> Result<Loaded, StoreFault>
-    requires room { length file.old ≡ 262144 }
-    requires zeros { IsZeros (take 262143 file.old) }
+    requires room { length file.old ≡ FILE_BYTES }
+    requires zeros { IsZeros (take (FILE_BYTES - 1) file.old) }
 
-    ensures length { length file.new ≡ 262144 }
+    ensures length { length file.new ≡ FILE_BYTES }
     ensures found { D.tells → IfOk result (λ loaded. IsLoaded loaded file.new (D.seen disk.old) (D.seen disk.new)) }
     ensures synced { D.tells → OnOk result (Only (D.seen disk.new) (D.may_leave disk.new)) }
     ensures faults { IfErr result IsOfFile }
@@ -83,11 +81,11 @@ fn load<D: Disk>(disk: &mut D, file: &mut [u8]) -> Result<Loaded, StoreFault>
         (λ fault. CountsFault fault (D.failure_count disk.old) (D.failure_count disk.new)) }
 {
     let len = synced_len(disk)?;
-    if len > FILE as u64 {
+    if len > FILE_BYTES as u64 {
         return Err(StoreFault::TooLong);
     }
-    if len < FILE as u64 {
-        format(disk, &file[..FILE - 1])?;
+    if len < FILE_BYTES as u64 {
+        format(disk, &file[..FILE_BYTES - 1])?;
         return Ok(Loaded::Formatted);
     }
     read_areas(disk, file)?;
@@ -102,11 +100,11 @@ pub(crate) fn recover<D: Disk>(
     next: &mut Record,
     lines: &mut LineRoom,
 ) -> Result<Areas, StoreFault>
-    requires room { length file.old ≡ 262144 }
-    requires zeros { IsZeros (take 262143 file.old) }
+    requires room { length file.old ≡ FILE_BYTES }
+    requires zeros { IsZeros (take (FILE_BYTES - 1) file.old) }
 
     ensures found { D.tells → IfOk result (λ areas. held areas.generation last.new ≡ recovered (D.seen disk.old)) }
-    ensures sound { IfOk result (λ areas. IsSoundAt areas.generation last.new) }
+    ensures sound { IfOk result (λ areas. IsRecordableAt areas.generation last.new) }
     ensures settled { D.tells → IfOk result (λ areas.
         IsSettled (D.seen disk.new) (D.may_leave disk.new) areas (held areas.generation last.new)) }
     ensures faults { IfErr result IsOfFile }

@@ -4,10 +4,9 @@ ghost use Rattle.std.specs.Prelude.{◌≡◌, option_map};
 ghost use Rattle.std.specs.Int.{w32, w64};
 ghost use Rattle.retain_store.specs.Reading.{moment_of, number_at, parts_at};
 
-/// The greatest moment plus 1, in milliseconds.
-const MOST_MOMENT_CODE: u64 = 4_611_686_018_427_387_904;
+use st_words::limits::MOMENT_LIMIT;
 
-/// A moment, a layout text, and the bytes behind them.
+/// A moment, a layout text, and the bytes after them.
 #[derive(Clone, Copy)]
 pub(crate) struct Parts<'a> {
     pub(crate) moment: Option<u64>,
@@ -15,7 +14,7 @@ pub(crate) struct Parts<'a> {
     pub(crate) rest: &'a [u8],
 }
 
-/// The fields at the front of a body, and the bytes behind them.
+/// The fields at the front of a body, and the bytes after them.
 #[tactic(auto, unfolding(crate::specs::Reading::parts_at))]
 pub(crate) fn parts_at(body: &[u8]) -> Option<Parts<'_>>
     ensures { option_map (λ p. record { moment = p.moment; layout = p.layout.now; rest = p.rest.now }) result ≡ parts_at body.now }
@@ -23,7 +22,7 @@ pub(crate) fn parts_at(body: &[u8]) -> Option<Parts<'_>>
     let (code, behind) = u64_at(body)?;
     let (size, behind) = u32_at(behind)?;
     let size = size as usize;
-    if MOST_MOMENT_CODE < code {
+    if MOMENT_LIMIT < code {
         return None;
     }
     if behind.len() < size {

@@ -1,4 +1,4 @@
-//! Paths of a layout text, by the places where their lines begin.
+//! Paths of a layout text, by the offsets where their lines begin.
 
 ghost use Rattle.std.specs.Prelude.{◌≡◌, ◌≤◌, length, map};
 ghost use Rattle.std.specs.Vec.{vec_capacity};
@@ -7,30 +7,28 @@ ghost use Rattle.std.specs.Cmp.Lexicographic.{slice_cmp};
 ghost use Rattle.std.specs.Ordering.{nat_cmp};
 ghost use Rattle.retain_store.specs.Reading.{are_distinct, neighbours_differ, path_from};
 
+use crate::format::MAX_LINES;
 use crate::line::cut;
 use std::alloc::{AllocError, Global};
 
-/// As many lines as a layout text may have: the longest has 131,047 bytes, and a line at least 6.
-pub(crate) const MOST_LINES: usize = 21_841;
-
-/// Room for the places of the lines of any layout text, as offsets in bytes.
+/// Room for the offsets of the lines of any layout text, in bytes.
 #[derive(Drop)]
 pub(crate) struct LineRoom {
     pub(crate) starts: Vec<u32>,
 
-    ghost room: { 21841 ≤ vec_capacity starts },
+    ghost room: { MAX_LINES ≤ vec_capacity starts },
 }
 
 impl LineRoom {
     /// It takes memory once; `AllocError` where there is none.
     pub(crate) fn new(alloc: Global) -> Result<LineRoom, AllocError> {
         Ok(LineRoom {
-            starts: Vec::with_capacity(alloc, MOST_LINES)?,
+            starts: Vec::with_capacity(alloc, MAX_LINES)?,
         })
     }
 }
 
-/// Whether no two of the lines that begin at these places have one path. It sorts the places by their paths, in n log n
+/// Whether no two of the lines that begin at these offsets have one path. It sorts the offsets by their paths, in n log n
 /// steps for n lines, and takes no memory.
 pub(crate) fn are_distinct(text: &[u8], starts: &mut [u32]) -> bool
     ensures { result ≡ are_distinct (map (path_from text.now) starts.old) }
@@ -60,7 +58,7 @@ fn neighbours_differ(text: &[u8], starts: &[u32]) -> bool
     true
 }
 
-/// The path of the line that begins at this place, or nothing where there is none.
+/// The path of the line that begins at this offset, or nothing where there is none.
 fn path_from(text: &[u8], start: u32) -> &[u8]
     ensures { result.now ≡ path_from text.now start }
 {

@@ -2,6 +2,7 @@
 
 ghost use Rattle.std.specs.Prelude.{◌≡◌, ◌≤◌, ◌<◌, ◌++◌, ◌∷◌, [], length, option_map, IsTrue, false, None};
 ghost use Rattle.std.specs.Vec.{vec_len, vec_capacity};
+ghost use Rattle.retain_store.specs.declared.format.TheConstants.{MAX_LAYOUT_BYTES, MAX_LINES};
 ghost use Rattle.retain_store.specs.Reading.{AreVariables, variable_at, variables_in};
 
 use crate::line::line_at;
@@ -23,13 +24,13 @@ pub(crate) fn read_variables(
     starts: &mut Vec<u32>,
     values: &mut Vec<Value>,
 ) -> bool
-    requires short { length text.now ≤ 131047 }
-    requires starts_room { 21841 ≤ vec_capacity starts.old }
-    requires values_room { 21841 ≤ vec_capacity values.old }
+    requires short { length text.now ≤ MAX_LAYOUT_BYTES }
+    requires starts_room { MAX_LINES ≤ vec_capacity starts.old }
+    requires values_room { MAX_LINES ≤ vec_capacity values.old }
     ensures yes { IsTrue result → AreVariables text.now bytes.now starts.new.items values.new.items }
     ensures no { result ≡ false → variables_in (length text.now) text.now bytes.now ≡ None }
-    ensures starts_room { 21841 ≤ vec_capacity starts.new }
-    ensures values_room { 21841 ≤ vec_capacity values.new }
+    ensures starts_room { MAX_LINES ≤ vec_capacity starts.new }
+    ensures values_room { MAX_LINES ≤ vec_capacity values.new }
 {
     starts.clear();
     values.clear();
@@ -48,7 +49,7 @@ pub(crate) fn read_variables(
     bytes_left.is_empty()
 }
 
-/// The line at the front of the text and the value at the front of the bytes, and what stands behind them.
+/// The line at the front of the text and the value at the front of the bytes, and what stands after them.
 #[tactic(auto, unfolding(crate::specs::Reading::variable_at))]
 fn variable_at<'a>(text: &'a [u8], bytes: &'a [u8]) -> Option<(Variable<'a>, &'a [u8], &'a [u8])>
     ensures { option_map (λ p. (record { path = p.0.path.now; value = p.0.value }, p.1.now, p.2.now)) result ≡ variable_at text.now bytes.now }

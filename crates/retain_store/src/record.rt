@@ -2,22 +2,18 @@
 
 ghost use Rattle.std.specs.Prelude.{◌≡◌, ◌≤◌, [], length, nat_lt, IfOk, IsTrue, false, None, Some};
 ghost use Rattle.std.specs.Vec.{vec_capacity};
-ghost use Rattle.retain_store.specs.Records.{Content, IsSound, record_bytes};
+ghost use Rattle.retain_store.specs.Records.{Content, IsRecordable, record_bytes};
 ghost use Rattle.retain_store.specs.Reading.{decoded};
 ghost use Rattle.retain_store.specs.Rooms.{HasRoom};
 
+use crate::format::{MAX_LAYOUT_BYTES, MAX_LINES};
 use crate::parts::parts_at;
-use crate::paths::{LineRoom, MOST_LINES, are_distinct};
+use crate::paths::{LineRoom, are_distinct};
 use crate::reading::read_variables;
 use st_types::Value;
+use st_words::limits::MAX_RECORD_BODY;
 use std::alloc::{AllocError, Global};
 use std::marker::Model;
-
-/// The longest body of a record, in bytes.
-pub(crate) const MOST_BODY: usize = 131_059;
-
-/// The longest layout text of a record, in bytes.
-const MOST_TEXT: usize = 131_047;
 
 /// What a record holds: the moment of the last row, the layout text, and the values in its order. It has room for every
 /// record.
@@ -68,15 +64,15 @@ impl Record {
     {
         Ok(Record {
             moment: None,
-            layout: Vec::with_capacity(alloc, MOST_TEXT)?,
-            values: Vec::with_capacity(alloc, MOST_LINES)?,
+            layout: Vec::with_capacity(alloc, MAX_LAYOUT_BYTES)?,
+            values: Vec::with_capacity(alloc, MAX_LINES)?,
         })
     }
 
     /// Makes it hold these. It takes no memory.
     pub(crate) fn set(&mut self, moment: Option<u64>, layout: &[u8], values: &[Value])
-        requires sound { IsSound (record { moment = moment; layout = layout.now; values = values.now }) }
-        requires short { length (record_bytes (record { moment = moment; layout = layout.now; values = values.now })) ≤ 131059 }
+        requires sound { IsRecordable (record { moment = moment; layout = layout.now; values = values.now }) }
+        requires short { length (record_bytes (record { moment = moment; layout = layout.now; values = values.now })) ≤ MAX_RECORD_BODY }
         ensures { self.new ≡ record { moment = moment; layout = layout.now; values = values.now } }
     {
         self.moment = moment;
@@ -88,7 +84,7 @@ impl Record {
     pub(crate) fn read(&mut self, body: &[u8], lines: &mut LineRoom) -> bool
         ensures yes { IsTrue result → decoded body.now ≡ Some self.new }
         ensures no { result ≡ false → decoded body.now ≡ None }
-        ensures sound { IsTrue result → IsSound self.new }
+        ensures sound { IsTrue result → IsRecordable self.new }
     {
         if is_too_long(body) {
             return false;
@@ -115,9 +111,9 @@ impl Record {
 
 /// Whether the body is longer than every record.
 fn is_too_long(body: &[u8]) -> bool
-    ensures { result ≡ nat_lt 131059 (length body.now) }
+    ensures { result ≡ nat_lt MAX_RECORD_BODY (length body.now) }
 {
-    MOST_BODY < body.len()
+    MAX_RECORD_BODY < body.len()
 }
 
 /// Puts these items in place of the ones that were there.

@@ -2,6 +2,7 @@
 
 ghost use Rattle.std.specs.Prelude.{◌≡◌, ◌+◌, ◌<◌, ◌≤◌, ◌^◌, ◌++◌, length, take, IfSome};
 ghost use Rattle.std.specs.List.{flat_map};
+ghost use Rattle.st_words.specs.declared.limits.TheConstants.{MOMENT_LIMIT};
 ghost use Rattle.retain_store.specs.Records.{moment_code, value_bytes, record_bytes};
 
 use crate::value_bytes::{bits, width};
@@ -14,7 +15,7 @@ pub(crate) fn spell(
     values: &[Value],
     buffer: &mut [u8],
 ) -> usize
-    requires moment { IfSome moment (λ t. t < 4611686018427387904) }
+    requires moment { IfSome moment (λ t. t < MOMENT_LIMIT) }
     requires layout { length layout.now < 2 ^ 32 }
     requires room { length (record_bytes (record { moment = moment; layout = layout.now; values = values.now })) ≤ length buffer.old }
     ensures length { result ≡ length (record_bytes (record { moment = moment; layout = layout.now; values = values.now })) }
@@ -29,7 +30,7 @@ pub(crate) fn spell(
 
 /// 0 for no moment, else the moment plus 1.
 fn moment_code(moment: Option<u64>) -> u64
-    requires { IfSome moment (λ t. t < 4611686018427387904) }
+    requires { IfSome moment (λ t. t < MOMENT_LIMIT) }
     ensures { result ≡ moment_code moment }
 {
     match moment {
@@ -38,7 +39,7 @@ fn moment_code(moment: Option<u64>) -> u64
     }
 }
 
-/// Writes bytes from a place on, and gives the place behind them.
+/// Writes bytes from an offset on, and gives the offset after them.
 fn put(buffer: &mut [u8], at: usize, bytes: &[u8]) -> usize
     requires { at + length bytes.now ≤ length buffer.old }
     ensures end { result ≡ at + length bytes.now }

@@ -2,21 +2,22 @@
 
 ghost use Rattle.std.specs.Prelude.{◌≡◌, ◌≢◌, ◌≤◌, ◌+◌, ◌-◌, ◌^◌, ◌↔◌, List, ℕ, true, false, IfOk, IfErr, IfSome, OnOk, OnErr, IsErrOf, MatchResult, length, take};
 ghost use Rattle.std.specs.Option.{option_copied};
+ghost use Rattle.st_words.specs.declared.limits.TheConstants.{MAX_RECORD_BODY};
 ghost use Rattle.disk.specs.Disk.{Only};
 ghost use Rattle.disk.specs.Runs.{LeavesOnly};
-ghost use Rattle.retain_store.specs.Records.{IsSound, record_bytes};
+ghost use Rattle.retain_store.specs.Records.{IsRecordable, record_bytes};
 ghost use Rattle.retain_store.specs.Recovered.{recovered, Found};
 ghost use Rattle.retain_store.specs.Areas.{IsEither, IsZeros};
 ghost use Rattle.retain_store.specs.Opening.{RefusesFor, CountsFault};
 ghost use Rattle.retain_store.specs.Kept.{content_of, record_in, IsLast, IsTriedAfter};
 
-use crate::area::{Areas, write_image};
+use crate::area::{Areas, write_frame};
 use crate::fault::StoreFault;
-use crate::image::put_image;
-use crate::loading::{FILE, recover};
+use crate::format::{FILE_BYTES, HEADER_BYTES};
+use crate::frame::put_frame;
+use crate::loading::recover;
 use crate::paths::LineRoom;
 use crate::record::Record;
-use crate::surveying::HEADER;
 use disk::Disk;
 use st_types::Value;
 use std::alloc::{AllocError, Global};
@@ -29,7 +30,7 @@ enum Saves {
     Working,
     /// One failed in the device.
     Broken,
-    /// One was refused for want of generations.
+    /// One was refused because the generations are used up.
     UsedUp,
 }
 
@@ -46,15 +47,16 @@ pub struct Store<D: Disk> {
     last: Record,
     /// The record that was tried, after a save that failed in the device.
     next: Record,
-    /// The room of an area behind its gate.
-    image: Vec<u8>,
+    /// The room of an area after its gate.
+    frame: Vec<u8>,
     saves: Saves,
 }
 
 impl<D: Disk> Model for Store<D> {
     ghost use Rattle.std.specs.Prelude.{◌-◌, ◌≤◌, length};
-    ghost use Rattle.retain_store.specs.Surveys.{held, IsSoundAt};
-    ghost use Rattle.retain_store.specs.Kept.{StoreView, IsKept, tried_by, has_failed};
+    ghost use Rattle.retain_store.specs.declared.format.TheConstants.{HEADER_BYTES};
+    ghost use Rattle.retain_store.specs.Surveys.{held, IsRecordableAt};
+    ghost use Rattle.retain_store.specs.Kept.{StoreView, StoreInvariant, tried_by, has_failed};
 
     ghost Value = { StoreView D };
 
@@ -64,12 +66,12 @@ impl<D: Disk> Model for Store<D> {
       last = held s.areas.generation s.last;
       tried = tried_by s.saves s.areas.generation s.last s.next;
       failed = has_failed s.saves;
-      room = length s.image.items - 12;
+      room = length s.frame.items - HEADER_BYTES;
     } };
 
-    ghost invariant = { λ s. IsKept D.tells (D.seen s.disk) (D.may_leave s.disk) s.areas s.saves
+    ghost invariant = { λ s. StoreInvariant D.tells (D.seen s.disk) (D.may_leave s.disk) s.areas s.saves
         (held s.areas.generation s.last) (tried_by s.saves s.areas.generation s.last s.next)
-        (length s.image.items) × IsSoundAt s.areas.generation s.last };
+        (length s.frame.items) × IsRecordableAt s.areas.generation s.last };
 }
 
 /// The memory of a store, which is taken before its first device call.
@@ -80,27 +82,27 @@ struct Room {
     last: Record,
     next: Record,
     lines: LineRoom,
-    image: Vec<u8>,
+    frame: Vec<u8>,
 }
 
 impl Room {
     fn new(alloc: Global, room: usize) -> Result<Room, AllocError>
-        requires { room ≤ 131059 }
-        ensures file { IfOk result (λ r. length r.file.items ≡ 262144) }
-        ensures zeros { IfOk result (λ r. IsZeros (take 262143 r.file.items)) }
-        ensures image { IfOk result (λ r. length r.image.items ≡ room + 12) }
+        requires { room ≤ MAX_RECORD_BODY }
+        ensures file { IfOk result (λ r. length r.file.items ≡ FILE_BYTES) }
+        ensures zeros { IfOk result (λ r. IsZeros (take (FILE_BYTES - 1) r.file.items)) }
+        ensures frame { IfOk result (λ r. length r.frame.items ≡ room + HEADER_BYTES) }
     {
-        let file = vec![in alloc; 0; FILE]?;
+        let file = vec![in alloc; 0; FILE_BYTES]?;
         let last = Record::with_room(alloc)?;
         let next = Record::with_room(alloc)?;
         let lines = LineRoom::new(alloc)?;
-        let image = vec![in alloc; 0; room + HEADER]?;
+        let frame = vec![in alloc; 0; room + HEADER_BYTES]?;
         Ok(Room {
             file,
             last,
             next,
             lines,
-            image,
+            frame,
         })
     }
 }
@@ -109,9 +111,9 @@ impl<D: Disk> Store<D> {
     /// Opens the file of a disk. Its memory, for any record that the file may hold and for saves of bodies of at most `room`
     /// bytes, is taken before the first device call.
     ///
-    /// S1 to S3, and S5 for want of memory. An error gives the disk back, and makes no more calls of it.
+    /// S1 to S3, and S5 out of memory. An error gives the disk back, and makes no more calls of it.
     pub fn open(alloc: Global, disk: D, room: usize) -> Result<Store<D>, (StoreFault, D)>
-        requires room { room ≤ 131059 }
+        requires room { room ≤ MAX_RECORD_BODY }
 
         // The last record is what is recovered of the file that a read gives.
         ensures found { D.tells → IfOk result (λ store. store.last ≡ recovered (D.seen disk)) }
@@ -145,7 +147,7 @@ impl<D: Disk> Store<D> {
             mut last,
             mut next,
             mut lines,
-            image,
+            frame,
         } = match Room::new(alloc, room) {
             Ok(room) => room,
             Err(_) => return Err((StoreFault::NoMemory, disk)),
@@ -156,7 +158,7 @@ impl<D: Disk> Store<D> {
                 areas,
                 last,
                 next,
-                image,
+                frame,
                 saves: Saves::Working,
             }),
             Err(fault) => Err((fault, disk)),
@@ -166,7 +168,7 @@ impl<D: Disk> Store<D> {
     /// The last record, if there is one.
     pub fn last(&self) -> Option<&Record>
         ensures record { option_copied result ≡ record_in self.now.last }
-        ensures sound { IfSome result (λ r. IsSound r.now) }
+        ensures sound { IfSome result (λ r. IsRecordable r.now) }
     {
         if self.areas.generation == 0 {
             return None;
@@ -184,7 +186,7 @@ impl<D: Disk> Store<D> {
         layout: &[u8],
         values: &[Value],
     ) -> Result<(), StoreFault>
-        requires sound { IsSound (content_of moment layout.now values.now) }
+        requires sound { IsRecordable (content_of moment layout.now values.now) }
         requires room { length (record_bytes (content_of moment layout.now values.now)) ≤ self.old.room }
 
         ensures saved { OnOk result ((self.new.generation ≡ self.old.generation + 1)
@@ -223,15 +225,15 @@ impl<D: Disk> Store<D> {
         }
         self.next.set(moment, layout, values);
         let generation = self.areas.generation + 1;
-        let size = put_image(&mut self.image, generation, moment, layout, values);
+        let size = put_frame(&mut self.frame, generation, moment, layout, values);
         let target = self.areas.target.at();
         let gate = self.areas.target_gate;
-        match write_image(
+        match write_frame(
             &mut self.disk,
             target,
             gate,
             generation,
-            &self.image[..size],
+            &self.frame[..size],
         ) {
             Ok(()) => {
                 std::mem::swap(&mut self.last, &mut self.next);
@@ -266,7 +268,7 @@ impl<D: Disk> Store<D> {
             areas: _,
             last: _,
             next: _,
-            image: _,
+            frame: _,
             saves: _,
         } = self;
         disk

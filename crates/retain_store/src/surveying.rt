@@ -1,21 +1,17 @@
 //! What stands in a whole file.
 
-ghost use Rattle.std.specs.Prelude.{◌≡◌, ◌≤◌, length, take, drop, IfNone, IfSome};
+ghost use Rattle.std.specs.Prelude.{◌≡◌, ◌-◌, ◌≤◌, length, take, drop, IfNone, IfSome};
 ghost use Rattle.std.specs.Int.{w32, w64, from_be_bytes};
 ghost use Rattle.retain_store.specs.Recovered.{recovered, opened, Refused};
 ghost use Rattle.retain_store.specs.Areas.{IsSurveyed};
-ghost use Rattle.retain_store.specs.Surveys.{area_in, shown, held, gate_of, IsChoice, IsSoundAt, LooksSound};
+ghost use Rattle.retain_store.specs.Surveys.{area_in, shown, held, gate_of, IsChoice, IsRecordableAt, LooksSound};
 
-use crate::area::{AREA, Areas, Gate, OPEN, Place};
+use crate::area::{Areas, Gate, Half};
+use crate::format::{AREA_BYTES, FILE_BYTES, HEADER_BYTES, OPEN_GATE};
 use crate::paths::LineRoom;
 use crate::record::Record;
+use st_words::limits::MAX_RECORD_BODY;
 use std::cmp::Ordering;
-
-/// The greatest length of a body in bytes.
-pub(crate) const MAX_BODY: usize = 131_059;
-
-/// The length of a header in bytes.
-pub(crate) const HEADER: usize = 12;
 
 /// What an area is, but for the record of an open one.
 #[derive(Clone, Copy)]
@@ -38,7 +34,7 @@ impl Look {
     }
 }
 
-/// What stands behind a gate and before a body.
+/// What stands after a gate and before a body.
 #[derive(Clone, Copy)]
 struct Header {
     generation: u64,
@@ -48,7 +44,7 @@ struct Header {
 
 /// Reads the header, which the body follows.
 fn read_header(bytes: &[u8]) -> Header
-    requires { 12 ≤ length bytes.now }
+    requires { HEADER_BYTES ≤ length bytes.now }
     ensures generation { result.generation ≡ from_be_bytes w64 (take 8 bytes.now) }
     ensures size { result.size ≡ from_be_bytes w32 (take 4 (drop 8 bytes.now)) }
 {
@@ -59,21 +55,21 @@ fn read_header(bytes: &[u8]) -> Header
     Header { generation, size }
 }
 
-/// Looks behind an open gate. The record is read where there is one.
+/// Looks after an open gate. The record is read where there is one.
 fn look_behind(behind: &[u8], into: &mut Record, lines: &mut LineRoom) -> Look
-    requires { length behind.now ≡ 131071 }
+    requires { length behind.now ≡ AREA_BYTES - 1 }
     ensures shown { opened behind.now ≡ shown result into.new }
     ensures sound { LooksSound result into.new }
 {
     let Header { generation, size } = read_header(behind);
     let size = size as usize;
-    if size > MAX_BODY {
+    if size > MAX_RECORD_BODY {
         return Look::Damaged;
     }
     if generation == 0 {
         return Look::Damaged;
     }
-    let (_, after) = behind.split_at(HEADER);
+    let (_, after) = behind.split_at(HEADER_BYTES);
     let (body, _) = after.split_at(size);
     if into.read(body, lines) {
         Look::Open(generation)
@@ -84,11 +80,11 @@ fn look_behind(behind: &[u8], into: &mut Record, lines: &mut LineRoom) -> Look
 
 /// Looks at an area. The record is read where there is one.
 fn look_at(area: &[u8], into: &mut Record, lines: &mut LineRoom) -> Look
-    requires { length area.now ≡ 131072 }
+    requires { length area.now ≡ AREA_BYTES }
     ensures shown { area_in area.now ≡ shown result into.new }
     ensures sound { LooksSound result into.new }
 {
-    if area[0] != OPEN {
+    if area[0] != OPEN_GATE {
         return Look::Closed;
     }
     look_behind(&area[1..], into, lines)
@@ -131,18 +127,18 @@ pub(crate) fn survey(
     next: &mut Record,
     lines: &mut LineRoom,
 ) -> Option<Areas>
-    requires { length file.now ≡ 262144 }
+    requires { length file.now ≡ FILE_BYTES }
     ensures damaged { IfNone result (recovered file.now ≡ Refused) }
     ensures surveyed { IfSome result (λ areas. IsSurveyed file.now areas (held areas.generation last.new)) }
-    ensures sound { IfSome result (λ areas. IsSoundAt areas.generation last.new) }
+    ensures sound { IfSome result (λ areas. IsRecordableAt areas.generation last.new) }
 {
-    let (first_area, second_area) = file.split_at(AREA);
+    let (first_area, second_area) = file.split_at(AREA_BYTES);
     let first = look_at(first_area, last, lines);
     let second = look_at(second_area, next, lines);
     match choose(first, second) {
         Choice::Neither => Some(Areas::closed()),
         Choice::First(generation) => Some(Areas {
-            target: Place::Second,
+            target: Half::Second,
             target_gate: second.gate(),
             other_gate: Gate::Open,
             generation,
@@ -150,7 +146,7 @@ pub(crate) fn survey(
         Choice::Second(generation) => {
             std::mem::swap(last, next);
             Some(Areas {
-                target: Place::First,
+                target: Half::First,
                 target_gate: first.gate(),
                 other_gate: Gate::Open,
                 generation,

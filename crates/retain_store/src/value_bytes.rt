@@ -37,7 +37,7 @@ pub(crate) fn bits(value: Value) -> u64
     }
 }
 
-/// The value of the type at the front of the bytes, and the bytes behind it.
+/// The value of the type at the front of the bytes, and the bytes after it.
 #[tactic(auto, unfolding(crate::specs::Reading::value_at))]
 pub(crate) fn value_at(kind: Kind, bytes: &[u8]) -> Option<(Value, &[u8])>
     ensures { option_map (λ p. (p.0, p.1.now)) result ≡ value_at kind bytes.now }

@@ -18,7 +18,7 @@ enum Reading {
     Plain,
     /// It is the first digit of an escape.
     High,
-    /// It is the second one, behind this.
+    /// It is the second one, after this.
     Low(u8),
 }
 

@@ -5,6 +5,7 @@ use Rattle.std.proofs.lemmas.List.{get_or_append_left, length-map}
 use Rattle.std.proofs.Math.Seq.{get_or-append_seam}
 use Rattle.std.proofs.lemmas.Bool.Decides.{eqb_tells}
 use Rattle.std.proofs.lemmas.Bool.{ltb-true}
+use Rattle.st_words.specs.declared.limits.TheConstants.{MOMENT_LIMIT}
 use Rattle.st_words.specs.Values.{Datum}
 use Rattle.st_types.specs.declared.entry.Entry.{Entry}
 use Rattle.st_types.specs.declared.entry.Entry.TheVariants.{Row}
@@ -14,7 +15,7 @@ use Rattle.st_types.specs.declared.plan.PlanInput.{PlanInput}
 use Rattle.st_types.specs.Rows.{Latch}
 use Rattle.st_types.specs.Slots.{IsLayout, variables_in}
 use Rattle.st_types.specs.Layouts.{layout_of}
-use Rattle.st_types.specs.Due.{History, with_tick}
+use Rattle.st_types.specs.Due.{History, with_row}
 use Rattle.st_types.specs.Plans.{samples_of, sample_of, is_on, fits}
 use Rattle.st_types.specs.Logs.{past_of, row_at, is_later, row_follows}
 use Rattle.st_types.proofs.LogLemmas.{past_of-add, IsLegal-add, last_moment-add}
@@ -27,7 +28,7 @@ use Rattle.config.specs.Sound.{is_sound_trigger, is_boolean_variable}
 use Rattle.ready_list.specs.Ready.{Ready, IsReadyOf}
 use Rattle.serial_core.specs.Samples.{sample_at, sample_task}
 use Rattle.serial_core.specs.Steps.{store_in}
-use Rattle.serial_core.specs.Kept.{IsOfPast, IsKept}
+use Rattle.serial_core.specs.Kept.{IsOfPast, SerialInvariant}
 use Rattle.serial_core.proofs.OutcomeLemmas.{outcomes_of-add}
 use Rattle.serial_core.proofs.RowLemmas.{length_held}
 use Rattle.serial_core.proofs.VariableLemmas.{get-add, get-end, get_in}
@@ -43,8 +44,8 @@ right_of_and false b e = absurd (cc)
 image_length : (plan : Plan) (row : Latch) → fits (plan_view plan) row ≡ true → length row.image ≡ length plan.inputs.items
 image_length plan row e = length_held plan.inputs.items row.image (left_of_and _ _ e)
 
-moment_low : (plan : Plan) (row : Latch) → fits (plan_view plan) row ≡ true → row.moment < 2 ^ 62
-moment_low plan row e = ltb-true row.moment (2 ^ 62) (right_of_and _ _ e)
+moment_low : (plan : Plan) (row : Latch) → fits (plan_view plan) row ≡ true → row.moment < MOMENT_LIMIT
+moment_low plan row e = ltb-true row.moment MOMENT_LIMIT (right_of_and _ _ e)
 
 -- the samples by slots are those by paths
 variable_same : (vs : List PlanVariable) (ins : List PlanInput) (ds image : List Datum) (k : ℕ) (o : Option PlanVariable) → IsLayout (layout_of vs ins) → length ds ≡ length vs → slice_get vs k ≡ o → is_boolean_variable o ≡ true
@@ -66,7 +67,7 @@ samples_same vs ins ds image (t ∷ tasks) layout sized s =
     let b = samples_same vs ins ds image tasks layout sized (right_of_and _ _ s) in
     rw (a, b) refl
 
-module _ {plan : Plan} {start values : List Datum} {before : Option ℕ} {samples : List Bool} {log : List Entry} {outcomes : List (Option Outcome)} {rows : List ℕ} {last : Option ℕ} {ready : Ready} (kept : IsKept plan start before values samples log outcomes rows last ready) where
+module _ {plan : Plan} {start values : List Datum} {before : Option ℕ} {samples : List Bool} {log : List Entry} {outcomes : List (Option Outcome)} {rows : List ℕ} {last : Option ℕ} {ready : Ready} (kept : SerialInvariant plan start before values samples log outcomes rows last ready) where
   pub sampled : (row : Latch) → map (sample_task values row.image) plan.tasks.items ≡ samples_of (plan_view plan) (past_of (plan_view plan) (store_in plan start) log).store row.image
   sampled row =
       samples_same plan.variables.items plan.inputs.items values row.image plan.tasks.items plan.sound.layout kept.sized plan.sound.singles
@@ -100,10 +101,10 @@ module _ {plan : Plan} {start values : List Datum} {before : Option ℕ} {sample
       → fits (plan_view plan) row ≡ true
       → is_later last row.moment ≡ true
       → samples' ≡ map (sample_task values row.image) plan.tasks.items
-      → ready'.places ≡ ready.places → length ready'.samples ≡ length ready.samples → ready'.last ≡ row.moment
-      → ((h : History) → IsReadyOf h ready → IsReadyOf (with_tick h row.moment samples') ready')
-      → IsKept plan start before values samples' (log ++ Row row ∷ []) (outcomes ++ None ∷ []) (rows ++ length log ∷ []) (Some row.moment) ready'
-  kept_latched row samples' ready' fit later e places tasks latest due =
+      → ready'.schedules ≡ ready.schedules → length ready'.samples ≡ length ready.samples → ready'.last ≡ row.moment
+      → ((h : History) → IsReadyOf h ready → IsReadyOf (with_row h row.moment samples') ready')
+      → SerialInvariant plan start before values samples' (log ++ Row row ∷ []) (outcomes ++ None ∷ []) (rows ++ length log ∷ []) (Some row.moment) ready'
+  kept_latched row samples' ready' fit later e schedules tasks latest due =
       let now = past_of (plan_view plan) (store_in plan start) log in
       let got : samples' ≡ samples_of (plan_view plan) now.store row.image = e ∙ sampled row in
       record {
@@ -115,17 +116,17 @@ module _ {plan : Plan} {start values : List Datum} {before : Option ℕ} {sample
         numbered = ap length e ∙ length-map plan.tasks.items (sample_task values row.image);
         few_rows = omega (arith, kept.few_rows, length-append log (Row row ∷ []), length-append rows (length log ∷ []));
         outcomes_are = ap (λ (os : List (Option Outcome)). os ++ None ∷ []) kept.outcomes_are ∙ sym (outcomes_of-add (plan_view plan) (store_in plan start) log (Row row));
-        places = places ∙ kept.places;
+        schedules = schedules ∙ kept.schedules;
         tasks = tasks ∙ kept.tasks;
         of_past = subst (IsOfPast plan before values (log ++ Row row ∷ []) (rows ++ length log ∷ []) (Some row.moment) ready') (sym (past_of-add (plan_view plan) (store_in plan start) log (Row row))) record {
           variables = kept.of_past.variables;
           rows_are = rows_then row;
           row_count = omega (arith, kept.of_past.row_count, length-append rows (length log ∷ []), length-append now.rows (row ∷ []));
-          tick_count = length-append now.history.ticks (record { moment = row.moment; samples = samples_of (plan_view plan) now.store row.image } ∷ []) ∙ ap (λ n. n + 1) kept.of_past.tick_count ∙ sym (length-append now.rows (row ∷ []));
+          sampled_count = length-append now.history.sampled (record { moment = row.moment; samples = samples_of (plan_view plan) now.store row.image } ∷ []) ∙ ap (λ n. n + 1) kept.of_past.sampled_count ∙ sym (length-append now.rows (row ∷ []));
           images = images_then row (image_length plan row fit);
           last_is = sym (last_moment-add before now.rows row);
           later = λ s. ap (λ m. Some m) (sym latest);
-          ready_is = subst (λ ss. IsReadyOf (with_tick now.history row.moment ss) ready') got (due now.history kept.of_past.ready_is);
+          ready_is = subst (λ ss. IsReadyOf (with_row now.history row.moment ss) ready') got (due now.history kept.of_past.ready_is);
         };
       }
 
@@ -136,12 +137,12 @@ module _ {plan : Plan} {start values : List Datum} {before : Option ℕ} {sample
       → is_later last moment ≡ true
       → image ≡ row.image
       → samples' ≡ map (sample_task values image) plan.tasks.items
-      → ready'.places ≡ ready.places → length ready'.samples ≡ length ready.samples → ready'.last ≡ moment
-      → ((h : History) → IsReadyOf h ready → IsReadyOf (with_tick h moment samples') ready')
-      → IsKept plan start before values samples' log' outcomes' rows' (Some moment) ready'
-  kept_latch row moment n image samples' log' outcomes' rows' ready' mo ln lg os rs fit later im e places tasks latest due =
-      subst (λ l. IsKept plan start before values samples' l outcomes' rows' (Some moment) ready') (sym lg)
-      (subst (λ o. IsKept plan start before values samples' (log ++ Row row ∷ []) o rows' (Some moment) ready') (sym os)
-      (subst (λ r. IsKept plan start before values samples' (log ++ Row row ∷ []) (outcomes ++ None ∷ []) r (Some moment) ready') (sym (rs ∙ ap (λ m. rows ++ m ∷ []) ln))
-      (subst (λ m. is_later last m ≡ true → ready'.last ≡ m → ((h : History) → IsReadyOf h ready → IsReadyOf (with_tick h m samples') ready') → IsKept plan start before values samples' (log ++ Row row ∷ []) (outcomes ++ None ∷ []) (rows ++ length log ∷ []) (Some m) ready') (sym mo)
-      (λ l t d. kept_latched row samples' ready' fit l (e ∙ ap (λ i. map (sample_task values i) plan.tasks.items) im) places tasks t d) later latest due)))
+      → ready'.schedules ≡ ready.schedules → length ready'.samples ≡ length ready.samples → ready'.last ≡ moment
+      → ((h : History) → IsReadyOf h ready → IsReadyOf (with_row h moment samples') ready')
+      → SerialInvariant plan start before values samples' log' outcomes' rows' (Some moment) ready'
+  kept_latch row moment n image samples' log' outcomes' rows' ready' mo ln lg os rs fit later im e schedules tasks latest due =
+      subst (λ l. SerialInvariant plan start before values samples' l outcomes' rows' (Some moment) ready') (sym lg)
+      (subst (λ o. SerialInvariant plan start before values samples' (log ++ Row row ∷ []) o rows' (Some moment) ready') (sym os)
+      (subst (λ r. SerialInvariant plan start before values samples' (log ++ Row row ∷ []) (outcomes ++ None ∷ []) r (Some moment) ready') (sym (rs ∙ ap (λ m. rows ++ m ∷ []) ln))
+      (subst (λ m. is_later last m ≡ true → ready'.last ≡ m → ((h : History) → IsReadyOf h ready → IsReadyOf (with_row h m samples') ready') → SerialInvariant plan start before values samples' (log ++ Row row ∷ []) (outcomes ++ None ∷ []) (rows ++ length log ∷ []) (Some m) ready') (sym mo)
+      (λ l t d. kept_latched row samples' ready' fit l (e ∙ ap (λ i. map (sample_task values i) plan.tasks.items) im) schedules tasks t d) later latest due)))

@@ -11,7 +11,7 @@ use Rattle.config.specs.declared.plan.Plan.{Plan}
 use Rattle.config.specs.PlanViews.{plan_view}
 use Rattle.ready_list.specs.Ready.{Ready}
 use Rattle.serial_core.specs.Steps.{store_in}
-use Rattle.serial_core.specs.Kept.{IsKept}
+use Rattle.serial_core.specs.Kept.{SerialInvariant}
 
 outcomes_from-add : (plan : plans.Plan) (past : Past) (log : List Entry) (e : Entry) → outcomes_from plan past (log ++ e ∷ []) ≡ outcomes_from plan past log ++ outcome_at plan (fold (with_entry plan) past log) e ∷ []
 outcomes_from-add plan past [] e = refl
@@ -27,6 +27,6 @@ outcomes_counted plan past (x ∷ log) = ap suc (outcomes_counted plan (with_ent
 
 -- as many as there are entries
 pub outcomes_kept : {plan : Plan} {start values : List Datum} {before : Option ℕ} {samples : List Bool} {log : List Entry} {outcomes : List (Option Outcome)} {rows : List ℕ} {last : Option ℕ} {ready : Ready}
-    → IsKept plan start before values samples log outcomes rows last ready → length outcomes ≡ length log
+    → SerialInvariant plan start before values samples log outcomes rows last ready → length outcomes ≡ length log
 outcomes_kept {plan} {start} {values} {before} {samples} {log} {outcomes} {rows} {last} {ready} kept =
     ap (λ (os : List (Option Outcome)). length os) kept.outcomes_are ∙ outcomes_counted (plan_view plan) (beginning (store_in plan start)) log

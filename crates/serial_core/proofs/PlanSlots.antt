@@ -1,4 +1,4 @@
--- The slots of a plan: its variables, and behind them its inputs.
+-- The slots of a plan: its variables, and after them its inputs.
 use Rattle.std.proofs.Common.{◌≡◌, ℕ, zero, suc, List, [], ◌∷◌, ◌++◌, length, map, slice_set, refl, sym, ap, ◌∙◌, arith, length-append}
 use Rattle.std.proofs.lemmas.List.{length-map, length-set}
 use Rattle.st_words.specs.Values.{Datum}
@@ -13,7 +13,7 @@ no_variables [] im = refl
 no_variables (i ∷ is) [] = refl
 no_variables (i ∷ is) (v ∷ im) = no_variables is im
 
--- the values behind those of the variables are not of variables
+-- the values after those of the variables are not of variables
 pub variables_alone : (xs : List PlanVariable) (is : List PlanInput) (vs im : List Datum) → length vs ≡ length xs → variables_in (layout_of xs is) (vs ++ im) ≡ variables_in (layout_of xs is) vs
 variables_alone [] is [] im e = no_variables is im ∙ sym (no_variables is [])
 variables_alone [] is (v ∷ vs) im e = absurd (omega arith)
@@ -39,7 +39,7 @@ inputs_behind [] is (v ∷ vs) im e = absurd (omega arith)
 inputs_behind (x ∷ xs) is [] im e = absurd (omega arith)
 inputs_behind (x ∷ xs) is (v ∷ vs) im e = inputs_behind xs is vs im (omega arith)
 
--- what a write to a slot makes of the values behind
+-- what a write to a slot makes of the values after
 abbrev behind_set : List Datum → List Datum → ℕ → Datum → List Datum
 behind_set [] im k v = slice_set im k v
 behind_set (u ∷ vs) im zero v = im
@@ -50,7 +50,7 @@ set_both [] im k v = refl
 set_both (u ∷ vs) im zero v = refl
 set_both (u ∷ vs) im (suc k) v = ap (λ t. u ∷ t) (set_both vs im k v)
 
--- the variables after writes do not turn on what stands behind them
+-- the variables after writes do not turn on what stands after them
 pub variables_written : (xs : List PlanVariable) (is : List PlanInput) (ws : List Cell) (vs im : List Datum) → length vs ≡ length xs → variables_in (layout_of xs is) (written (vs ++ im) ws) ≡ variables_in (layout_of xs is) (written vs ws)
 variables_written xs is [] vs im e = variables_alone xs is vs im e
 variables_written xs is (c ∷ ws) vs im e =

@@ -24,7 +24,7 @@ use Rattle.config.specs.declared.plan.Plan.{Plan}
 use Rattle.config.specs.PlanViews.{plan_view}
 use Rattle.ready_list.specs.Ready.{Ready}
 use Rattle.serial_core.specs.Steps.{store_in, first_image, last_image}
-use Rattle.serial_core.specs.Kept.{IsKept}
+use Rattle.serial_core.specs.Kept.{SerialInvariant}
 use Rattle.serial_core.proofs.TakeLemmas.{same_row}
 use Rattle.serial_core.proofs.PlanSlots.{no_variables}
 
@@ -87,7 +87,7 @@ last_long : (im : List Datum) (rows : List Latch) (n : ℕ) → length im ≡ n 
 last_long im [] n e h = e
 last_long im (r ∷ rows) n e h = last_long r.image rows n (h 0 (omega arith)) (λ k l. h (suc k) (omega arith))
 
-module _ {plan : Plan} {start values : List Datum} {before : Option ℕ} {samples : List Bool} {log : List Entry} {outcomes : List (Option Outcome)} {rows : List ℕ} {last : Option ℕ} {ready : Ready} (kept : IsKept plan start before values samples log outcomes rows last ready) where
+module _ {plan : Plan} {start values : List Datum} {before : Option ℕ} {samples : List Bool} {log : List Entry} {outcomes : List (Option Outcome)} {rows : List ℕ} {last : Option ℕ} {ready : Ready} (kept : SerialInvariant plan start before values samples log outcomes rows last ready) where
   abbrev image_now : List Datum
   image_now = last_image (first_image plan.inputs.items) (past_of (plan_view plan) (store_in plan start) log).rows
 

@@ -5,7 +5,7 @@ use Rattle.std.proofs.lemmas.Bool.{and_parts, and_from, or_parts, or_from, not-t
 use Rattle.std.proofs.lemmas.Slice.Eq.{bytes_eq-Decides}
 use Rattle.std.specs.List.{list_any, AllByRecursion}
 use Rattle.st_words.specs.declared.kind.Kind.{Kind}
-use Rattle.st_words.specs.Kinds.{same_kind, holds, place_of}
+use Rattle.st_words.specs.Kinds.{same_kind, holds, kind_index}
 use Rattle.st_words.specs.Values.{Datum, IsHeld}
 use Rattle.st_words.specs.Paths.{Path, same_path}
 use Rattle.st_types.specs.declared.plan.PlanVariable.{PlanVariable}
@@ -162,7 +162,7 @@ abbrev entries : List PlanVariable → Store
 entries vs = map (λ v. (v.path, v.initial)) vs
 
 kind_itself : (k l : Kind) → k ≡ l → same_kind k l ≡ true
-kind_itself k l e = subst (λ m. same_kind k m ≡ true) e (same_itself (place_of k))
+kind_itself k l e = subst (λ m. same_kind k m ≡ true) e (same_itself (kind_index k))
 
 takes_its_kind : (v : PlanVariable) (w : Datum) → w.kind ≡ v.initial.kind → IsHeld w → may_replace v.initial w ≡ true
 takes_its_kind v w is held = and_from (same_kind v.initial.kind w.kind) (holds w.kind w.number) (kind_itself v.initial.kind w.kind (sym is)) held

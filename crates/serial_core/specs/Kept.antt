@@ -1,10 +1,11 @@
 -- What a core keeps of its fields.
 use Rattle.std.specs.Prelude.{◌≡◌, ℕ, ◌<◌, ◌≤◌, ◌^◌, IfSome, List, Bool, length, map, Option, Some, slice_get, slice_index}
+use Rattle.st_words.specs.declared.limits.TheConstants.{MOMENT_LIMIT}
 use Rattle.st_words.specs.Values.{Datum}
 use Rattle.st_types.specs.declared.entry.Entry.{Entry}
 use Rattle.st_types.specs.declared.entry.Entry.TheVariants.{Row}
 use Rattle.st_types.specs.declared.entry.Outcome.{Outcome}
-use Rattle.st_types.specs.Plans.{places_of}
+use Rattle.st_types.specs.Plans.{schedules_of}
 use Rattle.st_types.specs.Logs.{Past, past_of, row_at, last_moment, outcomes_of, IsLegal}
 use Rattle.config.specs.declared.plan.Plan.{Plan}
 use Rattle.config.specs.PlanViews.{plan_view}
@@ -16,22 +17,22 @@ pub record IsOfPast (plan : Plan) (before : Option ℕ) (values : List Datum) (l
   pub variables : store_in plan values ≡ now.store
   pub rows_are : (k : ℕ) → k < length rows → slice_get log (slice_index rows k) ≡ Some (Row (row_at now.rows k))
   pub row_count : length rows ≡ length now.rows
-  pub tick_count : length now.history.ticks ≡ length now.rows
+  pub sampled_count : length now.history.sampled ≡ length now.rows
   pub images : (k : ℕ) → k < length now.rows → length (row_at now.rows k).image ≡ length plan.inputs.items
   pub last_is : last ≡ last_moment before now.rows
   pub later : 0 < ready.rows → last ≡ Some ready.last
   pub ready_is : IsReadyOf now.history ready
 
 -- The log is legal, the variables and outcomes are what it makes, each variable has its type, moments are within their limit, and the ready list has all that waits.
-pub record IsKept (plan : Plan) (start : List Datum) (before : Option ℕ) (values : List Datum) (samples : List Bool) (log : List Entry) (outcomes : List (Option Outcome)) (rows : List ℕ) (last : Option ℕ) (ready : Ready) : Type 0 where
+pub record SerialInvariant (plan : Plan) (start : List Datum) (before : Option ℕ) (values : List Datum) (samples : List Bool) (log : List Entry) (outcomes : List (Option Outcome)) (rows : List ℕ) (last : Option ℕ) (ready : Ready) : Type 0 where
   pub legal : IsLegal (plan_view plan) (store_in plan start) before log
   pub begun : length start ≡ length plan.variables.items
   pub sized : length values ≡ length plan.variables.items
   pub typed : map (λ d. d.kind) values ≡ map (λ v. v.initial.kind) plan.variables.items
-  pub early : IfSome last (λ t. t < 2 ^ 62)
+  pub early : IfSome last (λ t. t < MOMENT_LIMIT)
   pub numbered : length samples ≡ length plan.tasks.items
   pub few_rows : length rows ≤ length log
   pub outcomes_are : outcomes ≡ outcomes_of (plan_view plan) (store_in plan start) log
-  pub places : ready.places ≡ places_of (plan_view plan)
+  pub schedules : ready.schedules ≡ schedules_of (plan_view plan)
   pub tasks : length ready.samples ≡ length plan.tasks.items
   pub of_past : IsOfPast plan before values log rows last ready (past_of (plan_view plan) (store_in plan start) log)

@@ -10,10 +10,10 @@ use Rattle.st_types.specs.Slots.{variables_in, agrees}
 use Rattle.st_types.specs.Layouts.{layout_of}
 use Rattle.st_types.specs.Due.{Waits, NoneWaits, IsBest}
 use Rattle.st_types.specs.declared.plan.PlanInput.{PlanInput}
-use Rattle.st_types.specs.Plans.{places_of, fits, initial_value, image_of}
+use Rattle.st_types.specs.Plans.{schedules_of, fits, initial_value, image_of}
 use Rattle.st_types.specs.Logs.{Past, past_of, row_at, last_moment, is_later}
 use Rattle.slot_code.specs.declared.code.Code.{Code}
-use Rattle.slot_code.specs.Codes.{text_of}
+use Rattle.slot_code.specs.Codes.{code_view}
 use Rattle.slot_run.specs.Effects.{Effect}
 use Rattle.slot_run.specs.declared.snapshot.Snapshot.{Snapshot}
 use Rattle.config.specs.declared.plan.Plan.{Plan}
@@ -65,14 +65,14 @@ code_at plan p = option_map (λ q. q.code.value) (slice_get plan.programs.items 
 
 -- what is taken for a resource: the best activation with its program's code, its row's moment and the values of all slots
 pub record IsSnapshotOf (state : State) (resource : ℕ) (snapshot : Snapshot) : Type 0 where
-  pub best : IsBest (places_of (plan_view state.plan)) (made state).history resource snapshot.activation
+  pub best : IsBest (schedules_of (plan_view state.plan)) (made state).history resource snapshot.activation
   pub code : code_at state.plan snapshot.activation.program ≡ Some snapshot.code.value
   pub moment : snapshot.moment ≡ (row_at (made state).rows snapshot.activation.row).moment
   pub budget : snapshot.budget ≡ state.plan.budget
   pub slots : snapshot.slots.items ≡ slots_for state snapshot.activation
 
 abbrev pub none_waits : State → ℕ → Type 0
-none_waits state resource = NoneWaits (places_of (plan_view state.plan)) (made state).history resource
+none_waits state resource = NoneWaits (schedules_of (plan_view state.plan)) (made state).history resource
 
 abbrev pub Takes : State → ℕ → Result (Option Snapshot) Refusal → Type 0
 Takes state resource (Ok None) = none_waits state resource
@@ -82,7 +82,7 @@ Takes state resource (Err _) = ⊥
 
 -- The code is that of the activation's program, the moment is its row's, and the budget is the plan's.
 pub record IsOwnOf (plan : Plan) (row : Latch) (effect : Effect) : Type 0 where
-  pub text : option_map text_of (code_at plan effect.activation.program) ≡ Some (text_of effect.code)
+  pub text : option_map code_view (code_at plan effect.activation.program) ≡ Some (code_view effect.code)
   pub moment : effect.moment ≡ row.moment
   pub budget : effect.budget ≡ plan.budget
 
@@ -94,7 +94,7 @@ abbrev pub stands : State → Effect → Bool
 stands state effect = agrees (slots_for state effect.activation) effect.reads
 
 abbrev pub waits_in : State → Activation → Type 0
-waits_in state a = Waits (places_of (plan_view state.plan)) (made state).history a
+waits_in state a = Waits (schedules_of (plan_view state.plan)) (made state).history a
 
 -- what a commit is answered, and the core after it
 abbrev pub Commits : State → Effect → Result Answer Refusal → State → Type 0
@@ -123,6 +123,6 @@ CommitsHere old resource (Ok None) new = none_waits old resource × (new ≡ old
 CommitsHere old resource (Err NoMemory) new = (none_waits old resource → ⊥) × (new ≡ old)
 CommitsHere old resource (Err Full) new = (none_waits old resource → ⊥) × (old.room ≤ length old.log) × (new ≡ old)
 CommitsHere old resource (Ok (Some n)) new =
-    (a : Activation) × IsBest (places_of (plan_view old.plan)) (made old).history resource a
+    (a : Activation) × IsBest (schedules_of (plan_view old.plan)) (made old).history resource a
     × (length old.log < old.room) × (new ≡ grown old (Done a)) × (n ≡ length new.log)
 CommitsHere old resource (Err _) new = ⊥

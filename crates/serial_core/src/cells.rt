@@ -8,7 +8,7 @@ use slot_run::Cell;
 use st_types::Value;
 use std::alloc::{AllocError, Global};
 
-/// The value of a slot: that of a variable, or behind the variables that of an input.
+/// The value of a slot: that of a variable, or after the variables that of an input.
 fn value_at(values: &[Value], image: &[Value], slot: usize) -> Option<Value>
     ensures { result ≡ slice_get (values.now ++ image.now) slot }
 {
@@ -31,7 +31,7 @@ fn is_value(found: Option<Value>, value: Value) -> bool
     }
 }
 
-/// Whether each cell's value stands in its slot: among the variables, or behind them among the inputs.
+/// Whether each cell's value stands in its slot: among the variables, or after them among the inputs.
 pub(crate) fn stand(values: &[Value], image: &[Value], cells: &[Cell]) -> bool
     ensures { result ≡ agrees (values.now ++ image.now) (map cut cells.now) }
 {
@@ -54,7 +54,7 @@ pub(crate) fn write_all(values: &mut Vec<Value>, cells: &[Cell])
     }
 }
 
-/// The values of all slots: the variables, and behind them the inputs.
+/// The values of all slots: the variables, and after them the inputs.
 pub(crate) fn slots_of(
     alloc: Global,
     values: &[Value],

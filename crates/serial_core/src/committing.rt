@@ -27,7 +27,7 @@ fn is_own(plan: &Plan, row: &Row, execution: &Execution) -> bool
 
 /// Takes an activation that is done off the list of those that wait.
 fn settle(ready: &mut ReadyList, activation: Activation) -> bool
-    ensures places { ready.new.places ≡ ready.old.places }
+    ensures schedules { ready.new.schedules ≡ ready.old.schedules }
     ensures number { length ready.new.samples ≡ length ready.old.samples }
     ensures last { ready.new.last ≡ ready.old.last }
     ensures rows { ready.new.rows ≡ ready.old.rows }

@@ -2,6 +2,7 @@
 
 ghost use Rattle.std.specs.Prelude.{◌≡◌, ◌≤◌, ◌<◌, ◌^◌, IfSome, ◌+◌, ◌++◌, ◌∷◌, [], map, length, vec_len, vec_capacity, if◌then◌else◌};
 ghost use Rattle.std.specs.List.{AllByRecursion};
+ghost use Rattle.st_words.specs.declared.limits.TheConstants.{MOMENT_LIMIT};
 ghost use Rattle.st_words.specs.Values.{IsHeld};
 ghost use Rattle.st_types.specs.Logs.{last_moment};
 ghost use Rattle.st_types.specs.Restarts.{kept, written_over};
@@ -62,12 +63,12 @@ impl SerialCore {
     /// The moment of the last row in milliseconds, or the one that the first row has to be later than.
     pub fn last_moment(&self) -> Option<u64>
         ensures last { result ≡ last_moment self.now.before (made self.now).rows }
-        ensures early { IfSome result (λ t. t < 2 ^ 62) }
+        ensures early { IfSome result (λ t. t < MOMENT_LIMIT) }
     {
         self.last
     }
 
-    /// Puts the values of the retained variables, in order, in place of what is there. It takes no memory.
+    /// Puts the values of the retained variables, in order, in@schedule@of what is there. It takes no memory.
     pub fn retain(&self, values: &mut Vec<Value>)
         requires room { length self.now.plan.variables.items ≤ vec_capacity values.old }
         ensures values { values.new.items ≡ map (λ e. e.1) (kept (plan_view self.now.plan) (made self.now).store) }

@@ -3,7 +3,7 @@
 ghost use Rattle.std.specs.Prelude.{◌≡◌, ◌<◌, ◌≤◌, option_map, option_and_then, slice_get, length, Some, None};
 ghost use Rattle.st_types.specs.Due.{HasOverruns};
 ghost use Rattle.st_types.specs.Logs.{IsLegal, outcomes_of};
-ghost use Rattle.st_types.specs.Plans.{places_of, initial_value};
+ghost use Rattle.st_types.specs.Plans.{schedules_of, initial_value};
 ghost use Rattle.st_types.specs.Scopes.{seen};
 ghost use Rattle.st_types.specs.Stores.{get};
 ghost use Rattle.config.specs.PlanViews.{plan_view};
@@ -94,7 +94,7 @@ impl SerialCore {
     /// How often the program was due while it waited already; 0 for a program that is not there.
     pub fn overruns(&self, program: usize) -> u64
         ensures none { length self.now.plan.programs.items ≤ program → result ≡ 0 }
-        ensures overruns { program < length self.now.plan.programs.items → HasOverruns (places_of (plan_view self.now.plan)) (made self.now).history program result }
+        ensures overruns { program < length self.now.plan.programs.items → HasOverruns (schedules_of (plan_view self.now.plan)) (made self.now).history program result }
     {
         self.ready.overruns(program)
     }

@@ -18,7 +18,7 @@ pub enum Refusal {
     /// A moment not later than the last one.
     #[error("K4")]
     NotLater,
-    /// Want of memory.
+    /// Out of memory.
     #[error("K6")]
     NoMemory,
 }

@@ -2,6 +2,7 @@
 
 ghost use Rattle.std.specs.Prelude.{◌≡◌, ◌<◌, ◌^◌, IfSome, [], Some, map, length, if◌then◌else◌};
 ghost use Rattle.std.specs.List.{AllByRecursion};
+ghost use Rattle.st_words.specs.declared.limits.TheConstants.{MOMENT_LIMIT};
 ghost use Rattle.st_words.specs.Values.{IsHeld};
 ghost use Rattle.st_types.specs.Restarts.{kept, warm_start};
 ghost use Rattle.config.specs.PlanViews.{plan_view};
@@ -11,7 +12,7 @@ use crate::serial::SerialCore;
 use config::Plan;
 use st_types::{PlanVariable, Value};
 
-/// What a variable starts with, where these values are left for it and the retained variables behind it.
+/// What a variable starts with, where these values are left for it and the retained variables after it.
 fn value_of(variable: &PlanVariable, kept: &[Value]) -> Value
     ensures { result ≡ (if variable.now.retained then first_or variable.now.initial kept.now else variable.now.initial) }
 {
@@ -21,7 +22,7 @@ fn value_of(variable: &PlanVariable, kept: &[Value]) -> Value
     }
 }
 
-/// The values that are left behind a variable.
+/// The values that are left after a variable.
 fn left_behind<'a>(variable: &PlanVariable, kept: &'a [Value]) -> &'a [Value]
     ensures { result.now ≡ (if variable.now.retained then others kept.now else kept.now) }
 {
@@ -49,7 +50,7 @@ impl SerialCore {
     pub fn resume(&mut self, values: &[Value], moment: Option<u64>)
         requires empty { self.old.log ≡ [] }
         requires kinds { map (λ d. d.kind) values.now ≡ retained_kinds self.old.plan.variables.items }
-        requires early { IfSome moment (λ t. t < 2 ^ 62) }
+        requires early { IfSome moment (λ t. t < MOMENT_LIMIT) }
         requires held { AllByRecursion IsHeld values.now }
         ensures restarted { self.new ≡ record {
           plan = self.old.plan;

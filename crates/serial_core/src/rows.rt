@@ -10,6 +10,7 @@ ghost use Rattle.config.specs.PlanViews.{plan_view};
 
 use config::Plan;
 use st_types::{Entry, PlanInput, Row, Value};
+use st_words::limits::MOMENT_LIMIT;
 
 /// The row of this number, by where each row stands in the log.
 pub(crate) fn row_of<'a>(log: &'a [Entry], rows: &[usize], k: usize) -> &'a Row
@@ -60,5 +61,5 @@ fn is_image(inputs: &[PlanInput], image: &[Value]) -> bool
 pub(crate) fn fits(plan: &Plan, row: &Row) -> bool
     ensures { result ≡ fits_plan (plan_view plan.now) row.now }
 {
-    is_image(&plan.inputs, row.image()) && row.moment() < 1 << 62
+    is_image(&plan.inputs, row.image()) && row.moment() < MOMENT_LIMIT
 }

@@ -45,7 +45,7 @@ impl Model for SerialCore {
 
     ghost use Rattle.std.specs.Prelude.{◌≤◌, length, vec_capacity};
     ghost use Rattle.serial_core.specs.Steps.{store_in};
-    ghost use Rattle.serial_core.specs.Kept.{IsKept};
+    ghost use Rattle.serial_core.specs.Kept.{SerialInvariant};
 
     ghost view = { λ x. record {
       plan = x.plan.value;
@@ -56,7 +56,7 @@ impl Model for SerialCore {
     } };
 
     ghost invariant = { λ x.
-        IsKept x.plan.value x.start.items x.before x.values.items x.samples.items x.log.items x.outcomes.items x.rows.items x.last x.ready
+        SerialInvariant x.plan.value x.start.items x.before x.values.items x.samples.items x.log.items x.outcomes.items x.rows.items x.last x.ready
         × (length x.log.items ≤ x.room)
         × (x.room ≤ vec_capacity x.log)
         × (x.room ≤ vec_capacity x.outcomes)

@@ -1,6 +1,7 @@
 //! Starting a core.
 
 ghost use Rattle.std.specs.Prelude.{◌≡◌, ◌≤◌, [], None, IfOk, map};
+ghost use Rattle.st_words.specs.declared.limits.TheConstants.{MAX_LOG_ROOM};
 ghost use Rattle.st_types.specs.Plans.{initial_store};
 ghost use Rattle.config.specs.PlanViews.{plan_view};
 
@@ -26,7 +27,7 @@ impl SerialCore {
     /// A core of the plan without a disk: every variable has its initial value, and the log is empty with room for so many
     /// entries, 1 to 65,536. It makes all the memory that `latch`, `commit` and the calls that only tell need.
     pub fn start(alloc: Global, plan: Arc<Plan>, log_room: usize) -> Result<SerialCore, AllocError>
-        requires room { log_room ≤ 65536 }
+        requires room { log_room ≤ MAX_LOG_ROOM }
         ensures { IfOk result (λ core. core ≡ record { plan = plan.value; start = initial_store (plan_view plan.value); before = None; log = []; room = log_room }) }
     {
         let start = initial_values(alloc, &plan.variables)?;

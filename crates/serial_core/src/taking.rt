@@ -22,7 +22,7 @@ fn code_of(plan: &Plan, program: usize) -> Result<Arc<Code>, AllocError>
 }
 
 impl SerialCore {
-    /// A snapshot of the best activation that waits on the resource; none where nothing waits there, K6 for want of memory.
+    /// A snapshot of the best activation that waits on the resource; none where nothing waits there, K6 out of memory.
     pub fn take(&self, alloc: Global, resource: usize) -> Result<Option<Snapshot>, Refusal>
         ensures { Takes self.now resource result }
     {

@@ -9,14 +9,14 @@ use Rattle.slot_code.specs.declared.global.GlobalSlot.{GlobalSlot}
 use Rattle.slot_code.specs.declared.code.Code.{Code}
 
 -- a code by its value
-pub record Text : Type 0 where
+pub record CodeView : Type 0 where
   pub owner : Owner
   pub unit : OrganisationUnit
   pub globals : List GlobalSlot
 
-abbrev pub text_of : Code → Text
-text_of code = record { owner = code.owner; unit = unit_view code.unit.value; globals = code.globals.items }
+abbrev pub code_view : Code → CodeView
+code_view code = record { owner = code.owner; unit = unit_view code.unit.value; globals = code.globals.items }
 
 -- the program that a code runs
-abbrev pub program_of : Text → Program
+abbrev pub program_of : CodeView → Program
 program_of text = plain_program text.owner text.unit

@@ -1,7 +1,7 @@
 //! Comparison of codes.
 
 ghost use Rattle.std.specs.Prelude.{◌≡◌, ◌↔◌, IsTrue};
-ghost use Rattle.slot_code.specs.Codes.{text_of};
+ghost use Rattle.slot_code.specs.Codes.{code_view};
 
 use crate::code::Code;
 use st_types::{Tree, same_trees};
@@ -9,7 +9,7 @@ use st_types::{Tree, same_trees};
 impl Code {
     /// Whether the two are one code.
     pub fn is(&self, other: &Code) -> bool
-        ensures { IsTrue result ↔ (text_of self.now ≡ text_of other.now) }
+        ensures { IsTrue result ↔ (code_view self.now ≡ code_view other.now) }
     {
         self.owner.is(&other.owner)
             && self.unit.is(&other.unit)

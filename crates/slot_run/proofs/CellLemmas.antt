@@ -6,11 +6,11 @@ use Rattle.std.specs.Ordering.{int_eq}
 use Rattle.std.proofs.lemmas.List.{length-set}
 use Rattle.std.proofs.lemmas.Bool.Decides.{nat_tests, Decides-int_eq}
 use Rattle.st_words.specs.declared.kind.Kind.{Kind}
-use Rattle.st_words.specs.Kinds.{same_kind, place_of}
+use Rattle.st_words.specs.Kinds.{same_kind, kind_index}
 use Rattle.st_words.specs.Values.{Datum, same_datum}
 use Rattle.st_types.specs.Scopes.{Name}
 use Rattle.st_types.specs.Slots.{Slot, Cell, inputs_in, is_value, agrees, written}
-use Rattle.st_types.proofs.Shapes.{same_kind_is}
+use Rattle.st_words.proofs.KindLemmas.{same_kind_is}
 use Rattle.slot_code.specs.declared.global.GlobalSlot.{GlobalSlot}
 use Rattle.slot_code.specs.Globals.{global_named, Fits}
 use Rattle.slot_run.specs.Cells.{with_cell, each_once}
@@ -119,7 +119,7 @@ same_datum_is a b h =
     ap (λ k. datum k a.number) (same_kind_is a.kind b.kind p.0) ∙ ap (datum b.kind) ((Decides-int_eq a.number b.number).0 p.1)
 
 same_datum_itself : (a : Datum) → same_datum a a ≡ true
-same_datum_itself a = let k : same_kind a.kind a.kind ≡ true = same_itself (place_of a.kind) in let n = (Decides-int_eq a.number a.number).1 refl in rw (k, n) refl
+same_datum_itself a = let k : same_kind a.kind a.kind ≡ true = same_itself (kind_index a.kind) in let n = (Decides-int_eq a.number a.number).1 refl in rw (k, n) refl
 
 value_is : (o : Option Datum) (v : Datum) → is_value o v ≡ true → o ≡ Some v
 value_is None v h = absurd (cc)

@@ -22,8 +22,8 @@ filter_cut : (c : Cell) (xs : List Cell) → map cut (filter (λ d. not (d.slot 
 filter_cut c [] = refl
 filter_cut c (x ∷ xs) = kept_or_not x (not (x.slot == c.slot)) (filter (λ d. not (d.slot == c.slot)) xs) (filter (λ d. not (d.0 == c.slot)) (map cut xs)) (filter_cut c xs)
 
-pub cut_with : (old kept new : List Cell) (c : Cell) → kept ≡ filter (λ d. not (d.slot == c.slot)) old → new ≡ kept ++ c ∷ [] → map cut new ≡ with_cell (map cut old) (cut c)
-cut_with old kept new c e f =
+pub cut_with : (old others new : List Cell) (c : Cell) → others ≡ filter (λ d. not (d.slot == c.slot)) old → new ≡ others ++ c ∷ [] → map cut new ≡ with_cell (map cut old) (cut c)
+cut_with old others new c e f =
     ap (map cut) (f ∙ ap (λ xs. xs ++ c ∷ []) e) ∙ map-append cut (filter (λ d. not (d.slot == c.slot)) old) (c ∷ []) ∙ ap (λ xs. xs ++ cut c ∷ []) (filter_cut c old)
 
 -- each global has its slot

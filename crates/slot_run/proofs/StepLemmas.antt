@@ -22,7 +22,7 @@ use Rattle.st_types.specs.Slots.{Slot, Cell, variables_in, written_slot}
 use Rattle.st_types.proofs.SlotLemmas.{seen_slot, assigned_slot}
 use Rattle.slot_code.specs.declared.global.GlobalSlot.{GlobalSlot}
 use Rattle.slot_code.specs.Globals.{global_named, is_assignable, is_sum, is_plain, Fits}
-use Rattle.slot_code.specs.Codes.{Text}
+use Rattle.slot_code.specs.Codes.{CodeView}
 use Rattle.slot_run.specs.Targets.{targets}
 use Rattle.slot_run.specs.Effects.{is_slot_of}
 use Rattle.slot_run.specs.Steps.{Sees, AreAlike, scope_over, Steps}
@@ -30,7 +30,7 @@ use Rattle.slot_run.proofs.SumLemmas.{IsValueOf, variable_view_is}
 use Rattle.slot_run.proofs.Bools.{both, same_itself}
 
 -- the globals' names are the externals of the text
-abbrev pub AreNamed : Text → Type 0
+abbrev pub AreNamed : CodeView → Type 0
 AreNamed text = map (λ g. g.name) text.globals ≡ externals_in text.unit.blocks
 
 -- a plain statement is an assignment of a sum to a variable
@@ -68,16 +68,16 @@ named_there (h ∷ globals) x g known = by_test (bytes_eq x h.name) known (named
     by_test true e later = refl
     by_test false e later = later e
 
-contains_there : (text : Text) (x : Name) (g : GlobalSlot) → AreNamed text → global_named text.globals x ≡ Some g → contains_name (externals_in text.unit.blocks) x ≡ true
+contains_there : (text : CodeView) (x : Name) (g : GlobalSlot) → AreNamed text → global_named text.globals x ≡ Some g → contains_name (externals_in text.unit.blocks) x ≡ true
 contains_there text x g named known = ap (λ xs. contains_name xs x) (sym named) ∙ named_there text.globals x g known
 
-path_of_global : (text : Text) (layout : List Slot) (vs : List Datum) (moment budget : ℕ) (x : Name) (g : GlobalSlot) → AreNamed text → global_named text.globals x ≡ Some g
+path_of_global : (text : CodeView) (layout : List Slot) (vs : List Datum) (moment budget : ℕ) (x : Name) (g : GlobalSlot) → AreNamed text → global_named text.globals x ≡ Some g
     → path_in (scope_over text layout vs moment budget).frame (scope_over text layout vs moment budget).body x ≡ unowned x
 path_of_global text layout vs moment budget x g named known =
     rw (contains_there text x g named known) refl
 
 -- the place where a global's slot meets the look-up of its name
-sees_over : (text : Text) (layout : List Slot) (vs : List Datum) (moment budget : ℕ) → AreNamed text → Fits layout text.globals → length layout ≡ length vs → Sees (scope_over text layout vs moment budget) (variables_in layout vs) text.globals vs
+sees_over : (text : CodeView) (layout : List Slot) (vs : List Datum) (moment budget : ℕ) → AreNamed text → Fits layout text.globals → length layout ≡ length vs → Sees (scope_over text layout vs moment budget) (variables_in layout vs) text.globals vs
 sees_over text layout vs moment budget named fits len = record {
   there = λ x g known.
       rw (path_of_global text layout vs moment budget x g named known)
@@ -88,13 +88,13 @@ sees_over text layout vs moment budget named fits len = record {
 sees_alike : (w : Scope) (s : Store) (globals : List GlobalSlot) (vs us : List Datum) → Sees w s globals vs → AreAlike globals vs us → Sees w s globals us
 sees_alike w s globals vs us sees alike = record { there = λ x g known. sees.there x g known ∙ alike x g known; missing = sees.missing }
 
-sum_over : (text : Text) (e : Expr) (us : List Datum) (result : Result Datum Fault) (layout : List Slot) (vs : List Datum) (moment budget left : ℕ) → AreNamed text → IsValueOf text.globals us e result → is_sum text.globals e ≡ true
+sum_over : (text : CodeView) (e : Expr) (us : List Datum) (result : Result Datum Fault) (layout : List Slot) (vs : List Datum) (moment budget left : ℕ) → AreNamed text → IsValueOf text.globals us e result → is_sum text.globals e ≡ true
     → Fits layout text.globals → length layout ≡ length vs → AreAlike text.globals vs us → value (scope_over text layout vs moment budget) (variables_in layout vs) e left ≡ take result left
 sum_over text e us result layout vs moment budget left named is sum fits len alike =
     is (scope_over text layout vs moment budget) (variables_in layout vs) left (sees_alike (scope_over text layout vs moment budget) (variables_in layout vs) text.globals vs us (sees_over text layout vs moment budget named fits len) alike) sum
 
 -- a right side that faults
-pub steps_fault : (text : Text) (x : Identifier) (e : Expr) (us : List Datum) (f : Fault) → AreNamed text → is_sum text.globals e ≡ true → IsValueOf text.globals us e (Err f) → Steps text (assign (variable x no_selectors) e) us (Err f)
+pub steps_fault : (text : CodeView) (x : Identifier) (e : Expr) (us : List Datum) (f : Fault) → AreNamed text → is_sum text.globals e ≡ true → IsValueOf text.globals us e (Err f) → Steps text (assign (variable x no_selectors) e) us (Err f)
 steps_fault text x e us f named sum is layout vs moment budget left fits len alike =
     rw (sum_over text e us (Err f) layout vs moment budget left named is sum fits len alike) refl
 
@@ -104,23 +104,23 @@ not_past [] k lt none = absurd (omega arith)
 not_past (v ∷ vs) zero lt none = absurd (cc)
 not_past (v ∷ vs) (suc k) lt none = not_past vs k (omega arith) none
 
-pub steps_nowhere : (text : Text) (x : Name) (s : Stmt) (g : GlobalSlot) (us : List Datum) (result : Result Cell Fault) → global_named text.globals x ≡ Some g → slice_get us g.slot ≡ None → Steps text s us result
+pub steps_nowhere : (text : CodeView) (x : Name) (s : Stmt) (g : GlobalSlot) (us : List Datum) (result : Result Cell Fault) → global_named text.globals x ≡ Some g → slice_get us g.slot ≡ None → Steps text s us result
 steps_nowhere text x s g us result known none layout vs moment budget left fits len alike =
     let at = slice_get_within layout g.slot (record { path = unowned x; is_input = g.is_input }) (fits.slots x g known) in
     absurd (not_past vs g.slot (omega arith) (alike x g known ∙ none))
 
 -- a value that the target's type takes or not
-assigned_global : (text : Text) (x : Name) (us : List Datum) (v old : Datum) (g : GlobalSlot) (layout : List Slot) (vs : List Datum) → global_named text.globals x ≡ Some g → g.is_input ≡ false → slice_get us g.slot ≡ Some old
+assigned_global : (text : CodeView) (x : Name) (us : List Datum) (v old : Datum) (g : GlobalSlot) (layout : List Slot) (vs : List Datum) → global_named text.globals x ≡ Some g → g.is_input ≡ false → slice_get us g.slot ≡ Some old
     → Fits layout text.globals → length layout ≡ length vs → AreAlike text.globals vs us → assigned (variables_in layout vs) (unowned x) v ≡ written_slot layout vs g.slot old v
 assigned_global text x us v old g layout vs known out at fits len alike =
     assigned_slot layout vs fits.distinct len g.slot (record { path = unowned x; is_input = g.is_input }) old v (fits.slots x g known) out (alike x g known ∙ at)
 
-pub steps_written : (text : Text) (x : Identifier) (e : Expr) (us : List Datum) (v old : Datum) (g : GlobalSlot) → AreNamed text → is_sum text.globals e ≡ true → IsValueOf text.globals us e (Ok v) → global_named text.globals x.name ≡ Some g → g.is_input ≡ false → slice_get us g.slot ≡ Some old
+pub steps_written : (text : CodeView) (x : Identifier) (e : Expr) (us : List Datum) (v old : Datum) (g : GlobalSlot) → AreNamed text → is_sum text.globals e ≡ true → IsValueOf text.globals us e (Ok v) → global_named text.globals x.name ≡ Some g → g.is_input ≡ false → slice_get us g.slot ≡ Some old
     → may_replace old v ≡ true → Steps text (assign (variable x no_selectors) e) us (Ok (g.slot, v))
 steps_written text x e us v old g named sum is known out at may layout vs moment budget left fits len alike =
     rw (sum_over text e us (Ok v) layout vs moment budget left named is sum fits len alike, contains_there text x.name g named known, assigned_global text x.name us v old g layout vs known out at fits len alike, may) refl
 
-pub steps_refused : (text : Text) (x : Identifier) (e : Expr) (us : List Datum) (v old : Datum) (g : GlobalSlot) → AreNamed text → is_sum text.globals e ≡ true → IsValueOf text.globals us e (Ok v) → global_named text.globals x.name ≡ Some g → g.is_input ≡ false → slice_get us g.slot ≡ Some old
+pub steps_refused : (text : CodeView) (x : Identifier) (e : Expr) (us : List Datum) (v old : Datum) (g : GlobalSlot) → AreNamed text → is_sum text.globals e ≡ true → IsValueOf text.globals us e (Ok v) → global_named text.globals x.name ≡ Some g → g.is_input ≡ false → slice_get us g.slot ≡ Some old
     → may_replace old v ≡ false → Steps text (assign (variable x no_selectors) e) us (Err Conversion)
 steps_refused text x e us v old g named sum is known out at may layout vs moment budget left fits len alike =
     rw (sum_over text e us (Ok v) layout vs moment budget left named is sum fits len alike, contains_there text x.name g named known, assigned_global text x.name us v old g layout vs known out at fits len alike, may) refl

@@ -13,7 +13,7 @@ use Rattle.st_types.specs.Slots.{Slot, Cell, variables_in, inputs_in, agrees, wr
 use Rattle.slot_code.specs.declared.code.Code.{Code}
 use Rattle.slot_code.specs.declared.global.GlobalSlot.{GlobalSlot}
 use Rattle.slot_code.specs.Globals.{global_named, Fits}
-use Rattle.slot_code.specs.Codes.{Text, text_of, program_of}
+use Rattle.slot_code.specs.Codes.{CodeView, code_view, program_of}
 use Rattle.slot_run.specs.Cells.{EachSlotOnce}
 use Rattle.slot_run.specs.Targets.{all_targets}
 
@@ -31,8 +31,8 @@ pub record Effect : Type 0 where
 abbrev pub IsRunOf : Code → ℕ → ℕ → List Cell → List Cell → Outcome → Type 0
 IsRunOf code moment budget reads writes outcome =
     (layout : List Slot) (vs : List Datum) → Fits layout code.globals.items → length layout ≡ length vs → agrees vs reads ≡ true
-    → (outcome_of (program_of (text_of code)) budget (variables_in layout vs) (inputs_in layout vs) moment ≡ outcome)
-    × (store_after (program_of (text_of code)) budget (variables_in layout vs) (inputs_in layout vs) moment ≡ variables_in layout (written vs writes))
+    → (outcome_of (program_of (code_view code)) budget (variables_in layout vs) (inputs_in layout vs) moment ≡ outcome)
+    × (store_after (program_of (code_view code)) budget (variables_in layout vs) (inputs_in layout vs) moment ≡ variables_in layout (written vs writes))
 
 -- the slot of a global that is no input
 abbrev pub is_variable_slot : List GlobalSlot → ℕ → Bool
@@ -48,7 +48,7 @@ abbrev pub is_slot_of : List GlobalSlot → List Name → ℕ → Bool
 is_slot_of globals names k = list_any (λ x. has_slot (global_named globals x) k) names
 
 -- the slot of a global that the program's statements assign
-abbrev pub is_target_slot : Text → ℕ → Bool
+abbrev pub is_target_slot : CodeView → ℕ → Bool
 is_target_slot text k = is_slot_of text.globals (all_targets (stmts_of text.unit.body)) k
 
 -- What a run did is true of it; its writes go to variables alone, and to those that its program assigns; no slot stands twice among
@@ -56,7 +56,7 @@ is_target_slot text k = is_slot_of text.globals (all_targets (stmts_of text.unit
 pub record IsTrueOf (code : Code) (moment budget : ℕ) (reads writes : List Cell) (outcome : Outcome) : Type 0 where
   pub run : IsRunOf code moment budget reads writes outcome
   pub variables : list_all (λ c. is_variable_slot code.globals.items c.0) writes ≡ true
-  pub targets : list_all (λ c. is_target_slot (text_of code) c.0) writes ≡ true
+  pub targets : list_all (λ c. is_target_slot (code_view code) c.0) writes ≡ true
   pub reads_once : EachSlotOnce reads
   pub writes_once : EachSlotOnce writes
   pub none : (f : Fault) → outcome ≡ Faulted f → writes ≡ []

@@ -14,7 +14,7 @@ use Rattle.st_types.specs.Runs.{scope_of}
 use Rattle.st_types.specs.Slots.{Slot, Cell, variables_in, inputs_in, written}
 use Rattle.slot_code.specs.declared.global.GlobalSlot.{GlobalSlot}
 use Rattle.slot_code.specs.Globals.{global_named, Fits}
-use Rattle.slot_code.specs.Codes.{Text, program_of}
+use Rattle.slot_code.specs.Codes.{CodeView, program_of}
 
 -- Each global has in the store, or among the inputs, the value of its slot, and F3 stands where a name has no value.
 pub record Sees (w : Scope) (s : Store) (globals : List GlobalSlot) (vs : List Datum) : Type 0 where
@@ -38,7 +38,7 @@ pub record IsVariable (globals : List GlobalSlot) (k : ℕ) : Type 0 where
   pub sort : global.is_input ≡ false
 
 -- where the code runs, over the slots of a layout
-abbrev pub scope_over : Text → List Slot → List Datum → ℕ → ℕ → Scope
+abbrev pub scope_over : CodeView → List Slot → List Datum → ℕ → ℕ → Scope
 scope_over text layout vs moment budget = scope_of (program_of text) (inputs_in layout vs) moment budget
 
 -- a cell written to the variables of the layout, or a fault
@@ -47,7 +47,7 @@ ended layout vs left (Ok c) = Ok (goes_on (variables_in layout (slice_set vs c.0
 ended layout vs left (Err f) = Err f
 
 -- The statement writes the cell, or faults, wherever the globals have these values.
-abbrev pub Steps : Text → Stmt → List Datum → Result Cell Fault → Type 0
+abbrev pub Steps : CodeView → Stmt → List Datum → Result Cell Fault → Type 0
 Steps text x us result =
     (layout : List Slot) (vs : List Datum) (moment budget left : ℕ) → Fits layout text.globals → length layout ≡ length vs → AreAlike text.globals vs us
     → exec (scope_over text layout vs moment budget) x (variables_in layout vs) (suc left) ≡ ended layout vs left result
@@ -58,12 +58,12 @@ IsEnd Done s r = (left : ℕ) × (r ≡ Ok (goes_on s, left))
 IsEnd (Faulted f) s r = r ≡ Err f
 
 -- The code ends so, and writes these cells where it is done, wherever the globals have these values.
-abbrev pub Runs : Text → List Datum → ℕ → List Cell → Outcome → Type 0
+abbrev pub Runs : CodeView → List Datum → ℕ → List Cell → Outcome → Type 0
 Runs text us budget writes outcome =
     (layout : List Slot) (vs : List Datum) (moment : ℕ) → Fits layout text.globals → length layout ≡ length vs → AreAlike text.globals vs us
     → IsEnd outcome (variables_in layout (written vs writes)) (exec_all (scope_over text layout vs moment budget) (stmts_of text.unit.body) (variables_in layout vs) budget)
 
 -- the cells that are left after such an end: a fault leaves none
-abbrev pub kept : Outcome → List Cell → List Cell
-kept Done writes = writes
-kept (Faulted f) writes = []
+abbrev pub lasting_writes : Outcome → List Cell → List Cell
+lasting_writes Done writes = writes
+lasting_writes (Faulted f) writes = []

@@ -6,12 +6,12 @@ ghost use Rattle.st_trees.specs.StatementViews.{stmt_view};
 ghost use Rattle.st_types.specs.Slots.{agrees};
 ghost use Rattle.st_types.specs.Stores.{may_replace};
 ghost use Rattle.slot_code.specs.Globals.{is_plain};
-ghost use Rattle.slot_code.specs.Codes.{text_of};
+ghost use Rattle.slot_code.specs.Codes.{code_view};
 ghost use Rattle.slot_run.specs.Cells.{cut, cut_of, with_cell, EachSlotOnce, each_once};
 ghost use Rattle.slot_run.specs.Targets.{targets};
 ghost use Rattle.slot_run.specs.Effects.{is_variable_slot, is_slot_of, is_target_slot};
 ghost use Rattle.slot_run.specs.Executions.{IsEffectOf};
-ghost use Rattle.slot_run.specs.Steps.{IsVariable, Runs, Steps, kept};
+ghost use Rattle.slot_run.specs.Steps.{IsVariable, Runs, Steps, lasting_writes};
 
 use crate::cell::Cell;
 use crate::execution::Execution;
@@ -58,7 +58,7 @@ fn may_replace(old: Value, new: Value) -> bool
 /// The cell that an assignment writes, or its fault. It takes one tick, which the caller counts.
 fn step(code: &Code, statement: &Stmt, slots: &[Value]) -> Result<Cell, Fault>
     requires plain { is_plain code.now.globals.items (stmt_view statement.now) ≡ true }
-    ensures steps { Steps (text_of code.now) (stmt_view statement.now) slots.now (cut_of result) }
+    ensures steps { Steps (code_view code.now) (stmt_view statement.now) slots.now (cut_of result) }
     ensures variable { IfOk result (λ c. IsVariable code.now.globals.items c.slot) }
     ensures target { IfOk result (λ c. is_slot_of code.now.globals.items (targets (stmt_view statement.now)) c.slot ≡ true) }
     ensures there { IfOk result (λ c. c.slot < length slots.now) }
@@ -100,9 +100,9 @@ fn run_all(
     budget: u32,
 ) -> Result<Outcome, AllocError>
     requires none { writes.old.items ≡ [] }
-    ensures runs { IfOk result (λ outcome. Runs (text_of code.now) slots.items budget (map cut writes.new.items) outcome) }
+    ensures runs { IfOk result (λ outcome. Runs (code_view code.now) slots.items budget (map cut writes.new.items) outcome) }
     ensures variables { IfOk result (λ _. list_all (λ c. is_variable_slot code.now.globals.items c.0) (map cut writes.new.items) ≡ true) }
-    ensures targets { IfOk result (λ _. list_all (λ c. is_target_slot (text_of code.now) c.0) (map cut writes.new.items) ≡ true) }
+    ensures targets { IfOk result (λ _. list_all (λ c. is_target_slot (code_view code.now) c.0) (map cut writes.new.items) ≡ true) }
     ensures once { IfOk result (λ _. EachSlotOnce (map cut writes.new.items)) }
 {
     let mut left = budget;
@@ -122,8 +122,8 @@ fn run_all(
 }
 
 /// The writes that such an end leaves: a fault leaves none.
-fn kept(outcome: Outcome, mut writes: Vec<Cell>) -> Vec<Cell>
-    ensures { map cut result.items ≡ kept outcome (map cut writes.items) }
+fn lasting_writes(outcome: Outcome, mut writes: Vec<Cell>) -> Vec<Cell>
+    ensures { map cut result.items ≡ lasting_writes outcome (map cut writes.items) }
 {
     if let Outcome::Faulted(_) = outcome {
         writes.clear();
@@ -134,7 +134,7 @@ fn kept(outcome: Outcome, mut writes: Vec<Cell>) -> Vec<Cell>
 /// Runs a snapshot's code on its values. What it reads are all globals that the program names, each once; what it writes are variables
 /// that its statements assign, each once.
 ///
-/// An error is want of memory alone.
+/// The only error is out of memory.
 pub fn run(alloc: Global, snapshot: Snapshot) -> Result<Execution, AllocError>
     ensures { IfOk result (IsEffectOf snapshot) }
 {
@@ -149,6 +149,6 @@ pub fn run(alloc: Global, snapshot: Snapshot) -> Result<Execution, AllocError>
     let reads = reads_of(alloc, &code.globals, &slots)?;
     let mut writes = Vec::new(alloc);
     let outcome = run_all(&code, slots, &mut writes, budget)?;
-    let writes = kept(outcome, writes);
+    let writes = lasting_writes(outcome, writes);
     Ok(Execution::new(code, activation, moment, budget, reads, writes, outcome))
 }

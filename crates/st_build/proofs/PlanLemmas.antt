@@ -6,6 +6,7 @@ use Rattle.st_trees.specs.declared.source.Source.{Source as Tree}
 use Rattle.std.specs.List.{list_all}
 use Rattle.std.proofs.lemmas.Bool.{and_parts}
 use Rattle.std.proofs.lemmas.Bool.Decides.{nat_tests}
+use Rattle.st_words.specs.declared.limits.TheConstants.{MAX_BUDGET, MAX_PATHS, MAX_RECORD_BODY}
 use Rattle.st_trees.specs.Units.{OrganisationUnit}
 use Rattle.st_trees.specs.Configurations.{Configuration}
 use Rattle.st_trees.specs.Sources.{Source}
@@ -33,15 +34,15 @@ use Rattle.st_rules.specs.declared.rule.Broken.{Broken}
 use Rattle.st_rules.specs.Rules as broken_rules
 use Rattle.st_build.specs.TextParts.{configurations_in, has_types, IsNotConfigured}
 use Rattle.st_build.specs.Refusals.{HasGlobals, HasTooManyPaths, HasThinRecordTooLong}
-use Rattle.st_build.specs.Plans.{IsKept, HasPrograms, IsPlanFrom, IsPlanOf, IsUnsupported, IsBeyond, Breaks, Applies, IsMemory, GivesPlan}
+use Rattle.st_build.specs.Plans.{MeetsRules, HasPrograms, IsPlanFrom, IsPlanOf, IsUnsupported, IsBeyond, Breaks, Applies, IsMemory, GivesPlan}
 use Rattle.st_build.proofs.ListLemmas.{same_parts}
 
 -- the limits that a thin plan keeps
 record Limits (variables : List PlanVariable) (inputs : List PlanInput) (budget : ℕ) : Type 0 where
-  paths : nat_le (length variables + length inputs) 4096 ≡ true
+  paths : nat_le (length variables + length inputs) MAX_PATHS ≡ true
   least : nat_le 1 budget ≡ true
-  most : nat_le budget 1000000 ≡ true
-  long : nat_le (record_length variables) 131059 ≡ true
+  most : nat_le budget MAX_BUDGET ≡ true
+  long : nat_le (record_length variables) MAX_RECORD_BODY ≡ true
 
 limits_of : (units : List OrganisationUnit) (vs : List PlanVariable) (is : List PlanInput) (ps : List ThinProgram) (budget : ℕ) → is_thin units vs is ps budget ≡ true → Limits vs is budget
 limits_of units vs is ps budget h =
@@ -50,11 +51,11 @@ limits_of units vs is ps budget h =
     let c = and_parts (are_different (names_of vs is)) _ b.1 in
     let d = and_parts (list_all (is_thin_unit vs is) units) _ c.1 in
     let e = and_parts (list_all (is_thin_program (length units)) ps) (is_within vs is ps budget) d.1 in
-    let f = and_parts (nat_le (length vs + length is) 4096) _ e.1 in
+    let f = and_parts (nat_le (length vs + length is) MAX_PATHS) _ e.1 in
     let g = and_parts (nat_le (length ps) 64) _ f.1 in
     let i = and_parts (list_all (λ p. nat_le (programs_on p.resource ps) 32) ps) _ g.1 in
     let j = and_parts (nat_le 1 budget) _ i.1 in
-    let k = and_parts (nat_le budget 1000000) (nat_le (record_length vs) 131059) j.1 in
+    let k = and_parts (nat_le budget MAX_BUDGET) (nat_le (record_length vs) MAX_RECORD_BODY) j.1 in
     record { paths = f.0; least = j.0; most = k.0; long = k.1 }
 
 same_variables : (c : Configuration) (vs ws : List PlanVariable) (is js : List PlanInput) → HasGlobals c vs is → HasGlobals c ws js → vs ≡ ws
@@ -72,7 +73,7 @@ one_plan units c budget p q a b =
     a.is ∙ ap (λ x. thin_plan units x a.inputs a.programs budget) v ∙ ap (λ x. thin_plan units b.variables x a.programs budget) i
     ∙ ap (λ x. thin_plan units b.variables b.inputs x budget) r ∙ sym b.is
 
--- units and a configuration that have a plan are refused for want of memory alone
+-- units and a configuration that have a plan are refused only where memory runs out
 not_refused : (units : List OrganisationUnit) (c : Configuration) (budget : ℕ) (p : plans.Plan) (e : BuildError) → IsPlanFrom units c budget p → Breaks units c budget e → IsMemory e
 not_refused units c budget p errors.Unknown a h = let k = a.kept.known in absurd (cc)
 not_refused units c budget p errors.Address a h = let k = a.kept.addresses in absurd (cc)
@@ -81,12 +82,12 @@ not_refused units c budget p errors.NoTask a h = let k = a.kept.tasked in absurd
 not_refused units c budget p errors.TooManyPaths a h =
     let v = same_variables c h.variables a.variables h.inputs a.inputs h.globals a.globals in
     let i = same_inputs c h.variables a.variables h.inputs a.inputs h.globals a.globals in
-    let many : 4096 < length a.variables + length a.inputs = rw (v, i) at h.many in
+    let many : MAX_PATHS < length a.variables + length a.inputs = rw (v, i) at h.many in
     let paths = (limits_of units a.variables a.inputs a.programs budget a.thin).paths in
     absurd (grind (arith, nat_tests))
 not_refused units c budget p errors.RecordTooLong a h =
     let v = same_variables c h.variables a.variables h.inputs a.inputs h.globals a.globals in
-    let longer : 131059 < record_length a.variables = rw v at h.long in
+    let longer : MAX_RECORD_BODY < record_length a.variables = rw v at h.long in
     let long = (limits_of units a.variables a.inputs a.programs budget a.thin).long in
     absurd (grind (arith, nat_tests))
 not_refused units c budget p errors.Unsupported a h = absurd (h.none p a)
@@ -110,11 +111,11 @@ not_thin units c budget vs is ps globals programs none plan a =
 
 -- globals whose record is short, as far as this version has them
 pub short_record : (c : Configuration) (vs : List PlanVariable) (is : List PlanInput) → HasGlobals c vs is
-    → (list_all is_thin_variable vs ≡ true → record_length vs ≤ 131059) → HasThinRecordTooLong c → ⊥
+    → (list_all is_thin_variable vs ≡ true → record_length vs ≤ MAX_RECORD_BODY) → HasThinRecordTooLong c → ⊥
 short_record c vs is globals short h =
     let v = same_variables c h.variables vs h.inputs is h.globals globals in
     let thin : list_all is_thin_variable vs ≡ true = rw v at h.thin in
-    let longer : 131059 < record_length vs = rw v at h.long in
+    let longer : MAX_RECORD_BODY < record_length vs = rw v at h.long in
     let most = short thin in
     absurd (omega arith)
 
@@ -150,7 +151,7 @@ beyond source units c budget us one unbroken h = record {
   configuration = c;
   one = one;
   unbroken = unbroken;
-  kept = subst (λ x. IsKept x c) us h.kept;
+  kept = subst (λ x. MeetsRules x c) us h.kept;
   few = h.few;
   short = h.short;
   none = λ plan p. h.none plan (from_text source units c budget plan us one p);
@@ -163,7 +164,7 @@ beyond_types source units c budget plan us one unbroken types from = record {
   configuration = c;
   one = one;
   unbroken = unbroken;
-  kept = subst (λ x. IsKept x c) us from.kept;
+  kept = subst (λ x. MeetsRules x c) us from.kept;
   few = λ many. not_refused units c budget plan errors.TooManyPaths from many;
   short = λ long. not_refused units c budget plan errors.RecordTooLong from record { variables = long.variables; inputs = long.inputs; globals = long.globals; long = long.long };
   none = λ other p. let plain = p.plain in absurd (cc);
@@ -207,7 +208,7 @@ there source budget p e a h = not_refused (units_in source) h.0 budget p e (from
 pub text_plan : (source : Source) (budget : ℕ) (p q : plans.Plan) → IsPlanOf source budget p → IsPlanOf source budget q → p ≡ q
 text_plan source budget p q a b = one_plan (units_in source) b.configuration budget p q (from_text source (units_in source) b.configuration budget p refl b.one a) b.from
 
--- a text that has a plan is refused for want of memory alone
+-- a text that has a plan is refused only where memory runs out
 pub text_refused : (source : Source) (budget : ℕ) (p : plans.Plan) (e : BuildError) → IsPlanOf source budget p → Applies source budget e → IsMemory e
 text_refused source budget p errors.NoConfiguration a h = absurd (let one = a.one in cc)
 text_refused source budget p errors.Unsupported a h = absurd (h.none p a)
@@ -235,7 +236,7 @@ grammar_refused grammar.Deep found source is h = absurd (subst (λ x. parsing.An
 grammar_refused (grammar.Unexpected place) found source is h = absurd (subst (λ x. parsing.Answers source x) is h)
 
 -- a budget that is refused has no plan
-pub budget_refused : (source : Source) (budget : ℕ) (p : plans.Plan) → IsPlanOf source budget p → (1 ≤ budget) × (budget ≤ 1000000)
+pub budget_refused : (source : Source) (budget : ℕ) (p : plans.Plan) → IsPlanOf source budget p → (1 ≤ budget) × (budget ≤ MAX_BUDGET)
 budget_refused source budget p a =
     let f = a.from in
     let limits = limits_of (units_in source) f.variables f.inputs f.programs budget f.thin in

@@ -1,5 +1,6 @@
 -- The plan of a text, and why it has none.
 use Rattle.std.specs.Prelude.{◌≡◌, ◌<◌, ◌⊎◌, ◌==◌, ℕ, true, false, List, [], ◌∷◌, map, length, Some, Result, Ok, Err}
+use Rattle.st_words.specs.declared.limits.TheConstants.{MAX_BUDGET}
 use Rattle.st_trees.specs.Units.{OrganisationUnit}
 use Rattle.st_trees.specs.Configurations.{Configuration}
 use Rattle.st_trees.specs.Sources.{Source}
@@ -28,7 +29,7 @@ use Rattle.st_build.specs.Externals.{are_known}
 use Rattle.st_build.specs.Refusals.{HasGlobals, has_sound_addresses, are_too_many, is_without_task, HasTooManyPaths, HasTooLongRecord, HasThinRecordTooLong}
 
 -- Names are known, addresses are sound, and there are enough tasks and not too many.
-pub record IsKept (units : List OrganisationUnit) (c : Configuration) : Type 0 where
+pub record MeetsRules (units : List OrganisationUnit) (c : Configuration) : Type 0 where
   pub known : are_known units c ≡ true
   pub addresses : has_sound_addresses c.globals ≡ true
   pub few : are_too_many c.resources ≡ false
@@ -44,7 +45,7 @@ pub record IsPlanFrom (units : List OrganisationUnit) (c : Configuration) (budge
   pub variables : List PlanVariable
   pub inputs : List PlanInput
   pub programs : List ThinProgram
-  pub kept : IsKept units c
+  pub kept : MeetsRules units c
   pub globals : HasGlobals c variables inputs
   pub programs_are : HasPrograms units c programs
   pub thin : is_thin units variables inputs programs budget ≡ true
@@ -83,12 +84,12 @@ LacksPrograms units c _ = ⊥
 
 -- What no other number refuses, and yet has no plan; a record may be too long of variables that this version has not.
 pub record IsUnsupported (units : List OrganisationUnit) (c : Configuration) (budget : ℕ) : Type 0 where
-  pub kept : IsKept units c
+  pub kept : MeetsRules units c
   pub few : HasTooManyPaths c → ⊥
   pub short : HasThinRecordTooLong c → ⊥
   pub none : (plan : plans.Plan) → IsPlanFrom units c budget plan → ⊥
 
--- Why units and a configuration have no plan: this number applies. Want of memory says nothing of them.
+-- Why units and a configuration have no plan: this number applies. Out of memory says nothing of them.
 abbrev pub Breaks : List OrganisationUnit → Configuration → ℕ → BuildError → Type 0
 Breaks units c budget errors.TooManyPaths = HasTooManyPaths c
 Breaks units c budget errors.RecordTooLong = HasTooLongRecord c
@@ -100,7 +101,7 @@ pub record IsBeyond (source : Source) (budget : ℕ) : Type 0 where
   pub configuration : Configuration
   pub one : configurations_in source ≡ configuration ∷ []
   pub unbroken : (broken : Broken) → rules.Breaks source broken → ⊥
-  pub kept : IsKept (units_in source) configuration
+  pub kept : MeetsRules (units_in source) configuration
   pub few : HasTooManyPaths configuration → ⊥
   pub short : HasThinRecordTooLong configuration → ⊥
   pub none : (plan : plans.Plan) → IsPlanOf source budget plan → ⊥
@@ -122,13 +123,13 @@ pub record IsTextOf (text : List ℕ) (source : Source) : Type 0 where
 
 -- why a text has no plan
 abbrev pub Refused : List ℕ → ℕ → BuildError → Type 0
-Refused text budget errors.Budget = (budget ≡ 0) ⊎ (1000000 < budget)
+Refused text budget errors.Budget = (budget ≡ 0) ⊎ (MAX_BUDGET < budget)
 Refused text budget (errors.Words e) = texts.Applies text e
 Refused text budget (errors.Grammar e) = (tokens : List Token) × texts.IsSpelledBy text tokens × parsing.Refused tokens e
 Refused text budget errors.Memory = Unit {0}
 Refused text budget e = (source : Source) × IsTextOf text source × Applies source budget e
 
--- want of memory, by whomever it is told
+-- out of memory, by whomever it is told
 abbrev pub IsMemory : BuildError → Type 0
 IsMemory errors.Memory = Unit {0}
 IsMemory (errors.Words lexing.Memory) = Unit {0}

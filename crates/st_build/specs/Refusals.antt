@@ -1,6 +1,7 @@
 -- Why a configuration has no plan.
 use Rattle.std.specs.Prelude.{◌≡◌, ℕ, ◌<◌, ◌+◌, Bool, true, false, ◌&&◌, ◌||◌, nat_lt, List, flat_map, map, length, Option, Some, None}
 use Rattle.std.specs.List.{list_all, list_any}
+use Rattle.st_words.specs.declared.limits.TheConstants.{MAX_PATHS, MAX_PROGRAMS, MAX_RECORD_BODY, MAX_RESOURCES, MAX_TASKS}
 use Rattle.st_words.specs.declared.identifier.Identifier.{Identifier}
 use Rattle.st_trees.specs.Configurations.{GlobalBlock, Resource, Configuration}
 use Rattle.st_types.specs.declared.plan.PlanVariable.{PlanVariable}
@@ -17,7 +18,7 @@ has_sound_addresses blocks = list_all is_sound_block blocks && are_single (addre
 
 -- more than 8 resources, 32 tasks on one of them, or 64 programs in all
 abbrev pub are_too_many : List Resource → Bool
-are_too_many rs = nat_lt 8 (length rs) || (list_any (λ r. nat_lt 32 (length r.tasks)) rs || nat_lt 64 (length (flat_map (λ r. r.instances) rs)))
+are_too_many rs = nat_lt MAX_RESOURCES (length rs) || (list_any (λ r. nat_lt MAX_TASKS (length r.tasks)) rs || nat_lt MAX_PROGRAMS (length (flat_map (λ r. r.instances) rs)))
 
 abbrev pub is_nothing : Option Identifier → Bool
 is_nothing None = true
@@ -40,14 +41,14 @@ pub record HasTooManyPaths (c : Configuration) : Type 0 where
   pub variables : List PlanVariable
   pub inputs : List PlanInput
   pub globals : HasGlobals c variables inputs
-  pub many : 4096 < length variables + length inputs
+  pub many : MAX_PATHS < length variables + length inputs
 
 -- a record with a body of more than 131,059 bytes
 pub record HasTooLongRecord (c : Configuration) : Type 0 where
   pub variables : List PlanVariable
   pub inputs : List PlanInput
   pub globals : HasGlobals c variables inputs
-  pub long : 131059 < record_length variables
+  pub long : MAX_RECORD_BODY < record_length variables
 
 -- the same of variables that this version has
 pub record HasThinRecordTooLong (c : Configuration) : Type 0 where
@@ -55,4 +56,4 @@ pub record HasThinRecordTooLong (c : Configuration) : Type 0 where
   pub inputs : List PlanInput
   pub globals : HasGlobals c variables inputs
   pub thin : list_all is_thin_variable variables ≡ true
-  pub long : 131059 < record_length variables
+  pub long : MAX_RECORD_BODY < record_length variables

@@ -18,7 +18,7 @@ has_types (types ts ∷ rest) = true
 has_types (unit u ∷ rest) = has_types rest
 has_types (configuration c ∷ rest) = has_types rest
 
--- why a text is not taken apart: it has no configuration or more than one; want of memory says nothing of it
+-- why a text is not taken apart: it has no configuration or more than one; out of memory says nothing of it
 abbrev pub IsNotConfigured : Source → BuildError → Type 0
 IsNotConfigured source errors.NoConfiguration = (length (configurations_in source) == 1) ≡ false
 IsNotConfigured source errors.Memory = Unit {0}

@@ -6,18 +6,16 @@ ghost use Rattle.st_trees.specs.ConfigurationViews.{resource_view};
 ghost use Rattle.st_build.specs.Refusals.{are_too_many};
 
 use st_types::Resource;
-
-/// The greatest number of programs.
-const PROGRAMS: usize = 64;
+use st_words::limits::{MAX_PROGRAMS, MAX_RESOURCES, MAX_TASKS};
 
 /// Whether the resources have more than 64 instances.
 #[tactic(auto, using(crate::proofs::ListLemmas::count_here))]
 fn have_many_programs(resources: &[Resource]) -> bool
-    ensures { result ≡ nat_lt 64 (length (flat_map (λ r. r.instances.items) resources.now)) }
+    ensures { result ≡ nat_lt MAX_PROGRAMS (length (flat_map (λ r. r.instances.items) resources.now)) }
 {
     let mut programs = 0;
     for resource in resources {
-        if resource.instances.len() > PROGRAMS - programs {
+        if resource.instances.len() > MAX_PROGRAMS - programs {
             return true;
         }
         programs += resource.instances.len();
@@ -26,15 +24,15 @@ fn have_many_programs(resources: &[Resource]) -> bool
 }
 
 fn have_many_tasks(resources: &[Resource]) -> bool
-    ensures { result ≡ list_any (λ r. nat_lt 32 (length r.tasks.items)) resources.now }
+    ensures { result ≡ list_any (λ r. nat_lt MAX_TASKS (length r.tasks.items)) resources.now }
 {
-    resources.iter().any(|r| r.tasks.len() > 32)
+    resources.iter().any(|r| r.tasks.len() > MAX_TASKS)
 }
 
 /// Whether some resource has more than 32 tasks.
 #[tactic(auto, using(crate::proofs::ListLemmas::any_viewed))]
 fn has_many_tasks(resources: &[Resource]) -> bool
-    ensures { result ≡ list_any (λ r. nat_lt 32 (length r.tasks)) (map resource_view resources.now) }
+    ensures { result ≡ list_any (λ r. nat_lt MAX_TASKS (length r.tasks)) (map resource_view resources.now) }
 {
     have_many_tasks(resources)
 }
@@ -42,7 +40,7 @@ fn has_many_tasks(resources: &[Resource]) -> bool
 /// Whether the resources run more than 64 programs.
 #[tactic(auto, using(crate::proofs::ListLemmas::parts_viewed))]
 fn has_many_programs(resources: &[Resource]) -> bool
-    ensures { result ≡ nat_lt 64 (length (flat_map (λ r. r.instances) (map resource_view resources.now))) }
+    ensures { result ≡ nat_lt MAX_PROGRAMS (length (flat_map (λ r. r.instances) (map resource_view resources.now))) }
 {
     have_many_programs(resources)
 }
@@ -50,9 +48,9 @@ fn has_many_programs(resources: &[Resource]) -> bool
 /// Whether there are more than 8 resources.
 #[tactic(auto, using(crate::proofs::ListLemmas::count_viewed))]
 fn has_many(resources: &[Resource]) -> bool
-    ensures { result ≡ nat_lt 8 (length (map resource_view resources.now)) }
+    ensures { result ≡ nat_lt MAX_RESOURCES (length (map resource_view resources.now)) }
 {
-    resources.len() > 8
+    resources.len() > MAX_RESOURCES
 }
 
 /// Whether there are more than 8 resources, 32 tasks on one of them, or 64 programs in all.

@@ -5,7 +5,7 @@ ghost use Rattle.st_trees.specs.UnitViews.{unit_view};
 ghost use Rattle.st_trees.specs.ConfigurationViews.{configuration_view};
 ghost use Rattle.config.specs.PlanViews.{plan_view};
 ghost use Rattle.st_build.specs.Refusals.{HasGlobals, HasTooManyPaths, HasThinRecordTooLong};
-ghost use Rattle.st_build.specs.Plans.{IsKept, HasPrograms, IsPlanFrom, BreaksRule, LacksGlobals, LacksPrograms, Breaks};
+ghost use Rattle.st_build.specs.Plans.{MeetsRules, HasPrograms, IsPlanFrom, BreaksRule, LacksGlobals, LacksPrograms, Breaks};
 
 use crate::addresses::has_sound_addresses;
 use crate::build_error::BuildError;
@@ -17,10 +17,8 @@ use crate::tasks::{have_own_tasks, is_without_task};
 use crate::variables::variables_in;
 use config::{Plan, ThinProgram, has_long_record};
 use st_types::{Configuration, PlanInput, PlanVariable, Unit};
+use st_words::limits::MAX_PATHS;
 use std::alloc::Global;
-
-/// The greatest number of paths.
-const PATHS: usize = 4096;
 
 /// The globals of a configuration.
 #[derive(Drop)]
@@ -31,7 +29,7 @@ struct Globals {
 
 /// Refuses a configuration that breaks a rule.
 fn check(alloc: Global, units: &[Unit], configuration: &Configuration) -> Result<(), BuildError>
-    ensures kept { OnOk result (IsKept (map unit_view units.now) (configuration_view configuration.now)) }
+    ensures kept { OnOk result (MeetsRules (map unit_view units.now) (configuration_view configuration.now)) }
     ensures refused { IfErr result (λ e. BreaksRule (map unit_view units.now) (configuration_view configuration.now) e) }
 {
     if !are_known(units, configuration) {
@@ -57,7 +55,7 @@ fn globals_of(alloc: Global, configuration: &Configuration) -> Result<Globals, B
 {
     let variables = variables_in(alloc, &configuration.globals)?;
     let inputs = inputs_in(alloc, &configuration.globals)?;
-    if variables.len() > PATHS || inputs.len() > PATHS - variables.len() {
+    if variables.len() > MAX_PATHS || inputs.len() > MAX_PATHS - variables.len() {
         return Err(BuildError::TooManyPaths);
     }
     if has_long_record(&variables) {

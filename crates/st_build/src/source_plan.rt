@@ -15,10 +15,8 @@ use st_lex::lex;
 use st_parse::parse;
 use st_rules::broken_rule;
 use st_types::Source;
+use st_words::limits::MAX_BUDGET;
 use std::alloc::Global;
-
-/// The greatest budget, in ticks.
-const MOST_TICKS: u32 = 1_000_000;
 
 /// The plan of a tree.
 fn plan_of(alloc: Global, source: Source, budget: u32) -> Result<Plan, BuildError>
@@ -48,7 +46,7 @@ fn plan_of(alloc: Global, source: Source, budget: u32) -> Result<Plan, BuildErro
 /// number applies.
 pub fn build(alloc: Global, text: &[u8], budget: u32) -> Result<Plan, BuildError>
     // The budget is judged before all else.
-    ensures budget { (budget ≡ 0) ⊎ (1000000 < budget) → IsErrOf result BuildError.Budget }
+    ensures budget { (budget ≡ 0) ⊎ (MAX_BUDGET < budget) → IsErrOf result BuildError.Budget }
     // The plan is that of a tree that the bytes spell.
     ensures plan { IfOk result (λ plan. (source : tree.Source) × IsTextOf text.now source × IsPlanOf source budget (plan_view plan)) }
     // A text of which there is such a plan is given it, unless memory runs out.
@@ -56,7 +54,7 @@ pub fn build(alloc: Global, text: &[u8], budget: u32) -> Result<Plan, BuildError
     // A refusal applies.
     ensures refused { IfErr result (λ e. Refused text.now budget e) }
 {
-    if budget == 0 || MOST_TICKS < budget {
+    if budget == 0 || MAX_BUDGET < budget {
         return Err(BuildError::Budget);
     }
     let tokens = lex(alloc, text)?;

@@ -1,4 +1,4 @@
--- The run of fronts.
+-- The run of prefixes.
 use Rattle.std.proofs.Common.{◌≡◌, ℕ, ◌+◌, ◌≤◌, List, [], ◌∷◌, ◌++◌, length, take, drop, refl, sym, ap, ◌∙◌, append_assoc, arith, ◌-◌, length-drop}
 use Rattle.std.proofs.lemmas.List.{drop-drop, append-nil, take_all}
 use Rattle.st_lex.specs.declared.token.TokenKind.{TokenKind}

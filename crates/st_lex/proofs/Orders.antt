@@ -2,13 +2,14 @@
 use Rattle.std.proofs.Common.{◌≡◌, ℕ, ◌+◌, ◌-◌, ◌<◌, ◌≤◌, Bool, List, [], ◌∷◌, ◌&&◌, length, take, drop, refl, sym, ap, subst, ◌∙◌, arith, length-drop}
 use Rattle.std.specs.Prelude.{slice_index}
 use Rattle.std.proofs.lemmas.List.{drop-drop, get_or-drop, drop_all, length-take-le}
+use Rattle.st_words.specs.declared.limits.TheConstants.{MAX_SOURCE_BYTES}
 use Rattle.st_lex.specs.declared.token.TokenKind.{TokenKind}
 use Rattle.st_lex.specs.declared.token.Token.{Token}
 use Rattle.st_lex.specs.declared.front.Front.{Front}
 use Rattle.st_lex.specs.declared.front.Front.TheVariants as fronts
 use Rattle.st_lex.specs.Characters.{is_word_character}
 use Rattle.st_lex.specs.Fronts.{front_of, IsWithin}
-use Rattle.st_lex.specs.Texts.{Spells, ends, blank, token, IsSpelledBy, limit}
+use Rattle.st_lex.specs.Texts.{Spells, ends, blank, token, IsSpelledBy}
 use Rattle.st_lex.specs.Laws.{AreInOrder, Each, IsItsSlice, IsParted, IsWhole}
 use Rattle.st_lex.proofs.Within.{front_within}
 use Rattle.st_lex.proofs.Sound.{IsSound, IsCut, front_sound}
@@ -54,7 +55,7 @@ alone word kind n m len e same =
     let same' : 0 + n ≡ m = omega (arith, same) in
     subst (λ x. Spells 0 word (token_at kind 0 x ∷ [])) same' s
 
-its_slice : (whole : List ℕ) (at n : ℕ) (kind : TokenKind) → length whole ≤ limit → n ≤ length (drop at whole) → front_of (take n (drop at whole)) ≡ fronts.Token kind n → IsItsSlice whole (token_at kind at (at + n))
+its_slice : (whole : List ℕ) (at n : ℕ) (kind : TokenKind) → length whole ≤ MAX_SOURCE_BYTES → n ≤ length (drop at whole) → front_of (take n (drop at whole)) ≡ fronts.Token kind n → IsItsSlice whole (token_at kind at (at + n))
 its_slice whole at n kind short le e =
     let len : length (take n (drop at whole)) ≡ n = length-take-le n (drop at whole) le in
     let m : n ≡ at + n - at = omega arith in
@@ -76,7 +77,7 @@ parted whole at n h cut = λ _.
 abbrev pub IsLawful : List ℕ → Token → Type 0
 IsLawful whole t = IsItsSlice whole t × IsWhole whole t
 
-lawful : {at : ℕ} {text : List ℕ} {tokens : List Token} (whole : List ℕ) → length whole ≤ limit → text ≡ drop at whole → IsParted whole at → Spells at text tokens → Each (IsLawful whole) tokens
+lawful : {at : ℕ} {text : List ℕ} {tokens : List Token} (whole : List ℕ) → length whole ≤ MAX_SOURCE_BYTES → text ≡ drop at whole → IsParted whole at → Spells at text tokens → Each (IsLawful whole) tokens
 lawful whole short q p (ends e) = tt
 lawful {at} {text} {tokens} whole short q p (blank n e s) =
     let w : (0 < n) × (n ≤ length text) = within text (fronts.Blank n) e in

@@ -1,4 +1,4 @@
--- What stands in front is what its own bytes are alone, and no word goes on behind it.
+-- What stands in front is what its own bytes are alone, and no word goes on after it.
 use Rattle.std.proofs.Common.{◌≡◌, ℕ, ◌+◌, ◌-◌, ◌<◌, Bool, true, false, not, cond, eqb, List, [], ◌∷◌, ◌&&◌, length, take, drop, Option, Some, None, refl, sym, ap, subst, zero, suc, ◌∙◌, arith, inl, inr}
 use Rattle.std.specs.Prelude.{nat_lt, nat_eq, IfSome, slice_index}
 use Rattle.std.specs.List.{list_all, prefix_len, starts_with}

@@ -31,7 +31,7 @@ starts_with_underscore (b ∷ bs) = b == 95
 abbrev pub over_underscore : Bool → List ℕ → List ℕ
 over_underscore is_first text = if not is_first && starts_with_underscore text then drop 1 text else text
 
--- a part in front: its digits, its letters, and what stands behind them
+-- a part in front: its digits, its letters, and what stands after them
 abbrev pub digits_of : List ℕ → List ℕ
 digits_of text = take_while is_ascii_digit text
 

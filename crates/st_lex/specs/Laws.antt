@@ -22,7 +22,7 @@ IsItsSlice text t = IsSpelledBy (slice_range text t.start t.end) (record { kind 
 abbrev pub IsParted : List ℕ → ℕ → Type 0
 IsParted text at = 0 < at → is_word_character (slice_index text (at - 1)) && is_word_character (slice_index text at) ≡ false
 
--- no word goes on before the token or behind it
+-- no word goes on before the token or after it
 abbrev pub IsWhole : List ℕ → Token → Type 0
 IsWhole text t = IsParted text t.start × IsParted text t.end
 

@@ -32,7 +32,7 @@ below limit n = if nat_lt n limit then Some n else None
 unfoldable pub numeral : ℕ → List ℕ → Option ℕ
 numeral base word = if is_numeral base word then below (2 ^ 64) (value_from base 0 word) else None
 
--- what stands before the first `#`, and what behind it
+-- what stands before the first `#`, and what after it
 abbrev pub before_hash : List ℕ → List ℕ
 before_hash word = take_while (λ b. not (b == 35)) word
 

@@ -1,6 +1,7 @@
 -- The tokens of a text: what stands in front, and then those of the rest.
 use Rattle.std.specs.Prelude.{◌≡◌, ℕ, ◌+◌, ◌<◌, ◌≤◌, List, [], ◌∷◌, length, drop, Result, Ok, Err}
 use Rattle.std.specs.Global.{Vec}
+use Rattle.st_words.specs.declared.limits.TheConstants.{MAX_SOURCE_BYTES}
 use Rattle.st_lex.specs.declared.token.TokenKind.{TokenKind}
 use Rattle.st_lex.specs.declared.token.Token.{Token}
 use Rattle.st_lex.specs.declared.fault.LexFault.{LexFault}
@@ -25,19 +26,16 @@ pub data Breaks : ℕ → List ℕ → LexFault → ℕ → Type 0 where
   after_token : {at : ℕ} {text : List ℕ} {fault : LexFault} {place : ℕ} (kind : TokenKind) (n : ℕ) → front_of text ≡ fronts.Token kind n
       → Breaks (at + n) (drop n text) fault place → Breaks at text fault place
 
-abbrev pub limit : ℕ
-limit = 1048576
-
 -- A text that is not too long is spelled so.
 pub record IsSpelledBy (text : List ℕ) (tokens : List Token) : Type 0 where
-  pub short : length text ≤ limit
+  pub short : length text ≤ MAX_SOURCE_BYTES
   pub spells : Spells 0 text tokens
 
 -- The refusal applies to the text: the length is tested first, and the first fault is told, at its place.
 abbrev pub Applies : List ℕ → LexError → Type 0
 Applies text Memory = Unit {0}
-Applies text TooLong = limit < length text
-Applies text (Fault fault place) = (length text ≤ limit) × Breaks 0 text fault place
+Applies text TooLong = MAX_SOURCE_BYTES < length text
+Applies text (Fault fault place) = (length text ≤ MAX_SOURCE_BYTES) × Breaks 0 text fault place
 
 -- these tokens, unless memory ran out
 abbrev pub Gives : Result (Vec Token) LexError → List Token → Type 0

@@ -3,6 +3,7 @@ use Rattle.std.specs.Prelude.{ℕ, ◌+◌, List, [], ◌∷◌, length, map, Bo
 use Rattle.std.specs.Option.{unwrap_or}
 use Rattle.std.specs.List.{list_any, prefix_len}
 use Rattle.std.specs.Char.{to_ascii_uppercase, is_ascii_digit}
+use Rattle.st_words.specs.declared.limits.TheConstants.{MAX_NAME_LENGTH}
 use Rattle.st_lex.specs.declared.token.TokenKind.{TokenKind}
 use Rattle.st_lex.specs.declared.token.TokenKind.TheVariants.{Name}
 use Rattle.st_lex.specs.declared.fault.LexFault.{LexFault}
@@ -34,7 +35,7 @@ must_be_literal word = starts_with_decimal_digit word || list_any (λ b. (b == 3
 
 -- of such a word that need not be a literal: at most 64 characters, without two underscores in a row and without a trailing one
 abbrev pub is_identifier : List ℕ → Bool
-is_identifier word = nat_le (length word) 64 && is_spaced word
+is_identifier word = nat_le (length word) MAX_NAME_LENGTH && is_spaced word
 
 -- a reserved word is no name
 abbrev pub named : List ℕ → TokenKind

@@ -16,7 +16,7 @@ pub fn is_space(b: u8) -> bool
     b == b' ' || b == b'\t' || b == b'\n' || b == b'\r'
 }
 
-/// It may stand in a word behind its `%`.
+/// It may stand in a word after its `%`.
 pub fn is_word_character(b: u8) -> bool
     ensures { result ≡ characters.is_word_character b }
 {

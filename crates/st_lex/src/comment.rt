@@ -33,7 +33,7 @@ fn has_allowed_bytes_alone(text: &[u8]) -> bool
     text.iter().all(|b| is_allowed(*b))
 }
 
-/// What a comment is, by what stands behind its opening. The next `(*` is never looked for past the next comment, so a
+/// What a comment is, by what stands after its opening. The next `(*` is never looked for past the next comment, so a
 /// whole text is read in time linear in its length.
 #[tactic(auto, unfolding(crate::specs::Comments::comment_front))]
 pub fn comment_front(inside: &[u8]) -> Front

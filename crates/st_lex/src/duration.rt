@@ -74,7 +74,7 @@ fn starts_with_underscore(text: &[u8]) -> bool
     }
 }
 
-/// The text behind an underscore that may stand before a later part.
+/// The text after an underscore that may stand before a later part.
 fn over_underscore(is_first: bool, text: &[u8]) -> &[u8]
     ensures { result.now ≡ durations.over_underscore is_first text.now }
 {
@@ -99,7 +99,7 @@ fn letters_len(text: &[u8]) -> usize
     text.iter().take_while(|b| b.is_ascii_alphabetic()).count()
 }
 
-/// A number of a unit in front of a text, and what stands behind it.
+/// A number of a unit in front of a text, and what stands after it.
 #[derive(Clone, Copy)]
 struct Part<'a> {
     digits: &'a [u8],

@@ -7,10 +7,8 @@ ghost use Rattle.st_lex.specs.Texts as texts;
 use crate::fault::LexError;
 use crate::front::{Front, read_front};
 use crate::token::Token;
+use st_words::limits::MAX_SOURCE_BYTES;
 use std::alloc::Global;
-
-/// The greatest length of a text, in bytes.
-const LIMIT: usize = 1_048_576;
 
 /// The tokens of a text, in order.
 ///
@@ -24,7 +22,7 @@ pub fn lex(alloc: Global, text: &[u8]) -> Result<Vec<Token>, LexError>
     // What is spelled so is read, unless memory runs out.
     ensures only { (tokens : List Token) → texts.IsSpelledBy text.now tokens → texts.Gives result tokens }
 {
-    if text.len() > LIMIT {
+    if text.len() > MAX_SOURCE_BYTES {
         return Err(LexError::TooLong);
     }
     let mut tokens = Vec::new(alloc);

@@ -39,6 +39,6 @@ pub struct Token {
     pub kind: TokenKind,
     /// The offset of its first byte.
     pub start: usize,
-    /// The offset behind its last byte.
+    /// The offset after its last byte.
     pub end: usize,
 }

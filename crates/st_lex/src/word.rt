@@ -14,6 +14,7 @@ use crate::keyword::reserved;
 use crate::literal::literal;
 use crate::token::TokenKind;
 use st_words::Name;
+use st_words::limits::MAX_NAME_LENGTH;
 use std::alloc::{AllocError, Global};
 
 fn run_length(text: &[u8]) -> usize
@@ -61,7 +62,7 @@ fn must_be_literal(word: &[u8]) -> bool
 fn is_identifier(word: &[u8]) -> bool
     ensures { result ≡ words.is_identifier word.now }
 {
-    word.len() <= 64 && is_spaced(word)
+    word.len() <= MAX_NAME_LENGTH && is_spaced(word)
 }
 
 fn named(alloc: Global, word: &[u8]) -> Result<TokenKind, AllocError>

@@ -47,7 +47,7 @@ names_repeat (one_more {ts} {us} {vs} {x} {xs} (after_comma c n) r) miss =
 pub names_again : {ts us : Tokens} {xs : List Identifier} → Listed (Is name) ts xs us → next (is_mark m.Comma) us ≡ false → listed (one name) ts ≡ Ok (xs, us)
 names_again (with_commas n r) miss = listed_again (one name) (one_again n) (names_repeat r miss)
 
--- names behind a first one
+-- names after a first one
 pub names_behind_again : {ts us vs : Tokens} {x : Identifier} {xs : List Identifier} → Is name ts x us → Many (AfterComma (Is name)) us xs vs → next (is_mark m.Comma) vs ≡ false → several (is_mark m.Comma) (comma (one name)) (x ∷ []) us ≡ Ok (x ∷ xs, vs)
 names_behind_again {us = us} {vs = vs} {x = x} {xs = xs} n r miss = several_again (is_mark m.Comma) (comma (one name)) us vs (x ∷ []) xs (names_repeat r miss)
 

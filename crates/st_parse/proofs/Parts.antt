@@ -79,7 +79,7 @@ reads_names = reads_as (λ ts xs us r. r) (λ xs us d. d.1)
     (reads_listed (λ e. one name) (Is name) (Many (AfterComma (Is name))) (Listed (Is name)) (λ x. Unit {0}) (λ ts. no_more) (λ ts us x vs xs ws c o r. one_more (after_comma c o) r) (token_less name) (λ ts x us xs vs o r. with_commas o r)
     (reads_as (λ ts x us i. i) (λ x us d. tt) reads_name))
 
--- names behind a first one
+-- names after a first one
 abbrev pub ListedFrom : Identifier → Tokens → List Identifier → Tokens → Type 0
 ListedFrom x us xs vs = (ts : Tokens) → Is name ts x us → Listed (Is name) ts xs vs
 

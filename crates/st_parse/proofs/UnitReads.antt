@@ -42,7 +42,7 @@ reads_constant : {C : Type 0} (s : Section) → Reads C (λ e. constant_of s) (B
 unfolding constant_of
 reads_constant s = reads_then (reads_keyword w.Constant) (λ at. reads_pure s Any (λ c us. tt))
 
--- a section behind its first word
+-- a section after its first word
 abbrev AfterWord : (Tokens → Section → Tokens → Type 0) → (ℕ → Tokens → Tokens → Type 0) → Tokens → Section → Tokens → Type 0
 AfterWord G W us s vs = (at : ℕ) (ts : Tokens) → W at ts us → G ts s vs
 

@@ -11,7 +11,7 @@ use Rattle.st_statements.specs.Laws.{SameHead}
 use Rattle.st_parse.specs.Sources.{IsSource}
 use Rattle.st_parse.specs.Depths.{SourceWithin}
 
--- the place of the token behind a front: its first byte, or where there is none the end of the front's last token
+-- the place of the token after a prefix: its first byte, or where there is none the end of the prefix's last token
 abbrev pub place_behind : Tokens → Tokens → ℕ
 place_behind front [] = end_of 0 front
 place_behind front (t ∷ rest) = t.start
@@ -31,7 +31,7 @@ pub record IsUnexpectedAt (tokens : Tokens) (place : ℕ) : Type 0 where
   pub begins : BeginsSource front
   pub none : (more : Tokens) (source : Source) → SameHead rest more → IsSource (front ++ more) source → ⊥
 
--- A front of the tokens begins some text of the grammar, and no text that begins so is within the depth.
+-- A prefix of the tokens begins some text of the grammar, and no text that begins so is within the depth.
 pub record IsTooDeep (tokens : Tokens) : Type 0 where
   pub front : Tokens
   pub rest : Tokens
@@ -39,7 +39,7 @@ pub record IsTooDeep (tokens : Tokens) : Type 0 where
   pub begins : BeginsSource front
   pub none : (more : Tokens) (source : Source) → IsSource (front ++ more) source → SourceWithin 64 source → ⊥
 
--- why tokens are refused; want of memory says nothing of them
+-- why tokens are refused; out of memory says nothing of them
 abbrev pub Refused : Tokens → ParseError → Type 0
 Refused tokens (errors.Unexpected place) = IsUnexpectedAt tokens place
 Refused tokens errors.Deep = IsTooDeep tokens

@@ -20,7 +20,7 @@ use Rattle.st_statements.specs.Tokens.{Tokens, mark, keyword, name, Is, Passes}
 use Rattle.st_parse.specs.Lists.{Many, Several, Listed, Optional}
 use Rattle.st_parse.specs.Types.{IsType, IsGiven}
 
--- CONSTANT or RETAIN behind VAR_GLOBAL
+-- CONSTANT or RETAIN after VAR_GLOBAL
 abbrev pub qualifier_in : TokenKind → Option GlobalQualifier
 qualifier_in (kinds.Keyword w.Constant) = Some qualifiers.Constant
 qualifier_in (kinds.Keyword w.Retain) = Some qualifiers.Retain

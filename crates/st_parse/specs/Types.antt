@@ -38,7 +38,7 @@ pub data IsType : Tokens → VariableType → Tokens → Type 0 where
   plain : {ts us : Tokens} {t : VariableType} (x : SimpleType) → Is simple ts x us → t ≡ types.Simple x → IsType ts t us
   array : {ts us : Tokens} {t : VariableType} (a : ArrayType) → IsArray ts a us → t ≡ types.Array a → IsType ts t us
 
--- an initial value behind `:=`
+-- an initial value after `:=`
 pub data IsGiven : Tokens → Initial → Tokens → Type 0 where
   given : {ts us vs : Tokens} {v : Initial} → Passes (mark m.Assign) ts us → IsInitial us v vs → IsGiven ts v vs
 

@@ -43,7 +43,7 @@ external_at = do
 unfoldable pub retention_or_not : Parser (Option Retention)
 retention_or_not = optional is_retention (one retention)
 
--- words behind the first of a block
+-- words after the first of a block
 unfoldable pub constant_of : Section → Parser Section
 constant_of s = do
   one (keyword w.Constant)

@@ -81,7 +81,7 @@ fn given(alloc: Global, tokens: &[Token]) -> Result<(Initial, &[Token]), ReadErr
     read_initial(alloc, rest)
 }
 
-/// An initial value behind `:=`, if there is one, and the tokens after it.
+/// An initial value after `:=`, if there is one, and the tokens after it.
 #[tactic(auto, unfolding(crate::specs::TypeReading::given_or_not, crate::specs::Reading::optional))]
 pub fn given_or_not(
     alloc: Global,

@@ -13,7 +13,7 @@ use st_statements::ReadError;
 use st_words::Tree;
 use std::alloc::Global;
 
-/// Parts behind those that were found, as long as what is left begins so.
+/// Parts after those that were found, as long as what is left begins so.
 pub fn several<
     'a,
     T: Tree + Drop,

@@ -24,7 +24,7 @@ fn next_name(alloc: Global, tokens: &[Token]) -> Result<(Identifier, &[Token]), 
     name(alloc, rest)
 }
 
-/// Names behind a first one.
+/// Names after a first one.
 pub fn names_behind<'a>(alloc: Global, first: Identifier, tokens: &'a [Token]) -> Names<'a>
     ensures { Gives (λ x. (x.0.items, x.1.now)) result (parsers.several (tokens_of.is_mark Comma) (parsers.after_comma (one tokens_of.name)) (first ∷ []) tokens.now) }
 {

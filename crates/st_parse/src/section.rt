@@ -46,7 +46,7 @@ fn retention_or_not(tokens: &[Token]) -> Result<(Option<Retention>, &[Token]), R
     Ok((Some(found), rest))
 }
 
-/// The section, behind CONSTANT.
+/// The section, after CONSTANT.
 #[tactic(auto, unfolding(crate::specs::UnitReading::constant_of))]
 fn constant_of(section: Section, tokens: &[Token]) -> Found<'_>
     ensures { Gives (λ x. (x.0, x.1.now)) result (reading.constant_of section tokens.now) }

@@ -8,7 +8,7 @@ pub appends_none : (known : Option (List ℕ)) → Appends known known []
 appends_none None = tt
 appends_none (Some xs) = sym (append-nil xs)
 
--- one write behind another
+-- one write after another
 pub appends_both : (first second third : Option (List ℕ)) (x y : List ℕ) → Appends first second x → Appends second third y → Appends first third (x ++ y)
 appends_both None second third x y wrote more = tt
 appends_both (Some a) None third x y wrote more = absurd wrote

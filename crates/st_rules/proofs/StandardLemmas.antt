@@ -72,7 +72,7 @@ named_all (k ∷ ks) ls x =
     named_append (conversions_from k ls) (flat_map (λ m. conversions_from m ls) ks) x
     ∙ both (is_there (named (conversions_from k ls) x)) (list_any (λ l. not (same_kind k l) && bytes_eq x (conversion_name k l)) ls) (is_there (named (flat_map (λ m. conversions_from m ls) ks) x)) (list_any (λ m. list_any (λ l. not (same_kind m l) && bytes_eq x (conversion_name m l)) ls) ks) (named_from k ls x) (named_all ks ls x)
 
--- the nine names, and others behind them
+-- the nine names, and others after them
 first_functions : (rest : List (List ℕ × Standard)) (x : Name) → is_there (named ((codes "ABS", ABS) ∷ (codes "MIN", MIN) ∷ (codes "MAX", MAX) ∷ (codes "LIMIT", LIMIT) ∷ (codes "SEL", SEL) ∷ (codes "SHL", SHL) ∷ (codes "SHR", SHR) ∷ (codes "ROL", ROL) ∷ (codes "ROR", ROR) ∷ rest) x)
     ≡ ((bytes_eq x (codes "ABS") || (bytes_eq x (codes "MIN") || (bytes_eq x (codes "MAX") || (bytes_eq x (codes "LIMIT") || bytes_eq x (codes "SEL"))))) || ((bytes_eq x (codes "SHL") || (bytes_eq x (codes "SHR") || (bytes_eq x (codes "ROL") || bytes_eq x (codes "ROR")))) || is_there (named rest x)))
 first_functions rest x = function_groups (bytes_eq x (codes "ABS")) (bytes_eq x (codes "MIN")) (bytes_eq x (codes "MAX")) (bytes_eq x (codes "LIMIT")) (bytes_eq x (codes "SEL")) (bytes_eq x (codes "SHL")) (bytes_eq x (codes "SHR")) (bytes_eq x (codes "ROL")) (bytes_eq x (codes "ROR")) (named rest x)

@@ -4,14 +4,14 @@ use Rattle.st_words.specs.declared.kind.Kind.{Kind}
 use Rattle.st_words.specs.declared.operator.BinaryOperator.{BinaryOperator}
 use Rattle.st_trees.specs.Expressions.{Expr, binary}
 use Rattle.st_trees.specs.Units.{OrganisationUnit}
-use Rattle.st_types.specs.NameTypes.{Text}
+use Rattle.st_types.specs.NameTypes.{Declared}
 use Rattle.st_types.specs.Resolution.{operand_kind}
 use Rattle.st_rules.specs.Places.{first, or_place}
 use Rattle.st_rules.specs.Expressions.{kind_at, first_byte, is_operation, unless, or_else, wrong_operations}
 use Rattle.st_rules.specs.Bodies.{out_of_range}
 use Rattle.st_rules.proofs.PlaceLemmas.{first_or, first_or_else}
 
-pub range_step : (text : Text) (u : OrganisationUnit) (expected : Option Kind) (op : BinaryOperator) (e l r : Expr) (k : Option Kind) (a b found : Option ℕ)
+pub range_step : (text : Declared) (u : OrganisationUnit) (expected : Option Kind) (op : BinaryOperator) (e l r : Expr) (k : Option Kind) (a b found : Option ℕ)
     → e ≡ binary op l r → k ≡ operand_kind text u expected op l r
     → a ≡ first (out_of_range text u k l) → b ≡ first (out_of_range text u k r)
     → found ≡ or_place a b → found ≡ first (out_of_range text u expected e)
@@ -21,7 +21,7 @@ range_step text u expected op e l r k a b found seen kind left right is =
 parts_then_whole : (ps qs whole : List ℕ) → or_place (or_place (first ps) (first qs)) (first whole) ≡ first (or_else (ps ++ qs) whole)
 parts_then_whole ps qs whole = rw (first_or ps qs) (first_or_else (ps ++ qs) whole)
 
-pub operation_step : (text : Text) (u : OrganisationUnit) (expected : Option Kind) (op : BinaryOperator) (e l r : Expr) (k : Option Kind) (a b parts whole found : Option ℕ)
+pub operation_step : (text : Declared) (u : OrganisationUnit) (expected : Option Kind) (op : BinaryOperator) (e l r : Expr) (k : Option Kind) (a b parts whole found : Option ℕ)
     → e ≡ binary op l r → k ≡ operand_kind text u expected op l r
     → a ≡ first (wrong_operations text u k l) → b ≡ first (wrong_operations text u k r)
     → parts ≡ or_place a b

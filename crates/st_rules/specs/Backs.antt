@@ -1,4 +1,4 @@
--- What stands behind a front of a word.
+-- What stands after a prefix of a word.
 use Rattle.std.specs.Prelude.{ℕ, List, Bool, false, Option, Some, None, bytes_eq}
 
 -- it is this

@@ -9,7 +9,7 @@ use Rattle.st_trees.specs.Expressions.{Expr, literal, read, call, parenthesis, u
 use Rattle.st_trees.specs.Statements.{Stmt, assign}
 use Rattle.st_trees.specs.Units.{OrganisationUnit}
 use Rattle.st_types.specs.Operators.{number_of}
-use Rattle.st_types.specs.NameTypes.{Text, variable_type}
+use Rattle.st_types.specs.NameTypes.{Declared, variable_type}
 use Rattle.st_types.specs.Resolution.{operand_kind}
 use Rattle.st_rules.specs.Declarations.{is_there}
 use Rattle.st_rules.specs.Expressions.{first_byte, kind_of_name, is_plain, kind_or_taken, kind_at, unless, or_else, wrong_operations}
@@ -32,14 +32,14 @@ unknown_names_of u (assign v e) = unknown_variable u v ++ unknown_names u e
 unknown_names_of u _ = []
 
 -- an expression that is assigned to a variable of this type: its wrong operations, or else itself where it is of another type
-abbrev pub wrong_types : Text → OrganisationUnit → Kind → Expr → List ℕ
+abbrev pub wrong_types : Declared → OrganisationUnit → Kind → Expr → List ℕ
 wrong_types text u k e = or_else (wrong_operations text u (Some k) e) (unless (same_kind (kind_at text u (Some k) e) k) (first_byte e))
 
-abbrev pub wrong_types_for : Text → OrganisationUnit → Expr → Option Kind → List ℕ
+abbrev pub wrong_types_for : Declared → OrganisationUnit → Expr → Option Kind → List ℕ
 wrong_types_for text u e None = []
 wrong_types_for text u e (Some k) = if is_plain u e then wrong_types text u k e else []
 
-abbrev pub wrong_types_of : Text → OrganisationUnit → Stmt → List ℕ
+abbrev pub wrong_types_of : Declared → OrganisationUnit → Stmt → List ℕ
 wrong_types_of text u (assign v e) = wrong_types_for text u e (kind_of_name u v)
 wrong_types_of text u _ = []
 
@@ -49,7 +49,7 @@ literal_out_of_range expected (literals.Number n) = unless (holds (kind_or_taken
 literal_out_of_range expected (literals.Truth at b) = []
 literal_out_of_range expected (literals.Duration at n) = []
 
-abbrev pub out_of_range : Text → OrganisationUnit → Option Kind → Expr → List ℕ
+abbrev pub out_of_range : Declared → OrganisationUnit → Option Kind → Expr → List ℕ
 out_of_range text u k (literal l) = literal_out_of_range k l
 out_of_range text u k (read v) = []
 out_of_range text u k (call f es) = []
@@ -81,11 +81,11 @@ is_none_of [] = true
 is_none_of (p ∷ ps) = false
 
 -- What an untyped literal takes is told only where no type is wrong.
-abbrev pub out_of_range_for : Text → OrganisationUnit → Expr → Option Kind → List ℕ
+abbrev pub out_of_range_for : Declared → OrganisationUnit → Expr → Option Kind → List ℕ
 out_of_range_for text u e None = typed_literals_out_of_range e
 out_of_range_for text u e (Some k) =
     if is_plain u e && is_none_of (wrong_operations text u (Some k) e) then out_of_range text u (Some k) e else typed_literals_out_of_range e
 
-abbrev pub out_of_range_of : Text → OrganisationUnit → Stmt → List ℕ
+abbrev pub out_of_range_of : Declared → OrganisationUnit → Stmt → List ℕ
 out_of_range_of text u (assign v e) = out_of_range_for text u e (kind_of_name u v)
 out_of_range_of text u _ = []

@@ -12,7 +12,7 @@ use Rattle.st_words.specs.declared.operator.BinaryOperator.TheVariants.{Or, Xor,
 use Rattle.st_words.specs.Kinds.{row_of, same_kind}
 use Rattle.st_trees.specs.Expressions.{Expr, literal, read, call, parenthesis, unary, binary, Variable, variable, no_selectors, selector_then}
 use Rattle.st_trees.specs.Units.{OrganisationUnit}
-use Rattle.st_types.specs.NameTypes.{Text, kind_of_type, variable_type}
+use Rattle.st_types.specs.NameTypes.{Declared, kind_of_type, variable_type}
 use Rattle.st_types.specs.Resolution.{taken_kind, own_kind, operand_kind}
 use Rattle.st_rules.specs.Declarations.{is_there}
 
@@ -53,7 +53,7 @@ kind_or_taken expected None = taken_kind expected
 kind_or_taken expected (Some k) = k
 
 -- the type of an expression at a place that expects a type
-abbrev pub kind_at : Text → OrganisationUnit → Option Kind → Expr → Kind
+abbrev pub kind_at : Declared → OrganisationUnit → Option Kind → Expr → Kind
 kind_at text u expected e = kind_or_taken expected (own_kind text u e)
 
 abbrev pub is_whole : Sort → Bool
@@ -114,7 +114,7 @@ or_else [] whole = whole
 or_else (p ∷ ps) whole = p ∷ ps
 
 -- the places of the operations of wrong types, where the parts of none are wrong
-abbrev pub wrong_operations : Text → OrganisationUnit → Option Kind → Expr → List ℕ
+abbrev pub wrong_operations : Declared → OrganisationUnit → Option Kind → Expr → List ℕ
 wrong_operations text u k (literal l) = []
 wrong_operations text u k (read v) = []
 wrong_operations text u k (call f es) = []

@@ -38,7 +38,7 @@ fn broken_against(alloc: Global, rule: Rule, source: &Source) -> Result<Option<B
 }
 
 /// A rule on names, types or ranges that the text breaks, with the place: rules on declarations come first, then unknown names, wrong types
-/// and ranges. An error is want of memory alone.
+/// and ranges. The only error is out of memory.
 ///
 /// It looks into all declarations of names, into initial values that are constants, into PRIORITY, and into the assignments at the top level of
 /// bodies; of their types, where the target is the name of an elementary variable and the expression has neither calls nor members nor subscripts.

@@ -5,7 +5,7 @@ ghost use Rattle.std.specs.List.{flat_map};
 ghost use Rattle.st_trees.specs.Sources as tree;
 ghost use Rattle.st_trees.specs.UnitViews.{unit_view};
 ghost use Rattle.st_trees.specs.SourceViews.{element_view};
-ghost use Rattle.st_types.specs.NameTypes.{Text};
+ghost use Rattle.st_types.specs.NameTypes.{Declared};
 ghost use Rattle.st_rules.specs.Places.{first};
 ghost use Rattle.st_rules.specs.Rules.{wrong_types_in, out_of_range_in};
 
@@ -18,7 +18,7 @@ use st_types::{LibraryElement, Unit};
 
 /// The place of a wrong type in a unit.
 fn wrong_type_in_unit(unit: &Unit) -> Option<usize>
-    ensures { (text : Text) → result ≡ first (wrong_types_in text (tree.unit (unit_view unit.now))) }
+    ensures { (text : Declared) → result ≡ first (wrong_types_in text (tree.unit (unit_view unit.now))) }
 {
     or_place(
         variables_against(Rule::WrongType, &unit.blocks),
@@ -28,7 +28,7 @@ fn wrong_type_in_unit(unit: &Unit) -> Option<usize>
 
 /// The place of a literal of a unit outside its type.
 fn out_of_range_in_unit(unit: &Unit) -> Option<usize>
-    ensures { (text : Text) → result ≡ first (out_of_range_in text (tree.unit (unit_view unit.now))) }
+    ensures { (text : Declared) → result ≡ first (out_of_range_in text (tree.unit (unit_view unit.now))) }
 {
     or_place(
         variables_against(Rule::OutOfRange, &unit.blocks),
@@ -38,7 +38,7 @@ fn out_of_range_in_unit(unit: &Unit) -> Option<usize>
 
 /// The place of a wrong type.
 fn wrong_type_in(element: &LibraryElement) -> Option<usize>
-    ensures { (text : Text) → result ≡ first (wrong_types_in text (element_view element.now)) }
+    ensures { (text : Declared) → result ≡ first (wrong_types_in text (element_view element.now)) }
 {
     match element {
         LibraryElement::Types(_) => None,
@@ -52,7 +52,7 @@ fn wrong_type_in(element: &LibraryElement) -> Option<usize>
 /// The place of a literal outside its type.
 #[tactic(auto, using(crate::proofs::PlaceLemmas::first_or))]
 fn out_of_range_in(element: &LibraryElement) -> Option<usize>
-    ensures { (text : Text) → result ≡ first (out_of_range_in text (element_view element.now)) }
+    ensures { (text : Declared) → result ≡ first (out_of_range_in text (element_view element.now)) }
 {
     match element {
         LibraryElement::Types(_) => None,
@@ -66,7 +66,7 @@ fn out_of_range_in(element: &LibraryElement) -> Option<usize>
 
 /// The place of a wrong type in a text.
 pub fn first_wrong_type(elements: &[LibraryElement]) -> Option<usize>
-    ensures { (text : Text) → result ≡ first (flat_map (wrong_types_in text) (map element_view elements.now)) }
+    ensures { (text : Declared) → result ≡ first (flat_map (wrong_types_in text) (map element_view elements.now)) }
 {
     for element in elements {
         if let Some(place) = wrong_type_in(element) {
@@ -78,7 +78,7 @@ pub fn first_wrong_type(elements: &[LibraryElement]) -> Option<usize>
 
 /// The place of a literal of a text outside its type.
 pub fn first_out_of_range(elements: &[LibraryElement]) -> Option<usize>
-    ensures { (text : Text) → result ≡ first (flat_map (out_of_range_in text) (map element_view elements.now)) }
+    ensures { (text : Declared) → result ≡ first (flat_map (out_of_range_in text) (map element_view elements.now)) }
 {
     for element in elements {
         if let Some(place) = out_of_range_in(element) {

@@ -5,7 +5,7 @@ ghost use Rattle.st_types.specs.Operators.{or_kind};
 ghost use Rattle.st_words.specs.Kinds.{row_of};
 ghost use Rattle.st_trees.specs.ExpressionViews.{expr_view, variable_view};
 ghost use Rattle.st_trees.specs.UnitViews.{unit_view};
-ghost use Rattle.st_types.specs.NameTypes.{Text, kind_of_variable};
+ghost use Rattle.st_types.specs.NameTypes.{Declared, kind_of_variable};
 ghost use Rattle.st_types.specs.Resolution.{is_joining, is_untyped_literal, is_untyped, is_whole_or_bits, taken_kind, kind_of_literal, own_kind, operand_kind};
 ghost use Rattle.st_rules.specs.Declarations.{is_there};
 ghost use Rattle.st_rules.specs.Expressions.{kind_of_name, place_of_literal, place_of_variable, first_byte, is_plain, kind_or_taken, kind_at, takes_operand, takes_operands, is_operation};
@@ -137,7 +137,7 @@ pub fn kind_of_literal(literal: &Literal) -> Option<Kind>
 #[tactic(auto, using(crate::proofs::KindLemmas::kind_of_plain_name))]
 fn kind_of_variable(unit: &Unit, variable: &Variable) -> Option<Kind>
     requires { is_there (kind_of_name (unit_view unit.now) (variable_view variable.now)) ≡ true }
-    ensures { (text : Text) → result ≡ kind_of_variable text (unit_view unit.now) (variable_view variable.now) }
+    ensures { (text : Declared) → result ≡ kind_of_variable text (unit_view unit.now) (variable_view variable.now) }
 {
     kind_of_name(unit, variable)
 }
@@ -146,7 +146,7 @@ fn kind_of_variable(unit: &Unit, variable: &Variable) -> Option<Kind>
 #[tactic(auto, using(crate::proofs::KindLemmas::plain_left, crate::proofs::KindLemmas::plain_right))]
 fn own_kind(unit: &Unit, expression: &Expr) -> Option<Kind>
     requires { is_plain (unit_view unit.now) (expr_view expression.now) ≡ true }
-    ensures { (text : Text) → result ≡ own_kind text (unit_view unit.now) (expr_view expression.now) }
+    ensures { (text : Declared) → result ≡ own_kind text (unit_view unit.now) (expr_view expression.now) }
 {
     match expression {
         Expr::Literal(literal) => kind_of_literal(literal),
@@ -174,7 +174,7 @@ fn are_untyped(left: &Expr, right: &Expr) -> bool
 fn common_kind(unit: &Unit, left: &Expr, right: &Expr) -> Option<Kind>
     requires left { is_plain (unit_view unit.now) (expr_view left.now) ≡ true }
     requires right { is_plain (unit_view unit.now) (expr_view right.now) ≡ true }
-    ensures { (text : Text) → result ≡ or_kind (own_kind text (unit_view unit.now) (expr_view left.now)) (own_kind text (unit_view unit.now) (expr_view right.now)) }
+    ensures { (text : Declared) → result ≡ or_kind (own_kind text (unit_view unit.now) (expr_view left.now)) (own_kind text (unit_view unit.now) (expr_view right.now)) }
 {
     own_kind(unit, left).or(own_kind(unit, right))
 }
@@ -189,7 +189,7 @@ pub fn operand_kind(
 ) -> Option<Kind>
     requires left { is_plain (unit_view unit.now) (expr_view left.now) ≡ true }
     requires right { is_plain (unit_view unit.now) (expr_view right.now) ≡ true }
-    ensures { (text : Text) → result ≡ operand_kind text (unit_view unit.now) expected operator (expr_view left.now) (expr_view right.now) }
+    ensures { (text : Declared) → result ≡ operand_kind text (unit_view unit.now) expected operator (expr_view left.now) (expr_view right.now) }
 {
     if are_untyped(left, right) {
         return if is_joining(operator) { expected } else { None };
@@ -200,7 +200,7 @@ pub fn operand_kind(
 /// The type of an expression at a place that expects a type.
 pub fn kind_at(unit: &Unit, expected: Option<Kind>, expression: &Expr) -> Kind
     requires { is_plain (unit_view unit.now) (expr_view expression.now) ≡ true }
-    ensures { (text : Text) → result ≡ kind_at text (unit_view unit.now) expected (expr_view expression.now) }
+    ensures { (text : Declared) → result ≡ kind_at text (unit_view unit.now) expected (expr_view expression.now) }
 {
     kind_or_taken(expected, own_kind(unit, expression))
 }

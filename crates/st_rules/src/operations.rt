@@ -5,7 +5,7 @@ ghost use Rattle.std.specs.List.{flat_map};
 ghost use Rattle.st_trees.specs.ExpressionViews.{expr_view};
 ghost use Rattle.st_trees.specs.StatementViews.{stmt_view};
 ghost use Rattle.st_trees.specs.UnitViews.{unit_view};
-ghost use Rattle.st_types.specs.NameTypes.{Text};
+ghost use Rattle.st_types.specs.NameTypes.{Declared};
 ghost use Rattle.st_types.specs.Resolution.{operand_kind};
 ghost use Rattle.st_words.specs.Kinds.{row_of, same_kind};
 ghost use Rattle.st_rules.specs.Places.{first};
@@ -27,7 +27,7 @@ fn wrong_operands(
 ) -> Option<usize>
     requires left { is_plain (unit_view unit.now) (expr_view left.now) ≡ true }
     requires right { is_plain (unit_view unit.now) (expr_view right.now) ≡ true }
-    ensures { (text : Text) → result ≡ first (unless (is_operation operator (kind_at text (unit_view unit.now) operand (expr_view left.now)) (kind_at text (unit_view unit.now) operand (expr_view right.now))) (first_byte (expr_view left.now))) }
+    ensures { (text : Declared) → result ≡ first (unless (is_operation operator (kind_at text (unit_view unit.now) operand (expr_view left.now)) (kind_at text (unit_view unit.now) operand (expr_view right.now))) (first_byte (expr_view left.now))) }
 {
     let left_kind = kind_at(unit, operand, left);
     let right_kind = kind_at(unit, operand, right);
@@ -47,7 +47,7 @@ fn wrong_operand(
     operand: &Expr,
 ) -> Option<usize>
     requires { is_plain (unit_view unit.now) (expr_view operand.now) ≡ true }
-    ensures { (text : Text) → result ≡ first (unless (takes_operand operator (row_of (kind_at text (unit_view unit.now) expected (expr_view operand.now))).sort) place) }
+    ensures { (text : Declared) → result ≡ first (unless (takes_operand operator (row_of (kind_at text (unit_view unit.now) expected (expr_view operand.now))).sort) place) }
 {
     if takes_operand(operator, kind_at(unit, expected, operand)) {
         None
@@ -60,7 +60,7 @@ fn wrong_operand(
 #[tactic(auto, using(crate::proofs::KindLemmas::plain_left, crate::proofs::KindLemmas::plain_right, crate::proofs::PlaceLemmas::first_or, crate::proofs::PlaceLemmas::first_or_else))]
 pub fn wrong_operation(unit: &Unit, expected: Option<Kind>, expression: &Expr) -> Option<usize>
     requires { is_plain (unit_view unit.now) (expr_view expression.now) ≡ true }
-    ensures { (text : Text) → result ≡ first (wrong_operations text (unit_view unit.now) expected (expr_view expression.now)) }
+    ensures { (text : Declared) → result ≡ first (wrong_operations text (unit_view unit.now) expected (expr_view expression.now)) }
 {
     match expression {
         Expr::Literal(_) => None,
@@ -85,7 +85,7 @@ pub fn wrong_operation(unit: &Unit, expected: Option<Kind>, expression: &Expr) -
 /// The place of an expression that is right in itself, where it is of another type than the variable that it is assigned to.
 fn other_type(unit: &Unit, kind: Kind, expression: &Expr) -> Option<usize>
     requires { is_plain (unit_view unit.now) (expr_view expression.now) ≡ true }
-    ensures { (text : Text) → result ≡ first (unless (same_kind (kind_at text (unit_view unit.now) (Some kind) (expr_view expression.now)) kind) (first_byte (expr_view expression.now))) }
+    ensures { (text : Declared) → result ≡ first (unless (same_kind (kind_at text (unit_view unit.now) (Some kind) (expr_view expression.now)) kind) (first_byte (expr_view expression.now))) }
 {
     if kind_at(unit, Some(kind), expression).is(kind) {
         None
@@ -98,7 +98,7 @@ fn other_type(unit: &Unit, kind: Kind, expression: &Expr) -> Option<usize>
 #[tactic(auto, using(crate::proofs::PlaceLemmas::first_or_else))]
 fn wrong_type(unit: &Unit, kind: Kind, expression: &Expr) -> Option<usize>
     requires { is_plain (unit_view unit.now) (expr_view expression.now) ≡ true }
-    ensures { (text : Text) → result ≡ first (wrong_types text (unit_view unit.now) kind (expr_view expression.now)) }
+    ensures { (text : Declared) → result ≡ first (wrong_types text (unit_view unit.now) kind (expr_view expression.now)) }
 {
     or_place(
         wrong_operation(unit, Some(kind), expression),
@@ -108,7 +108,7 @@ fn wrong_type(unit: &Unit, kind: Kind, expression: &Expr) -> Option<usize>
 
 /// The place of what is wrong in an expression that is assigned to a variable, where that has an elementary type.
 fn wrong_type_for(unit: &Unit, expression: &Expr, kind: Option<Kind>) -> Option<usize>
-    ensures { (text : Text) → result ≡ first (wrong_types_for text (unit_view unit.now) (expr_view expression.now) kind) }
+    ensures { (text : Declared) → result ≡ first (wrong_types_for text (unit_view unit.now) (expr_view expression.now) kind) }
 {
     let kind = kind?;
     if is_plain(unit, expression) {
@@ -119,7 +119,7 @@ fn wrong_type_for(unit: &Unit, expression: &Expr, kind: Option<Kind>) -> Option<
 }
 
 fn wrong_type_in_statement(unit: &Unit, statement: &Stmt) -> Option<usize>
-    ensures { (text : Text) → result ≡ first (wrong_types_of text (unit_view unit.now) (stmt_view statement.now)) }
+    ensures { (text : Declared) → result ≡ first (wrong_types_of text (unit_view unit.now) (stmt_view statement.now)) }
 {
     match statement {
         Stmt::Assign(target, value) => wrong_type_for(unit, value, kind_of_name(unit, target)),
@@ -130,7 +130,7 @@ fn wrong_type_in_statement(unit: &Unit, statement: &Stmt) -> Option<usize>
 /// The place of a wrong type in the assignments of a body.
 #[tactic(auto, using(crate::proofs::PlaceLemmas::first_front, crate::proofs::PlaceLemmas::first_behind))]
 pub fn wrong_type_in_body(unit: &Unit, body: &[Stmt]) -> Option<usize>
-    ensures { (text : Text) → result ≡ first (flat_map (wrong_types_of text (unit_view unit.now)) (map stmt_view body.now)) }
+    ensures { (text : Declared) → result ≡ first (flat_map (wrong_types_of text (unit_view unit.now)) (map stmt_view body.now)) }
 {
     for statement in body {
         if let Some(place) = wrong_type_in_statement(unit, statement) {

@@ -7,7 +7,7 @@ ghost use Rattle.st_trees.specs.ExpressionViews.{expr_view};
 ghost use Rattle.st_trees.specs.StatementViews.{stmt_view};
 ghost use Rattle.st_trees.specs.UnitViews.{unit_view};
 ghost use Rattle.st_types.specs.Operators.{number_of};
-ghost use Rattle.st_types.specs.NameTypes.{Text};
+ghost use Rattle.st_types.specs.NameTypes.{Declared};
 ghost use Rattle.st_rules.specs.Places.{first};
 ghost use Rattle.st_rules.specs.Expressions.{is_plain};
 ghost use Rattle.st_rules.specs.Bodies.{literal_out_of_range, out_of_range, typed_out_of_range, typed_literal_out_of_range, typed_literals_out_of_range, out_of_range_for, out_of_range_of};
@@ -44,7 +44,7 @@ pub fn literal_out_of_range(expected: Option<Kind>, literal: &Literal) -> Option
 #[tactic(auto, using(crate::proofs::KindLemmas::plain_left, crate::proofs::KindLemmas::plain_right, crate::proofs::PlaceLemmas::first_or))]
 fn out_of_range(unit: &Unit, expected: Option<Kind>, expression: &Expr) -> Option<usize>
     requires { is_plain (unit_view unit.now) (expr_view expression.now) ≡ true }
-    ensures { (text : Text) → result ≡ first (out_of_range text (unit_view unit.now) expected (expr_view expression.now)) }
+    ensures { (text : Declared) → result ≡ first (out_of_range text (unit_view unit.now) expected (expr_view expression.now)) }
 {
     match expression {
         Expr::Literal(literal) => literal_out_of_range(expected, literal),
@@ -103,7 +103,7 @@ fn typed_literals_out_of_range(expression: &Expr) -> Option<usize>
 /// The place of a literal outside its type, in an expression that is assigned to a variable of a type.
 #[tactic(auto, using(crate::proofs::PlaceLemmas::none_is_first, crate::proofs::PlaceLemmas::some_is_first))]
 fn assigned_out_of_range(unit: &Unit, kind: Kind, expression: &Expr) -> Option<usize>
-    ensures { (text : Text) → result ≡ first (out_of_range_for text (unit_view unit.now) (expr_view expression.now) (Some kind)) }
+    ensures { (text : Declared) → result ≡ first (out_of_range_for text (unit_view unit.now) (expr_view expression.now) (Some kind)) }
 {
     if !is_plain(unit, expression) {
         return typed_literals_out_of_range(expression);
@@ -115,7 +115,7 @@ fn assigned_out_of_range(unit: &Unit, kind: Kind, expression: &Expr) -> Option<u
 }
 
 fn out_of_range_in_statement(unit: &Unit, statement: &Stmt) -> Option<usize>
-    ensures { (text : Text) → result ≡ first (out_of_range_of text (unit_view unit.now) (stmt_view statement.now)) }
+    ensures { (text : Declared) → result ≡ first (out_of_range_of text (unit_view unit.now) (stmt_view statement.now)) }
 {
     let Stmt::Assign(target, value) = statement else {
         return None;
@@ -129,7 +129,7 @@ fn out_of_range_in_statement(unit: &Unit, statement: &Stmt) -> Option<usize>
 /// The place of a literal outside its type, in the assignments of a body.
 #[tactic(auto, using(crate::proofs::PlaceLemmas::first_front, crate::proofs::PlaceLemmas::first_behind))]
 pub fn out_of_range_in_body(unit: &Unit, body: &[Stmt]) -> Option<usize>
-    ensures { (text : Text) → result ≡ first (flat_map (out_of_range_of text (unit_view unit.now)) (map stmt_view body.now)) }
+    ensures { (text : Declared) → result ≡ first (flat_map (out_of_range_of text (unit_view unit.now)) (map stmt_view body.now)) }
 {
     for statement in body {
         if let Some(place) = out_of_range_in_statement(unit, statement) {

@@ -88,7 +88,7 @@ fn convertible() -> [Kind; 13]
     ]
 }
 
-/// What stands behind a front of a word.
+/// What stands after a prefix of a word.
 #[tactic(auto, using(crate::proofs::StandardLemmas::short_word, crate::proofs::StandardLemmas::word_by_parts, crate::proofs::StandardLemmas::word_behind))]
 fn behind<'a>(word: &'a [u8], front: &[u8]) -> Option<&'a [u8]>
     ensures { (back : List ℕ) → bytes_eq word.now (front.now ++ back) ≡ is_back back (option_map (λ r. r.now) result) }

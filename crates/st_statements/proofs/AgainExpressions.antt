@@ -27,7 +27,7 @@ use Rattle.st_statements.proofs.ExpressionFacts.{is_less, expr_less, selector_le
 use Rattle.st_statements.proofs.ToldExpressions.{operand_at_refuses, none_binds}
 use Rattle.st_statements.proofs.Again.{one_again, mark_head, keyword_head, name_head, name_in_is, whole_head, Repeats, repeats_halt, repeats_step, several_again, after_comma_again, comma_next, listed_again}
 
--- ---- what stands behind
+-- ---- what stands after
 
 -- nothing that makes a name more than itself
 abbrev pub Closed : Tokens → Type 0
@@ -172,7 +172,7 @@ inverted_again expr s eq = let h = keyword_head w.Not (is_keyword w.Not) s in le
 
 -- ---- operators
 
--- the operators behind an expression make it another
+-- the operators after an expression make it another
 abbrev pub TurnsTo : ℕ → ℕ → Expr → Tokens → Expr → Tokens → Type 0
 TurnsTo below least a us y ws = (n : ℕ) → length us ≤ n → loops (goes_on least) (operation_within (expr_at below) below) n a us ≡ Ok (y, ws)
 

@@ -120,7 +120,7 @@ member_is : (initial : Parser Initial) {ts us vs ws : Tokens} {x : Identifier} {
 unfolding member_at
 member_is initial n o eq = rw (one_again n, one_again o.1, eq) refl
 
--- ---- what stands behind an element
+-- ---- what stands after an element
 
 elements_plain : {us vs ws : Tokens} {xs : List Element} → IsMoreElements us xs vs → Passes (mark m.CloseBracket) vs ws → next (is_mark m.Open) us ≡ false
 unfolding same_mark

@@ -24,7 +24,7 @@ use Rattle.st_statements.proofs.StatementFacts.{argument_less, label_less, arm_l
 use Rattle.st_statements.proofs.Again.{one_again, mark_kind, keyword_kind, name_in_is, mark_head, keyword_head, name_head, whole_head, number_again, Repeats, repeats_halt, repeats_step, several_again, after_comma_again, comma_next, listed_again}
 use Rattle.st_statements.proofs.AgainExpressions.{Stops, stops_all, close_stops, comma_stops, open_first, expr_again, variable_of_again}
 
--- ---- what stands behind
+-- ---- what stands after
 
 keyword_stops : (x : KeywordType) {ts us : Tokens} → Passes (keyword x) ts us → continues (Keyword x) ≡ false → Stops ts
 keyword_stops x p eq = keyword_head x continues p.1 ∙ eq

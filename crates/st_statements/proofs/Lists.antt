@@ -22,7 +22,7 @@ each_push L (y ∷ found) x all l = (all.0, each_push L found x all.1 l)
 module _ {A : Type 0} (f : TokenKind → Bool) (P : Family A) (One : Grammar A) (Rest : Grammar (List A)) (L : A → Type 0)
     (nil : (ts : Tokens) → Rest ts [] ts) (cons : (ts : Tokens) (x : A) (us : Tokens) (xs : List A) (vs : Tokens) → One ts x us → Rest us xs vs → Rest ts (x ∷ xs) vs)
     (less : (ts : Tokens) (x : A) (us : Tokens) → One ts x us → length us < length ts) where
-  -- behind those that were found
+  -- after those that were found
   abbrev pub More : List A → Grammar (List A)
   More found ts ys us = (xs : List A) × Rest ts xs us × (ys ≡ found ++ xs)
 

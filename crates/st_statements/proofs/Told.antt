@@ -29,7 +29,7 @@ pub record Lost {A : Type 0} (P : Family A) (R : Grammar A) (ts : Tokens) (n : �
   pub again : (e : ℕ) (more : Tokens) → SameHead rest more → P e (front ++ more) ≡ Err (Unexpected (length more))
   pub begun : Begins R front
 
--- it was too deep: whatever follows a front, which begins some text
+-- it was too deep: whatever follows a prefix, which begins some text
 pub record Sunk {A : Type 0} (P : Family A) (R : Grammar A) (ts : Tokens) : Type 0 where
   pub front : Tokens
   pub rest : Tokens

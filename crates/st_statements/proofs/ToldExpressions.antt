@@ -240,7 +240,7 @@ module _ (below : ℕ) (expr : ℕ → ℕ → Parser Expr) (tells : (least : �
     pub operand : IsExpr (binds_of op + 1) rest right us
     pub whole : x ≡ e.binary op a right
 
-  -- what operators behind it make of an expression
+  -- what operators after it make of an expression
   abbrev Grown : ℕ → Expr → Grammar Expr
   Grown least a ts x us = (whole : Tokens) → IsExpr (strength a) whole a ts → least ≤ strength a → IsExpr least whole x us
 

@@ -117,7 +117,7 @@ is_structure ts x us (at, vs, o, (xs, ws, s, (end, zs, c, made eq))) = structure
 is_list : (ts : Tokens) (x : Initial) (us : Tokens) → Seq (Is (mark m.OpenBracket)) (λ at. Seq IsElements (λ xs. Seq (Is (mark m.CloseBracket)) (λ end. Made (i.list at (elements_of xs))))) ts x us → IsInitial ts x us
 is_list ts x us (at, vs, o, (xs, ws, s, (end, zs, c, made eq))) = list at xs o s (end, c) eq
 
--- what stands behind a count
+-- what stands after a count
 abbrev pub AfterWhole : NumberLeaf → Grammar Element
 AfterWhole n us y vs = (ts : Tokens) → Is whole ts n us → IsElement ts y vs
 

@@ -203,7 +203,7 @@ is_otherwise ts xs us p = otherwise (p.0, p.2) p.3
 is_no_else : (ts : Tokens) (xs : List Stmt) (us : Tokens) → Made [] ts xs us → IsElse ts xs us
 is_no_else ts xs us (made eq) = subst (λ (zs : List Stmt). IsElse ts zs ts) (sym eq) no_else
 
--- arms behind the first
+-- arms after the first
 abbrev Arms : Arm → Grammar (List Arm)
 Arms a ts ys us = (xs : List Arm) × IsMoreArms ts xs us × (ys ≡ (a ∷ []) ++ xs)
 

@@ -45,7 +45,7 @@ negative_of at = do
   n ← one whole
   pure (e.literal (literals.Number (negative_at at n)))
 
--- what may go on behind an expression and make it a longer one
+-- what may go on after an expression and make it a longer one
 abbrev pub continues : TokenKind → Bool
 continues k = goes_on 1 k || (is_mark m.Open k || starts_selector k)
 
@@ -127,7 +127,7 @@ module _ (expr : ℕ → Parser Expr) where
   unfoldable pub unary_at : Parser Expr
   unary_at = if_next (is_mark m.Minus) minus_at (if_next (is_keyword w.Not) not_at operand_at)
 
-  -- an operator and the operand behind it
+  -- an operator and the operand after it
   unfoldable pub operation_of : Expr → Parser Expr
   operation_of left = do
     op ← one operator

@@ -14,13 +14,13 @@ abbrev pub SameHead : Tokens → Tokens → Type 0
 SameHead [] more = more ≡ []
 SameHead (t ∷ ts) more = (us : Tokens) × (more ≡ t ∷ us)
 
--- The tokens begin some text of the grammar: others behind them complete it, whatever follows.
+-- The tokens begin some text of the grammar: others after them complete it, whatever follows.
 pub record Begins {A : Type 0} (R : Grammar A) (front : Tokens) : Type 0 where
   pub more : Tokens
   pub tree : A
   pub whole : (after : Tokens) → R (front ++ (more ++ after)) tree after
 
--- x is read of the tokens, and us are left. E says behind what it may end, which hangs on the next token alone.
+-- x is read of the tokens, and us are left. E says after what it may end, which hangs on the next token alone.
 pub record IsRead {A : Type 0} (R : Grammar A) (E : Tokens → Type 0) (ts : Tokens) (x : A) (us : Tokens) : Type 0 where
   pub front : Tokens
   pub parts : ts ≡ front ++ us
@@ -38,7 +38,7 @@ pub record IsUnexpected {A : Type 0} (R : Grammar A) (E : Tokens → Type 0) (ts
   pub begun : Begins R front
   pub none : (more : Tokens) (y : A) (vs : Tokens) → SameHead rest more → E vs → R (front ++ more) y vs → ⊥
 
--- Some front of the tokens begins a text, and no text that begins so is as shallow as it must be.
+-- Some prefix of the tokens begins a text, and no text that begins so is as shallow as it must be.
 pub record IsTooDeep {A : Type 0} (R : Grammar A) (E : Tokens → Type 0) (L : A → Type 0) (ts : Tokens) : Type 0 where
   pub front : Tokens
   pub rest : Tokens
@@ -58,6 +58,6 @@ Answers view (Ok found) x us = view found ≡ (x, us)
 Answers view (Err errors.Memory) x us = Unit {0}
 Answers view (Err (errors.Refused f)) x us = ⊥
 
--- it may end behind whatever comes
+-- it may end after whatever comes
 abbrev pub Anywhere : Tokens → Type 0
 Anywhere us = Unit {0}

@@ -1,4 +1,4 @@
--- How deep a tree of a text may be, and behind what an expression and statements end.
+-- How deep a tree of a text may be, and after what an expression and statements end.
 use Rattle.std.specs.Prelude.{◌≡◌, ◌≤◌, false, List, ℕ}
 use Rattle.st_words.specs.declared.literal.Number.{Number}
 use Rattle.st_trees.specs.Expressions.{Expr}

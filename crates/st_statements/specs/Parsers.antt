@@ -84,7 +84,7 @@ turns f step s = λ ts. loops f step (length ts) s ts
 abbrev pub gather : {A : Type 0} → Parser A → List A → Parser (List A)
 gather item found = item >>= (λ x. pure (found ++ x ∷ []))
 
--- items behind those that were found
+-- items after those that were found
 abbrev pub several : {A : Type 0} → (TokenKind → Bool) → Parser A → List A → Parser (List A)
 several f item = turns f (gather item)
 

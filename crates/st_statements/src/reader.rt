@@ -1,4 +1,4 @@
-//! The parts of a text that declarations and units are made of. Each call reads what stands in front of the tokens, and
+//! The parts of a text that declarations and units are made of. Each call reads what stands in prefix of the tokens, and
 //! gives it with the tokens after it.
 //!
 //! Each has four clauses on the grammar: what is read is of the grammar; what is of the grammar is read; where a token is

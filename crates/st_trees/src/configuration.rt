@@ -46,7 +46,7 @@ pub struct GlobalDeclaration {
     pub initial: Option<Initial>,
 }
 
-/// The word behind VAR_GLOBAL.
+/// The word after VAR_GLOBAL.
 #[derive(Clone, Copy, Debug, PartialEq, Eq)]
 pub enum GlobalQualifier {
     Constant,
@@ -91,7 +91,7 @@ pub struct Instance {
 #[derive(Drop)]
 pub struct Resource {
     pub name: Identifier,
-    /// The name behind ON.
+    /// The name after ON.
     pub processor: Identifier,
     pub tasks: Vec<Task>,
     pub instances: Vec<Instance>,

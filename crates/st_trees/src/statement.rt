@@ -17,15 +17,15 @@ pub enum Stmt {
     Assign(Variable, Expr),
     /// A call of a block's instance.
     Invoke(Identifier, Vec<Argument>),
-    /// IF with its ELSIFs, and what stands behind ELSE.
+    /// IF with its ELSIFs, and what stands after ELSE.
     If(Vec<Arm>, Vec<Stmt>),
-    /// CASE over a selector, and what stands behind ELSE.
+    /// CASE over a selector, and what stands after ELSE.
     Case(Expr, Vec<CaseArm>, Vec<Stmt>),
     For {
         control: Identifier,
         start: Expr,
         limit: Expr,
-        /// What stands behind BY.
+        /// What stands after BY.
         step: Option<Expr>,
         body: Vec<Stmt>,
     },

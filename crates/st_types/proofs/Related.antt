@@ -208,12 +208,12 @@ module _
     block_call_q : (b : Block) (at : Path) (s : Store) → Q Store (block_call missing units image now b at s) (block_call missing' units' image now b at s)
     block_call_q b at s = closed.continues (body_q (of_block at) b.body image s) (λ e. closed.begins (store_of e))
 
-    standard_q : (k : standard.Block) (at : Path) (s : Store) → Q Store (standard_call k now at s) (standard_call k now at s)
+    standard_q : (k : standard.StandardBlock) (at : Path) (s : Store) → Q Store (standard_call k now at s) (standard_call k now at s)
     standard_q k at s = closed.continues (q_or Index (member_values s at (members_of k))) (λ vs. q_take (members_assigned s at (members_of k) (stepped k now vs)))
 
     pub functions_q : (f : Name) (vs : List Datum) → Q Datum (function_call missing library units now f vs) (function_call missing' library units' now f vs)
     functions_q f vs = closed.continues (q_or Index (function_in library.functions f)) (λ g. function_q g vs)
 
-    pub instances_q : (b : Name) (o : Option standard.Block) (at : Path) (s : Store) → Q Store (instance_call missing library image units now b o at s) (instance_call missing' library image units' now b o at s)
+    pub instances_q : (b : Name) (o : Option standard.StandardBlock) (at : Path) (s : Store) → Q Store (instance_call missing library image units now b o at s) (instance_call missing' library image units' now b o at s)
     instances_q b (Some k) at s = standard_q k at s
     instances_q b None at s = closed.continues (q_or Index (block_in library.blocks b)) (λ c. block_call_q c at s)

@@ -7,12 +7,12 @@ use Rattle.st_types.proofs.DueLemmas.{due-there}
 
 -- there are three programs
 no_fourth : (h : History) (p k : ℕ) → Waits three_programs h (of (suc (suc (suc p))) k) → ⊥
-no_fourth h p k w = let t = due-there three_programs (suc (suc (suc p))) h.ticks k w.is in absurd (omega (arith, t.0))
+no_fourth h p k w = let t = due-there three_programs (suc (suc (suc p))) h.sampled k w.is in absurd (omega (arith, t.0))
 
--- a program that has run behind all four rows does not wait
-no_more : (h : History) (p k : ℕ) → Waits three_programs h (of p k) → length h.ticks ≡ 4 → served p h.runs ≡ 4 → ⊥
+-- a program that has run after all four rows does not wait
+no_more : (h : History) (p k : ℕ) → Waits three_programs h (of p k) → length h.sampled ≡ 4 → served p h.runs ≡ 4 → ⊥
 no_more h p k w rows runs =
-    let t = due-there three_programs p h.ticks k w.is in
+    let t = due-there three_programs p h.sampled k w.is in
     let u : served p h.runs ≤ k = w.unserved in
     absurd (omega (arith, t.1))
 

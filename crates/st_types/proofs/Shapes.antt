@@ -6,7 +6,8 @@ use Rattle.st_words.specs.declared.fault.Fault.{Fault}
 use Rattle.st_words.specs.declared.fault.Fault.TheVariants.{Index, Conversion}
 use Rattle.st_words.specs.declared.kind.Kind.{Kind}
 use Rattle.st_words.specs.declared.kind.Kind.TheVariants.{Sint, Int, Dint, Lint, Usint, Uint, Udint, Ulint, Byte, Word, Dword, Lword, Time, Bool as Boolean}
-use Rattle.st_words.specs.Kinds.{place_of, same_kind, holds}
+use Rattle.st_words.specs.Kinds.{same_kind, holds}
+use Rattle.st_words.proofs.KindLemmas.{same_kind_is}
 use Rattle.st_words.specs.Values.{Datum}
 use Rattle.st_words.specs.Paths.{Path, same_path}
 use Rattle.st_trees.specs.Statements.{Argument, given, copied, Stmt, empty, assign, invoke, IF, CASE, FOR, WHILE, REPEAT, EXIT, RETURN, Stmts, no_stmts, stmt_then, Arms, no_arms, arm_then, CaseArms, no_case_arms, case_arm_then}
@@ -19,36 +20,6 @@ use Rattle.st_types.specs.Evaluation.{value, place, truth_of}
 use Rattle.st_types.specs.Loops.{End, goes_on, exits, returns, behind, Turn, again, over, turned, resumed, go_back, turns, looped, guarded, asked, until, runs_on, step_on, unless_refused, stepped_on, stored, nonzero}
 use Rattle.st_types.specs.Execution.{label_holds, given_inputs, assigned_inputs, copied_outputs, ran_block, step_of, exec, exec_all, exec_arms, exec_case}
 use Rattle.st_types.specs.Runs.{store_of, members_assigned, standard_call, block_call, instance_call, units_within, Program, scope_of, ran, ran_where}
-
--- a type is told by its place in the table
-kind_at : ℕ → Kind
-kind_at n =
-    if n == 0 then Sint else if n == 1 then Int else if n == 2 then Dint else if n == 3 then Lint else if n == 4 then Usint
-    else if n == 5 then Uint else if n == 6 then Udint else if n == 7 then Ulint else if n == 8 then Byte else if n == 9 then Word
-    else if n == 10 then Dword else if n == 11 then Lword else if n == 12 then Time else Boolean
-
-kind_at-place_of : (k : Kind) → kind_at (place_of k) ≡ k
-unfolding kind_at
-kind_at-place_of Sint = refl
-kind_at-place_of Int = refl
-kind_at-place_of Dint = refl
-kind_at-place_of Lint = refl
-kind_at-place_of Usint = refl
-kind_at-place_of Uint = refl
-kind_at-place_of Udint = refl
-kind_at-place_of Ulint = refl
-kind_at-place_of Byte = refl
-kind_at-place_of Word = refl
-kind_at-place_of Dword = refl
-kind_at-place_of Lword = refl
-kind_at-place_of Time = refl
-kind_at-place_of Boolean = refl
-
-same_place : (m n : ℕ) → (m == n) ≡ true → m ≡ n
-same_place m n h = grind (arith, nat_tests)
-
-pub same_kind_is : (k l : Kind) → same_kind k l ≡ true → k ≡ l
-same_kind_is k l h = sym (kind_at-place_of k) ∙ ap kind_at (same_place (place_of k) (place_of l) h) ∙ kind_at-place_of l
 
 -- a store of the same variables with the same types, in which values that their types hold are held still
 pub record Same (s t : Store) : Type 0 where
@@ -106,7 +77,7 @@ kept_follow : {A B : Type 0} (store : B → Store) (s : Store) (f : A → Run B)
 kept_follow store s f (Ok r) k z c e = (k r.0).kept r.1 z c e
 kept_follow store s f (Err y) k z c e = absurd (cc)
 
--- behind a run that leaves the store alone
+-- after a run that leaves the store alone
 keeps_behind : {A B : Type 0} (store : B → Store) (s : Store) (m : Run A) {f : A → Run B} → ((a : A) → Keeps B store s (f a)) → Keeps B store s (m >>= f)
 keeps_behind store s m {f = f} k = record { kept = λ b z c e. kept_follow store s f (m b) k z c e }
 
@@ -267,14 +238,14 @@ members_same s at (m ∷ ms) (v ∷ vs) t e = next (assigned s (member_at at m.0
     next (Ok u) h k e = same_then (h u refl) (k u e)
     next (Err f) h k e = absurd (cc)
 
-standard_keeps : (k : standard.Block) (now : ℕ) (at : Path) (s : Store) → Keeps Store itself s (standard_call k now at s)
+standard_keeps : (k : standard.StandardBlock) (now : ℕ) (at : Path) (s : Store) → Keeps Store itself s (standard_call k now at s)
 standard_keeps k now at s = keeps_behind itself s _ (λ vs. keeps_take s (members_assigned s at (members_of k) (stepped k now vs)) (members_same s at (members_of k) (stepped k now vs)))
 
 module _ (missing : Fault) (library : Library) (image : Store) (now : ℕ) (units : Units) (blocks : (b : Name) (at : Path) (s : Store) → Keeps Store itself s (units.blocks b at s)) where
   body_keeps : (b : Block) (at : Path) (s : Store) → Keeps Store itself s (block_call missing units image now b at s)
   body_keeps b at s = keeps_then store_of itself s (exec_all_keeps (record { units = units; frame = of_block at; body = b.body; image = image; now = now; missing = missing }) blocks b.body.statements s) (λ e. keeps_give itself (store_of e) (store_of e) (same_refl (store_of e)))
 
-  instance_keeps : (b : Name) (o : Option standard.Block) (at : Path) (s : Store) → Keeps Store itself s (instance_call missing library image units now b o at s)
+  instance_keeps : (b : Name) (o : Option standard.StandardBlock) (at : Path) (s : Store) → Keeps Store itself s (instance_call missing library image units now b o at s)
   instance_keeps b (Some k) at s = standard_keeps k now at s
   instance_keeps b None at s = keeps_behind itself s (or_fault Index (block_in library.blocks b)) (λ c. body_keeps c at s)
 

@@ -20,7 +20,7 @@ use Rattle.st_trees.specs.declared.declaration.Section.TheVariants.{Local}
 use Rattle.st_trees.specs.declared.unit.UnitSort.TheVariants.{Program as ProgramSort}
 use Rattle.st_trees.specs.Declarations.{Declaration}
 use Rattle.st_trees.specs.Units.{OrganisationUnit}
-use Rattle.st_types.specs.NameTypes.{Text}
+use Rattle.st_types.specs.NameTypes.{Declared}
 use Rattle.st_types.specs.Stores.{Store}
 use Rattle.st_types.specs.Scopes.{Name, Body, Function, own_path, of_program, unowned}
 use Rattle.st_types.specs.declared.entry.Outcome.{Outcome}
@@ -60,7 +60,7 @@ three_variables = record {
   body = [];
 }
 
-abbrev pub its_text : Text
+abbrev pub its_text : Declared
 its_text = record { types = []; units = three_variables ∷ [] }
 
 abbrev pub truth : Bool → Expr
@@ -164,14 +164,14 @@ abbrev pub squared : ℤ → List Stmt
 squared z = set Y (call (identifier (codes "SQ")) (exprs_of (number Dint z ∷ []))) ∷ []
 
 -- the outputs of a block after each of its calls, which are a moment with the inputs; it has so many inputs and outputs
-abbrev pub outputs_of : standard.Block → ℕ → ℕ → List (ℕ × List Datum) → List Datum → List (List Datum)
+abbrev pub outputs_of : standard.StandardBlock → ℕ → ℕ → List (ℕ × List Datum) → List Datum → List (List Datum)
 outputs_of b inputs outputs [] members = []
 outputs_of b inputs outputs (c ∷ calls) members =
     let next = stepped b c.0 (c.1 ++ drop inputs members) in
     take outputs (drop inputs next) ∷ outputs_of b inputs outputs calls next
 
 -- members as they start
-abbrev pub fresh_members : standard.Block → List Datum
+abbrev pub fresh_members : standard.StandardBlock → List Datum
 fresh_members b = map (λ m. datum m.1 (pos 0)) (standard.members_of b)
 
 abbrev pub bool : Bool → Datum
@@ -184,7 +184,7 @@ abbrev pub time : ℤ → Datum
 time z = datum Time z
 
 -- Q and ET of a timer after each of its calls, which are a moment with IN
-abbrev pub timed : standard.Block → ℤ → List (ℕ × Bool) → List (List Datum)
+abbrev pub timed : standard.StandardBlock → ℤ → List (ℕ × Bool) → List (List Datum)
 timed b pt calls = outputs_of b 2 2 (map (λ c. (c.0, bool c.1 ∷ time pt ∷ [])) calls) (fresh_members b)
 
 abbrev pub q_et : Bool → ℕ → List Datum

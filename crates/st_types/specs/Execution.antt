@@ -108,14 +108,14 @@ abbrev mutual
     e ← exec w x s
     behind e (exec_all w xs)
 
-  -- the statements of the first condition that holds, or those behind them all
+  -- the statements of the first condition that holds, or those after them all
   pub exec_arms : Scope → Arms → (Store → Run End) → Store → Run End
   exec_arms w no_arms otherwise s = otherwise s
   exec_arms w (arm_then e body arms) otherwise s = do
     go ← truth_of w e s
     if go then exec_all w body s else exec_arms w arms otherwise s
 
-  -- the statements of the first list with a label that holds the number, or those behind them all
+  -- the statements of the first list with a label that holds the number, or those after them all
   pub exec_case : Scope → ℤ → CaseArms → (Store → Run End) → Store → Run End
   exec_case w z no_case_arms otherwise s = otherwise s
   exec_case w z (case_arm_then labels body arms) otherwise s =

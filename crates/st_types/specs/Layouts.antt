@@ -11,7 +11,7 @@ use Rattle.st_types.specs.declared.plan.PlanVariable.{PlanVariable}
 use Rattle.st_types.specs.declared.plan.PlanInput.{PlanInput}
 use Rattle.st_types.specs.Slots.{Slot}
 
--- the slots of a plan: its variables in order, and behind them its inputs
+-- the slots of a plan: its variables in order, and after them its inputs
 abbrev pub variable_slot : PlanVariable → Slot
 variable_slot v = record { path = v.path; is_input = false }
 

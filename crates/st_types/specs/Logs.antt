@@ -7,7 +7,7 @@ use Rattle.st_types.specs.Stores.{Store}
 use Rattle.st_types.specs.declared.entry.Outcome.{Outcome}
 use Rattle.st_types.specs.Runs.{outcome_of}
 use Rattle.st_types.specs.Plans.{Plan, Program, places_of, samples_of, image_of, fits, program_at, after_run}
-use Rattle.st_types.specs.Due.{History, no_history, with_tick, with_run, Waits}
+use Rattle.st_types.specs.Due.{History, no_history, with_row, with_run, Waits}
 
 abbrev pub Log : Type 0
 Log = List Entry
@@ -25,7 +25,7 @@ row_at rows k = slice_index_or rows k record { moment = 0; image = [] }
 abbrev pub with_entry : Plan → Past → Entry → Past
 with_entry plan past (Row row) = record {
   rows = past.rows ++ row ∷ [];
-  history = with_tick past.history row.moment (samples_of plan past.store row.image);
+  history = with_row past.history row.moment (samples_of plan past.store row.image);
   store = past.store;
 }
 with_entry plan past (Done a) = record {

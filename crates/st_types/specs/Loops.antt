@@ -13,7 +13,7 @@ pub data End : Type 0 where
   exits : Store → End
   returns : Store → End
 
--- what stands behind statements that ended so
+-- what stands after statements that ended so
 abbrev pub behind : End → (Store → Run End) → Run End
 behind (goes_on s) next = next s
 behind (exits s) next = give (exits s)
@@ -35,7 +35,7 @@ abbrev pub resumed : (Store → Run End) → Store → Option Store → Run End
 resumed next s None = give (goes_on s)
 resumed next s (Some t) = next t
 
--- behind a turn: the tick of going back, the step of the control variable, and the loop again
+-- after a turn: the tick of going back, the step of the control variable, and the loop again
 abbrev pub go_back : (Store → Option Store) → (Store → Run End) → Turn → Run End
 go_back step next (over e) = give e
 go_back step next (again s) = do

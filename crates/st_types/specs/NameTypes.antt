@@ -20,7 +20,7 @@ use Rattle.st_types.specs.StandardBlocks.{block_of, inputs_of, outputs_of}
 use Rattle.st_types.specs.Scopes.{Name}
 
 -- the types and units of a text
-pub record Text : Type 0 where
+pub record Declared : Type 0 where
   pub types : List TypeDeclaration
   pub units : List OrganisationUnit
 
@@ -36,8 +36,8 @@ units_in (sources.types ts ∷ rest) = units_in rest
 units_in (sources.unit u ∷ rest) = u ∷ units_in rest
 units_in (sources.configuration c ∷ rest) = units_in rest
 
-abbrev pub text_of : Source → Text
-text_of source = record { types = types_in source; units = units_in source }
+abbrev pub declared_in : Source → Declared
+declared_in source = record { types = types_in source; units = units_in source }
 
 abbrev pub is_named : Name → Identifier → Bool
 is_named x y = bytes_eq x y.name
@@ -84,7 +84,7 @@ member_kind [] x = None
 member_kind (m ∷ ms) x = if bytes_eq x m.0 then Some m.1 else member_kind ms x
 
 -- what a declared type is
-abbrev pub definition_of : Text → VariableType → Option TypeDefinition
+abbrev pub definition_of : Declared → VariableType → Option TypeDefinition
 definition_of text (types.Array a) = Some (array a)
 definition_of text (types.Simple (Elementary k at)) = None
 definition_of text (types.Simple (Named x)) = type_named text.types x.name
@@ -113,31 +113,31 @@ sections_of (Function k at) bs = []
 sections_of Program bs = []
 
 -- a variable of the wanted section of a function block of the text
-abbrev pub variable_of_block : Text → (Section → Bool) → Name → Name → Option VariableType
+abbrev pub variable_of_block : Declared → (Section → Bool) → Name → Name → Option VariableType
 variable_of_block text wanted b x = option_and_then (λ u. type_in_sections wanted (sections_of u.sort u.blocks) x) (unit_named text.units b)
 
 -- an input or an output of a block that is named by a type: a standard one, or one of the text
-abbrev pub block_variable : Text → (standard.Block → List standard.Member) → (Section → Bool) → VariableType → Name → Option VariableType
+abbrev pub block_variable : Declared → (standard.StandardBlock → List standard.Member) → (Section → Bool) → VariableType → Name → Option VariableType
 block_variable text standard_ones wanted (types.Array a) x = None
 block_variable text standard_ones wanted (types.Simple (Elementary k at)) x = None
 block_variable text standard_ones wanted (types.Simple (Named b)) x =
     standard_or_own (block_of b.name)
   where
-    standard_or_own : Option standard.Block → Option VariableType
+    standard_or_own : Option standard.StandardBlock → Option VariableType
     standard_or_own (Some k) = option_map elementary (member_kind (standard_ones k) x)
     standard_or_own None = variable_of_block text wanted b.name x
 
--- what stands behind a dot: a field of a structure, or an output of an instance
-abbrev pub member_type : Text → VariableType → Name → Option TypeDefinition → Option VariableType
+-- what stands after a dot: a field of a structure, or an output of an instance
+abbrev pub member_type : Declared → VariableType → Name → Option TypeDefinition → Option VariableType
 member_type text t x (Some (structure fields)) = field_type fields x
 member_type text t x (Some (array a)) = None
 member_type text t x None = block_variable text outputs_of is_output t x
 
-abbrev pub selected_type : Text → VariableType → Selector → Option VariableType
+abbrev pub selected_type : Declared → VariableType → Selector → Option VariableType
 selected_type text t (member x) = member_type text t x.name (definition_of text t)
 selected_type text t (subscript e) = element_type (definition_of text t)
 
-abbrev pub type_behind : Text → Selectors → VariableType → Option VariableType
+abbrev pub type_behind : Declared → Selectors → VariableType → Option VariableType
 type_behind text no_selectors t = Some t
 type_behind text (selector_then x xs) t = option_and_then (type_behind text xs) (selected_type text t x)
 
@@ -148,7 +148,7 @@ kind_of_type (types.Simple (Named x)) = None
 kind_of_type (types.Array a) = None
 
 -- the elementary type of a variable of a unit
-abbrev pub kind_of_variable : Text → OrganisationUnit → Variable → Option Kind
+abbrev pub kind_of_variable : Declared → OrganisationUnit → Variable → Option Kind
 kind_of_variable text u (variable x xs) = option_and_then kind_of_type (option_and_then (type_behind text xs) (variable_type u x.name))
 
 -- the types of the inputs of a list of blocks of variables, in order
@@ -165,5 +165,5 @@ input_kinds [] = []
 input_kinds (b ∷ bs) = if is_input b.section then kinds_of_declarations b.declarations ++ input_kinds bs else input_kinds bs
 
 -- the type of an input of a block's instance
-abbrev pub input_kind : Text → OrganisationUnit → Name → Name → Option Kind
+abbrev pub input_kind : Declared → OrganisationUnit → Name → Name → Option Kind
 input_kind text u instance x = option_and_then kind_of_type (option_and_then (λ t. block_variable text inputs_of is_input t x) (variable_type u instance))

@@ -1,6 +1,7 @@
 -- The plan of a text as data: what the runtime needs of it.
 use Rattle.std.specs.Prelude.{ℕ, ◌^◌, pos, nat_lt, Bool, true, false, ◌&&◌, List, [], ◌∷◌, map, slice_index_or, slice_get, Option, Some, None}
 use Rattle.std.specs.List.{list_any}
+use Rattle.st_words.specs.declared.limits.TheConstants.{MOMENT_LIMIT}
 use Rattle.st_words.specs.declared.kind.Kind.{Kind}
 use Rattle.st_trees.specs.declared.declaration.Retention.{Retention}
 use Rattle.st_trees.specs.declared.declaration.Retention.TheVariants.{Retain, NonRetain}
@@ -10,7 +11,7 @@ use Rattle.st_words.specs.Paths.{Path, same_path}
 use Rattle.st_types.specs.Stores.{Store, get}
 use Rattle.st_types.specs.declared.plan.PlanVariable.{PlanVariable}
 use Rattle.st_types.specs.declared.plan.PlanInput.{PlanInput}
-use Rattle.st_types.specs.declared.plan.Place.{Place}
+use Rattle.st_types.specs.declared.plan.Schedule.{Schedule}
 use Rattle.st_types.specs.Rows.{Latch}
 use Rattle.st_types.specs.Runs as runs
 use Rattle.st_types.specs.Runs.{outcome_of, store_after}
@@ -83,16 +84,16 @@ holds_each (i ∷ is) [] = false
 
 -- a row has a value of its type for each input of the plan, and its moment is in its limit
 abbrev pub fits : Plan → Latch → Bool
-fits plan row = holds_each plan.inputs row.image && nat_lt row.moment (2 ^ 62)
+fits plan row = holds_each plan.inputs row.image && nat_lt row.moment MOMENT_LIMIT
 
 abbrev pub task_at : List Task → ℕ → Task
 task_at tasks t = slice_index_or tasks t record { single = no_single; interval = 0; priority = 0 }
 
-abbrev pub place_of : List Task → Program → Place
-place_of tasks p = record { resource = p.resource; task = p.task; interval = (task_at tasks p.task).interval; priority = (task_at tasks p.task).priority }
+abbrev pub schedule_of : List Task → Program → Schedule
+schedule_of tasks p = record { resource = p.resource; task = p.task; interval = (task_at tasks p.task).interval; priority = (task_at tasks p.task).priority }
 
-abbrev pub places_of : Plan → List Place
-places_of plan = map (place_of plan.tasks) plan.programs
+abbrev pub schedules_of : Plan → List Schedule
+schedules_of plan = map (schedule_of plan.tasks) plan.programs
 
 -- SINGLE of a task at a row: an input's value there, or a global's before the row; FALSE where the task has none
 abbrev pub is_on : Option Datum → Bool

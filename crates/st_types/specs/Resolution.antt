@@ -17,7 +17,7 @@ use Rattle.st_trees.specs.Declarations.{VariableBlock}
 use Rattle.st_trees.specs.Units.{OrganisationUnit}
 use Rattle.st_types.specs.Operators.{or_kind}
 use Rattle.st_types.specs.StandardFunctions.{Standard, MIN, MAX, LIMIT, SEL, CONVERT, standard_of}
-use Rattle.st_types.specs.NameTypes.{Text, kind_of_variable, unit_named, input_kinds, result_kind}
+use Rattle.st_types.specs.NameTypes.{Declared, kind_of_variable, unit_named, input_kinds, result_kind}
 
 -- an operator that joins untyped expressions to an untyped one
 abbrev pub is_joining : BinaryOperator → Bool
@@ -107,7 +107,7 @@ inputs_of_unit (Some u) = inputs_of_function u.sort u.blocks
 
 -- the type of a typed expression of a unit; an untyped one has none of its own
 abbrev mutual
-  pub own_kind : Text → OrganisationUnit → Expr → Option Kind
+  pub own_kind : Declared → OrganisationUnit → Expr → Option Kind
   own_kind text u (literal l) = kind_of_literal l
   own_kind text u (read v) = kind_of_variable text u v
   own_kind text u (call f es) = elim (standard_of f.name) [ Some std ↦ standard_kind std (own_kinds text u es) | None ↦ result_of_unit (unit_named text.units f.name) ]
@@ -115,12 +115,12 @@ abbrev mutual
   own_kind text u (unary op at e) = own_kind text u e
   own_kind text u (binary op l r) = if is_joining op then or_kind (own_kind text u l) (own_kind text u r) else Some Boolean
 
-  pub own_kinds : Text → OrganisationUnit → Exprs → List (Option Kind)
+  pub own_kinds : Declared → OrganisationUnit → Exprs → List (Option Kind)
   own_kinds text u no_exprs = []
   own_kinds text u (expr_then e es) = own_kind text u e ∷ own_kinds text u es
 
 -- the types that a call expects of its arguments
-abbrev pub argument_kinds : Text → OrganisationUnit → List ℕ → Exprs → List (Option Kind)
+abbrev pub argument_kinds : Declared → OrganisationUnit → List ℕ → Exprs → List (Option Kind)
 argument_kinds text u f es = elim (standard_of f) [ Some std ↦ expected_kinds std (own_kinds text u es) | None ↦ inputs_of_unit (unit_named text.units f) ]
 
 -- the first of the types that are expected, and the others
@@ -133,12 +133,12 @@ other_kinds [] = []
 other_kinds (k ∷ ks) = ks
 
 -- what an operator's operands expect: where both are untyped, what the whole place expects; else the type of the typed one
-abbrev pub operand_kind : Text → OrganisationUnit → Option Kind → BinaryOperator → Expr → Expr → Option Kind
+abbrev pub operand_kind : Declared → OrganisationUnit → Option Kind → BinaryOperator → Expr → Expr → Option Kind
 operand_kind text u k op l r = if is_untyped l && is_untyped r then (if is_joining op then k else None) else or_kind (own_kind text u l) (own_kind text u r)
 
 -- An expression at a place that expects a type: an untyped one takes it, and in a typed one each untyped part takes what its own place expects.
 abbrev mutual
-  pub resolved_expr : Text → OrganisationUnit → Option Kind → Expr → Expr
+  pub resolved_expr : Declared → OrganisationUnit → Option Kind → Expr → Expr
   resolved_expr text u k (literal l) = literal (taking_literal (taken_kind k) l)
   resolved_expr text u k (read v) = read (resolved_variable text u v)
   resolved_expr text u k (call f es) = call f (resolved_exprs text u (argument_kinds text u f.name es) es)
@@ -146,18 +146,18 @@ abbrev mutual
   resolved_expr text u k (unary op at e) = unary op at (resolved_expr text u k e)
   resolved_expr text u k (binary op l r) = binary op (resolved_expr text u (operand_kind text u k op l r) l) (resolved_expr text u (operand_kind text u k op l r) r)
 
-  pub resolved_exprs : Text → OrganisationUnit → List (Option Kind) → Exprs → Exprs
+  pub resolved_exprs : Declared → OrganisationUnit → List (Option Kind) → Exprs → Exprs
   resolved_exprs text u ks no_exprs = no_exprs
   resolved_exprs text u ks (expr_then e es) = expr_then (resolved_expr text u (first_kind ks) e) (resolved_exprs text u (other_kinds ks) es)
 
   -- a subscript that is untyped is a LINT
-  pub resolved_variable : Text → OrganisationUnit → Variable → Variable
+  pub resolved_variable : Declared → OrganisationUnit → Variable → Variable
   resolved_variable text u (variable x xs) = variable x (resolved_selectors text u xs)
 
-  pub resolved_selectors : Text → OrganisationUnit → Selectors → Selectors
+  pub resolved_selectors : Declared → OrganisationUnit → Selectors → Selectors
   resolved_selectors text u no_selectors = no_selectors
   resolved_selectors text u (selector_then x xs) = selector_then (resolved_selector text u x) (resolved_selectors text u xs)
 
-  pub resolved_selector : Text → OrganisationUnit → Selector → Selector
+  pub resolved_selector : Declared → OrganisationUnit → Selector → Selector
   resolved_selector text u (member x) = member x
   resolved_selector text u (subscript e) = subscript (resolved_expr text u None e)

@@ -15,12 +15,12 @@ use Rattle.st_trees.specs.Units.{OrganisationUnit}
 use Rattle.st_trees.specs.Configurations.{GlobalDeclaration, GlobalBlock}
 use Rattle.st_trees.specs.Sources.{LibraryElement, types, unit, configuration, Source}
 use Rattle.st_types.specs.Scopes.{Name}
-use Rattle.st_types.specs.NameTypes.{Text, text_of, variable_type, kind_of_type, kind_of_variable, input_kind, definition_of, element_type, field_type}
+use Rattle.st_types.specs.NameTypes.{Declared, declared_in, variable_type, kind_of_type, kind_of_variable, input_kind, definition_of, element_type, field_type}
 use Rattle.st_types.specs.Resolution.{own_kind, taken_kind, taking_number, taking_literal, resolved_expr, resolved_variable}
 
 -- the elementary type that is there
-abbrev pub kind_at : Option VariableType → Option Kind
-kind_at t = option_and_then kind_of_type t
+abbrev pub elementary_kind : Option VariableType → Option Kind
+elementary_kind t = option_and_then kind_of_type t
 
 -- a label takes the selector's type
 abbrev pub resolved_label : Option Kind → Label → Label
@@ -28,42 +28,42 @@ resolved_label k (Single n) = Single (taking_number (taken_kind k) n)
 resolved_label k (Range a b) = Range (taking_number (taken_kind k) a) (taking_number (taken_kind k) b)
 
 -- an argument of a call of an instance takes the type of its input
-abbrev pub resolved_argument : Text → OrganisationUnit → Name → Argument → Argument
+abbrev pub resolved_argument : Declared → OrganisationUnit → Name → Argument → Argument
 resolved_argument text u instance (given x e) = given x (resolved_expr text u (input_kind text u instance x.name) e)
 resolved_argument text u instance (copied x v) = copied x (resolved_variable text u v)
 
 -- conditions expect a BOOL, and a selector nothing; the control variable's type is expected of start, limit and step
 abbrev mutual
-  pub resolved_stmt : Text → OrganisationUnit → Stmt → Stmt
+  pub resolved_stmt : Declared → OrganisationUnit → Stmt → Stmt
   resolved_stmt text u empty = empty
   resolved_stmt text u (assign v e) = assign (resolved_variable text u v) (resolved_expr text u (kind_of_variable text u v) e)
   resolved_stmt text u (invoke x arguments) = invoke x (map (resolved_argument text u x.name) arguments)
   resolved_stmt text u (IF arms otherwise) = IF (resolved_arms text u arms) (resolved_stmts text u otherwise)
   resolved_stmt text u (CASE e arms otherwise) = CASE (resolved_expr text u None e) (resolved_case_arms text u (own_kind text u e) arms) (resolved_stmts text u otherwise)
   resolved_stmt text u (FOR x start limit step body) =
-      FOR x (resolved_expr text u (kind_at (variable_type u x.name)) start)
-      (resolved_expr text u (kind_at (variable_type u x.name)) limit)
-      (option_map (resolved_expr text u (kind_at (variable_type u x.name))) step)
+      FOR x (resolved_expr text u (elementary_kind (variable_type u x.name)) start)
+      (resolved_expr text u (elementary_kind (variable_type u x.name)) limit)
+      (option_map (resolved_expr text u (elementary_kind (variable_type u x.name))) step)
       (resolved_stmts text u body)
   resolved_stmt text u (WHILE e body) = WHILE (resolved_expr text u (Some Boolean) e) (resolved_stmts text u body)
   resolved_stmt text u (REPEAT body e) = REPEAT (resolved_stmts text u body) (resolved_expr text u (Some Boolean) e)
   resolved_stmt text u (EXIT at) = EXIT at
   resolved_stmt text u RETURN = RETURN
 
-  pub resolved_stmts : Text → OrganisationUnit → Stmts → Stmts
+  pub resolved_stmts : Declared → OrganisationUnit → Stmts → Stmts
   resolved_stmts text u no_stmts = no_stmts
   resolved_stmts text u (stmt_then x xs) = stmt_then (resolved_stmt text u x) (resolved_stmts text u xs)
 
-  pub resolved_arms : Text → OrganisationUnit → Arms → Arms
+  pub resolved_arms : Declared → OrganisationUnit → Arms → Arms
   resolved_arms text u no_arms = no_arms
   resolved_arms text u (arm_then e body arms) = arm_then (resolved_expr text u (Some Boolean) e) (resolved_stmts text u body) (resolved_arms text u arms)
 
-  pub resolved_case_arms : Text → OrganisationUnit → Option Kind → CaseArms → CaseArms
+  pub resolved_case_arms : Declared → OrganisationUnit → Option Kind → CaseArms → CaseArms
   resolved_case_arms text u k no_case_arms = no_case_arms
   resolved_case_arms text u k (case_arm_then labels body arms) = case_arm_then (map (resolved_label k) labels) (resolved_stmts text u body) (resolved_case_arms text u k arms)
 
 -- the type of a list's elements, and of a structure's field
-abbrev pub element_of : Text → Option VariableType → Option VariableType
+abbrev pub element_of : Declared → Option VariableType → Option VariableType
 element_of text None = None
 element_of text (Some t) = element_type (definition_of text t)
 
@@ -72,27 +72,27 @@ field_in (Some (declared_as.structure fields)) x = field_type fields x
 field_in (Some (declared_as.array a)) x = None
 field_in None x = None
 
-abbrev pub field_of : Text → Option VariableType → Name → Option VariableType
+abbrev pub field_of : Declared → Option VariableType → Name → Option VariableType
 field_of text None x = None
 field_of text (Some t) x = field_in (definition_of text t) x
 
 -- an initial value of a variable of a type; a count that is untyped is a LINT
 abbrev mutual
-  pub resolved_initial : Text → Option VariableType → Initial → Initial
-  resolved_initial text t (constant l) = constant (taking_literal (taken_kind (kind_at t)) l)
+  pub resolved_initial : Declared → Option VariableType → Initial → Initial
+  resolved_initial text t (constant l) = constant (taking_literal (taken_kind (elementary_kind t)) l)
   resolved_initial text t (list at xs) = list at (resolved_elements text (element_of text t) xs)
   resolved_initial text t (structure at xs) = structure at (resolved_members text t xs)
 
-  pub resolved_element : Text → Option VariableType → Element → Element
+  pub resolved_element : Declared → Option VariableType → Element → Element
   resolved_element text t (single x) = single (resolved_initial text t x)
   resolved_element text t (repeated n x) = repeated (taking_number (taken_kind None) n) (resolved_initial text t x)
   resolved_element text t (defaults n) = defaults (taking_number (taken_kind None) n)
 
-  pub resolved_elements : Text → Option VariableType → Elements → Elements
+  pub resolved_elements : Declared → Option VariableType → Elements → Elements
   resolved_elements text t no_elements = no_elements
   resolved_elements text t (element_then x xs) = element_then (resolved_element text t x) (resolved_elements text t xs)
 
-  pub resolved_members : Text → Option VariableType → Members → Members
+  pub resolved_members : Declared → Option VariableType → Members → Members
   resolved_members text t no_members = no_members
   resolved_members text t (member_then x v rest) = member_then x (resolved_initial text (field_of text t x.name) v) (resolved_members text t rest)
 
@@ -104,37 +104,37 @@ abbrev pub resolved_type : VariableType → VariableType
 resolved_type (variable_types.Simple t) = variable_types.Simple t
 resolved_type (variable_types.Array a) = variable_types.Array (resolved_array a)
 
-abbrev pub resolved_declaration : Text → Declaration → Declaration
+abbrev pub resolved_declaration : Declared → Declaration → Declaration
 resolved_declaration text d = record { names = d.names; declared = resolved_type d.declared; initial = option_map (resolved_initial text (Some d.declared)) d.initial }
 
-abbrev pub resolved_block : Text → VariableBlock → VariableBlock
+abbrev pub resolved_block : Declared → VariableBlock → VariableBlock
 resolved_block text b = record { section = b.section; declarations = map (resolved_declaration text) b.declarations }
 
 -- a unit of a text
-abbrev pub resolved : Text → OrganisationUnit → OrganisationUnit
+abbrev pub resolved : Declared → OrganisationUnit → OrganisationUnit
 resolved text u = record { sort = u.sort; name = u.name; blocks = map (resolved_block text) u.blocks; body = map (resolved_stmt text u) u.body }
 
-abbrev pub resolved_field : Text → Field → Field
+abbrev pub resolved_field : Declared → Field → Field
 resolved_field text f = record { name = f.name; declared = resolved_type f.declared; initial = option_map (resolved_initial text (Some f.declared)) f.initial }
 
-abbrev pub resolved_definition : Text → TypeDefinition → TypeDefinition
+abbrev pub resolved_definition : Declared → TypeDefinition → TypeDefinition
 resolved_definition text (declared_as.array a) = declared_as.array (resolved_array a)
 resolved_definition text (declared_as.structure fields) = declared_as.structure (map (resolved_field text) fields)
 
-abbrev pub resolved_type_declaration : Text → TypeDeclaration → TypeDeclaration
+abbrev pub resolved_type_declaration : Declared → TypeDeclaration → TypeDeclaration
 resolved_type_declaration text t = record { name = t.name; definition = resolved_definition text t.definition }
 
-abbrev pub resolved_global : Text → GlobalDeclaration → GlobalDeclaration
+abbrev pub resolved_global : Declared → GlobalDeclaration → GlobalDeclaration
 resolved_global text d = record { names = d.names; declared = resolved_type d.declared; initial = option_map (resolved_initial text (Some d.declared)) d.initial }
 
-abbrev pub resolved_globals : Text → GlobalBlock → GlobalBlock
+abbrev pub resolved_globals : Declared → GlobalBlock → GlobalBlock
 resolved_globals text b = record { qualifier = b.qualifier; declarations = map (resolved_global text) b.declarations }
 
-abbrev pub resolved_element_of_text : Text → LibraryElement → LibraryElement
+abbrev pub resolved_element_of_text : Declared → LibraryElement → LibraryElement
 resolved_element_of_text text (types ts) = types (map (resolved_type_declaration text) ts)
 resolved_element_of_text text (unit u) = unit (resolved text u)
 resolved_element_of_text text (configuration c) = configuration (record c { globals = map (resolved_globals text) c.globals })
 
 -- a whole text
 abbrev pub resolved_source : Source → Source
-resolved_source source = map (resolved_element_of_text (text_of source)) source
+resolved_source source = map (resolved_element_of_text (declared_in source)) source

@@ -45,7 +45,7 @@ members_assigned s at (m ∷ ms) (v ∷ vs) = proceed (assigned s (member_at at 
 members_assigned s at _ _ = Ok s
 
 -- a call of a standard block: its members step
-abbrev pub standard_call : standard.Block → ℕ → Path → Store → Run Store
+abbrev pub standard_call : standard.StandardBlock → ℕ → Path → Store → Run Store
 standard_call b now at s = do
   vs ← or_fault Index (member_values s at (standard.members_of b))
   take (members_assigned s at (standard.members_of b) (stepped b now vs))
@@ -63,7 +63,7 @@ function_call missing library units now f vs = do
   function_value missing units now g vs
 
 -- a block on its instance: a standard one, or one of the text
-abbrev pub instance_call : Fault → Library → Store → Units → ℕ → Name → Option standard.Block → Path → Store → Run Store
+abbrev pub instance_call : Fault → Library → Store → Units → ℕ → Name → Option standard.StandardBlock → Path → Store → Run Store
 instance_call missing library image units now b (Some k) at s = standard_call k now at s
 instance_call missing library image units now b None at s = do
   c ← or_fault Index (block_in library.blocks b)

@@ -7,20 +7,20 @@ use Rattle.st_words.specs.declared.kind.Kind.TheVariants.{Int, Time, Bool as Boo
 use Rattle.st_words.specs.Kinds.{least, greatest}
 use Rattle.st_words.specs.Values.{Datum, datum_of_truth, is_true}
 
-pub data Block : Type 0 where
-  SR : Block
-  RS : Block
-  R_TRIG : Block
-  F_TRIG : Block
-  CTU : Block
-  CTD : Block
-  CTUD : Block
-  TON : Block
-  TOF : Block
-  TP : Block
+pub data StandardBlock : Type 0 where
+  SR : StandardBlock
+  RS : StandardBlock
+  R_TRIG : StandardBlock
+  F_TRIG : StandardBlock
+  CTU : StandardBlock
+  CTD : StandardBlock
+  CTUD : StandardBlock
+  TON : StandardBlock
+  TOF : StandardBlock
+  TP : StandardBlock
 
 -- the standard block of a name
-unfoldable pub block_of : List ℕ → Option Block
+unfoldable pub block_of : List ℕ → Option StandardBlock
 block_of x =
     if bytes_eq x (codes "SR") then Some SR
     else if bytes_eq x (codes "RS") then Some RS
@@ -41,7 +41,7 @@ Member = List ℕ × Kind
 abbrev pub bool : List ℕ → Member
 bool x = (x, Boolean)
 
-abbrev pub inputs_of : Block → List Member
+abbrev pub inputs_of : StandardBlock → List Member
 inputs_of SR = bool (codes "S1") ∷ bool (codes "R") ∷ []
 inputs_of RS = bool (codes "S") ∷ bool (codes "R1") ∷ []
 inputs_of R_TRIG = bool (codes "CLK") ∷ []
@@ -53,7 +53,7 @@ inputs_of TON = bool (codes "IN") ∷ (codes "PT", Time) ∷ []
 inputs_of TOF = bool (codes "IN") ∷ (codes "PT", Time) ∷ []
 inputs_of TP = bool (codes "IN") ∷ (codes "PT", Time) ∷ []
 
-abbrev pub outputs_of : Block → List Member
+abbrev pub outputs_of : StandardBlock → List Member
 outputs_of SR = bool (codes "Q1") ∷ []
 outputs_of RS = bool (codes "Q1") ∷ []
 outputs_of R_TRIG = bool (codes "Q") ∷ []
@@ -66,7 +66,7 @@ outputs_of TOF = bool (codes "Q") ∷ (codes "ET", Time) ∷ []
 outputs_of TP = bool (codes "Q") ∷ (codes "ET", Time) ∷ []
 
 -- what texts can't reach
-abbrev pub hidden_of : Block → List Member
+abbrev pub hidden_of : StandardBlock → List Member
 hidden_of SR = []
 hidden_of RS = []
 hidden_of R_TRIG = bool (codes "M") ∷ []
@@ -79,7 +79,7 @@ hidden_of TOF = bool (codes "RUN") ∷ (codes "START", Time) ∷ []
 hidden_of TP = bool (codes "RUN") ∷ (codes "START", Time) ∷ []
 
 -- all members in the order of the layout
-abbrev pub members_of : Block → List Member
+abbrev pub members_of : StandardBlock → List Member
 members_of b = inputs_of b ++ outputs_of b ++ hidden_of b
 
 -- one more or one less, but not past the ends of INT
@@ -175,7 +175,7 @@ abbrev pub timer_of : Datum → Datum → Datum → Datum → Timer
 timer_of q et run start = record { q = is_true q; et = et.number; run = is_true run; start = start.number }
 
 -- the members after a call at a moment
-abbrev pub stepped : Block → ℕ → List Datum → List Datum
+abbrev pub stepped : StandardBlock → ℕ → List Datum → List Datum
 stepped SR now (s1 ∷ r ∷ q1 ∷ []) = s1 ∷ r ∷ datum_of_truth (set_first (is_true s1) (is_true r) (is_true q1)) ∷ []
 stepped RS now (s ∷ r1 ∷ q1 ∷ []) = s ∷ r1 ∷ datum_of_truth (reset_first (is_true s) (is_true r1) (is_true q1)) ∷ []
 stepped R_TRIG now (clk ∷ q ∷ m ∷ []) = clk ∷ datum_of_truth (edge (is_true clk) (is_true m)) ∷ datum_of_truth (is_true clk) ∷ []

@@ -26,7 +26,7 @@ ghost use Rattle.st_types.specs.Asked.{IsAsked, without_value};
 use crate::entry::Outcome;
 
 /// No run ends with more ticks than it had. A run that is done is done with a larger budget too, with as many more
-/// ticks left; one that faults faults alike, unless it was for want of ticks.
+/// ticks left; one that faults faults alike, unless it was because its ticks ran out.
 pub fn budgets()
     ensures falls { (p : Program) (image : Store) (now budget : ℕ) (s : Store) (e : End) (left : ℕ) → ran p image now budget s ≡ Ok (e, left) → left ≤ budget }
     ensures more { (p : Program) (image : Store) (now budget added : ℕ) (s : Store) (e : End) (left : ℕ) → ran p image now budget s ≡ Ok (e, left) → ran p image now (budget + added) s ≡ Ok (e, left + added) }

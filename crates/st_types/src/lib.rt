@@ -29,7 +29,7 @@ pub use laws::{
     values_that_are_not_there, variables_stay,
 };
 pub use literals::{number_of, value_of_number};
-pub use plan::{Place, PlanInput, PlanVariable};
+pub use plan::{PlanInput, PlanVariable, Schedule};
 pub use schedules::{
     each_activation_is_done_once, intervals, logs_grow_by_one_step, one_activation_is_best,
     one_activation_waits, overruns_are_rows_that_meet_a_waiting_program, served_for_good,

@@ -21,7 +21,7 @@ pub struct PlanInput {
 
 /// Where and how often an instance of a program runs.
 #[derive(Clone, Copy, Debug, PartialEq, Eq)]
-pub struct Place {
+pub struct Schedule {
     /// The number of its resource, from 0.
     pub resource: usize,
     /// The number of its task in declaration order, from 0.

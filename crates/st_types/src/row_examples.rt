@@ -84,5 +84,5 @@ pub fn inputs_of_rows()
         (after plan (store 0 false 0) (row 0 (pos 1) true ∷ row 5 (pos 2) false ∷ ran (of 0 0) ∷ []) ≡ store 1 true 12)
         × (after plan (store 0 false 0) five_rows ≡ store 6 true 2)
         × (outcomes_of plan (store 0 false 0) five_rows ≡ None ∷ None ∷ Some Outcome.Done ∷ None ∷ None ∷ Some Outcome.Done ∷ None ∷ Some (Outcome.Faulted DivisionByZero) ∷ [])
-        × (map (λ t. t.samples) (past_of plan (store 0 false 0) five_rows).history.ticks ≡ (false ∷ false ∷ true ∷ []) ∷ (false ∷ false ∷ false ∷ []) ∷ (false ∷ true ∷ true ∷ []) ∷ (false ∷ true ∷ false ∷ []) ∷ (false ∷ true ∷ true ∷ []) ∷ []) }
+        × (map (λ t. t.samples) (past_of plan (store 0 false 0) five_rows).history.sampled ≡ (false ∷ false ∷ true ∷ []) ∷ (false ∷ false ∷ false ∷ []) ∷ (false ∷ true ∷ true ∷ []) ∷ (false ∷ true ∷ false ∷ []) ∷ (false ∷ true ∷ true ∷ []) ∷ []) }
 {}

@@ -54,21 +54,21 @@ abbrev pub holds : Kind → ℤ → Bool
 holds k z = int_le (least k) z && int_le z (greatest k)
 
 -- where the type stands in the table
-abbrev pub place_of : Kind → ℕ
-place_of Sint = 0
-place_of Int = 1
-place_of Dint = 2
-place_of Lint = 3
-place_of Usint = 4
-place_of Uint = 5
-place_of Udint = 6
-place_of Ulint = 7
-place_of Byte = 8
-place_of Word = 9
-place_of Dword = 10
-place_of Lword = 11
-place_of Time = 12
-place_of Boolean = 13
+abbrev pub kind_index : Kind → ℕ
+kind_index Sint = 0
+kind_index Int = 1
+kind_index Dint = 2
+kind_index Lint = 3
+kind_index Usint = 4
+kind_index Uint = 5
+kind_index Udint = 6
+kind_index Ulint = 7
+kind_index Byte = 8
+kind_index Word = 9
+kind_index Dword = 10
+kind_index Lword = 11
+kind_index Time = 12
+kind_index Boolean = 13
 
 abbrev pub same_kind : Kind → Kind → Bool
-same_kind k l = place_of k == place_of l
+same_kind k l = kind_index k == kind_index l

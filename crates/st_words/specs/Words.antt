@@ -24,7 +24,7 @@ IsOfSort sorts.Unsigned (Unsigned k n) = Unit {0}
 IsOfSort sorts.Bits (Unsigned k n) = Unit {0}
 IsOfSort _ _ = ⊥
 
-pub record IsSound (w : Word) : Type 0 where
+pub record WordInvariant (w : Word) : Type 0 where
   pub held : IsHeld (datum_of w)
   pub sorted : IsOfSort (row_of (datum_of w).kind).sort w
 
@@ -61,5 +61,5 @@ word_as-datum_of sorts.Bits (Truth b) h = absurd h
 word_as-datum_of sorts.Bits (Signed k n) h = absurd h
 
 -- nothing of a value is lost in its view
-pub word_of-datum_of : (v : Inside) → IsSound v.word → record { word = word_of (datum_of v.word) } ≡ v
+pub word_of-datum_of : (v : Inside) → WordInvariant v.word → record { word = word_of (datum_of v.word) } ≡ v
 word_of-datum_of v h = let e = word_as-datum_of (row_of (datum_of v.word).kind).sort v.word h.sorted in rw e refl

@@ -4,6 +4,7 @@
 mod fault;
 mod identifier;
 mod kind;
+pub mod limits;
 mod literal;
 mod name;
 mod operator;

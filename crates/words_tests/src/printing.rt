@@ -4,7 +4,7 @@ use st_print::{write_path, write_value};
 use st_words::{Path, Value};
 use std::alloc::{AllocError, Global};
 
-/// The text of what was written; want of memory where it was not.
+/// The text of what was written; out of memory where it was not.
 fn text_of(text: Vec<u8>) -> Result<String, AllocError> {
     String::from_utf8(text).or(Err(AllocError))
 }

@@ -1,5 +1,5 @@
 use Rattle.std.proofs.Common.{rules, ◌≡◌, ◌∙◌, Some, map, ap, sym}
-use Rattle.retain_store.specs.Records.{IsSound}
+use Rattle.retain_store.specs.Records.{IsRecordable}
 use Rattle.retain_store.specs.Kept.{record_in}
 use Rattle.serial_core.specs.Steps.{State}
 use Rattle.serial_core.specs.Retained.{retained_paths, paired}
@@ -9,7 +9,7 @@ use Rattle.commit_lock.proofs.starting.resume_from.Goals as goal
 
 pub resume-requires-clause-kinds : goal.resume-requires-clause-kinds
 resume-requires-clause-kinds g c =
-    let sound : IsSound c.in-Some.record.now = search rules in
+    let sound : IsRecordable c.in-Some.record.now = search rules in
     let same : c.layout.result.now ≡ c.args.layout.now = search rules in
     ap (λ (ds : _). map (λ d. d.kind) ds) c.values.ensures
     ∙ kinds_told c.args.serial.now.plan.variables.items c.in-Some.record.now.layout _ c.args.serial.now.plan.sound.spelled (sym c.layout.ensures ∙ same ∙ c.requires.layout) sound.layout

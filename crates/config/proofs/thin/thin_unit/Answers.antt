@@ -1,11 +1,11 @@
 use Rattle.std.proofs.Common.{[], rules}
 use Rattle.st_trees.specs.UnitViews.{unit_view}
-use Rattle.config.proofs.PlaceLemmas.{variable_assignable}
+use Rattle.config.proofs.GlobalSlotLemmas.{variable_assignable}
 use Rattle.config.proofs.ThinLemmas.{plain_unit, known_unit}
 use Rattle.config.proofs.thin.thin_unit.Goals as goal
 
-pub places_of-requires : goal.places_of-requires
-places_of-requires c = record { known = known_unit c.args.variables.now c.args.inputs.now (unit_view c.args.unit) c.deref-2.result.now c.requires.thin (search rules) }
+pub slots_of-requires : goal.slots_of-requires
+slots_of-requires c = record { known = known_unit c.args.variables.now c.args.inputs.now (unit_view c.args.unit) c.deref-2.result.now c.requires.thin (search rules) }
 
 pub invariant_of-result : goal.invariant_of-result
 invariant_of-result c = record {

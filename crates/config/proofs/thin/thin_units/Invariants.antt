@@ -1,16 +1,16 @@
 use Rattle.std.proofs.Common.{◌≡◌, ◌++◌, map, true, All}
 use Rattle.std.specs.List.{list_all}
 use Rattle.st_trees.specs.UnitViews.{unit_view}
-use Rattle.st_types.specs.NameTypes.{Text}
+use Rattle.st_types.specs.NameTypes.{Declared}
 use Rattle.st_types.specs.ResolvedUnits.{resolved}
 use Rattle.st_types.specs.Layouts.{layout_of}
 use Rattle.config.specs.Thin.{is_thin_unit}
-use Rattle.config.specs.Places.{HavePlaces}
+use Rattle.config.specs.GlobalSlots.{HaveSlots}
 use Rattle.config.specs.ThinParts.{units_in}
 use Rattle.config.proofs.thin.thin_units.Given as goal
 
 abbrev pub invariant-loop-unit : goal.invariant-loop-unit
 invariant-loop-unit l =
-    ((text : Text) → units_in l.resolved.items ++ map (resolved text) (map unit_view l.unit-iterator.rest.items) ≡ map (resolved text) (map unit_view l.initial.unit-iterator.rest.items))
-    × All (λ u. HavePlaces (layout_of l.variables l.inputs) u.globals.items) l.resolved.items
+    ((text : Declared) → units_in l.resolved.items ++ map (resolved text) (map unit_view l.unit-iterator.rest.items) ≡ map (resolved text) (map unit_view l.initial.unit-iterator.rest.items))
+    × All (λ u. HaveSlots (layout_of l.variables l.inputs) u.globals.items) l.resolved.items
     × (list_all (is_thin_unit l.variables l.inputs) (map unit_view l.unit-iterator.rest.items) ≡ true)

@@ -1,4 +1,5 @@
 use Rattle.std.proofs.Common.{◌≡◌, ◌<◌, List, ℕ, length, arith, ap, sym, ◌∙◌}
+use Rattle.retain_store.specs.declared.format.TheConstants.{FILE_BYTES}
 use Rattle.disk.specs.Runs.{weakens, joins}
 use Rattle.retain_store.specs.Recovered.{recovered}
 use Rattle.retain_store.proofs.Formats.{short_nothing, long_too_long}
@@ -18,13 +19,13 @@ returns-then-len-clause-refused g c = λ tells. long_too_long _ (omega (arith, c
 pub returns-in_err-format-clause-any_moment : goal.returns-in_err-format-clause-any_moment
 returns-in_err-format-clause-any_moment g c = λ tells only.
     let first = weakens g.D.Disk.left_since g.D.Disk.may_leave _ _ _ _ (c.synced_len.ensures.any_moment tells only) (λ (file : List ℕ) (same : file ≡ g.D.Disk.seen c.args.disk.now). ap recovered same) in
-    let short : length (g.D.Disk.seen c.args.disk.now) < 262144 = omega (arith, c.in_ok-len.ensures.len tells) in
+    let short : length (g.D.Disk.seen c.args.disk.now) < FILE_BYTES = omega (arith, c.in_ok-len.ensures.len tells) in
     joins g.D.Disk.left_since g.D.Disk.may_leave _ _ _ _ _ first (c.format.ensures.any_moment tells) (λ file none. none ∙ sym (short_nothing _ short))
 
 pub returns-then-len-2-clause-any_moment : goal.returns-then-len-2-clause-any_moment
 returns-then-len-2-clause-any_moment g c = λ tells only.
     let first = weakens g.D.Disk.left_since g.D.Disk.may_leave _ _ _ _ (c.synced_len.ensures.any_moment tells only) (λ (file : List ℕ) (same : file ≡ g.D.Disk.seen c.args.disk.now). ap recovered same) in
-    let short : length (g.D.Disk.seen c.args.disk.now) < 262144 = omega (arith, c.in_ok-len.ensures.len tells) in
+    let short : length (g.D.Disk.seen c.args.disk.now) < FILE_BYTES = omega (arith, c.in_ok-len.ensures.len tells) in
     joins g.D.Disk.left_since g.D.Disk.may_leave _ _ _ _ _ first (c.format.ensures.any_moment tells) (λ file none. none ∙ sym (short_nothing _ short))
 
 pub read_areas-requires-clause-whole : goal.read_areas-requires-clause-whole

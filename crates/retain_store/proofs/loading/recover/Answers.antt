@@ -1,4 +1,5 @@
 use Rattle.std.proofs.Common.{List, ℕ, ap, sym, subst, ◌∙◌}
+use Rattle.retain_store.specs.declared.format.TheConstants.{AREA_BYTES}
 use Rattle.retain_store.specs.declared.loading.Loaded.{Loaded}
 use Rattle.retain_store.specs.Opening.{IsLoaded}
 use Rattle.retain_store.specs.Recovered.{recovered}
@@ -17,7 +18,7 @@ returns-in-Ok-Formatted-clause-found g c = λ tells.
 pub returns-in-Ok-Formatted-clause-settled : goal.returns-in-Ok-Formatted-clause-settled
 returns-in-Ok-Formatted-clause-settled g c = λ tells.
     let empty = (subst (λ (l : Loaded). IsLoaded l c.load.new.file (g.D.Disk.seen c.args.disk.now) (g.D.Disk.seen c.load.new.disk)) c.in-Ok-Formatted.field-0-is (c.in-Ok-Formatted.ensures.found tells)).1 in
-    rw c.closed.ensures (record { synced = c.in-Ok-Formatted.ensures.synced tells; surveyed = surveyed_closed _ empty.size (shut_area 0 _ empty.first) (shut_area 131072 _ empty.second) })
+    rw c.closed.ensures (record { synced = c.in-Ok-Formatted.ensures.synced tells; surveyed = surveyed_closed _ empty.size (shut_area 0 _ empty.first) (shut_area AREA_BYTES _ empty.second) })
 
 pub returns-in-Some-clause-found : goal.returns-in-Some-clause-found
 returns-in-Some-clause-found g c = λ tells.

@@ -1,13 +1,14 @@
 use Rattle.std.proofs.Common.{◌≤◌, length}
 use Rattle.std.specs.Vec.{vec_capacity}
+use Rattle.retain_store.specs.declared.format.TheConstants.{MAX_LINES}
 use Rattle.retain_store.proofs.ReadingLemmas.{Reads}
 use Rattle.retain_store.proofs.reading.read_variables.Given as goal
 
 abbrev pub invariant-loop-text_left : goal.invariant-loop-text_left
 invariant-loop-text_left l = record {
   reads : Reads l.text l.bytes l.text_left l.bytes_left l.starts.items l.values.items;
-  starts_room : 21841 ≤ vec_capacity l.starts;
-  values_room : 21841 ≤ vec_capacity l.values;
+  starts_room : MAX_LINES ≤ vec_capacity l.starts;
+  values_room : MAX_LINES ≤ vec_capacity l.values;
 }
 
 abbrev pub decreases-loop-text_left : goal.decreases-loop-text_left

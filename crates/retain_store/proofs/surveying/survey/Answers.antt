@@ -1,5 +1,6 @@
 use Rattle.std.proofs.Common.{◌∙◌, ap, subst, sym}
-use Rattle.retain_store.specs.declared.area.Place.TheVariants.{First, Second}
+use Rattle.retain_store.specs.declared.format.TheConstants.{AREA_BYTES}
+use Rattle.retain_store.specs.declared.area.Half.TheVariants.{First, Second}
 use Rattle.retain_store.specs.declared.area.Gate.{Gate}
 use Rattle.retain_store.specs.declared.surveying.Look.{Look}
 use Rattle.retain_store.specs.Recovered.{Area, area, chosen}
@@ -20,8 +21,8 @@ returns-in-First-clause-surveyed c =
     let first = first_area _ _ c.split_at.ensures.front c.requires ∙ c.look_at-first.ensures.shown ∙ ap (λ (l : Look). shown l c.look_at-first.new.into) c.in-First.ensures.0 in
     let second = second_area _ _ c.split_at.ensures.back c.requires ∙ c.look_at-second.ensures.shown in
     surveyed_one Second c.gate.result c.args.file.now c.requires c.in-First.generation c.look_at-first.new.into first
-    (shown_older c.in-First.generation c.look_at-second.result c.look_at-second.new.into (area 131072 c.args.file.now) second c.in-First.ensures.1)
-    (subst (λ (g : Gate). GateIs g 131072 c.args.file.now) (sym c.gate.ensures) (gate_shows 131072 c.args.file.now c.look_at-second.result c.look_at-second.new.into second))
+    (shown_older c.in-First.generation c.look_at-second.result c.look_at-second.new.into (area AREA_BYTES c.args.file.now) second c.in-First.ensures.1)
+    (subst (λ (g : Gate). GateIs g AREA_BYTES c.args.file.now) (sym c.gate.ensures) (gate_shows AREA_BYTES c.args.file.now c.look_at-second.result c.look_at-second.new.into second))
 
 pub returns-in-Second-clause-surveyed : goal.returns-in-Second-clause-surveyed
 returns-in-Second-clause-surveyed c =
@@ -36,7 +37,7 @@ returns-in-Refused-clause-damaged c =
     let first = first_area _ _ c.split_at.ensures.front c.requires ∙ c.look_at-first.ensures.shown in
     let second = second_area _ _ c.split_at.ensures.back c.requires ∙ c.look_at-second.ensures.shown in
     whole c.args.file.now c.requires
-    ∙ ap (λ (a : Area). chosen a (area 131072 c.args.file.now)) first
+    ∙ ap (λ (a : Area). chosen a (area AREA_BYTES c.args.file.now)) first
     ∙ ap (λ (b : Area). chosen (shown c.look_at-first.result c.look_at-first.new.into) b) second
     ∙ c.in-Refused.ensures c.look_at-first.new.into c.look_at-second.new.into
 

@@ -1,4 +1,5 @@
 use Rattle.std.proofs.Common.{◌≡◌, List, ℕ, take, arith, refl, sym, ap, subst, ◌∙◌}
+use Rattle.retain_store.specs.declared.format.TheConstants.{FILE_BYTES}
 use Rattle.disk.specs.Runs.{at_rest}
 use Rattle.retain_store.specs.Recovered.{recovered}
 use Rattle.retain_store.specs.Areas.{IsZeros}
@@ -7,7 +8,7 @@ use Rattle.retain_store.proofs.Keeps.{kept_opened}
 use Rattle.retain_store.proofs.store.Store.open.Goals as goal
 
 pub recover-requires-clause-zeros : goal.recover-requires-clause-zeros
-recover-requires-clause-zeros g c = subst (λ (l : List ℕ). IsZeros (take 262143 l)) (sym c.deref_mut.ensures.value) c.in-Ok.ensures.zeros
+recover-requires-clause-zeros g c = subst (λ (l : List ℕ). IsZeros (take (FILE_BYTES - 1) l)) (sym c.deref_mut.ensures.value) c.in-Ok.ensures.zeros
 
 pub returns-in-Err-clause-any_moment : goal.returns-in-Err-clause-any_moment
 returns-in-Err-clause-any_moment g c = λ tells only.
@@ -15,7 +16,7 @@ returns-in-Err-clause-any_moment g c = λ tells only.
 
 pub invariant_of-result : goal.invariant_of-result
 invariant_of-result g c = (
-  kept_opened g.D.Disk.tells _ _ c.in-Ok-recover.areas _ _ (omega (arith, c.in-Ok.ensures.image)) (omega (arith, c.in-Ok.ensures.image, c.requires.room)) c.in-Ok-recover.ensures.settled,
+  kept_opened g.D.Disk.tells _ _ c.in-Ok-recover.areas _ _ (omega (arith, c.in-Ok.ensures.frame)) (omega (arith, c.in-Ok.ensures.frame, c.requires.room)) c.in-Ok-recover.ensures.settled,
   c.in-Ok-recover.ensures.sound,
 )
 

@@ -4,7 +4,7 @@ use Rattle.st_types.specs.declared.entry.Entry.TheVariants.{Done}
 use Rattle.slot_run.specs.Cells.{cut}
 use Rattle.serial_core.specs.Steps.{State, store_in, grown, waits_in, IsOwn, stands}
 use Rattle.serial_core.proofs.TakeLemmas.{waits-program}
-use Rattle.serial_core.proofs.CommitLemmas.{waits_told, row_found, own_told, stands_told, IsKept-commit, IsTrueOf-same, not_true}
+use Rattle.serial_core.proofs.CommitLemmas.{waits_told, row_found, own_told, stands_told, SerialInvariant-commit, IsTrueOf-same, not_true}
 use Rattle.serial_core.proofs.OutcomeLemmas.{outcomes_kept}
 use Rattle.serial_core.proofs.serial.SerialCore.commit.Goals as goal
 
@@ -64,9 +64,9 @@ invariant_of-self c =
     let waits = (waits_told k c.args.execution c.activation-activation.result c.activation-activation.ensures c.waits.result c.waits.ensures).0 c.if-not-waits.false in
     let own = (own_told k c.args.execution c.activation-activation.result c.activation-activation.ensures c.deref.result.now c.deref-2.result.now c.deref-plan.result.now c.row_of-row.result.now c.is_own.result c.deref.ensures.value c.deref-2.ensures.value c.deref-plan.ensures waits c.row_of-row.ensures c.is_own.ensures).0 c.if-not-is_own.false in
     let says = stands_told k c.args.execution c.activation-activation.result c.activation-activation.ensures c.deref.result.now c.deref-2.result.now c.row_of-row.result.now c.deref-3.result.now c.image.result.now (map cut c.reads.result.now) c.stand.result c.deref.ensures.value c.deref-2.ensures.value c.deref-3.ensures.value c.image.ensures c.reads.ensures waits c.row_of-row.ensures c.stand.ensures in (
-      IsKept-commit k c.args.execution c.activation-activation.result c.activation-activation.ensures c.settle.new.ready c.write_all.new.values.items (map cut c.writes.result.now) c.push_within-2.new.items.items c.push_within.new.items.items c.outcome.result c.settle.result
+      SerialInvariant-commit k c.args.execution c.activation-activation.result c.activation-activation.ensures c.settle.new.ready c.write_all.new.values.items (map cut c.writes.result.now) c.push_within-2.new.items.items c.push_within.new.items.items c.outcome.result c.settle.result
           waits own (IsTrueOf-same _ _ c.execution.view_is c.execution.invariant) (sym says ∙ c.if-not-stand.false)
-          c.writes.ensures c.write_all.ensures c.outcome.ensures c.push_within-2.ensures.items c.push_within.ensures.items c.settle.ensures.places c.settle.ensures.number c.settle.ensures.last c.settle.ensures.rows c.settle.ensures.remove,
+          c.writes.ensures c.write_all.ensures c.outcome.ensures c.push_within-2.ensures.items c.push_within.ensures.items c.settle.ensures.schedules c.settle.ensures.number c.settle.ensures.last c.settle.ensures.rows c.settle.ensures.remove,
       omega (arith, ap length c.push_within-2.ensures.items, length-append c.self.inside.log.items (Done c.activation-activation.result ∷ []), c.self.inside.log.ok.0),
       omega arith,
       omega arith,

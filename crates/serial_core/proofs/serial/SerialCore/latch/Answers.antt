@@ -3,7 +3,7 @@ use Rattle.st_types.specs.declared.entry.Entry.{Entry}
 use Rattle.st_types.specs.declared.entry.Entry.TheVariants.{Row}
 use Rattle.st_types.specs.Plans.{fits}
 use Rattle.st_types.specs.Logs.{is_later}
-use Rattle.st_types.specs.Due.{History, with_tick}
+use Rattle.st_types.specs.Due.{History, with_row}
 use Rattle.config.specs.PlanViews.{plan_view}
 use Rattle.ready_list.specs.Ready.{IsReadyOf}
 use Rattle.serial_core.specs.Samples.{sample_task}
@@ -26,8 +26,8 @@ invariant_of-self c =
     ∙ ap (map (sample_task c.self.inside.values.items c.image.result.now)) (c.deref.ensures.value ∙ ap (λ p. p.tasks.items) plan_is) in (
       kept_latch k c.args.row c.moment-moment.result c.len-2.result c.image.result.now c.sample_all.new.samples.items c.push_within-3.new.items.items c.push_within-2.new.items.items c.push_within.new.items.items c.due.new.self
           c.moment-moment.ensures (c.len-2.ensures ∙ c.self.inside.log.ok.0) c.push_within-3.ensures.items c.push_within-2.ensures.items c.push_within.ensures.items fit later
-          c.image.ensures sampled c.due.ensures.places c.due.ensures.number c.due.ensures.last
-          (subst (λ ss. (h : History) → IsReadyOf h c.self.inside.ready → IsReadyOf (with_tick h c.moment-moment.result ss) c.due.new.self) c.deref-3.ensures.value c.due.ensures.due),
+          c.image.ensures sampled c.due.ensures.schedules c.due.ensures.number c.due.ensures.last
+          (subst (λ ss. (h : History) → IsReadyOf h c.self.inside.ready → IsReadyOf (with_row h c.moment-moment.result ss) c.due.new.self) c.deref-3.ensures.value c.due.ensures.due),
       omega (arith, ap (λ (l : List Entry). length l) c.push_within-3.ensures.items, length-append c.self.inside.log.items (Row c.args.row ∷ []), c.self.inside.log.ok.0),
       omega arith,
       omega arith,

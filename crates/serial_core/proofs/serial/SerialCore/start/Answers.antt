@@ -2,7 +2,7 @@ use Rattle.std.proofs.Common.{rules, ◌≡◌, ℕ, ◌∙◌, List, [], None, 
 use Rattle.std.proofs.lemmas.List.{length-map}
 use Rattle.st_words.specs.Values.{Datum}
 use Rattle.st_types.specs.declared.entry.Entry.{Entry}
-use Rattle.st_types.specs.Plans.{initial_store, places_of}
+use Rattle.st_types.specs.Plans.{initial_store, schedules_of}
 use Rattle.config.specs.declared.plan.Plan.{Plan}
 use Rattle.config.specs.PlanViews.{plan_view}
 use Rattle.serial_core.specs.Steps.{State, store_in}
@@ -24,13 +24,13 @@ pub invariant_of-result : goal.invariant_of-result
 invariant_of-result c =
     let started = c.in_ok-start.ensures ∙ ap (map (λ v. v.initial)) (c.deref-2.ensures.value ∙ ap (λ (p : Plan). p.variables.items) c.deref.ensures) in
     let valued = c.in_ok-values.ensures ∙ ap (map (λ v. v.initial)) (c.deref-4.ensures.value ∙ ap (λ (p : Plan). p.variables.items) c.deref-3.ensures) in
-    let places : c.in_ok-ready.ready.places ≡ places_of (plan_view c.args.plan.value) = search rules in
+    let schedules : c.in_ok-ready.ready.schedules ≡ schedules_of (plan_view c.args.plan.value) = search rules in
     let tasks : length c.in_ok-ready.ready.samples ≡ length c.args.plan.value.tasks.items = search rules in
     let numbered : length c.in_ok-samples.samples.items ≡ length c.args.plan.value.tasks.items = search rules in (
       kept_start c.args.plan.value c.in_ok-start.start.items c.in_ok-values.values.items None c.in_ok-samples.samples.items c.in_ok-log.log.items c.in_ok-outcomes.outcomes.items c.in_ok-rows.rows.items c.in_ok-ready.ready
           c.in_ok-log.ensures.items c.in_ok-outcomes.ensures.items c.in_ok-rows.ensures.items
           (ap length started ∙ length-map c.args.plan.value.variables.items (λ v. v.initial)) (valued ∙ sym started)
-          (ap (map (λ d. d.kind)) started ∙ kinds_first c.args.plan.value.variables.items) numbered tt places tasks c.in_ok-ready.ensures.rows c.in_ok-ready.ensures.new,
+          (ap (map (λ d. d.kind)) started ∙ kinds_first c.args.plan.value.variables.items) numbered tt schedules tasks c.in_ok-ready.ensures.rows c.in_ok-ready.ensures.new,
       omega (arith, ap length c.in_ok-log.ensures.items),
       omega (arith, c.in_ok-log.ensures.capacity),
       omega (arith, c.in_ok-outcomes.ensures.capacity),

@@ -29,7 +29,7 @@ use Rattle.slot_code.specs.Globals.{global_named, Fits}
 use Rattle.config.specs.Sound.{are_different}
 use Rattle.config.specs.Thin.{is_variable_of, is_input_of, is_there, are_there, is_absent, is_thin_declaration, is_thin_block}
 use Rattle.config.specs.ThinPlans.{names_of}
-use Rattle.config.specs.Places.{is_named_in, HasPlace, HavePlaces}
+use Rattle.config.specs.GlobalSlots.{is_named_in, HasSlot, HaveSlots}
 
 -- a slot of these fields
 abbrev slot_at : Path → Bool → Slot
@@ -67,7 +67,7 @@ none_at : {X : Type 0} (p : X → Bool) (xs : List X) → position p xs ≡ None
 none_at p xs h =
     none_found p xs (find_at p xs ∙ slice_get_past xs (position_or_len p xs) (no_position (position_or_len p xs) (length xs) h))
 
--- a name's place is that of a variable, or behind the variables that of an input
+-- a name's place is that of a variable, or after the variables that of an input
 pub variable_place : (variables : List PlanVariable) (inputs : List PlanInput) (x : Name) (i : ℕ) → position (λ v. same_path (unowned x) v.path) variables ≡ Some i → slice_get (layout_of variables inputs) i ≡ Some (record { path = unowned x; is_input = false })
 variable_place [] inputs x i h = absurd (cc)
 variable_place (v ∷ vs) inputs x i h =
@@ -85,8 +85,8 @@ input_place variables (u ∷ us) x i h =
     ∙ ap (option_map input_slot) f.0
     ∙ ap (λ p. Some (slot_at p true)) (sym (same_path_is (unowned x) (get_or (u ∷ us) i u).path f.1))
 
-pub no_place : (variables : List PlanVariable) (inputs : List PlanInput) (x : Name) → position (λ v. same_path (unowned x) v.path) variables ≡ None → position (λ i. same_path (unowned x) i.path) inputs ≡ None → is_named_in variables inputs x ≡ false
-no_place variables inputs x none nor =
+pub no_slot : (variables : List PlanVariable) (inputs : List PlanInput) (x : Name) → position (λ v. same_path (unowned x) v.path) variables ≡ None → position (λ i. same_path (unowned x) i.path) inputs ≡ None → is_named_in variables inputs x ≡ false
+no_slot variables inputs x none nor =
     let a = none_at (λ v. same_path (unowned x) v.path) variables none in
     let b = none_at (λ i. same_path (unowned x) i.path) inputs nor in
     cc
@@ -140,7 +140,7 @@ pub layout_distinct : (variables : List PlanVariable) (inputs : List PlanInput) 
 layout_distinct variables inputs h = distinct_slots (layout_of variables inputs) (ap are_different (names_are variables inputs) ∙ h)
 
 -- a global that is found by its name has the slot of this name
-named_first : (layout : List Slot) (h : GlobalSlot) (gs : List GlobalSlot) (x : Name) (g : GlobalSlot) (t : Bool) → bytes_eq x h.name ≡ t → HasPlace layout h
+named_first : (layout : List Slot) (h : GlobalSlot) (gs : List GlobalSlot) (x : Name) (g : GlobalSlot) (t : Bool) → bytes_eq x h.name ≡ t → HasSlot layout h
     → (global_named gs x ≡ Some g → slice_get layout g.slot ≡ Some (record { path = unowned x; is_input = g.is_input }))
     → (if t then Some h else global_named gs x) ≡ Some g → slice_get layout g.slot ≡ Some (record { path = unowned x; is_input = g.is_input })
 named_first layout h gs x g true e place rest is =
@@ -149,13 +149,13 @@ named_first layout h gs x g true e place rest is =
     ap (λ f. slice_get layout f.slot) (sym same) ∙ place ∙ ap (λ y. Some (slot_at (unowned y) h.is_input)) (sym name) ∙ ap (λ f. Some (slot_at (unowned x) f.is_input)) same
 named_first layout h gs x g false e place rest is = rest is
 
-pub named_place : (layout : List Slot) (globals : List GlobalSlot) (x : Name) (g : GlobalSlot) → HavePlaces layout globals → global_named globals x ≡ Some g → slice_get layout g.slot ≡ Some (record { path = unowned x; is_input = g.is_input })
-named_place layout [] x g places h = absurd (cc)
-named_place layout (f ∷ gs) x g places h =
-    named_first layout f gs x g (bytes_eq x f.name) refl (places 0 f (omega arith)) (named_place layout gs x g (λ k d lt. places (suc k) d (omega arith))) h
+pub named_slot : (layout : List Slot) (globals : List GlobalSlot) (x : Name) (g : GlobalSlot) → HaveSlots layout globals → global_named globals x ≡ Some g → slice_get layout g.slot ≡ Some (record { path = unowned x; is_input = g.is_input })
+named_slot layout [] x g places h = absurd (cc)
+named_slot layout (f ∷ gs) x g places h =
+    named_first layout f gs x g (bytes_eq x f.name) refl (places 0 f (omega arith)) (named_slot layout gs x g (λ k d lt. places (suc k) d (omega arith))) h
 
-pub fits : (variables : List PlanVariable) (inputs : List PlanInput) (globals : List GlobalSlot) → IsLayout (layout_of variables inputs) → HavePlaces (layout_of variables inputs) globals → Fits (layout_of variables inputs) globals
-fits variables inputs globals distinct places = record { distinct = distinct; slots = λ x g h. named_place (layout_of variables inputs) globals x g places h }
+pub fits : (variables : List PlanVariable) (inputs : List PlanInput) (globals : List GlobalSlot) → IsLayout (layout_of variables inputs) → HaveSlots (layout_of variables inputs) globals → Fits (layout_of variables inputs) globals
+fits variables inputs globals distinct places = record { distinct = distinct; slots = λ x g h. named_slot (layout_of variables inputs) globals x g places h }
 
 -- the externals of a thin unit are names of the plan
 first_or_behind : (a b rest any : Bool) → (rest ≡ true → any ≡ true) → ((a && b) || rest) ≡ true → (a || any) ≡ true
@@ -232,9 +232,9 @@ one_sort layout p i j a b distinct here there =
     let g : slot_at p a ≡ slot_at p b = cc in
     ap (λ s. s.is_input) g
 
-pub variable_assignable : (variables : List PlanVariable) (inputs : List PlanInput) (globals : List GlobalSlot) (k : Kind) (x : Name) (g : GlobalSlot) → IsLayout (layout_of variables inputs) → HavePlaces (layout_of variables inputs) globals → is_variable_of variables k x ≡ true → global_named globals x ≡ Some g → g.is_input ≡ false
+pub variable_assignable : (variables : List PlanVariable) (inputs : List PlanInput) (globals : List GlobalSlot) (k : Kind) (x : Name) (g : GlobalSlot) → IsLayout (layout_of variables inputs) → HaveSlots (layout_of variables inputs) globals → is_variable_of variables k x ≡ true → global_named globals x ≡ Some g → g.is_input ≡ false
 variable_assignable variables inputs globals k x g distinct places of_kind named =
     let v = variable_there variables k x of_kind in
     let here = get_front (map variable_slot variables) (map input_slot inputs) v.number (slot_at (unowned x) false) v.at in
-    let there = named_place (layout_of variables inputs) globals x g places named in
+    let there = named_slot (layout_of variables inputs) globals x g places named in
     one_sort (layout_of variables inputs) (unowned x) g.slot v.number g.is_input false distinct there here

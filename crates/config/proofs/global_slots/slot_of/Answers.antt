@@ -1,6 +1,6 @@
 use Rattle.std.proofs.Common.{sym}
-use Rattle.config.proofs.PlaceLemmas.{variable_place, input_place}
-use Rattle.config.proofs.places.place_of.Goals as goal
+use Rattle.config.proofs.GlobalSlotLemmas.{variable_place, input_place}
+use Rattle.config.proofs.global_slots.slot_of.Goals as goal
 
 pub returns-in-Some : goal.returns-in-Some
 returns-in-Some c = variable_place c.args.variables.now c.args.inputs.now c.args.name.now c.in-Some.slot (sym c.in-Some.ensures)

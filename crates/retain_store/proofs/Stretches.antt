@@ -2,6 +2,7 @@
 use Rattle.std.proofs.Common.{◌≡◌, ℕ, ◌+◌, ◌<◌, ◌≤◌, List, ◌++◌, length, get_or, take, drop, sym, ◌∙◌, ap, arith, length-drop}
 use Rattle.std.proofs.lemmas.Grind.{common_steps}
 use Rattle.std.proofs.lemmas.List.{ext_get_or, get_or-take, get_or-drop, length-take-le, take_all, take-append-drop}
+use Rattle.retain_store.specs.declared.format.TheConstants.{AREA_BYTES, FILE_BYTES}
 use Rattle.disk.specs.Disk.{Torn, overwritten}
 
 -- two files that agree on a stretch have the same stretch
@@ -39,8 +40,8 @@ module _ (p : ℕ) (bytes old : List ℕ) (inside : p + length bytes ≤ length 
   written_at i low = sym (get_or-take (length bytes) (drop p (overwritten old p bytes)) i 0 low ∙ get_or-drop p (overwritten old p bytes) i 0) ∙ ap (λ (l : List ℕ). get_or l i 0) written_bytes
 
 -- a file of the length of two areas, by the two
-pub two_parts : (first second file same : List ℕ) (n m : ℕ) → n ≡ 131072 → m ≡ 131072 → first ≡ take n (drop 0 file) → second ≡ take m (drop 131072 same) → same ≡ file → length file ≡ 262144 → first ++ second ≡ file
+pub two_parts : (first second file same : List ℕ) (n m : ℕ) → n ≡ AREA_BYTES → m ≡ AREA_BYTES → first ≡ take n (drop 0 file) → second ≡ take m (drop AREA_BYTES same) → same ≡ file → length file ≡ FILE_BYTES → first ++ second ≡ file
 two_parts first second file same n m is_n is_m is_first is_second is_same size =
-    let front : first ≡ take 131072 file = is_first ∙ ap (λ (k : ℕ). take k file) is_n in
-    let back : second ≡ drop 131072 file = is_second ∙ ap (λ (k : ℕ). take k (drop 131072 same)) is_m ∙ ap (λ (l : List ℕ). take 131072 (drop 131072 l)) is_same ∙ take_all 131072 (drop 131072 file) (omega (arith, length-drop 131072 file)) in
-    ap (λ (l : List ℕ). l ++ second) front ∙ ap (λ (l : List ℕ). take 131072 file ++ l) back ∙ take-append-drop 131072 file
+    let front : first ≡ take AREA_BYTES file = is_first ∙ ap (λ (k : ℕ). take k file) is_n in
+    let back : second ≡ drop AREA_BYTES file = is_second ∙ ap (λ (k : ℕ). take k (drop AREA_BYTES same)) is_m ∙ ap (λ (l : List ℕ). take AREA_BYTES (drop AREA_BYTES l)) is_same ∙ take_all AREA_BYTES (drop AREA_BYTES file) (omega (arith, length-drop AREA_BYTES file)) in
+    ap (λ (l : List ℕ). l ++ second) front ∙ ap (λ (l : List ℕ). take AREA_BYTES file ++ l) back ∙ take-append-drop AREA_BYTES file

@@ -1,10 +1,10 @@
 use Rattle.std.proofs.Common.{◌≡◌, map, take}
 use Rattle.st_types.specs.Layouts.{layout_of}
-use Rattle.config.specs.Places.{HavePlaces}
-use Rattle.config.proofs.places.places_of.Given as goal
+use Rattle.config.specs.GlobalSlots.{HaveSlots}
+use Rattle.config.proofs.global_slots.slots_of.Given as goal
 
 abbrev pub invariant-loop-name : goal.invariant-loop-name
 invariant-loop-name l = record {
   named : map (λ g. g.name) l.globals.items ≡ take l.name-index l.names;
-  placed : HavePlaces (layout_of l.variables l.inputs) l.globals.items;
+  placed : HaveSlots (layout_of l.variables l.inputs) l.globals.items;
 }

@@ -1,24 +1,24 @@
 //! Where and how often the programs of a plan run.
 
 ghost use Rattle.std.specs.Prelude.{◌≡◌, map, IfOk};
-ghost use Rattle.ready_list.specs.Places.{code_place};
+ghost use Rattle.ready_list.specs.Schedules.{code_schedule};
 
 use config::{Program, Task};
-use st_types::Place;
+use st_types::Schedule;
 use std::alloc::{AllocError, Global};
 
 /// Where and how often a program runs.
-fn place_of(tasks: &[Task], program: &Program) -> Place
-    ensures { result ≡ code_place tasks.now program.now }
+fn schedule_of(tasks: &[Task], program: &Program) -> Schedule
+    ensures { result ≡ code_schedule tasks.now program.now }
 {
     match tasks.get(program.task) {
-        Some(task) => Place {
+        Some(task) => Schedule {
             resource: program.resource,
             task: program.task,
             interval: task.interval,
             priority: task.priority,
         },
-        None => Place {
+        None => Schedule {
             resource: program.resource,
             task: program.task,
             interval: 0,
@@ -27,17 +27,17 @@ fn place_of(tasks: &[Task], program: &Program) -> Place
     }
 }
 
-/// The places of the programs, in declaration order.
-pub fn places_of(
+/// The schedules of the programs, in declaration order.
+pub fn schedules_of(
     alloc: Global,
     tasks: &[Task],
     programs: &[Program],
-) -> Result<Vec<Place>, AllocError>
-    ensures { IfOk result (λ places. places.items ≡ map (code_place tasks.now) programs.now) }
+) -> Result<Vec<Schedule>, AllocError>
+    ensures { IfOk result (λ schedules. schedules.items ≡ map (code_schedule tasks.now) programs.now) }
 {
-    let mut places = Vec::new(alloc);
+    let mut schedules = Vec::new(alloc);
     for program in programs {
-        places.push(place_of(tasks, program))?;
+        schedules.push(schedule_of(tasks, program))?;
     }
-    Ok(places)
+    Ok(schedules)
 }

@@ -1,11 +1,11 @@
--- The places of the code's plan are those of the plan that it stands for.
+-- The schedules of the code's plan are those of the plan that it stands for.
 use Rattle.std.proofs.Common.{◌≡◌, ℕ, zero, suc, List, [], ◌∷◌, map, refl}
 use Rattle.st_types.specs.declared.plan.PlanVariable.{PlanVariable}
-use Rattle.st_types.specs.Plans.{task_at, place_of}
+use Rattle.st_types.specs.Plans.{task_at, schedule_of}
 use Rattle.config.specs.declared.task.Task.{Task}
 use Rattle.config.specs.declared.task.Program.{Program}
 use Rattle.config.specs.PlanViews.{task_view, program_view}
-use Rattle.ready_list.specs.Places.{code_task_at, code_place}
+use Rattle.ready_list.specs.Schedules.{code_task_at, code_schedule}
 
 interval-same : (variables : List PlanVariable) (tasks : List Task) (t : ℕ) → (task_at (map (task_view variables) tasks) t).interval ≡ (code_task_at tasks t).interval
 interval-same variables [] t = refl
@@ -17,6 +17,6 @@ priority-same variables [] t = refl
 priority-same variables (x ∷ tasks) zero = refl
 priority-same variables (x ∷ tasks) (suc t) = priority-same variables tasks t
 
-pub places-same : (variables : List PlanVariable) (tasks : List Task) (programs : List Program) → map (code_place tasks) programs ≡ map (place_of (map (task_view variables) tasks)) (map program_view programs)
-places-same variables tasks [] = refl
-places-same variables tasks (p ∷ programs) = rw (interval-same variables tasks p.task, priority-same variables tasks p.task, places-same variables tasks programs) refl
+pub schedules-same : (variables : List PlanVariable) (tasks : List Task) (programs : List Program) → map (code_schedule tasks) programs ≡ map (schedule_of (map (task_view variables) tasks)) (map program_view programs)
+schedules-same variables tasks [] = refl
+schedules-same variables tasks (p ∷ programs) = rw (interval-same variables tasks p.task, priority-same variables tasks p.task, schedules-same variables tasks programs) refl

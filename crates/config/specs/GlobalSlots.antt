@@ -13,8 +13,8 @@ abbrev pub is_named_in : List PlanVariable → List PlanInput → Name → Bool
 is_named_in variables inputs x = list_any (λ v. same_path (unowned x) v.path) variables || list_any (λ i. same_path (unowned x) i.path) inputs
 
 -- the global has the slot of its name
-abbrev pub HasPlace : List Slot → GlobalSlot → Type 0
-HasPlace layout g = slice_get layout g.slot ≡ Some (record { path = unowned g.name; is_input = g.is_input })
+abbrev pub HasSlot : List Slot → GlobalSlot → Type 0
+HasSlot layout g = slice_get layout g.slot ≡ Some (record { path = unowned g.name; is_input = g.is_input })
 
-abbrev pub HavePlaces : List Slot → List GlobalSlot → Type 0
-HavePlaces layout globals = All (HasPlace layout) globals
+abbrev pub HaveSlots : List Slot → List GlobalSlot → Type 0
+HaveSlots layout globals = All (HasSlot layout) globals

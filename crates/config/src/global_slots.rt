@@ -7,7 +7,7 @@ ghost use Rattle.st_trees.specs.DeclarationViews.{declaration_view, variable_blo
 ghost use Rattle.st_types.specs.Scopes.{unowned};
 ghost use Rattle.st_types.specs.Bodies.{is_external, names_of, declared_names, externals_in};
 ghost use Rattle.st_types.specs.Layouts.{layout_of};
-ghost use Rattle.config.specs.Places.{is_named_in, HasPlace, HavePlaces};
+ghost use Rattle.config.specs.GlobalSlots.{is_named_in, HasSlot, HaveSlots};
 
 use crate::global_path::is_global_of;
 use slot_code::GlobalSlot;
@@ -61,7 +61,7 @@ pub fn externals_in(alloc: Global, blocks: &[VariableBlock]) -> Result<Vec<Name>
 
 /// Where a global stands.
 #[derive(Clone, Copy)]
-struct Place {
+struct Found {
     /// The number of its slot in the layout, from 0.
     slot: usize,
     /// Whether its value comes from the plant.
@@ -82,21 +82,21 @@ fn input_at(inputs: &[PlanInput], name: &Name) -> Option<usize>
     inputs.iter().position(|i| is_global_of(&i.path, name))
 }
 
-/// The place of a name: that of a variable, or behind the variables that of an input.
-#[tactic(auto, using(crate::proofs::PlaceLemmas::no_place))]
-fn place_of(variables: &[PlanVariable], inputs: &[PlanInput], name: &Name) -> Option<Place>
+/// The slot of a name: that of a variable, or after the variables that of an input.
+#[tactic(auto, using(crate::proofs::GlobalSlotLemmas::no_slot))]
+fn slot_of(variables: &[PlanVariable], inputs: &[PlanInput], name: &Name) -> Option<Found>
     ensures { MatchOption result
         (is_named_in variables.now inputs.now name.now ≡ false)
-        (λ place. slice_get (layout_of variables.now inputs.now) place.slot ≡ Some (record { path = unowned name.now; is_input = place.is_input })) }
+        (λ slot. slice_get (layout_of variables.now inputs.now) slot.slot ≡ Some (record { path = unowned name.now; is_input = slot.is_input })) }
 {
     if let Some(slot) = variable_at(variables, name) {
-        return Some(Place {
+        return Some(Found {
             slot,
             is_input: false,
         });
     }
     let input = input_at(inputs, name)?;
-    Some(Place {
+    Some(Found {
         slot: variables.len() + input,
         is_input: true,
     })
@@ -111,20 +111,20 @@ fn global_of(
 ) -> Result<GlobalSlot, AllocError>
     requires known { is_named_in variables.now inputs.now name.now ≡ true }
     ensures name { IfOk result (λ global. global.name ≡ name.now) }
-    ensures place { IfOk result (λ global. HasPlace (layout_of variables.now inputs.now) global) }
+    ensures slot { IfOk result (λ global. HasSlot (layout_of variables.now inputs.now) global) }
 {
-    let Some(place) = place_of(variables, inputs, name) else {
+    let Some(slot) = slot_of(variables, inputs, name) else {
         unreachable!()
     };
     Ok(GlobalSlot {
         name: name.copied(alloc)?,
-        slot: place.slot,
-        is_input: place.is_input,
+        slot: slot.slot,
+        is_input: slot.is_input,
     })
 }
 
 /// The globals of these names with their slots, in order.
-pub fn places_of(
+pub fn slots_of(
     alloc: Global,
     variables: &[PlanVariable],
     inputs: &[PlanInput],
@@ -132,7 +132,7 @@ pub fn places_of(
 ) -> Result<Vec<GlobalSlot>, AllocError>
     requires known { list_all (is_named_in variables.now inputs.now) names.now ≡ true }
     ensures names { IfOk result (λ globals. map (λ g. g.name) globals.items ≡ names.now) }
-    ensures places { IfOk result (λ globals. HavePlaces (layout_of variables.now inputs.now) globals.items) }
+    ensures slots { IfOk result (λ globals. HaveSlots (layout_of variables.now inputs.now) globals.items) }
 {
     let mut globals = Vec::new(alloc);
     for name in names {

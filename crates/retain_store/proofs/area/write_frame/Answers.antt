@@ -1,6 +1,6 @@
 use Rattle.std.proofs.Common.{inl, inr, ⊎_elim, ◌∙◌}
 use Rattle.disk.specs.Runs.{weakens, joins}
-use Rattle.retain_store.proofs.area.write_image.Goals as goal
+use Rattle.retain_store.proofs.area.write_frame.Goals as goal
 
 pub returns-in_err-fill-in-Open-clause-any_moment : goal.returns-in_err-fill-in-Open-clause-any_moment
 returns-in_err-fill-in-Open-clause-any_moment g c = λ tells content spells.

@@ -1,0 +1,37 @@
+//! The limits of the profile, each in one place. Definitions and code of every crate take them from here.
+
+/// The longest source text in bytes.
+pub const MAX_SOURCE_BYTES: usize = 1_048_576;
+
+/// The longest name in characters.
+pub const MAX_NAME_LENGTH: usize = 64;
+
+/// The greatest depth of an expression, a statement or an initial value. A leaf has depth 1.
+pub const MAX_DEPTH: usize = 64;
+
+/// The most resources of a configuration.
+pub const MAX_RESOURCES: usize = 8;
+
+/// The most tasks of one resource.
+pub const MAX_TASKS: usize = 32;
+
+/// The most program instances of a configuration.
+pub const MAX_PROGRAMS: usize = 64;
+
+/// The most paths of a layout, inputs included.
+pub const MAX_PATHS: usize = 4_096;
+
+/// The greatest budget of an execution in ticks. The least is 1.
+pub const MAX_BUDGET: u32 = 1_000_000;
+
+/// Every moment in milliseconds is less than this: 2 to the power of 62.
+pub const MOMENT_LIMIT: u64 = 4_611_686_018_427_387_904;
+
+/// The most rows of a recorded plant.
+pub const MAX_ROWS: usize = 10_000;
+
+/// The most entries that a log has room for.
+pub const MAX_LOG_ROOM: usize = 65_536;
+
+/// The longest body of a record of a retain file in bytes.
+pub const MAX_RECORD_BODY: usize = 131_059;
