@@ -1,9 +1,9 @@
 -- What a core over a disk keeps when its log grows.
 use Rattle.std.proofs.Common.{ℕ, List, [], ◌∷◌, Option, Some, None, inl, inr, sym, subst, arith, length-append}
 use Rattle.std.specs.Prelude.{Result, Ok, Err}
-use Rattle.st_types.specs.declared.entry.Entry.{Entry}
-use Rattle.st_types.specs.declared.entry.Entry.TheVariants.{Row, Done}
-use Rattle.st_types.specs.Rows.{Latch}
+use Rattle.st_plans.specs.declared.entry.Entry.{Entry}
+use Rattle.st_plans.specs.declared.entry.Entry.TheVariants.{Row, Done}
+use Rattle.st_plans.specs.Rows.{Latch}
 use Rattle.slot_run.specs.Effects.{Effect}
 use Rattle.retain_store.specs.declared.fault.StoreFault.{StoreFault}
 use Rattle.retain_store.specs.Kept.{StoreView}

@@ -1,9 +1,9 @@
 -- Starting a core.
 use Rattle.std.proofs.Common.{◌≡◌, ℕ, [], Option, Some, inl, inr, refl, sym, ap, subst, ◌∙◌, arith}
 use Rattle.st_types.specs.Stores.{Store}
-use Rattle.st_types.specs.Restarts.{Start, kept, written_over}
-use Rattle.st_types.specs.Plans.{initial_store}
-use Rattle.st_types.specs.Layouts.{layout_text}
+use Rattle.st_plans.specs.Restarts.{Start, kept, written_over}
+use Rattle.st_plans.specs.Plans.{initial_store}
+use Rattle.st_plans.specs.Layouts.{layout_text}
 use Rattle.retain_store.specs.Records.{Content}
 use Rattle.retain_store.specs.Recovered.{Recovered, TooLong, Refused, Nothing, Found}
 use Rattle.retain_store.specs.Kept.{record_in}

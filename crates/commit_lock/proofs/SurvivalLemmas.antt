@@ -1,10 +1,10 @@
 -- What survives.
 use Rattle.std.proofs.Common.{ℕ, ◌≤◌, List, [], ◌∷◌, ◌++◌, length, Option, inl, inr, refl, sym, ap, subst, ◌∙◌, arith, append-nil, append_assoc}
-use Rattle.st_types.specs.declared.entry.Entry.{Entry}
+use Rattle.st_plans.specs.declared.entry.Entry.{Entry}
 use Rattle.st_types.specs.Stores.{Store}
-use Rattle.st_types.specs.Restarts.{Start, written_over}
-use Rattle.st_types.specs.Plans.{initial_store}
-use Rattle.st_types.specs.Logs.{last_moment}
+use Rattle.st_plans.specs.Restarts.{Start, written_over}
+use Rattle.st_plans.specs.Plans.{initial_store}
+use Rattle.st_plans.specs.Logs.{last_moment}
 use Rattle.retain_store.specs.Areas.{IsEither}
 use Rattle.retain_store.specs.Recovered.{Recovered, Found}
 use Rattle.config.specs.declared.plan.Plan.{Plan}

@@ -1,6 +1,6 @@
 -- What a core over a disk keeps of its fields.
 use Rattle.std.specs.Prelude.{◌≡◌, ◌≤◌, ℕ, List, Bool, true, false, length, Option, Some, None}
-use Rattle.st_types.specs.Layouts.{layout_text, record_length}
+use Rattle.st_plans.specs.Layouts.{layout_text, record_length}
 use Rattle.retain_store.specs.declared.fault.StoreFault.{StoreFault}
 use Rattle.retain_store.specs.Kept.{StoreView}
 use Rattle.serial_core.specs.Steps.{State}

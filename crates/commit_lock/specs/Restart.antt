@@ -1,11 +1,11 @@
 -- What a restart makes of a retain file.
 use Rattle.std.specs.Prelude.{◌≡◌, ◌≤◌, ◌++◌, ℕ, List, [], length, map, Option, Some, None}
-use Rattle.st_types.specs.declared.entry.Entry.{Entry}
+use Rattle.st_plans.specs.declared.entry.Entry.{Entry}
 use Rattle.st_types.specs.Stores.{Store}
-use Rattle.st_types.specs.Restarts.{Kept, Start, kept, written_over, warm_start}
-use Rattle.st_types.specs.Plans.{initial_store}
-use Rattle.st_types.specs.Layouts.{layout_text}
-use Rattle.st_types.specs.Logs.{past_of, after, last_moment}
+use Rattle.st_plans.specs.Restarts.{Kept, Start, kept, written_over, warm_start}
+use Rattle.st_plans.specs.Plans.{initial_store}
+use Rattle.st_plans.specs.Layouts.{layout_text}
+use Rattle.st_plans.specs.Logs.{past_of, after, last_moment}
 use Rattle.retain_store.specs.Records.{Content}
 use Rattle.retain_store.specs.Recovered.{Recovered, TooLong, Refused, Nothing, Found}
 use Rattle.config.specs.declared.plan.Plan.{Plan}

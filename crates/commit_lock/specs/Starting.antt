@@ -1,7 +1,7 @@
 -- Starting a core.
 use Rattle.std.specs.Prelude.{◌≡◌, ◌≢◌, ◌⊎◌, ◌-◌, ◌^◌, ℕ, []}
-use Rattle.st_types.specs.Restarts.{Start, cold_start}
-use Rattle.st_types.specs.Layouts.{layout_text}
+use Rattle.st_plans.specs.Restarts.{Start, cold_start}
+use Rattle.st_plans.specs.Layouts.{layout_text}
 use Rattle.retain_store.specs.declared.fault.StoreFault.TheVariants as stores
 use Rattle.retain_store.specs.Recovered.{Recovered, TooLong, Refused, Nothing, Found}
 use Rattle.retain_store.specs.Opening.{CountsFault}

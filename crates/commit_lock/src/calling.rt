@@ -11,7 +11,7 @@ use crate::refusal::Refusal;
 use disk::Disk;
 use serial_core::Answer;
 use slot_run::{Execution, Snapshot};
-use st_types::Row;
+use st_plans::Row;
 use std::alloc::Global;
 
 impl<D: Disk> Core<D> {

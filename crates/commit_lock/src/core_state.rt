@@ -7,7 +7,7 @@ ghost use Rattle.commit_lock.specs.Cores.{survives};
 use disk::Disk;
 use retain_store::{Store, StoreFault};
 use serial_core::SerialCore;
-use st_types::Value;
+use st_words::Value;
 use std::marker::Model;
 
 /// A core over a disk. Contracts see its plan, start and log, how many entries are acknowledged, and its store.
@@ -38,7 +38,7 @@ impl<D: Disk> Model for Core<D> {
     ghost coded = { Prim.hlevel (codes, code.the_row.coded) };
 
     ghost use Rattle.std.specs.Prelude.{◌≡◌, ◌≤◌, length, vec_capacity};
-    ghost use Rattle.st_types.specs.Layouts.{layout_text};
+    ghost use Rattle.st_plans.specs.Layouts.{layout_text};
     ghost use Rattle.commit_lock.specs.Kept.{CoreInvariant};
 
     ghost view = { λ x. record { state = x.serial; acked = x.acked; failed = x.failed; store = x.store } };

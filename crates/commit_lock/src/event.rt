@@ -2,7 +2,7 @@
 
 use crate::refusal::Refusal;
 use serial_core::Answer;
-use st_types::Row;
+use st_plans::Row;
 
 /// A call of a core.
 #[derive(Drop)]

@@ -2,16 +2,16 @@
 
 ghost use Rattle.std.specs.Prelude.{◌≡◌, ◌≤◌, [], None, length, map, vec_capacity, IfOk};
 ghost use Rattle.st_words.specs.declared.limits.TheConstants.{MAX_LOG_ROOM};
-ghost use Rattle.st_types.specs.Layouts.{layout_text};
-ghost use Rattle.st_types.specs.Plans.{initial_store};
-ghost use Rattle.st_types.specs.Restarts.{kept, written_over};
+ghost use Rattle.st_plans.specs.Layouts.{layout_text};
+ghost use Rattle.st_plans.specs.Plans.{initial_store};
+ghost use Rattle.st_plans.specs.Restarts.{kept, written_over};
 ghost use Rattle.config.specs.PlanViews.{plan_view};
 ghost use Rattle.serial_core.specs.Steps.{State};
 ghost use Rattle.commit_lock.specs.Restart.{begun, IsInitialAgain};
 
 use config::Plan;
 use serial_core::SerialCore;
-use st_types::Value;
+use st_words::Value;
 use std::alloc::{AllocError, Global};
 use std::sync::Arc;
 

@@ -1,9 +1,9 @@
 //! What a core tells.
 
 ghost use Rattle.std.specs.Prelude.{◌≡◌, ◌<◌, ◌≤◌, List, ℕ, option_map, option_and_then, slice_get, length};
-ghost use Rattle.st_types.specs.Due.{HasOverruns};
-ghost use Rattle.st_types.specs.Logs.{IsLegal, outcomes_of};
-ghost use Rattle.st_types.specs.Plans.{schedules_of};
+ghost use Rattle.st_plans.specs.Due.{HasOverruns};
+ghost use Rattle.st_plans.specs.Logs.{IsLegal, outcomes_of};
+ghost use Rattle.st_plans.specs.Plans.{schedules_of};
 ghost use Rattle.st_types.specs.Scopes.{seen};
 ghost use Rattle.config.specs.PlanViews.{plan_view};
 ghost use Rattle.retain_store.specs.Recovered.{recovered};
@@ -12,7 +12,9 @@ ghost use Rattle.commit_lock.specs.Cores.{survives};
 
 use crate::core_state::Core;
 use disk::Disk;
-use st_types::{Entry, Outcome, Path, Value};
+use st_plans::Entry;
+use st_types::Outcome;
+use st_words::{Path, Value};
 
 impl<D: Disk> Core<D> {
     /// How many entries the log has.

@@ -2,7 +2,7 @@
 
 ghost use Rattle.std.specs.Prelude.{◌≡◌, ◌≢◌, ◌+◌, ◌≤◌, ◌^◌, ◌-◌, ◌↔◌, List, ℕ, length, vec_capacity, MatchResult, IfErr, OnOk, OnErr, IsErrOf, true, false};
 ghost use Rattle.disk.specs.Runs.{LeavesOnly};
-ghost use Rattle.st_types.specs.Layouts.{layout_text, record_length};
+ghost use Rattle.st_plans.specs.Layouts.{layout_text, record_length};
 ghost use Rattle.retain_store.specs.Recovered.{recovered, Found};
 ghost use Rattle.retain_store.specs.Areas.{IsEither};
 ghost use Rattle.retain_store.specs.Opening.{CountsFault};
@@ -12,7 +12,7 @@ ghost use Rattle.commit_lock.specs.Restart.{record_now, IsNamed};
 use disk::Disk;
 use retain_store::{Store, StoreFault};
 use serial_core::SerialCore;
-use st_types::Value;
+use st_words::Value;
 
 /// Saves the record of the core as it is now: what is kept of its variables, and the moment of its last row. It takes no memory.
 pub(crate) fn save_record<D: Disk>(

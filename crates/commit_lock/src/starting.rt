@@ -4,7 +4,7 @@ ghost use Rattle.std.specs.Prelude.{◌≡◌, ◌≤◌, ◌+◌, ◌-◌, ◌^
 ghost use Rattle.st_words.specs.declared.limits.TheConstants.{MAX_LOG_ROOM};
 ghost use Rattle.disk.specs.Disk.{Only};
 ghost use Rattle.disk.specs.Runs.{LeavesOnly};
-ghost use Rattle.st_types.specs.Layouts.{layout_text};
+ghost use Rattle.st_plans.specs.Layouts.{layout_text};
 ghost use Rattle.retain_store.specs.Recovered.{recovered, Found};
 ghost use Rattle.retain_store.specs.Areas.{IsEither};
 ghost use Rattle.retain_store.specs.Kept.{IsLast};

@@ -9,8 +9,8 @@ use Rattle.st_trees.specs.declared.unit.Unit as code_unit
 use Rattle.st_trees.specs.StatementViews.{stmt_view}
 use Rattle.st_trees.specs.UnitViews.{unit_view}
 use Rattle.st_trees.specs.Depths.{depth_of_stmt}
-use Rattle.st_types.specs.declared.plan.PlanVariable.{PlanVariable}
-use Rattle.st_types.specs.declared.plan.PlanInput.{PlanInput}
+use Rattle.st_plans.specs.declared.plan.PlanVariable.{PlanVariable}
+use Rattle.st_plans.specs.declared.plan.PlanInput.{PlanInput}
 use Rattle.config.specs.Thin.{is_program, is_short, is_thin_block, is_undeclared, is_typed_stmt, is_thin_unit}
 
 pub list_all_viewed : {X Y : Type 0} (p : X → Bool) (view : Y → X) (ys : List Y) → list_all p (map view ys) ≡ list_all (λ y. p (view y)) ys

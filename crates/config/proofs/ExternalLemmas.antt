@@ -10,8 +10,8 @@ use Rattle.st_trees.specs.declared.declaration.Section.{Section}
 use Rattle.st_trees.specs.declared.declaration.Section.TheVariants.{Input, Output, Local, Constant, External, ConstantExternal}
 use Rattle.st_trees.specs.declared.data_type.VariableType.{VariableType}
 use Rattle.st_trees.specs.Declarations.{Declaration, VariableBlock}
-use Rattle.st_types.specs.declared.plan.PlanVariable.{PlanVariable}
-use Rattle.st_types.specs.declared.plan.PlanInput.{PlanInput}
+use Rattle.st_plans.specs.declared.plan.PlanVariable.{PlanVariable}
+use Rattle.st_plans.specs.declared.plan.PlanInput.{PlanInput}
 use Rattle.st_types.specs.Scopes.{Name, contains_name}
 use Rattle.st_types.specs.NameTypes.{is_named, type_in, or_type, type_in_blocks, kind_of_type}
 use Rattle.st_types.specs.Bodies.{is_external, names_of, declared_names, externals_in}

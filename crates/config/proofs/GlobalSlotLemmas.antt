@@ -16,11 +16,11 @@ use Rattle.st_words.specs.Paths.{Path, same_path}
 use Rattle.st_trees.specs.declared.declaration.Section.{Section}
 use Rattle.st_trees.specs.declared.declaration.Section.TheVariants.{Input, Output, Local, Constant, External, ConstantExternal}
 use Rattle.st_trees.specs.Declarations.{Declaration, VariableBlock}
-use Rattle.st_types.specs.declared.plan.PlanVariable.{PlanVariable}
-use Rattle.st_types.specs.declared.plan.PlanInput.{PlanInput}
+use Rattle.st_plans.specs.declared.plan.PlanVariable.{PlanVariable}
+use Rattle.st_plans.specs.declared.plan.PlanInput.{PlanInput}
 use Rattle.st_types.specs.Scopes.{Name, unowned, contains_name}
 use Rattle.st_types.specs.Slots.{Slot, slot_of, IsLayout}
-use Rattle.st_types.specs.Layouts.{variable_slot, input_slot, layout_of}
+use Rattle.st_plans.specs.Layouts.{variable_slot, input_slot, layout_of}
 use Rattle.st_types.specs.Bodies.{is_external, names_of as identifier_names, declared_names, externals_in}
 use Rattle.st_types.specs.NameTypes.{kind_of_type}
 use Rattle.st_types.proofs.SlotLemmas.{same_path_is, same_path_itself}

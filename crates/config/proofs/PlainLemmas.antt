@@ -15,8 +15,8 @@ use Rattle.st_trees.specs.Expressions.{Expr, literal, read, call, parenthesis, u
 use Rattle.st_trees.specs.Statements.{Stmt, assign}
 use Rattle.st_trees.specs.Declarations.{VariableBlock}
 use Rattle.st_trees.specs.Units.{OrganisationUnit}
-use Rattle.st_types.specs.declared.plan.PlanVariable.{PlanVariable}
-use Rattle.st_types.specs.declared.plan.PlanInput.{PlanInput}
+use Rattle.st_plans.specs.declared.plan.PlanVariable.{PlanVariable}
+use Rattle.st_plans.specs.declared.plan.PlanInput.{PlanInput}
 use Rattle.st_types.specs.Scopes.{Name, contains_name}
 use Rattle.st_types.specs.NameTypes.{Declared, kind_of_type, kind_of_variable, type_in_blocks}
 use Rattle.st_types.specs.Bodies.{externals_in}

@@ -9,11 +9,11 @@ use Rattle.std.proofs.lemmas.List.Folds.{list_any-append}
 use Rattle.std.proofs.lemmas.Option.{slice_get_within, get_or_from_slice_get}
 use Rattle.st_words.specs.declared.limits.TheConstants.{MAX_BUDGET, MAX_PATHS, MAX_RECORD_BODY}
 use Rattle.st_trees.specs.Units.{OrganisationUnit}
-use Rattle.st_types.specs.declared.plan.PlanVariable.{PlanVariable}
-use Rattle.st_types.specs.declared.plan.PlanInput.{PlanInput}
-use Rattle.st_types.specs.Plans as plans
+use Rattle.st_plans.specs.declared.plan.PlanVariable.{PlanVariable}
+use Rattle.st_plans.specs.declared.plan.PlanInput.{PlanInput}
+use Rattle.st_plans.specs.Plans as plans
 use Rattle.st_types.specs.Scopes.{Name, contains_name}
-use Rattle.st_types.specs.Layouts.{layout_of, path_text, record_length}
+use Rattle.st_plans.specs.Layouts.{layout_of, path_text, record_length}
 use Rattle.config.specs.declared.task.Task.{Task}
 use Rattle.config.specs.declared.task.Program.{Program}
 use Rattle.config.specs.declared.thin_program.ThinProgram.{ThinProgram}

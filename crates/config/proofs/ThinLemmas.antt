@@ -19,8 +19,8 @@ use Rattle.st_types.specs.Scopes.{Name}
 use Rattle.st_trees.specs.declared.unit.Unit as code_unit
 use Rattle.st_trees.specs.UnitViews.{unit_view}
 use Rattle.st_trees.specs.Units.{OrganisationUnit}
-use Rattle.st_types.specs.declared.plan.PlanVariable.{PlanVariable}
-use Rattle.st_types.specs.declared.plan.PlanInput.{PlanInput}
+use Rattle.st_plans.specs.declared.plan.PlanVariable.{PlanVariable}
+use Rattle.st_plans.specs.declared.plan.PlanInput.{PlanInput}
 use Rattle.st_types.specs.NameTypes.{Declared}
 use Rattle.st_types.specs.Bodies.{externals_in}
 use Rattle.st_types.specs.ResolvedUnits.{resolved}
@@ -31,11 +31,11 @@ use Rattle.config.specs.Thin.{is_program, is_short, is_thin_block, is_variable_o
 use Rattle.config.specs.declared.task.Program.{Program}
 use Rattle.config.specs.PlanViews.{program_view}
 use Rattle.st_types.specs.Slots.{IsLayout}
-use Rattle.st_types.specs.Layouts.{layout_of}
+use Rattle.st_plans.specs.Layouts.{layout_of}
 use Rattle.config.specs.Sound.{are_different}
 use Rattle.config.specs.ThinPlans.{is_thin_variable, is_thin_input, names_of, is_within, is_thin, resources_of, is_thin_program, program_from, programs_from}
 use Rattle.config.proofs.GlobalSlotLemmas.{layout_distinct}
-use Rattle.st_types.specs.Plans as plans
+use Rattle.st_plans.specs.Plans as plans
 use Rattle.std.specs.Prelude.{nat_lt, ◌^◌}
 use Rattle.std.proofs.Common.{zero, suc, arith}
 use Rattle.std.proofs.lemmas.Bool.Decides.{nat_tests}

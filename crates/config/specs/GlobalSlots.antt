@@ -2,8 +2,8 @@
 use Rattle.std.specs.Prelude.{◌≡◌, List, Bool, ◌||◌, Some, slice_get, All}
 use Rattle.std.specs.List.{list_any}
 use Rattle.st_words.specs.Paths.{same_path}
-use Rattle.st_types.specs.declared.plan.PlanVariable.{PlanVariable}
-use Rattle.st_types.specs.declared.plan.PlanInput.{PlanInput}
+use Rattle.st_plans.specs.declared.plan.PlanVariable.{PlanVariable}
+use Rattle.st_plans.specs.declared.plan.PlanInput.{PlanInput}
 use Rattle.st_types.specs.Scopes.{Name, unowned}
 use Rattle.st_types.specs.Slots.{Slot}
 use Rattle.slot_code.specs.declared.global.GlobalSlot.{GlobalSlot}

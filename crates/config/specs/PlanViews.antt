@@ -1,8 +1,8 @@
 -- The plan that the code's plan stands for.
 use Rattle.std.specs.Prelude.{List, map, slice_get, Option, Some, None}
-use Rattle.st_types.specs.declared.plan.PlanVariable.{PlanVariable}
-use Rattle.st_types.specs.Plans as plans
-use Rattle.st_types.specs.Plans.{no_single, single_input, single_global}
+use Rattle.st_plans.specs.declared.plan.PlanVariable.{PlanVariable}
+use Rattle.st_plans.specs.Plans as plans
+use Rattle.st_plans.specs.Plans.{no_single, single_input, single_global}
 use Rattle.slot_code.specs.Codes.{code_view, program_of}
 use Rattle.config.specs.declared.task.Trigger.{Trigger}
 use Rattle.config.specs.declared.task.Trigger.TheVariants.{Absent, Input, Variable}

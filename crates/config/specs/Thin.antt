@@ -20,8 +20,8 @@ use Rattle.st_trees.specs.Declarations.{Declaration, VariableBlock}
 use Rattle.st_trees.specs.Initials.{Initial}
 use Rattle.st_trees.specs.Units.{OrganisationUnit}
 use Rattle.st_trees.specs.Depths.{depth_of_stmt}
-use Rattle.st_types.specs.declared.plan.PlanVariable.{PlanVariable}
-use Rattle.st_types.specs.declared.plan.PlanInput.{PlanInput}
+use Rattle.st_plans.specs.declared.plan.PlanVariable.{PlanVariable}
+use Rattle.st_plans.specs.declared.plan.PlanInput.{PlanInput}
 use Rattle.st_types.specs.Operators.{number_of}
 use Rattle.st_types.specs.Scopes.{Name, unowned}
 use Rattle.st_types.specs.NameTypes.{kind_of_type, type_in_blocks}

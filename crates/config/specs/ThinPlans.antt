@@ -10,14 +10,14 @@ use Rattle.st_words.specs.Kinds.{same_kind}
 use Rattle.st_words.specs.Paths.{Path}
 use Rattle.st_trees.specs.declared.unit.UnitSort.TheVariants.{Program as ProgramSort}
 use Rattle.st_trees.specs.Units.{OrganisationUnit}
-use Rattle.st_types.specs.declared.plan.PlanVariable.{PlanVariable}
-use Rattle.st_types.specs.declared.plan.PlanInput.{PlanInput}
+use Rattle.st_plans.specs.declared.plan.PlanVariable.{PlanVariable}
+use Rattle.st_plans.specs.declared.plan.PlanInput.{PlanInput}
 use Rattle.st_types.specs.Scopes.{Name}
 use Rattle.st_types.specs.ResolvedUnits.{resolved}
 use Rattle.st_types.specs.Bodies.{plain_program}
-use Rattle.st_types.specs.Layouts.{record_length}
-use Rattle.st_types.specs.Plans as plans
-use Rattle.st_types.specs.Plans.{no_single}
+use Rattle.st_plans.specs.Layouts.{record_length}
+use Rattle.st_plans.specs.Plans as plans
+use Rattle.st_plans.specs.Plans.{no_single}
 use Rattle.config.specs.declared.plan.Plan.{Plan}
 use Rattle.config.specs.declared.thin_program.ThinProgram.{ThinProgram}
 use Rattle.config.specs.Sound.{are_different}

@@ -4,7 +4,7 @@ ghost use Rattle.std.specs.Prelude.{◌≡◌};
 ghost use Rattle.st_words.specs.Paths.{same_path};
 ghost use Rattle.st_types.specs.Scopes.{unowned};
 
-use st_types::{Name, Path};
+use st_words::{Name, Path};
 
 /// Whether the path is that of the global of this name.
 pub fn is_global_of(path: &Path, name: &Name) -> bool

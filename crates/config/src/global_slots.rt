@@ -6,12 +6,14 @@ ghost use Rattle.st_words.specs.Paths.{same_path};
 ghost use Rattle.st_trees.specs.DeclarationViews.{declaration_view, variable_block_view};
 ghost use Rattle.st_types.specs.Scopes.{unowned};
 ghost use Rattle.st_types.specs.Bodies.{is_external, names_of, declared_names, externals_in};
-ghost use Rattle.st_types.specs.Layouts.{layout_of};
+ghost use Rattle.st_plans.specs.Layouts.{layout_of};
 ghost use Rattle.config.specs.GlobalSlots.{is_named_in, HasSlot, HaveSlots};
 
 use crate::global_path::is_global_of;
 use slot_code::GlobalSlot;
-use st_types::{Declaration, Identifier, Name, PlanInput, PlanVariable, Section, VariableBlock};
+use st_plans::{PlanInput, PlanVariable};
+use st_trees::{Declaration, Section, VariableBlock};
+use st_words::{Identifier, Name};
 use std::alloc::{AllocError, Global};
 
 fn is_external(section: Section) -> bool

@@ -4,7 +4,7 @@ ghost use Rattle.std.specs.Prelude.{◌≡◌, ◌++◌, IfOk, codes};
 ghost use Rattle.std.specs.Fmt.{decimal};
 ghost use Rattle.config.specs.ThinPlans.{owner_of};
 
-use st_types::{Name, Owner};
+use st_words::{Name, Owner};
 use std::alloc::{AllocError, Global};
 
 /// The name of a resource by its number: R0, R1 ..

@@ -1,11 +1,11 @@
 //! The layout text of a record.
 
 ghost use Rattle.std.specs.Prelude.{◌≡◌, ◌++◌, IfOk};
-ghost use Rattle.st_types.specs.Layouts.{line_of, layout_text};
+ghost use Rattle.st_plans.specs.Layouts.{line_of, layout_text};
 
 use crate::path_text::push_path;
 use crate::plan::Plan;
-use st_types::PlanVariable;
+use st_plans::PlanVariable;
 use std::alloc::{AllocError, Global};
 
 /// Appends a line `PATH TYPE` with LF.

@@ -2,9 +2,9 @@
 
 ghost use Rattle.std.specs.Prelude.{◌≡◌, ◌++◌, IfOk, codes};
 ghost use Rattle.std.specs.Fmt.{signed_decimal};
-ghost use Rattle.st_types.specs.Layouts.{owner_text, step_text, steps_text, path_text};
+ghost use Rattle.st_plans.specs.Layouts.{owner_text, step_text, steps_text, path_text};
 
-use st_types::{Owner, Path, Step};
+use st_words::{Owner, Path, Step};
 use std::alloc::{AllocError, Global};
 
 /// RESOURCE/INSTANCE and a dot, for a variable of a program.

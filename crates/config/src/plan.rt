@@ -4,7 +4,7 @@ ghost use Rattle.std.specs.Prelude.{◌≡◌, length, filter};
 ghost use Rattle.config.specs.Sound.{PlanInvariant};
 
 use crate::task::{Program, Task};
-use st_types::{PlanInput, PlanVariable};
+use st_plans::{PlanInput, PlanVariable};
 
 /// What the runtime needs of a text: its variables, inputs, tasks and programs. It keeps the limits of the language.
 #[derive(Drop)]

@@ -4,7 +4,7 @@ ghost use Rattle.std.specs.Prelude.{◌≡◌, ◌<◌, ◌≤◌, nat_le, map, 
 ghost use Rattle.std.specs.List.{list_all};
 ghost use Rattle.st_trees.specs.UnitViews.{unit_view};
 ghost use Rattle.st_types.specs.Scopes.{contains_name};
-ghost use Rattle.st_types.specs.Layouts.{record_length};
+ghost use Rattle.st_plans.specs.Layouts.{record_length};
 ghost use Rattle.config.specs.Thin.{is_thin_unit};
 ghost use Rattle.config.specs.Sound.{are_different};
 ghost use Rattle.config.specs.ThinPlans.{is_word_byte, is_name, is_global, is_thin_variable, is_input_kind, is_thin_input, names_of, is_thin_program, programs_on, is_within, is_thin};
@@ -12,10 +12,12 @@ ghost use Rattle.config.specs.ThinPlans.{is_word_byte, is_name, is_global, is_th
 use crate::record_length::record_length;
 use crate::thin_program::ThinProgram;
 use crate::unit_check::{is_thin_kind, is_thin_unit};
-use st_types::{Kind, Name, Path, PlanInput, PlanVariable, Unit};
+use st_plans::{PlanInput, PlanVariable};
+use st_trees::Unit;
 use st_words::limits::{
     MAX_BUDGET, MAX_NAME_LENGTH, MAX_PATHS, MAX_PROGRAMS, MAX_RECORD_BODY, MAX_RESOURCES, MAX_TASKS,
 };
+use st_words::{Kind, Name, Path};
 use std::alloc::{AllocError, Global};
 
 fn is_word_byte(byte: u8) -> bool

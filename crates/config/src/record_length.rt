@@ -4,11 +4,12 @@ ghost use Rattle.std.specs.Prelude.{◌≡◌, ◌+◌, ◌≤◌, length, true,
 ghost use Rattle.std.specs.List.{list_all};
 ghost use Rattle.st_words.specs.declared.limits.TheConstants.{MAX_PATHS};
 ghost use Rattle.st_words.specs.Kinds.{row_of};
-ghost use Rattle.st_types.specs.Layouts.{line_of, width_of, record_length};
+ghost use Rattle.st_plans.specs.Layouts.{line_of, width_of, record_length};
 ghost use Rattle.config.specs.ThinPlans.{is_thin_variable};
 ghost use Rattle.config.specs.RecordLengths.{kept_length};
 
-use st_types::{Kind, PlanVariable};
+use st_plans::PlanVariable;
+use st_words::Kind;
 
 #[tactic(auto, using(crate::proofs::RecordLemmas::keyword_short))]
 fn keyword_length(kind: Kind) -> usize

@@ -1,8 +1,8 @@
 //! The types of untyped literals.
 
 ghost use Rattle.std.specs.Prelude.{◌≡◌, true, List, Some, map};
-ghost use Rattle.st_types.specs.declared.plan.PlanVariable.{PlanVariable};
-ghost use Rattle.st_types.specs.declared.plan.PlanInput.{PlanInput};
+ghost use Rattle.st_plans.specs.declared.plan.PlanVariable.{PlanVariable};
+ghost use Rattle.st_plans.specs.declared.plan.PlanInput.{PlanInput};
 ghost use Rattle.st_trees.specs.ExpressionViews.{expr_view};
 ghost use Rattle.st_trees.specs.StatementViews.{stmt_view};
 ghost use Rattle.st_trees.specs.DeclarationViews.{variable_block_view};
@@ -14,7 +14,8 @@ ghost use Rattle.config.specs.Thin.{is_thin_unit};
 ghost use Rattle.config.specs.Filled.{filled, filled_stmt};
 
 use crate::lookup::kind_in;
-use st_types::{Expr, Kind, Literal, Number, Stmt, Unit, VariableBlock};
+use st_trees::{Expr, Stmt, Unit, VariableBlock};
+use st_words::{Kind, Literal, Number};
 
 /// Gives each untyped literal of a program its type: that of the variable that is assigned.
 pub fn resolve(unit: &mut Unit)

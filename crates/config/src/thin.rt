@@ -7,7 +7,7 @@ ghost use Rattle.st_trees.specs.UnitViews.{unit_view};
 ghost use Rattle.st_types.specs.NameTypes.{Declared};
 ghost use Rattle.st_types.specs.ResolvedUnits.{resolved};
 ghost use Rattle.st_types.specs.Slots.{Slot, IsLayout};
-ghost use Rattle.st_types.specs.Layouts.{layout_of};
+ghost use Rattle.st_plans.specs.Layouts.{layout_of};
 ghost use Rattle.config.specs.Thin.{is_thin_unit};
 ghost use Rattle.config.specs.GlobalSlots.{HaveSlots};
 ghost use Rattle.config.specs.PlanViews.{program_view, plan_view};
@@ -23,7 +23,8 @@ use crate::task::{Program, Task, Trigger};
 use crate::thin_program::ThinProgram;
 use crate::thin_unit::ThinUnit;
 use slot_code::{Code, copied_globals};
-use st_types::{PlanInput, PlanVariable, Unit};
+use st_plans::{PlanInput, PlanVariable};
+use st_trees::Unit;
 use std::alloc::{AllocError, Global};
 use std::sync::Arc;
 

@@ -3,7 +3,7 @@
 ghost use Rattle.slot_code.specs.Globals.{IsPlain};
 
 use slot_code::GlobalSlot;
-use st_types::Unit;
+use st_trees::Unit;
 use std::sync::Arc;
 
 /// A resolved program, and the slots of its externals.

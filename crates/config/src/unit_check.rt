@@ -12,12 +12,13 @@ ghost use Rattle.config.specs.Thin.{is_thin_kind, is_variable_of, is_input_of, i
 
 use crate::global_path::is_global_of;
 use crate::lookup::kind_in;
-use st_types::lookup::{kind_of_type, type_in_blocks};
-use st_types::{
-    BinaryOperator, Declaration, Expr, Identifier, Kind, Literal, Name, Number, PlanInput,
-    PlanVariable, Section, SimpleType, Stmt, Unit, UnitSort, VariableBlock, VariableType,
-    number_of,
+use st_plans::{PlanInput, PlanVariable};
+use st_trees::{
+    Declaration, Expr, Section, SimpleType, Stmt, Unit, UnitSort, VariableBlock, VariableType,
 };
+use st_types::lookup::{kind_of_type, type_in_blocks};
+use st_types::number_of;
+use st_words::{BinaryOperator, Identifier, Kind, Literal, Name, Number};
 
 /// Whether a variable of this version may be of the type.
 pub fn is_thin_kind(kind: Kind) -> bool

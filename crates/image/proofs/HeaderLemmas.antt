@@ -2,7 +2,7 @@
 use Rattle.std.proofs.Common.{◌≡◌, ◌∙◌, sym, refl, ap, ℕ, suc, zero, ◌+◌, ◌<◌, List, [], ◌∷◌, length, take, map, get_or, Some, option_map, codes, arith}
 use Rattle.std.specs.Char.{to_ascii_lowercase}
 use Rattle.csv.specs.Records.{field_at}
-use Rattle.st_types.specs.declared.plan.PlanInput.{PlanInput}
+use Rattle.st_plans.specs.declared.plan.PlanInput.{PlanInput}
 use Rattle.image.specs.Plants.{Fields, columns, without_case, IsHeader}
 use Rattle.image.proofs.FieldLemmas.{field_at-map, field_at-cons, field_at-first, take_same}
 

@@ -7,8 +7,8 @@ use Rattle.csv.specs.Records.{Row, fields_of}
 use Rattle.csv.specs.Reading.{default_config}
 use Rattle.csv.specs.declared.reader.Reader.{Reader}
 use Rattle.csv.specs.declared.reader.Trim.TheVariants as trim
-use Rattle.st_types.specs.declared.plan.PlanInput.{PlanInput}
-use Rattle.st_types.specs.Rows.{Latch}
+use Rattle.st_plans.specs.declared.plan.PlanInput.{PlanInput}
+use Rattle.st_plans.specs.Rows.{Latch}
 use Rattle.image.specs.Plants.{AreRowsOf, Fields, IsHeader, IsNotLater, IsPlant, IsRowOf, spelled}
 use Rattle.image.specs.Faults.{HasNoHeader, HasNoRise, HasTooManyRows, HasWrongField, IsNoRow}
 use Rattle.image.specs.Records.{OfRecords}

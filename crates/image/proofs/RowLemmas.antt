@@ -7,8 +7,8 @@ use Rattle.csv.specs.Records.{field_at}
 use Rattle.st_words.specs.declared.kind.Kind.{Kind}
 use Rattle.st_words.specs.Kinds.{same_kind, holds}
 use Rattle.st_words.specs.Values.{Datum}
-use Rattle.st_types.specs.declared.plan.PlanInput.{PlanInput}
-use Rattle.st_types.specs.Plans.{holds_each}
+use Rattle.st_plans.specs.declared.plan.PlanInput.{PlanInput}
+use Rattle.st_plans.specs.Plans.{holds_each}
 use Rattle.image.specs.Numbers.{SpellsValueAt}
 use Rattle.image.specs.Plants.{Fields, spelled_values}
 use Rattle.image.proofs.FieldLemmas.{take_field, field_at-behind, field_at-cons}

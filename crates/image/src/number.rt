@@ -5,8 +5,8 @@ ghost use Rattle.std.specs.Fmt.{decimal, signed_decimal};
 ghost use Rattle.st_words.specs.Values.{Datum};
 ghost use Rattle.image.specs.Numbers.{IsShort, SpellsValue, may_begin};
 
-use st_types::{Kind, Value};
 use st_words::limits::MOMENT_LIMIT;
+use st_words::{Kind, Value};
 
 /// Whether the bytes begin as a decimal number does: with another digit than 0, or they are a 0 alone.
 fn may_begin(field: &[u8]) -> bool

@@ -2,7 +2,7 @@
 
 ghost use Rattle.std.specs.Prelude.{◌≡◌, ◌≤◌, ◌<◌, ◌++◌, ◌∷◌, [], ◌⊎◌, true, if◌then◌else◌, length, List, MatchBool, OnOk, OnErr, IfOk, IfErr, IsErrOf, IfSome};
 ghost use Rattle.csv.specs.Records.{fields_of};
-ghost use Rattle.st_types.specs.Rows.{Latch};
+ghost use Rattle.st_plans.specs.Rows.{Latch};
 ghost use Rattle.image.specs.Plants.{AreRowsOf, IsLater, IsNotLater, IsPlant, IsRowOf, spelled};
 ghost use Rattle.csv.specs.Reading.{error_kind, is_io, stops_reader};
 ghost use Rattle.image.specs.Faults.{HasNoHeader, HasNoRise, HasTooManyRows, HasWrongField, IsNoRow};
@@ -13,7 +13,7 @@ use crate::plant_error::PlantError;
 use crate::row::row;
 use config::Plan;
 use csv::{ByteRecord, ReaderBuilder};
-use st_types::{PlanInput, Row};
+use st_plans::{PlanInput, Row};
 use st_words::limits::MAX_ROWS;
 use std::alloc::Global;
 use std::io::Read;

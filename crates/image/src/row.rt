@@ -5,7 +5,7 @@ ghost use Rattle.std.specs.Fmt.{decimal};
 ghost use Rattle.st_words.specs.declared.limits.TheConstants.{MOMENT_LIMIT};
 ghost use Rattle.csv.specs.Records.{field_at, fields_of};
 ghost use Rattle.st_words.specs.Values.{Datum};
-ghost use Rattle.st_types.specs.Plans.{holds_each};
+ghost use Rattle.st_plans.specs.Plans.{holds_each};
 ghost use Rattle.image.specs.Numbers.{SpellsValueAt};
 ghost use Rattle.image.specs.Plants.{IsRowOf, spelled, spelled_values};
 ghost use Rattle.image.specs.Faults.{IsNoRow};
@@ -13,7 +13,8 @@ ghost use Rattle.image.specs.Faults.{IsNoRow};
 use crate::number::{moment, value};
 use crate::plant_error::PlantError;
 use csv::ByteRecord;
-use st_types::{Kind, PlanInput, Row, Value};
+use st_plans::{PlanInput, Row};
+use st_words::{Kind, Value};
 use std::alloc::Global;
 
 /// The value of the type that the field at this column spells.

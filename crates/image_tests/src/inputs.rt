@@ -1,7 +1,9 @@
 //! Plans of inputs alone.
 
 use config::{Plan, ThinProgram};
-use st_types::{Kind, Name, Path, PlanInput, PlanVariable, Unit};
+use st_plans::{PlanInput, PlanVariable};
+use st_trees::Unit;
+use st_words::{Kind, Name, Path};
 use std::alloc::{AllocError, Global};
 
 /// The type of an input that is written so; BOOL where it is another word.

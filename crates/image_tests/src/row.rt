@@ -5,7 +5,7 @@ use crate::inputs::plan;
 use config::Plan;
 use image::read_plant;
 use scene_tables::unescaped;
-use st_types::Row;
+use st_plans::Row;
 use std::alloc::{AllocError, Global};
 use std::fmt::Write;
 use std::io::Read;

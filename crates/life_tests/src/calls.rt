@@ -2,7 +2,8 @@
 
 use crate::row_error::RowError;
 use commit_lock::Event;
-use st_types::{Row, Value};
+use st_plans::Row;
+use st_words::Value;
 use std::alloc::{AllocError, Global};
 
 /// A number of a call, `3`, or `3+10` where it grows by 10 each time that the calls are made.

@@ -5,7 +5,8 @@ use crate::row_error::RowError;
 use commit_lock::{Answer, Core, Refusal, StartMode};
 use disk::SimDisk;
 use slot_run::{Execution, Snapshot, run};
-use st_types::{Row, Value};
+use st_plans::Row;
+use st_words::Value;
 use std::alloc::Global;
 
 /// The moment of the row.

@@ -7,8 +7,9 @@ use crate::row_error::RowError;
 use commit_lock::{Core, Event, Reply, StartFault, StartMode, drive};
 use disk::{Disk, SimDisk};
 use st_build::{Plan, build};
-use st_types::{Name, Outcome, Path, Value};
+use st_types::Outcome;
 use st_words::limits::MAX_LOG_ROOM;
+use st_words::{Name, Path, Value};
 use std::alloc::{AllocError, Global};
 use std::sync::Arc;
 

@@ -4,11 +4,11 @@ use Rattle.std.proofs.lemmas.List.Sums.{count_by_more_no, count_by_more_yes, sum
 use Rattle.std.proofs.lemmas.List.{get_or_append_left, get_or_push, length-append}
 use Rattle.std.proofs.lemmas.Bool.{cases_lt}
 use Rattle.std.proofs.lemmas.Option.{slice_get_cases}
-use Rattle.st_types.specs.declared.entry.Entry.{Entry}
-use Rattle.st_types.specs.declared.entry.Entry.TheVariants.{Row, Done}
-use Rattle.st_types.specs.Due.{HasOverruns}
-use Rattle.st_types.specs.Logs.{Past, beginning, outcomes_from, outcomes_of, with_entry}
-use Rattle.st_types.specs.Plans.{Plan, schedules_of}
+use Rattle.st_plans.specs.declared.entry.Entry.{Entry}
+use Rattle.st_plans.specs.declared.entry.Entry.TheVariants.{Row, Done}
+use Rattle.st_plans.specs.Due.{HasOverruns}
+use Rattle.st_plans.specs.Logs.{Past, beginning, outcomes_from, outcomes_of, with_entry}
+use Rattle.st_plans.specs.Plans.{Plan, schedules_of}
 use Rattle.st_types.specs.Stores.{Store}
 use Rattle.config.specs.PlanViews.{plan_view}
 use Rattle.serial_core.specs.Steps.{State, made}

@@ -1,10 +1,10 @@
 -- How a life goes on.
 use Rattle.std.proofs.Common.{◌≡◌, ◌∙◌, ap, sym, subst, ℕ, List, [], ◌∷◌, ◌++◌, Result, Ok, Err, OnOk}
 use Rattle.std.proofs.lemmas.List.{append-nil, append_assoc}
-use Rattle.st_types.specs.declared.entry.Entry.TheVariants.{Row, Done}
-use Rattle.st_types.specs.Rows.{Latch}
-use Rattle.st_types.specs.Logs.{past_of}
-use Rattle.st_types.proofs.LogLemmas.{past_of-add}
+use Rattle.st_plans.specs.declared.entry.Entry.TheVariants.{Row, Done}
+use Rattle.st_plans.specs.Rows.{Latch}
+use Rattle.st_plans.specs.Logs.{past_of}
+use Rattle.st_plans.proofs.LogLemmas.{past_of-add}
 use Rattle.config.specs.declared.plan.Plan.{Plan}
 use Rattle.config.specs.PlanViews.{plan_view}
 use Rattle.slot_run.specs.Effects.{Effect}

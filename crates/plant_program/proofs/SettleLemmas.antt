@@ -3,7 +3,7 @@ use Rattle.std.proofs.Common.{◌≡◌, ◌∙◌, ap, sym, subst, ℕ, List, l
 use Rattle.serial_core.specs.Steps.{State}
 use Rattle.commit_lock.specs.Cores.{CoreView}
 use Rattle.config.specs.declared.plan.Plan.{Plan}
-use Rattle.st_types.specs.Rows.{Latch}
+use Rattle.st_plans.specs.Rows.{Latch}
 use Rattle.image.specs.Plants.{AreRowsOf}
 use Rattle.commit_lock.specs.Starting.{IsNew}
 use Rattle.plant_program.specs.Lives.{IsReport}

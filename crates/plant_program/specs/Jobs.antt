@@ -2,7 +2,7 @@
 use Rattle.std.specs.Prelude.{◌≡◌, ℕ, List, length, IsSome, IsNone, ◌≢◌}
 use Rattle.plant_words.specs.declared.command.TheConstants.{DEFAULT_BUDGET}
 use Rattle.st_trees.specs.Sources.{Source}
-use Rattle.st_types.specs.Rows.{Latch}
+use Rattle.st_plans.specs.Rows.{Latch}
 use Rattle.config.specs.declared.plan.Plan.{Plan}
 use Rattle.config.specs.PlanViews.{plan_view}
 use Rattle.image.specs.Plants.{AreRowsOf}

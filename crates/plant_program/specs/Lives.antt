@@ -1,15 +1,15 @@
 -- What is told of a life.
 use Rattle.std.specs.Prelude.{◌≡◌, ◌-◌, ◌^◌, ◌<◌, ◌≤◌, ℕ, min, List, Bool, true, false, length, sum, count_by, slice_index, Option, Some, None}
-use Rattle.st_types.specs.declared.entry.Entry.{Entry}
-use Rattle.st_types.specs.declared.entry.Entry.TheVariants.{Row, Done}
-use Rattle.st_types.specs.declared.entry.Outcome.{Outcome}
-use Rattle.st_types.specs.declared.entry.Outcome.TheVariants.{Done as Ended, Faulted}
-use Rattle.st_types.specs.Logs.{outcomes_of}
-use Rattle.st_types.specs.Due.{HasOverruns}
-use Rattle.st_types.specs.Plans.{schedules_of}
+use Rattle.st_plans.specs.declared.entry.Entry.{Entry}
+use Rattle.st_plans.specs.declared.entry.Entry.TheVariants.{Row, Done}
+use Rattle.st_types.specs.declared.outcome.Outcome.{Outcome}
+use Rattle.st_types.specs.declared.outcome.Outcome.TheVariants.{Done as Ended, Faulted}
+use Rattle.st_plans.specs.Logs.{outcomes_of}
+use Rattle.st_plans.specs.Due.{HasOverruns}
+use Rattle.st_plans.specs.Plans.{schedules_of}
 use Rattle.config.specs.PlanViews.{plan_view}
 use Rattle.st_types.specs.Scopes.{seen}
-use Rattle.st_types.specs.declared.plan.PlanVariable.{PlanVariable}
+use Rattle.st_plans.specs.declared.plan.PlanVariable.{PlanVariable}
 use Rattle.serial_core.specs.Steps.{State, inputs_now, made}
 use Rattle.plant_program.specs.declared.report.Counts.{Counts}
 use Rattle.plant_program.specs.Reports.{report_text}

@@ -1,6 +1,6 @@
 -- How a life goes on, and of what it is the run.
 use Rattle.std.specs.Prelude.{◌≡◌, ◌++◌, List}
-use Rattle.st_types.specs.Rows.{Latch}
+use Rattle.st_plans.specs.Rows.{Latch}
 use Rattle.config.specs.declared.plan.Plan.{Plan}
 use Rattle.serial_core.specs.Steps.{State, made}
 

@@ -3,8 +3,8 @@ use Rattle.std.specs.Prelude.{ℕ, List, [], ◌∷◌, ◌++◌, Option, Some, 
 use Rattle.std.specs.Fmt.{decimal}
 use Rattle.st_words.specs.Values.{Datum}
 use Rattle.st_words.specs.Paths.{Path}
-use Rattle.st_types.specs.Layouts.{path_text}
-use Rattle.st_types.specs.declared.plan.PlanVariable.{PlanVariable}
+use Rattle.st_plans.specs.Layouts.{path_text}
+use Rattle.st_plans.specs.declared.plan.PlanVariable.{PlanVariable}
 use Rattle.st_print.specs.Spelling.{value_text}
 use Rattle.plant_program.specs.declared.report.Counts.{Counts}
 

@@ -10,7 +10,8 @@ use disk::SimDisk;
 use plant_words::DEFAULT_BUDGET;
 use serial_core::Refusal as SerialRefusal;
 use st_build::build;
-use st_types::{Name, Path, Row};
+use st_plans::Row;
+use st_words::{Name, Path};
 use std::alloc::Global;
 use std::sync::Arc;
 

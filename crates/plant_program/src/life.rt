@@ -1,7 +1,7 @@
 //! What is told of a life.
 
 ghost use Rattle.std.specs.Prelude.{◌≡◌, IfOk, Some, option_map, slice_get, unwrap_or, false, length};
-ghost use Rattle.st_types.specs.Logs.{outcomes_of};
+ghost use Rattle.st_plans.specs.Logs.{outcomes_of};
 ghost use Rattle.config.specs.PlanViews.{plan_view};
 ghost use Rattle.plant_program.specs.Lives.{done_count, fault_count, HasOverrunsInAll, IsReport, is_faulted, is_row, row_count};
 
@@ -9,7 +9,9 @@ use crate::report::{Counts, Findings, write_report};
 use commit_lock::Core;
 use config::Plan;
 use disk::Disk;
-use st_types::{Entry, Outcome, Path, Value};
+use st_plans::Entry;
+use st_types::Outcome;
+use st_words::{Path, Value};
 use std::alloc::{AllocError, Global};
 
 /// Whether the entry of that number is a row.

@@ -6,8 +6,9 @@ ghost use Rattle.st_words.specs.Values.{Datum};
 ghost use Rattle.st_words.specs.Paths as paths;
 ghost use Rattle.plant_program.specs.Reports.{counts_text, report_text, value_line, variable_line, variables_text};
 
+use st_plans::PlanVariable;
 use st_print::{write_path, write_value};
-use st_types::{Path, PlanVariable, Value};
+use st_words::{Path, Value};
 use std::io;
 use std::io::Write;
 

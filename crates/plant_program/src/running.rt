@@ -18,7 +18,7 @@ use disk::Disk;
 use image::{PlantError, read_plant};
 use plant_words::{Pace, RunJob, Start};
 use retain_store::StoreFault;
-use st_types::Row;
+use st_plans::Row;
 use st_words::limits::MAX_LOG_ROOM;
 use std::alloc::Global;
 use std::sync::Arc;

@@ -8,7 +8,7 @@ use commit_lock::{Answer, Core, Refusal};
 use disk::Disk;
 use serial_core::Refusal as SerialRefusal;
 use slot_run::{Snapshot, run};
-use st_types::Row;
+use st_plans::Row;
 use std::alloc::Global;
 
 const NO_MEMORY: Refusal = Refusal::Serial(SerialRefusal::NoMemory);

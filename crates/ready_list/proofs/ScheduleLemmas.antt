@@ -1,7 +1,7 @@
 -- The schedules of the code's plan are those of the plan that it stands for.
 use Rattle.std.proofs.Common.{◌≡◌, ℕ, zero, suc, List, [], ◌∷◌, map, refl}
-use Rattle.st_types.specs.declared.plan.PlanVariable.{PlanVariable}
-use Rattle.st_types.specs.Plans.{task_at, schedule_of}
+use Rattle.st_plans.specs.declared.plan.PlanVariable.{PlanVariable}
+use Rattle.st_plans.specs.Plans.{task_at, schedule_of}
 use Rattle.config.specs.declared.task.Task.{Task}
 use Rattle.config.specs.declared.task.Program.{Program}
 use Rattle.config.specs.PlanViews.{task_view, program_view}

@@ -1,6 +1,6 @@
 -- Where the programs of the code's plan run.
 use Rattle.std.specs.Prelude.{ℕ, List, slice_index_or}
-use Rattle.st_types.specs.declared.plan.Schedule.{Schedule}
+use Rattle.st_plans.specs.declared.plan.Schedule.{Schedule}
 use Rattle.config.specs.declared.task.Trigger.TheVariants.{Absent}
 use Rattle.config.specs.declared.task.Task.{Task}
 use Rattle.config.specs.declared.task.Program.{Program}

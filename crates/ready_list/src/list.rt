@@ -2,8 +2,8 @@
 
 ghost use Rattle.std.specs.Prelude.{◌≡◌, ◌+◌, ◌≤◌, ◌<◌, ◌^◌, ◌↔◌, ℕ, IsTrue, Some, None, false, if◌then◌else◌, length, IfOk, MatchOption, All};
 ghost use Rattle.st_words.specs.declared.limits.TheConstants.{MOMENT_LIMIT};
-ghost use Rattle.st_types.specs.Due.{History, Waits, NoneWaits, IsBest, HasOverruns, with_row, no_history};
-ghost use Rattle.st_types.specs.Plans.{schedules_of as schedules_in};
+ghost use Rattle.st_plans.specs.Due.{History, Waits, NoneWaits, IsBest, HasOverruns, with_row, no_history};
+ghost use Rattle.st_plans.specs.Plans.{schedules_of as schedules_in};
 ghost use Rattle.config.specs.PlanViews.{plan_view};
 ghost use Rattle.ready_list.specs.Ready.{stand_at, IsReadyOf, Removes};
 
@@ -11,7 +11,7 @@ use crate::order::first_of;
 use crate::schedules::schedules_of;
 use crate::standing::{NewRow, Standing, mark_all, taken};
 use config::Plan;
-use st_types::{Activation, Schedule};
+use st_plans::{Activation, Schedule};
 use std::alloc::{AllocError, Global};
 use std::marker::Model;
 

@@ -1,11 +1,11 @@
 //! What comes first of what waits.
 
 ghost use Rattle.std.specs.Prelude.{◌≡◌, length};
-ghost use Rattle.st_types.specs.Due.{schedule_at as place_in, sooner as sooner_in};
+ghost use Rattle.st_plans.specs.Due.{schedule_at as place_in, sooner as sooner_in};
 ghost use Rattle.ready_list.specs.Ready.{offered as offered_of, sooner_of as sooner_among, IsFirst};
 
 use crate::standing::Standing;
-use st_types::{Activation, Schedule};
+use st_plans::{Activation, Schedule};
 
 /// What waits of the program, if it runs on the resource.
 fn offered(

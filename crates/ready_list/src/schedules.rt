@@ -4,7 +4,7 @@ ghost use Rattle.std.specs.Prelude.{◌≡◌, map, IfOk};
 ghost use Rattle.ready_list.specs.Schedules.{code_schedule};
 
 use config::{Program, Task};
-use st_types::Schedule;
+use st_plans::Schedule;
 use std::alloc::{AllocError, Global};
 
 /// Where and how often a program runs.

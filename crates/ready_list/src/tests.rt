@@ -3,7 +3,7 @@
 ghost use Rattle.std.specs.Prelude.{◌≡◌, IfOk, length};
 
 use crate::list::{ReadyList, list_of};
-use st_types::Schedule;
+use st_plans::Schedule;
 use std::alloc::{AllocError, Global};
 use std::test::Fail;
 

@@ -14,7 +14,7 @@ use Rattle.st_words.specs.declared.kind.Kind.TheVariants.{Sint, Int, Dint, Lint,
 use Rattle.st_words.specs.Values.{Datum}
 use Rattle.st_words.specs.Kinds.{holds}
 use Rattle.retain_store.specs.LineLaws.{type_of}
-use Rattle.st_types.specs.Layouts.{width_of}
+use Rattle.st_plans.specs.Layouts.{width_of}
 use Rattle.retain_store.specs.Records.{wide_of, value_bytes}
 
 -- the last bytes of eight

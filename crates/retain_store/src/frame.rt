@@ -9,7 +9,7 @@ ghost use Rattle.retain_store.specs.Kept.{content_of};
 
 use crate::format::HEADER_BYTES;
 use crate::spelling::spell;
-use st_types::Value;
+use st_words::Value;
 
 /// Writes a header.
 fn put_header(header: &mut [u8], generation: u64, size: u32)

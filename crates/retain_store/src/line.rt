@@ -5,7 +5,7 @@ ghost use Rattle.std.specs.List.{list_all};
 ghost use Rattle.retain_store.specs.Records.{is_path_text, is_visible};
 ghost use Rattle.retain_store.specs.Reading.{cut, kind_of, line_at};
 
-use st_types::Kind;
+use st_words::Kind;
 
 const KINDS: [Kind; 14] = [
     Kind::Sint,

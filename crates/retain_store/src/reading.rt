@@ -7,7 +7,7 @@ ghost use Rattle.retain_store.specs.Reading.{AreVariables, variable_at, variable
 
 use crate::line::line_at;
 use crate::value_bytes::value_at;
-use st_types::Value;
+use st_words::Value;
 
 /// A retained variable: its path, and its value.
 #[derive(Clone, Copy)]

@@ -10,7 +10,7 @@ use crate::format::{MAX_LAYOUT_BYTES, MAX_LINES};
 use crate::parts::parts_at;
 use crate::paths::{LineRoom, are_distinct};
 use crate::reading::read_variables;
-use st_types::Value;
+use st_words::Value;
 use st_words::limits::MAX_RECORD_BODY;
 use std::alloc::{AllocError, Global};
 use std::marker::Model;

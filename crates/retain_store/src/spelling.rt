@@ -6,7 +6,7 @@ ghost use Rattle.st_words.specs.declared.limits.TheConstants.{MOMENT_LIMIT};
 ghost use Rattle.retain_store.specs.Records.{moment_code, value_bytes, record_bytes};
 
 use crate::value_bytes::{bits, width};
-use st_types::Value;
+use st_words::Value;
 
 /// Writes the record to the front of the buffer, and gives its length in bytes. It takes no memory.
 pub(crate) fn spell(

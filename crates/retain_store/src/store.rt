@@ -19,7 +19,7 @@ use crate::loading::recover;
 use crate::paths::LineRoom;
 use crate::record::Record;
 use disk::Disk;
-use st_types::Value;
+use st_words::Value;
 use std::alloc::{AllocError, Global};
 use std::marker::Model;
 

@@ -2,26 +2,26 @@
 use Rattle.std.proofs.Common.{◌≡◌, ℕ, Bool, true, false, IsTrue, ◌↔◌, List, [], ◌∷◌, ◌++◌, length, map, Option, Some, None, option_map, slice_get, slice_index, refl, sym, ap, subst, ◌∙◌, arith, length-append}
 use Rattle.std.proofs.lemmas.Option.{slice_get-map}
 use Rattle.st_words.specs.Values.{Datum}
-use Rattle.st_types.specs.declared.entry.Entry.{Entry}
-use Rattle.st_types.specs.declared.entry.Entry.TheVariants.{Row, Done}
-use Rattle.st_types.specs.declared.entry.Activation.{Activation}
-use Rattle.st_types.specs.declared.entry.Outcome.{Outcome}
-use Rattle.st_types.specs.Rows.{Latch}
+use Rattle.st_plans.specs.declared.entry.Entry.{Entry}
+use Rattle.st_plans.specs.declared.entry.Entry.TheVariants.{Row, Done}
+use Rattle.st_plans.specs.declared.entry.Activation.{Activation}
+use Rattle.st_types.specs.declared.outcome.Outcome.{Outcome}
+use Rattle.st_plans.specs.Rows.{Latch}
 use Rattle.st_words.specs.declared.kind.Kind.{Kind}
-use Rattle.st_types.specs.declared.plan.PlanVariable.{PlanVariable}
-use Rattle.st_types.specs.declared.plan.PlanInput.{PlanInput}
+use Rattle.st_plans.specs.declared.plan.PlanVariable.{PlanVariable}
+use Rattle.st_plans.specs.declared.plan.PlanInput.{PlanInput}
 use Rattle.st_types.specs.Stores.{Store, shape_of}
 use Rattle.st_types.proofs.RunLemmas.{store_after_shape}
 use Rattle.st_types.specs.Runs as runs
 use Rattle.st_types.specs.Runs.{outcome_of, store_after}
 use Rattle.st_types.specs.Slots as slots
 use Rattle.st_types.specs.Slots.{agrees, written, variables_in, inputs_in}
-use Rattle.st_types.specs.Layouts.{layout_of}
-use Rattle.st_types.specs.Due.{History, Waits, with_run}
-use Rattle.st_types.specs.Plans as plans
-use Rattle.st_types.specs.Plans.{schedules_of, image_of, program_at, after_run}
-use Rattle.st_types.specs.Logs.{Past, past_of, row_at, outcome_at, outcomes_of, done_follows}
-use Rattle.st_types.proofs.LogLemmas.{past_of-add, IsLegal-add}
+use Rattle.st_plans.specs.Layouts.{layout_of}
+use Rattle.st_plans.specs.Due.{History, Waits, with_run}
+use Rattle.st_plans.specs.Plans as plans
+use Rattle.st_plans.specs.Plans.{schedules_of, image_of, program_at, after_run}
+use Rattle.st_plans.specs.Logs.{Past, past_of, row_at, outcome_at, outcomes_of, done_follows}
+use Rattle.st_plans.proofs.LogLemmas.{past_of-add, IsLegal-add}
 use Rattle.slot_code.specs.declared.code.Code.{Code}
 use Rattle.slot_code.specs.Globals.{Fits}
 use Rattle.slot_code.specs.Codes.{CodeView, code_view, program_of}

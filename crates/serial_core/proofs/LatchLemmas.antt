@@ -7,18 +7,18 @@ use Rattle.std.proofs.lemmas.Bool.Decides.{eqb_tells}
 use Rattle.std.proofs.lemmas.Bool.{ltb-true}
 use Rattle.st_words.specs.declared.limits.TheConstants.{MOMENT_LIMIT}
 use Rattle.st_words.specs.Values.{Datum}
-use Rattle.st_types.specs.declared.entry.Entry.{Entry}
-use Rattle.st_types.specs.declared.entry.Entry.TheVariants.{Row}
-use Rattle.st_types.specs.declared.entry.Outcome.{Outcome}
-use Rattle.st_types.specs.declared.plan.PlanVariable.{PlanVariable}
-use Rattle.st_types.specs.declared.plan.PlanInput.{PlanInput}
-use Rattle.st_types.specs.Rows.{Latch}
+use Rattle.st_plans.specs.declared.entry.Entry.{Entry}
+use Rattle.st_plans.specs.declared.entry.Entry.TheVariants.{Row}
+use Rattle.st_types.specs.declared.outcome.Outcome.{Outcome}
+use Rattle.st_plans.specs.declared.plan.PlanVariable.{PlanVariable}
+use Rattle.st_plans.specs.declared.plan.PlanInput.{PlanInput}
+use Rattle.st_plans.specs.Rows.{Latch}
 use Rattle.st_types.specs.Slots.{IsLayout, variables_in}
-use Rattle.st_types.specs.Layouts.{layout_of}
-use Rattle.st_types.specs.Due.{History, with_row}
-use Rattle.st_types.specs.Plans.{samples_of, sample_of, is_on, fits}
-use Rattle.st_types.specs.Logs.{past_of, row_at, is_later, row_follows}
-use Rattle.st_types.proofs.LogLemmas.{past_of-add, IsLegal-add, last_moment-add}
+use Rattle.st_plans.specs.Layouts.{layout_of}
+use Rattle.st_plans.specs.Due.{History, with_row}
+use Rattle.st_plans.specs.Plans.{samples_of, sample_of, is_on, fits}
+use Rattle.st_plans.specs.Logs.{past_of, row_at, is_later, row_follows}
+use Rattle.st_plans.proofs.LogLemmas.{past_of-add, IsLegal-add, last_moment-add}
 use Rattle.config.specs.declared.task.Trigger.{Trigger}
 use Rattle.config.specs.declared.task.Trigger.TheVariants.{Absent, Input, Variable}
 use Rattle.config.specs.declared.task.Task.{Task}

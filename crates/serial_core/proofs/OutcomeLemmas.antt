@@ -2,11 +2,11 @@
 use Rattle.std.proofs.Common.{◌≡◌, ℕ, suc, Bool, List, [], ◌∷◌, ◌++◌, length, Option, refl, ap, ◌∙◌}
 use Rattle.std.specs.List.{fold}
 use Rattle.st_words.specs.Values.{Datum}
-use Rattle.st_types.specs.declared.entry.Entry.{Entry}
-use Rattle.st_types.specs.declared.entry.Outcome.{Outcome}
+use Rattle.st_plans.specs.declared.entry.Entry.{Entry}
+use Rattle.st_types.specs.declared.outcome.Outcome.{Outcome}
 use Rattle.st_types.specs.Stores.{Store}
-use Rattle.st_types.specs.Plans as plans
-use Rattle.st_types.specs.Logs.{Past, past_of, with_entry, outcome_at, outcomes_from, beginning, outcomes_of}
+use Rattle.st_plans.specs.Plans as plans
+use Rattle.st_plans.specs.Logs.{Past, past_of, with_entry, outcome_at, outcomes_from, beginning, outcomes_of}
 use Rattle.config.specs.declared.plan.Plan.{Plan}
 use Rattle.config.specs.PlanViews.{plan_view}
 use Rattle.ready_list.specs.Ready.{Ready}

@@ -2,11 +2,11 @@
 use Rattle.std.proofs.Common.{◌≡◌, ℕ, zero, suc, List, [], ◌∷◌, ◌++◌, length, map, slice_set, refl, sym, ap, ◌∙◌, arith, length-append}
 use Rattle.std.proofs.lemmas.List.{length-map, length-set}
 use Rattle.st_words.specs.Values.{Datum}
-use Rattle.st_types.specs.declared.plan.PlanVariable.{PlanVariable}
-use Rattle.st_types.specs.declared.plan.PlanInput.{PlanInput}
+use Rattle.st_plans.specs.declared.plan.PlanVariable.{PlanVariable}
+use Rattle.st_plans.specs.declared.plan.PlanInput.{PlanInput}
 use Rattle.st_types.specs.Slots.{Cell, variables_in, inputs_in, written}
-use Rattle.st_types.specs.Layouts.{variable_slot, input_slot, layout_of}
-use Rattle.st_types.specs.Plans.{image_of}
+use Rattle.st_plans.specs.Layouts.{variable_slot, input_slot, layout_of}
+use Rattle.st_plans.specs.Plans.{image_of}
 
 pub no_variables : (is : List PlanInput) (im : List Datum) → variables_in (map input_slot is) im ≡ []
 no_variables [] im = refl

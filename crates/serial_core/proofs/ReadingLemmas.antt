@@ -8,18 +8,18 @@ use Rattle.std.proofs.lemmas.List.{length-map}
 use Rattle.std.proofs.lemmas.Option.{slice_get_read, slice_get-map}
 use Rattle.st_words.specs.Values.{Datum}
 use Rattle.st_words.specs.Paths.{Path, same_path}
-use Rattle.st_types.specs.declared.entry.Entry.{Entry}
-use Rattle.st_types.specs.declared.entry.Entry.TheVariants.{Row}
-use Rattle.st_types.specs.declared.entry.Outcome.{Outcome}
-use Rattle.st_types.specs.declared.plan.PlanVariable.{PlanVariable}
-use Rattle.st_types.specs.declared.plan.PlanInput.{PlanInput}
-use Rattle.st_types.specs.Rows.{Latch}
+use Rattle.st_plans.specs.declared.entry.Entry.{Entry}
+use Rattle.st_plans.specs.declared.entry.Entry.TheVariants.{Row}
+use Rattle.st_types.specs.declared.outcome.Outcome.{Outcome}
+use Rattle.st_plans.specs.declared.plan.PlanVariable.{PlanVariable}
+use Rattle.st_plans.specs.declared.plan.PlanInput.{PlanInput}
+use Rattle.st_plans.specs.Rows.{Latch}
 use Rattle.st_types.specs.Stores.{Store, get}
 use Rattle.st_types.specs.Scopes.{seen}
 use Rattle.st_types.specs.Slots.{variables_in}
-use Rattle.st_types.specs.Layouts.{layout_of}
-use Rattle.st_types.specs.Plans.{image_of, initial_value}
-use Rattle.st_types.specs.Logs.{past_of, row_at}
+use Rattle.st_plans.specs.Layouts.{layout_of}
+use Rattle.st_plans.specs.Plans.{image_of, initial_value}
+use Rattle.st_plans.specs.Logs.{past_of, row_at}
 use Rattle.config.specs.declared.plan.Plan.{Plan}
 use Rattle.config.specs.PlanViews.{plan_view}
 use Rattle.ready_list.specs.Ready.{Ready}

@@ -2,10 +2,10 @@
 use Rattle.std.proofs.Common.{◌≡◌, ℕ, List, [], map, length, Option, Some, sym, ap, ◌∙◌}
 use Rattle.std.specs.List.{AllByRecursion}
 use Rattle.st_words.specs.Values.{Datum, IsHeld}
-use Rattle.st_types.specs.declared.entry.Entry.{Entry}
+use Rattle.st_plans.specs.declared.entry.Entry.{Entry}
 use Rattle.st_types.specs.Stores.{Store}
-use Rattle.st_types.specs.Restarts.{kept, warm_start, written_over}
-use Rattle.st_types.specs.Plans.{initial_store}
+use Rattle.st_plans.specs.Restarts.{kept, warm_start, written_over}
+use Rattle.st_plans.specs.Plans.{initial_store}
 use Rattle.config.specs.declared.plan.Plan.{Plan}
 use Rattle.config.specs.PlanViews.{plan_view}
 use Rattle.serial_core.specs.Steps.{State, store_in}

@@ -8,12 +8,12 @@ use Rattle.st_words.specs.declared.kind.Kind.{Kind}
 use Rattle.st_words.specs.Kinds.{same_kind, holds, kind_index}
 use Rattle.st_words.specs.Values.{Datum, IsHeld}
 use Rattle.st_words.specs.Paths.{Path, same_path}
-use Rattle.st_types.specs.declared.plan.PlanVariable.{PlanVariable}
-use Rattle.st_types.specs.declared.plan.PlanInput.{PlanInput}
+use Rattle.st_plans.specs.declared.plan.PlanVariable.{PlanVariable}
+use Rattle.st_plans.specs.declared.plan.PlanInput.{PlanInput}
 use Rattle.st_types.specs.Stores.{Store, assigned, may_replace}
 use Rattle.st_types.specs.Slots.{variables_in}
-use Rattle.st_types.specs.Layouts.{layout_of, path_text}
-use Rattle.st_types.specs.Restarts.{written_over, or_else}
+use Rattle.st_plans.specs.Layouts.{layout_of, path_text}
+use Rattle.st_plans.specs.Restarts.{written_over, or_else}
 use Rattle.st_types.specs.Loops.{unless_refused}
 use Rattle.st_words.specs.declared.fault.Fault.{Fault}
 use Rattle.st_types.specs.Scopes.{Name, contains_name}

@@ -2,8 +2,8 @@
 use Rattle.std.proofs.Common.{◌≡◌, Bool, true, false, ◌&&◌, List, [], ◌∷◌, length, refl, arith}
 use Rattle.st_words.specs.Kinds.{same_kind, holds}
 use Rattle.st_words.specs.Values.{Datum}
-use Rattle.st_types.specs.declared.plan.PlanInput.{PlanInput}
-use Rattle.st_types.specs.Plans.{holds_each}
+use Rattle.st_plans.specs.declared.plan.PlanInput.{PlanInput}
+use Rattle.st_plans.specs.Plans.{holds_each}
 
 and_false : (a b c : Bool) → c ≡ false → (a && (b && c)) ≡ false
 and_false true true c e = e

@@ -3,14 +3,14 @@ use Rattle.std.specs.Prelude.{IfSome}
 use Rattle.std.proofs.Common.{◌≡◌, ℕ, ◌<◌, ◌^◌, Bool, List, [], ◌∷◌, length, map, Option, refl, sym, ap, subst, ◌∙◌, arith}
 use Rattle.st_words.specs.declared.kind.Kind.{Kind}
 use Rattle.st_words.specs.Values.{Datum}
-use Rattle.st_types.specs.declared.entry.Entry.{Entry}
-use Rattle.st_types.specs.declared.entry.Outcome.{Outcome}
-use Rattle.st_types.specs.declared.plan.PlanVariable.{PlanVariable}
-use Rattle.st_types.specs.Due.{no_history}
-use Rattle.st_types.specs.Logs.{past_of, outcomes_of}
+use Rattle.st_plans.specs.declared.entry.Entry.{Entry}
+use Rattle.st_types.specs.declared.outcome.Outcome.{Outcome}
+use Rattle.st_plans.specs.declared.plan.PlanVariable.{PlanVariable}
+use Rattle.st_plans.specs.Due.{no_history}
+use Rattle.st_plans.specs.Logs.{past_of, outcomes_of}
 use Rattle.std.proofs.lemmas.List.{nil_from_length, length-map}
 use Rattle.st_words.specs.declared.limits.TheConstants.{MOMENT_LIMIT}
-use Rattle.st_types.specs.Plans.{schedules_of}
+use Rattle.st_plans.specs.Plans.{schedules_of}
 use Rattle.config.specs.declared.plan.Plan.{Plan}
 use Rattle.config.specs.PlanViews.{plan_view}
 use Rattle.ready_list.specs.Ready.{Ready, IsReadyOf}

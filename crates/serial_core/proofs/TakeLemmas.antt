@@ -5,17 +5,17 @@ use Rattle.std.proofs.lemmas.Bool.Decides.{nat_tests}
 use Rattle.std.proofs.lemmas.List.{length-map}
 use Rattle.std.proofs.lemmas.Option.{slice_get_within}
 use Rattle.st_words.specs.Values.{Datum}
-use Rattle.st_types.specs.declared.entry.Entry.{Entry}
-use Rattle.st_types.specs.declared.entry.Entry.TheVariants.{Row}
-use Rattle.st_types.specs.declared.entry.Activation.{Activation}
-use Rattle.st_types.specs.declared.entry.Outcome.{Outcome}
-use Rattle.st_types.specs.Rows.{Latch}
+use Rattle.st_plans.specs.declared.entry.Entry.{Entry}
+use Rattle.st_plans.specs.declared.entry.Entry.TheVariants.{Row}
+use Rattle.st_plans.specs.declared.entry.Activation.{Activation}
+use Rattle.st_types.specs.declared.outcome.Outcome.{Outcome}
+use Rattle.st_plans.specs.Rows.{Latch}
 use Rattle.st_types.specs.Slots.{Slot}
-use Rattle.st_types.specs.Layouts.{layout_of}
-use Rattle.st_types.specs.Due.{History, Waits, NoneWaits, IsBest}
-use Rattle.st_types.specs.Plans.{schedules_of}
-use Rattle.st_types.specs.Logs.{past_of, row_at}
-use Rattle.st_types.proofs.DueLemmas.{Waits-there}
+use Rattle.st_plans.specs.Layouts.{layout_of}
+use Rattle.st_plans.specs.Due.{History, Waits, NoneWaits, IsBest}
+use Rattle.st_plans.specs.Plans.{schedules_of}
+use Rattle.st_plans.specs.Logs.{past_of, row_at}
+use Rattle.st_plans.proofs.DueLemmas.{Waits-there}
 use Rattle.slot_code.specs.declared.code.Code.{Code}
 use Rattle.slot_code.specs.declared.global.GlobalSlot.{GlobalSlot}
 use Rattle.slot_run.specs.declared.snapshot.Snapshot.{Snapshot}

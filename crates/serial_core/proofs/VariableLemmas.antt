@@ -3,11 +3,11 @@ use Rattle.std.proofs.Common.{◌≡◌, ℕ, zero, suc, ◌+◌, ◌<◌, Bool,
 use Rattle.std.proofs.lemmas.Option.{slice_get-map, slice_get_within}
 use Rattle.st_words.specs.Values.{Datum}
 use Rattle.st_words.specs.Paths.{Path, same_path}
-use Rattle.st_types.specs.declared.plan.PlanVariable.{PlanVariable}
-use Rattle.st_types.specs.declared.plan.PlanInput.{PlanInput}
+use Rattle.st_plans.specs.declared.plan.PlanVariable.{PlanVariable}
+use Rattle.st_plans.specs.declared.plan.PlanInput.{PlanInput}
 use Rattle.st_types.specs.Stores.{Store, get}
 use Rattle.st_types.specs.Slots.{slot_of, IsLayout, variables_in}
-use Rattle.st_types.specs.Layouts.{variable_slot, input_slot, layout_of}
+use Rattle.st_plans.specs.Layouts.{variable_slot, input_slot, layout_of}
 
 no_values : (ins : List PlanInput) → variables_in (map input_slot ins) [] ≡ []
 no_values [] = refl

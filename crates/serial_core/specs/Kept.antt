@@ -2,11 +2,11 @@
 use Rattle.std.specs.Prelude.{◌≡◌, ℕ, ◌<◌, ◌≤◌, ◌^◌, IfSome, List, Bool, length, map, Option, Some, slice_get, slice_index}
 use Rattle.st_words.specs.declared.limits.TheConstants.{MOMENT_LIMIT}
 use Rattle.st_words.specs.Values.{Datum}
-use Rattle.st_types.specs.declared.entry.Entry.{Entry}
-use Rattle.st_types.specs.declared.entry.Entry.TheVariants.{Row}
-use Rattle.st_types.specs.declared.entry.Outcome.{Outcome}
-use Rattle.st_types.specs.Plans.{schedules_of}
-use Rattle.st_types.specs.Logs.{Past, past_of, row_at, last_moment, outcomes_of, IsLegal}
+use Rattle.st_plans.specs.declared.entry.Entry.{Entry}
+use Rattle.st_plans.specs.declared.entry.Entry.TheVariants.{Row}
+use Rattle.st_types.specs.declared.outcome.Outcome.{Outcome}
+use Rattle.st_plans.specs.Plans.{schedules_of}
+use Rattle.st_plans.specs.Logs.{Past, past_of, row_at, last_moment, outcomes_of, IsLegal}
 use Rattle.config.specs.declared.plan.Plan.{Plan}
 use Rattle.config.specs.PlanViews.{plan_view}
 use Rattle.ready_list.specs.Ready.{Ready, IsReadyOf}

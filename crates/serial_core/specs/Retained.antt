@@ -3,9 +3,9 @@ use Rattle.std.specs.Prelude.{ℕ, List, [], ◌∷◌, if◌then◌else◌, Opt
 use Rattle.st_words.specs.declared.kind.Kind.{Kind}
 use Rattle.st_words.specs.Values.{Datum}
 use Rattle.st_words.specs.Paths.{Path}
-use Rattle.st_types.specs.declared.plan.PlanVariable.{PlanVariable}
+use Rattle.st_plans.specs.declared.plan.PlanVariable.{PlanVariable}
 use Rattle.st_types.specs.Stores.{Store}
-use Rattle.st_types.specs.Restarts.{Kept}
+use Rattle.st_plans.specs.Restarts.{Kept}
 
 abbrev pub retained_paths : List PlanVariable → List Path
 retained_paths [] = []

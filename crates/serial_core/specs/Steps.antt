@@ -1,17 +1,17 @@
 -- The steps of a core, each by the cases of its answer. Each refusal carries that those before it do not apply.
 use Rattle.std.specs.Prelude.{◌≡◌, ℕ, ◌<◌, ◌≤◌, Bool, true, false, List, [], ◌∷◌, ◌++◌, map, length, Option, Some, None, option_map, Result, Ok, Err, slice_get}
 use Rattle.st_words.specs.Values.{Datum}
-use Rattle.st_types.specs.declared.entry.Entry.{Entry}
-use Rattle.st_types.specs.declared.entry.Entry.TheVariants.{Row, Done}
-use Rattle.st_types.specs.declared.entry.Activation.{Activation}
-use Rattle.st_types.specs.Rows.{Latch}
+use Rattle.st_plans.specs.declared.entry.Entry.{Entry}
+use Rattle.st_plans.specs.declared.entry.Entry.TheVariants.{Row, Done}
+use Rattle.st_plans.specs.declared.entry.Activation.{Activation}
+use Rattle.st_plans.specs.Rows.{Latch}
 use Rattle.st_types.specs.Stores.{Store}
 use Rattle.st_types.specs.Slots.{variables_in, agrees}
-use Rattle.st_types.specs.Layouts.{layout_of}
-use Rattle.st_types.specs.Due.{Waits, NoneWaits, IsBest}
-use Rattle.st_types.specs.declared.plan.PlanInput.{PlanInput}
-use Rattle.st_types.specs.Plans.{schedules_of, fits, initial_value, image_of}
-use Rattle.st_types.specs.Logs.{Past, past_of, row_at, last_moment, is_later}
+use Rattle.st_plans.specs.Layouts.{layout_of}
+use Rattle.st_plans.specs.Due.{Waits, NoneWaits, IsBest}
+use Rattle.st_plans.specs.declared.plan.PlanInput.{PlanInput}
+use Rattle.st_plans.specs.Plans.{schedules_of, fits, initial_value, image_of}
+use Rattle.st_plans.specs.Logs.{Past, past_of, row_at, last_moment, is_later}
 use Rattle.slot_code.specs.declared.code.Code.{Code}
 use Rattle.slot_code.specs.Codes.{code_view}
 use Rattle.slot_run.specs.Effects.{Effect}

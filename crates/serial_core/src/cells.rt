@@ -5,7 +5,7 @@ ghost use Rattle.st_types.specs.Slots.{agrees, written, is_value as is_value_of}
 ghost use Rattle.slot_run.specs.Cells.{cut};
 
 use slot_run::Cell;
-use st_types::Value;
+use st_words::Value;
 use std::alloc::{AllocError, Global};
 
 /// The value of a slot: that of a variable, or after the variables that of an input.

@@ -1,7 +1,7 @@
 //! Committing an execution.
 
 ghost use Rattle.std.specs.Prelude.{◌≡◌, ◌<◌, ◌↔◌, IsTrue, length};
-ghost use Rattle.st_types.specs.Due.{History};
+ghost use Rattle.st_plans.specs.Due.{History};
 ghost use Rattle.ready_list.specs.Ready.{IsReadyOf, Removes};
 ghost use Rattle.serial_core.specs.Steps.{Commits, IsOwnOf};
 
@@ -12,7 +12,7 @@ use crate::serial::{SerialCore, push_within};
 use config::Plan;
 use ready_list::ReadyList;
 use slot_run::Execution;
-use st_types::{Activation, Entry, Row};
+use st_plans::{Activation, Entry, Row};
 
 /// Whether the execution is of its activation's own program and row, under the plan's budget.
 fn is_own(plan: &Plan, row: &Row, execution: &Execution) -> bool

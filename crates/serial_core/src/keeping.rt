@@ -4,16 +4,17 @@ ghost use Rattle.std.specs.Prelude.{◌≡◌, ◌≤◌, ◌<◌, ◌^◌, IfSo
 ghost use Rattle.std.specs.List.{AllByRecursion};
 ghost use Rattle.st_words.specs.declared.limits.TheConstants.{MOMENT_LIMIT};
 ghost use Rattle.st_words.specs.Values.{IsHeld};
-ghost use Rattle.st_types.specs.Logs.{last_moment};
-ghost use Rattle.st_types.specs.Restarts.{kept, written_over};
-ghost use Rattle.st_types.specs.Plans.{initial_store};
+ghost use Rattle.st_plans.specs.Logs.{last_moment};
+ghost use Rattle.st_plans.specs.Restarts.{kept, written_over};
+ghost use Rattle.st_plans.specs.Plans.{initial_store};
 ghost use Rattle.config.specs.PlanViews.{plan_view};
 ghost use Rattle.serial_core.specs.Steps.{made};
 ghost use Rattle.serial_core.specs.Retained.{retained_values, retained_kinds, retained_paths, paired};
 
 use crate::serial::{SerialCore, push_within};
 use config::Plan;
-use st_types::{PlanVariable, Value};
+use st_plans::PlanVariable;
+use st_words::Value;
 
 /// A value, which its type holds.
 fn held(value: Value) -> Value

@@ -8,7 +8,7 @@ use crate::rows::{fits, is_later};
 use crate::sampling::sample_all;
 use crate::serial::{SerialCore, push_within};
 use config::Plan;
-use st_types::{Entry, Row};
+use st_plans::{Entry, Row};
 
 impl SerialCore {
     /// Latches a row, and gives its number from 0. It takes no memory.

@@ -3,7 +3,8 @@
 ghost use Rattle.std.specs.Prelude.{◌≡◌, position};
 ghost use Rattle.st_words.specs.Paths.{same_path};
 
-use st_types::{Path, PlanInput, PlanVariable};
+use st_plans::{PlanInput, PlanVariable};
+use st_words::Path;
 
 /// Whether the two are one path.
 fn is_path(this: &Path, other: &Path) -> bool

@@ -1,9 +1,9 @@
 //! What a core tells.
 
 ghost use Rattle.std.specs.Prelude.{◌≡◌, ◌<◌, ◌≤◌, option_map, option_and_then, slice_get, length, Some, None};
-ghost use Rattle.st_types.specs.Due.{HasOverruns};
-ghost use Rattle.st_types.specs.Logs.{IsLegal, outcomes_of};
-ghost use Rattle.st_types.specs.Plans.{schedules_of, initial_value};
+ghost use Rattle.st_plans.specs.Due.{HasOverruns};
+ghost use Rattle.st_plans.specs.Logs.{IsLegal, outcomes_of};
+ghost use Rattle.st_plans.specs.Plans.{schedules_of, initial_value};
 ghost use Rattle.st_types.specs.Scopes.{seen};
 ghost use Rattle.st_types.specs.Stores.{get};
 ghost use Rattle.config.specs.PlanViews.{plan_view};
@@ -12,7 +12,9 @@ ghost use Rattle.serial_core.specs.Steps.{made, first_image, last_image, inputs_
 use crate::lookup::{input_at, variable_at};
 use crate::rows::row_of;
 use crate::serial::SerialCore;
-use st_types::{Entry, Kind, Outcome, Path, Value};
+use st_plans::Entry;
+use st_types::Outcome;
+use st_words::{Kind, Path, Value};
 
 fn value_at(values: &[Value], slot: usize) -> Option<Value>
     ensures { result ≡ slice_get values.now slot }

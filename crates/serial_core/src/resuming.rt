@@ -4,13 +4,14 @@ ghost use Rattle.std.specs.Prelude.{◌≡◌, ◌<◌, ◌^◌, IfSome, [], Som
 ghost use Rattle.std.specs.List.{AllByRecursion};
 ghost use Rattle.st_words.specs.declared.limits.TheConstants.{MOMENT_LIMIT};
 ghost use Rattle.st_words.specs.Values.{IsHeld};
-ghost use Rattle.st_types.specs.Restarts.{kept, warm_start};
+ghost use Rattle.st_plans.specs.Restarts.{kept, warm_start};
 ghost use Rattle.config.specs.PlanViews.{plan_view};
 ghost use Rattle.serial_core.specs.Retained.{restored, retained_kinds, retained_paths, paired, told_by, first_or, others};
 
 use crate::serial::SerialCore;
 use config::Plan;
-use st_types::{PlanVariable, Value};
+use st_plans::PlanVariable;
+use st_words::Value;
 
 /// What a variable starts with, where these values are left for it and the retained variables after it.
 fn value_of(variable: &PlanVariable, kept: &[Value]) -> Value

@@ -2,14 +2,15 @@
 
 ghost use Rattle.std.specs.Prelude.{◌≡◌, ◌<◌, ◌&&◌, length, slice_get, slice_index, Some};
 ghost use Rattle.st_words.specs.Kinds.{same_kind, holds};
-ghost use Rattle.st_types.specs.declared.entry.Entry.TheVariants.{Row as row_entry};
-ghost use Rattle.st_types.specs.Rows.{Latch};
-ghost use Rattle.st_types.specs.Logs.{is_later as is_later_than};
-ghost use Rattle.st_types.specs.Plans.{fits as fits_plan, holds_each};
+ghost use Rattle.st_plans.specs.declared.entry.Entry.TheVariants.{Row as row_entry};
+ghost use Rattle.st_plans.specs.Rows.{Latch};
+ghost use Rattle.st_plans.specs.Logs.{is_later as is_later_than};
+ghost use Rattle.st_plans.specs.Plans.{fits as fits_plan, holds_each};
 ghost use Rattle.config.specs.PlanViews.{plan_view};
 
 use config::Plan;
-use st_types::{Entry, PlanInput, Row, Value};
+use st_plans::{Entry, PlanInput, Row};
+use st_words::Value;
 use st_words::limits::MOMENT_LIMIT;
 
 /// The row of this number, by where each row stands in the log.

@@ -4,7 +4,9 @@ ghost use Rattle.std.specs.Prelude.{◌≡◌, ◌<◌, ◌≤◌, ◌++◌, ◌
 
 use config::Plan;
 use ready_list::ReadyList;
-use st_types::{Entry, Outcome, Value};
+use st_plans::Entry;
+use st_types::Outcome;
+use st_words::Value;
 use std::marker::Model;
 use std::sync::Arc;
 

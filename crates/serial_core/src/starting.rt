@@ -2,13 +2,14 @@
 
 ghost use Rattle.std.specs.Prelude.{◌≡◌, ◌≤◌, [], None, IfOk, map};
 ghost use Rattle.st_words.specs.declared.limits.TheConstants.{MAX_LOG_ROOM};
-ghost use Rattle.st_types.specs.Plans.{initial_store};
+ghost use Rattle.st_plans.specs.Plans.{initial_store};
 ghost use Rattle.config.specs.PlanViews.{plan_view};
 
 use crate::serial::SerialCore;
 use config::Plan;
 use ready_list::ReadyList;
-use st_types::{PlanVariable, Value};
+use st_plans::PlanVariable;
+use st_words::Value;
 use std::alloc::{AllocError, Global};
 use std::sync::Arc;
 

@@ -4,7 +4,8 @@ ghost use Rattle.std.specs.Prelude.{◌≡◌};
 ghost use Rattle.slot_code.specs.Globals.{IsPlain};
 
 use crate::global::GlobalSlot;
-use st_types::{Owner, Unit};
+use st_trees::Unit;
+use st_words::Owner;
 use std::sync::Arc;
 
 /// The code of a program's instance: its resolved tree, and the slots of its externals in the order of their declarations.

@@ -4,7 +4,7 @@ ghost use Rattle.std.specs.Prelude.{◌≡◌, ◌↔◌, IsTrue};
 ghost use Rattle.slot_code.specs.Codes.{code_view};
 
 use crate::code::Code;
-use st_types::{Tree, same_trees};
+use st_words::{Tree, same_trees};
 
 impl Code {
     /// Whether the two are one code.

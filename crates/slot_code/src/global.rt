@@ -3,7 +3,7 @@
 ghost use Rattle.std.specs.Prelude.{◌≡◌, ◌↔◌, IsTrue, IfOk, option_map};
 ghost use Rattle.slot_code.specs.Globals.{global_named};
 
-use st_types::{Name, Tree};
+use st_words::{Name, Tree};
 use std::alloc::{AllocError, Global};
 
 /// A global that a program names.

@@ -11,8 +11,8 @@ use Rattle.st_words.specs.Values.{Datum}
 use Rattle.st_trees.specs.Statements.{Stmt, empty, assign, invoke, IF, CASE, FOR, WHILE, REPEAT, EXIT, RETURN, stmts_of}
 use Rattle.st_trees.specs.declared.statement.Stmt as code_stmt
 use Rattle.st_trees.specs.StatementViews.{stmt_view}
-use Rattle.st_types.specs.declared.entry.Outcome.{Outcome}
-use Rattle.st_types.specs.declared.entry.Outcome.TheVariants.{Done, Faulted}
+use Rattle.st_types.specs.declared.outcome.Outcome.{Outcome}
+use Rattle.st_types.specs.declared.outcome.Outcome.TheVariants.{Done, Faulted}
 use Rattle.st_types.specs.Stores.{Store}
 use Rattle.st_types.specs.Scopes.{Name, Scope}
 use Rattle.st_types.specs.Loops.{End, goes_on}

@@ -4,9 +4,9 @@ use Rattle.std.specs.List.{list_any, list_all}
 use Rattle.st_words.specs.Values.{Datum}
 use Rattle.st_words.specs.declared.fault.Fault.{Fault}
 use Rattle.st_trees.specs.Statements.{stmts_of}
-use Rattle.st_types.specs.declared.entry.Activation.{Activation}
-use Rattle.st_types.specs.declared.entry.Outcome.{Outcome}
-use Rattle.st_types.specs.declared.entry.Outcome.TheVariants.{Faulted}
+use Rattle.st_plans.specs.declared.entry.Activation.{Activation}
+use Rattle.st_types.specs.declared.outcome.Outcome.{Outcome}
+use Rattle.st_types.specs.declared.outcome.Outcome.TheVariants.{Faulted}
 use Rattle.st_types.specs.Runs.{outcome_of, store_after}
 use Rattle.st_types.specs.Scopes.{Name}
 use Rattle.st_types.specs.Slots.{Slot, Cell, variables_in, inputs_in, agrees, written}

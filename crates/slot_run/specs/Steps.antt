@@ -4,8 +4,8 @@ use Rattle.st_words.specs.Values.{Datum}
 use Rattle.st_words.specs.declared.fault.Fault.{Fault}
 use Rattle.st_words.specs.declared.fault.Fault.TheVariants.{Index}
 use Rattle.st_trees.specs.Statements.{Stmt, stmts_of}
-use Rattle.st_types.specs.declared.entry.Outcome.{Outcome}
-use Rattle.st_types.specs.declared.entry.Outcome.TheVariants.{Done, Faulted}
+use Rattle.st_types.specs.declared.outcome.Outcome.{Outcome}
+use Rattle.st_types.specs.declared.outcome.Outcome.TheVariants.{Done, Faulted}
 use Rattle.st_types.specs.Stores.{Store}
 use Rattle.st_types.specs.Scopes.{Name, Scope, path_in, seen}
 use Rattle.st_types.specs.Loops.{End, goes_on}

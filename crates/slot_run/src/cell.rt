@@ -1,6 +1,6 @@
 //! Slots with values.
 
-use st_types::Value;
+use st_words::Value;
 
 /// A slot and a value.
 #[derive(Clone, Copy)]

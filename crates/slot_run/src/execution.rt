@@ -6,7 +6,8 @@ ghost use Rattle.slot_run.specs.Effects.{IsTrueOf};
 
 use crate::cell::Cell;
 use slot_code::Code;
-use st_types::{Activation, Outcome};
+use st_plans::Activation;
+use st_types::Outcome;
 use std::marker::Model;
 use std::sync::Arc;
 

@@ -18,7 +18,9 @@ use crate::execution::Execution;
 use crate::snapshot::Snapshot;
 use crate::sum::value;
 use slot_code::{Code, GlobalSlot, global_named};
-use st_types::{Fault, Outcome, Stmt, Value};
+use st_trees::Stmt;
+use st_types::Outcome;
+use st_words::{Fault, Value};
 use std::alloc::{AllocError, Global};
 
 /// Whether one of the cells is of that slot.

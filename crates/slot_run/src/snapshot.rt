@@ -4,7 +4,8 @@ ghost use Rattle.std.specs.Prelude.{◌≡◌, nat_lt, length, true};
 ghost use Rattle.std.specs.List.{list_all};
 
 use slot_code::Code;
-use st_types::{Activation, Value};
+use st_plans::Activation;
+use st_words::Value;
 use std::sync::Arc;
 
 /// The code of a program, the activation that it serves, and the values of all slots.

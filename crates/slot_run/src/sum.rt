@@ -13,7 +13,9 @@ ghost use Rattle.slot_code.specs.Globals.{is_sum};
 ghost use Rattle.slot_run.specs.Steps.{Sees, value_at};
 
 use slot_code::{GlobalSlot, global_named};
-use st_types::{BinaryOperator, Expr, Fault, Literal, Name, Value, value_of_number};
+use st_trees::Expr;
+use st_types::value_of_number;
+use st_words::{BinaryOperator, Fault, Literal, Name, Value};
 
 /// The sum without bounds.
 fn total(a: Value, b: Value) -> i128

@@ -10,11 +10,11 @@ use Rattle.st_words.specs.declared.limits.TheConstants.{MAX_BUDGET, MAX_PATHS, M
 use Rattle.st_trees.specs.Units.{OrganisationUnit}
 use Rattle.st_trees.specs.Configurations.{Configuration}
 use Rattle.st_trees.specs.Sources.{Source}
-use Rattle.st_types.specs.declared.plan.PlanVariable.{PlanVariable}
-use Rattle.st_types.specs.declared.plan.PlanInput.{PlanInput}
+use Rattle.st_plans.specs.declared.plan.PlanVariable.{PlanVariable}
+use Rattle.st_plans.specs.declared.plan.PlanInput.{PlanInput}
 use Rattle.st_types.specs.NameTypes.{units_in}
-use Rattle.st_types.specs.Layouts.{record_length}
-use Rattle.st_types.specs.Plans as plans
+use Rattle.st_plans.specs.Layouts.{record_length}
+use Rattle.st_plans.specs.Plans as plans
 use Rattle.st_lex.specs.declared.token.Token.{Token}
 use Rattle.st_lex.specs.declared.fault.LexError.{LexError}
 use Rattle.st_lex.specs.declared.fault.LexError.TheVariants as lexing

@@ -10,11 +10,11 @@ use Rattle.st_trees.specs.declared.configuration.GlobalQualifier.{GlobalQualifie
 use Rattle.st_trees.specs.declared.configuration.GlobalQualifier.TheVariants.{Constant, Retain}
 use Rattle.st_trees.specs.Configurations.{GlobalNames, located, listed, GlobalDeclaration, GlobalBlock}
 use Rattle.st_trees.specs.Initials.{Initial, constant}
-use Rattle.st_types.specs.declared.plan.PlanVariable.{PlanVariable}
+use Rattle.st_plans.specs.declared.plan.PlanVariable.{PlanVariable}
 use Rattle.st_types.specs.Operators.{number_of}
 use Rattle.st_types.specs.Scopes.{unowned}
 use Rattle.st_types.specs.NameTypes.{kind_of_type}
-use Rattle.st_types.specs.Plans.{initial_value}
+use Rattle.st_plans.specs.Plans.{initial_value}
 use Rattle.config.specs.Thin.{is_of_or_none}
 
 -- a block with RETAIN

@@ -5,7 +5,7 @@ use Rattle.st_words.specs.declared.kind.Kind.{Kind}
 use Rattle.st_trees.specs.declared.configuration.Address.{Address}
 use Rattle.st_trees.specs.declared.configuration.GlobalQualifier.{GlobalQualifier}
 use Rattle.st_trees.specs.Configurations.{GlobalNames, located, listed, GlobalDeclaration, GlobalBlock}
-use Rattle.st_types.specs.declared.plan.PlanInput.{PlanInput}
+use Rattle.st_plans.specs.declared.plan.PlanInput.{PlanInput}
 use Rattle.st_types.specs.Scopes.{unowned}
 use Rattle.st_types.specs.NameTypes.{kind_of_type}
 use Rattle.st_build.specs.Addresses.{is_input}

@@ -11,10 +11,10 @@ use Rattle.st_statements.specs.declared.fault.ParseError.TheVariants as grammar
 use Rattle.st_parse.specs.Sources.{IsSource}
 use Rattle.st_parse.specs.Depths.{SourceWithin}
 use Rattle.st_parse.specs.Answers as parsing
-use Rattle.st_types.specs.declared.plan.PlanVariable.{PlanVariable}
-use Rattle.st_types.specs.declared.plan.PlanInput.{PlanInput}
+use Rattle.st_plans.specs.declared.plan.PlanVariable.{PlanVariable}
+use Rattle.st_plans.specs.declared.plan.PlanInput.{PlanInput}
 use Rattle.st_types.specs.NameTypes.{units_in}
-use Rattle.st_types.specs.Plans as plans
+use Rattle.st_plans.specs.Plans as plans
 use Rattle.config.specs.declared.plan.Plan.{Plan}
 use Rattle.config.specs.declared.thin_program.ThinProgram.{ThinProgram}
 use Rattle.config.specs.PlanViews.{plan_view}

@@ -7,11 +7,11 @@ ghost use Rattle.st_build.specs.Addresses.{is_input, has_width, is_below_limit, 
 ghost use Rattle.st_build.specs.Refusals.{has_sound_addresses};
 
 use crate::variables::is_constant;
-use st_types::lookup::kind_of_type;
-use st_types::{
+use st_trees::{
     Address, AddressWidth, Direction, GlobalBlock, GlobalDeclaration, GlobalNames, GlobalQualifier,
-    Kind,
 };
+use st_types::lookup::kind_of_type;
+use st_words::Kind;
 use std::alloc::{AllocError, Global};
 
 /// Whether an address is that of an input.

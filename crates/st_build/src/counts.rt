@@ -5,7 +5,7 @@ ghost use Rattle.std.specs.List.{list_any};
 ghost use Rattle.st_trees.specs.ConfigurationViews.{resource_view};
 ghost use Rattle.st_build.specs.Refusals.{are_too_many};
 
-use st_types::Resource;
+use st_trees::Resource;
 use st_words::limits::{MAX_PROGRAMS, MAX_RESOURCES, MAX_TASKS};
 
 /// Whether the resources have more than 64 instances.

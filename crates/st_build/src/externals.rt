@@ -10,11 +10,12 @@ ghost use Rattle.st_build.specs.Externals.{is_among, is_fixed, agree, is_behind,
 
 use crate::addresses::is_input;
 use crate::variables::is_constant;
-use st_types::lookup::{is_listed, is_named, kind_of_type};
-use st_types::{
+use st_trees::{
     Configuration, Declaration, GlobalBlock, GlobalDeclaration, GlobalNames, GlobalQualifier,
-    Identifier, Instance, Kind, Name, Resource, Section, Task, Unit, UnitSort, VariableBlock,
+    Instance, Resource, Section, Task, Unit, UnitSort, VariableBlock,
 };
+use st_types::lookup::{is_listed, is_named, kind_of_type};
+use st_words::{Identifier, Kind, Name};
 
 fn is_among(name: &Name, names: &GlobalNames) -> bool
     ensures { result ≡ is_among name.now (global_names_view names.now) }

@@ -8,11 +8,10 @@ ghost use Rattle.st_build.specs.Inputs.{input_kind, input_of, input_declared, in
 
 use crate::addresses::is_input;
 use crate::lack::Lack;
+use st_plans::PlanInput;
+use st_trees::{Address, GlobalBlock, GlobalDeclaration, GlobalNames, GlobalQualifier};
 use st_types::lookup::kind_of_type;
-use st_types::{
-    Address, GlobalBlock, GlobalDeclaration, GlobalNames, GlobalQualifier, Identifier, Kind, Path,
-    PlanInput,
-};
+use st_words::{Identifier, Kind, Path};
 use std::alloc::Global;
 
 /// The type of an input, where this version can run it.

@@ -16,7 +16,8 @@ use crate::programs::programs_in;
 use crate::tasks::{have_own_tasks, is_without_task};
 use crate::variables::variables_in;
 use config::{Plan, ThinProgram, has_long_record};
-use st_types::{Configuration, PlanInput, PlanVariable, Unit};
+use st_plans::{PlanInput, PlanVariable};
+use st_trees::{Configuration, Unit};
 use st_words::limits::MAX_PATHS;
 use std::alloc::Global;
 

@@ -11,8 +11,9 @@ ghost use Rattle.st_build.specs.Programs.{program_of, programs_in};
 use crate::lack::Lack;
 use crate::tasks::interval_of;
 use config::ThinProgram;
+use st_trees::{Instance, Resource, Task, Unit};
 use st_types::lookup::is_named;
-use st_types::{Instance, Name, Resource, Task, Unit};
+use st_words::Name;
 use std::alloc::Global;
 
 /// The number of the first unit of that name.

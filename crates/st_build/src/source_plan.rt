@@ -3,7 +3,7 @@
 ghost use Rattle.std.specs.Prelude.{◌≡◌, ◌<◌, ◌⊎◌, IfOk, IfErr, IsErrOf};
 ghost use Rattle.st_trees.specs.SourceViews.{source_view};
 ghost use Rattle.st_trees.specs.Sources as tree;
-ghost use Rattle.st_types.specs.Plans as plans;
+ghost use Rattle.st_plans.specs.Plans as plans;
 ghost use Rattle.config.specs.PlanViews.{plan_view};
 ghost use Rattle.st_build.specs.Plans.{IsTextOf, IsPlanOf, Applies, Refused, GivesPlan};
 
@@ -14,7 +14,7 @@ use config::Plan;
 use st_lex::lex;
 use st_parse::parse;
 use st_rules::broken_rule;
-use st_types::Source;
+use st_trees::Source;
 use st_words::limits::MAX_BUDGET;
 use std::alloc::Global;
 

@@ -6,8 +6,9 @@ ghost use Rattle.st_trees.specs.ConfigurationViews.{resource_view};
 ghost use Rattle.st_build.specs.Programs.{plain_interval, interval_named, interval_of, runs_in, is_own, has_own_tasks, have_own_tasks};
 ghost use Rattle.st_build.specs.Refusals.{has_no_task, is_without_task};
 
+use st_trees::{Instance, Resource, Task};
 use st_types::lookup::is_named;
-use st_types::{Identifier, Instance, Name, Resource, Task};
+use st_words::{Identifier, Name};
 
 /// The INTERVAL of a task that has one, no SINGLE, and PRIORITY 0.
 fn plain_interval(task: &Task) -> Option<u64>

@@ -8,7 +8,7 @@ ghost use Rattle.st_types.specs.NameTypes.{units_in};
 ghost use Rattle.st_build.specs.TextParts.{configurations_in, has_types, IsNotConfigured};
 
 use crate::build_error::BuildError;
-use st_types::{Configuration, LibraryElement, Source, Unit};
+use st_trees::{Configuration, LibraryElement, Source, Unit};
 use std::alloc::{AllocError, Global};
 
 /// The parts of a text, in order.

@@ -4,16 +4,16 @@ ghost use Rattle.std.specs.Prelude.{◌≡◌, ◌++◌, [], map, Some, None, If
 ghost use Rattle.std.specs.List.{list_any};
 ghost use Rattle.st_trees.specs.InitialViews.{initial_view};
 ghost use Rattle.st_trees.specs.ConfigurationViews.{global_names_view, global_declaration_view, global_block_view};
-ghost use Rattle.st_types.specs.Plans.{initial_value};
+ghost use Rattle.st_plans.specs.Plans.{initial_value};
 ghost use Rattle.st_build.specs.Globals.{is_retain, is_constant, number_value, start_of, started, variable_of, listed_names, variables_declared, variables_in};
 ghost use Rattle.st_build.specs.Lists.{is_missing};
 
 use crate::lack::Lack;
+use st_plans::PlanVariable;
+use st_trees::{GlobalBlock, GlobalDeclaration, GlobalNames, GlobalQualifier, Initial};
 use st_types::lookup::kind_of_type;
-use st_types::{
-    GlobalBlock, GlobalDeclaration, GlobalNames, GlobalQualifier, Identifier, Initial, Kind,
-    Literal, Number, Path, PlanVariable, Value, number_of,
-};
+use st_types::number_of;
+use st_words::{Identifier, Kind, Literal, Number, Path, Value};
 use std::alloc::Global;
 
 fn is_retain(qualifier: Option<GlobalQualifier>) -> bool

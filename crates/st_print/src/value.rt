@@ -5,7 +5,7 @@ ghost use Rattle.std.specs.Io.KnownBytes.{Appends};
 ghost use Rattle.st_print.specs.Spelling.{truth_text, value_text};
 
 use crate::hexadecimal::write_hexadecimal;
-use st_types::{Sort, Value};
+use st_words::{Sort, Value};
 use std::io;
 use std::io::Write;
 

@@ -11,7 +11,7 @@ use crate::declarations::first_declared_twice;
 use crate::elements::{first_out_of_range, first_wrong_type};
 use crate::rule::{Broken, Rule};
 use crate::unknown::first_unknown;
-use st_types::Source;
+use st_trees::Source;
 use std::alloc::{AllocError, Global};
 
 /// The first place at which the text breaks the rule.

@@ -16,9 +16,8 @@ use crate::scopes::{
     variables_of_text,
 };
 use crate::standard::is_standard;
-use st_types::{
-    Configuration, Identifier, LibraryElement, Resource, Source, TypeDeclaration, TypeDefinition,
-};
+use st_trees::{Configuration, LibraryElement, Resource, Source, TypeDeclaration, TypeDefinition};
+use st_words::Identifier;
 use std::alloc::{AllocError, Global};
 
 /// A field that is declared again in its structure.

@@ -14,7 +14,7 @@ use crate::operations::wrong_type_in_body;
 use crate::places::or_place;
 use crate::ranges::out_of_range_in_body;
 use crate::rule::Rule;
-use st_types::{LibraryElement, Unit};
+use st_trees::{LibraryElement, Unit};
 
 /// The place of a wrong type in a unit.
 fn wrong_type_in_unit(unit: &Unit) -> Option<usize>

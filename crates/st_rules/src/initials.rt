@@ -12,11 +12,11 @@ ghost use Rattle.st_rules.specs.Initials.{wrong_literal, constant_against, initi
 use crate::kinds::{kind_of_literal, kind_or_taken, place_of_literal};
 use crate::ranges::literal_out_of_range;
 use crate::rule::Rule;
-use st_types::lookup::kind_of_type;
-use st_types::{
-    Declaration, GlobalBlock, GlobalDeclaration, Initial, Kind, Literal, Resource, Task,
-    VariableBlock,
+use st_trees::{
+    Declaration, GlobalBlock, GlobalDeclaration, Initial, Resource, Task, VariableBlock,
 };
+use st_types::lookup::kind_of_type;
+use st_words::{Kind, Literal};
 
 /// The place of a literal of another type than the variable.
 fn wrong_literal(kind: Kind, literal: &Literal) -> Option<usize>

@@ -11,7 +11,8 @@ ghost use Rattle.st_rules.specs.Declarations.{is_there};
 ghost use Rattle.st_rules.specs.Expressions.{kind_of_name, place_of_literal, place_of_variable, first_byte, is_plain, kind_or_taken, kind_at, takes_operand, takes_operands, is_operation};
 
 use crate::lookup::kind_of_name;
-use st_types::{BinaryOperator, Expr, Kind, Literal, Sort, UnaryOperator, Unit, Variable};
+use st_trees::{Expr, Unit, Variable};
+use st_words::{BinaryOperator, Kind, Literal, Sort, UnaryOperator};
 
 /// The place of a literal.
 pub fn place_of_literal(literal: &Literal) -> usize

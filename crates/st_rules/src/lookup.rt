@@ -7,8 +7,9 @@ ghost use Rattle.st_types.specs.NameTypes.{kind_of_type, result_kind, variable_t
 ghost use Rattle.st_rules.specs.Declarations.{is_there};
 ghost use Rattle.st_rules.specs.Expressions.{kind_of_name};
 
+use st_trees::{Unit, UnitSort, Variable};
 use st_types::lookup::{is_named, kind_of_type, type_in_blocks};
-use st_types::{Kind, Name, Unit, UnitSort, Variable};
+use st_words::{Kind, Name};
 
 fn result_kind(sort: UnitSort) -> Option<Kind>
     ensures { result ≡ result_kind sort }

@@ -6,7 +6,7 @@ ghost use Rattle.st_types.specs.NameTypes.{is_named};
 ghost use Rattle.st_rules.specs.Places.{first, places_where, repeats};
 
 use st_types::lookup::is_named;
-use st_types::{Identifier, Name};
+use st_words::{Identifier, Name};
 use std::alloc::AllocError;
 
 /// Appends names to a scope.

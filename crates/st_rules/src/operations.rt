@@ -15,7 +15,8 @@ ghost use Rattle.st_rules.specs.Bodies.{wrong_types, wrong_types_for, wrong_type
 use crate::kinds::{first_byte, is_operation, is_plain, kind_at, operand_kind, takes_operand};
 use crate::lookup::kind_of_name;
 use crate::places::or_place;
-use st_types::{BinaryOperator, Expr, Kind, Stmt, UnaryOperator, Unit};
+use st_trees::{Expr, Stmt, Unit};
+use st_words::{BinaryOperator, Kind, UnaryOperator};
 
 /// The place of an operation whose operands are right in themselves, where their types are wrong.
 fn wrong_operands(

@@ -16,7 +16,9 @@ use crate::kinds::{is_plain, kind_or_taken, operand_kind};
 use crate::lookup::kind_of_name;
 use crate::operations::wrong_operation;
 use crate::places::or_place;
-use st_types::{Expr, Kind, Literal, Number, Stmt, Unit, number_of};
+use st_trees::{Expr, Stmt, Unit};
+use st_types::number_of;
+use st_words::{Kind, Literal, Number};
 
 /// Whether the type has the literal's number.
 fn holds(kind: Kind, number: &Number) -> bool

@@ -9,10 +9,11 @@ ghost use Rattle.st_trees.specs.SourceViews.{element_view};
 ghost use Rattle.st_rules.specs.Scopes.{names_of_element, variables_of_block, variables_of, variables_of_element, listed_names, globals_of_block, globals_of, names_in};
 
 use crate::names::push_names;
-use st_types::{
-    Configuration, Declaration, Field, GlobalBlock, GlobalDeclaration, GlobalNames, Identifier,
-    Instance, LibraryElement, Resource, Task, TypeDeclaration, Unit, VariableBlock,
+use st_trees::{
+    Configuration, Declaration, Field, GlobalBlock, GlobalDeclaration, GlobalNames, Instance,
+    LibraryElement, Resource, Task, TypeDeclaration, Unit, VariableBlock,
 };
+use st_words::Identifier;
 use std::alloc::{AllocError, Global};
 
 fn push_type_names<'a>(

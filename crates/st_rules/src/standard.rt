@@ -8,7 +8,7 @@ ghost use Rattle.st_types.specs.StandardFunctions.{standard_of, convertible, con
 ghost use Rattle.st_rules.specs.Declarations.{is_there, is_standard};
 ghost use Rattle.st_rules.specs.Backs.{is_back};
 
-use st_types::{Kind, Name};
+use st_words::{Kind, Name};
 
 fn is_same(word: &[u8], other: &[u8]) -> bool
     ensures { result ≡ bytes_eq word.now other.now }

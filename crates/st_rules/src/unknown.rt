@@ -12,7 +12,7 @@ ghost use Rattle.st_rules.specs.Rules.{unknown_names_in};
 
 use crate::lookup::is_declared;
 use crate::places::or_place;
-use st_types::{Expr, LibraryElement, Stmt, Unit, Variable};
+use st_trees::{Expr, LibraryElement, Stmt, Unit, Variable};
 
 /// The place of a variable that the unit does not declare.
 fn unknown_variable(unit: &Unit, variable: &Variable) -> Option<usize>

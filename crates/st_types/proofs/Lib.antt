@@ -1,15 +1,9 @@
 pub mod Agrees
 pub mod Alike
 pub mod AskedLemmas
-pub mod BestLemmas
-pub mod DueLemmas
 pub mod Lasts
-pub mod LogLemmas
-pub mod OnceLemmas
-pub mod OverrunLemmas
 pub mod Related
 pub mod RunLemmas
-pub mod Scenes
 pub mod Shapes
 pub mod SlotLemmas
 pub mod TimerLemmas

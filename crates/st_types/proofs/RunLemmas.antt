@@ -2,7 +2,7 @@
 use Rattle.std.proofs.Common.{◌≡◌, ℕ, ◌+◌, ◌++◌, Result, Ok, Err, refl, ◌∙◌, ap}
 use Rattle.st_words.specs.declared.fault.Fault.{Fault}
 use Rattle.st_words.specs.declared.fault.Fault.TheVariants.{Budget}
-use Rattle.st_types.specs.declared.entry.Outcome.TheVariants.{Done, Faulted}
+use Rattle.st_types.specs.declared.outcome.Outcome.TheVariants.{Done, Faulted}
 use Rattle.st_types.specs.Stores.{Store, shape_of, is_distinct, IsStore}
 use Rattle.st_types.specs.Loops.{End}
 use Rattle.st_types.specs.Runs.{Program, ran, store_of, outcome_in, store_in, outcome_of, store_after}

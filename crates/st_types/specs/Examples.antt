@@ -23,7 +23,7 @@ use Rattle.st_trees.specs.Units.{OrganisationUnit}
 use Rattle.st_types.specs.NameTypes.{Declared}
 use Rattle.st_types.specs.Stores.{Store}
 use Rattle.st_types.specs.Scopes.{Name, Body, Function, own_path, of_program, unowned}
-use Rattle.st_types.specs.declared.entry.Outcome.{Outcome}
+use Rattle.st_types.specs.declared.outcome.Outcome.{Outcome}
 use Rattle.st_types.specs.Runs.{Program, ran, outcome_of, store_after}
 use Rattle.st_types.specs.Loops.{End}
 use Rattle.st_types.specs.Evaluation.{element_at}

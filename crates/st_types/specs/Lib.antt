@@ -14,12 +14,5 @@ pub mod Examples
 pub mod NameTypes
 pub mod Resolution
 pub mod ResolvedUnits
-pub mod Rows
 pub mod Bodies
-pub mod Plans
-pub mod Layouts
-pub mod Due
-pub mod Logs
-pub mod Restarts
 pub mod Slots
-pub mod Schedules

@@ -6,8 +6,8 @@ use Rattle.st_words.specs.declared.fault.Fault.TheVariants.{Index, Budget}
 use Rattle.st_words.specs.declared.path.Owner.{Owner}
 use Rattle.st_words.specs.Values.{Datum}
 use Rattle.st_words.specs.Paths.{Path}
-use Rattle.st_types.specs.declared.entry.Outcome.{Outcome}
-use Rattle.st_types.specs.declared.entry.Outcome.TheVariants.{Done, Faulted}
+use Rattle.st_types.specs.declared.outcome.Outcome.{Outcome}
+use Rattle.st_types.specs.declared.outcome.Outcome.TheVariants.{Done, Faulted}
 use Rattle.st_types.specs.Stores.{Store, get, assigned}
 use Rattle.st_types.specs.Ticks.{Run, ◌>>=◌, give, fault, take, or_fault, proceed}
 use Rattle.st_types.specs.StandardBlocks as standard

@@ -23,7 +23,7 @@ ghost use Rattle.st_types.specs.Execution.{exec_all};
 ghost use Rattle.st_types.specs.Runs.{Program, ran, scope_of, outcome_of, store_after, ran_where};
 ghost use Rattle.st_types.specs.Asked.{IsAsked, without_value};
 
-use crate::entry::Outcome;
+use crate::outcome::Outcome;
 
 /// No run ends with more ticks than it had. A run that is done is done with a larger budget too, with as many more
 /// ticks left; one that faults faults alike, unless it was because its ticks ran out.

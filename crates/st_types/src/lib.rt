@@ -1,27 +1,15 @@
-//! The words of the language, and what its programs mean.
+//! What programs of the language mean: stores, expressions, statements, functions, blocks, runs, and the types of untyped literals.
+//!
+//! The meaning stands in `specs/`, over the mirror of the trees. The functions here hold it to worked examples and laws, by contracts
+//! of functions that do nothing, and look up names and types in trees. Nothing here runs a program.
 #![tactic(auto)]
 
-pub mod case_examples;
-pub mod due_examples;
-mod entry;
-mod examples;
+pub mod examples;
 mod laws;
 mod literals;
 pub mod lookup;
-pub mod loop_examples;
-pub mod operator_examples;
-mod plan;
-pub mod restart_examples;
-pub mod row_examples;
-mod schedules;
-pub mod waiting_examples;
+mod outcome;
 
-pub use entry::{Activation, Entry, Outcome, Row};
-pub use examples::{
-    asked_globals, division, edges_and_counters, faults, function_calls, globals_not_asked,
-    loops_with_a_variable, loops_with_conditions, names_of_standard_functions, standard_functions,
-    timers, untyped_literals,
-};
 pub use laws::{
     bistables, bounds_of_recursion, budgets, counters_stay_within_their_type,
     faults_change_nothing, on_delay_waits, operands_are_all_evaluated, paths_and_slots,
@@ -29,20 +17,4 @@ pub use laws::{
     values_that_are_not_there, variables_stay,
 };
 pub use literals::{number_of, value_of_number};
-pub use plan::{PlanInput, PlanVariable, Schedule};
-pub use schedules::{
-    each_activation_is_done_once, intervals, logs_grow_by_one_step, one_activation_is_best,
-    one_activation_waits, overruns_are_rows_that_meet_a_waiting_program, served_for_good,
-    single_and_interval, three_programs_in_order,
-};
-pub use st_trees::{
-    Address, AddressWidth, Argument, Arm, ArrayType, CaseArm, Configuration, Declaration,
-    Direction, Expr, Field, GlobalBlock, GlobalDeclaration, GlobalNames, GlobalQualifier, Initial,
-    InitialElement, InitialMember, Instance, Label, LibraryElement, Priority, Resource, Retention,
-    Section, Selector, SimpleType, Source, Stmt, Task, TypeDeclaration, TypeDefinition, Unit,
-    UnitSort, Variable, VariableBlock, VariableType,
-};
-pub use st_words::{
-    BinaryOperator, Fault, Identifier, Kind, KindRow, Literal, Name, Number, Owner, Path, Sort,
-    Step, Tree, UnaryOperator, Value, same_option, same_trees,
-};
+pub use outcome::Outcome;

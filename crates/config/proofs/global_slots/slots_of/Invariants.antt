@@ -1,5 +1,5 @@
 use Rattle.std.proofs.Common.{◌≡◌, map, take}
-use Rattle.st_types.specs.Layouts.{layout_of}
+use Rattle.st_plans.specs.Layouts.{layout_of}
 use Rattle.config.specs.GlobalSlots.{HaveSlots}
 use Rattle.config.proofs.global_slots.slots_of.Given as goal
 

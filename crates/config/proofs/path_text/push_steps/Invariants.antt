@@ -1,5 +1,5 @@
 use Rattle.std.proofs.Common.{◌≡◌, ◌++◌, drop}
-use Rattle.st_types.specs.Layouts.{steps_text}
+use Rattle.st_plans.specs.Layouts.{steps_text}
 use Rattle.config.proofs.path_text.push_steps.Given as goal
 
 abbrev pub invariant-loop-step : goal.invariant-loop-step

@@ -1,5 +1,5 @@
 use Rattle.std.proofs.Common.{◌≡◌, ◌∷◌, [], ◌++◌, rules}
-use Rattle.st_types.specs.Layouts.{layout_of}
+use Rattle.st_plans.specs.Layouts.{layout_of}
 use Rattle.config.proofs.ThinLemmas.{units_step, places_step, thin_rest}
 use Rattle.config.proofs.thin.thin_units.Goals as goal
 

@@ -3,7 +3,7 @@ use Rattle.std.specs.List.{list_all}
 use Rattle.st_trees.specs.UnitViews.{unit_view}
 use Rattle.st_types.specs.NameTypes.{Declared}
 use Rattle.st_types.specs.ResolvedUnits.{resolved}
-use Rattle.st_types.specs.Layouts.{layout_of}
+use Rattle.st_plans.specs.Layouts.{layout_of}
 use Rattle.config.specs.Thin.{is_thin_unit}
 use Rattle.config.specs.GlobalSlots.{HaveSlots}
 use Rattle.config.specs.ThinParts.{units_in}

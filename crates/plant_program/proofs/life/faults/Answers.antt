@@ -1,6 +1,6 @@
 use Rattle.std.proofs.Common.{◌≡◌, ◌<◌, ◌∙◌, ap, sym, rules, ◌+◌, length, take, count_by}
 use Rattle.std.proofs.Math.Seq.{take-length}
-use Rattle.st_types.specs.Logs.{outcomes_of}
+use Rattle.st_plans.specs.Logs.{outcomes_of}
 use Rattle.config.specs.PlanViews.{plan_view}
 use Rattle.plant_program.specs.Lives.{is_faulted}
 use Rattle.plant_program.proofs.CountLemmas.{count_no, count_yes, outcomes_counted}

@@ -1,5 +1,5 @@
 use Rattle.std.proofs.Common.{◌≡◌, ◌++◌, List}
-use Rattle.st_types.specs.Rows.{Latch}
+use Rattle.st_plans.specs.Rows.{Latch}
 use Rattle.plant_program.specs.Progress.{GoesOn}
 use Rattle.plant_program.proofs.running.run_rows.Given as goal
 

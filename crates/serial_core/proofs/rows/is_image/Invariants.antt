@@ -1,5 +1,5 @@
 use Rattle.std.proofs.Common.{◌≡◌, drop}
-use Rattle.st_types.specs.Plans.{holds_each}
+use Rattle.st_plans.specs.Plans.{holds_each}
 use Rattle.serial_core.proofs.rows.is_image.Given as goal
 
 abbrev pub invariant-loop-i : goal.invariant-loop-i

@@ -1,5 +1,5 @@
 use Rattle.std.proofs.Common.{◌≡◌, ◌++◌, drop}
-use Rattle.st_types.specs.Layouts.{layout_text}
+use Rattle.st_plans.specs.Layouts.{layout_text}
 use Rattle.config.proofs.plan.Plan.layout_text.Given as goal
 
 abbrev pub invariant-loop-variable : goal.invariant-loop-variable

@@ -1,6 +1,6 @@
 use Rattle.std.proofs.Common.{◌≡◌, ◌∙◌, ap, map}
 use Rattle.std.proofs.lemmas.Result.{IfOk-weaker}
-use Rattle.st_types.specs.Plans.{schedules_of as schedules_in}
+use Rattle.st_plans.specs.Plans.{schedules_of as schedules_in}
 use Rattle.config.specs.PlanViews.{plan_view}
 use Rattle.ready_list.specs.Schedules.{code_schedule}
 use Rattle.ready_list.proofs.ScheduleLemmas.{schedules-same}

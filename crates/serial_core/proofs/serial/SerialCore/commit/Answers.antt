@@ -1,6 +1,6 @@
 use Rattle.std.proofs.Common.{◌≡◌, ◌<◌, ◌∙◌, ◌++◌, ◌∷◌, [], List, true, false, ap, sym, subst, refl, arith, length, length-append, map}
-use Rattle.st_types.specs.declared.entry.Entry.{Entry}
-use Rattle.st_types.specs.declared.entry.Entry.TheVariants.{Done}
+use Rattle.st_plans.specs.declared.entry.Entry.{Entry}
+use Rattle.st_plans.specs.declared.entry.Entry.TheVariants.{Done}
 use Rattle.slot_run.specs.Cells.{cut}
 use Rattle.serial_core.specs.Steps.{State, store_in, grown, waits_in, IsOwn, stands}
 use Rattle.serial_core.proofs.TakeLemmas.{waits-program}

@@ -1,5 +1,5 @@
 use Rattle.std.proofs.Common.{◌≡◌, ◌∙◌, [], Some, sym, ap, subst, arith}
-use Rattle.st_types.specs.Restarts.{kept, warm_start}
+use Rattle.st_plans.specs.Restarts.{kept, warm_start}
 use Rattle.config.specs.declared.plan.Plan.{Plan}
 use Rattle.config.specs.PlanViews.{plan_view}
 use Rattle.serial_core.specs.Steps.{State, store_in}

@@ -1,6 +1,6 @@
 use Rattle.std.proofs.Common.{◌≡◌, ◌∙◌, map, ap, subst}
-use Rattle.st_types.specs.Plans.{initial_store}
-use Rattle.st_types.specs.Restarts.{kept, written_over}
+use Rattle.st_plans.specs.Plans.{initial_store}
+use Rattle.st_plans.specs.Restarts.{kept, written_over}
 use Rattle.config.specs.declared.plan.Plan.{Plan}
 use Rattle.config.specs.PlanViews.{plan_view}
 use Rattle.serial_core.specs.Steps.{State, made}

@@ -1,5 +1,5 @@
 use Rattle.std.proofs.Common.{◌∙◌, ◌++◌, ap, sym, subst, length}
-use Rattle.st_types.specs.Logs.{row_at, past_of}
+use Rattle.st_plans.specs.Logs.{row_at, past_of}
 use Rattle.config.specs.declared.plan.Plan.{Plan}
 use Rattle.config.specs.PlanViews.{plan_view}
 use Rattle.serial_core.specs.Steps.{State, store_in, code_at, none_waits}

@@ -1,0 +1,58 @@
+-- The layout of a plan: its slots, the text of what a record keeps, and how long a record is.
+use Rattle.std.specs.Prelude.{ℕ, ◌+◌, ◌/◌, List, [], ◌∷◌, ◌++◌, length, map, true, false, if◌then◌else◌, Option, Some, None, codes}
+use Rattle.std.specs.Fmt.{signed_decimal}
+use Rattle.st_words.specs.declared.kind.Kind.{Kind}
+use Rattle.st_words.specs.declared.path.Owner.{Owner}
+use Rattle.st_words.specs.declared.path.Step.{Step}
+use Rattle.st_words.specs.declared.path.Step.TheVariants.{Member, Element}
+use Rattle.st_words.specs.Kinds.{row_of}
+use Rattle.st_words.specs.Paths.{Path}
+use Rattle.st_plans.specs.declared.plan.PlanVariable.{PlanVariable}
+use Rattle.st_plans.specs.declared.plan.PlanInput.{PlanInput}
+use Rattle.st_types.specs.Slots.{Slot}
+
+-- the slots of a plan: its variables in order, and after them its inputs
+abbrev pub variable_slot : PlanVariable → Slot
+variable_slot v = record { path = v.path; is_input = false }
+
+abbrev pub input_slot : PlanInput → Slot
+input_slot i = record { path = i.path; is_input = true }
+
+abbrev pub layout_of : List PlanVariable → List PlanInput → List Slot
+layout_of variables inputs = map variable_slot variables ++ map input_slot inputs
+
+-- a path as it is written: RESOURCE/INSTANCE.NAME, then .MEMBER and [subscript]
+abbrev pub owner_text : Option Owner → List ℕ
+owner_text None = []
+owner_text (Some o) = o.resource ++ codes "/" ++ o.instance ++ codes "."
+
+abbrev pub step_text : Step → List ℕ
+step_text (Member x) = codes "." ++ x
+step_text (Element z) = codes "[" ++ signed_decimal z ++ codes "]"
+
+abbrev pub steps_text : List Step → List ℕ
+steps_text [] = []
+steps_text (x ∷ xs) = step_text x ++ steps_text xs
+
+abbrev pub path_text : Path → List ℕ
+path_text p = owner_text p.owner ++ p.name ++ steps_text p.steps
+
+-- a line PATH TYPE with LF for each retained variable, in order
+abbrev pub line_of : PlanVariable → List ℕ
+line_of v = path_text v.path ++ codes " " ++ (row_of v.initial.kind).keyword ++ 10 ∷ []
+
+abbrev pub layout_text : List PlanVariable → List ℕ
+layout_text [] = []
+layout_text (v ∷ vs) = if v.retained then line_of v ++ layout_text vs else layout_text vs
+
+-- how many bytes a value of a type takes in a record: one for a BOOL, else its width
+abbrev pub width_of : Kind → ℕ
+width_of k = ((row_of k).bits + 7) / 8
+
+abbrev pub values_length : List PlanVariable → ℕ
+values_length [] = 0
+values_length (v ∷ vs) = if v.retained then width_of v.initial.kind + values_length vs else values_length vs
+
+-- the length in bytes of a record's body: the moment, the length of the layout text, this text, and the values
+abbrev pub record_length : List PlanVariable → ℕ
+record_length vs = 8 + 4 + length (layout_text vs) + values_length vs

@@ -1,0 +1,7 @@
+pub mod Rows
+pub mod Plans
+pub mod Layouts
+pub mod Due
+pub mod Logs
+pub mod Restarts
+pub mod Examples

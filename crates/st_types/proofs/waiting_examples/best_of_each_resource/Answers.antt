@@ -1,6 +1,0 @@
-use Rattle.std.proofs.Common.{rules, refl}
-use Rattle.st_types.specs.Schedules.{of}
-use Rattle.st_types.proofs.waiting_examples.best_of_each_resource.Goals as goal
-
-pub returns : goal.returns
-returns c = (search rules, search rules, search rules, search rules, search rules, search rules, λ none. none (of 1 0) (search rules) refl, search rules)
