@@ -27,6 +27,7 @@ told() {
 
 echo "proving with $jobs at once; out/build.log has all that the prover says"
 cd crates/plant_main
-{ rt all check --jobs "$jobs" 2>&1 && rt run -- first 2>&1; } | tee "$log" | told || { tail -n 40 "$log" >&2; exit 1; }
+# twice as many, since half of them may wait for a crate below
+{ rt all check --jobs $((2 * jobs)) 2>&1 && rt run -- first 2>&1; } | tee "$log" | told || { tail -n 40 "$log" >&2; exit 1; }
 cp out/plant_main ../../out/plant
 echo "out/plant is proved and built"

@@ -19,7 +19,7 @@ done
 
 mkdir -p out
 for top in $tops; do
-    (cd "crates/$top" && rt all check --jobs "$jobs") > out/strength.log 2>&1 || { tail -n 40 out/strength.log >&2; exit 1; }
+    (cd "crates/$top" && rt all check --jobs $((2 * jobs))) > out/strength.log 2>&1 || { tail -n 40 out/strength.log >&2; exit 1; }
 done
 
 copy=$(mktemp -d)

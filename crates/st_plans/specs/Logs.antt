@@ -6,7 +6,7 @@ use Rattle.st_plans.specs.Rows.{Latch}
 use Rattle.st_types.specs.Stores.{Store}
 use Rattle.st_types.specs.declared.outcome.Outcome.{Outcome}
 use Rattle.st_types.specs.Runs.{outcome_of}
-use Rattle.st_plans.specs.Plans.{Plan, Program, places_of, samples_of, image_of, fits, program_at, after_run}
+use Rattle.st_plans.specs.Plans.{Plan, Program, schedules_of, samples_of, image_of, fits, program_at, after_run}
 use Rattle.st_plans.specs.Due.{History, no_history, with_row, with_run, Waits}
 
 abbrev pub Log : Type 0
@@ -74,7 +74,7 @@ is_later (Some last) moment = nat_lt last moment
 -- A row fits the plan and is later than the one before it. A Done was waiting.
 pub data MayFollow (plan : Plan) (before : Option ℕ) (past : Past) : Entry → Type 0 where
   row_follows : (row : Latch) → fits plan row ≡ true → is_later (last_moment before past.rows) row.moment ≡ true → MayFollow plan before past (Row row)
-  done_follows : (a : _) → Waits (places_of plan) past.history a → MayFollow plan before past (Done a)
+  done_follows : (a : _) → Waits (schedules_of plan) past.history a → MayFollow plan before past (Done a)
 
 -- Each entry of a legal log may follow those before it.
 abbrev pub IsLegalFrom : Plan → Option ℕ → Past → Log → Type 0

@@ -4,7 +4,7 @@ use Rattle.st_lex.proofs.lexer.lex.Goals as goal
 
 pub returns-in-End-clause-found : goal.returns-in-End-clause-found
 returns-in-End-clause-found c = record {
-  short = c.if-text-gt-LIMIT.false;
+  short = c.if-text-gt-MAX_SOURCE_BYTES.false;
   spells = at_end c.args.text.now c.loop-tokens.at c.loop-tokens.tokens.items c.in_ok-read_front.field-0 (c.in_ok-read_front.ensures.value) c.in-End.is c.loop-tokens.invariant.spells;
 }
 
@@ -26,7 +26,7 @@ loop-tokens-preserved c = record {
 }
 
 pub returns-in-Fault-clause-refused : goal.returns-in-Fault-clause-refused
-returns-in-Fault-clause-refused c = (c.if-text-gt-LIMIT.false, at_fault c.args.text.now c.loop-tokens.at c.in-Fault.n c.in-Fault.fault c.in_ok-read_front.field-0 c.in_ok-read_front.ensures.value c.in-Fault.is c.loop-tokens.invariant.breaks)
+returns-in-Fault-clause-refused c = (c.if-text-gt-MAX_SOURCE_BYTES.false, at_fault c.args.text.now c.loop-tokens.at c.in-Fault.n c.in-Fault.fault c.in_ok-read_front.field-0 c.in_ok-read_front.ensures.value c.in-Fault.is c.loop-tokens.invariant.breaks)
 
 pub returns-in-Fault-clause-only : goal.returns-in-Fault-clause-only
 returns-in-Fault-clause-only c = λ tokens s. no_list (at_fault c.args.text.now c.loop-tokens.at c.in-Fault.n c.in-Fault.fault c.in_ok-read_front.field-0 c.in_ok-read_front.ensures.value c.in-Fault.is c.loop-tokens.invariant.breaks) s.spells
