@@ -8,10 +8,9 @@ ghost use Rattle.st_parse.specs.Reading.{many};
 ghost use Rattle.st_parse.specs.UnitReading as reading;
 
 use crate::declaration::{declarations, externals};
-use crate::list::several;
 use crate::section::{block_section, external_section, function_section, own_section};
 use st_lex::{Keyword, Token};
-use st_statements::{ReadError, keyword, leads};
+use st_statements::{ReadError, keyword, leads, several};
 use st_trees::VariableBlock;
 use std::alloc::Global;
 

@@ -9,10 +9,9 @@ ghost use Rattle.st_parse.specs.Reading.{many, at_least_one};
 ghost use Rattle.st_parse.specs.ConfigurationReading as reading;
 
 use crate::global::global_block;
-use crate::list::several;
 use crate::resource::resource;
 use st_lex::{Keyword, Token};
-use st_statements::{ReadError, keyword, leads, name};
+use st_statements::{ReadError, keyword, leads, name, several};
 use st_trees::{Configuration, GlobalBlock, Resource};
 use std::alloc::Global;
 

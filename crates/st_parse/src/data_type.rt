@@ -8,10 +8,10 @@ ghost use Rattle.st_statements.specs.Parsers.{Gives, one};
 ghost use Rattle.st_parse.specs.Types as specs;
 ghost use Rattle.st_parse.specs.TypeReading as reading;
 
-use crate::list::several;
 use st_lex::{Keyword, Mark, Token, TokenKind};
 use st_statements::{
     ReadError, begins, begins_name, keyword, leads, mark, name, read_initial, read_number, refused,
+    several,
 };
 use st_trees::{
     ArrayType, Field, Initial, SimpleType, TypeDeclaration, TypeDefinition, VariableType,

@@ -8,10 +8,9 @@ ghost use Rattle.st_parse.specs.Reading.{many};
 ghost use Rattle.st_parse.specs.UnitReading as reading;
 
 use crate::data_type::{given_or_not, variable_type};
-use crate::list::several;
 use crate::names::names;
 use st_lex::{Mark, Token};
-use st_statements::{ReadError, begins_name, mark};
+use st_statements::{ReadError, begins_name, mark, several};
 use st_trees::Declaration;
 use std::alloc::Global;
 

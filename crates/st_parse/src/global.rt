@@ -9,10 +9,9 @@ ghost use Rattle.st_parse.specs.Configurations as specs;
 ghost use Rattle.st_parse.specs.ConfigurationReading as reading;
 
 use crate::data_type::{given_or_not, variable_type};
-use crate::list::several;
 use crate::names::names_behind;
 use st_lex::{Keyword, Mark, Token, TokenKind};
-use st_statements::{ReadError, begins_name, keyword, leads, mark, name, refused};
+use st_statements::{ReadError, begins_name, keyword, leads, mark, name, refused, several};
 use st_trees::{Address, GlobalBlock, GlobalDeclaration, GlobalNames, GlobalQualifier};
 use st_words::Identifier;
 use std::alloc::Global;

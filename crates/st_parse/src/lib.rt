@@ -6,7 +6,6 @@ mod configuration;
 mod data_type;
 mod declaration;
 mod global;
-mod list;
 mod names;
 mod parsing;
 mod resource;

@@ -7,9 +7,8 @@ ghost use Rattle.st_statements.specs.Parsers as parsers;
 ghost use Rattle.st_statements.specs.Parsers.{Gives, one};
 ghost use Rattle.st_parse.specs.UnitReading as reading;
 
-use crate::list::several;
 use st_lex::{Mark, Token};
-use st_statements::{ReadError, begins, mark, name};
+use st_statements::{ReadError, begins, mark, name, several};
 use st_words::Identifier;
 use std::alloc::Global;
 

@@ -9,9 +9,8 @@ ghost use Rattle.st_parse.specs.Reading.{many, at_least_one, optional};
 ghost use Rattle.st_parse.specs.Configurations as specs;
 ghost use Rattle.st_parse.specs.ConfigurationReading as reading;
 
-use crate::list::several;
 use st_lex::{Keyword, Mark, Token, TokenKind};
-use st_statements::{ReadError, keyword, leads, mark, name, refused};
+use st_statements::{ReadError, keyword, leads, mark, name, refused, several};
 use st_trees::{Instance, Priority, Resource, Task};
 use st_words::Identifier;
 use std::alloc::Global;

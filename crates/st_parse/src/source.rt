@@ -7,10 +7,9 @@ ghost use Rattle.st_parse.specs.SourceReading as reading;
 
 use crate::configuration::configuration;
 use crate::data_type::types;
-use crate::list::several;
 use crate::unit::{function, function_block, program};
 use st_lex::{Keyword, Token, TokenKind};
-use st_statements::{ReadError, refused};
+use st_statements::{ReadError, refused, several};
 use st_trees::{LibraryElement, Source};
 use std::alloc::Global;
 

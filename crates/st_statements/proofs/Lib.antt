@@ -1,4 +1,5 @@
 pub mod Turns
+pub mod Between
 pub mod Told
 pub mod ToldTurns
 pub mod Readings

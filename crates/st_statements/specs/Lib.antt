@@ -1,6 +1,7 @@
 pub mod Tokens
 pub mod Operators
 pub mod Parsers
+pub mod Calls
 pub mod Laws
 pub mod Places
 pub mod Expressions

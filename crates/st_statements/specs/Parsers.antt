@@ -4,11 +4,12 @@ use Rattle.st_words.specs.declared.literal.Number.{Number as NumberLeaf}
 use Rattle.st_lex.specs.declared.token.Token.{Token}
 use Rattle.st_lex.specs.declared.token.TokenKind.{TokenKind}
 use Rattle.st_lex.specs.declared.mark.Mark.TheVariants as m
+use Rattle.st_lex.specs.declared.keyword.Keyword.{Keyword as KeywordType}
 use Rattle.st_statements.specs.declared.fault.Refusal.{Refusal}
 use Rattle.st_statements.specs.declared.fault.Refusal.TheVariants.{Unexpected, Deep}
 use Rattle.st_statements.specs.declared.fault.ReadError.{ReadError}
 use Rattle.st_statements.specs.declared.fault.ReadError.TheVariants as errors
-use Rattle.st_statements.specs.Tokens.{Tokens, next, mark, whole, is_mark, negative_at}
+use Rattle.st_statements.specs.Tokens.{Tokens, next, mark, keyword, whole, is_mark, negative_at}
 
 -- what was read and the tokens after it, or why nothing was
 abbrev pub Outcome : Type 0 → Type 0
@@ -96,6 +97,14 @@ unfoldable pub listed : {A : Type 0} → Parser A → Parser (List A)
 listed item = do
   first ← item
   several (is_mark m.Comma) (after_comma item) (first ∷ [])
+
+-- an item between two keywords
+unfoldable pub between : {A : Type 0} → KeywordType → KeywordType → Parser A → Parser A
+between first last item = do
+  one (keyword first)
+  x ← item
+  one (keyword last)
+  pure x
 
 unfoldable pub negative_number_at : Parser NumberLeaf
 negative_number_at = do

@@ -6,6 +6,7 @@ mod expression;
 mod fault;
 mod initial;
 mod label;
+mod list;
 mod next;
 mod operator;
 mod place;
@@ -15,6 +16,7 @@ mod statement;
 mod terminal;
 
 pub use fault::{ParseError, ReadError, Refusal};
+pub use list::several;
 pub use next::{begins, begins_name, leads, refused};
 pub use place::parse_error;
 pub use reader::{read_expression, read_initial, read_number, read_statements};

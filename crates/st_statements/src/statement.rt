@@ -1,17 +1,21 @@
 //! Statements.
 
-ghost use Rattle.std.specs.Prelude.{◌≡◌, ◌≤◌, ◌<◌, [], map, option_map};
+ghost use Rattle.std.specs.Prelude.{◌≡◌, ◌≤◌, ◌<◌, [], ◌∷◌, List, map, option_map};
 ghost use Rattle.st_lex.specs.declared.keyword.Keyword.TheVariants as words;
 ghost use Rattle.st_trees.specs.ExpressionViews.{expr_view};
+ghost use Rattle.st_trees.specs.Statements as statements;
 ghost use Rattle.st_trees.specs.StatementViews.{stmt_view, arm_view, case_arm_view};
 ghost use Rattle.st_statements.specs.Tokens.{next, is_keyword};
-ghost use Rattle.st_statements.specs.Parsers.{Gives, several};
+ghost use Rattle.st_statements.specs.Parsers.{Parser, Gives, between};
+ghost use Rattle.st_statements.specs.Parsers as parsers;
+ghost use Rattle.st_statements.specs.Calls.{Reads};
 ghost use Rattle.st_statements.specs.StatementReading as reading;
 
 use crate::argument::arguments;
 use crate::expression::{expr, variable_of};
 use crate::fault::ReadError;
 use crate::label::labels;
+use crate::list::several;
 use crate::next::{begins, is_mark, leads, refused, sunk};
 use crate::terminal::{keyword, mark, name};
 use st_lex::{Keyword, Mark, Token, TokenKind};
@@ -135,130 +139,190 @@ fn step(
     Ok((None, tokens))
 }
 
-#[cycle(line)]
+/// Statements between two keywords.
+#[tactic(auto, unfolding(crate::specs::Parsers::between))]
+fn block<'a, I: Fn(&[Token]) -> Block<'_>>(
+    first: Keyword,
+    last: Keyword,
+    tokens: &'a [Token],
+    inner: &I,
+) -> Block<'a>
+    requires inner { I.IsAlwaysCallable inner.now }
+    ensures { (p : Parser (List statements.Stmt)) → Reads (λ xs. map stmt_view xs.items) (I.post inner.now) p
+        → Gives (λ x. (map stmt_view x.0.items, x.1.now)) result (between first last p tokens.now) }
+{
+    let (_, rest) = keyword(first, tokens)?;
+    let (body, rest) = inner(rest)?;
+    let (_, rest) = keyword(last, rest)?;
+    Ok((body, rest))
+}
+
 #[tactic(auto, unfolding(crate::specs::StatementReading::arm_at))]
-fn arm(alloc: Global, below: usize, tokens: &[Token]) -> FoundArm<'_>
-    requires { below < 64 }
+fn arm<'a, I: Fn(&[Token]) -> Block<'_>>(
+    alloc: Global,
+    below: usize,
+    tokens: &'a [Token],
+    inner: &I,
+) -> FoundArm<'a>
+    requires below { below < 64 }
+    requires inner { I.IsAlwaysCallable inner.now }
+    requires reads { Reads (λ xs. map stmt_view xs.items) (I.post inner.now) (reading.stmts_at below) }
     ensures { Gives (λ x. (arm_view x.0, x.1.now)) result (reading.arm_at below (reading.stmts_at below) tokens.now) }
 {
     let (condition, rest) = expr(alloc, below, 1, tokens)?;
     let (_, rest) = keyword(Keyword::Then, rest)?;
-    let (body, rest) = stmts(alloc, below, rest)?;
+    let (body, rest) = inner(rest)?;
     Ok((Arm { condition, body }, rest))
 }
 
-#[cycle(line)]
 #[tactic(auto, unfolding(crate::specs::StatementReading::elsif_at))]
-fn elsif(alloc: Global, below: usize, tokens: &[Token]) -> FoundArm<'_>
-    requires { below < 64 }
+fn elsif<'a, I: Fn(&[Token]) -> Block<'_>>(
+    alloc: Global,
+    below: usize,
+    tokens: &'a [Token],
+    inner: &I,
+) -> FoundArm<'a>
+    requires below { below < 64 }
+    requires inner { I.IsAlwaysCallable inner.now }
+    requires reads { Reads (λ xs. map stmt_view xs.items) (I.post inner.now) (reading.stmts_at below) }
     ensures { Gives (λ x. (arm_view x.0, x.1.now)) result (reading.elsif_at below (reading.stmts_at below) tokens.now) }
 {
     let (_, rest) = keyword(Keyword::Elsif, tokens)?;
-    arm(alloc, below, rest)
+    arm(alloc, below, rest, inner)
 }
 
-#[cycle(line)]
-fn more_arms<'a>(
+/// Arms behind a first one.
+fn arms_behind<'a, I: Fn(&[Token]) -> Block<'_>>(
     alloc: Global,
     below: usize,
-    mut found: Vec<Arm>,
-    mut tokens: &'a [Token],
+    first: Arm,
+    tokens: &'a [Token],
+    inner: &I,
 ) -> Result<(Vec<Arm>, &'a [Token]), ReadError>
-    requires { below < 64 }
-    ensures { Gives (λ x. (map arm_view x.0.items, x.1.now)) result (several (is_keyword words.Elsif) (reading.elsif_at below (reading.stmts_at below)) (map arm_view found.items) tokens.entry.now) }
+    requires below { below < 64 }
+    requires inner { I.IsAlwaysCallable inner.now }
+    requires reads { Reads (λ xs. map stmt_view xs.items) (I.post inner.now) (reading.stmts_at below) }
+    ensures { Gives (λ x. (map arm_view x.0.items, x.1.now)) result
+        (parsers.several (is_keyword words.Elsif) (reading.elsif_at below (reading.stmts_at below)) (arm_view first ∷ []) tokens.now) }
 {
-    for _turn in 0..tokens.len() {
-        if !leads(Keyword::Elsif, tokens) {
-            return Ok((found, tokens));
-        }
-        let (next, rest) = elsif(alloc, below, tokens)?;
-        found.push(next)?;
-        tokens = rest;
-    }
-    Ok((found, tokens))
+    let mut found = Vec::new(alloc);
+    found.push(first)?;
+    several(
+        found,
+        tokens,
+        |tokens| leads(Keyword::Elsif, tokens),
+        |tokens| elsif(alloc, below, tokens, inner),
+    )
 }
 
-#[cycle(line)]
 #[tactic(auto, unfolding(crate::specs::StatementReading::else_at, crate::specs::StatementReading::otherwise_at))]
-fn else_part(alloc: Global, below: usize, tokens: &[Token]) -> Block<'_>
-    requires { below < 64 }
+fn else_part<'a, I: Fn(&[Token]) -> Block<'_>>(
+    alloc: Global,
+    below: usize,
+    tokens: &'a [Token],
+    inner: &I,
+) -> Block<'a>
+    requires below { below < 64 }
+    requires inner { I.IsAlwaysCallable inner.now }
+    requires reads { Reads (λ xs. map stmt_view xs.items) (I.post inner.now) (reading.stmts_at below) }
     ensures { Gives (λ x. (map stmt_view x.0.items, x.1.now)) result (reading.else_at below (reading.stmts_at below) tokens.now) }
 {
     if leads(Keyword::Else, tokens) {
         let (_, rest) = keyword(Keyword::Else, tokens)?;
-        return stmts(alloc, below, rest);
+        return inner(rest);
     }
     Ok((Vec::new(alloc), tokens))
 }
 
-#[cycle(line)]
 #[tactic(auto, unfolding(crate::specs::StatementReading::if_at))]
-fn if_stmt(alloc: Global, below: usize, tokens: &[Token]) -> Found<'_>
-    requires { below < 64 }
+fn if_stmt<'a, I: Fn(&[Token]) -> Block<'_>>(
+    alloc: Global,
+    below: usize,
+    tokens: &'a [Token],
+    inner: &I,
+) -> Found<'a>
+    requires below { below < 64 }
+    requires inner { I.IsAlwaysCallable inner.now }
+    requires reads { Reads (λ xs. map stmt_view xs.items) (I.post inner.now) (reading.stmts_at below) }
     ensures { Gives (λ x. (stmt_view x.0, x.1.now)) result (reading.if_at below (reading.stmts_at below) tokens.now) }
 {
     let (_, rest) = keyword(Keyword::If, tokens)?;
-    let (first, rest) = arm(alloc, below, rest)?;
-    let mut found = Vec::new(alloc);
-    found.push(first)?;
-    let (arms, rest) = more_arms(alloc, below, found, rest)?;
-    let (other, rest) = else_part(alloc, below, rest)?;
+    let (first, rest) = arm(alloc, below, rest, inner)?;
+    let (arms, rest) = arms_behind(alloc, below, first, rest, inner)?;
+    let (other, rest) = else_part(alloc, below, rest, inner)?;
     let (_, rest) = keyword(Keyword::EndIf, rest)?;
     Ok((Stmt::choose(arms, other), rest))
 }
 
-#[cycle(line)]
 #[tactic(auto, unfolding(crate::specs::StatementReading::case_arm_at))]
-fn case_arm(alloc: Global, below: usize, tokens: &[Token]) -> FoundCaseArm<'_>
-    requires { below < 64 }
+fn case_arm<'a, I: Fn(&[Token]) -> Block<'_>>(
+    alloc: Global,
+    below: usize,
+    tokens: &'a [Token],
+    inner: &I,
+) -> FoundCaseArm<'a>
+    requires below { below < 64 }
+    requires inner { I.IsAlwaysCallable inner.now }
+    requires reads { Reads (λ xs. map stmt_view xs.items) (I.post inner.now) (reading.stmts_at below) }
     ensures { Gives (λ x. (case_arm_view x.0, x.1.now)) result (reading.case_arm_at below (reading.stmts_at below) tokens.now) }
 {
     let (labels, rest) = labels(alloc, tokens)?;
     let (_, rest) = mark(Mark::Colon, rest)?;
-    let (body, rest) = stmts(alloc, below, rest)?;
+    let (body, rest) = inner(rest)?;
     Ok((CaseArm { labels, body }, rest))
 }
 
-#[cycle(line)]
-fn case_arms<'a>(
+fn case_arms<'a, I: Fn(&[Token]) -> Block<'_>>(
     alloc: Global,
     below: usize,
-    mut tokens: &'a [Token],
+    tokens: &'a [Token],
+    inner: &I,
 ) -> Result<(Vec<CaseArm>, &'a [Token]), ReadError>
-    requires { below < 64 }
-    ensures { Gives (λ x. (map case_arm_view x.0.items, x.1.now)) result (several reading.starts_number (reading.case_arm_at below (reading.stmts_at below)) [] tokens.entry.now) }
+    requires below { below < 64 }
+    requires inner { I.IsAlwaysCallable inner.now }
+    requires reads { Reads (λ xs. map stmt_view xs.items) (I.post inner.now) (reading.stmts_at below) }
+    ensures { Gives (λ x. (map case_arm_view x.0.items, x.1.now)) result
+        (parsers.several reading.starts_number (reading.case_arm_at below (reading.stmts_at below)) [] tokens.now) }
 {
-    let mut found = Vec::new(alloc);
-    for _turn in 0..tokens.len() {
-        if !starts_number(tokens) {
-            return Ok((found, tokens));
-        }
-        let (next, rest) = case_arm(alloc, below, tokens)?;
-        found.push(next)?;
-        tokens = rest;
-    }
-    Ok((found, tokens))
+    several(
+        Vec::new(alloc),
+        tokens,
+        starts_number,
+        |tokens| case_arm(alloc, below, tokens, inner),
+    )
 }
 
-#[cycle(line)]
 #[tactic(auto, unfolding(crate::specs::StatementReading::case_at))]
-fn case_stmt(alloc: Global, below: usize, tokens: &[Token]) -> Found<'_>
-    requires { below < 64 }
+fn case_stmt<'a, I: Fn(&[Token]) -> Block<'_>>(
+    alloc: Global,
+    below: usize,
+    tokens: &'a [Token],
+    inner: &I,
+) -> Found<'a>
+    requires below { below < 64 }
+    requires inner { I.IsAlwaysCallable inner.now }
+    requires reads { Reads (λ xs. map stmt_view xs.items) (I.post inner.now) (reading.stmts_at below) }
     ensures { Gives (λ x. (stmt_view x.0, x.1.now)) result (reading.case_at below (reading.stmts_at below) tokens.now) }
 {
     let (_, rest) = keyword(Keyword::Case, tokens)?;
     let (selector, rest) = expr(alloc, below, 1, rest)?;
     let (_, rest) = keyword(Keyword::Of, rest)?;
-    let (arms, rest) = case_arms(alloc, below, rest)?;
-    let (other, rest) = else_part(alloc, below, rest)?;
+    let (arms, rest) = case_arms(alloc, below, rest, inner)?;
+    let (other, rest) = else_part(alloc, below, rest, inner)?;
     let (_, rest) = keyword(Keyword::EndCase, rest)?;
     Ok((Stmt::select(selector, arms, other), rest))
 }
 
-#[cycle(line)]
 #[tactic(auto, unfolding(crate::specs::StatementReading::for_at))]
-fn for_stmt(alloc: Global, below: usize, tokens: &[Token]) -> Found<'_>
-    requires { below < 64 }
+fn for_stmt<'a, I: Fn(&[Token]) -> Block<'_>>(
+    alloc: Global,
+    below: usize,
+    tokens: &'a [Token],
+    inner: &I,
+) -> Found<'a>
+    requires below { below < 64 }
+    requires inner { I.IsAlwaysCallable inner.now }
+    requires reads { Reads (λ xs. map stmt_view xs.items) (I.post inner.now) (reading.stmts_at below) }
     ensures { Gives (λ x. (stmt_view x.0, x.1.now)) result (reading.for_at below (reading.stmts_at below) tokens.now) }
 {
     let (_, rest) = keyword(Keyword::For, tokens)?;
@@ -268,44 +332,58 @@ fn for_stmt(alloc: Global, below: usize, tokens: &[Token]) -> Found<'_>
     let (_, rest) = keyword(Keyword::To, rest)?;
     let (limit, rest) = expr(alloc, below, 1, rest)?;
     let (by, rest) = step(alloc, below, rest)?;
-    let (_, rest) = keyword(Keyword::Do, rest)?;
-    let (body, rest) = stmts(alloc, below, rest)?;
-    let (_, rest) = keyword(Keyword::EndFor, rest)?;
+    let (body, rest) = block(Keyword::Do, Keyword::EndFor, rest, inner)?;
     Ok((Stmt::count(control, start, limit, by, body), rest))
 }
 
-#[cycle(line)]
 #[tactic(auto, unfolding(crate::specs::StatementReading::while_at))]
-fn while_stmt(alloc: Global, below: usize, tokens: &[Token]) -> Found<'_>
-    requires { below < 64 }
+fn while_stmt<'a, I: Fn(&[Token]) -> Block<'_>>(
+    alloc: Global,
+    below: usize,
+    tokens: &'a [Token],
+    inner: &I,
+) -> Found<'a>
+    requires below { below < 64 }
+    requires inner { I.IsAlwaysCallable inner.now }
+    requires reads { Reads (λ xs. map stmt_view xs.items) (I.post inner.now) (reading.stmts_at below) }
     ensures { Gives (λ x. (stmt_view x.0, x.1.now)) result (reading.while_at below (reading.stmts_at below) tokens.now) }
 {
     let (_, rest) = keyword(Keyword::While, tokens)?;
     let (condition, rest) = expr(alloc, below, 1, rest)?;
-    let (_, rest) = keyword(Keyword::Do, rest)?;
-    let (body, rest) = stmts(alloc, below, rest)?;
-    let (_, rest) = keyword(Keyword::EndWhile, rest)?;
+    let (body, rest) = block(Keyword::Do, Keyword::EndWhile, rest, inner)?;
     Ok((Stmt::repeat_while(condition, body), rest))
 }
 
-#[cycle(line)]
 #[tactic(auto, unfolding(crate::specs::StatementReading::repeat_at))]
-fn repeat_stmt(alloc: Global, below: usize, tokens: &[Token]) -> Found<'_>
-    requires { below < 64 }
+fn repeat_stmt<'a, I: Fn(&[Token]) -> Block<'_>>(
+    alloc: Global,
+    below: usize,
+    tokens: &'a [Token],
+    inner: &I,
+) -> Found<'a>
+    requires below { below < 64 }
+    requires inner { I.IsAlwaysCallable inner.now }
+    requires reads { Reads (λ xs. map stmt_view xs.items) (I.post inner.now) (reading.stmts_at below) }
     ensures { Gives (λ x. (stmt_view x.0, x.1.now)) result (reading.repeat_at below (reading.stmts_at below) tokens.now) }
 {
     let (_, rest) = keyword(Keyword::Repeat, tokens)?;
-    let (body, rest) = stmts(alloc, below, rest)?;
+    let (body, rest) = inner(rest)?;
     let (_, rest) = keyword(Keyword::Until, rest)?;
     let (condition, rest) = expr(alloc, below, 1, rest)?;
     let (_, rest) = keyword(Keyword::EndRepeat, rest)?;
     Ok((Stmt::repeat_until(body, condition), rest))
 }
 
-#[cycle(line)]
 #[tactic(auto, unfolding(crate::specs::StatementReading::stmt_at))]
-fn stmt(alloc: Global, below: usize, tokens: &[Token]) -> Found<'_>
-    requires { below < 64 }
+fn stmt<'a, I: Fn(&[Token]) -> Block<'_>>(
+    alloc: Global,
+    below: usize,
+    tokens: &'a [Token],
+    inner: &I,
+) -> Found<'a>
+    requires below { below < 64 }
+    requires inner { I.IsAlwaysCallable inner.now }
+    requires reads { Reads (λ xs. map stmt_view xs.items) (I.post inner.now) (reading.stmts_at below) }
     ensures { Gives (λ x. (stmt_view x.0, x.1.now)) result (reading.stmt_at below (reading.stmts_at below) tokens.now) }
 {
     let [t, ..] = tokens else {
@@ -314,11 +392,11 @@ fn stmt(alloc: Global, below: usize, tokens: &[Token]) -> Found<'_>
     match &t.kind {
         TokenKind::Name(_) => named(alloc, below, tokens),
         TokenKind::Mark(Mark::Semicolon) => Ok((Stmt::empty(), tokens)),
-        TokenKind::Keyword(Keyword::If) => if_stmt(alloc, below, tokens),
-        TokenKind::Keyword(Keyword::Case) => case_stmt(alloc, below, tokens),
-        TokenKind::Keyword(Keyword::For) => for_stmt(alloc, below, tokens),
-        TokenKind::Keyword(Keyword::While) => while_stmt(alloc, below, tokens),
-        TokenKind::Keyword(Keyword::Repeat) => repeat_stmt(alloc, below, tokens),
+        TokenKind::Keyword(Keyword::If) => if_stmt(alloc, below, tokens, inner),
+        TokenKind::Keyword(Keyword::Case) => case_stmt(alloc, below, tokens, inner),
+        TokenKind::Keyword(Keyword::For) => for_stmt(alloc, below, tokens, inner),
+        TokenKind::Keyword(Keyword::While) => while_stmt(alloc, below, tokens, inner),
+        TokenKind::Keyword(Keyword::Repeat) => repeat_stmt(alloc, below, tokens, inner),
         TokenKind::Keyword(Keyword::Exit) => exit_stmt(tokens),
         TokenKind::Keyword(Keyword::Return) => return_stmt(tokens),
         _ => Err(refused(tokens)),
@@ -335,25 +413,33 @@ fn line(alloc: Global, depth: usize, tokens: &[Token]) -> Found<'_>
     if depth == 0 {
         return Err(sunk(starts_stmt(tokens), tokens));
     }
-    let (found, rest) = stmt(alloc, depth - 1, tokens)?;
+    let below = depth - 1;
+    let (found, rest) = stmt(
+        alloc,
+        below,
+        tokens,
+        &|tokens: &[Token]| -> Block<'_>
+            requires { below < 64 }
+            ensures { Gives (λ x. (map stmt_view x.0.items, x.1.now)) result (reading.stmts_at below tokens.now) }
+        { stmts(alloc, below, tokens) },
+    )?;
     let (_, rest) = mark(Mark::Semicolon, rest)?;
     Ok((found, rest))
 }
 
 /// Statements of at most a depth.
 #[cycle(line)]
-pub fn stmts<'a>(alloc: Global, depth: usize, mut tokens: &'a [Token]) -> Block<'a>
+pub fn stmts(alloc: Global, depth: usize, tokens: &[Token]) -> Block<'_>
     requires { depth ≤ 64 }
-    ensures { Gives (λ x. (map stmt_view x.0.items, x.1.now)) result (reading.stmts_at depth tokens.entry.now) }
+    ensures { Gives (λ x. (map stmt_view x.0.items, x.1.now)) result (reading.stmts_at depth tokens.now) }
 {
-    let mut found = Vec::new(alloc);
-    for _turn in 0..tokens.len() {
-        if !starts_stmt(tokens) {
-            return Ok((found, tokens));
-        }
-        let (next, rest) = line(alloc, depth, tokens)?;
-        found.push(next)?;
-        tokens = rest;
-    }
-    Ok((found, tokens))
+    several(
+        Vec::new(alloc),
+        tokens,
+        starts_stmt,
+        |tokens: &[Token]| -> Found<'_>
+            requires { depth ≤ 64 }
+            ensures { Gives (λ x. (stmt_view x.0, x.1.now)) result (reading.line_at depth tokens.now) }
+        { line(alloc, depth, tokens) },
+    )
 }

@@ -334,3 +334,29 @@ impl Tree for Stmt {
         same_stmt(self, other)
     }
 }
+
+impl Tree for Arm {
+    ghost use Rattle.st_trees.specs.Statements as tree;
+    ghost use Rattle.st_trees.specs.StatementViews.{arm_view};
+
+    ghost Mirror = { tree.Arm };
+
+    ghost view = { arm_view };
+
+    fn is(&self, other: &Arm) -> bool {
+        same_arm(self, other)
+    }
+}
+
+impl Tree for CaseArm {
+    ghost use Rattle.st_trees.specs.Statements as tree;
+    ghost use Rattle.st_trees.specs.StatementViews.{case_arm_view};
+
+    ghost Mirror = { tree.CaseArm };
+
+    ghost view = { case_arm_view };
+
+    fn is(&self, other: &CaseArm) -> bool {
+        same_case_arm(self, other)
+    }
+}
