@@ -5,11 +5,11 @@ use Rattle.std.specs.List.{list_all, flat_map, AllByRecursion, IsDistinct}
 use Rattle.std.proofs.lemmas.Bool.{and_parts, or_parts, not-true}
 use Rattle.st_words.specs.declared.limits.TheConstants.{MOMENT_LIMIT}
 use Rattle.st_words.specs.declared.kind.Kind.{Kind}
-use Rattle.st_words.specs.Kinds.{row_of}
+use Rattle.st_words.specs.Kinds.{row_of, width_of}
 use Rattle.st_words.specs.Values.{Datum, IsHeld}
 use Rattle.st_plans.specs.declared.plan.PlanVariable.{PlanVariable}
 use Rattle.st_types.specs.Scopes.{Name, contains_name}
-use Rattle.st_plans.specs.Layouts.{path_text, line_of, layout_text, width_of, values_length, record_length}
+use Rattle.st_plans.specs.Layouts.{path_text, line_of, layout_text, values_length, record_length}
 use Rattle.config.specs.Sound.{are_different, is_spelled}
 use Rattle.retain_store.specs.Records.{Line, line_text, text_of, is_path_text, is_visible, IsLayout, IsRecordable, value_bytes, record_bytes}
 use Rattle.retain_store.specs.Reading.{line_at}

@@ -5,9 +5,9 @@ use Rattle.std.proofs.Math.Seq.{drop-cons}
 use Rattle.std.proofs.Math.Numerals.{suc-eq-add-one}
 use Rattle.st_words.specs.declared.kind.Kind.{Kind}
 use Rattle.st_words.specs.declared.kind.Kind.TheVariants.{Sint, Int, Dint, Lint, Usint, Uint, Udint, Ulint, Byte, Word, Dword, Lword, Time, Bool as Boolean}
-use Rattle.st_words.specs.Kinds.{row_of}
+use Rattle.st_words.specs.Kinds.{row_of, width_of}
 use Rattle.st_plans.specs.declared.plan.PlanVariable.{PlanVariable}
-use Rattle.st_plans.specs.Layouts.{line_of, path_text, owner_text, steps_text, layout_text, values_length, width_of, record_length}
+use Rattle.st_plans.specs.Layouts.{line_of, path_text, owner_text, steps_text, layout_text, values_length, record_length}
 use Rattle.std.specs.Prelude.{codes}
 use Rattle.std.specs.List.{list_all}
 use Rattle.std.proofs.lemmas.List.{append-nil, length-append, drop_all}

@@ -1,7 +1,8 @@
 -- The length of a record by its variables.
 use Rattle.std.specs.Prelude.{ℕ, ◌+◌, List, [], ◌∷◌, length, if◌then◌else◌}
 use Rattle.st_plans.specs.declared.plan.PlanVariable.{PlanVariable}
-use Rattle.st_plans.specs.Layouts.{line_of, width_of}
+use Rattle.st_plans.specs.Layouts.{line_of}
+use Rattle.st_words.specs.Kinds.{width_of}
 
 -- the bytes of a record that are a variable's: its line, and its value
 abbrev pub kept_length : PlanVariable → ℕ

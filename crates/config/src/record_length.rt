@@ -3,8 +3,8 @@
 ghost use Rattle.std.specs.Prelude.{◌≡◌, ◌+◌, ◌≤◌, length, true, if◌then◌else◌};
 ghost use Rattle.std.specs.List.{list_all};
 ghost use Rattle.st_words.specs.declared.limits.TheConstants.{MAX_PATHS};
-ghost use Rattle.st_words.specs.Kinds.{row_of};
-ghost use Rattle.st_plans.specs.Layouts.{line_of, width_of, record_length};
+ghost use Rattle.st_words.specs.Kinds.{row_of, width_of};
+ghost use Rattle.st_plans.specs.Layouts.{line_of, record_length};
 ghost use Rattle.config.specs.ThinPlans.{is_thin_variable};
 ghost use Rattle.config.specs.RecordLengths.{kept_length};
 

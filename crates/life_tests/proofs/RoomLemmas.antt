@@ -5,7 +5,7 @@ use Rattle.std.proofs.lemmas.List.{length-append}
 use Rattle.st_words.specs.declared.kind.Kind.{Kind}
 use Rattle.st_words.specs.declared.kind.Kind.TheVariants.{Sint, Int, Dint, Lint, Usint, Uint, Udint, Ulint, Byte, Word, Dword, Lword, Time, Bool as Boolean}
 use Rattle.st_words.specs.Values.{Datum}
-use Rattle.st_plans.specs.Layouts.{width_of}
+use Rattle.st_words.specs.Kinds.{width_of}
 use Rattle.retain_store.specs.Records.{value_bytes, record_bytes}
 use Rattle.retain_store.specs.LineLaws.{value_length}
 use Rattle.retain_store.specs.RecordLaws.{body_length}

@@ -12,9 +12,8 @@ use Rattle.std.proofs.lemmas.List.Concat.{flat_map-append}
 use Rattle.st_words.specs.declared.kind.Kind.{Kind}
 use Rattle.st_words.specs.declared.kind.Kind.TheVariants.{Sint, Int, Dint, Lint, Usint, Uint, Udint, Ulint, Byte, Word, Dword, Lword, Time, Bool as Boolean}
 use Rattle.st_words.specs.Values.{Datum}
-use Rattle.st_words.specs.Kinds.{holds}
+use Rattle.st_words.specs.Kinds.{holds, width_of}
 use Rattle.retain_store.specs.LineLaws.{type_of}
-use Rattle.st_plans.specs.Layouts.{width_of}
 use Rattle.retain_store.specs.Records.{wide_of, value_bytes}
 
 -- the last bytes of eight

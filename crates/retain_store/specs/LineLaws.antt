@@ -13,9 +13,8 @@ use Rattle.std.proofs.lemmas.Slice.Eq.{bytes_eq-Decides}
 use Rattle.std.proofs.lemmas.List.{length-append}
 use Rattle.st_words.specs.declared.kind.Kind.{Kind}
 use Rattle.st_words.specs.declared.kind.Kind.TheVariants.{Sint, Int, Dint, Lint, Usint, Uint, Udint, Ulint, Byte, Word, Dword, Lword, Time, Bool as Boolean}
-use Rattle.st_words.specs.Kinds.{row_of, holds}
+use Rattle.st_words.specs.Kinds.{row_of, holds, width_of}
 use Rattle.st_words.specs.Values.{Datum, IsHeld}
-use Rattle.st_plans.specs.Layouts.{width_of}
 use Rattle.retain_store.specs.Records.{Line, line_text, text_of, is_visible, is_path_text, wide_of, value_bytes}
 use Rattle.retain_store.specs.Reading.{◌>>=◌, number_at, cut, all_kinds, kind_of, line_at, number_of, value_at, Variable, variable_at, variables_in}
 use Rattle.retain_store.specs.FieldLaws.{IsBytes, bind_some, some_is, when_some, Takes, IsWide, wide8, wide16, wide32, wide64, number_takes, number_again, has_no, cut_takes, cut_again, chosen}

@@ -2,7 +2,7 @@
 
 ghost use Rattle.std.specs.Prelude.{◌≡◌, ℕ, List, Some, length};
 ghost use Rattle.st_words.specs.Values.{Datum};
-ghost use Rattle.st_plans.specs.Layouts.{width_of};
+ghost use Rattle.st_words.specs.Kinds.{width_of};
 ghost use Rattle.retain_store.specs.Records.{Content, IsRecord, value_bytes};
 ghost use Rattle.retain_store.specs.Reading.{decoded};
 ghost use Rattle.retain_store.specs.FieldLaws.{IsBytes};

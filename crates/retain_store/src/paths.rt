@@ -5,6 +5,7 @@ ghost use Rattle.std.specs.Vec.{vec_capacity};
 ghost use Rattle.std.specs.List.Sorted.{IsPermutation, IsSortedByKey};
 ghost use Rattle.std.specs.Cmp.Lexicographic.{slice_cmp};
 ghost use Rattle.std.specs.Ordering.{nat_cmp};
+ghost use Rattle.retain_store.specs.declared.format.TheConstants.{MAX_LINES};
 ghost use Rattle.retain_store.specs.Reading.{are_distinct, neighbours_differ, path_from};
 
 use crate::format::MAX_LINES;

@@ -3,7 +3,7 @@
 ghost use Rattle.std.specs.Prelude.{◌≡◌, ◌<◌, ◌^◌, length, option_map, pos, ◌≤ℤ◌};
 ghost use Rattle.std.specs.Int.{byte_len, cast_unsigned, from_be_bytes};
 ghost use mir.Val.{bits};
-ghost use Rattle.st_plans.specs.Layouts.{width_of};
+ghost use Rattle.st_words.specs.Kinds.{width_of};
 ghost use Rattle.retain_store.specs.Records.{wide_of};
 ghost use Rattle.retain_store.specs.Reading.{number_of, value_at};
 

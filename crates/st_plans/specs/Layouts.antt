@@ -5,7 +5,7 @@ use Rattle.st_words.specs.declared.kind.Kind.{Kind}
 use Rattle.st_words.specs.declared.path.Owner.{Owner}
 use Rattle.st_words.specs.declared.path.Step.{Step}
 use Rattle.st_words.specs.declared.path.Step.TheVariants.{Member, Element}
-use Rattle.st_words.specs.Kinds.{row_of}
+use Rattle.st_words.specs.Kinds.{row_of, width_of}
 use Rattle.st_words.specs.Paths.{Path}
 use Rattle.st_plans.specs.declared.plan.PlanVariable.{PlanVariable}
 use Rattle.st_plans.specs.declared.plan.PlanInput.{PlanInput}
@@ -44,10 +44,6 @@ line_of v = path_text v.path ++ codes " " ++ (row_of v.initial.kind).keyword ++ 
 abbrev pub layout_text : List PlanVariable → List ℕ
 layout_text [] = []
 layout_text (v ∷ vs) = if v.retained then line_of v ++ layout_text vs else layout_text vs
-
--- how many bytes a value of a type takes in a record: one for a BOOL, else its width
-abbrev pub width_of : Kind → ℕ
-width_of k = ((row_of k).bits + 7) / 8
 
 abbrev pub values_length : List PlanVariable → ℕ
 values_length [] = 0

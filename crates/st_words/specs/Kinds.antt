@@ -1,5 +1,5 @@
 -- The elementary types, as one table.
-use Rattle.std.specs.Prelude.{ℕ, ◌-◌, ◌^◌, ◌==◌, ℤ, pos, neg_ℤ, int_le, List, Bool, true, false, ◌&&◌, codes}
+use Rattle.std.specs.Prelude.{ℕ, ◌+◌, ◌-◌, ◌/◌, ◌^◌, ◌==◌, ℤ, pos, neg_ℤ, int_le, List, Bool, true, false, ◌&&◌, codes}
 use Rattle.st_words.specs.declared.kind.Kind.{Kind}
 use Rattle.st_words.specs.declared.kind.Kind.TheVariants.{Sint, Int, Dint, Lint, Usint, Uint, Udint, Ulint, Byte, Word, Dword, Lword, Time, Bool as Boolean}
 use Rattle.st_words.specs.declared.kind.Sort.{Sort}
@@ -53,7 +53,11 @@ greatest k = greatest_of (is_signed (row_of k).sort) (row_of k).bits
 abbrev pub holds : Kind → ℤ → Bool
 holds k z = int_le (least k) z && int_le z (greatest k)
 
--- where the type stands in the table
+-- how many bytes a value of a type takes in a record: one for a BOOL, else its width
+abbrev pub width_of : Kind → ℕ
+width_of k = ((row_of k).bits + 7) / 8
+
+-- the index of the type in the table
 abbrev pub kind_index : Kind → ℕ
 kind_index Sint = 0
 kind_index Int = 1

@@ -1,4 +1,4 @@
-use Rattle.std.proofs.Common.{◌∙◌, ap, subst, sym, List, ℕ, [], ◌∷◌}
+use Rattle.std.proofs.Common.{◌-◌, ◌∙◌, ap, subst, sym, List, ℕ, [], ◌∷◌}
 use Rattle.retain_store.specs.declared.format.TheConstants.{FILE_BYTES}
 use Rattle.disk.specs.Disk.{Torn, overwritten}
 use Rattle.retain_store.specs.Areas.{IsEmpty}

@@ -1,4 +1,4 @@
-use Rattle.std.proofs.Common.{◌≡◌, List, ℕ, take, arith, refl, sym, ap, subst, ◌∙◌}
+use Rattle.std.proofs.Common.{◌-◌, ◌≡◌, List, ℕ, take, arith, refl, sym, ap, subst, ◌∙◌}
 use Rattle.retain_store.specs.declared.format.TheConstants.{FILE_BYTES}
 use Rattle.disk.specs.Runs.{at_rest}
 use Rattle.retain_store.specs.Recovered.{recovered}
