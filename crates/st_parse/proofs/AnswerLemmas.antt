@@ -2,6 +2,7 @@
 use Rattle.std.proofs.Common.{◌≡◌, ℕ, ◌+◌, ◌-◌, false, [], ◌∷◌, ◌++◌, length, drop, Ok, Err, refl, sym, ap, subst, ◌∙◌, arith}
 use Rattle.std.proofs.lemmas.List.{append-nil, length-append}
 use Rattle.std.proofs.Math.Seq.{drop-append_seam}
+use Rattle.st_words.specs.declared.limits.TheConstants.{MAX_DEPTH}
 use Rattle.st_trees.specs.Sources.{Source}
 use Rattle.st_statements.specs.declared.fault.Refusal.{Refusal}
 use Rattle.st_statements.specs.declared.fault.Refusal.TheVariants.{Unexpected, Deep}
@@ -25,20 +26,20 @@ use Rattle.st_parse.proofs.Bounds.{bounded_source}
 begun : (front : Tokens) → Begins (Many IsElement) front → BeginsSource front
 begun front b = record { more = b.more ++ []; source = b.tree; whole = b.whole [] }
 
-told : (ts : Tokens) → Told (λ n. source_at (64 + n)) (Many IsElement) (λ xs us. SourceWithin 64 xs × (next is_token us ≡ false)) ts (source_at (64 + 0) ts)
-told = told_by (reads_source 64)
+told : (ts : Tokens) → Told (λ n. source_at (MAX_DEPTH + n)) (Many IsElement) (λ xs us. SourceWithin MAX_DEPTH xs × (next is_token us ≡ false)) ts (source_at (MAX_DEPTH + 0) ts)
+told = told_by (reads_source MAX_DEPTH)
 
 no_tokens : (us : Tokens) → next is_token us ≡ false → us ≡ []
 no_tokens [] eq = refl
 no_tokens (t ∷ us) eq = absurd cc
 
-kept_source : (ts us : Tokens) (x : Source) → Kept (λ n. source_at (64 + n)) (Many IsElement) (λ xs us. SourceWithin 64 xs × (next is_token us ≡ false)) ts x us → IsSource ts x × SourceWithin 64 x
+kept_source : (ts us : Tokens) (x : Source) → Kept (λ n. source_at (MAX_DEPTH + n)) (Many IsElement) (λ xs us. SourceWithin MAX_DEPTH xs × (next is_token us ≡ false)) ts x us → IsSource ts x × SourceWithin MAX_DEPTH x
 kept_source ts us x k =
     let none = no_tokens us k.low.1 in
     let parts : ts ≡ k.front ++ [] = k.parts ∙ ap (λ (vs : Tokens). k.front ++ vs) none in
     (subst (λ (zs : Tokens). IsSource zs x) (sym parts) (k.is []), k.low.0)
 
-lost_place : (ts : Tokens) (n : ℕ) → Lost (λ k. source_at (64 + k)) (Many IsElement) ts n → (front : Tokens) × (rest : Tokens) × (ts ≡ front ++ rest) × (length rest ≡ n) × IsUnexpectedAt ts (place_behind front rest)
+lost_place : (ts : Tokens) (n : ℕ) → Lost (λ k. source_at (MAX_DEPTH + k)) (Many IsElement) ts n → (front : Tokens) × (rest : Tokens) × (ts ≡ front ++ rest) × (length rest ≡ n) × IsUnexpectedAt ts (place_behind front rest)
 lost_place ts n l = (
   l.front,
   l.rest,
@@ -52,39 +53,39 @@ lost_place ts n l = (
     begins = begun l.front l.begun;
     none = λ more source same i.
         let b = bounded_source.bound source in
-        let low = bounded_source.deeper b.0 (64 + b.0) source (omega arith) b.1 in
-        let read = source_again (64 + b.0) i low in
+        let low = bounded_source.deeper b.0 (MAX_DEPTH + b.0) source (omega arith) b.1 in
+        let read = source_again (MAX_DEPTH + b.0) i low in
         let refused = l.again b.0 more same in
         absurd cc;
   },
 )
 
-sunk_deep : (ts : Tokens) → Sunk (λ k. source_at (64 + k)) (Many IsElement) ts → IsTooDeep ts
+sunk_deep : (ts : Tokens) → Sunk (λ k. source_at (MAX_DEPTH + k)) (Many IsElement) ts → IsTooDeep ts
 sunk_deep ts l = record {
   front = l.front;
   rest = l.rest;
   parts = l.parts;
   begins = begun l.front l.begun;
-  none = λ more source i low. let read = source_again 64 i low in let refused = l.again more in absurd cc;
+  none = λ more source i low. let read = source_again MAX_DEPTH i low in let refused = l.again more in absurd cc;
 }
 
-told_as : (ts : Tokens) (r : Outcome Source) → source_at 64 ts ≡ r → Told (λ n. source_at (64 + n)) (Many IsElement) (λ xs us. SourceWithin 64 xs × (next is_token us ≡ false)) ts r
-told_as ts r eq = subst (λ (z : Outcome Source). Told (λ n. source_at (64 + n)) (Many IsElement) (λ xs us. SourceWithin 64 xs × (next is_token us ≡ false)) ts z) eq (told ts)
+told_as : (ts : Tokens) (r : Outcome Source) → source_at MAX_DEPTH ts ≡ r → Told (λ n. source_at (MAX_DEPTH + n)) (Many IsElement) (λ xs us. SourceWithin MAX_DEPTH xs × (next is_token us ≡ false)) ts r
+told_as ts r eq = subst (λ (z : Outcome Source). Told (λ n. source_at (MAX_DEPTH + n)) (Many IsElement) (λ xs us. SourceWithin MAX_DEPTH xs × (next is_token us ≡ false)) ts z) eq (told ts)
 
-pub found_source : (ts us : Tokens) (x : Source) → source_at 64 ts ≡ Ok (x, us) → IsSource ts x × SourceWithin 64 x
+pub found_source : (ts us : Tokens) (x : Source) → source_at MAX_DEPTH ts ≡ Ok (x, us) → IsSource ts x × SourceWithin MAX_DEPTH x
 found_source ts us x eq = kept_source ts us x (told_as ts (Ok (x, us)) eq)
 
-pub unexpected : (ts : Tokens) (n : ℕ) → source_at 64 ts ≡ Err (Unexpected n) → (front : Tokens) × (rest : Tokens) × (ts ≡ front ++ rest) × (length rest ≡ n) × IsUnexpectedAt ts (place_behind front rest)
+pub unexpected : (ts : Tokens) (n : ℕ) → source_at MAX_DEPTH ts ≡ Err (Unexpected n) → (front : Tokens) × (rest : Tokens) × (ts ≡ front ++ rest) × (length rest ≡ n) × IsUnexpectedAt ts (place_behind front rest)
 unexpected ts n eq = lost_place ts n (told_as ts (Err (Unexpected n)) eq)
 
-pub deep_source : (ts : Tokens) → source_at 64 ts ≡ Err Deep → IsTooDeep ts
+pub deep_source : (ts : Tokens) → source_at MAX_DEPTH ts ≡ Err Deep → IsTooDeep ts
 deep_source ts eq = sunk_deep ts (told_as ts (Err Deep) eq)
 
-pub only_ok : (ts us : Tokens) (x source : Source) → source_at 64 ts ≡ Ok (x, us) → IsSource ts source → SourceWithin 64 source → x ≡ source
-only_ok ts us x source eq i low = let read = source_again 64 i low in let both : (x, us) ≡ (source, []) = cc in ap (λ (p : Source × Tokens). p.0) both
+pub only_ok : (ts us : Tokens) (x source : Source) → source_at MAX_DEPTH ts ≡ Ok (x, us) → IsSource ts source → SourceWithin MAX_DEPTH source → x ≡ source
+only_ok ts us x source eq i low = let read = source_again MAX_DEPTH i low in let both : (x, us) ≡ (source, []) = cc in ap (λ (p : Source × Tokens). p.0) both
 
-pub never_refused : (ts : Tokens) (r : Refusal) (source : Source) → source_at 64 ts ≡ Err r → IsSource ts source → SourceWithin 64 source → ⊥
-never_refused ts r source eq i low = let read = source_again 64 i low in absurd cc
+pub never_refused : (ts : Tokens) (r : Refusal) (source : Source) → source_at MAX_DEPTH ts ≡ Err r → IsSource ts source → SourceWithin MAX_DEPTH source → ⊥
+never_refused ts r source eq i low = let read = source_again MAX_DEPTH i low in absurd cc
 
 -- ---- places
 
@@ -103,14 +104,14 @@ place_is ts front rest n parts count = rw (parts, sym count) (ap (λ (us : Token
 
 -- ---- answers
 
-pub error_told : (ts : Tokens) (e : ReadError) → Fails e (source_at 64 ts) → Refused ts (parse_error ts e)
+pub error_told : (ts : Tokens) (e : ReadError) → Fails e (source_at MAX_DEPTH ts) → Refused ts (parse_error ts e)
 error_told ts errors.Memory f = tt
 error_told ts (errors.Refused Deep) f = deep_source ts f
 error_told ts (errors.Refused (Unexpected n)) f =
     let l = unexpected ts n f in
     subst (λ (place : ℕ). IsUnexpectedAt ts place) (sym (place_is ts l.0 l.1 n l.2 l.3)) l.4
 
-pub error_only : (ts : Tokens) (e : ReadError) (source : Source) → Fails e (source_at 64 ts) → IsSource ts source → SourceWithin 64 source → Answers source (Err (parse_error ts e))
+pub error_only : (ts : Tokens) (e : ReadError) (source : Source) → Fails e (source_at MAX_DEPTH ts) → IsSource ts source → SourceWithin MAX_DEPTH source → Answers source (Err (parse_error ts e))
 error_only ts errors.Memory source f i low = tt
 error_only ts (errors.Refused Deep) source f i low = never_refused ts Deep source f i low
 error_only ts (errors.Refused (Unexpected n)) source f i low = never_refused ts (Unexpected n) source f i low

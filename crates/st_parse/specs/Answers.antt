@@ -1,5 +1,6 @@
 -- What parsing answers.
 use Rattle.std.specs.Prelude.{◌≡◌, ℕ, [], ◌∷◌, ◌++◌, Result, Ok, Err}
+use Rattle.st_words.specs.declared.limits.TheConstants.{MAX_DEPTH}
 use Rattle.st_trees.specs.Sources.{Source}
 use Rattle.st_trees.specs.SourceViews.{source_view}
 use Rattle.st_trees.specs.declared.source.Source.{Source as Tree}
@@ -37,7 +38,7 @@ pub record IsTooDeep (tokens : Tokens) : Type 0 where
   pub rest : Tokens
   pub parts : tokens ≡ front ++ rest
   pub begins : BeginsSource front
-  pub none : (more : Tokens) (source : Source) → IsSource (front ++ more) source → SourceWithin 64 source → ⊥
+  pub none : (more : Tokens) (source : Source) → IsSource (front ++ more) source → SourceWithin MAX_DEPTH source → ⊥
 
 -- why tokens are refused; out of memory says nothing of them
 abbrev pub Refused : Tokens → ParseError → Type 0

@@ -1,6 +1,7 @@
 //! Blocks of variables, from their first word to END_VAR.
 
 ghost use Rattle.std.specs.Prelude.{◌≡◌, [], map};
+ghost use Rattle.st_words.specs.declared.limits.TheConstants.{MAX_DEPTH};
 ghost use Rattle.st_trees.specs.DeclarationViews.{variable_block_view};
 ghost use Rattle.st_statements.specs.Tokens.{next};
 ghost use Rattle.st_statements.specs.Parsers.{Gives};
@@ -20,7 +21,7 @@ type Blocks<'a> = Result<(Vec<VariableBlock>, &'a [Token]), ReadError>;
 
 #[tactic(auto, unfolding(crate::specs::UnitReading::function_block_at, crate::specs::UnitReading::block_at))]
 fn function_block(alloc: Global, tokens: &[Token]) -> Block<'_>
-    ensures { Gives (λ x. (variable_block_view x.0, x.1.now)) result (reading.function_block_at 64 tokens.now) }
+    ensures { Gives (λ x. (variable_block_view x.0, x.1.now)) result (reading.function_block_at MAX_DEPTH tokens.now) }
 {
     let (section, rest) = function_section(tokens)?;
     let (declarations, rest) = declarations(alloc, rest)?;
@@ -48,7 +49,7 @@ fn external_block(alloc: Global, tokens: &[Token]) -> Block<'_>
 
 #[tactic(auto, unfolding(crate::specs::UnitReading::program_block_at, crate::specs::UnitReading::block_at))]
 fn program_block(alloc: Global, tokens: &[Token]) -> Block<'_>
-    ensures { Gives (λ x. (variable_block_view x.0, x.1.now)) result (reading.program_block_at 64 tokens.now) }
+    ensures { Gives (λ x. (variable_block_view x.0, x.1.now)) result (reading.program_block_at MAX_DEPTH tokens.now) }
 {
     if leads(Keyword::VarExternal, tokens) {
         return external_block(alloc, tokens);
@@ -65,7 +66,7 @@ fn program_block(alloc: Global, tokens: &[Token]) -> Block<'_>
 
 #[tactic(auto, unfolding(crate::specs::UnitReading::variable_block_at, crate::specs::UnitReading::block_at))]
 fn variable_block(alloc: Global, tokens: &[Token]) -> Block<'_>
-    ensures { Gives (λ x. (variable_block_view x.0, x.1.now)) result (reading.variable_block_at 64 tokens.now) }
+    ensures { Gives (λ x. (variable_block_view x.0, x.1.now)) result (reading.variable_block_at MAX_DEPTH tokens.now) }
 {
     if leads(Keyword::VarExternal, tokens) {
         return external_block(alloc, tokens);
@@ -103,7 +104,7 @@ fn begins_in_block(tokens: &[Token]) -> bool
 /// The blocks of a function.
 #[tactic(auto, unfolding(crate::specs::Reading::many))]
 pub fn function_blocks(alloc: Global, tokens: &[Token]) -> Blocks<'_>
-    ensures { Gives (λ x. (map variable_block_view x.0.items, x.1.now)) result (many reading.starts_function_section (reading.function_block_at 64) tokens.now) }
+    ensures { Gives (λ x. (map variable_block_view x.0.items, x.1.now)) result (many reading.starts_function_section (reading.function_block_at MAX_DEPTH) tokens.now) }
 {
     several(
         Vec::new(alloc),
@@ -116,7 +117,7 @@ pub fn function_blocks(alloc: Global, tokens: &[Token]) -> Blocks<'_>
 /// The blocks of a program.
 #[tactic(auto, unfolding(crate::specs::Reading::many))]
 pub fn program_blocks(alloc: Global, tokens: &[Token]) -> Blocks<'_>
-    ensures { Gives (λ x. (map variable_block_view x.0.items, x.1.now)) result (many reading.starts_program_section (reading.program_block_at 64) tokens.now) }
+    ensures { Gives (λ x. (map variable_block_view x.0.items, x.1.now)) result (many reading.starts_program_section (reading.program_block_at MAX_DEPTH) tokens.now) }
 {
     several(
         Vec::new(alloc),
@@ -129,7 +130,7 @@ pub fn program_blocks(alloc: Global, tokens: &[Token]) -> Blocks<'_>
 /// The blocks of a function block.
 #[tactic(auto, unfolding(crate::specs::Reading::many))]
 pub fn variable_blocks(alloc: Global, tokens: &[Token]) -> Blocks<'_>
-    ensures { Gives (λ x. (map variable_block_view x.0.items, x.1.now)) result (many reading.starts_block_section (reading.variable_block_at 64) tokens.now) }
+    ensures { Gives (λ x. (map variable_block_view x.0.items, x.1.now)) result (many reading.starts_block_section (reading.variable_block_at MAX_DEPTH) tokens.now) }
 {
     several(
         Vec::new(alloc),

@@ -1,6 +1,7 @@
 //! Configurations.
 
 ghost use Rattle.std.specs.Prelude.{◌≡◌, ◌∷◌, [], map};
+ghost use Rattle.st_words.specs.declared.limits.TheConstants.{MAX_DEPTH};
 ghost use Rattle.st_lex.specs.declared.keyword.Keyword.TheVariants as keywords;
 ghost use Rattle.st_trees.specs.ConfigurationViews.{global_block_view, resource_view, configuration_view};
 ghost use Rattle.st_statements.specs.Tokens.{is_keyword};
@@ -17,7 +18,7 @@ use std::alloc::Global;
 
 #[tactic(auto, unfolding(crate::specs::Reading::many))]
 fn global_blocks(alloc: Global, tokens: &[Token]) -> Result<(Vec<GlobalBlock>, &[Token]), ReadError>
-    ensures { Gives (λ x. (map global_block_view x.0.items, x.1.now)) result (many (is_keyword keywords.VarGlobal) (reading.global_block_at 64) tokens.now) }
+    ensures { Gives (λ x. (map global_block_view x.0.items, x.1.now)) result (many (is_keyword keywords.VarGlobal) (reading.global_block_at MAX_DEPTH) tokens.now) }
 {
     several(
         Vec::new(alloc),
@@ -48,7 +49,7 @@ pub fn configuration(
     alloc: Global,
     tokens: &[Token],
 ) -> Result<(Configuration, &[Token]), ReadError>
-    ensures { Gives (λ x. (configuration_view x.0, x.1.now)) result (reading.configuration_at 64 tokens.now) }
+    ensures { Gives (λ x. (configuration_view x.0, x.1.now)) result (reading.configuration_at MAX_DEPTH tokens.now) }
 {
     let (_, rest) = keyword(Keyword::Configuration, tokens)?;
     let (configuration, rest) = name(alloc, rest)?;

@@ -1,6 +1,7 @@
 //! Types.
 
 ghost use Rattle.std.specs.Prelude.{◌≡◌, ◌∷◌, [], map, option_map};
+ghost use Rattle.st_words.specs.declared.limits.TheConstants.{MAX_DEPTH};
 ghost use Rattle.st_trees.specs.InitialViews.{initial_view};
 ghost use Rattle.st_trees.specs.DeclarationViews.{field_view, type_definition_view, type_declaration_view};
 ghost use Rattle.st_statements.specs.Tokens.{is_name};
@@ -75,7 +76,7 @@ pub fn variable_type(alloc: Global, tokens: &[Token]) -> Result<(VariableType, &
 
 #[tactic(auto, unfolding(crate::specs::TypeReading::given_at))]
 fn given(alloc: Global, tokens: &[Token]) -> Result<(Initial, &[Token]), ReadError>
-    ensures { Gives (λ x. (initial_view x.0, x.1.now)) result (reading.given_at 64 tokens.now) }
+    ensures { Gives (λ x. (initial_view x.0, x.1.now)) result (reading.given_at MAX_DEPTH tokens.now) }
 {
     let (_, rest) = mark(Mark::Assign, tokens)?;
     read_initial(alloc, rest)
@@ -87,7 +88,7 @@ pub fn given_or_not(
     alloc: Global,
     tokens: &[Token],
 ) -> Result<(Option<Initial>, &[Token]), ReadError>
-    ensures { Gives (λ x. (option_map initial_view x.0, x.1.now)) result (reading.given_or_not 64 tokens.now) }
+    ensures { Gives (λ x. (option_map initial_view x.0, x.1.now)) result (reading.given_or_not MAX_DEPTH tokens.now) }
 {
     if !begins(Mark::Assign, tokens) {
         return Ok((None, tokens));
@@ -98,7 +99,7 @@ pub fn given_or_not(
 
 #[tactic(auto, unfolding(crate::specs::TypeReading::field_at))]
 fn field(alloc: Global, tokens: &[Token]) -> Result<(Field, &[Token]), ReadError>
-    ensures { Gives (λ x. (field_view x.0, x.1.now)) result (reading.field_at 64 tokens.now) }
+    ensures { Gives (λ x. (field_view x.0, x.1.now)) result (reading.field_at MAX_DEPTH tokens.now) }
 {
     let (name, rest) = name(alloc, tokens)?;
     let (_, rest) = mark(Mark::Colon, rest)?;
@@ -115,7 +116,7 @@ fn field(alloc: Global, tokens: &[Token]) -> Result<(Field, &[Token]), ReadError
 
 #[tactic(auto, unfolding(crate::specs::TypeReading::fields_at, crate::specs::Reading::at_least_one))]
 fn fields(alloc: Global, tokens: &[Token]) -> Result<(Vec<Field>, &[Token]), ReadError>
-    ensures { Gives (λ x. (map field_view x.0.items, x.1.now)) result (reading.fields_at 64 tokens.now) }
+    ensures { Gives (λ x. (map field_view x.0.items, x.1.now)) result (reading.fields_at MAX_DEPTH tokens.now) }
 {
     let (first, rest) = field(alloc, tokens)?;
     let mut found = Vec::new(alloc);
@@ -130,7 +131,7 @@ fn fields(alloc: Global, tokens: &[Token]) -> Result<(Vec<Field>, &[Token]), Rea
 
 #[tactic(auto, unfolding(crate::specs::TypeReading::definition_at, crate::specs::TypeReading::array_definition_at, crate::specs::TypeReading::structure_at))]
 fn definition(alloc: Global, tokens: &[Token]) -> Result<(TypeDefinition, &[Token]), ReadError>
-    ensures { Gives (λ x. (type_definition_view x.0, x.1.now)) result (reading.definition_at 64 tokens.now) }
+    ensures { Gives (λ x. (type_definition_view x.0, x.1.now)) result (reading.definition_at MAX_DEPTH tokens.now) }
 {
     if leads(Keyword::Array, tokens) {
         let (found, rest) = array(alloc, tokens)?;
@@ -147,7 +148,7 @@ fn type_declaration(
     alloc: Global,
     tokens: &[Token],
 ) -> Result<(TypeDeclaration, &[Token]), ReadError>
-    ensures { Gives (λ x. (type_declaration_view x.0, x.1.now)) result (reading.type_declaration_at 64 tokens.now) }
+    ensures { Gives (λ x. (type_declaration_view x.0, x.1.now)) result (reading.type_declaration_at MAX_DEPTH tokens.now) }
 {
     let (name, rest) = name(alloc, tokens)?;
     let (_, rest) = mark(Mark::Colon, rest)?;
@@ -161,7 +162,7 @@ fn type_declarations(
     alloc: Global,
     tokens: &[Token],
 ) -> Result<(Vec<TypeDeclaration>, &[Token]), ReadError>
-    ensures { Gives (λ x. (map type_declaration_view x.0.items, x.1.now)) result (reading.type_declarations_at 64 tokens.now) }
+    ensures { Gives (λ x. (map type_declaration_view x.0.items, x.1.now)) result (reading.type_declarations_at MAX_DEPTH tokens.now) }
 {
     let (first, rest) = type_declaration(alloc, tokens)?;
     let mut found = Vec::new(alloc);
@@ -177,7 +178,7 @@ fn type_declarations(
 /// A block from TYPE to END_TYPE, and the tokens after it.
 #[tactic(auto, unfolding(crate::specs::TypeReading::types_at))]
 pub fn types(alloc: Global, tokens: &[Token]) -> Result<(Vec<TypeDeclaration>, &[Token]), ReadError>
-    ensures { Gives (λ x. (map type_declaration_view x.0.items, x.1.now)) result (reading.types_at 64 tokens.now) }
+    ensures { Gives (λ x. (map type_declaration_view x.0.items, x.1.now)) result (reading.types_at MAX_DEPTH tokens.now) }
 {
     let (_, rest) = keyword(Keyword::Type, tokens)?;
     let (found, rest) = type_declarations(alloc, rest)?;

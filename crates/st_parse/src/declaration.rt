@@ -1,6 +1,7 @@
 //! Declarations of variables.
 
 ghost use Rattle.std.specs.Prelude.{◌≡◌, [], map};
+ghost use Rattle.st_words.specs.declared.limits.TheConstants.{MAX_DEPTH};
 ghost use Rattle.st_trees.specs.DeclarationViews.{declaration_view};
 ghost use Rattle.st_statements.specs.Tokens.{is_name};
 ghost use Rattle.st_statements.specs.Parsers.{Gives};
@@ -19,7 +20,7 @@ type Declarations<'a> = Result<(Vec<Declaration>, &'a [Token]), ReadError>;
 /// Names of one type, with an initial value or without.
 #[tactic(auto, unfolding(crate::specs::UnitReading::declaration_at))]
 fn declaration(alloc: Global, tokens: &[Token]) -> Result<(Declaration, &[Token]), ReadError>
-    ensures { Gives (λ x. (declaration_view x.0, x.1.now)) result (reading.declaration_at 64 tokens.now) }
+    ensures { Gives (λ x. (declaration_view x.0, x.1.now)) result (reading.declaration_at MAX_DEPTH tokens.now) }
 {
     let (names, rest) = names(alloc, tokens)?;
     let (_, rest) = mark(Mark::Colon, rest)?;
@@ -54,7 +55,7 @@ fn external(alloc: Global, tokens: &[Token]) -> Result<(Declaration, &[Token]), 
 /// Any number of declarations.
 #[tactic(auto, unfolding(crate::specs::Reading::many))]
 pub fn declarations(alloc: Global, tokens: &[Token]) -> Declarations<'_>
-    ensures { Gives (λ x. (map declaration_view x.0.items, x.1.now)) result (many is_name (reading.declaration_at 64) tokens.now) }
+    ensures { Gives (λ x. (map declaration_view x.0.items, x.1.now)) result (many is_name (reading.declaration_at MAX_DEPTH) tokens.now) }
 {
     several(
         Vec::new(alloc),

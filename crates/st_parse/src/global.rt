@@ -1,6 +1,7 @@
 //! Global variables.
 
 ghost use Rattle.std.specs.Prelude.{◌≡◌, [], map};
+ghost use Rattle.st_words.specs.declared.limits.TheConstants.{MAX_DEPTH};
 ghost use Rattle.st_trees.specs.ConfigurationViews.{global_names_view, global_declaration_view, global_block_view};
 ghost use Rattle.st_statements.specs.Tokens.{is_name, next};
 ghost use Rattle.st_statements.specs.Parsers.{Gives, one};
@@ -62,7 +63,7 @@ fn global_names(alloc: Global, tokens: &[Token]) -> Names<'_>
 
 #[tactic(auto, unfolding(crate::specs::ConfigurationReading::global_at))]
 fn global(alloc: Global, tokens: &[Token]) -> Result<(GlobalDeclaration, &[Token]), ReadError>
-    ensures { Gives (λ x. (global_declaration_view x.0, x.1.now)) result (reading.global_at 64 tokens.now) }
+    ensures { Gives (λ x. (global_declaration_view x.0, x.1.now)) result (reading.global_at MAX_DEPTH tokens.now) }
 {
     let (names, rest) = global_names(alloc, tokens)?;
     let (_, rest) = mark(Mark::Colon, rest)?;
@@ -79,7 +80,7 @@ fn global(alloc: Global, tokens: &[Token]) -> Result<(GlobalDeclaration, &[Token
 
 #[tactic(auto, unfolding(crate::specs::Reading::many))]
 fn globals(alloc: Global, tokens: &[Token]) -> Result<(Vec<GlobalDeclaration>, &[Token]), ReadError>
-    ensures { Gives (λ x. (map global_declaration_view x.0.items, x.1.now)) result (many is_name (reading.global_at 64) tokens.now) }
+    ensures { Gives (λ x. (map global_declaration_view x.0.items, x.1.now)) result (many is_name (reading.global_at MAX_DEPTH) tokens.now) }
 {
     several(
         Vec::new(alloc),
@@ -123,7 +124,7 @@ fn qualifier_or_not(tokens: &[Token]) -> Result<(Option<GlobalQualifier>, &[Toke
 /// A block of global variables, from VAR_GLOBAL to END_VAR.
 #[tactic(auto, unfolding(crate::specs::ConfigurationReading::global_block_at))]
 pub fn global_block(alloc: Global, tokens: &[Token]) -> Result<(GlobalBlock, &[Token]), ReadError>
-    ensures { Gives (λ x. (global_block_view x.0, x.1.now)) result (reading.global_block_at 64 tokens.now) }
+    ensures { Gives (λ x. (global_block_view x.0, x.1.now)) result (reading.global_block_at MAX_DEPTH tokens.now) }
 {
     let (_, rest) = keyword(Keyword::VarGlobal, tokens)?;
     let (qualifier, rest) = qualifier_or_not(rest)?;

@@ -1,6 +1,7 @@
 //! The tree of a text.
 
 ghost use Rattle.std.specs.Prelude.{IfOk, IfErr};
+ghost use Rattle.st_words.specs.declared.limits.TheConstants.{MAX_DEPTH};
 ghost use Rattle.st_trees.specs.Sources as tree;
 ghost use Rattle.st_trees.specs.SourceViews.{source_view};
 ghost use Rattle.st_parse.specs.Sources.{IsSource};
@@ -18,9 +19,9 @@ use std::alloc::Global;
 /// P1 at the first byte of a token with which what was read no longer begins any text of the grammar, or at the end of the last token where the
 /// tokens end too early. P2 where an expression, a statement or an initial value would be deeper than 64. P3 out of memory.
 pub fn parse(alloc: Global, tokens: &[Token]) -> Result<Source, ParseError>
-    ensures found { IfOk result (λ parsed. IsSource tokens.now (source_view parsed) × SourceWithin 64 (source_view parsed)) }
+    ensures found { IfOk result (λ parsed. IsSource tokens.now (source_view parsed) × SourceWithin MAX_DEPTH (source_view parsed)) }
     // A text of the grammar has no other tree.
-    ensures only { (source : tree.Source) → IsSource tokens.now source → SourceWithin 64 source → Answers source result }
+    ensures only { (source : tree.Source) → IsSource tokens.now source → SourceWithin MAX_DEPTH source → Answers source result }
     ensures refused { IfErr result (λ error. Refused tokens.now error) }
 {
     match elements(alloc, tokens) {

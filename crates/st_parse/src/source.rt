@@ -1,6 +1,7 @@
 //! Whole texts.
 
 ghost use Rattle.std.specs.Prelude.{◌≡◌, [], map};
+ghost use Rattle.st_words.specs.declared.limits.TheConstants.{MAX_DEPTH};
 ghost use Rattle.st_trees.specs.SourceViews.{element_view, source_view};
 ghost use Rattle.st_statements.specs.Parsers.{Gives};
 ghost use Rattle.st_parse.specs.SourceReading as reading;
@@ -18,7 +19,7 @@ type Found<'a> = Result<(LibraryElement, &'a [Token]), ReadError>;
 
 #[tactic(auto, unfolding(crate::specs::SourceReading::types_element_at))]
 fn types_element(alloc: Global, tokens: &[Token]) -> Found<'_>
-    ensures { Gives (λ x. (element_view x.0, x.1.now)) result (reading.types_element_at 64 tokens.now) }
+    ensures { Gives (λ x. (element_view x.0, x.1.now)) result (reading.types_element_at MAX_DEPTH tokens.now) }
 {
     let (found, rest) = types(alloc, tokens)?;
     Ok((LibraryElement::Types(found), rest))
@@ -26,7 +27,7 @@ fn types_element(alloc: Global, tokens: &[Token]) -> Found<'_>
 
 #[tactic(auto, unfolding(crate::specs::SourceReading::function_element_at))]
 fn function_element(alloc: Global, tokens: &[Token]) -> Found<'_>
-    ensures { Gives (λ x. (element_view x.0, x.1.now)) result (reading.function_element_at 64 tokens.now) }
+    ensures { Gives (λ x. (element_view x.0, x.1.now)) result (reading.function_element_at MAX_DEPTH tokens.now) }
 {
     let (found, rest) = function(alloc, tokens)?;
     Ok((LibraryElement::Unit(found), rest))
@@ -34,7 +35,7 @@ fn function_element(alloc: Global, tokens: &[Token]) -> Found<'_>
 
 #[tactic(auto, unfolding(crate::specs::SourceReading::block_element_at))]
 fn block_element(alloc: Global, tokens: &[Token]) -> Found<'_>
-    ensures { Gives (λ x. (element_view x.0, x.1.now)) result (reading.block_element_at 64 tokens.now) }
+    ensures { Gives (λ x. (element_view x.0, x.1.now)) result (reading.block_element_at MAX_DEPTH tokens.now) }
 {
     let (found, rest) = function_block(alloc, tokens)?;
     Ok((LibraryElement::Unit(found), rest))
@@ -42,7 +43,7 @@ fn block_element(alloc: Global, tokens: &[Token]) -> Found<'_>
 
 #[tactic(auto, unfolding(crate::specs::SourceReading::program_element_at))]
 fn program_element(alloc: Global, tokens: &[Token]) -> Found<'_>
-    ensures { Gives (λ x. (element_view x.0, x.1.now)) result (reading.program_element_at 64 tokens.now) }
+    ensures { Gives (λ x. (element_view x.0, x.1.now)) result (reading.program_element_at MAX_DEPTH tokens.now) }
 {
     let (found, rest) = program(alloc, tokens)?;
     Ok((LibraryElement::Unit(found), rest))
@@ -50,7 +51,7 @@ fn program_element(alloc: Global, tokens: &[Token]) -> Found<'_>
 
 #[tactic(auto, unfolding(crate::specs::SourceReading::configuration_element_at))]
 fn configuration_element(alloc: Global, tokens: &[Token]) -> Found<'_>
-    ensures { Gives (λ x. (element_view x.0, x.1.now)) result (reading.configuration_element_at 64 tokens.now) }
+    ensures { Gives (λ x. (element_view x.0, x.1.now)) result (reading.configuration_element_at MAX_DEPTH tokens.now) }
 {
     let (found, rest) = configuration(alloc, tokens)?;
     Ok((LibraryElement::Configuration(found), rest))
@@ -59,7 +60,7 @@ fn configuration_element(alloc: Global, tokens: &[Token]) -> Found<'_>
 /// Types, a unit or a configuration.
 #[tactic(auto, unfolding(crate::specs::SourceReading::element_at))]
 fn element(alloc: Global, tokens: &[Token]) -> Found<'_>
-    ensures { Gives (λ x. (element_view x.0, x.1.now)) result (reading.element_at 64 tokens.now) }
+    ensures { Gives (λ x. (element_view x.0, x.1.now)) result (reading.element_at MAX_DEPTH tokens.now) }
 {
     let [t, ..] = tokens else {
         return Err(refused(tokens));
@@ -80,7 +81,7 @@ pub fn elements(
     alloc: Global,
     tokens: &[Token],
 ) -> Result<(Vec<LibraryElement>, &[Token]), ReadError>
-    ensures { Gives (λ x. (map element_view x.0.items, x.1.now)) result (reading.source_at 64 tokens.now) }
+    ensures { Gives (λ x. (map element_view x.0.items, x.1.now)) result (reading.source_at MAX_DEPTH tokens.now) }
 {
     several(
         Vec::new(alloc),

@@ -1,6 +1,7 @@
 //! Functions, function blocks and programs.
 
 ghost use Rattle.std.specs.Prelude.{◌≡◌};
+ghost use Rattle.st_words.specs.declared.limits.TheConstants.{MAX_DEPTH};
 ghost use Rattle.st_trees.specs.UnitViews.{unit_view};
 ghost use Rattle.st_statements.specs.Parsers.{Gives, one};
 ghost use Rattle.st_parse.specs.Units as specs;
@@ -32,7 +33,7 @@ fn elementary(tokens: &[Token]) -> Result<((Kind, usize), &[Token]), ReadError>
 /// A function.
 #[tactic(auto, unfolding(crate::specs::UnitReading::function_at))]
 pub fn function(alloc: Global, tokens: &[Token]) -> Found<'_>
-    ensures { Gives (λ x. (unit_view x.0, x.1.now)) result (reading.function_at 64 tokens.now) }
+    ensures { Gives (λ x. (unit_view x.0, x.1.now)) result (reading.function_at MAX_DEPTH tokens.now) }
 {
     let (_, rest) = keyword(Keyword::Function, tokens)?;
     let (name, rest) = name(alloc, rest)?;
@@ -53,7 +54,7 @@ pub fn function(alloc: Global, tokens: &[Token]) -> Found<'_>
 /// A function block.
 #[tactic(auto, unfolding(crate::specs::UnitReading::function_block_unit_at))]
 pub fn function_block(alloc: Global, tokens: &[Token]) -> Found<'_>
-    ensures { Gives (λ x. (unit_view x.0, x.1.now)) result (reading.function_block_unit_at 64 tokens.now) }
+    ensures { Gives (λ x. (unit_view x.0, x.1.now)) result (reading.function_block_unit_at MAX_DEPTH tokens.now) }
 {
     let (_, rest) = keyword(Keyword::FunctionBlock, tokens)?;
     let (name, rest) = name(alloc, rest)?;
@@ -72,7 +73,7 @@ pub fn function_block(alloc: Global, tokens: &[Token]) -> Found<'_>
 /// A program.
 #[tactic(auto, unfolding(crate::specs::UnitReading::program_at))]
 pub fn program(alloc: Global, tokens: &[Token]) -> Found<'_>
-    ensures { Gives (λ x. (unit_view x.0, x.1.now)) result (reading.program_at 64 tokens.now) }
+    ensures { Gives (λ x. (unit_view x.0, x.1.now)) result (reading.program_at MAX_DEPTH tokens.now) }
 {
     let (_, rest) = keyword(Keyword::Program, tokens)?;
     let (name, rest) = name(alloc, rest)?;

@@ -1,6 +1,7 @@
 -- What a reading tells, as the clauses of the public calls say it.
 use Rattle.std.proofs.Common.{◌≡◌, ℕ, ◌+◌, ◌≤◌, ◌++◌, length, Result, Ok, Err, sym, ap, subst, ◌∙◌, arith}
 use Rattle.std.specs.Prelude.{IfOk, IfErr}
+use Rattle.st_words.specs.declared.limits.TheConstants.{MAX_DEPTH}
 use Rattle.st_statements.specs.declared.fault.Refusal.{Refusal}
 use Rattle.st_statements.specs.declared.fault.Refusal.TheVariants.{Unexpected, Deep}
 use Rattle.st_statements.specs.declared.fault.ReadError.{ReadError}
@@ -23,8 +24,8 @@ no_refusal : {A : Type 0} (d : Refusal) (x : A) (us : Tokens) → refusal d ≡ 
 no_refusal d x us e = absurd cc
 
 module _ {A : Type 0} (P : Family A) (R : Grammar A) (E : Tokens → Type 0) (D : A → Tokens → Type 0) (L : A → Type 0) (size : A → ℕ)
-    (again : (e : ℕ) (ts : Tokens) (x : A) (us : Tokens) → R ts x us → E us → size x ≤ 64 + e → P e ts ≡ Ok (x, us))
-    (fits : (x : A) → L x → size x ≤ 64) where
+    (again : (e : ℕ) (ts : Tokens) (x : A) (us : Tokens) → R ts x us → E us → size x ≤ MAX_DEPTH + e → P e ts ≡ Ok (x, us))
+    (fits : (x : A) → L x → size x ≤ MAX_DEPTH) where
   is_read : (ts : Tokens) (x : A) (us : Tokens) → Kept P R D ts x us → IsRead R E ts x us
   is_read ts x us k = record {
     front = k.front;

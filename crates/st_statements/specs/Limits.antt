@@ -1,5 +1,6 @@
 -- How deep a tree of a text may be, and after what an expression and statements end.
-use Rattle.std.specs.Prelude.{◌≡◌, ◌≤◌, false, List, ℕ}
+use Rattle.std.specs.Prelude.{◌≡◌, ◌≤◌, false, List}
+use Rattle.st_words.specs.declared.limits.TheConstants.{MAX_DEPTH}
 use Rattle.st_words.specs.declared.literal.Number.{Number}
 use Rattle.st_trees.specs.Expressions.{Expr}
 use Rattle.st_trees.specs.Initials.{Initial}
@@ -9,17 +10,14 @@ use Rattle.st_statements.specs.Tokens.{Tokens, next}
 use Rattle.st_statements.specs.ExpressionReading.{continues}
 use Rattle.st_statements.specs.StatementReading.{starts_stmt}
 
-abbrev pub limit : ℕ
-limit = 64
-
 abbrev pub IsShallow : Expr → Type 0
-IsShallow x = depth_of x ≤ limit
+IsShallow x = depth_of x ≤ MAX_DEPTH
 
 abbrev pub IsShallowInitial : Initial → Type 0
-IsShallowInitial x = depth_of_initial x ≤ limit
+IsShallowInitial x = depth_of_initial x ≤ MAX_DEPTH
 
 abbrev pub AreShallow : List Stmt → Type 0
-AreShallow xs = deepest_stmt (stmts_of xs) ≤ limit
+AreShallow xs = deepest_stmt (stmts_of xs) ≤ MAX_DEPTH
 
 abbrev pub HasDepthOne : Number → Type 0
 HasDepthOne n = Unit {0}

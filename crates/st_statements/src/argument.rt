@@ -1,6 +1,7 @@
 //! Arguments of block calls.
 
 ghost use Rattle.std.specs.Prelude.{◌≡◌, ◌<◌, map};
+ghost use Rattle.st_words.specs.declared.limits.TheConstants.{MAX_DEPTH};
 ghost use Rattle.st_lex.specs.declared.mark.Mark.TheVariants as marks;
 ghost use Rattle.st_trees.specs.StatementViews.{argument_view};
 ghost use Rattle.st_statements.specs.Tokens.{is_mark};
@@ -21,7 +22,7 @@ type Found<'a> = Result<(Argument, &'a [Token]), ReadError>;
 
 #[tactic(auto, unfolding(crate::specs::StatementReading::argument_at, crate::specs::StatementReading::given_of, crate::specs::StatementReading::copied_of))]
 fn argument(alloc: Global, below: usize, tokens: &[Token]) -> Found<'_>
-    requires { below < 64 }
+    requires { below < MAX_DEPTH }
     ensures { Gives (λ x. (argument_view x.0, x.1.now)) result (reading.argument_at below tokens.now) }
 {
     let (found, rest) = name(alloc, tokens)?;
@@ -37,7 +38,7 @@ fn argument(alloc: Global, below: usize, tokens: &[Token]) -> Found<'_>
 
 #[tactic(auto, unfolding(crate::specs::Parsers::after_comma))]
 fn next_argument(alloc: Global, below: usize, tokens: &[Token]) -> Found<'_>
-    requires { below < 64 }
+    requires { below < MAX_DEPTH }
     ensures { Gives (λ x. (argument_view x.0, x.1.now)) result (parsers.after_comma (reading.argument_at below) tokens.now) }
 {
     let (_, rest) = mark(Mark::Comma, tokens)?;
@@ -50,7 +51,7 @@ fn more_arguments<'a>(
     mut found: Vec<Argument>,
     mut tokens: &'a [Token],
 ) -> Result<(Vec<Argument>, &'a [Token]), ReadError>
-    requires { below < 64 }
+    requires { below < MAX_DEPTH }
     ensures { Gives (λ x. (map argument_view x.0.items, x.1.now)) result (several (is_mark marks.Comma) (parsers.after_comma (reading.argument_at below)) (map argument_view found.items) tokens.entry.now) }
 {
     for _turn in 0..tokens.len() {
@@ -71,7 +72,7 @@ pub fn arguments(
     below: usize,
     tokens: &[Token],
 ) -> Result<(Vec<Argument>, &[Token]), ReadError>
-    requires { below < 64 }
+    requires { below < MAX_DEPTH }
     ensures { Gives (λ x. (map argument_view x.0.items, x.1.now)) result (reading.arguments_at below tokens.now) }
 {
     let mut found = Vec::new(alloc);

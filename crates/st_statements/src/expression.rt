@@ -1,6 +1,7 @@
 //! Expressions and variables.
 
 ghost use Rattle.std.specs.Prelude.{◌≡◌, ◌≤◌, ◌<◌, ◌+◌, nat_lt, map};
+ghost use Rattle.st_words.specs.declared.limits.TheConstants.{MAX_DEPTH};
 ghost use Rattle.st_trees.specs.ExpressionViews.{expr_view, variable_view, selector_view};
 ghost use Rattle.st_trees.specs.Depths.{depth_of};
 ghost use Rattle.st_statements.specs.Tokens.{next, is_mark, is_name};
@@ -60,7 +61,7 @@ fn starts_selector(tokens: &[Token]) -> bool
 }
 
 fn is_deeper(expression: &Expr, below: usize) -> bool
-    requires { below < 64 }
+    requires { below < MAX_DEPTH }
     ensures { result ≡ nat_lt below (depth_of (expr_view expression.now)) }
 {
     expression.depth() > below
@@ -69,7 +70,7 @@ fn is_deeper(expression: &Expr, below: usize) -> bool
 #[cycle(expr)]
 #[tactic(auto, unfolding(crate::specs::ExpressionReading::parenthesis_at))]
 fn parenthesis(alloc: Global, below: usize, tokens: &[Token]) -> Found<'_>
-    requires { below < 64 }
+    requires { below < MAX_DEPTH }
     ensures { Gives (λ x. (expr_view x.0, x.1.now)) result (reading.parenthesis_at (reading.expr_at below) tokens.now) }
 {
     let (place, rest) = mark(Mark::Open, tokens)?;
@@ -85,7 +86,7 @@ fn selector(
     below: usize,
     tokens: &[Token],
 ) -> Result<(Selector, &[Token]), ReadError>
-    requires { below < 64 }
+    requires { below < MAX_DEPTH }
     ensures { Gives (λ x. (selector_view x.0, x.1.now)) result (reading.selector_at (reading.expr_at below) tokens.now) }
 {
     if begins(Mark::Dot, tokens) {
@@ -105,7 +106,7 @@ fn selectors<'a>(
     below: usize,
     mut tokens: &'a [Token],
 ) -> Result<(Vec<Selector>, &'a [Token]), ReadError>
-    requires { below < 64 }
+    requires { below < MAX_DEPTH }
     ensures { Gives (λ x. (map selector_view x.0.items, x.1.now)) result (reading.selectors_at (reading.expr_at below) tokens.entry.now) }
 {
     let mut found = Vec::new(alloc);
@@ -129,7 +130,7 @@ pub fn variable_of<'a>(
     name: Identifier,
     tokens: &'a [Token],
 ) -> Result<(Variable, &'a [Token]), ReadError>
-    requires { below < 64 }
+    requires { below < MAX_DEPTH }
     ensures { Gives (λ x. (variable_view x.0, x.1.now)) result (reading.variable_of (reading.expr_at below) name tokens.now) }
 {
     let (found, rest) = selectors(alloc, below, tokens)?;
@@ -139,7 +140,7 @@ pub fn variable_of<'a>(
 #[cycle(expr)]
 #[tactic(auto, unfolding(crate::specs::Parsers::after_comma))]
 fn after_comma(alloc: Global, below: usize, tokens: &[Token]) -> Found<'_>
-    requires { below < 64 }
+    requires { below < MAX_DEPTH }
     ensures { Gives (λ x. (expr_view x.0, x.1.now)) result (parsers.after_comma (reading.expr_at below 1) tokens.now) }
 {
     let (_, rest) = mark(Mark::Comma, tokens)?;
@@ -153,7 +154,7 @@ fn more_arguments<'a>(
     mut found: Vec<Expr>,
     mut tokens: &'a [Token],
 ) -> Result<(Vec<Expr>, &'a [Token]), ReadError>
-    requires { below < 64 }
+    requires { below < MAX_DEPTH }
     ensures { Gives (λ x. (map expr_view x.0.items, x.1.now)) result (several (is_mark marks.Comma) (parsers.after_comma (reading.expr_at below 1)) (map expr_view found.items) tokens.entry.now) }
 {
     for _turn in 0..tokens.len() {
@@ -174,7 +175,7 @@ fn arguments(
     below: usize,
     tokens: &[Token],
 ) -> Result<(Vec<Expr>, &[Token]), ReadError>
-    requires { below < 64 }
+    requires { below < MAX_DEPTH }
     ensures { Gives (λ x. (map expr_view x.0.items, x.1.now)) result (reading.arguments_at (reading.expr_at below) tokens.now) }
 {
     let mut found = Vec::new(alloc);
@@ -189,7 +190,7 @@ fn arguments(
 #[cycle(expr)]
 #[tactic(auto, unfolding(crate::specs::ExpressionReading::call_of))]
 fn call_of<'a>(alloc: Global, below: usize, function: Identifier, tokens: &'a [Token]) -> Found<'a>
-    requires { below < 64 }
+    requires { below < MAX_DEPTH }
     ensures { Gives (λ x. (expr_view x.0, x.1.now)) result (reading.call_of (reading.expr_at below) function tokens.now) }
 {
     let (_, rest) = mark(Mark::Open, tokens)?;
@@ -201,7 +202,7 @@ fn call_of<'a>(alloc: Global, below: usize, function: Identifier, tokens: &'a [T
 #[cycle(expr)]
 #[tactic(auto, unfolding(crate::specs::ExpressionReading::named_at, crate::specs::ExpressionReading::read_of))]
 fn named(alloc: Global, below: usize, tokens: &[Token]) -> Found<'_>
-    requires { below < 64 }
+    requires { below < MAX_DEPTH }
     ensures { Gives (λ x. (expr_view x.0, x.1.now)) result (reading.named_at (reading.expr_at below) tokens.now) }
 {
     let (found, rest) = name(alloc, tokens)?;
@@ -215,7 +216,7 @@ fn named(alloc: Global, below: usize, tokens: &[Token]) -> Found<'_>
 #[cycle(expr)]
 #[tactic(auto, unfolding(crate::specs::ExpressionReading::operand_at, crate::specs::ExpressionReading::literal_at))]
 fn operand(alloc: Global, below: usize, tokens: &[Token]) -> Found<'_>
-    requires { below < 64 }
+    requires { below < MAX_DEPTH }
     ensures { Gives (λ x. (expr_view x.0, x.1.now)) result (reading.operand_at (reading.expr_at below) tokens.now) }
 {
     let [t, ..] = tokens else {
@@ -235,7 +236,7 @@ fn operand(alloc: Global, below: usize, tokens: &[Token]) -> Found<'_>
 #[cycle(expr)]
 #[tactic(auto, unfolding(crate::specs::ExpressionReading::minus_at, crate::specs::ExpressionReading::negative_of, crate::specs::ExpressionReading::negated_of))]
 fn minus(alloc: Global, below: usize, tokens: &[Token]) -> Found<'_>
-    requires { below < 64 }
+    requires { below < MAX_DEPTH }
     ensures { Gives (λ x. (expr_view x.0, x.1.now)) result (reading.minus_at (reading.expr_at below) tokens.now) }
 {
     let (place, rest) = mark(Mark::Minus, tokens)?;
@@ -256,7 +257,7 @@ fn minus(alloc: Global, below: usize, tokens: &[Token]) -> Found<'_>
 #[cycle(expr)]
 #[tactic(auto, unfolding(crate::specs::ExpressionReading::not_at))]
 fn inverted(alloc: Global, below: usize, tokens: &[Token]) -> Found<'_>
-    requires { below < 64 }
+    requires { below < MAX_DEPTH }
     ensures { Gives (λ x. (expr_view x.0, x.1.now)) result (reading.not_at (reading.expr_at below) tokens.now) }
 {
     let (place, rest) = keyword(Keyword::Not, tokens)?;
@@ -270,7 +271,7 @@ fn inverted(alloc: Global, below: usize, tokens: &[Token]) -> Found<'_>
 #[cycle(expr)]
 #[tactic(auto, unfolding(crate::specs::ExpressionReading::unary_at))]
 fn unary(alloc: Global, below: usize, tokens: &[Token]) -> Found<'_>
-    requires { below < 64 }
+    requires { below < MAX_DEPTH }
     ensures { Gives (λ x. (expr_view x.0, x.1.now)) result (reading.unary_at (reading.expr_at below) tokens.now) }
 {
     if begins(Mark::Minus, tokens) {
@@ -285,7 +286,7 @@ fn unary(alloc: Global, below: usize, tokens: &[Token]) -> Found<'_>
 #[cycle(expr)]
 #[tactic(auto, unfolding(crate::specs::ExpressionReading::operation_of))]
 fn operation<'a>(alloc: Global, below: usize, left: Expr, tokens: &'a [Token]) -> Found<'a>
-    requires { below < 64 }
+    requires { below < MAX_DEPTH }
     ensures { Gives (λ x. (expr_view x.0, x.1.now)) result (reading.operation_of (reading.expr_at below) (expr_view left) tokens.now) }
 {
     let (op, rest) = operator(tokens)?;
@@ -301,7 +302,7 @@ fn operations<'a>(
     mut left: Expr,
     mut tokens: &'a [Token],
 ) -> Found<'a>
-    requires { below < 64 }
+    requires { below < MAX_DEPTH }
     ensures { Gives (λ x. (expr_view x.0, x.1.now)) result (reading.operations_of (reading.expr_at below) below least (expr_view left) tokens.entry.now) }
 {
     for _turn in 0..tokens.len() {
@@ -321,7 +322,7 @@ fn operations<'a>(
 #[cycle(expr)]
 #[tactic(auto, unfolding(crate::specs::ExpressionReading::operators_at))]
 fn operators(alloc: Global, below: usize, least: usize, tokens: &[Token]) -> Found<'_>
-    requires { below < 64 }
+    requires { below < MAX_DEPTH }
     ensures { Gives (λ x. (expr_view x.0, x.1.now)) result (reading.operators_at (reading.expr_at below) below least tokens.now) }
 {
     let (first, rest) = unary(alloc, below, tokens)?;
@@ -332,7 +333,7 @@ fn operators(alloc: Global, below: usize, least: usize, tokens: &[Token]) -> Fou
 #[cycle(expr)]
 #[tactic(auto, unfolding(crate::specs::ExpressionReading::expr_at))]
 pub fn expr(alloc: Global, depth: usize, least: usize, tokens: &[Token]) -> Found<'_>
-    requires { depth ≤ 64 }
+    requires { depth ≤ MAX_DEPTH }
     ensures { Gives (λ x. (expr_view x.0, x.1.now)) result (reading.expr_at depth least tokens.now) }
 {
     if depth == 0 {
@@ -351,7 +352,7 @@ pub fn variable(
     depth: usize,
     tokens: &[Token],
 ) -> Result<(Variable, &[Token]), ReadError>
-    requires { depth ≤ 64 }
+    requires { depth ≤ MAX_DEPTH }
     ensures { Gives (λ x. (variable_view x.0, x.1.now)) result (reading.variable_at depth tokens.now) }
 {
     if depth == 0 {

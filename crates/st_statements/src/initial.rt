@@ -1,6 +1,7 @@
 //! Initial values.
 
 ghost use Rattle.std.specs.Prelude.{◌≡◌, ◌≤◌, ◌<◌, map};
+ghost use Rattle.st_words.specs.declared.limits.TheConstants.{MAX_DEPTH};
 ghost use Rattle.st_lex.specs.declared.mark.Mark.TheVariants as marks;
 ghost use Rattle.st_trees.specs.InitialViews.{initial_view, element_view, member_view};
 ghost use Rattle.st_statements.specs.Tokens.{next, is_mark};
@@ -53,7 +54,7 @@ fn starts_initial(tokens: &[Token]) -> bool
 #[cycle(initial)]
 #[tactic(auto, unfolding(crate::specs::InitialReading::member_at))]
 fn member(alloc: Global, depth: usize, tokens: &[Token]) -> FoundMember<'_>
-    requires { depth ≤ 64 }
+    requires { depth ≤ MAX_DEPTH }
     ensures { Gives (λ x. (member_view x.0, x.1.now)) result (reading.member_at (reading.initial_at depth) tokens.now) }
 {
     let (name, rest) = name(alloc, tokens)?;
@@ -65,7 +66,7 @@ fn member(alloc: Global, depth: usize, tokens: &[Token]) -> FoundMember<'_>
 #[cycle(initial)]
 #[tactic(auto, unfolding(crate::specs::Parsers::after_comma))]
 fn next_member(alloc: Global, depth: usize, tokens: &[Token]) -> FoundMember<'_>
-    requires { depth ≤ 64 }
+    requires { depth ≤ MAX_DEPTH }
     ensures { Gives (λ x. (member_view x.0, x.1.now)) result (parsers.after_comma (reading.member_at (reading.initial_at depth)) tokens.now) }
 {
     let (_, rest) = mark(Mark::Comma, tokens)?;
@@ -79,7 +80,7 @@ fn more_members<'a>(
     mut found: Vec<InitialMember>,
     mut tokens: &'a [Token],
 ) -> Result<(Vec<InitialMember>, &'a [Token]), ReadError>
-    requires { depth ≤ 64 }
+    requires { depth ≤ MAX_DEPTH }
     ensures { Gives (λ x. (map member_view x.0.items, x.1.now)) result (several (is_mark marks.Comma) (parsers.after_comma (reading.member_at (reading.initial_at depth))) (map member_view found.items) tokens.entry.now) }
 {
     for _turn in 0..tokens.len() {
@@ -96,7 +97,7 @@ fn more_members<'a>(
 #[cycle(initial)]
 #[tactic(auto, unfolding(crate::specs::InitialReading::structure_at, crate::specs::Parsers::listed))]
 fn structure(alloc: Global, below: usize, tokens: &[Token]) -> Found<'_>
-    requires { below < 64 }
+    requires { below < MAX_DEPTH }
     ensures { Gives (λ x. (initial_view x.0, x.1.now)) result (reading.structure_at (reading.initial_at below) tokens.now) }
 {
     let (place, rest) = mark(Mark::Open, tokens)?;
@@ -111,7 +112,7 @@ fn structure(alloc: Global, below: usize, tokens: &[Token]) -> Found<'_>
 #[cycle(initial)]
 #[tactic(auto, unfolding(crate::specs::InitialReading::repetition_of, crate::specs::InitialReading::defaults_of, crate::specs::InitialReading::repeated_of))]
 fn repetition_of(alloc: Global, depth: usize, count: Number, tokens: &[Token]) -> FoundElement<'_>
-    requires { depth ≤ 64 }
+    requires { depth ≤ MAX_DEPTH }
     ensures { Gives (λ x. (element_view x.0, x.1.now)) result (reading.repetition_of (reading.initial_at depth) count tokens.now) }
 {
     let (_, rest) = mark(Mark::Open, tokens)?;
@@ -127,7 +128,7 @@ fn repetition_of(alloc: Global, depth: usize, count: Number, tokens: &[Token]) -
 #[cycle(initial)]
 #[tactic(auto, unfolding(crate::specs::InitialReading::counted_at))]
 fn counted(alloc: Global, depth: usize, tokens: &[Token]) -> FoundElement<'_>
-    requires { depth ≤ 64 }
+    requires { depth ≤ MAX_DEPTH }
     ensures { Gives (λ x. (element_view x.0, x.1.now)) result (reading.counted_at (reading.initial_at depth) tokens.now) }
 {
     let (number, rest) = whole(tokens)?;
@@ -141,7 +142,7 @@ fn counted(alloc: Global, depth: usize, tokens: &[Token]) -> FoundElement<'_>
 #[cycle(initial)]
 #[tactic(auto, unfolding(crate::specs::InitialReading::element_at, crate::specs::InitialReading::single_at))]
 fn element(alloc: Global, depth: usize, tokens: &[Token]) -> FoundElement<'_>
-    requires { depth ≤ 64 }
+    requires { depth ≤ MAX_DEPTH }
     ensures { Gives (λ x. (element_view x.0, x.1.now)) result (reading.element_at (reading.initial_at depth) depth tokens.now) }
 {
     if depth == 0 {
@@ -157,7 +158,7 @@ fn element(alloc: Global, depth: usize, tokens: &[Token]) -> FoundElement<'_>
 #[cycle(initial)]
 #[tactic(auto, unfolding(crate::specs::Parsers::after_comma))]
 fn next_element(alloc: Global, depth: usize, tokens: &[Token]) -> FoundElement<'_>
-    requires { depth ≤ 64 }
+    requires { depth ≤ MAX_DEPTH }
     ensures { Gives (λ x. (element_view x.0, x.1.now)) result (parsers.after_comma (reading.element_at (reading.initial_at depth) depth) tokens.now) }
 {
     let (_, rest) = mark(Mark::Comma, tokens)?;
@@ -171,7 +172,7 @@ fn more_elements<'a>(
     mut found: Vec<InitialElement>,
     mut tokens: &'a [Token],
 ) -> Result<(Vec<InitialElement>, &'a [Token]), ReadError>
-    requires { depth ≤ 64 }
+    requires { depth ≤ MAX_DEPTH }
     ensures { Gives (λ x. (map element_view x.0.items, x.1.now)) result (several (is_mark marks.Comma) (parsers.after_comma (reading.element_at (reading.initial_at depth) depth)) (map element_view found.items) tokens.entry.now) }
 {
     for _turn in 0..tokens.len() {
@@ -188,7 +189,7 @@ fn more_elements<'a>(
 #[cycle(initial)]
 #[tactic(auto, unfolding(crate::specs::InitialReading::list_at, crate::specs::Parsers::listed))]
 fn list(alloc: Global, below: usize, tokens: &[Token]) -> Found<'_>
-    requires { below < 64 }
+    requires { below < MAX_DEPTH }
     ensures { Gives (λ x. (initial_view x.0, x.1.now)) result (reading.list_at (reading.element_at (reading.initial_at below) below) tokens.now) }
 {
     let (place, rest) = mark(Mark::OpenBracket, tokens)?;
@@ -204,7 +205,7 @@ fn list(alloc: Global, below: usize, tokens: &[Token]) -> Found<'_>
 #[cycle(initial)]
 #[tactic(auto, unfolding(crate::specs::InitialReading::initial_at, crate::specs::InitialReading::negative_constant_at, crate::specs::InitialReading::literal_constant_at))]
 pub fn initial(alloc: Global, depth: usize, tokens: &[Token]) -> Found<'_>
-    requires { depth ≤ 64 }
+    requires { depth ≤ MAX_DEPTH }
     ensures { Gives (λ x. (initial_view x.0, x.1.now)) result (reading.initial_at depth tokens.now) }
 {
     if depth == 0 {

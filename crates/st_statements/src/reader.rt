@@ -22,7 +22,7 @@ ghost use Rattle.st_statements.specs.Statements.{IsStmts};
 ghost use Rattle.st_statements.specs.ExpressionReading.{expr_at};
 ghost use Rattle.st_statements.specs.InitialReading.{initial_at};
 ghost use Rattle.st_statements.specs.StatementReading.{stmts_at};
-ghost use Rattle.st_statements.specs.Limits.{limit, IsShallow, IsShallowInitial, AreShallow, HasDepthOne, EndsExpression, EndsStatements};
+ghost use Rattle.st_statements.specs.Limits.{IsShallow, IsShallowInitial, AreShallow, HasDepthOne, EndsExpression, EndsStatements};
 
 use crate::expression::expr;
 use crate::fault::ReadError;
@@ -32,14 +32,12 @@ use crate::statement::stmts;
 use st_lex::Token;
 use st_trees::{Expr, Initial, Stmt};
 use st_words::Number;
+use st_words::limits::MAX_DEPTH;
 use std::alloc::Global;
-
-/// The greatest depth of a tree.
-const LIMIT: usize = 64;
 
 /// An expression, which is as long as it can be, to a depth of 64.
 pub fn read_expression(alloc: Global, tokens: &[Token]) -> Result<(Expr, &[Token]), ReadError>
-    ensures value { Gives (λ x. (expr_view x.0, x.1.now)) result (expr_at limit 1 tokens.now) }
+    ensures value { Gives (λ x. (expr_view x.0, x.1.now)) result (expr_at MAX_DEPTH 1 tokens.now) }
     // What is read is of the grammar.
     ensures found { IfOk result (λ x. IsRead (IsExpr 1) EndsExpression tokens.now (expr_view x.0) x.1.now × IsShallow (expr_view x.0)) }
     // A refusal applies.
@@ -47,12 +45,12 @@ pub fn read_expression(alloc: Global, tokens: &[Token]) -> Result<(Expr, &[Token
     // What is of the grammar is read, unless memory runs out.
     ensures only { (x : expressions.Expr) (us : Tokens) → IsExpr 1 tokens.now x us → EndsExpression us → IsShallow x → Answers (λ x. (expr_view x.0, x.1.now)) result x us }
 {
-    expr(alloc, LIMIT, 1, tokens)
+    expr(alloc, MAX_DEPTH, 1, tokens)
 }
 
 /// An initial value, to a depth of 64.
 pub fn read_initial(alloc: Global, tokens: &[Token]) -> Result<(Initial, &[Token]), ReadError>
-    ensures value { Gives (λ x. (initial_view x.0, x.1.now)) result (initial_at limit tokens.now) }
+    ensures value { Gives (λ x. (initial_view x.0, x.1.now)) result (initial_at MAX_DEPTH tokens.now) }
     // What is read is of the grammar.
     ensures found { IfOk result (λ x. IsRead IsInitial Anywhere tokens.now (initial_view x.0) x.1.now × IsShallowInitial (initial_view x.0)) }
     // A refusal applies.
@@ -60,12 +58,12 @@ pub fn read_initial(alloc: Global, tokens: &[Token]) -> Result<(Initial, &[Token
     // What is of the grammar is read, unless memory runs out.
     ensures only { (x : initials.Initial) (us : Tokens) → IsInitial tokens.now x us → IsShallowInitial x → Answers (λ x. (initial_view x.0, x.1.now)) result x us }
 {
-    initial(alloc, LIMIT, tokens)
+    initial(alloc, MAX_DEPTH, tokens)
 }
 
 /// Statements, as many as there are, each with its semicolon, to a depth of 64.
 pub fn read_statements(alloc: Global, tokens: &[Token]) -> Result<(Vec<Stmt>, &[Token]), ReadError>
-    ensures value { Gives (λ x. (map stmt_view x.0.items, x.1.now)) result (stmts_at limit tokens.now) }
+    ensures value { Gives (λ x. (map stmt_view x.0.items, x.1.now)) result (stmts_at MAX_DEPTH tokens.now) }
     // What is read is of the grammar.
     ensures found { IfOk result (λ x. IsRead IsStmts EndsStatements tokens.now (map stmt_view x.0.items) x.1.now × AreShallow (map stmt_view x.0.items)) }
     // A refusal applies.
@@ -73,7 +71,7 @@ pub fn read_statements(alloc: Global, tokens: &[Token]) -> Result<(Vec<Stmt>, &[
     // What is of the grammar is read, unless memory runs out.
     ensures only { (xs : List statements.Stmt) (us : Tokens) → IsStmts tokens.now xs us → EndsStatements us → AreShallow xs → Answers (λ x. (map stmt_view x.0.items, x.1.now)) result xs us }
 {
-    stmts(alloc, LIMIT, tokens)
+    stmts(alloc, MAX_DEPTH, tokens)
 }
 
 /// A whole number or bit string, with a `-` directly before it or not.

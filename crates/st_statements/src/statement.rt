@@ -1,6 +1,7 @@
 //! Statements.
 
 ghost use Rattle.std.specs.Prelude.{◌≡◌, ◌≤◌, ◌<◌, [], ◌∷◌, List, map, option_map};
+ghost use Rattle.st_words.specs.declared.limits.TheConstants.{MAX_DEPTH};
 ghost use Rattle.st_lex.specs.declared.keyword.Keyword.TheVariants as words;
 ghost use Rattle.st_trees.specs.ExpressionViews.{expr_view};
 ghost use Rattle.st_trees.specs.Statements as statements;
@@ -85,7 +86,7 @@ fn return_stmt(tokens: &[Token]) -> Found<'_>
 
 #[tactic(auto, unfolding(crate::specs::StatementReading::assign_of))]
 fn assign_of<'a>(alloc: Global, below: usize, target: Identifier, tokens: &'a [Token]) -> Found<'a>
-    requires { below < 64 }
+    requires { below < MAX_DEPTH }
     ensures { Gives (λ x. (stmt_view x.0, x.1.now)) result (reading.assign_of below target tokens.now) }
 {
     let (variable, rest) = variable_of(alloc, below.saturating_sub(1), target, tokens)?;
@@ -101,7 +102,7 @@ fn invoke_of<'a>(
     instance: Identifier,
     tokens: &'a [Token],
 ) -> Found<'a>
-    requires { below < 64 }
+    requires { below < MAX_DEPTH }
     ensures { Gives (λ x. (stmt_view x.0, x.1.now)) result (reading.invoke_of below instance tokens.now) }
 {
     let (_, rest) = mark(Mark::Open, tokens)?;
@@ -112,7 +113,7 @@ fn invoke_of<'a>(
 
 #[tactic(auto, unfolding(crate::specs::StatementReading::named_at))]
 fn named(alloc: Global, below: usize, tokens: &[Token]) -> Found<'_>
-    requires { below < 64 }
+    requires { below < MAX_DEPTH }
     ensures { Gives (λ x. (stmt_view x.0, x.1.now)) result (reading.named_at below tokens.now) }
 {
     let (found, rest) = name(alloc, tokens)?;
@@ -128,7 +129,7 @@ fn step(
     below: usize,
     tokens: &[Token],
 ) -> Result<(Option<Expr>, &[Token]), ReadError>
-    requires { below < 64 }
+    requires { below < MAX_DEPTH }
     ensures { Gives (λ x. (option_map expr_view x.0, x.1.now)) result (reading.step_at below tokens.now) }
 {
     if leads(Keyword::By, tokens) {
@@ -164,7 +165,7 @@ fn arm<'a, I: Fn(&[Token]) -> Block<'_>>(
     tokens: &'a [Token],
     inner: &I,
 ) -> FoundArm<'a>
-    requires below { below < 64 }
+    requires below { below < MAX_DEPTH }
     requires inner { I.IsAlwaysCallable inner.now }
     requires reads { Reads (λ xs. map stmt_view xs.items) (I.post inner.now) (reading.stmts_at below) }
     ensures { Gives (λ x. (arm_view x.0, x.1.now)) result (reading.arm_at below (reading.stmts_at below) tokens.now) }
@@ -182,7 +183,7 @@ fn elsif<'a, I: Fn(&[Token]) -> Block<'_>>(
     tokens: &'a [Token],
     inner: &I,
 ) -> FoundArm<'a>
-    requires below { below < 64 }
+    requires below { below < MAX_DEPTH }
     requires inner { I.IsAlwaysCallable inner.now }
     requires reads { Reads (λ xs. map stmt_view xs.items) (I.post inner.now) (reading.stmts_at below) }
     ensures { Gives (λ x. (arm_view x.0, x.1.now)) result (reading.elsif_at below (reading.stmts_at below) tokens.now) }
@@ -199,7 +200,7 @@ fn arms_behind<'a, I: Fn(&[Token]) -> Block<'_>>(
     tokens: &'a [Token],
     inner: &I,
 ) -> Result<(Vec<Arm>, &'a [Token]), ReadError>
-    requires below { below < 64 }
+    requires below { below < MAX_DEPTH }
     requires inner { I.IsAlwaysCallable inner.now }
     requires reads { Reads (λ xs. map stmt_view xs.items) (I.post inner.now) (reading.stmts_at below) }
     ensures { Gives (λ x. (map arm_view x.0.items, x.1.now)) result
@@ -222,7 +223,7 @@ fn else_part<'a, I: Fn(&[Token]) -> Block<'_>>(
     tokens: &'a [Token],
     inner: &I,
 ) -> Block<'a>
-    requires below { below < 64 }
+    requires below { below < MAX_DEPTH }
     requires inner { I.IsAlwaysCallable inner.now }
     requires reads { Reads (λ xs. map stmt_view xs.items) (I.post inner.now) (reading.stmts_at below) }
     ensures { Gives (λ x. (map stmt_view x.0.items, x.1.now)) result (reading.else_at below (reading.stmts_at below) tokens.now) }
@@ -241,7 +242,7 @@ fn if_stmt<'a, I: Fn(&[Token]) -> Block<'_>>(
     tokens: &'a [Token],
     inner: &I,
 ) -> Found<'a>
-    requires below { below < 64 }
+    requires below { below < MAX_DEPTH }
     requires inner { I.IsAlwaysCallable inner.now }
     requires reads { Reads (λ xs. map stmt_view xs.items) (I.post inner.now) (reading.stmts_at below) }
     ensures { Gives (λ x. (stmt_view x.0, x.1.now)) result (reading.if_at below (reading.stmts_at below) tokens.now) }
@@ -261,7 +262,7 @@ fn case_arm<'a, I: Fn(&[Token]) -> Block<'_>>(
     tokens: &'a [Token],
     inner: &I,
 ) -> FoundCaseArm<'a>
-    requires below { below < 64 }
+    requires below { below < MAX_DEPTH }
     requires inner { I.IsAlwaysCallable inner.now }
     requires reads { Reads (λ xs. map stmt_view xs.items) (I.post inner.now) (reading.stmts_at below) }
     ensures { Gives (λ x. (case_arm_view x.0, x.1.now)) result (reading.case_arm_at below (reading.stmts_at below) tokens.now) }
@@ -278,7 +279,7 @@ fn case_arms<'a, I: Fn(&[Token]) -> Block<'_>>(
     tokens: &'a [Token],
     inner: &I,
 ) -> Result<(Vec<CaseArm>, &'a [Token]), ReadError>
-    requires below { below < 64 }
+    requires below { below < MAX_DEPTH }
     requires inner { I.IsAlwaysCallable inner.now }
     requires reads { Reads (λ xs. map stmt_view xs.items) (I.post inner.now) (reading.stmts_at below) }
     ensures { Gives (λ x. (map case_arm_view x.0.items, x.1.now)) result
@@ -299,7 +300,7 @@ fn case_stmt<'a, I: Fn(&[Token]) -> Block<'_>>(
     tokens: &'a [Token],
     inner: &I,
 ) -> Found<'a>
-    requires below { below < 64 }
+    requires below { below < MAX_DEPTH }
     requires inner { I.IsAlwaysCallable inner.now }
     requires reads { Reads (λ xs. map stmt_view xs.items) (I.post inner.now) (reading.stmts_at below) }
     ensures { Gives (λ x. (stmt_view x.0, x.1.now)) result (reading.case_at below (reading.stmts_at below) tokens.now) }
@@ -320,7 +321,7 @@ fn for_stmt<'a, I: Fn(&[Token]) -> Block<'_>>(
     tokens: &'a [Token],
     inner: &I,
 ) -> Found<'a>
-    requires below { below < 64 }
+    requires below { below < MAX_DEPTH }
     requires inner { I.IsAlwaysCallable inner.now }
     requires reads { Reads (λ xs. map stmt_view xs.items) (I.post inner.now) (reading.stmts_at below) }
     ensures { Gives (λ x. (stmt_view x.0, x.1.now)) result (reading.for_at below (reading.stmts_at below) tokens.now) }
@@ -343,7 +344,7 @@ fn while_stmt<'a, I: Fn(&[Token]) -> Block<'_>>(
     tokens: &'a [Token],
     inner: &I,
 ) -> Found<'a>
-    requires below { below < 64 }
+    requires below { below < MAX_DEPTH }
     requires inner { I.IsAlwaysCallable inner.now }
     requires reads { Reads (λ xs. map stmt_view xs.items) (I.post inner.now) (reading.stmts_at below) }
     ensures { Gives (λ x. (stmt_view x.0, x.1.now)) result (reading.while_at below (reading.stmts_at below) tokens.now) }
@@ -361,7 +362,7 @@ fn repeat_stmt<'a, I: Fn(&[Token]) -> Block<'_>>(
     tokens: &'a [Token],
     inner: &I,
 ) -> Found<'a>
-    requires below { below < 64 }
+    requires below { below < MAX_DEPTH }
     requires inner { I.IsAlwaysCallable inner.now }
     requires reads { Reads (λ xs. map stmt_view xs.items) (I.post inner.now) (reading.stmts_at below) }
     ensures { Gives (λ x. (stmt_view x.0, x.1.now)) result (reading.repeat_at below (reading.stmts_at below) tokens.now) }
@@ -381,7 +382,7 @@ fn stmt<'a, I: Fn(&[Token]) -> Block<'_>>(
     tokens: &'a [Token],
     inner: &I,
 ) -> Found<'a>
-    requires below { below < 64 }
+    requires below { below < MAX_DEPTH }
     requires inner { I.IsAlwaysCallable inner.now }
     requires reads { Reads (λ xs. map stmt_view xs.items) (I.post inner.now) (reading.stmts_at below) }
     ensures { Gives (λ x. (stmt_view x.0, x.1.now)) result (reading.stmt_at below (reading.stmts_at below) tokens.now) }
@@ -407,7 +408,7 @@ fn stmt<'a, I: Fn(&[Token]) -> Block<'_>>(
 #[cycle(line)]
 #[tactic(auto, unfolding(crate::specs::StatementReading::line_at))]
 fn line(alloc: Global, depth: usize, tokens: &[Token]) -> Found<'_>
-    requires { depth ≤ 64 }
+    requires { depth ≤ MAX_DEPTH }
     ensures { Gives (λ x. (stmt_view x.0, x.1.now)) result (reading.line_at depth tokens.now) }
 {
     if depth == 0 {
@@ -419,7 +420,7 @@ fn line(alloc: Global, depth: usize, tokens: &[Token]) -> Found<'_>
         below,
         tokens,
         &|tokens: &[Token]| -> Block<'_>
-            requires { below < 64 }
+            requires { below < MAX_DEPTH }
             ensures { Gives (λ x. (map stmt_view x.0.items, x.1.now)) result (reading.stmts_at below tokens.now) }
         { stmts(alloc, below, tokens) },
     )?;
@@ -430,7 +431,7 @@ fn line(alloc: Global, depth: usize, tokens: &[Token]) -> Found<'_>
 /// Statements of at most a depth.
 #[cycle(line)]
 pub fn stmts(alloc: Global, depth: usize, tokens: &[Token]) -> Block<'_>
-    requires { depth ≤ 64 }
+    requires { depth ≤ MAX_DEPTH }
     ensures { Gives (λ x. (map stmt_view x.0.items, x.1.now)) result (reading.stmts_at depth tokens.now) }
 {
     several(
@@ -438,7 +439,7 @@ pub fn stmts(alloc: Global, depth: usize, tokens: &[Token]) -> Block<'_>
         tokens,
         starts_stmt,
         |tokens: &[Token]| -> Found<'_>
-            requires { depth ≤ 64 }
+            requires { depth ≤ MAX_DEPTH }
             ensures { Gives (λ x. (stmt_view x.0, x.1.now)) result (reading.line_at depth tokens.now) }
         { line(alloc, depth, tokens) },
     )

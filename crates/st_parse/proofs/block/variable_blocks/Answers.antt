@@ -1,4 +1,5 @@
 use Rattle.std.proofs.Common.{rules}
+use Rattle.st_words.specs.declared.limits.TheConstants.{MAX_DEPTH}
 use Rattle.st_parse.specs.UnitReading.{starts_block_section, variable_block_at}
 use Rattle.st_parse.specs.Reading.{many}
 use Rattle.st_parse.proofs.block.variable_blocks.Goals as goal
@@ -6,5 +7,5 @@ use Rattle.st_parse.proofs.block.variable_blocks.Goals as goal
 pub returns : goal.returns
 unfolding many
 returns c =
-    let read = c.several.ensures starts_block_section (variable_block_at 64) (λ ts r e. search rules) (λ ts r e. search rules) in
+    let read = c.several.ensures starts_block_section (variable_block_at MAX_DEPTH) (λ ts r e. search rules) (λ ts r e. search rules) in
     search rules

@@ -1,4 +1,5 @@
 use Rattle.std.proofs.Common.{rules}
+use Rattle.st_words.specs.declared.limits.TheConstants.{MAX_DEPTH}
 use Rattle.st_lex.specs.declared.keyword.Keyword.TheVariants as w
 use Rattle.st_statements.specs.Tokens.{is_keyword}
 use Rattle.st_parse.specs.ConfigurationReading.{global_block_at}
@@ -8,5 +9,5 @@ use Rattle.st_parse.proofs.configuration.global_blocks.Goals as goal
 pub returns : goal.returns
 unfolding many
 returns c =
-    let read = c.several.ensures (is_keyword w.VarGlobal) (global_block_at 64) (λ ts r e. search rules) (λ ts r e. search rules) in
+    let read = c.several.ensures (is_keyword w.VarGlobal) (global_block_at MAX_DEPTH) (λ ts r e. search rules) (λ ts r e. search rules) in
     search rules

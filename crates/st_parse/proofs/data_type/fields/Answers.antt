@@ -1,4 +1,5 @@
 use Rattle.std.proofs.Common.{rules}
+use Rattle.st_words.specs.declared.limits.TheConstants.{MAX_DEPTH}
 use Rattle.st_statements.specs.Tokens.{is_name}
 use Rattle.st_parse.specs.TypeReading.{field_at}
 use Rattle.st_parse.specs.TypeReading.{fields_at}
@@ -8,5 +9,5 @@ use Rattle.st_parse.proofs.data_type.fields.Goals as goal
 pub returns : goal.returns
 unfolding fields_at at_least_one
 returns c =
-    let read = c.several.ensures is_name (field_at 64) (λ ts r e. search rules) (λ ts r e. search rules) in
+    let read = c.several.ensures is_name (field_at MAX_DEPTH) (λ ts r e. search rules) (λ ts r e. search rules) in
     search rules
