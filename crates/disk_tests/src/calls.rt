@@ -34,6 +34,38 @@ fn write_read(
     write_bytes(text, buf)
 }
 
+fn write_len(text: &mut String, answer: Result<u64, DiskError>) -> Result<(), AllocError> {
+    match answer {
+        Ok(len) => write!(text, "{len}"),
+        Err(error) => write_done(text, Err(error)),
+    }
+}
+
+fn read<D: Disk>(
+    text: &mut String,
+    alloc: Global,
+    disk: &mut D,
+    place: u64,
+    count: &str,
+) -> Result<(), RowError> {
+    let mut buf = vec![in alloc; UNREAD; count.parse::<usize>()?]?;
+    let answer = disk.read(place, &mut buf);
+    write_read(text, answer, &buf)?;
+    Ok(())
+}
+
+fn write<D: Disk>(
+    text: &mut String,
+    alloc: Global,
+    disk: &mut D,
+    place: u64,
+    bytes: &str,
+) -> Result<(), RowError> {
+    let bytes = bytes_of(alloc, bytes)?;
+    write_done(text, disk.write_at(place, &bytes))?;
+    Ok(())
+}
+
 /// Makes a call that is written `len`, `sync`, `read PLACE COUNT` or `write PLACE BYTES`, and tells its answer.
 fn call<D: Disk>(
     text: &mut String,
@@ -45,23 +77,12 @@ fn call<D: Disk>(
     let (place, what) = given.split_once(' ').unwrap_or(("0", ""));
     let place = place.parse::<u64>()?;
     match word {
-        "len" => match disk.len() {
-            Ok(len) => write!(text, "{len}")?,
-            Err(error) => write_done(text, Err(error))?,
-        },
-        "sync" => write_done(text, disk.sync())?,
-        "read" => {
-            let mut buf = vec![in alloc; UNREAD; what.parse::<usize>()?]?;
-            let answer = disk.read(place, &mut buf);
-            write_read(text, answer, &buf)?;
-        }
-        "write" => {
-            let bytes = bytes_of(alloc, what)?;
-            write_done(text, disk.write_at(place, &bytes))?;
-        }
-        _ => return Err(RowError::Form),
+        "len" => Ok(write_len(text, disk.len())?),
+        "sync" => Ok(write_done(text, disk.sync())?),
+        "read" => read(text, alloc, disk, place, what),
+        "write" => write(text, alloc, disk, place, what),
+        _ => Err(RowError::Form),
     }
-    Ok(())
 }
 
 /// Makes calls that have ` | ` between them, tells the answer of each, and how many have failed.

@@ -12,19 +12,29 @@ fn byte_of(written: &str) -> Result<u8, RowError> {
     Ok(u8::from_str_radix(written, 16)?)
 }
 
+/// A byte so many times.
+fn repeated(alloc: Global, byte: &str, times: &str) -> Result<Vec<u8>, RowError> {
+    let byte = byte_of(byte)?;
+    Ok(vec![in alloc; byte; times.parse::<usize>()?]?)
+}
+
+/// Adds the byte of these digits.
+fn push_byte(bytes: &mut Vec<u8>, digits: &[u8]) -> Result<(), RowError> {
+    let byte = byte_of(str::from_utf8(digits).unwrap_or(""))?;
+    Ok(bytes.push(byte).map_err(AllocError::from)?)
+}
+
 /// The bytes that are written so.
 pub fn bytes_of(alloc: Global, written: &str) -> Result<Vec<u8>, RowError> {
     if let Some((byte, times)) = written.split_once('*') {
-        let byte = byte_of(byte)?;
-        return Ok(vec![in alloc; byte; times.parse::<usize>()?]?);
+        return repeated(alloc, byte, times);
     }
     let mut bytes = Vec::new(alloc);
     if written == "-" {
         return Ok(bytes);
     }
     for digits in written.as_bytes().chunks(2) {
-        let digits = str::from_utf8(digits).or(Err(RowError::Form))?;
-        bytes.push(byte_of(digits)?).map_err(AllocError::from)?;
+        push_byte(&mut bytes, digits)?;
     }
     Ok(bytes)
 }

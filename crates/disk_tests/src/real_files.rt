@@ -6,7 +6,6 @@ use crate::odd_files::{BrokenFile, DeafFile, SlowFile};
 use crate::row_error::RowError;
 use disk::FileDisk;
 use std::alloc::{AllocError, Global};
-use std::fmt::Write;
 use std::fs::{File, OpenOptions};
 use std::{fs, process};
 
@@ -48,6 +47,24 @@ fn play_on(
     }
 }
 
+/// Makes a file with these bytes, if it is to be there.
+fn make(rt: &HostRuntime, name: &str, bytes: &str) -> Result<(), RowError> {
+    if bytes == "missing" {
+        return Ok(());
+    }
+    let bytes = bytes_of(rt.alloc(), bytes)?;
+    Ok(fs::write(rt, name, bytes.as_slice())?)
+}
+
+/// Tells what a file has, and takes it away.
+fn tell_left(text: &mut String, rt: &HostRuntime, name: &str) -> Result<(), RowError> {
+    let left = fs::read(rt, name)?;
+    fs::remove_file(rt, name)?;
+    text.push_str(", left ")?;
+    write_bytes(text, &left)?;
+    Ok(())
+}
+
 /// Makes the calls on a new file with these bytes, or with none where it isn't there before, and tells what it has then.
 pub fn real(
     text: &mut String,
@@ -57,16 +74,9 @@ pub fn real(
     calls: &str,
 ) -> Result<(), RowError> {
     let name = scratch_name(rt)?;
-    if bytes != "missing" {
-        let bytes = bytes_of(rt.alloc(), bytes)?;
-        fs::write(rt, name.as_str(), bytes.as_slice())?;
-    }
+    make(rt, name.as_str(), bytes)?;
     play_on(text, rt, sort, name.as_str(), calls)?;
-    let left = fs::read(rt, name.as_str())?;
-    fs::remove_file(rt, name.as_str())?;
-    write!(text, ", left ")?;
-    write_bytes(text, &left)?;
-    Ok(())
+    tell_left(text, rt, name.as_str())
 }
 
 /// Whether a file in a folder that isn't there is opened.

@@ -14,22 +14,21 @@ use crate::row_error::RowError;
 use crate::simulated::simulated;
 use std::alloc::{AllocError, Global};
 
-fn told(rt: &HostRuntime, alloc: Global, given: &str) -> Result<String, RowError> {
+fn tell(text: &mut String, rt: &HostRuntime, alloc: Global, given: &str) -> Result<(), RowError> {
     let (disk, calls) = given.split_once(" | ").unwrap_or((given, ""));
     let (sort, written) = disk.split_once(' ').unwrap_or((disk, ""));
-    let mut text = String::new(alloc);
     match sort {
-        "sim" => simulated(&mut text, alloc, written, calls)?,
-        "folderless" => folderless(&mut text, rt)?,
-        _ => real(&mut text, rt, sort, written, calls)?,
+        "sim" => simulated(text, alloc, written, calls),
+        "folderless" => Ok(folderless(text, rt)?),
+        _ => real(text, rt, sort, written, calls),
     }
-    Ok(text)
 }
 
 /// What is answered to a row.
 pub fn answer(rt: &HostRuntime, alloc: Global, given: &str) -> Result<String, AllocError> {
-    match told(rt, alloc, given) {
-        Ok(text) => Ok(text),
+    let mut text = String::new(alloc);
+    match tell(&mut text, rt, alloc, given) {
+        Ok(()) => Ok(text),
         Err(error) => format!(in alloc; "{error}"),
     }
 }

@@ -11,11 +11,21 @@ use std::fmt::Write;
 fn stop_of(alloc: Global, written: &str) -> Result<Stop, RowError> {
     let (step, left) = written.split_once(' ').ok_or(RowError::Form)?;
     let (torn, len) = left.split_once(' ').ok_or(RowError::Form)?;
-    Ok(Stop {
-        step: step.parse::<u64>()?,
-        torn: bytes_of(alloc, torn)?,
-        len: len.parse::<u64>()?,
-    })
+    let step = step.parse::<u64>()?;
+    let len = len.parse::<u64>()?;
+    let torn = bytes_of(alloc, torn)?;
+    Ok(Stop { step, torn, len })
+}
+
+/// Sets what an option says of the disk.
+fn set(alloc: Global, disk: &mut SimDisk, option: &str) -> Result<(), RowError> {
+    let (word, given) = option.split_once(' ').ok_or(RowError::Form)?;
+    match word {
+        "fails" => disk.fail_at(given.parse::<u64>()?),
+        "stops" => disk.stop_at(stop_of(alloc, given)?),
+        _ => return Err(RowError::Form),
+    }
+    Ok(())
 }
 
 /// The disk that is written `FILE, fails STEP, stops STEP TORN LENGTH`, or with fewer options.
@@ -24,11 +34,7 @@ fn disk_of(alloc: Global, written: &str) -> Result<SimDisk, RowError> {
     let file = bytes_of(alloc, words.next().unwrap_or(""))?;
     let mut disk = SimDisk::new(alloc, file)?;
     for option in words {
-        match option.split_once(' ') {
-            Some(("fails", step)) => disk.fail_at(step.parse::<u64>()?),
-            Some(("stops", stop)) => disk.stop_at(stop_of(alloc, stop)?),
-            _ => return Err(RowError::Form),
-        }
+        set(alloc, &mut disk, option)?;
     }
     Ok(disk)
 }

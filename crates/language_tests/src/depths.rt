@@ -39,10 +39,12 @@ fn target(alloc: Global) -> Option<Variable> {
     Some(Variable::new(identifier, Vec::new(alloc)))
 }
 
+fn assignment(alloc: Global, value: Expr) -> Option<Stmt> {
+    Some(Stmt::assign(target(alloc)?, value))
+}
+
 /// The depth of an assignment of the text's expression, which may be deeper than a text's.
 pub fn assignment_depth(alloc: Global, text: &[u8]) -> Option<usize> {
-    let target = target(alloc)?;
-    let value = expression(alloc, text)?;
-    let assignment = Stmt::assign(target, value);
+    let assignment = assignment(alloc, expression(alloc, text)?)?;
     Some(assignment.depth())
 }

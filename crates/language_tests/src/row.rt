@@ -1,62 +1,70 @@
-//! What is asked of the trees.
+//! What is asked of texts.
+//!
+//! A row is a word and a text, as a table spells it.
+//!
+//! | Word | What is answered |
+//! |---|---|
+//! | `lexer` | what the tokens of the text are, or where they stand |
+//! | `source` | how many elements the text has, or its refusal |
+//! | `fronts` | how many of its fronts are sources with a configuration |
+//! | `declarations` | its declarations with their places |
+//! | `expression`, `initial`, `number`, `statements` | what the text begins with, and the place where it goes on |
+//! | `tokens`, `next`, `refused` | what is read of single tokens |
+//! | `last`, `end`, `deep`, `memory` | how that refusal is told |
+//! | `depth FORM` | how deep the tree of that form is that the text is |
+//! | `same FORM` | whether the two texts with ` // ` between them have one tree of that form |
+//! | `rules` | the broken rule of the text, or that there is none |
 
-use crate::depths::{
-    assignment_depth, expression_depth, initial_depth, statement_depth, variable_depth,
-};
-use crate::sameness::{same_expressions, same_initials, same_sources, same_statements};
+use crate::lexed::lexed;
+use crate::parts::{shown_expression, shown_initial, shown_number, shown_statements};
+use crate::sources::{fronts, shown_source};
+use crate::terminals::{shown_each, shown_fault, shown_next, shown_refused};
+use crate::trees::{depth, sameness};
 use scene_tables::spelled;
+use st_lex::{Token, lex};
 use std::alloc::{AllocError, Global};
+use std::fmt::Write;
 
-/// A depth, or that the text has no such tree.
-fn shown(alloc: Global, depth: Option<usize>) -> Result<String, AllocError> {
-    match depth {
-        Some(depth) => format!(in alloc; "{depth}"),
-        None => format!(in alloc; "unread"),
+/// What is answered of the tokens of a text.
+fn part(out: &mut String, alloc: Global, word: &str, tokens: &[Token]) -> Result<(), AllocError> {
+    match word {
+        "source" | "declarations" | "rules" => shown_source(out, alloc, word, tokens),
+        "expression" => shown_expression(out, alloc, tokens),
+        "initial" => shown_initial(out, alloc, tokens),
+        "number" => shown_number(out, tokens),
+        "statements" => shown_statements(out, alloc, tokens),
+        "tokens" => shown_each(out, alloc, tokens),
+        "next" => shown_next(out, tokens),
+        "refused" => shown_refused(out, alloc, tokens),
+        "last" | "end" | "deep" | "memory" => shown_fault(out, word, tokens),
+        _ => out.push_str("no question"),
     }
 }
 
-/// How deep a tree is of the form that stands before the text.
-fn depth(alloc: Global, asked: &str) -> Result<String, AllocError> {
-    let (form, written) = asked.split_once(' ').unwrap_or((asked, ""));
-    let text = spelled(alloc, written)?;
-    let depth = match form {
-        "expression" => expression_depth(alloc, &text),
-        "variable" => variable_depth(alloc, &text),
-        "initial" => initial_depth(alloc, &text),
-        "statement" => statement_depth(alloc, &text),
-        "assigned" => assignment_depth(alloc, &text),
-        _ => None,
-    };
-    shown(alloc, depth)
-}
-
-/// Whether two texts have one tree of the form that stands before them.
-fn sameness(alloc: Global, asked: &str) -> Result<String, AllocError> {
-    let (form, written) = asked.split_once(' ').unwrap_or((asked, ""));
-    let (this, that) = written.split_once(" // ").unwrap_or((written, ""));
-    let this = spelled(alloc, this)?;
-    let that = spelled(alloc, that)?;
-    let same = match form {
-        "expression" => same_expressions(alloc, &this, &that),
-        "initial" => same_initials(alloc, &this, &that),
-        "statements" => same_statements(alloc, &this, &that),
-        "source" => same_sources(alloc, &this, &that),
-        _ => None,
-    };
-    match same {
-        Some(true) => format!(in alloc; "yes"),
-        Some(false) => format!(in alloc; "no"),
-        None => format!(in alloc; "unread"),
+/// What is answered of a text.
+fn told(out: &mut String, alloc: Global, word: &str, text: &[u8]) -> Result<(), AllocError> {
+    if word == "fronts" {
+        return fronts(out, alloc, text);
+    }
+    match lex(alloc, text) {
+        Ok(tokens) => part(out, alloc, word, &tokens),
+        Err(error) => write!(out, "{error}"),
     }
 }
 
-/// What is answered to a row: `depth FORM TEXT` asks how deep the text's tree is, and `same FORM TEXT // TEXT` whether the two have one tree.
-pub fn answer(alloc: Global, given: &str) -> Result<String, AllocError> {
-    if let Some(asked) = given.strip_prefix("depth ") {
-        return depth(alloc, asked);
+fn tell(out: &mut String, alloc: Global, asked: &str) -> Result<(), AllocError> {
+    let (word, written) = asked.split_once(' ').unwrap_or((asked, ""));
+    match word {
+        "lexer" => lexed(out, alloc, written),
+        "depth" => depth(out, alloc, written),
+        "same" => sameness(out, alloc, written),
+        _ => told(out, alloc, word, &spelled(alloc, written)?),
     }
-    if let Some(asked) = given.strip_prefix("same ") {
-        return sameness(alloc, asked);
-    }
-    format!(in alloc; "no question")
+}
+
+/// What is answered to a row.
+pub fn answer(alloc: Global, asked: &str) -> Result<String, AllocError> {
+    let mut out = String::new(alloc);
+    tell(&mut out, alloc, asked)?;
+    Ok(out)
 }

@@ -2,27 +2,34 @@
 
 use crate::row_error::RowError;
 use st_words::{Kind, Sort};
-use std::alloc::{AllocError, Global};
+use std::fmt::Write;
+
+/// How a row writes each type.
+const KINDS: [(&str, Kind); 14] = [
+    ("SINT", Kind::Sint),
+    ("INT", Kind::Int),
+    ("DINT", Kind::Dint),
+    ("LINT", Kind::Lint),
+    ("USINT", Kind::Usint),
+    ("UINT", Kind::Uint),
+    ("UDINT", Kind::Udint),
+    ("ULINT", Kind::Ulint),
+    ("BYTE", Kind::Byte),
+    ("WORD", Kind::Word),
+    ("DWORD", Kind::Dword),
+    ("LWORD", Kind::Lword),
+    ("TIME", Kind::Time),
+    ("BOOL", Kind::Bool),
+];
 
 /// The type that a row writes so.
-pub fn kind_of(word: &str) -> Result<Kind, RowError> {
-    match word {
-        "SINT" => Ok(Kind::Sint),
-        "INT" => Ok(Kind::Int),
-        "DINT" => Ok(Kind::Dint),
-        "LINT" => Ok(Kind::Lint),
-        "USINT" => Ok(Kind::Usint),
-        "UINT" => Ok(Kind::Uint),
-        "UDINT" => Ok(Kind::Udint),
-        "ULINT" => Ok(Kind::Ulint),
-        "BYTE" => Ok(Kind::Byte),
-        "WORD" => Ok(Kind::Word),
-        "DWORD" => Ok(Kind::Dword),
-        "LWORD" => Ok(Kind::Lword),
-        "TIME" => Ok(Kind::Time),
-        "BOOL" => Ok(Kind::Bool),
-        _ => Err(RowError::Form),
+pub fn kind_of(written: &str) -> Result<Kind, RowError> {
+    for (word, kind) in KINDS {
+        if word == written {
+            return Ok(kind);
+        }
     }
+    Err(RowError::Form)
 }
 
 fn sort_word(sort: Sort) -> &'static str {
@@ -35,14 +42,17 @@ fn sort_word(sort: Sort) -> &'static str {
     }
 }
 
-/// The keyword, sort, bits and range of a type.
-pub fn shown_kind(alloc: Global, kind: Kind) -> Result<String, AllocError> {
+/// Writes the keyword, sort, bits and range of the type that is written so.
+pub fn write_kind(text: &mut String, written: &str) -> Result<(), RowError> {
+    let kind = kind_of(written)?;
     let row = kind.row();
     let sort = sort_word(row.sort);
     let least = kind.least();
     let greatest = kind.greatest();
-    format!(in alloc;
+    write!(
+        text,
         "{}, {sort}, {} wide, {least} to {greatest}",
         row.keyword, row.bits
-    )
+    )?;
+    Ok(())
 }

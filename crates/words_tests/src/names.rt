@@ -3,6 +3,7 @@
 use crate::row_error::RowError;
 use st_words::{Identifier, Name};
 use std::alloc::{AllocError, Global};
+use std::fmt::Write;
 use std::str;
 
 /// The name that a text spells so, in upper case.
@@ -46,14 +47,16 @@ pub fn letters(name: &Name) -> &str {
     str::from_utf8(name.as_slice()).unwrap_or("")
 }
 
-/// The name, of a copy.
-pub fn shown_name(alloc: Global, name: &Name) -> Result<String, AllocError> {
+/// Writes the name, of a copy.
+pub fn write_name(text: &mut String, alloc: Global, name: Name) -> Result<(), RowError> {
     let copied = name.copied(alloc)?;
-    format!(in alloc; "{}", letters(&copied))
+    text.push_str(letters(&copied))?;
+    Ok(())
 }
 
-/// The name and its place, of a copy.
-pub fn shown_identifier(alloc: Global, identifier: &Identifier) -> Result<String, AllocError> {
-    let copied = identifier.copied(alloc)?;
-    format!(in alloc; "{}@{}", letters(&copied.name), copied.place)
+/// Writes the name and its place that are written `valve@7`, of a copy.
+pub fn write_identifier(text: &mut String, alloc: Global, written: &str) -> Result<(), RowError> {
+    let copied = identifier_of(alloc, written)?.copied(alloc)?;
+    write!(text, "{}@{}", letters(&copied.name), copied.place)?;
+    Ok(())
 }

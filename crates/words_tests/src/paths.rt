@@ -1,4 +1,4 @@
-//! Paths, which a row writes as words: `r/p x [5] f` is the field F of an element of X of the instance P on the resource R.
+//! Paths, which a row writes as words: `r/p x [5] f` is the field F of an element of X of the instance P on R.
 
 use crate::names::{letters, name_of};
 use crate::row_error::RowError;
@@ -45,7 +45,7 @@ pub fn path_of(alloc: Global, written: &str) -> Result<Path, RowError> {
     Ok(path)
 }
 
-fn write_owner(text: &mut String, owner: &Owner) -> Result<(), AllocError> {
+fn show_owner(text: &mut String, owner: &Owner) -> Result<(), AllocError> {
     write!(
         text,
         "{}/{}",
@@ -54,39 +54,43 @@ fn write_owner(text: &mut String, owner: &Owner) -> Result<(), AllocError> {
     )
 }
 
-fn write_step(text: &mut String, step: &Step) -> Result<(), AllocError> {
+fn show_step(text: &mut String, step: &Step) -> Result<(), AllocError> {
     match step {
         Step::Member(name) => write!(text, "{}", letters(name)),
         Step::Element(subscript) => write!(text, "[{subscript}]"),
     }
 }
 
-/// The owner, of a copy.
-pub fn shown_owner(alloc: Global, owner: &Owner) -> Result<String, AllocError> {
-    let mut text = String::new(alloc);
-    write_owner(&mut text, &owner.copied(alloc)?)?;
-    Ok(text)
-}
-
-/// The step, of a copy.
-pub fn shown_step(alloc: Global, step: &Step) -> Result<String, AllocError> {
-    let mut text = String::new(alloc);
-    write_step(&mut text, &step.copied(alloc)?)?;
-    Ok(text)
-}
-
-/// The owner, the name and the steps of a path, of a copy.
-pub fn shown_path(alloc: Global, path: &Path) -> Result<String, AllocError> {
-    let copied = path.copied(alloc)?;
-    let mut text = String::new(alloc);
-    if let Some(owner) = copied.owner() {
-        write_owner(&mut text, owner)?;
+fn show_path(text: &mut String, path: &Path) -> Result<(), AllocError> {
+    if let Some(owner) = path.owner() {
+        show_owner(text, owner)?;
         write!(text, " ")?;
     }
-    write!(text, "{}", letters(copied.name()))?;
-    for step in copied.steps() {
+    write!(text, "{}", letters(path.name()))?;
+    for step in path.steps() {
         write!(text, " ")?;
-        write_step(&mut text, step)?;
+        show_step(text, step)?;
     }
-    Ok(text)
+    Ok(())
+}
+
+/// Writes the owner that is written so, of a copy.
+pub fn write_owner(text: &mut String, alloc: Global, written: &str) -> Result<(), RowError> {
+    let copied = owner_of(alloc, written)?.copied(alloc)?;
+    show_owner(text, &copied)?;
+    Ok(())
+}
+
+/// Writes the step that is written so, of a copy.
+pub fn write_step(text: &mut String, alloc: Global, written: &str) -> Result<(), RowError> {
+    let copied = step_of(alloc, written)?.copied(alloc)?;
+    show_step(text, &copied)?;
+    Ok(())
+}
+
+/// Writes the owner, the name and the steps of the path that is written so, of a copy.
+pub fn write_path(text: &mut String, alloc: Global, written: &str) -> Result<(), RowError> {
+    let copied = path_of(alloc, written)?.copied(alloc)?;
+    show_path(text, &copied)?;
+    Ok(())
 }

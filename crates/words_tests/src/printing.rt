@@ -1,22 +1,28 @@
 //! Values and paths as they are printed.
 
+use crate::paths::path_of;
+use crate::row_error::RowError;
+use crate::values::value_of;
 use st_print::{write_path, write_value};
-use st_words::{Path, Value};
 use std::alloc::{AllocError, Global};
+use std::str;
 
-/// The text of what was written; out of memory where it was not.
-fn text_of(text: Vec<u8>) -> Result<String, AllocError> {
-    String::from_utf8(text).or(Err(AllocError))
+/// Adds what was printed; nothing where it was not.
+fn write_printed(text: &mut String, printed: &[u8]) -> Result<(), RowError> {
+    text.push_str(str::from_utf8(printed).unwrap_or(""))?;
+    Ok(())
 }
 
-pub fn printed_value(alloc: Global, value: Value) -> Result<String, AllocError> {
-    let mut text = Vec::new(alloc);
-    write_value(&mut text, value).or(Err(AllocError))?;
-    text_of(text)
+pub fn print_value(text: &mut String, alloc: Global, written: &str) -> Result<(), RowError> {
+    let value = value_of(written)?;
+    let mut printed = Vec::new(alloc);
+    write_value(&mut printed, value).or(Err(AllocError))?;
+    write_printed(text, &printed)
 }
 
-pub fn printed_path(alloc: Global, path: &Path) -> Result<String, AllocError> {
-    let mut text = Vec::new(alloc);
-    write_path(&mut text, path).or(Err(AllocError))?;
-    text_of(text)
+pub fn print_path(text: &mut String, alloc: Global, written: &str) -> Result<(), RowError> {
+    let path = path_of(alloc, written)?;
+    let mut printed = Vec::new(alloc);
+    write_path(&mut printed, &path).or(Err(AllocError))?;
+    write_printed(text, &printed)
 }

@@ -11,43 +11,41 @@
 //! | `identifier a@7`, `owner r/p`, `step [5]`, `path r/p x [5] f` | a copy of it |
 //! | `same FORM ONE // OTHER // THIRD` | with how many of them each is one, itself included |
 
-use crate::kinds::{kind_of, shown_kind};
-use crate::names::{identifier_of, name_of, name_of_bytes, shown_identifier, shown_name};
-use crate::paths::{owner_of, path_of, shown_owner, shown_path, shown_step, step_of};
-use crate::printing::{printed_path, printed_value};
+use crate::kinds::write_kind;
+use crate::names::{name_of, name_of_bytes, write_identifier, write_name};
+use crate::paths::{write_owner, write_path, write_step};
+use crate::printing::{print_path, print_value};
 use crate::row_error::RowError;
-use crate::sameness::shown_counts;
-use crate::values::{shown_faults, shown_value, value_of};
+use crate::sameness::write_counts;
+use crate::values::{value_of, write_faults, write_value};
 use st_words::Value;
 use std::alloc::{AllocError, Global};
 
-fn told(alloc: Global, asked: &str) -> Result<String, RowError> {
+fn tell(text: &mut String, alloc: Global, asked: &str) -> Result<(), RowError> {
     let (word, given) = asked.split_once(' ').unwrap_or((asked, ""));
     match word {
-        "type" => Ok(shown_kind(alloc, kind_of(given)?)?),
-        "value" => Ok(shown_value(alloc, value_of(given)?)?),
-        "truth" => Ok(shown_value(alloc, Value::truth(given == "TRUE"))?),
-        "printed" => Ok(printed_value(alloc, value_of(given)?)?),
-        "spelled" => Ok(printed_path(alloc, &path_of(alloc, given)?)?),
-        "faults" => Ok(shown_faults(alloc)?),
-        "name" => Ok(shown_name(alloc, &name_of(alloc, given)?)?),
-        "bytes" => Ok(shown_name(alloc, &name_of_bytes(alloc, given)?)?),
-        "identifier" => Ok(shown_identifier(alloc, &identifier_of(alloc, given)?)?),
-        "owner" => Ok(shown_owner(alloc, &owner_of(alloc, given)?)?),
-        "step" => Ok(shown_step(alloc, &step_of(alloc, given)?)?),
-        "path" => Ok(shown_path(alloc, &path_of(alloc, given)?)?),
-        "same" => {
-            let (form, words) = given.split_once(' ').ok_or(RowError::Form)?;
-            shown_counts(alloc, form, words)
-        }
+        "type" => write_kind(text, given),
+        "value" => write_value(text, value_of(given)?),
+        "truth" => write_value(text, Value::truth(given == "TRUE")),
+        "printed" => print_value(text, alloc, given),
+        "spelled" => print_path(text, alloc, given),
+        "faults" => write_faults(text),
+        "name" => write_name(text, alloc, name_of(alloc, given)?),
+        "bytes" => write_name(text, alloc, name_of_bytes(alloc, given)?),
+        "identifier" => write_identifier(text, alloc, given),
+        "owner" => write_owner(text, alloc, given),
+        "step" => write_step(text, alloc, given),
+        "path" => write_path(text, alloc, given),
+        "same" => write_counts(text, alloc, given),
         _ => Err(RowError::Form),
     }
 }
 
 /// What is answered to a row.
 pub fn answer(alloc: Global, asked: &str) -> Result<String, AllocError> {
-    match told(alloc, asked) {
-        Ok(text) => Ok(text),
+    let mut text = String::new(alloc);
+    match tell(&mut text, alloc, asked) {
+        Ok(()) => Ok(text),
         Err(error) => format!(in alloc; "{error}"),
     }
 }

@@ -10,7 +10,8 @@ use st_words::{
     Identifier, Kind, Literal, Name, Number, Owner, Path, Step, Tree, Value, same_option,
     same_trees,
 };
-use std::alloc::{AllocError, Global};
+use std::alloc::Global;
+use std::fmt::Write;
 
 /// A word of the language.
 #[derive(Drop)]
@@ -64,31 +65,33 @@ fn are_one(this: &Word, that: &Word) -> bool {
     }
 }
 
-fn words_of(alloc: Global, form: &str, written: &str) -> Result<Vec<Word>, RowError> {
-    let mut words = Vec::new(alloc);
-    for word in written.split(" // ") {
-        let word = word_of(alloc, form, word)?;
-        words.push(word).map_err(AllocError::from)?;
-    }
-    Ok(words)
+/// Whether two words of a form, which are written so, are one.
+fn are_same(alloc: Global, form: &str, this: &str, that: &str) -> Result<bool, RowError> {
+    let this = word_of(alloc, form, this)?;
+    let that = word_of(alloc, form, that)?;
+    Ok(are_one(&this, &that))
 }
 
 /// How many of the words are one with this.
-fn count(word: &Word, words: &[Word]) -> usize {
-    words.iter().filter(|other| are_one(word, other)).count()
+fn count(alloc: Global, form: &str, this: &str, words: &str) -> Result<u64, RowError> {
+    let mut count: u64 = 0;
+    for that in words.split(" // ") {
+        if are_same(alloc, form, this, that)? {
+            count = count.saturating_add(1);
+        }
+    }
+    Ok(count)
 }
 
-/// How many of these words, which are written with ` // ` between them, each of them is one with, itself included.
-pub fn shown_counts(alloc: Global, form: &str, written: &str) -> Result<String, RowError> {
-    let words = words_of(alloc, form, written)?;
-    let others = words_of(alloc, form, written)?;
-    let mut text = String::new(alloc);
-    for word in &words {
+/// Writes with how many of the words that are written `FORM ONE // OTHER // THIRD` each is one, itself included.
+pub fn write_counts(text: &mut String, alloc: Global, written: &str) -> Result<(), RowError> {
+    let (form, words) = written.split_once(' ').ok_or(RowError::Form)?;
+    for word in words.split(" // ") {
+        let count = count(alloc, form, word, words)?;
         if !text.is_empty() {
             text.push_str(" ")?;
         }
-        let counted = format!(in alloc; "{}", count(word, &others))?;
-        text.push_str(&counted)?;
+        write!(text, "{count}")?;
     }
-    Ok(text)
+    Ok(())
 }

@@ -3,7 +3,7 @@
 use crate::kinds::kind_of;
 use crate::row_error::RowError;
 use st_words::{Fault, Value};
-use std::alloc::{AllocError, Global};
+use std::fmt::Write;
 
 /// The value that is written `INT 5`.
 pub fn value_of(written: &str) -> Result<Value, RowError> {
@@ -11,16 +11,18 @@ pub fn value_of(written: &str) -> Result<Value, RowError> {
     Ok(Value::new(kind_of(kind)?, number.parse::<i128>()?)?)
 }
 
-/// The type and the number of a value, and whether it is true.
-pub fn shown_value(alloc: Global, value: Value) -> Result<String, AllocError> {
+/// Writes the type and the number of a value, and whether it is true.
+pub fn write_value(text: &mut String, value: Value) -> Result<(), RowError> {
     let keyword = value.kind().row().keyword;
     let truth = if value.is_true() { ", true" } else { "" };
-    format!(in alloc; "{keyword} {}{truth}", value.number())
+    write!(text, "{keyword} {}{truth}", value.number())?;
+    Ok(())
 }
 
-/// How the faults of a program show: a range, a division by zero, an index, a conversion, the budget, a step of zero.
-pub fn shown_faults(alloc: Global) -> Result<String, AllocError> {
-    format!(in alloc;
+/// Writes how faults show: a range, a division by zero, an index, a conversion, the budget, a step of zero.
+pub fn write_faults(text: &mut String) -> Result<(), RowError> {
+    write!(
+        text,
         "{} {} {} {} {} {}",
         Fault::Range,
         Fault::DivisionByZero,
@@ -28,5 +30,6 @@ pub fn shown_faults(alloc: Global) -> Result<String, AllocError> {
         Fault::Conversion,
         Fault::Budget,
         Fault::ZeroStep
-    )
+    )?;
+    Ok(())
 }

@@ -4,9 +4,9 @@ use crate::shown_expressions::expression;
 use crate::shown_initials::initial;
 use crate::shown_statements::block;
 use crate::shown_words::number;
-use st_lex::{LexError, Token, lex};
+use st_lex::Token;
 use st_statements::{
-    ParseError, ReadError, parse_error, read_expression, read_initial, read_number, read_statements,
+    ReadError, parse_error, read_expression, read_initial, read_number, read_statements,
 };
 use std::alloc::{AllocError, Global};
 use std::fmt::Write;
@@ -64,7 +64,7 @@ pub fn shown_statements(
 ) -> Result<(), AllocError> {
     match read_statements(alloc, tokens) {
         Ok((found, rest)) => {
-            block(out, &found)?;
+            block(out, "", &found)?;
             left(out, rest)
         }
         Err(error) => refused(out, tokens, error),

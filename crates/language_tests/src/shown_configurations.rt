@@ -1,8 +1,7 @@
 //! Configurations as texts.
 
-use crate::shown_initials::given;
-use crate::shown_types::variable_type;
-use crate::shown_words::name;
+use crate::shown_types::declared_as;
+use crate::shown_words::{name, name_behind, names};
 use st_trees::{
     Address, AddressWidth, Configuration, Direction, GlobalBlock, GlobalDeclaration, GlobalNames,
     GlobalQualifier, Instance, Resource, Task,
@@ -26,27 +25,18 @@ fn global_names(out: &mut String, shown: &GlobalNames) -> Result<(), AllocError>
     match shown {
         GlobalNames::Located(found, place) => {
             name(out, found)?;
-            write!(out, " AT ")?;
+            out.push_str(" AT ")?;
             address(out, place)?;
-            write!(out, " ")
+            out.push_str(" ")
         }
-        GlobalNames::Listed(names) => {
-            for found in names {
-                name(out, found)?;
-                write!(out, " ")?;
-            }
-            Ok(())
-        }
+        GlobalNames::Listed(found) => names(out, found),
     }
 }
 
 fn global(out: &mut String, shown: &GlobalDeclaration) -> Result<(), AllocError> {
-    write!(out, " {{")?;
+    out.push_str(" {")?;
     global_names(out, &shown.names)?;
-    write!(out, ": ")?;
-    variable_type(out, &shown.declared)?;
-    given(out, &shown.initial)?;
-    write!(out, "}}")
+    declared_as(out, &shown.declared, &shown.initial)
 }
 
 fn global_block(out: &mut String, shown: &GlobalBlock) -> Result<(), AllocError> {
@@ -63,11 +53,9 @@ fn global_block(out: &mut String, shown: &GlobalBlock) -> Result<(), AllocError>
 }
 
 fn task(out: &mut String, shown: &Task) -> Result<(), AllocError> {
-    write!(out, " TASK ")?;
-    name(out, &shown.name)?;
+    name_behind(out, " TASK ", &shown.name)?;
     if let Some(single) = &shown.single {
-        write!(out, " SINGLE ")?;
-        name(out, single)?;
+        name_behind(out, " SINGLE ", single)?;
     }
     if let Some(milliseconds) = shown.interval {
         write!(out, " INTERVAL {milliseconds} ms")?;
@@ -77,21 +65,16 @@ fn task(out: &mut String, shown: &Task) -> Result<(), AllocError> {
 }
 
 fn instance(out: &mut String, shown: &Instance) -> Result<(), AllocError> {
-    write!(out, " PROGRAM ")?;
-    name(out, &shown.name)?;
+    name_behind(out, " PROGRAM ", &shown.name)?;
     if let Some(task) = &shown.task {
-        write!(out, " WITH ")?;
-        name(out, task)?;
+        name_behind(out, " WITH ", task)?;
     }
-    write!(out, " : ")?;
-    name(out, &shown.program)
+    name_behind(out, " : ", &shown.program)
 }
 
 fn resource(out: &mut String, shown: &Resource) -> Result<(), AllocError> {
-    write!(out, " RESOURCE ")?;
-    name(out, &shown.name)?;
-    write!(out, " ON ")?;
-    name(out, &shown.processor)?;
+    name_behind(out, " RESOURCE ", &shown.name)?;
+    name_behind(out, " ON ", &shown.processor)?;
     for found in &shown.tasks {
         task(out, found)?;
     }
@@ -102,8 +85,7 @@ fn resource(out: &mut String, shown: &Resource) -> Result<(), AllocError> {
 }
 
 pub fn configuration(out: &mut String, shown: &Configuration) -> Result<(), AllocError> {
-    write!(out, "CONFIGURATION ")?;
-    name(out, &shown.name)?;
+    name_behind(out, "CONFIGURATION ", &shown.name)?;
     for found in &shown.globals {
         global_block(out, found)?;
     }

@@ -1,7 +1,7 @@
 //! Initial values as texts.
 
-use crate::shown_words::{literal, name, number};
-use st_trees::{Initial, InitialElement};
+use crate::shown_words::{literal, name_behind, number};
+use st_trees::{Initial, InitialElement, InitialMember};
 use std::alloc::AllocError;
 use std::fmt::Write;
 
@@ -9,25 +9,36 @@ use std::fmt::Write;
 pub fn initial(out: &mut String, shown: &Initial) -> Result<(), AllocError> {
     match shown {
         Initial::Constant(found) => literal(out, found),
-        Initial::List(place, elements) => {
+        Initial::List(place, found) => {
             write!(out, "[@{place}")?;
-            for i in 0..elements.len() {
-                write!(out, " ")?;
-                element(out, &elements[i])?;
-            }
-            write!(out, "]")
+            elements(out, found)
         }
-        Initial::Structure(place, members) => {
+        Initial::Structure(place, found) => {
             write!(out, "(@{place}")?;
-            for i in 0..members.len() {
-                write!(out, " ")?;
-                name(out, &members[i].name)?;
-                write!(out, " := ")?;
-                initial(out, &members[i].value)?;
-            }
-            write!(out, ")")
+            members(out, found)
         }
     }
+}
+
+/// The elements of a list, to its end.
+#[cycle(shown_initial)]
+fn elements(out: &mut String, shown: &[InitialElement]) -> Result<(), AllocError> {
+    for i in 0..shown.len() {
+        out.push_str(" ")?;
+        element(out, &shown[i])?;
+    }
+    out.push_str("]")
+}
+
+/// The members of a structure, to its end.
+#[cycle(shown_initial)]
+fn members(out: &mut String, shown: &[InitialMember]) -> Result<(), AllocError> {
+    for i in 0..shown.len() {
+        name_behind(out, " ", &shown[i].name)?;
+        out.push_str(" := ")?;
+        initial(out, &shown[i].value)?;
+    }
+    out.push_str(")")
 }
 
 #[cycle(shown_initial)]
@@ -36,12 +47,12 @@ fn element(out: &mut String, shown: &InitialElement) -> Result<(), AllocError> {
         InitialElement::Single(value) => initial(out, value),
         InitialElement::Repeated(count, value) => {
             number(out, count)?;
-            write!(out, " of ")?;
+            out.push_str(" of ")?;
             initial(out, value)
         }
         InitialElement::Defaults(count) => {
             number(out, count)?;
-            write!(out, " defaults")
+            out.push_str(" defaults")
         }
     }
 }
@@ -50,7 +61,7 @@ fn element(out: &mut String, shown: &InitialElement) -> Result<(), AllocError> {
 pub fn given(out: &mut String, shown: &Option<Initial>) -> Result<(), AllocError> {
     match shown {
         Some(value) => {
-            write!(out, " := ")?;
+            out.push_str(" := ")?;
             initial(out, value)
         }
         None => Ok(()),

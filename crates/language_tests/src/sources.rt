@@ -1,9 +1,12 @@
 //! What the parser makes of whole texts and of their prefixes.
 
-use st_lex::{LexError, LexFault, lex};
+use crate::shown_sources::declarations;
+use st_lex::{LexError, LexFault, Token, lex};
 use st_parse::{ParseError, parse};
+use st_rules::broken_rule;
 use st_trees::{LibraryElement, Source};
 use std::alloc::{AllocError, Global};
+use std::fmt::Write;
 
 /// Whether the source has a configuration.
 fn is_configured(source: &Source) -> bool {
@@ -15,15 +18,26 @@ fn is_configured(source: &Source) -> bool {
     false
 }
 
-/// How many elements a source has, or why the text has none.
-pub fn told(alloc: Global, text: &[u8]) -> Result<String, AllocError> {
-    let tokens = match lex(alloc, text) {
-        Ok(tokens) => tokens,
-        Err(error) => return format!(in alloc; "{error}"),
-    };
-    match parse(alloc, &tokens) {
-        Ok(source) => format!(in alloc; "{} read", source.elements.len()),
-        Err(error) => format!(in alloc; "{error}"),
+/// The broken rule of a source, or that there is none.
+fn broken(out: &mut String, alloc: Global, source: &Source) -> Result<(), AllocError> {
+    match broken_rule(alloc, source)? {
+        Some(rule) => write!(out, "{rule}"),
+        None => out.push_str("none"),
+    }
+}
+
+/// What is answered of the source that the tokens are, or why they are none.
+pub fn shown_source(
+    out: &mut String,
+    alloc: Global,
+    word: &str,
+    tokens: &[Token],
+) -> Result<(), AllocError> {
+    match parse(alloc, tokens) {
+        Ok(source) if word == "rules" => broken(out, alloc, &source),
+        Ok(source) if word == "declarations" => declarations(out, &source),
+        Ok(source) => write!(out, "{} read", source.elements.len()),
+        Err(error) => write!(out, "{error}"),
     }
 }
 
@@ -55,7 +69,7 @@ fn outcome_of(alloc: Global, text: &[u8]) -> Outcome {
 
 /// Of the prefixes of the text, itself included: how many are read as a source with a configuration, and how many are refused otherwise than
 /// a text that ends too early.
-pub fn fronts(alloc: Global, text: &[u8]) -> Result<String, AllocError> {
+pub fn fronts(out: &mut String, alloc: Global, text: &[u8]) -> Result<(), AllocError> {
     let mut configured: u64 = 0;
     let mut refused: u64 = 0;
     for end in 0..=text.len() {
@@ -65,5 +79,8 @@ pub fn fronts(alloc: Global, text: &[u8]) -> Result<String, AllocError> {
             Outcome::Unconfigured | Outcome::Unfinished => {}
         }
     }
-    format!(in alloc; "{configured} with a configuration, {refused} refused otherwise")
+    write!(
+        out,
+        "{configured} with a configuration, {refused} refused otherwise"
+    )
 }

@@ -1,6 +1,7 @@
-//! What the lexer answers, as a text.
+//! The tokens of texts.
 
-use st_lex::{Token, TokenKind, WholeNumber, lex};
+use scene_tables::{repeated, unescaped};
+use st_lex::{LexError, Token, TokenKind, WholeNumber, lex};
 use st_trees::{AddressWidth, Direction};
 use std::alloc::{AllocError, Global};
 use std::fmt::Write;
@@ -45,11 +46,7 @@ fn kind(out: &mut String, kind: &TokenKind) -> Result<(), AllocError> {
 
 /// One token after another, with this between them.
 fn separated(out: &mut String, i: usize, between: &str) -> Result<(), AllocError> {
-    if i > 0 {
-        write!(out, "{between}")
-    } else {
-        Ok(())
-    }
+    if i > 0 { out.push_str(between) } else { Ok(()) }
 }
 
 fn kinds(out: &mut String, tokens: &[Token]) -> Result<(), AllocError> {
@@ -69,22 +66,41 @@ fn places(out: &mut String, tokens: &[Token]) -> Result<(), AllocError> {
 }
 
 /// The kinds of the text's tokens, `nothing` where there are none, or the refusal.
-pub fn tokens(alloc: Global, text: &[u8]) -> Result<String, AllocError> {
-    let mut out = String::new(alloc);
+fn tokens(out: &mut String, alloc: Global, text: &[u8]) -> Result<(), AllocError> {
     match lex(alloc, text) {
-        Ok(tokens) if tokens.is_empty() => write!(out, "nothing")?,
-        Ok(tokens) => kinds(&mut out, &tokens)?,
-        Err(error) => write!(out, "{error}")?,
+        Ok(tokens) if tokens.is_empty() => out.push_str("nothing"),
+        Ok(tokens) => kinds(out, &tokens),
+        Err(error) => write!(out, "{error}"),
     }
-    Ok(out)
 }
 
 /// Where each token begins, and where it ends, or the refusal.
-pub fn spans(alloc: Global, text: &[u8]) -> Result<String, AllocError> {
-    let mut out = String::new(alloc);
+fn spans(out: &mut String, alloc: Global, text: &[u8]) -> Result<(), AllocError> {
     match lex(alloc, text) {
-        Ok(tokens) => places(&mut out, &tokens)?,
-        Err(error) => write!(out, "{error}")?,
+        Ok(tokens) => places(out, &tokens),
+        Err(error) => write!(out, "{error}"),
     }
-    Ok(out)
+}
+
+/// The kinds of the tokens of a text that is written `TIMES TEXT`, and has the other text so many times.
+fn many_tokens(out: &mut String, alloc: Global, written: &str) -> Result<(), AllocError> {
+    let (times, text) = written.split_once(' ').unwrap_or(("0", ""));
+    let times = times.parse::<usize>().unwrap_or(0);
+    let text = unescaped(alloc, text)?;
+    tokens(out, alloc, &repeated(alloc, times, &text)?)
+}
+
+/// What the lexer answers. `\*1048577 \20` is the text `\20` so many times, `\@TEXT` asks where the tokens of the text
+/// stand, `\!` how out of memory is reported, and any other text what the tokens are.
+pub fn lexed(out: &mut String, alloc: Global, written: &str) -> Result<(), AllocError> {
+    if written == "\\!" {
+        return write!(out, "{}", LexError::Memory);
+    }
+    if let Some(text) = written.strip_prefix("\\@") {
+        return spans(out, alloc, &unescaped(alloc, text)?);
+    }
+    match written.strip_prefix("\\*") {
+        Some(many) => many_tokens(out, alloc, many),
+        None => tokens(out, alloc, &unescaped(alloc, written)?),
+    }
 }

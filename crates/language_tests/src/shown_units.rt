@@ -1,8 +1,7 @@
 //! Units with their blocks of variables as texts.
 
-use crate::shown_initials::given;
-use crate::shown_types::{elementary, variable_type};
-use crate::shown_words::name;
+use crate::shown_types::{declared_as, elementary};
+use crate::shown_words::{name_behind, names};
 use st_trees::{Declaration, Retention, Section, Unit, UnitSort, VariableBlock};
 use std::alloc::AllocError;
 use std::fmt::Write;
@@ -17,26 +16,21 @@ fn kept(retention: Option<Retention>) -> &'static str {
 }
 
 fn section(out: &mut String, shown: Section) -> Result<(), AllocError> {
-    match shown {
-        Section::Input(retention) => write!(out, " VAR_INPUT{}", kept(retention)),
-        Section::Output(retention) => write!(out, " VAR_OUTPUT{}", kept(retention)),
-        Section::Local(retention) => write!(out, " VAR{}", kept(retention)),
-        Section::Constant => write!(out, " VAR CONSTANT"),
-        Section::External => write!(out, " VAR_EXTERNAL"),
-        Section::ConstantExternal => write!(out, " VAR_EXTERNAL CONSTANT"),
-    }
+    let (words, kept) = match shown {
+        Section::Input(retention) => (" VAR_INPUT", kept(retention)),
+        Section::Output(retention) => (" VAR_OUTPUT", kept(retention)),
+        Section::Local(retention) => (" VAR", kept(retention)),
+        Section::Constant => (" VAR", " CONSTANT"),
+        Section::External => (" VAR_EXTERNAL", ""),
+        Section::ConstantExternal => (" VAR_EXTERNAL", " CONSTANT"),
+    };
+    write!(out, "{words}{kept}")
 }
 
 fn declaration(out: &mut String, shown: &Declaration) -> Result<(), AllocError> {
-    write!(out, " {{")?;
-    for found in &shown.names {
-        name(out, found)?;
-        write!(out, " ")?;
-    }
-    write!(out, ": ")?;
-    variable_type(out, &shown.declared)?;
-    given(out, &shown.initial)?;
-    write!(out, "}}")
+    out.push_str(" {")?;
+    names(out, &shown.names)?;
+    declared_as(out, &shown.declared, &shown.initial)
 }
 
 fn block(out: &mut String, shown: &VariableBlock) -> Result<(), AllocError> {
@@ -50,19 +44,12 @@ fn block(out: &mut String, shown: &VariableBlock) -> Result<(), AllocError> {
 fn heading(out: &mut String, shown: &Unit) -> Result<(), AllocError> {
     match shown.sort {
         UnitSort::Function(kind, place) => {
-            write!(out, "FUNCTION ")?;
-            name(out, &shown.name)?;
-            write!(out, " : ")?;
+            name_behind(out, "FUNCTION ", &shown.name)?;
+            out.push_str(" : ")?;
             elementary(out, kind, place)
         }
-        UnitSort::FunctionBlock => {
-            write!(out, "FUNCTION_BLOCK ")?;
-            name(out, &shown.name)
-        }
-        UnitSort::Program => {
-            write!(out, "PROGRAM ")?;
-            name(out, &shown.name)
-        }
+        UnitSort::FunctionBlock => name_behind(out, "FUNCTION_BLOCK ", &shown.name),
+        UnitSort::Program => name_behind(out, "PROGRAM ", &shown.name),
     }
 }
 

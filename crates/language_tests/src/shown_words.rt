@@ -10,6 +10,21 @@ pub fn name(out: &mut String, shown: &Identifier) -> Result<(), AllocError> {
     write!(out, "{word}@{}", shown.place)
 }
 
+/// Writes a name behind this text.
+pub fn name_behind(out: &mut String, before: &str, shown: &Identifier) -> Result<(), AllocError> {
+    out.push_str(before)?;
+    name(out, shown)
+}
+
+/// Writes names, each with a space behind it.
+pub fn names(out: &mut String, shown: &[Identifier]) -> Result<(), AllocError> {
+    for found in shown {
+        name(out, found)?;
+        out.push_str(" ")?;
+    }
+    Ok(())
+}
+
 pub fn number(out: &mut String, shown: &Number) -> Result<(), AllocError> {
     if shown.is_negative {
         write!(out, "-")?;

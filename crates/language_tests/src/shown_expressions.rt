@@ -1,6 +1,6 @@
 //! Variables and expressions as texts. `{ }` are parentheses of the text, and `( )` show what an operator takes.
 
-use crate::shown_words::{literal, name};
+use crate::shown_words::{literal, name, name_behind};
 use st_trees::{Expr, Selector, Variable};
 use st_words::{BinaryOperator, UnaryOperator};
 use std::alloc::AllocError;
@@ -25,6 +25,13 @@ fn sign(operator: BinaryOperator) -> &'static str {
     }
 }
 
+fn unary_sign(operator: UnaryOperator) -> &'static str {
+    match operator {
+        UnaryOperator::Negate => "-",
+        UnaryOperator::Not => "NOT",
+    }
+}
+
 #[cycle(shown)]
 pub fn expression(out: &mut String, shown: &Expr) -> Result<(), AllocError> {
     match shown {
@@ -32,61 +39,63 @@ pub fn expression(out: &mut String, shown: &Expr) -> Result<(), AllocError> {
         Expr::Variable(found) => variable(out, found),
         Expr::Call(function, found) => {
             name(out, function)?;
-            write!(out, "<")?;
-            arguments(out, found)?;
-            write!(out, ">")
+            arguments(out, found)
         }
         Expr::Parenthesis(place, inner) => {
             write!(out, "{{@{place} ")?;
             expression(out, inner)?;
-            write!(out, "}}")
+            out.push_str("}")
         }
-        Expr::Unary(UnaryOperator::Negate, place, operand) => {
-            write!(out, "(-@{place} ")?;
+        Expr::Unary(operator, place, operand) => {
+            write!(out, "({}@{place} ", unary_sign(*operator))?;
             expression(out, operand)?;
-            write!(out, ")")
-        }
-        Expr::Unary(UnaryOperator::Not, place, operand) => {
-            write!(out, "(NOT@{place} ")?;
-            expression(out, operand)?;
-            write!(out, ")")
+            out.push_str(")")
         }
         Expr::Binary(operator, left, right) => {
-            write!(out, "(")?;
+            out.push_str("(")?;
             expression(out, left)?;
             write!(out, " {} ", sign(*operator))?;
             expression(out, right)?;
-            write!(out, ")")
+            out.push_str(")")
         }
     }
 }
 
 #[cycle(shown)]
 fn arguments(out: &mut String, shown: &[Expr]) -> Result<(), AllocError> {
+    out.push_str("<")?;
     for i in 0..shown.len() {
         if i > 0 {
-            write!(out, ", ")?;
+            out.push_str(", ")?;
         }
         expression(out, &shown[i])?;
     }
-    Ok(())
+    out.push_str(">")
+}
+
+#[cycle(shown)]
+fn selector(out: &mut String, shown: &Selector) -> Result<(), AllocError> {
+    match shown {
+        Selector::Member(member) => name_behind(out, ".", member),
+        Selector::Subscript(subscript) => {
+            out.push_str("[")?;
+            expression(out, subscript)?;
+            out.push_str("]")
+        }
+    }
 }
 
 #[cycle(shown)]
 pub fn variable(out: &mut String, shown: &Variable) -> Result<(), AllocError> {
     name(out, &shown.name)?;
-    for selector in &shown.selectors {
-        match selector {
-            Selector::Member(member) => {
-                write!(out, ".")?;
-                name(out, member)?;
-            }
-            Selector::Subscript(subscript) => {
-                write!(out, "[")?;
-                expression(out, subscript)?;
-                write!(out, "]")?;
-            }
-        }
+    for found in &shown.selectors {
+        selector(out, found)?;
     }
     Ok(())
+}
+
+/// Writes an expression behind this text.
+pub fn expression_behind(out: &mut String, before: &str, shown: &Expr) -> Result<(), AllocError> {
+    out.push_str(before)?;
+    expression(out, shown)
 }

@@ -6,29 +6,56 @@ use st_statements::{
     ReadError, Refusal, begins, begins_name, keyword, leads, literal, mark, name, parse_error,
     refused, whole,
 };
+use st_words::{Identifier, Literal, Number};
 use std::alloc::{AllocError, Global};
 use std::fmt::Write;
 
-/// Writes the keyword TASK, a name, an opening parenthesis, a number and a literal, which follow one another, and how many tokens are left.
-fn read_each(out: &mut String, alloc: Global, tokens: &[Token]) -> Result<(), ReadError> {
-    let (first, rest) = keyword(Keyword::Task, tokens)?;
-    let (found, rest) = name(alloc, rest)?;
-    let (opened, rest) = mark(Mark::Open, rest)?;
-    let (number, rest) = whole(rest)?;
-    let (constant, rest) = literal(rest)?;
-    write!(out, "TASK@{first} ").or(Err(ReadError::Memory))?;
-    shown_name(out, &found).or(Err(ReadError::Memory))?;
-    write!(out, " (@{opened} ").or(Err(ReadError::Memory))?;
-    shown_number(out, &number).or(Err(ReadError::Memory))?;
-    write!(out, " ").or(Err(ReadError::Memory))?;
-    shown_literal(out, &constant).or(Err(ReadError::Memory))?;
-    write!(out, ", {} left", rest.len()).or(Err(ReadError::Memory))
+/// An opening parenthesis, a number and a literal, which follow one another.
+#[derive(Clone, Copy)]
+struct Given {
+    opened: usize,
+    number: Number,
+    constant: Literal,
+    /// How many tokens are left.
+    left: usize,
 }
 
-/// Writes what `read_each` does, or the refusal.
+fn read_given(tokens: &[Token]) -> Result<Given, ReadError> {
+    let (opened, rest) = mark(Mark::Open, tokens)?;
+    let (number, rest) = whole(rest)?;
+    let (constant, rest) = literal(rest)?;
+    Ok(Given {
+        opened,
+        number,
+        constant,
+        left: rest.len(),
+    })
+}
+
+/// The place of the keyword TASK, a name and what is given behind it.
+fn read_each(alloc: Global, tokens: &[Token]) -> Result<(usize, Identifier, Given), ReadError> {
+    let (first, rest) = keyword(Keyword::Task, tokens)?;
+    let (found, rest) = name(alloc, rest)?;
+    Ok((first, found, read_given(rest)?))
+}
+
+fn shown_given(out: &mut String, given: &Given) -> Result<(), AllocError> {
+    write!(out, " (@{} ", given.opened)?;
+    shown_number(out, &given.number)?;
+    out.push_str(" ")?;
+    shown_literal(out, &given.constant)?;
+    write!(out, ", {} left", given.left)
+}
+
+/// Writes the keyword TASK, a name, an opening parenthesis, a number and a literal, which follow one another, and how
+/// many tokens are left; or the refusal.
 pub fn shown_each(out: &mut String, alloc: Global, tokens: &[Token]) -> Result<(), AllocError> {
-    match read_each(out, alloc, tokens) {
-        Ok(()) => Ok(()),
+    match read_each(alloc, tokens) {
+        Ok((first, found, given)) => {
+            write!(out, "TASK@{first} ")?;
+            shown_name(out, &found)?;
+            shown_given(out, &given)
+        }
         Err(error) => write!(out, "{}", parse_error(tokens, error)),
     }
 }
