@@ -1,10 +1,13 @@
 #!/usr/bin/env bash
-# The gate: every proof from nothing, the edits that the prover must refuse, the tests; then the built program over real files. The gate's
+# The gate: whether all edits apply; every proof from nothing, the edits that the prover must refuse, the tests; then the built program over
+# real files. The gate's
 # last line, 'N passed, M failed', comes last, and only where all has passed does the script end with 0.
 set -euo pipefail
 cd "$(dirname "$0")/.."
 
 plant=crates/plant_main/out/plant_main
+
+tests/edits.py
 
 # program: the scripts over the built program, side by side, since each works in a folder of its own
 program() {
