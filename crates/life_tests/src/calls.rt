@@ -13,15 +13,20 @@ fn number_at(written: &str, time: u64) -> Result<u64, RowError> {
     Ok(first.parse::<u64>()?.saturating_add(grown))
 }
 
+/// A TRUE for each word.
+fn image_of(alloc: Global, words: &str) -> Result<Vec<Value>, AllocError> {
+    let mut image = Vec::new(alloc);
+    for _ in words.split_whitespace() {
+        image.push(Value::truth(true))?;
+    }
+    Ok(image)
+}
+
 /// The row of a moment, and a TRUE for each further word.
 fn row_of(alloc: Global, written: &str, time: u64) -> Result<Row, RowError> {
-    let mut words = written.split(' ');
-    let moment = number_at(words.next().unwrap_or(""), time)?;
-    let mut image = Vec::new(alloc);
-    for _ in words {
-        image.push(Value::truth(true)).map_err(AllocError::from)?;
-    }
-    Ok(Row::new(moment, image))
+    let (moment, inputs) = written.split_once(' ').unwrap_or((written, ""));
+    let moment = number_at(moment, time)?;
+    Ok(Row::new(moment, image_of(alloc, inputs)?))
 }
 
 /// A call with a number.
@@ -45,6 +50,20 @@ fn event_of(alloc: Global, call: &str, time: u64) -> Result<Event, RowError> {
     numbered(word, number_at(given, time)? as usize)
 }
 
+/// Adds these calls, as they are made at a time.
+fn push_events(
+    events: &mut Vec<Event>,
+    alloc: Global,
+    calls: &str,
+    time: u64,
+) -> Result<(), RowError> {
+    for call in calls.split(", ") {
+        let event = event_of(alloc, call, time)?;
+        events.push(event).map_err(AllocError::from)?;
+    }
+    Ok(())
+}
+
 /// The calls of a list like `row 0, take 0, commit 0, here 1, flush`, or of `100 times row 0+10, here 0`.
 pub fn events_of(alloc: Global, written: &str) -> Result<Vec<Event>, RowError> {
     let (times, calls) = written.split_once(" times ").unwrap_or(("1", written));
@@ -54,10 +73,7 @@ pub fn events_of(alloc: Global, written: &str) -> Result<Vec<Event>, RowError> {
         return Ok(events);
     }
     for time in 0..times {
-        for call in calls.split(", ") {
-            let event = event_of(alloc, call, time)?;
-            events.push(event).map_err(AllocError::from)?;
-        }
+        push_events(&mut events, alloc, calls, time)?;
     }
     Ok(events)
 }

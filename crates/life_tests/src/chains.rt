@@ -4,7 +4,7 @@
 //! They are thousands of lives: a few seconds as they are built, and many minutes under `rt try`, whose code is slow.
 
 use crate::disks::{Mishap, Steps, Torn};
-use crate::life::{Life, Lived, Setting, Told, live, mode_of};
+use crate::life::{Course, Life, Lived, Setting, Told, live, mode_of};
 use crate::row_error::RowError;
 use commit_lock::{StartFault, StartMode};
 use disk::SimDisk;
@@ -105,6 +105,16 @@ struct Left {
     point: Option<Point>,
 }
 
+/// Whether the point is that after a prefix of the life's log that holds all that it acknowledged.
+fn is_among(fronts: &[Point], course: &Course, point: Point) -> bool {
+    for len in course.acked..fronts.len() {
+        if len <= course.len && fronts[len] == point {
+            return true;
+        }
+    }
+    false
+}
+
 /// Whether a warm start goes on from a prefix of the life's log that holds all that it acknowledged. A life that was not started
 /// leaves what was there before, or where it begins.
 fn is_kept(before: Option<Point>, told: &Told, after: Option<Point>, chapter: Chapter) -> bool {
@@ -120,11 +130,8 @@ fn is_kept(before: Option<Point>, told: &Told, after: Option<Point>, chapter: Ch
             *fault == StartFault::Store(StoreFault::Device) && (after == before || after == start)
         }
         Told::Started(course) => {
-            let fronts = chapter.fronts(start).into_iter().enumerate();
-            course.began.as_slice() == [start.n].as_slice()
-                && fronts
-                    .skip(course.acked)
-                    .any(|(len, front)| len <= course.len && front == after)
+            let fronts = chapter.fronts(start);
+            course.began.as_slice() == [start.n].as_slice() && is_among(&fronts, course, after)
         }
     }
 }
@@ -241,8 +248,14 @@ fn is_found(files: &[Left], n: u64) -> bool {
         .any(|left| matches!(left.point, Some(point) if point.n == n))
 }
 
-/// Writes each number that a warm start over one of the files gives.
-fn write_found(text: &mut String, files: &[Left]) -> Result<(), AllocError> {
+/// Writes the life and each number that a warm start over one of the files gives.
+fn write_found(
+    text: &mut String,
+    divider: &str,
+    chapter: &str,
+    files: &[Left],
+) -> Result<(), AllocError> {
+    write!(text, "{divider}{chapter}:")?;
     for n in 0..=MOST {
         if is_found(files, n) {
             write!(text, " {n}")?;
@@ -281,8 +294,7 @@ pub fn write_chain(
     for (number, chapter) in written.split(", ").enumerate() {
         files = next_files(alloc, setting, &files, chapter)?;
         let divider = if number == 0 { "" } else { "; " };
-        write!(text, "{divider}{chapter}:")?;
-        write_found(text, &files)?;
+        write_found(text, divider, chapter, &files)?;
     }
     Ok(())
 }

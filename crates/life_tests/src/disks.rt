@@ -110,14 +110,14 @@ impl Mishap {
     }
 }
 
-/// A disk with this file that meets the mishap, in a turn of its steps.
+/// A disk with a copy of this file that meets the mishap, in a turn of its steps.
 pub fn disk_with(
     alloc: Global,
-    file: Vec<u8>,
+    file: &[u8],
     mishap: Mishap,
     turn: u64,
 ) -> Result<SimDisk, AllocError> {
-    let mut disk = SimDisk::new(alloc, file)?;
+    let mut disk = SimDisk::new(alloc, file.to_vec(alloc)?)?;
     match mishap {
         Mishap::Nothing => {}
         Mishap::Fails(steps) => disk.fail_at(steps.at(turn)),

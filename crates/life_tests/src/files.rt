@@ -22,8 +22,10 @@ fn bytes_of(alloc: Global, written: &str) -> Result<Vec<u8>, AllocError> {
 
 /// Writes these bytes from a place on, as far as there is room.
 fn put(file: &mut [u8], at: usize, part: &[u8]) {
-    for (place, byte) in file.iter_mut().skip(at).zip(part) {
-        *place = *byte;
+    for i in 0..part.len() {
+        if let Some(place) = file.get_mut(at.saturating_add(i)) {
+            *place = part[i];
+        }
     }
 }
 
@@ -58,8 +60,9 @@ pub fn write_bytes(
     at: usize,
     count: usize,
 ) -> Result<(), AllocError> {
-    for byte in file.iter().skip(at).take(count) {
-        write!(text, "{byte:02X}")?;
+    let end = at.saturating_add(count).min(file.len());
+    for i in at..end {
+        write!(text, "{:02X}", file[i])?;
     }
     Ok(())
 }

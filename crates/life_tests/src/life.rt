@@ -4,7 +4,7 @@ use crate::calls::events_of;
 use crate::disks::{Mishap, Steps, disk_with};
 use crate::plan_text::Declared;
 use crate::row_error::RowError;
-use commit_lock::{Core, Event, Reply, StartFault, StartMode, drive};
+use commit_lock::{Core, Reply, StartFault, StartMode, drive};
 use disk::{Disk, SimDisk};
 use st_build::{Plan, build};
 use st_types::Outcome;
@@ -170,16 +170,25 @@ fn overruns_of(
     Ok(overruns)
 }
 
+fn replies_of(
+    core: &mut Core<SimDisk>,
+    alloc: Global,
+    calls: &str,
+) -> Result<Vec<Reply>, RowError> {
+    let events = events_of(alloc, calls)?;
+    Ok(drive(core, alloc, events)?)
+}
+
 /// What a core of so many programs tells of these calls.
 fn course_of(
     core: &mut Core<SimDisk>,
     alloc: Global,
     globals: &[Declared<'_>],
     programs: usize,
-    events: Vec<Event>,
-) -> Result<Course, AllocError> {
+    calls: &str,
+) -> Result<Course, RowError> {
     let began = numbers_of(core, alloc, globals)?;
-    let replies = drive(core, alloc, events)?;
+    let replies = replies_of(core, alloc, calls)?;
     Ok(Course {
         began,
         replies,
@@ -213,14 +222,13 @@ pub fn live(
     life: Life<'_>,
     turn: u64,
 ) -> Result<Lived, RowError> {
-    let events = events_of(alloc, life.calls)?;
-    let disk = disk_with(alloc, file.to_vec(alloc)?, life.mishap, turn)?;
+    let disk = disk_with(alloc, file, life.mishap, turn)?;
     let plan = plan_of(alloc, setting)?;
     let programs = plan.programs();
     match Core::start(alloc, plan, disk, life.mode, life.room.min(MAX_LOG_ROOM)) {
         Ok(core) => {
             let mut core = core;
-            let course = course_of(&mut core, alloc, setting.globals, programs, events);
+            let course = course_of(&mut core, alloc, setting.globals, programs, life.calls);
             let disk = core.stop();
             Ok(lived_of(Told::Started(course?), disk))
         }

@@ -67,10 +67,45 @@ fn write_unit(
     body: &str,
 ) -> Result<(), AllocError> {
     write!(text, "PROGRAM Unit{number} VAR_EXTERNAL ")?;
-    for Declared { name, kind } in globals.iter().copied() {
-        write!(text, "{name} : {kind}; ")?;
+    for global in globals {
+        write!(text, "{} : {}; ", global.name, global.kind)?;
     }
     write!(text, "END_VAR {body} END_PROGRAM ")
+}
+
+fn is_used(resource: usize, programs: &[Placed<'_>]) -> bool {
+    for program in programs {
+        if program.resource == resource {
+            return true;
+        }
+    }
+    false
+}
+
+fn write_tasks(
+    text: &mut String,
+    resource: usize,
+    programs: &[Placed<'_>],
+) -> Result<(), AllocError> {
+    for number in 0..programs.len() {
+        if programs[number].resource == resource {
+            write!(text, "TASK T{number} {}; ", programs[number].task)?;
+        }
+    }
+    Ok(())
+}
+
+fn write_instances(
+    text: &mut String,
+    resource: usize,
+    programs: &[Placed<'_>],
+) -> Result<(), AllocError> {
+    for number in 0..programs.len() {
+        if programs[number].resource == resource {
+            write!(text, "PROGRAM P{number} WITH T{number} : Unit{number}; ")?;
+        }
+    }
+    Ok(())
 }
 
 /// Writes the resource of a number, if programs are on it.
@@ -79,36 +114,48 @@ fn write_resource(
     resource: usize,
     programs: &[Placed<'_>],
 ) -> Result<(), AllocError> {
-    if !programs.iter().any(|program| program.resource == resource) {
+    if !is_used(resource, programs) {
         return Ok(());
     }
     write!(text, "RESOURCE R{resource} ON CPU ")?;
-    for (number, program) in programs.iter().enumerate() {
-        if program.resource == resource {
-            let task = program.task;
-            write!(text, "TASK T{number} {task}; ")?;
-        }
-    }
-    for (number, program) in programs.iter().enumerate() {
-        if program.resource == resource {
-            write!(text, "PROGRAM P{number} WITH T{number} : Unit{number}; ")?;
-        }
-    }
-    write!(text, "END_RESOURCE ")
+    write_tasks(text, resource, programs)?;
+    write_instances(text, resource, programs)?;
+    text.push_str("END_RESOURCE ")
 }
 
-/// The text of programs over globals. The globals are the blocks of a configuration; the programs have ` / ` between them.
-pub fn text_of(alloc: Global, globals: &str, programs: &str) -> Result<String, RowError> {
-    let declared = declared_in(alloc, globals)?;
+fn write_units(
+    text: &mut String,
+    globals: &[Declared<'_>],
+    programs: &[Placed<'_>],
+) -> Result<(), AllocError> {
+    for number in 0..programs.len() {
+        write_unit(text, number, globals, programs[number].body)?;
+    }
+    Ok(())
+}
+
+fn write_configuration(
+    text: &mut String,
+    blocks: &str,
+    programs: &[Placed<'_>],
+) -> Result<(), AllocError> {
+    write!(text, "CONFIGURATION C {blocks} ")?;
+    for resource in 0..RESOURCES {
+        write_resource(text, resource, programs)?;
+    }
+    text.push_str("END_CONFIGURATION")
+}
+
+/// The text of programs over globals, which the blocks of a configuration declare. The programs have ` / ` between them.
+pub fn text_of(
+    alloc: Global,
+    blocks: &str,
+    globals: &[Declared<'_>],
+    programs: &str,
+) -> Result<String, RowError> {
     let programs = placed_in(alloc, programs)?;
     let mut text = String::new(alloc);
-    for (number, program) in programs.iter().enumerate() {
-        write_unit(&mut text, number, &declared, program.body)?;
-    }
-    write!(text, "CONFIGURATION C {globals} ")?;
-    for resource in 0..RESOURCES {
-        write_resource(&mut text, resource, &programs)?;
-    }
-    write!(text, "END_CONFIGURATION")?;
+    write_units(&mut text, globals, &programs)?;
+    write_configuration(&mut text, blocks, &programs)?;
     Ok(text)
 }

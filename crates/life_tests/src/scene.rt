@@ -3,9 +3,9 @@
 use crate::chains::write_chain;
 use crate::executions::{Change, answered, execution};
 use crate::files::{file_of, write_bytes};
-use crate::life::{Life, Setting, Telling, live};
+use crate::life::{Life, Lived, Setting, Telling, live};
 use crate::numbers::{write_refusals, write_start_faults};
-use crate::plan_text::{declared_in, text_of};
+use crate::plan_text::{Declared, declared_in, text_of};
 use crate::records::{resaved, write_recovered};
 use crate::row_error::RowError;
 use crate::telling::{write_execution, write_lived, write_reply};
@@ -64,14 +64,24 @@ impl<'a> Scene<'a> {
         self.answer.push_str(" | ")
     }
 
+    fn tell_lived(
+        &mut self,
+        globals: &[Declared<'_>],
+        lived: &Lived,
+        telling: Telling,
+    ) -> Result<(), AllocError> {
+        if matches!(telling, Telling::Nothing) {
+            return Ok(());
+        }
+        self.divide()?;
+        write_lived(&mut self.answer, globals, lived, telling)
+    }
+
     /// Lives a life over the file.
     fn live(&mut self, setting: Setting<'_>, life: Life<'_>) -> Result<(), RowError> {
         let lived = live(self.alloc, setting, &self.file, life, self.turn)?;
         self.turns = self.turns.max(life.mishap.turns());
-        if !matches!(life.telling, Telling::Nothing) {
-            self.divide()?;
-            write_lived(&mut self.answer, setting.globals, &lived, life.telling)?;
-        }
+        self.tell_lived(setting.globals, &lived, life.telling)?;
         self.is_same = lived.left.as_slice() == self.file.as_slice();
         self.file = lived.left;
         Ok(())
@@ -106,14 +116,32 @@ impl<'a> Scene<'a> {
 
     /// Answers whether the last life left the file as it was.
     fn tell_same(&mut self) -> Result<(), AllocError> {
-        self.divide()?;
         let word = if self.is_same { "same" } else { "changed" };
         self.answer.push_str(word)
     }
 
-    fn tell_length(&mut self) -> Result<(), AllocError> {
+    /// Answers a part that is a word alone.
+    fn tell(&mut self, word: &str) -> Result<(), AllocError> {
         self.divide()?;
-        write!(self.answer, "{} bytes", self.file.len())
+        match word {
+            "same" => self.tell_same(),
+            "length" => write!(self.answer, "{} bytes", self.file.len()),
+            "recovered" => write_recovered(&mut self.answer, self.alloc, &self.file),
+            "refusals" => write_refusals(&mut self.answer),
+            _ => write_start_faults(&mut self.answer),
+        }
+    }
+
+    /// Lays the file that is written so.
+    fn lay(&mut self, written: &str) -> Result<(), RowError> {
+        self.file = file_of(self.alloc, written)?;
+        Ok(())
+    }
+
+    /// Lays the file that a save of what is recovered makes.
+    fn save_again(&mut self) -> Result<(), RowError> {
+        self.file = resaved(self.alloc, &self.file)?;
+        Ok(())
     }
 
     /// Answers so many bytes of the file from a place on, which are written `PLACE COUNT`.
@@ -126,19 +154,8 @@ impl<'a> Scene<'a> {
         Ok(())
     }
 
-    fn tell_recovered(&mut self) -> Result<(), AllocError> {
-        self.divide()?;
-        write_recovered(&mut self.answer, self.alloc, &self.file)
-    }
-
-    /// A part that needs a plan.
-    fn read_planned(&mut self, word: &str, part: &'a str) -> Result<(), RowError> {
-        let globals = declared_in(self.alloc, self.globals)?;
-        let text = text_of(self.alloc, self.globals, self.programs)?;
-        let setting = Setting {
-            text: text.as_str(),
-            globals: &globals,
-        };
+    /// A part over a plan.
+    fn read_over(&mut self, setting: Setting<'_>, word: &str, part: &str) -> Result<(), RowError> {
         let given = given_behind(word, part);
         match word {
             "chain" => self.live_chain(setting, given),
@@ -148,6 +165,17 @@ impl<'a> Scene<'a> {
         }
     }
 
+    /// A part that needs a plan.
+    fn read_planned(&mut self, word: &str, part: &str) -> Result<(), RowError> {
+        let globals = declared_in(self.alloc, self.globals)?;
+        let text = text_of(self.alloc, self.globals, &globals, self.programs)?;
+        let setting = Setting {
+            text: text.as_str(),
+            globals: &globals,
+        };
+        self.read_over(setting, word, part)
+    }
+
     /// Reads a part, and adds what it is answered.
     pub fn read(&mut self, part: &'a str) -> Result<(), RowError> {
         let word = part.split([' ', ',', ':']).next().unwrap_or("");
@@ -155,15 +183,11 @@ impl<'a> Scene<'a> {
         match word {
             "VAR_GLOBAL" => self.globals = part,
             "0" => self.programs = part,
-            "file" => self.file = file_of(self.alloc, given)?,
-            "same" => self.tell_same()?,
-            "length" => self.tell_length()?,
-            "bytes" => self.tell_bytes(given)?,
-            "recovered" => self.tell_recovered()?,
-            "resaved" => self.file = resaved(self.alloc, &self.file)?,
-            "refusals" => write_refusals(&mut self.answer)?,
-            "faults" => write_start_faults(&mut self.answer)?,
-            _ => self.read_planned(word, part)?,
+            "file" => return self.lay(given),
+            "bytes" => return self.tell_bytes(given),
+            "resaved" => return self.save_again(),
+            "same" | "length" | "recovered" | "refusals" | "faults" => self.tell(word)?,
+            _ => return self.read_planned(word, part),
         }
         Ok(())
     }
