@@ -283,6 +283,7 @@ change "a SINGLE that isn't there" 'INTERVAL' 'SINGLE := m, INTERVAL' G3
 change "a SINGLE that is no BOOL" 'INTERVAL' 'SINGLE := n, INTERVAL' G3
 
 # What is of the language and isn't run yet.
+scene "most of the language in one text" 2 "" "fault X2" check "$texts/conveyor.st"
 change "a type" 'CONFIGURATION C' 'TYPE Pair : ARRAY [0..1] OF INT; END_TYPE CONFIGURATION C' X2
 change "a constant" 'RETAIN n : INT;' 'RETAIN n : INT; END_VAR VAR_GLOBAL CONSTANT k : INT := 1;' X2
 change "a task without an interval" 'INTERVAL := T#10ms, ' '' X2
