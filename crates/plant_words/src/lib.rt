@@ -1,4 +1,6 @@
 //! The command line of the program `plant`.
+//!
+//! It is read here alone, by clap. Nothing here opens a file.
 #![tactic(auto)]
 
 mod command;

@@ -1,4 +1,6 @@
-//! From a text in Structured Text to its plan.
+//! From a text in Structured Text to its plan: tokens, tree, rules and configuration, one after another.
+//!
+//! A text of which this version has a plan is given it, and each refusal applies to its text.
 #![tactic(auto)]
 
 mod addresses;

@@ -1,4 +1,6 @@
 //! Tokens of a text in Structured Text.
+//!
+//! Tokens stand in order, and each is what its slice spells. A text has tokens or a first fault, never both.
 #![tactic(auto)]
 
 mod address;

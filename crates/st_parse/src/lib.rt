@@ -1,4 +1,6 @@
 //! The tree of a text from its tokens.
+//!
+//! What is given is of the grammar, and each text has at most one tree. Names and types are never looked at.
 #![tactic(auto)]
 
 mod block;
