@@ -1,8 +1,8 @@
 //! The core under the lock, over a disk: what is acknowledged is there when power returns.
 //!
-//! It owns the core without a disk and the store. The type of `Core` keeps that every file which a stop now may leave survives: a
-//! warm restart from it gives what a prefix of the log leaves that holds all that is acknowledged. No call but `start` and `flush`
-//! writes to the disk, and after a flush that failed no call goes on.
+//! It owns the core without a disk and the store. The type of `Core` keeps that every file which a stop now may leave
+//! survives: a warm restart from it gives what a prefix of the log leaves that holds all that is acknowledged. No call
+//! but `start` and `flush` writes to the disk, and after a flush that failed no call goes on.
 #![tactic(auto)]
 
 mod calling;

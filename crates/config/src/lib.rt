@@ -1,7 +1,7 @@
 //! Plans: what the runtime needs of a text.
 //!
-//! It owns variables, inputs, tasks and the codes of programs. The type of `Plan` keeps that each path has one slot, that codes fit,
-//! and the limits, so nobody above looks at them again. A plan never changes.
+//! It owns variables, inputs, tasks and the codes of programs. The type of `Plan` keeps that each path has one slot,
+//! that codes fit, and the limits, so nobody above looks at them again. A plan never changes.
 #![tactic(auto)]
 
 mod global_path;

@@ -1,6 +1,7 @@
 //! What the program `plant` does, over any files and outputs.
 //!
-//! It owns the order of work and the exit statuses. A report is printed after a run that ended well, and never beside a refusal.
+//! It owns the order of work and the exit statuses. A report is printed after a run that ended well, and never beside a
+//! refusal.
 #![tactic(auto)]
 
 mod built_in;

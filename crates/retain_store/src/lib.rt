@@ -1,8 +1,9 @@
-//! The last record of retained values on a disk: what a record is, how it is spelled, and two gated areas in one file of
-//! which one holds it.
+//! The last record of retained values on a disk: what a record is, how it is spelled, and two gated areas in one file
+//! of which one holds it.
 //!
-//! It owns the disk. The type of `Store` keeps that every file which a stop now may leave is recovered to the last record or to that
-//! of a failed save. A closed gate is written only to open it over a body that is synced. Nothing here knows of plans.
+//! It owns the disk. The type of `Store` keeps that every file which a stop now may leave is recovered to the last
+//! record or to that of a failed save. A closed gate is written only to open it over a body that is synced. Nothing
+//! here knows of plans.
 #![tactic(auto)]
 
 mod area;

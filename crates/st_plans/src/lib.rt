@@ -1,8 +1,9 @@
-//! What plans mean: variables and inputs, schedules, rows, what is due and waits, logs and the variables after them, retention and
-//! restarts, and the layout of a record.
+//! What plans mean: variables and inputs, schedules, rows, what is due and waits, logs and the variables after them,
+//! retention and restarts, and the layout of a record.
 //!
-//! A log of rows and executions is legal where each execution was waiting; the variables are those after its executions, one after
-//! another. The functions here hold that to worked examples and laws; nothing here schedules or runs.
+//! A log of rows and executions is legal where each execution was waiting; the variables are those after its
+//! executions, one after another. The functions here hold that to worked examples and laws; nothing here schedules or
+//! runs.
 #![tactic(auto)]
 
 mod entry;

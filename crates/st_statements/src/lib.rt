@@ -1,4 +1,7 @@
-//! Trees of expressions, initial values and statements from the tokens of a text.
+//! Trees of expressions, initial values and statements from the tokens of a text: the lower part of the parser.
+//!
+//! Each reader takes what stands first in the tokens and gives it with the tokens after it. A tree that is given is at
+//! most as deep as the limit.
 #![tactic(auto)]
 
 mod argument;

@@ -1,4 +1,6 @@
-//! The trees of a text.
+//! The trees of a text, and their pure mirror, of which all definitions speak.
+//!
+//! Two trees are equal exactly where their mirrors are. Nothing here judges a tree.
 #![tactic(auto)]
 
 mod configuration;

@@ -1,7 +1,8 @@
-//! What programs of the language mean: stores, expressions, statements, functions, blocks, runs, and the types of untyped literals.
+//! What programs of the language mean: stores, expressions, statements, functions, blocks, runs, and the types of
+//! untyped literals.
 //!
-//! The meaning stands in `specs/`, over the mirror of the trees. The functions here hold it to worked examples and laws, by contracts
-//! of functions that do nothing, and look up names and types in trees. Nothing here runs a program.
+//! The meaning stands in `specs/`, over the mirror of the trees. The functions here hold it to worked examples and
+//! laws, by contracts of functions that do nothing, and look up names and types in trees. Nothing here runs a program.
 #![tactic(auto)]
 
 pub mod examples;

@@ -1,4 +1,6 @@
-//! The words of the language: elementary types and values, names, paths, literals, operators and faults.
+//! The words of the language: elementary types and values, names, paths, literals, operators, faults and limits.
+//!
+//! A `Value` is always one that its type holds. The limits of the profile stand in `limits` and nowhere else.
 #![tactic(auto)]
 
 mod fault;
