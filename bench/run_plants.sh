@@ -3,6 +3,6 @@
 # repository.
 set -e
 . "$(dirname "$0")/copied.sh"
-copied "$1" plant_bench 'anyhow thiserror csv' st_words st_trees st_types slot_code config image
+copied "$1" plant_bench 'anyhow thiserror csv' st_words st_trees st_types st_plans slot_code config image
 rt run -- 1250
 for rows in 2500 5000 10000; do out/plant_bench "$rows"; done
