@@ -1,7 +1,6 @@
 #!/usr/bin/env bash
 # The gate: whether all edits apply; every proof from nothing, the edits that the prover must refuse, the tests; then the built program over
-# real files. The gate's
-# last line, 'N passed, M failed', comes last, and only where all has passed does the script end with 0.
+# real files. Its last line is 'N passed, M failed', and only where all has passed does the script end with 0.
 set -euo pipefail
 cd "$(dirname "$0")/.."
 
