@@ -1,6 +1,6 @@
 //! The words of the language: elementary types and values, names, paths, literals, operators, faults and limits.
 //!
-//! A `Value` is always one that its type holds. The limits of the profile stand in `limits` and nowhere else.
+//! A `Value` is always one that its type holds. The limits that several crates share stand in `limits`.
 #![tactic(auto)]
 
 mod fault;

@@ -1,4 +1,4 @@
-//! The limits of the profile, each in one place. Definitions and code of every crate take them from here.
+//! The limits that several crates share, each in one place. Definitions and code take them from here.
 
 /// The longest source text in bytes.
 pub const MAX_SOURCE_BYTES: usize = 1_048_576;
