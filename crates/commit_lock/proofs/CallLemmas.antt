@@ -16,7 +16,8 @@ use Rattle.commit_lock.specs.Kept.{CoreInvariant}
 use Rattle.commit_lock.specs.Cores.{IsLonger}
 use Rattle.commit_lock.proofs.SurvivalLemmas.{survives_longer}
 
-pub latches_longer : (old : State) (row : Latch) (r : Result ℕ Refusal) (new : State) → Latches old row r new → IsLonger old new
+pub latches_longer : (old : State) (row : Latch) (r : Result ℕ Refusal) (new : State) → Latches old row r new
+    → IsLonger old new
 latches_longer old row (Ok n) new h = inr (Row row, h.4)
 latches_longer old row (Err Full) new h = inl h.1
 latches_longer old row (Err Foreign) new h = inl h.2
@@ -24,7 +25,8 @@ latches_longer old row (Err NotLater) new h = inl h.3
 latches_longer old row (Err NotWaiting) new h = absurd h
 latches_longer old row (Err NoMemory) new h = absurd h
 
-pub commits_longer : (old : State) (effect : Effect) (r : Result Answer Refusal) (new : State) → Commits old effect r new → IsLonger old new
+pub commits_longer : (old : State) (effect : Effect) (r : Result Answer Refusal) (new : State)
+    → Commits old effect r new → IsLonger old new
 commits_longer old effect (Ok (Committed n)) new h = inr (Done effect.activation, h.4)
 commits_longer old effect (Ok Stale) new h = inl h.4
 commits_longer old effect (Err Full) new h = inl h.1
@@ -33,7 +35,8 @@ commits_longer old effect (Err Foreign) new h = inl h.3
 commits_longer old effect (Err NotLater) new h = absurd h
 commits_longer old effect (Err NoMemory) new h = absurd h
 
-pub here_longer : (old : State) (resource : ℕ) (r : Result (Option ℕ) Refusal) (new : State) → CommitsHere old resource r new → IsLonger old new
+pub here_longer : (old : State) (resource : ℕ) (r : Result (Option ℕ) Refusal) (new : State)
+    → CommitsHere old resource r new → IsLonger old new
 here_longer old resource (Ok None) new h = inl h.1
 here_longer old resource (Ok (Some n)) new h = inr (Done h.0, h.3)
 here_longer old resource (Err Full) new h = inl h.2
@@ -42,8 +45,10 @@ here_longer old resource (Err NotWaiting) new h = absurd h
 here_longer old resource (Err Foreign) new h = absurd h
 here_longer old resource (Err NotLater) new h = absurd h
 
-kept_grown : {D : Type 0} (state : State) (acked : ℕ) (failed : Option StoreFault) (store : StoreView D) (layout : List ℕ) (room : ℕ) (entry : Entry)
-    → CoreInvariant state acked failed store layout room → CoreInvariant (grown state entry) acked failed store layout room
+kept_grown : {D : Type 0} (state : State) (acked : ℕ) (failed : Option StoreFault) (store : StoreView D)
+    (layout : List ℕ) (room : ℕ) (entry : Entry)
+    → CoreInvariant state acked failed store layout room
+    → CoreInvariant (grown state entry) acked failed store layout room
 kept_grown state acked failed store layout room entry k = record {
   last = survives_longer state.plan state.start state.before state.log acked store.last entry k.last;
   tried = survives_longer state.plan state.start state.before state.log acked store.tried entry k.tried;
@@ -54,7 +59,11 @@ kept_grown state acked failed store layout room entry k = record {
   room_is = k.room_is;
 }
 
-pub kept_longer : {D : Type 0} (old new : State) (acked : ℕ) (failed : Option StoreFault) (store : StoreView D) (layout : List ℕ) (room : ℕ) → IsLonger old new → CoreInvariant old acked failed store layout room → CoreInvariant new acked failed store layout room
-kept_longer old new acked failed store layout room (inl same) k = subst (λ (s : State). CoreInvariant s acked failed store layout room) (sym same) k
+pub kept_longer : {D : Type 0} (old new : State) (acked : ℕ) (failed : Option StoreFault) (store : StoreView D)
+    (layout : List ℕ) (room : ℕ) → IsLonger old new → CoreInvariant old acked failed store layout room
+    → CoreInvariant new acked failed store layout room
+kept_longer old new acked failed store layout room (inl same) k =
+    subst (λ (s : State). CoreInvariant s acked failed store layout room) (sym same) k
 kept_longer old new acked failed store layout room (inr more) k =
-    subst (λ (s : State). CoreInvariant s acked failed store layout room) (sym more.1) (kept_grown old acked failed store layout room more.0 k)
+    subst (λ (s : State). CoreInvariant s acked failed store layout room) (sym more.1)
+    (kept_grown old acked failed store layout room more.0 k)

@@ -1,5 +1,6 @@
 -- The record of a plan's variables.
-use Rattle.std.proofs.Common.{◌≡◌, ℕ, ◌+◌, ◌<◌, ◌^◌, Bool, true, false, not, if◌then◌else◌, List, [], ◌∷◌, ◌++◌, length, map, Option, Some, refl, sym, ap, subst, ◌∙◌, arith, length-append}
+use Rattle.std.proofs.Common.{◌≡◌, ℕ, ◌+◌, ◌<◌, ◌^◌, Bool, true, false, not, if◌then◌else◌, List, [], ◌∷◌, ◌++◌, length}
+use Rattle.std.proofs.Common.{map, Option, Some, refl, sym, ap, subst, ◌∙◌, arith, length-append}
 use Rattle.std.specs.Prelude.{IfSome, bytes_eq, codes}
 use Rattle.std.specs.List.{list_all, flat_map, AllByRecursion, IsDistinct}
 use Rattle.std.proofs.lemmas.Bool.{and_parts, or_parts, not-true}
@@ -11,7 +12,8 @@ use Rattle.st_plans.specs.declared.plan.PlanVariable.{PlanVariable}
 use Rattle.st_types.specs.Scopes.{Name, contains_name}
 use Rattle.st_plans.specs.Layouts.{path_text, line_of, layout_text, values_length, record_length}
 use Rattle.config.specs.Sound.{are_different, is_spelled}
-use Rattle.retain_store.specs.Records.{Line, line_text, text_of, is_path_text, is_visible, IsLayout, IsRecordable, value_bytes, record_bytes}
+use Rattle.retain_store.specs.Records.{Line, line_text, text_of, is_path_text, is_visible, IsLayout, IsRecordable}
+use Rattle.retain_store.specs.Records.{value_bytes, record_bytes}
 use Rattle.retain_store.specs.Reading.{line_at}
 use Rattle.retain_store.specs.FieldLaws.{some_is}
 use Rattle.retain_store.specs.LineLaws.{line_again, value_length}
@@ -26,7 +28,8 @@ abbrev lines_for : List PlanVariable → List Line
 lines_for [] = []
 lines_for (v ∷ vs) = if v.retained then line_for v ∷ lines_for vs else lines_for vs
 
-text_first : (v : PlanVariable) (r : Bool) (ls : List Line) (t : List ℕ) → text_of ls ≡ t → text_of (if r then line_for v ∷ ls else ls) ≡ (if r then line_of v ++ t else t)
+text_first : (v : PlanVariable) (r : Bool) (ls : List Line) (t : List ℕ) → text_of ls ≡ t
+    → text_of (if r then line_for v ∷ ls else ls) ≡ (if r then line_of v ++ t else t)
 text_first v true ls t e = ap (λ (x : List ℕ). line_of v ++ x) e
 text_first v false ls t e = e
 
@@ -34,7 +37,8 @@ text_is : (vs : List PlanVariable) → text_of (lines_for vs) ≡ layout_text vs
 text_is [] = refl
 text_is (v ∷ vs) = text_first v v.retained (lines_for vs) (layout_text vs) (text_is vs)
 
-kinds_first : (v : PlanVariable) (r : Bool) (ls : List Line) (ks : List Kind) → map (λ l. l.kind) ls ≡ ks → map (λ l. l.kind) (if r then line_for v ∷ ls else ls) ≡ (if r then v.initial.kind ∷ ks else ks)
+kinds_first : (v : PlanVariable) (r : Bool) (ls : List Line) (ks : List Kind) → map (λ l. l.kind) ls ≡ ks
+    → map (λ l. l.kind) (if r then line_for v ∷ ls else ls) ≡ (if r then v.initial.kind ∷ ks else ks)
 kinds_first v true ls ks e = ap (λ (x : List Kind). v.initial.kind ∷ x) e
 kinds_first v false ls ks e = e
 
@@ -46,11 +50,14 @@ path_spelled : (x : Name) → is_spelled x ≡ true → is_path_text x ≡ true
 path_spelled [] e = e
 path_spelled (b ∷ bs) e = (and_parts _ (list_all is_visible (b ∷ bs)) e).1
 
-spelled_first : (v : PlanVariable) (r : Bool) (ls : List Line) → is_path_text (path_text v.path) ≡ true → AllByRecursion (λ l. is_path_text l.path ≡ true) ls → AllByRecursion (λ l. is_path_text l.path ≡ true) (if r then line_for v ∷ ls else ls)
+spelled_first : (v : PlanVariable) (r : Bool) (ls : List Line) → is_path_text (path_text v.path) ≡ true
+    → AllByRecursion (λ l. is_path_text l.path ≡ true) ls
+    → AllByRecursion (λ l. is_path_text l.path ≡ true) (if r then line_for v ∷ ls else ls)
 spelled_first v true ls h rest = (h, rest)
 spelled_first v false ls h rest = rest
 
-spelled_are : (vs : List PlanVariable) → list_all (λ v. is_spelled (path_text v.path)) vs ≡ true → AllByRecursion (λ l. is_path_text l.path ≡ true) (lines_for vs)
+spelled_are : (vs : List PlanVariable) → list_all (λ v. is_spelled (path_text v.path)) vs ≡ true
+    → AllByRecursion (λ l. is_path_text l.path ≡ true) (lines_for vs)
 spelled_are [] e = tt
 spelled_are (v ∷ vs) e =
     let p = and_parts (is_spelled (path_text v.path)) (list_all (λ u. is_spelled (path_text u.path)) vs) e in
@@ -63,29 +70,37 @@ texts vs = map (λ v. path_text v.path) vs
 abbrev IsNone : Name → List Name → Type 0
 IsNone x ys = AllByRecursion (λ y. bytes_eq x y ≡ false) ys
 
-none_first : (x : Name) (v : PlanVariable) (r : Bool) (ls : List Line) → bytes_eq x (path_text v.path) ≡ false → IsNone x (map (λ l. l.path) ls) → IsNone x (map (λ l. l.path) (if r then line_for v ∷ ls else ls))
+none_first : (x : Name) (v : PlanVariable) (r : Bool) (ls : List Line) → bytes_eq x (path_text v.path) ≡ false
+    → IsNone x (map (λ l. l.path) ls) → IsNone x (map (λ l. l.path) (if r then line_for v ∷ ls else ls))
 none_first x v true ls h rest = (h, rest)
 none_first x v false ls h rest = rest
 
-none_is : (x : Name) (vs : List PlanVariable) → contains_name (texts vs) x ≡ false → IsNone x (map (λ l. l.path) (lines_for vs))
+none_is : (x : Name) (vs : List PlanVariable) → contains_name (texts vs) x ≡ false
+    → IsNone x (map (λ l. l.path) (lines_for vs))
 none_is x [] h = tt
 none_is x (v ∷ vs) h =
-    let p = or_parts (bytes_eq x (path_text v.path)) (contains_name (texts vs) x) h in none_first x v v.retained (lines_for vs) p.0 (none_is x vs p.1)
+    let p = or_parts (bytes_eq x (path_text v.path)) (contains_name (texts vs) x) h in
+    none_first x v v.retained (lines_for vs) p.0 (none_is x vs p.1)
 
-once_first : (v : PlanVariable) (r : Bool) (ls : List Line) → IsNone (path_text v.path) (map (λ l. l.path) ls) → IsDistinct bytes_eq (map (λ l. l.path) ls) → IsDistinct bytes_eq (map (λ l. l.path) (if r then line_for v ∷ ls else ls))
+once_first : (v : PlanVariable) (r : Bool) (ls : List Line) → IsNone (path_text v.path) (map (λ l. l.path) ls)
+    → IsDistinct bytes_eq (map (λ l. l.path) ls)
+    → IsDistinct bytes_eq (map (λ l. l.path) (if r then line_for v ∷ ls else ls))
 unfolding IsDistinct
 once_first v true ls h rest = (h, rest)
 once_first v false ls h rest = rest
 
-once_are : (vs : List PlanVariable) → are_different (texts vs) ≡ true → IsDistinct bytes_eq (map (λ l. l.path) (lines_for vs))
+once_are : (vs : List PlanVariable) → are_different (texts vs) ≡ true
+    → IsDistinct bytes_eq (map (λ l. l.path) (lines_for vs))
 unfolding IsDistinct
 once_are [] d = tt
 once_are (v ∷ vs) d =
     let p = and_parts (not (contains_name (texts vs) (path_text v.path))) (are_different (texts vs)) d in
-    once_first v v.retained (lines_for vs) (none_is (path_text v.path) vs (not-true (contains_name (texts vs) (path_text v.path)) p.0)) (once_are vs p.1)
+    once_first v v.retained (lines_for vs)
+    (none_is (path_text v.path) vs (not-true (contains_name (texts vs) (path_text v.path)) p.0)) (once_are vs p.1)
 
 -- the layout text of a plan is one of a record
-pub layout_is : (vs : List PlanVariable) (ks : List Kind) → list_all (λ v. is_spelled (path_text v.path)) vs ≡ true → are_different (texts vs) ≡ true → ks ≡ retained_kinds vs → IsLayout (layout_text vs) ks
+pub layout_is : (vs : List PlanVariable) (ks : List Kind) → list_all (λ v. is_spelled (path_text v.path)) vs ≡ true
+    → are_different (texts vs) ≡ true → ks ≡ retained_kinds vs → IsLayout (layout_text vs) ks
 layout_is vs ks spelled d is = record {
   lines = lines_for vs;
   paths = spelled_are vs spelled;
@@ -96,34 +111,51 @@ layout_is vs ks spelled d is = record {
 
 -- ---- one layout text has one list of types
 
-some_lines : (l m : Line) (s t : List ℕ) → ◌≡◌ {A = Option (Line × List ℕ)} (Some (l, s)) (Some (m, t)) → (l ≡ m) × (s ≡ t)
-some_lines l m s t e = let same = some_is (l, s) (m, t) e in (ap (λ (p : Line × List ℕ). p.0) same, ap (λ (p : Line × List ℕ). p.1) same)
+some_lines : (l m : Line) (s t : List ℕ) → ◌≡◌ {A = Option (Line × List ℕ)} (Some (l, s)) (Some (m, t))
+    → (l ≡ m) × (s ≡ t)
+some_lines l m s t e = let same = some_is (l, s) (m, t) e in
+    (ap (λ (p : Line × List ℕ). p.0) same, ap (λ (p : Line × List ℕ). p.1) same)
 
 no_line : (l : Line) (rest : List ℕ) → is_path_text l.path ≡ true → [] ≡ line_text l ++ rest → ⊥
-no_line l rest h e = absurd (omega (arith, ap length e, length-append (line_text l) rest, length-append (l.path ++ codes " " ++ (row_of l.kind).keyword) (10 ∷ [])))
+no_line l rest h e = absurd (omega (
+  arith,
+  ap length e,
+  length-append (line_text l) rest,
+  length-append (l.path ++ codes " " ++ (row_of l.kind).keyword) (10 ∷ []),
+))
 
-lines_once : (ls ms : List Line) → AllByRecursion (λ l. is_path_text l.path ≡ true) ls → AllByRecursion (λ l. is_path_text l.path ≡ true) ms → text_of ls ≡ text_of ms → map (λ l. l.kind) ls ≡ map (λ l. l.kind) ms
+lines_once : (ls ms : List Line) → AllByRecursion (λ l. is_path_text l.path ≡ true) ls
+    → AllByRecursion (λ l. is_path_text l.path ≡ true) ms → text_of ls ≡ text_of ms
+    → map (λ l. l.kind) ls ≡ map (λ l. l.kind) ms
 lines_once [] [] h k e = refl
 lines_once [] (m ∷ ms) h k e = absurd (no_line m (text_of ms) k.0 e)
 lines_once (l ∷ ls) [] h k e = absurd (no_line l (text_of ls) h.0 (sym e))
 lines_once (l ∷ ls) (m ∷ ms) h k e =
-    let same = some_lines l m (text_of ls) (text_of ms) (sym (line_again l (text_of ls) h.0) ∙ ap line_at e ∙ line_again m (text_of ms) k.0) in
+    let same = some_lines l m (text_of ls) (text_of ms)
+    (sym (line_again l (text_of ls) h.0) ∙ ap line_at e ∙ line_again m (text_of ms) k.0) in
     let kind : l.kind ≡ m.kind = ap (λ (x : Line). x.kind) same.0 in
     rw (kind, lines_once ls ms h.1 k.1 same.1) refl
 
-pub kinds_told : (vs : List PlanVariable) (text : List ℕ) (ks : List Kind) → list_all (λ v. is_spelled (path_text v.path)) vs ≡ true → text ≡ layout_text vs → IsLayout text ks → ks ≡ retained_kinds vs
+pub kinds_told : (vs : List PlanVariable) (text : List ℕ) (ks : List Kind)
+    → list_all (λ v. is_spelled (path_text v.path)) vs ≡ true → text ≡ layout_text vs → IsLayout text ks
+    → ks ≡ retained_kinds vs
 kinds_told vs text ks spelled is layout =
-    layout.typed ∙ lines_once layout.lines (lines_for vs) layout.paths (spelled_are vs spelled) (sym layout.spelled ∙ is ∙ sym (text_is vs)) ∙ kinds_are vs
+    layout.typed ∙ lines_once layout.lines (lines_for vs) layout.paths (spelled_are vs spelled)
+    (sym layout.spelled ∙ is ∙ sym (text_is vs)) ∙ kinds_are vs
 
 -- ---- how long a record is
 
-length_first : (v : PlanVariable) (r : Bool) (ws : List Datum) (ks : List Kind) (n : ℕ) → ((us : List Datum) → map (λ d. d.kind) us ≡ ks → length (flat_map value_bytes us) ≡ n)
-    → map (λ d. d.kind) ws ≡ (if r then v.initial.kind ∷ ks else ks) → length (flat_map value_bytes ws) ≡ (if r then width_of v.initial.kind + n else n)
+length_first : (v : PlanVariable) (r : Bool) (ws : List Datum) (ks : List Kind) (n : ℕ)
+    → ((us : List Datum) → map (λ d. d.kind) us ≡ ks → length (flat_map value_bytes us) ≡ n)
+    → map (λ d. d.kind) ws ≡ (if r then v.initial.kind ∷ ks else ks)
+    → length (flat_map value_bytes ws) ≡ (if r then width_of v.initial.kind + n else n)
 length_first v true [] ks n again e = absurd (omega (arith, ap length e))
 length_first v true (w ∷ ws) ks n again e =
     let kind : w.kind ≡ v.initial.kind = head_is e in
     let rest = again ws (tail_is e) in
-    length-append (value_bytes w) (flat_map value_bytes ws) ∙ ap (λ k. k + length (flat_map value_bytes ws)) (value_length w ∙ ap width_of kind) ∙ ap (λ k. width_of v.initial.kind + k) rest
+    length-append (value_bytes w) (flat_map value_bytes ws)
+    ∙ ap (λ k. k + length (flat_map value_bytes ws)) (value_length w ∙ ap width_of kind)
+    ∙ ap (λ k. width_of v.initial.kind + k) rest
   where
     head_is : {a b : Kind} {xs ys : List Kind} → a ∷ xs ≡ b ∷ ys → a ≡ b
     head_is h = cc
@@ -132,19 +164,25 @@ length_first v true (w ∷ ws) ks n again e =
     tail_is h = cc
 length_first v false ws ks n again e = again ws e
 
-values_long : (vs : List PlanVariable) (ws : List Datum) → map (λ d. d.kind) ws ≡ retained_kinds vs → length (flat_map value_bytes ws) ≡ values_length vs
+values_long : (vs : List PlanVariable) (ws : List Datum) → map (λ d. d.kind) ws ≡ retained_kinds vs
+    → length (flat_map value_bytes ws) ≡ values_length vs
 values_long [] [] e = refl
 values_long [] (w ∷ ws) e = absurd (omega (arith, ap length e))
 values_long (v ∷ vs) ws e = length_first v v.retained ws (retained_kinds vs) (values_length vs) (values_long vs) e
 
-pub record_long : (vs : List PlanVariable) (ws : List Datum) (moment : Option ℕ) (text : List ℕ) → text ≡ layout_text vs → map (λ d. d.kind) ws ≡ retained_kinds vs
+pub record_long : (vs : List PlanVariable) (ws : List Datum) (moment : Option ℕ) (text : List ℕ) → text ≡ layout_text vs
+    → map (λ d. d.kind) ws ≡ retained_kinds vs
     → length (record_bytes (record { moment = moment; layout = text; values = ws })) ≡ record_length vs
-record_long vs ws moment text is e = body_length moment text (flat_map value_bytes ws) ∙ omega (arith, values_long vs ws e, ap length is)
+record_long vs ws moment text is e = body_length moment text (flat_map value_bytes ws)
+    ∙ omega (arith, values_long vs ws e, ap length is)
 
-pub record_sound : (vs : List PlanVariable) (ws : List Datum) (moment : Option ℕ) (text : List ℕ) → list_all (λ v. is_spelled (path_text v.path)) vs ≡ true → are_different (texts vs) ≡ true → text ≡ layout_text vs
-    → IfSome moment (λ t. t < MOMENT_LIMIT) → map (λ d. d.kind) ws ≡ retained_kinds vs → AllByRecursion IsHeld ws → IsRecordable (record { moment = moment; layout = text; values = ws })
+pub record_sound : (vs : List PlanVariable) (ws : List Datum) (moment : Option ℕ) (text : List ℕ)
+    → list_all (λ v. is_spelled (path_text v.path)) vs ≡ true → are_different (texts vs) ≡ true → text ≡ layout_text vs
+    → IfSome moment (λ t. t < MOMENT_LIMIT) → map (λ d. d.kind) ws ≡ retained_kinds vs → AllByRecursion IsHeld ws
+    → IsRecordable (record { moment = moment; layout = text; values = ws })
 record_sound vs ws moment text spelled d is early e held = record {
   moment = early;
-  layout = subst (λ (t : List ℕ). IsLayout t (map (λ w. w.kind) ws)) (sym is) (layout_is vs (map (λ w. w.kind) ws) spelled d e);
+  layout = subst (λ (t : List ℕ). IsLayout t (map (λ w. w.kind) ws)) (sym is)
+      (layout_is vs (map (λ w. w.kind) ws) spelled d e);
   values = held;
 }

@@ -1,5 +1,6 @@
 -- What survives.
-use Rattle.std.proofs.Common.{ℕ, ◌≤◌, List, [], ◌∷◌, ◌++◌, length, Option, inl, inr, refl, sym, ap, subst, ◌∙◌, arith, append-nil, append_assoc}
+use Rattle.std.proofs.Common.{ℕ, ◌≤◌, List, [], ◌∷◌, ◌++◌, length, Option, inl, inr, refl, sym, ap, subst, ◌∙◌, arith}
+use Rattle.std.proofs.Common.{append-nil, append_assoc}
 use Rattle.st_plans.specs.declared.entry.Entry.{Entry}
 use Rattle.st_types.specs.Stores.{Store}
 use Rattle.st_plans.specs.Restarts.{Start, written_over}
@@ -16,18 +17,22 @@ abbrev start_at : Store → Option ℕ → Start
 start_at s m = record { store = s; moment = m }
 
 -- the record of a core as it is now survives: it is of the whole log
-pub survives_now : (state : State) (acked generation : ℕ) → acked ≤ length state.log → IsNamed state → Survives state.plan state.start state.before state.log acked (Found generation (record_now state))
+pub survives_now : (state : State) (acked generation : ℕ) → acked ≤ length state.log → IsNamed state
+    → Survives state.plan state.start state.before state.log acked (Found generation (record_now state))
 survives_now state acked generation few named = record {
   of_plan = refl;
   front = state.log;
   rest = [];
   parts = sym (append-nil state.log);
   acknowledged = few;
-  restarted = ap (λ (s : Store). start_at (written_over (initial_store (plan_view state.plan)) s) (last_moment state.before (made state).rows)) named;
+  restarted = ap (λ (s : Store). start_at (written_over (initial_store (plan_view state.plan)) s)
+      (last_moment state.before (made state).rows)) named;
 }
 
 -- a longer log has the same prefixes
-pub survives_longer : (plan : Plan) (start : Store) (before : Option ℕ) (log : List Entry) (acked : ℕ) (file : Recovered) (entry : Entry) → Survives plan start before log acked file → Survives plan start before (log ++ entry ∷ []) acked file
+pub survives_longer :
+    (plan : Plan) (start : Store) (before : Option ℕ) (log : List Entry) (acked : ℕ) (file : Recovered) (entry : Entry)
+    → Survives plan start before log acked file → Survives plan start before (log ++ entry ∷ []) acked file
 survives_longer plan start before log acked file entry s = record {
   of_plan = s.of_plan;
   front = s.front;
@@ -38,7 +43,8 @@ survives_longer plan start before log acked file entry s = record {
 }
 
 -- what survives with more acknowledged survives with less
-pub survives_less : (plan : Plan) (start : Store) (before : Option ℕ) (log : List Entry) (few many : ℕ) (file : Recovered) → few ≤ many → Survives plan start before log many file → Survives plan start before log few file
+pub survives_less : (plan : Plan) (start : Store) (before : Option ℕ) (log : List Entry) (few many : ℕ)
+    (file : Recovered) → few ≤ many → Survives plan start before log many file → Survives plan start before log few file
 survives_less plan start before log few many file less s = record {
   of_plan = s.of_plan;
   front = s.front;
@@ -48,6 +54,10 @@ survives_less plan start before log few many file less s = record {
   restarted = s.restarted;
 }
 
-pub survives_either : (plan : Plan) (start : Store) (before : Option ℕ) (log : List Entry) (acked : ℕ) (last new file : Recovered) → Survives plan start before log acked last → Survives plan start before log acked new → IsEither last new file → Survives plan start before log acked file
-survives_either plan start before log acked last new file a b (inl e) = subst (λ (r : Recovered). Survives plan start before log acked r) (sym e) a
-survives_either plan start before log acked last new file a b (inr e) = subst (λ (r : Recovered). Survives plan start before log acked r) (sym e) b
+pub survives_either : (plan : Plan) (start : Store) (before : Option ℕ) (log : List Entry) (acked : ℕ)
+    (last new file : Recovered) → Survives plan start before log acked last → Survives plan start before log acked new
+    → IsEither last new file → Survives plan start before log acked file
+survives_either plan start before log acked last new file a b (inl e) =
+    subst (λ (r : Recovered). Survives plan start before log acked r) (sym e) a
+survives_either plan start before log acked last new file a b (inr e) =
+    subst (λ (r : Recovered). Survives plan start before log acked r) (sym e) b

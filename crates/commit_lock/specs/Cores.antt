@@ -21,9 +21,10 @@ pub record CoreView (D : Type 0) : Type 0 where
 abbrev pub with_state : {D : Type 0} → CoreView D → State → CoreView D
 with_state core state = record { state = state; acked = core.acked; failed = core.failed; store = core.store }
 
--- What a call is answered: K5 exactly where the store has failed before, and then nothing changes; else it is the answer of the core
--- without a disk.
-abbrev pub Guards : {D A : Type 0} → CoreView D → Result A Refusal → CoreView D → (Result A SerialRefusal → Type 0) → Type 0
+-- What a call is answered: K5 exactly where the store has failed before, and then nothing changes; else it is the
+-- answer of the core without a disk.
+abbrev pub Guards : {D A : Type 0} → CoreView D → Result A Refusal → CoreView D → (Result A SerialRefusal → Type 0)
+    → Type 0
 Guards old (Err (StoreFailed cause)) new R = (old.failed ≡ Some cause) × (new ≡ old)
 Guards old (Err (Serial refusal)) new R = (old.failed ≡ None) × (new ≡ with_state old new.state) × R (Err refusal)
 Guards old (Ok a) new R = (old.failed ≡ None) × (new ≡ with_state old new.state) × R (Ok a)

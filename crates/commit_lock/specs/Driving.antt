@@ -1,5 +1,6 @@
 -- A list of calls, one after another.
-use Rattle.std.specs.Prelude.{◌≡◌, ◌⊎◌, ℕ, true, false, List, [], ◌∷◌, ◌++◌, Option, Some, None, Result, Ok, Err, slice_get, slice_set, option_and_then}
+use Rattle.std.specs.Prelude.{◌≡◌, ◌⊎◌, ℕ, true, false, List, [], ◌∷◌, ◌++◌, Option, Some, None, Result, Ok, Err}
+use Rattle.std.specs.Prelude.{slice_get, slice_set, option_and_then}
 use Rattle.disk.specs.Runs.{LeavesOnly}
 use Rattle.slot_run.specs.Effects.{Effect}
 use Rattle.slot_run.specs.Executions.{IsEffectOf}
@@ -45,19 +46,28 @@ module _ {D : Type 0} where
   CommitsHeld old None reply new = (reply ≡ Refused (Serial NotWaiting)) × (new ≡ old)
   CommitsHeld old (Some snapshot) reply new =
       ((reply ≡ Refused (Serial NoMemory)) × (new ≡ old)) ⊎
-      ((effect : Effect) × (result : Result Answer Refusal) × IsEffectOf snapshot effect × Guards old result new (λ r. Commits old.state effect r new.state) × (reply ≡ reply_to Answered result))
+      ((effect : Effect) × (result : Result Answer Refusal) × IsEffectOf snapshot effect
+      × Guards old result new (λ r. Commits old.state effect r new.state) × (reply ≡ reply_to Answered result))
 
   -- one event, its reply, and what is there and held after it
   abbrev pub Step : CoreView D → Held → Event → Reply → CoreView D → Held → Type 0
-  Step old held (Latch row) reply new kept = (result : Result ℕ Refusal) × Guards old result new (λ r. Latches old.state row r new.state) × (reply ≡ reply_to Latched result) × (kept ≡ held)
-  Step old held (Take resource) reply new kept = (result : Result (Option Snapshot) Refusal) × Guards old result new (λ r. Takes old.state resource r) × (reply ≡ reply_to taken_of result) × (new ≡ old) × (kept ≡ held ++ held_of result ∷ [])
+  Step old held (Latch row) reply new kept =
+      (result : Result ℕ Refusal) × Guards old result new (λ r. Latches old.state row r new.state)
+      × (reply ≡ reply_to Latched result) × (kept ≡ held)
+  Step old held (Take resource) reply new kept =
+      (result : Result (Option Snapshot) Refusal) × Guards old result new (λ r. Takes old.state resource r)
+      × (reply ≡ reply_to taken_of result) × (new ≡ old) × (kept ≡ held ++ held_of result ∷ [])
   Step old held (Commit i) reply new kept = CommitsHeld old (held_at held i) reply new × (kept ≡ slice_set held i None)
-  Step old held (CommitHere resource) reply new kept = (result : Result (Option ℕ) Refusal) × Guards old result new (λ r. CommitsHere old.state resource r new.state) × (reply ≡ reply_to Here result) × (kept ≡ held)
-  Step old held Flush reply new kept = (result : Result ℕ Refusal) × Flushes old result new × (reply ≡ reply_to Flushed result) × (kept ≡ held)
+  Step old held (CommitHere resource) reply new kept =
+      (result : Result (Option ℕ) Refusal) × Guards old result new (λ r. CommitsHere old.state resource r new.state)
+      × (reply ≡ reply_to Here result) × (kept ≡ held)
+  Step old held Flush reply new kept =
+      (result : Result ℕ Refusal) × Flushes old result new × (reply ≡ reply_to Flushed result) × (kept ≡ held)
 
--- A stop at any moment of the step leaves a file that survives for the core before it, and a stop after it one that survives for the
--- core after it.
-pub record Outlives {D : Type 0} (left_since : D → D → List ℕ → Type 0) (may_leave : D → List ℕ → Type 0) (old new : CoreView D) : Type 0 where
+-- A stop at any moment of the step leaves a file that survives for the core before it, and a stop after it one that
+-- survives for the core after it.
+pub record Outlives {D : Type 0} (left_since : D → D → List ℕ → Type 0) (may_leave : D → List ℕ → Type 0)
+    (old new : CoreView D) : Type 0 where
   pub during : LeavesOnly left_since may_leave old.store.disk new.store.disk (λ file. survives old (recovered file))
   pub after : (file : List ℕ) → may_leave new.store.disk file → survives new (recovered file)
 
@@ -66,11 +76,13 @@ module _ {D : Type 0} (tells : Type 0) (left_since : D → D → List ℕ → Ty
   abbrev pub Drives : CoreView D → Held → List Event → List Reply → CoreView D → Held → Type 0
   Drives old held [] [] new kept = (new ≡ old) × (kept ≡ held)
   Drives old held (event ∷ events) (reply ∷ replies) new kept =
-      (mid : CoreView D) × (between : Held) × Step old held event reply mid between × (tells → Outlives left_since may_leave old mid) × Drives mid between events replies new kept
+      (mid : CoreView D) × (between : Held) × Step old held event reply mid between
+      × (tells → Outlives left_since may_leave old mid) × Drives mid between events replies new kept
   Drives old held [] (reply ∷ replies) new kept = ⊥
   Drives old held (event ∷ events) [] new kept = ⊥
 
-  -- The calls before the last led to a core for which every file survives that a stop within the last call might have left.
+  -- The calls before the last led to a core for which every file survives that a stop within the last call might have
+  -- left.
   pub record SurvivesLast (old : CoreView D) (held : Held) (events : List Event) (new : CoreView D) : Type 0 where
     pub before : CoreView D
     pub replies : List Reply

@@ -17,20 +17,22 @@ SavesOne old new =
     (old.store.generation ≢ 2 ^ 64 - 1) × (new.store.generation ≡ old.store.generation + 1)
     × (new.store.last ≡ Found (old.store.generation + 1) (record_now old.state))
 
--- The answer is the log's length, and all is acknowledged then; where it was before, nothing changes at all, else one record is saved.
--- Or the store has failed before and nothing changes, or it fails now: then something was not acknowledged, and the core has failed
--- for this cause.
+-- The answer is the log's length, and all is acknowledged then; where it was before, nothing changes at all, else one
+-- record is saved. Or the store has failed before and nothing changes, or it fails now: then something was not
+-- acknowledged, and the core has failed for this cause.
 abbrev pub Flushes : {D : Type 0} → CoreView D → Result ℕ Refusal → CoreView D → Type 0
 Flushes old (Ok n) new =
-    (old.failed ≡ None) × (n ≡ length old.state.log) × (new.state ≡ old.state) × (new.acked ≡ n) × (new.failed ≡ None) × (IsAcknowledged old → new ≡ old)
+    (old.failed ≡ None) × (n ≡ length old.state.log) × (new.state ≡ old.state) × (new.acked ≡ n) × (new.failed ≡ None)
+    × (IsAcknowledged old → new ≡ old)
     × ((IsAcknowledged old → ⊥) → SavesOne old new)
 Flushes old (Err (StoreFailed cause)) new =
     ((old.failed ≡ Some cause) × (new ≡ old))
-    ⊎ ((old.failed ≡ None) × (IsAcknowledged old → ⊥) × (new.state ≡ old.state) × (new.acked ≡ old.acked) × (new.failed ≡ Some cause))
+    ⊎ ((old.failed ≡ None) × (IsAcknowledged old → ⊥) × (new.state ≡ old.state) × (new.acked ≡ old.acked)
+    × (new.failed ≡ Some cause))
 Flushes old (Err (Serial refusal)) new = ⊥
 
--- A flush that fails now fails by the device, and then one of its calls failed, or by generations that are used up, and then none did.
--- Any other flush has met no failure.
+-- A flush that fails now fails by the device, and then one of its calls failed, or by generations that are used up, and
+-- then none did. Any other flush has met no failure.
 abbrev pub CountsFlush : {D : Type 0} → Result ℕ Refusal → ℕ → ℕ → CoreView D → CoreView D → Type 0
 CountsFlush (Ok n) before after old new = after ≡ before
 CountsFlush (Err (StoreFailed cause)) before after old new =

@@ -11,7 +11,8 @@ is_failed None = false
 is_failed (Some fault) = true
 
 -- The last record survives, and so does one that a failed save tried.
-pub record CoreInvariant {D : Type 0} (state : State) (acked : ℕ) (failed : Option StoreFault) (store : StoreView D) (layout : List ℕ) (room : ℕ) : Type 0 where
+pub record CoreInvariant {D : Type 0} (state : State) (acked : ℕ) (failed : Option StoreFault) (store : StoreView D)
+    (layout : List ℕ) (room : ℕ) : Type 0 where
   pub last : Survives state.plan state.start state.before state.log acked store.last
   pub tried : Survives state.plan state.start state.before state.log acked store.tried
   pub few : acked ≤ length state.log

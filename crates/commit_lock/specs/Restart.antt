@@ -15,7 +15,12 @@ use Rattle.serial_core.specs.Retained.{retained_paths, paired, told_by}
 
 -- the record of a plan's variables: its layout text, and the values of what is kept, in order
 abbrev pub record_of : Plan → Store → Option ℕ → Content
-record_of plan store moment = record { moment = moment; layout = layout_text plan.variables.items; values = map (λ e. e.1) (kept (plan_view plan) store) }
+record_of plan store moment = record {
+  moment = moment;
+  layout = layout_text plan.variables.items;
+  values =
+      map (λ e. e.1) (kept (plan_view plan) store);
+}
 
 -- a core before anything came to it: the initial values, and an empty log
 abbrev pub begun : Plan → ℕ → State
@@ -23,7 +28,8 @@ begun plan room = record { plan = plan; start = initial_store (plan_view plan); 
 
 -- what is kept of the initial values makes the initial values
 abbrev pub IsInitialAgain : Plan → Type 0
-IsInitialAgain plan = written_over (initial_store (plan_view plan)) (kept (plan_view plan) (initial_store (plan_view plan))) ≡ initial_store (plan_view plan)
+IsInitialAgain plan = written_over (initial_store (plan_view plan))
+    (kept (plan_view plan) (initial_store (plan_view plan))) ≡ initial_store (plan_view plan)
 
 -- the record of a core as it is now
 abbrev pub record_now : State → Content
@@ -31,7 +37,8 @@ record_now state = record_of state.plan (made state).store (last_moment state.be
 
 -- the values of that record, with their paths, are what is kept
 abbrev pub IsNamed : State → Type 0
-IsNamed state = paired (retained_paths state.plan.variables.items) (record_now state).values ≡ kept (plan_view state.plan) (made state).store
+IsNamed state = paired (retained_paths state.plan.variables.items) (record_now state).values
+    ≡ kept (plan_view state.plan) (made state).store
 
 -- what a record tells of the plan's variables
 abbrev pub told : Plan → Content → Kept
@@ -49,7 +56,8 @@ IsOfPlan plan Refused = ⊥
 IsOfPlan plan Nothing = Unit {0}
 IsOfPlan plan (Found generation content) = content.layout ≡ layout_text plan.variables.items
 
--- the start that a prefix of a log leaves: the initial values with what is kept after it, and the moment of its last row
+-- the start that a prefix of a log leaves: the initial values with what is kept after it, and the moment of its last
+-- row
 abbrev pub start_after : Plan → Store → Option ℕ → List Entry → Start
 start_after plan start before front = record {
   store = written_over (initial_store (plan_view plan)) (kept (plan_view plan) (after (plan_view plan) start front));
@@ -57,7 +65,8 @@ start_after plan start before front = record {
 }
 
 -- A warm restart gives what a prefix of the log leaves, and this prefix holds all that is acknowledged.
-pub record Survives (plan : Plan) (start : Store) (before : Option ℕ) (log : List Entry) (acked : ℕ) (file : Recovered) : Type 0 where
+pub record Survives (plan : Plan) (start : Store) (before : Option ℕ) (log : List Entry) (acked : ℕ) (file : Recovered)
+    : Type 0 where
   pub of_plan : IsOfPlan plan file
   pub front : List Entry
   pub rest : List Entry

@@ -68,7 +68,8 @@ CountsStart faults.NoMemory old new = new ≡ old
 -- what a stop during a start leaves: what was recovered before, or for a cold start the record of the initial values
 abbrev pub LeftByStart : StartMode → Plan → ℕ → Recovered → Recovered → Type 0
 LeftByStart Warm plan room before file = file ≡ before
-LeftByStart Cold plan room before file = (file ≡ before) ⊎ ((generation : ℕ) × (file ≡ Found generation (record_now (begun plan room))))
+LeftByStart Cold plan room before file =
+    (file ≡ before) ⊎ ((generation : ℕ) × (file ≡ Found generation (record_now (begun plan room))))
 
 -- the last record is that of the initial values, without a moment
 abbrev pub IsSavedAnew : {D : Type 0} → Plan → ℕ → StoreView D → Type 0

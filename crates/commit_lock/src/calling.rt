@@ -17,12 +17,14 @@ use std::alloc::Global;
 impl<D: Disk> Core<D> {
     /// Latches a row, and gives its number from 0. It takes no memory.
     ///
-    /// K5 where the store has failed, else K1 where the log is full, else K3 where the row is not one of the plan's, else K4
-    /// where its moment is not later than the last one, of the log or of the record that the life started from.
+    /// K5 where the store has failed, else K1 where the log is full, else K3 where the row is not one of the plan's,
+    /// else K4 where its moment is not later than the last one, of the log or of the record that the life started from.
     pub fn latch(&mut self, row: Row) -> Result<usize, Refusal>
         ensures latches { Guards self.old result self.new (λ r. Latches self.old.state row r self.new.state) }
-        ensures any_moment { D.tells → LeavesOnly D.left_since D.may_leave self.old.store.disk self.new.store.disk (λ file. survives self.old (recovered file)) }
-        ensures survives { D.tells → (file : List ℕ) → D.may_leave self.new.store.disk file → survives self.new (recovered file) }
+        ensures any_moment { D.tells → LeavesOnly D.left_since D.may_leave self.old.store.disk self.new.store.disk
+            (λ file. survives self.old (recovered file)) }
+        ensures survives { D.tells → (file : List ℕ) → D.may_leave self.new.store.disk file
+            → survives self.new (recovered file) }
     {
         self.kept();
         if let Some(cause) = self.failed {
@@ -36,14 +38,16 @@ impl<D: Disk> Core<D> {
         }
     }
 
-    /// Runs and commits the best activation that waits on the resource, in one step, and gives the log's length after it; none
-    /// where nothing waits there. It is never stale.
+    /// Runs and commits the best activation that waits on the resource, in one step, and gives the log's length after
+    /// it; none where nothing waits there. It is never stale.
     ///
     /// K5 where the store has failed; else none; else K1 where the log is full, or K6 out of memory.
     pub fn commit_here(&mut self, alloc: Global, resource: usize) -> Result<Option<usize>, Refusal>
         ensures commits { Guards self.old result self.new (λ r. CommitsHere self.old.state resource r self.new.state) }
-        ensures any_moment { D.tells → LeavesOnly D.left_since D.may_leave self.old.store.disk self.new.store.disk (λ file. survives self.old (recovered file)) }
-        ensures survives { D.tells → (file : List ℕ) → D.may_leave self.new.store.disk file → survives self.new (recovered file) }
+        ensures any_moment { D.tells → LeavesOnly D.left_since D.may_leave self.old.store.disk self.new.store.disk
+            (λ file. survives self.old (recovered file)) }
+        ensures survives { D.tells → (file : List ℕ) → D.may_leave self.new.store.disk file
+            → survives self.new (recovered file) }
     {
         self.kept();
         if let Some(cause) = self.failed {
@@ -57,14 +61,18 @@ impl<D: Disk> Core<D> {
         }
     }
 
-    /// Appends the execution's Done and applies its writes, if all that it read has its value still. It takes no memory.
+    /// Appends the execution's Done and applies its writes, if all that it read has its value still. It takes no
+    /// memory.
     ///
-    /// K5 where the store has failed, else K1 where the log is full, else K2 where the activation is not waiting, else K3 where
-    /// the execution is not that of its activation in this core, else Stale where something that it read has another value now.
+    /// K5 where the store has failed, else K1 where the log is full, else K2 where the activation is not waiting, else
+    /// K3 where the execution is not that of its activation in this core, else Stale where something that it read has
+    /// another value now.
     pub fn commit(&mut self, execution: Execution) -> Result<Answer, Refusal>
         ensures commits { Guards self.old result self.new (λ r. Commits self.old.state execution r self.new.state) }
-        ensures any_moment { D.tells → LeavesOnly D.left_since D.may_leave self.old.store.disk self.new.store.disk (λ file. survives self.old (recovered file)) }
-        ensures survives { D.tells → (file : List ℕ) → D.may_leave self.new.store.disk file → survives self.new (recovered file) }
+        ensures any_moment { D.tells → LeavesOnly D.left_since D.may_leave self.old.store.disk self.new.store.disk
+            (λ file. survives self.old (recovered file)) }
+        ensures survives { D.tells → (file : List ℕ) → D.may_leave self.new.store.disk file
+            → survives self.new (recovered file) }
     {
         self.kept();
         if let Some(cause) = self.failed {
@@ -83,7 +91,8 @@ impl<D: Disk> Core<D> {
     /// K5 where the store has failed, K6 out of memory.
     pub fn take(&self, alloc: Global, resource: usize) -> Result<Option<Snapshot>, Refusal>
         ensures takes { Guards self.now result self.now (λ r. Takes self.now.state resource r) }
-        ensures survives { D.tells → (file : List ℕ) → D.may_leave self.now.store.disk file → survives self.now (recovered file) }
+        ensures survives { D.tells → (file : List ℕ) → D.may_leave self.now.store.disk file
+            → survives self.now (recovered file) }
     {
         self.kept();
         if let Some(cause) = self.failed {

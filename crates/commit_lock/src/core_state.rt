@@ -12,8 +12,9 @@ use std::marker::Model;
 
 /// A core over a disk. Contracts see its plan, start and log, how many entries are acknowledged, and its store.
 ///
-/// Its log is legal, its variables are what the executions of the log give, one after another, and every file that a stop now
-/// may leave survives: a warm restart gives what a prefix of the log leaves, which holds all that is acknowledged.
+/// Its log is legal, its variables are what the executions of the log give, one after another, and every file that a
+/// stop now may leave survives: a warm restart gives what a prefix of the log leaves, which holds all that is
+/// acknowledged.
 #[derive(Drop)]
 pub struct Core<D: Disk> {
     pub(crate) serial: SerialCore,
@@ -49,7 +50,8 @@ impl<D: Disk> Model for Core<D> {
 impl<D: Disk> Core<D> {
     /// Tells what the type keeps: every file that a stop now may leave survives.
     pub fn kept(&self)
-        ensures survives { D.tells → (file : List ℕ) → D.may_leave self.now.store.disk file → survives self.now (recovered file) }
+        ensures survives { D.tells → (file : List ℕ) → D.may_leave self.now.store.disk file
+            → survives self.now (recovered file) }
         ensures few { self.now.acked ≤ length self.now.state.log }
     {
         self.store.kept();

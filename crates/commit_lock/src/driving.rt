@@ -1,12 +1,14 @@
 //! A list of calls, one after another.
 
-ghost use Rattle.std.specs.Prelude.{◌≡◌, ◌+◌, ◌<◌, ◌≤◌, ◌++◌, ◌∷◌, [], List, Option, None, Result, slice_set, vec_len, vec_capacity, IfOk, OnErr};
+ghost use Rattle.std.specs.Prelude.{◌≡◌, ◌+◌, ◌<◌, ◌≤◌, ◌++◌, ◌∷◌, [], List, Option, None, Result, slice_set, vec_len};
+ghost use Rattle.std.specs.Prelude.{vec_capacity, IfOk, OnErr};
 ghost use Rattle.slot_run.specs.declared.snapshot.Snapshot.{Snapshot};
 ghost use Rattle.serial_core.specs.Steps.{Takes};
 ghost use Rattle.commit_lock.specs.declared.refusal.Refusal.{Refusal};
 ghost use Rattle.commit_lock.specs.declared.event.Event.{Event};
 ghost use Rattle.commit_lock.specs.Cores.{Guards};
-ghost use Rattle.commit_lock.specs.Driving.{Held, Step, Outlives, Drives, SurvivesLast, CommitsHeld, held_at, held_of, reply_to, taken_of};
+ghost use Rattle.commit_lock.specs.Driving.{Held, Step, Outlives, Drives, SurvivesLast, CommitsHeld, held_at, held_of};
+ghost use Rattle.commit_lock.specs.Driving.{reply_to, taken_of};
 
 use crate::core_state::Core;
 use crate::event::{Event, Reply};
@@ -51,7 +53,9 @@ fn take_to_hold<D: Disk>(
     resource: usize,
 ) -> Reply
     requires room { vec_len held.old < vec_capacity held.old }
-    ensures takes { (taken : Result (Option Snapshot) Refusal) × Guards core.now taken core.now (λ r. Takes core.now.state resource r) × (result ≡ reply_to taken_of taken) × (held.new.items ≡ held.old.items ++ held_of taken ∷ []) }
+    ensures takes { (taken : Result (Option Snapshot) Refusal)
+        × Guards core.now taken core.now (λ r. Takes core.now.state resource r) × (result ≡ reply_to taken_of taken)
+        × (held.new.items ≡ held.old.items ++ held_of taken ∷ []) }
     ensures len { vec_len held.new ≤ vec_len held.old + 1 }
     ensures capacity { vec_capacity held.old ≤ vec_capacity held.new }
 {
@@ -106,18 +110,21 @@ fn step<D: Disk>(
 /// The events one after another, with what each is answered. An error, which is out of memory for the list of replies,
 /// leaves the core as it was.
 ///
-/// A stop at any moment leaves a file from which a warm restart gives the initial values, with what is kept after a prefix of the
-/// log written over them; this prefix holds all that was acknowledged before the event in which the stop fell.
+/// A stop at any moment leaves a file from which a warm restart gives the initial values, with what is kept after a
+/// prefix of the log written over them; this prefix holds all that was acknowledged before the event in which the stop
+/// fell.
 pub fn drive<D: Disk>(
     core: &mut Core<D>,
     alloc: Global,
     events: Vec<Event>,
 ) -> Result<Vec<Reply>, AllocError>
-    ensures drives { IfOk result (λ replies. (held : Held) × Drives D.tells D.left_since D.may_leave core.old [] events.items replies.items core.new held) }
+    ensures drives { IfOk result (λ replies. (held : Held)
+        × Drives D.tells D.left_since D.may_leave core.old [] events.items replies.items core.new held) }
 
-    // The whole promise: whatever the calls are, and wherever a stop falls within the last of them, a warm restart gives what a
-    // prefix of the log leaves, and this prefix holds all that is acknowledged.
-    ensures survives { D.tells → IfOk result (λ replies. (front : List Event) (last : Event) → events.items ≡ front ++ last ∷ []
+    // The whole promise: whatever the calls are, and wherever a stop falls within the last of them, a warm restart
+    // gives what a prefix of the log leaves, and this prefix holds all that is acknowledged.
+    ensures survives { D.tells
+        → IfOk result (λ replies. (front : List Event) (last : Event) → events.items ≡ front ++ last ∷ []
         → SurvivesLast D.tells D.left_since D.may_leave core.old [] front core.new) }
     ensures err { OnErr result (core.new ≡ core.old) }
 {

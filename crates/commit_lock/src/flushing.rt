@@ -12,7 +12,8 @@ use crate::saving::save_record;
 use disk::Disk;
 
 impl<D: Disk> Core<D> {
-    /// How many entries of the log are acknowledged: a restart gives what a prefix of the log leaves that holds them all.
+    /// How many entries of the log are acknowledged: a restart gives what a prefix of the log leaves that holds them
+    /// all.
     pub fn acked(&self) -> usize
         ensures acked { result ≡ self.now.acked }
         ensures few { result ≤ length self.now.state.log }
@@ -21,15 +22,18 @@ impl<D: Disk> Core<D> {
         self.acked
     }
 
-    /// Saves what is kept of the variables, where the log is longer than what is acknowledged, and gives the log's length, which
-    /// is acknowledged then. It takes no memory, and makes no device call where all is acknowledged.
+    /// Saves what is kept of the variables, where the log is longer than what is acknowledged, and gives the log's
+    /// length, which is acknowledged then. It takes no memory, and makes no device call where all is acknowledged.
     ///
     /// K5 where the store has failed before or fails now, for good; what is acknowledged stays as it was.
     pub fn flush(&mut self) -> Result<usize, Refusal>
         ensures flushes { Flushes self.old result self.new }
-        ensures device { CountsFlush result (D.failure_count self.old.store.disk) (D.failure_count self.new.store.disk) self.old self.new }
-        ensures any_moment { D.tells → LeavesOnly D.left_since D.may_leave self.old.store.disk self.new.store.disk (λ file. survives self.old (recovered file)) }
-        ensures survives { D.tells → (file : List ℕ) → D.may_leave self.new.store.disk file → survives self.new (recovered file) }
+        ensures device { CountsFlush result (D.failure_count self.old.store.disk) (D.failure_count self.new.store.disk)
+            self.old self.new }
+        ensures any_moment { D.tells → LeavesOnly D.left_since D.may_leave self.old.store.disk self.new.store.disk
+            (λ file. survives self.old (recovered file)) }
+        ensures survives { D.tells → (file : List ℕ) → D.may_leave self.new.store.disk file
+            → survives self.new (recovered file) }
     {
         self.kept();
         if let Some(cause) = self.failed {

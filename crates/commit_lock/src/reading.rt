@@ -20,7 +20,8 @@ impl<D: Disk> Core<D> {
     /// How many entries the log has.
     pub fn len(&self) -> usize
         ensures len { result ≡ length self.now.state.log }
-        ensures legal { IsLegal (plan_view self.now.state.plan) self.now.state.start self.now.state.before self.now.state.log }
+        ensures legal { IsLegal (plan_view self.now.state.plan) self.now.state.start self.now.state.before
+            self.now.state.log }
     {
         self.serial.len()
     }
@@ -34,12 +35,14 @@ impl<D: Disk> Core<D> {
 
     /// How the execution of an entry ended; none for a row, and where the log has no such entry.
     pub fn outcome(&self, number: usize) -> Option<Outcome>
-        ensures { result ≡ option_and_then (λ o. o) (slice_get (outcomes_of (plan_view self.now.state.plan) self.now.state.start self.now.state.log) number) }
+        ensures { result ≡ option_and_then (λ o. o)
+            (slice_get (outcomes_of (plan_view self.now.state.plan) self.now.state.start self.now.state.log) number) }
     {
         self.serial.outcome(number)
     }
 
-    /// The value of a variable, or of an input at the last row, 0 or FALSE before the first; none where no such path is there.
+    /// The value of a variable, or of an input at the last row, 0 or FALSE before the first; none where no such path is
+    /// there.
     pub fn value(&self, path: &Path) -> Option<Value>
         ensures { result ≡ seen (inputs_now self.now.state) (made self.now.state).store path.now }
     {
@@ -49,7 +52,8 @@ impl<D: Disk> Core<D> {
     /// How often the program was due while it waited already; 0 for a program that is not there.
     pub fn overruns(&self, program: usize) -> u64
         ensures none { length self.now.state.plan.programs.items ≤ program → result ≡ 0 }
-        ensures overruns { program < length self.now.state.plan.programs.items → HasOverruns (schedules_of (plan_view self.now.state.plan)) (made self.now.state).history program result }
+        ensures overruns { program < length self.now.state.plan.programs.items
+            → HasOverruns (schedules_of (plan_view self.now.state.plan)) (made self.now.state).history program result }
     {
         self.serial.overruns(program)
     }

@@ -6,8 +6,8 @@ use thiserror::Error;
 /// Why a call was refused. It shows as its number. Every refusal leaves the log and the variables as they were.
 #[derive(Clone, Copy, Debug, PartialEq, Eq, Error)]
 pub enum Refusal {
-    /// The store has failed, for this cause: the device (S3), or generations that are used up (S4). A core whose flush met
-    /// it answers so from then on.
+    /// The store has failed, for this cause: the device (S3), or generations that are used up (S4). A core whose flush
+    /// met it answers so from then on.
     #[error("K5")]
     StoreFailed(StoreFault),
     /// K1 to K4, and K6 out of memory.

@@ -1,6 +1,7 @@
 //! Saving the record of a core.
 
-ghost use Rattle.std.specs.Prelude.{◌≡◌, ◌≢◌, ◌+◌, ◌≤◌, ◌^◌, ◌-◌, ◌↔◌, List, ℕ, length, vec_capacity, MatchResult, IfErr, OnOk, OnErr, IsErrOf, true, false};
+ghost use Rattle.std.specs.Prelude.{◌≡◌, ◌≢◌, ◌+◌, ◌≤◌, ◌^◌, ◌-◌, ◌↔◌, List, ℕ, length, vec_capacity, MatchResult};
+ghost use Rattle.std.specs.Prelude.{IfErr, OnOk, OnErr, IsErrOf, true, false};
 ghost use Rattle.disk.specs.Runs.{LeavesOnly};
 ghost use Rattle.st_plans.specs.Layouts.{layout_text, record_length};
 ghost use Rattle.retain_store.specs.Recovered.{recovered, Found};
@@ -14,7 +15,8 @@ use retain_store::{Store, StoreFault};
 use serial_core::SerialCore;
 use st_words::Value;
 
-/// Saves the record of the core as it is now: what is kept of its variables, and the moment of its last row. It takes no memory.
+/// Saves the record of the core as it is now: what is kept of its variables, and the moment of its last row. It takes
+/// no memory.
 pub(crate) fn save_record<D: Disk>(
     serial: &SerialCore,
     store: &mut Store<D>,
@@ -32,7 +34,8 @@ pub(crate) fn save_record<D: Disk>(
         × (store.new.last ≡ store.old.last) × (store.new.failed ≡ true)) }
     ensures tried { IfErr result (λ fault. IsTriedAfter fault (record_now serial.now) store.old store.new) }
     ensures room { store.new.room ≡ store.old.room }
-    ensures any_moment { D.tells → store.old.failed ≡ false → LeavesOnly D.left_since D.may_leave store.old.disk store.new.disk
+    ensures any_moment { D.tells → store.old.failed ≡ false
+        → LeavesOnly D.left_since D.may_leave store.old.disk store.new.disk
         (λ file. IsEither store.old.last (Found (store.old.generation + 1) (record_now serial.now)) (recovered file)) }
     ensures settled { D.tells → OnOk result ((file : List ℕ) → D.may_leave store.new.disk file
         → recovered file ≡ Found (store.old.generation + 1) (record_now serial.now)) }

@@ -1,6 +1,7 @@
 //! Starting a core.
 
-ghost use Rattle.std.specs.Prelude.{◌≡◌, ◌≤◌, ◌+◌, ◌-◌, ◌^◌, List, ℕ, [], None, IsTrue, true, false, length, vec_capacity, IfOk, IfErr, MatchResult};
+ghost use Rattle.std.specs.Prelude.{◌≡◌, ◌≤◌, ◌+◌, ◌-◌, ◌^◌, List, ℕ, [], None, IsTrue, true, false, length};
+ghost use Rattle.std.specs.Prelude.{vec_capacity, IfOk, IfErr, MatchResult};
 ghost use Rattle.st_words.specs.declared.limits.TheConstants.{MAX_LOG_ROOM};
 ghost use Rattle.disk.specs.Disk.{Only};
 ghost use Rattle.disk.specs.Runs.{LeavesOnly};
@@ -10,7 +11,8 @@ ghost use Rattle.retain_store.specs.Areas.{IsEither};
 ghost use Rattle.retain_store.specs.Kept.{IsLast};
 ghost use Rattle.commit_lock.specs.Restart.{Survives, IsOfPlan, IsInitialAgain, begun, record_now, warm};
 ghost use Rattle.commit_lock.specs.Cores.{survives};
-ghost use Rattle.commit_lock.specs.Starting.{start_of, started, HasOtherLayout, IsNew, CanStart, RefusesStart, CountsStart, LeftByStart, IsSavedAnew, IsWantOfMemory};
+ghost use Rattle.commit_lock.specs.Starting.{start_of, started, HasOtherLayout, IsNew, CanStart, RefusesStart};
+ghost use Rattle.commit_lock.specs.Starting.{CountsStart, LeftByStart, IsSavedAnew, IsWantOfMemory};
 
 use crate::core_state::Core;
 use crate::parts::Parts;
@@ -40,7 +42,8 @@ fn resume_from<D: Disk>(serial: &mut SerialCore, layout: &[u8], store: &Store<D>
     requires layout { layout.now ≡ layout_text serial.old.plan.variables.items }
     requires last { IsLast store.now.generation store.now.last }
 
-    ensures resumed { IsTrue result → serial.new ≡ started serial.old.plan serial.old.room (warm serial.old.plan store.now.last) }
+    ensures resumed { IsTrue result
+        → serial.new ≡ started serial.old.plan serial.old.room (warm serial.old.plan store.now.last) }
     ensures survives { IsTrue result → Survives serial.new.plan serial.new.start serial.new.before [] 0 store.now.last }
     ensures other { result ≡ false → HasOtherLayout serial.old.plan store.now.last }
 {
@@ -65,12 +68,15 @@ fn warm<D: Disk>(parts: Parts, store: Store<D>) -> Result<Core<D>, (StartFault, 
     requires fresh { store.failed ≡ false }
     requires room { store.room ≡ MAX_RECORD_BODY }
 
-    ensures state { IfOk result (λ core. core.state ≡ started parts.serial.plan parts.serial.room (warm parts.serial.plan store.last)) }
+    ensures state { IfOk result
+        (λ core. core.state ≡ started parts.serial.plan parts.serial.room (warm parts.serial.plan store.last)) }
     ensures fresh { IfOk result (λ core. (core.acked ≡ 0) × (core.failed ≡ None)) }
     ensures store { IfOk result (λ core. core.store ≡ store) }
     ensures layout { IfOk result (λ core. IsOfPlan parts.serial.plan store.last) }
-    ensures survives { D.tells → IfOk result (λ core. (file : List ℕ) → D.may_leave core.store.disk file → survives core (recovered file)) }
-    ensures refused { IfErr result (λ e. (e.0 ≡ StartFault.OtherLayout) × HasOtherLayout parts.serial.plan store.last × (e.1 ≡ store.disk)) }
+    ensures survives { D.tells
+        → IfOk result (λ core. (file : List ℕ) → D.may_leave core.store.disk file → survives core (recovered file)) }
+    ensures refused { IfErr result
+        (λ e. (e.0 ≡ StartFault.OtherLayout) × HasOtherLayout parts.serial.plan store.last × (e.1 ≡ store.disk)) }
 {
     let Parts {
         mut serial,
@@ -106,13 +112,16 @@ fn cold<D: Disk>(parts: Parts, store: Store<D>) -> Result<Core<D>, (StartFault, 
     ensures fresh { IfOk result (λ core. (core.acked ≡ 0) × (core.failed ≡ None)) }
     ensures saved { IfOk result (λ core. core.store.last ≡ Found core.store.generation (record_now parts.serial)) }
     ensures memory { IfErr result (λ e. IsWantOfMemory e.0 → ⊥) }
-    ensures survives { D.tells → IfOk result (λ core. (file : List ℕ) → D.may_leave core.store.disk file → survives core (recovered file)) }
+    ensures survives { D.tells
+        → IfOk result (λ core. (file : List ℕ) → D.may_leave core.store.disk file → survives core (recovered file)) }
     ensures answers { D.tells → MatchResult result
         (λ core. CanStart StartMode.Cold parts.serial.plan store.last)
         (λ e. RefusesStart StartMode.Cold parts.serial.plan store.last e.0) }
     ensures any_moment { D.tells → MatchResult result
-        (λ core. LeavesOnly D.left_since D.may_leave store.disk core.store.disk (λ file. IsEither store.last (Found (store.generation + 1) (record_now parts.serial)) (recovered file)))
-        (λ e. LeavesOnly D.left_since D.may_leave store.disk e.1 (λ file. IsEither store.last (Found (store.generation + 1) (record_now parts.serial)) (recovered file))) }
+        (λ core. LeavesOnly D.left_since D.may_leave store.disk core.store.disk
+        (λ file. IsEither store.last (Found (store.generation + 1) (record_now parts.serial)) (recovered file)))
+        (λ e. LeavesOnly D.left_since D.may_leave store.disk e.1
+        (λ file. IsEither store.last (Found (store.generation + 1) (record_now parts.serial)) (recovered file))) }
     ensures device { MatchResult result
         (λ core. D.failure_count core.store.disk ≡ D.failure_count store.disk)
         (λ e. CountsStart e.0 (D.failure_count store.disk) (D.failure_count e.1)) }
@@ -140,10 +149,11 @@ fn cold<D: Disk>(parts: Parts, store: Store<D>) -> Result<Core<D>, (StartFault, 
 }
 
 impl<D: Disk> Core<D> {
-    /// Starts a life of the plan over this disk, with room for so many entries of its log, 1 to 65,536. Its memory is taken
-    /// before the first device call. A cold start saves the record of the initial values before it answers.
+    /// Starts a life of the plan over this disk, with room for so many entries of its log, 1 to 65,536. Its memory is
+    /// taken before the first device call. A cold start saves the record of the initial values before it answers.
     ///
-    /// S1 to S5, N1 where a warm start meets a record of another layout, N2 out of memory. An error gives the disk back.
+    /// S1 to S5, N1 where a warm start meets a record of another layout, N2 out of memory. An error gives the disk
+    /// back.
     pub fn start(
         alloc: Global,
         plan: Arc<Plan>,
@@ -154,7 +164,8 @@ impl<D: Disk> Core<D> {
         requires room { log_room ≤ MAX_LOG_ROOM }
 
         // The values and the moment are those of a warm or a cold start, and the log is empty.
-        ensures started { D.tells → IfOk result (λ core. core.state ≡ started plan.value log_room (start_of mode plan.value (recovered (D.seen disk)))) }
+        ensures started { D.tells → IfOk result
+            (λ core. core.state ≡ started plan.value log_room (start_of mode plan.value (recovered (D.seen disk)))) }
         ensures cold { mode ≡ StartMode.Cold → IfOk result (λ core. core.state ≡ begun plan.value log_room) }
         ensures fresh { IfOk result (λ core. (core.acked ≡ 0) × (core.failed ≡ None)) }
         ensures begun { IfOk result (λ core. IsNew core.state plan.value log_room) }
@@ -165,7 +176,8 @@ impl<D: Disk> Core<D> {
         // All memory is taken before the first call of the disk.
         ensures memory { IfErr result (λ e. IsWantOfMemory e.0 → e.1 ≡ disk) }
 
-        // It is answered and refused exactly by what the file is recovered to, faults of the device and out of memory aside.
+        // It is answered and refused exactly by what the file is recovered to, faults of the device and out of memory
+        // aside.
         ensures answers { D.tells → MatchResult result
             (λ core. CanStart mode plan.value (recovered (D.seen disk)))
             (λ e. RefusesStart mode plan.value (recovered (D.seen disk)) e.0) }
@@ -176,13 +188,16 @@ impl<D: Disk> Core<D> {
             (λ e. CountsStart e.0 (D.failure_count disk) (D.failure_count e.1)) }
 
         // Every file that a stop may leave after it survives.
-        ensures survives { D.tells → IfOk result (λ core. (file : List ℕ) → D.may_leave core.store.disk file → survives core (recovered file)) }
+        ensures survives { D.tells → IfOk result
+            (λ core. (file : List ℕ) → D.may_leave core.store.disk file → survives core (recovered file)) }
 
-        // On a disk with nothing unsynced, a stop at any moment leaves what was recovered before, or for a cold start the
-        // record of the initial values.
+        // On a disk with nothing unsynced, a stop at any moment leaves what was recovered before, or for a cold start
+        // the record of the initial values.
         ensures any_moment { D.tells → Only (D.seen disk) (D.may_leave disk) → MatchResult result
-            (λ core. LeavesOnly D.left_since D.may_leave disk core.store.disk (λ file. LeftByStart mode plan.value log_room (recovered (D.seen disk)) (recovered file)))
-            (λ e. LeavesOnly D.left_since D.may_leave disk e.1 (λ file. LeftByStart mode plan.value log_room (recovered (D.seen disk)) (recovered file))) }
+            (λ core. LeavesOnly D.left_since D.may_leave disk core.store.disk
+            (λ file. LeftByStart mode plan.value log_room (recovered (D.seen disk)) (recovered file)))
+            (λ e. LeavesOnly D.left_since D.may_leave disk e.1
+            (λ file. LeftByStart mode plan.value log_room (recovered (D.seen disk)) (recovered file))) }
     {
         let Ok(parts) = Parts::new(alloc, plan, log_room) else {
             return Err((StartFault::NoMemory, disk));

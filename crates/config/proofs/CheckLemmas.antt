@@ -13,7 +13,8 @@ use Rattle.st_plans.specs.declared.plan.PlanVariable.{PlanVariable}
 use Rattle.st_plans.specs.declared.plan.PlanInput.{PlanInput}
 use Rattle.config.specs.Thin.{is_program, is_short, is_thin_block, is_undeclared, is_typed_stmt, is_thin_unit}
 
-pub list_all_viewed : {X Y : Type 0} (p : X → Bool) (view : Y → X) (ys : List Y) → list_all p (map view ys) ≡ list_all (λ y. p (view y)) ys
+pub list_all_viewed : {X Y : Type 0} (p : X → Bool) (view : Y → X) (ys : List Y)
+    → list_all p (map view ys) ≡ list_all (λ y. p (view y)) ys
 list_all_viewed p view ys = list_all-map p view ys
 
 -- where all else holds, a unit is thin where its statements are low
@@ -27,6 +28,7 @@ pub unit_low : (variables : List PlanVariable) (inputs : List PlanInput) (u : co
     → low ≡ is_thin_unit variables inputs (unit_view u)
 unit_low variables inputs u low program short blocks name typed is =
     let b = list_all_viewed (is_thin_block variables inputs) variable_block_view u.blocks.items ∙ blocks in
-    let t = list_all_viewed (is_typed_stmt variables (map variable_block_view u.blocks.items)) stmt_view u.body.items ∙ typed in
+    let t = list_all_viewed (is_typed_stmt variables (map variable_block_view u.blocks.items)) stmt_view u.body.items
+    ∙ typed in
     let l = list_all_viewed (λ x. nat_lt (depth_of_stmt x) 65) stmt_view u.body.items in
     rw (program, short, b, name, t, l) is

@@ -11,7 +11,8 @@ use Rattle.st_words.specs.declared.literal.Literal.TheVariants as literals
 use Rattle.st_words.specs.declared.operator.BinaryOperator.TheVariants.{Add}
 use Rattle.st_trees.specs.declared.data_type.VariableType.{VariableType}
 use Rattle.st_trees.specs.Depths.{depth_of_stmt}
-use Rattle.st_trees.specs.Expressions.{Expr, literal, read, call, parenthesis, unary, binary, variable, no_selectors, selector_then}
+use Rattle.st_trees.specs.Expressions.{Expr, literal, read, call, parenthesis, unary, binary, variable, no_selectors}
+use Rattle.st_trees.specs.Expressions.{selector_then}
 use Rattle.st_trees.specs.Statements.{Stmt, assign}
 use Rattle.st_trees.specs.Declarations.{VariableBlock}
 use Rattle.st_trees.specs.Units.{OrganisationUnit}
@@ -24,35 +25,48 @@ use Rattle.st_types.specs.Resolution.{resolved_expr, operand_kind}
 use Rattle.st_types.specs.ResolvedUnits.{resolved, resolved_stmt}
 use Rattle.slot_code.specs.declared.global.GlobalSlot.{GlobalSlot}
 use Rattle.slot_code.specs.Globals.{global_named, is_known, is_assignable, is_sum, is_plain, are_plain}
-use Rattle.config.specs.Thin.{is_variable_of, is_thin_block, kind_in, is_of, is_typed, is_typed_for, is_typed_stmt, is_program, is_short, is_undeclared, is_thin_unit}
+use Rattle.config.specs.Thin.{is_variable_of, is_thin_block, kind_in, is_of, is_typed, is_typed_for, is_typed_stmt}
+use Rattle.config.specs.Thin.{is_program, is_short, is_undeclared, is_thin_unit}
 use Rattle.config.proofs.ExternalLemmas.{absent}
 
 -- the globals of these names are known
-known_here : (t : Bool) (g : GlobalSlot) (gs : List GlobalSlot) (x : Name) → t ≡ bytes_eq x g.name → (t || contains_name (map (λ h. h.name) gs) x) ≡ true → (contains_name (map (λ h. h.name) gs) x ≡ true → is_known (global_named gs x) ≡ true) → is_known (if t then Some g else global_named gs x) ≡ true
+known_here : (t : Bool) (g : GlobalSlot) (gs : List GlobalSlot) (x : Name) → t ≡ bytes_eq x g.name
+    → (t || contains_name (map (λ h. h.name) gs) x) ≡ true
+    → (contains_name (map (λ h. h.name) gs) x ≡ true → is_known (global_named gs x) ≡ true)
+    → is_known (if t then Some g else global_named gs x) ≡ true
 known_here true g gs x e h rest = refl
 known_here false g gs x e h rest = rest h
 
-known : (globals : List GlobalSlot) (x : Name) → contains_name (map (λ g. g.name) globals) x ≡ true → is_known (global_named globals x) ≡ true
+known : (globals : List GlobalSlot) (x : Name) → contains_name (map (λ g. g.name) globals) x ≡ true
+    → is_known (global_named globals x) ≡ true
 known [] x h = absurd (cc)
 known (g ∷ gs) x h = known_here (bytes_eq x g.name) g gs x refl h (known gs x)
 
 -- a name that has a type is an external
-external_if : (t : Bool) (o : Option VariableType) (k : Kind) → (t ≡ false → o ≡ None) → is_of k (option_and_then kind_of_type o) ≡ true → t ≡ true
+external_if : (t : Bool) (o : Option VariableType) (k : Kind) → (t ≡ false → o ≡ None)
+    → is_of k (option_and_then kind_of_type o) ≡ true → t ≡ true
 external_if true o k none h = refl
 external_if false None k none h = absurd (cc)
 external_if false (Some v) k none h = let e = none refl in absurd (cc)
 
 -- what the names of a unit's globals are good for
-pub record AreGlobals (variables : List PlanVariable) (blocks : List VariableBlock) (globals : List GlobalSlot) : Type 0 where
+pub record AreGlobals (variables : List PlanVariable) (blocks : List VariableBlock) (globals : List GlobalSlot) :
+    Type 0 where
   pub known : (k : Kind) (x : Name) → is_of k (kind_in blocks x) ≡ true → is_known (global_named globals x) ≡ true
-  pub assignable : (k : Kind) (x : Name) (g : GlobalSlot) → is_variable_of variables k x ≡ true → global_named globals x ≡ Some g → g.is_input ≡ false
+  pub assignable : (k : Kind) (x : Name) (g : GlobalSlot) → is_variable_of variables k x ≡ true
+      → global_named globals x ≡ Some g → g.is_input ≡ false
 
-pub named_globals : (variables : List PlanVariable) (inputs : List PlanInput) (blocks : List VariableBlock) (globals : List GlobalSlot) → list_all (is_thin_block variables inputs) blocks ≡ true → map (λ g. g.name) globals ≡ externals_in blocks
+pub named_globals :
+    (variables : List PlanVariable) (inputs : List PlanInput) (blocks : List VariableBlock) (globals : List GlobalSlot)
+    → list_all (is_thin_block variables inputs) blocks ≡ true → map (λ g. g.name) globals ≡ externals_in blocks
     → (k : Kind) (x : Name) → is_of k (kind_in blocks x) ≡ true → is_known (global_named globals x) ≡ true
 named_globals variables inputs blocks globals thin names k x h =
-    known globals x (ap (λ ns. contains_name ns x) names ∙ external_if (contains_name (externals_in blocks) x) (type_in_blocks blocks x) k (absent variables inputs x blocks thin) h)
+    known globals x (ap (λ ns. contains_name ns x) names ∙ external_if (contains_name (externals_in blocks) x)
+    (type_in_blocks blocks x) k (absent variables inputs x blocks thin) h)
 
-sum_plain : (text : Declared) (u : OrganisationUnit) (variables : List PlanVariable) (globals : List GlobalSlot) (k : Kind) (o : Option Kind) (e : Expr) → AreGlobals variables u.blocks globals → is_typed u.blocks k e ≡ true → is_sum globals (resolved_expr text u o e) ≡ true
+sum_plain : (text : Declared) (u : OrganisationUnit) (variables : List PlanVariable) (globals : List GlobalSlot)
+    (k : Kind) (o : Option Kind) (e : Expr) → AreGlobals variables u.blocks globals → is_typed u.blocks k e ≡ true
+    → is_sum globals (resolved_expr text u o e) ≡ true
 sum_plain text u variables globals k o (literal (literals.Number n)) are h = refl
 sum_plain text u variables globals k o (literal (literals.Truth at b)) are h = absurd (cc)
 sum_plain text u variables globals k o (literal (literals.Duration at n)) are h = absurd (cc)
@@ -63,40 +77,54 @@ sum_plain text u variables globals k o (parenthesis at e) are h = absurd (cc)
 sum_plain text u variables globals k o (unary op at e) are h = absurd (cc)
 sum_plain text u variables globals k o (binary Add l r) are h =
     let p = and_parts (is_typed u.blocks k l) (is_typed u.blocks k r) h in
-    rw (sum_plain text u variables globals k (operand_kind text u o Add l r) l are p.0, sum_plain text u variables globals k (operand_kind text u o Add l r) r are p.1) refl
+    rw (
+      sum_plain text u variables globals k (operand_kind text u o Add l r) l are p.0,
+      sum_plain text u variables globals k (operand_kind text u o Add l r) r are p.1,
+    ) refl
 sum_plain text u variables globals k o (binary op l r) are h = absurd (cc)
 
-assignable_by : (o : Option GlobalSlot) → is_known o ≡ true → ((g : GlobalSlot) → o ≡ Some g → g.is_input ≡ false) → is_assignable o ≡ true
+assignable_by : (o : Option GlobalSlot) → is_known o ≡ true → ((g : GlobalSlot) → o ≡ Some g → g.is_input ≡ false)
+    → is_assignable o ≡ true
 assignable_by None h out = absurd (cc)
 assignable_by (Some g) h out = rw (out g refl) refl
 
 same_itself : (k : Kind) → same_kind k k ≡ true
 same_itself k = grind (arith, nat_tests)
 
-for_plain : (text : Declared) (u : OrganisationUnit) (variables : List PlanVariable) (globals : List GlobalSlot) (x : Name) (e : Expr) (o place : Option Kind) → AreGlobals variables u.blocks globals → kind_in u.blocks x ≡ o → is_typed_for variables u.blocks x e o ≡ true
+for_plain : (text : Declared) (u : OrganisationUnit) (variables : List PlanVariable) (globals : List GlobalSlot)
+    (x : Name) (e : Expr) (o place : Option Kind) → AreGlobals variables u.blocks globals → kind_in u.blocks x ≡ o
+    → is_typed_for variables u.blocks x e o ≡ true
     → (is_assignable (global_named globals x) && is_sum globals (resolved_expr text u place e)) ≡ true
 for_plain text u variables globals x e None place are is h = absurd (cc)
 for_plain text u variables globals x e (Some k) place are is h =
     let p = and_parts (is_variable_of variables k x) (is_typed u.blocks k e) h in
     let of_kind : is_of k (kind_in u.blocks x) ≡ true = ap (is_of k) is ∙ same_itself k in
-    let a = assignable_by (global_named globals x) (are.known k x of_kind) (λ g there. are.assignable k x g p.0 there) in
+    let a =
+    assignable_by (global_named globals x) (are.known k x of_kind) (λ g there. are.assignable k x g p.0 there) in
     rw (a, sum_plain text u variables globals k place e are p.1) refl
 
-stmt_plain : (text : Declared) (u : OrganisationUnit) (variables : List PlanVariable) (globals : List GlobalSlot) (s : Stmt) → AreGlobals variables u.blocks globals → is_typed_stmt variables u.blocks s ≡ true → is_plain globals (resolved_stmt text u s) ≡ true
-stmt_plain text u variables globals (assign (variable x no_selectors) e) are h = for_plain text u variables globals x.name e (kind_in u.blocks x.name) (kind_of_variable text u (variable x no_selectors)) are refl h
+stmt_plain : (text : Declared) (u : OrganisationUnit) (variables : List PlanVariable) (globals : List GlobalSlot)
+    (s : Stmt) → AreGlobals variables u.blocks globals → is_typed_stmt variables u.blocks s ≡ true
+    → is_plain globals (resolved_stmt text u s) ≡ true
+stmt_plain text u variables globals (assign (variable x no_selectors) e) are h = for_plain text u variables globals
+    x.name e (kind_in u.blocks x.name) (kind_of_variable text u (variable x no_selectors)) are refl h
 stmt_plain text u variables globals (assign (variable x (selector_then y ys)) e) are h = absurd (cc)
 stmt_plain text u variables globals s are h = absurd (cc)
 
-body_plain : (text : Declared) (u : OrganisationUnit) (variables : List PlanVariable) (globals : List GlobalSlot) (xs : List Stmt) → AreGlobals variables u.blocks globals → list_all (is_typed_stmt variables u.blocks) xs ≡ true → are_plain globals (map (resolved_stmt text u) xs) ≡ true
+body_plain : (text : Declared) (u : OrganisationUnit) (variables : List PlanVariable) (globals : List GlobalSlot)
+    (xs : List Stmt) → AreGlobals variables u.blocks globals → list_all (is_typed_stmt variables u.blocks) xs ≡ true
+    → are_plain globals (map (resolved_stmt text u) xs) ≡ true
 body_plain text u variables globals [] are h = refl
 body_plain text u variables globals (s ∷ xs) are h =
     let p = and_parts (is_typed_stmt variables u.blocks s) (list_all (is_typed_stmt variables u.blocks) xs) h in
     rw (stmt_plain text u variables globals s are p.0, body_plain text u variables globals xs are p.1) refl
 
 -- the resolved body of a thin unit is plain
-pub unit_plain : (text : Declared) (u : OrganisationUnit) (variables : List PlanVariable) (inputs : List PlanInput) (globals : List GlobalSlot)
+pub unit_plain : (text : Declared) (u : OrganisationUnit) (variables : List PlanVariable) (inputs : List PlanInput)
+    (globals : List GlobalSlot)
     → is_thin_unit variables inputs u ≡ true → map (λ g. g.name) globals ≡ externals_in u.blocks
-    → ((k : Kind) (x : Name) (g : GlobalSlot) → is_variable_of variables k x ≡ true → global_named globals x ≡ Some g → g.is_input ≡ false)
+    → ((k : Kind) (x : Name) (g : GlobalSlot) → is_variable_of variables k x ≡ true → global_named globals x ≡ Some g
+    → g.is_input ≡ false)
     → are_plain globals (resolved text u).body ≡ true
 unit_plain text u variables inputs globals h names out =
     let thin = list_all (is_thin_block variables inputs) u.blocks in
@@ -106,4 +134,6 @@ unit_plain text u variables inputs globals h names out =
     let p = and_parts (is_program u.sort && is_short u.name.name) (thin && (other && (typed && low))) h in
     let q = and_parts thin (other && (typed && low)) p.1 in
     let r = and_parts other (typed && low) q.1 in
-    body_plain text u variables globals u.body (record { known = named_globals variables inputs u.blocks globals q.0 names; assignable = out }) (and_parts typed low r.1).0
+    body_plain text u variables globals u.body
+    (record { known = named_globals variables inputs u.blocks globals q.0 names; assignable = out })
+    (and_parts typed low r.1).0

@@ -1,5 +1,6 @@
 -- Names that are different, one after another.
-use Rattle.std.proofs.Common.{◌≡◌, ℕ, ◌+◌, ◌<◌, List, ◌∷◌, length, drop, get_or, Bool, true, false, not, ◌&&◌, refl, sym, ap, ◌∙◌}
+use Rattle.std.proofs.Common.{◌≡◌, ℕ, ◌+◌, ◌<◌, List, ◌∷◌, length, drop, get_or, Bool, true, false, not, ◌&&◌, refl}
+use Rattle.std.proofs.Common.{sym, ap, ◌∙◌}
 use Rattle.std.proofs.Math.Seq.{drop-cons}
 use Rattle.std.proofs.Math.Numerals.{suc-eq-add-one}
 use Rattle.std.specs.List.{list_all}
@@ -19,17 +20,24 @@ use Rattle.config.proofs.CheckLemmas.{list_all_viewed}
 name_at : (xs : List Name) (i : ℕ) (d : Name) → i < length xs → drop i xs ≡ get_or xs i d ∷ drop (i + 1) xs
 name_at xs i d lt = drop-cons xs i d lt ∙ ap (λ n. get_or xs i d ∷ drop n xs) (suc-eq-add-one i)
 
-different_by : (x : Name) (xs : List Name) (t : Bool) → contains_name xs x ≡ t → are_different (x ∷ xs) ≡ (not t && are_different xs)
+different_by : (x : Name) (xs : List Name) (t : Bool) → contains_name xs x ≡ t
+    → are_different (x ∷ xs) ≡ (not t && are_different xs)
 different_by x xs t e = rw e refl
 
-pub different_here : (xs : List Name) (i : ℕ) (d : Name) → i < length xs → contains_name (drop (i + 1) xs) (get_or xs i d) ≡ true → are_different (drop i xs) ≡ false
-different_here xs i d lt e = ap are_different (name_at xs i d lt) ∙ different_by (get_or xs i d) (drop (i + 1) xs) true e
+pub different_here : (xs : List Name) (i : ℕ) (d : Name) → i < length xs
+    → contains_name (drop (i + 1) xs) (get_or xs i d) ≡ true → are_different (drop i xs) ≡ false
+different_here xs i d lt e = ap are_different (name_at xs i d lt)
+    ∙ different_by (get_or xs i d) (drop (i + 1) xs) true e
 
-pub different_behind : (xs : List Name) (i : ℕ) (d : Name) → i < length xs → contains_name (drop (i + 1) xs) (get_or xs i d) ≡ false → are_different (drop i xs) ≡ are_different (drop (i + 1) xs)
-different_behind xs i d lt e = ap are_different (name_at xs i d lt) ∙ different_by (get_or xs i d) (drop (i + 1) xs) false e
+pub different_behind : (xs : List Name) (i : ℕ) (d : Name) → i < length xs
+    → contains_name (drop (i + 1) xs) (get_or xs i d) ≡ false
+    → are_different (drop i xs) ≡ are_different (drop (i + 1) xs)
+different_behind xs i d lt e = ap are_different (name_at xs i d lt)
+    ∙ different_by (get_or xs i d) (drop (i + 1) xs) false e
 
 -- where all else holds, there is a plan where the limits are kept
-pub plan_within : (units : List code_unit.Unit) (variables : List PlanVariable) (inputs : List PlanInput) (programs : List ThinProgram) (budget : ℕ) (names : List Name) (within : Bool)
+pub plan_within : (units : List code_unit.Unit) (variables : List PlanVariable) (inputs : List PlanInput)
+    (programs : List ThinProgram) (budget : ℕ) (names : List Name) (within : Bool)
     → list_all is_thin_variable variables ≡ true
     → list_all is_thin_input inputs ≡ true
     → names ≡ names_of variables inputs
@@ -41,5 +49,6 @@ pub plan_within : (units : List code_unit.Unit) (variables : List PlanVariable) 
 plan_within units variables inputs programs budget names within v i n different u p is =
     let d : are_different (names_of variables inputs) ≡ true = ap are_different (sym n) ∙ different in
     let us = list_all_viewed (is_thin_unit variables inputs) unit_view units ∙ u in
-    let ps : list_all (is_thin_program (length (map unit_view units))) programs ≡ true = ap (λ k. list_all (is_thin_program k) programs) (length-map units unit_view) ∙ p in
+    let ps : list_all (is_thin_program (length (map unit_view units))) programs ≡ true =
+    ap (λ k. list_all (is_thin_program k) programs) (length-map units unit_view) ∙ p in
     rw (v, i, d, us, ps) is

@@ -1,13 +1,16 @@
 -- The length of a record's text and values.
 use Rattle.std.specs.Prelude.{nat_le}
-use Rattle.std.proofs.Common.{◌≡◌, ℕ, ◌+◌, ◌<◌, ◌≤◌, List, [], ◌∷◌, ◌++◌, length, drop, get_or, Bool, true, false, not, ◌&&◌, ◌==◌, Option, Some, None, refl, ap, ◌∙◌, arith}
+use Rattle.std.proofs.Common.{◌≡◌, ℕ, ◌+◌, ◌<◌, ◌≤◌, List, [], ◌∷◌, ◌++◌, length, drop, get_or, Bool, true, false, not}
+use Rattle.std.proofs.Common.{◌&&◌, ◌==◌, Option, Some, None, refl, ap, ◌∙◌, arith}
 use Rattle.std.proofs.Math.Seq.{drop-cons}
 use Rattle.std.proofs.Math.Numerals.{suc-eq-add-one}
 use Rattle.st_words.specs.declared.kind.Kind.{Kind}
-use Rattle.st_words.specs.declared.kind.Kind.TheVariants.{Sint, Int, Dint, Lint, Usint, Uint, Udint, Ulint, Byte, Word, Dword, Lword, Time, Bool as Boolean}
+use Rattle.st_words.specs.declared.kind.Kind.TheVariants.{Sint, Int, Dint, Lint, Usint, Uint, Udint, Ulint, Byte, Word}
+use Rattle.st_words.specs.declared.kind.Kind.TheVariants.{Dword, Lword, Time, Bool as Boolean}
 use Rattle.st_words.specs.Kinds.{row_of, width_of}
 use Rattle.st_plans.specs.declared.plan.PlanVariable.{PlanVariable}
-use Rattle.st_plans.specs.Layouts.{line_of, path_text, owner_text, steps_text, layout_text, values_length, record_length}
+use Rattle.st_plans.specs.Layouts.{line_of, path_text, owner_text, steps_text, layout_text, values_length}
+use Rattle.st_plans.specs.Layouts.{record_length}
 use Rattle.std.specs.Prelude.{codes}
 use Rattle.std.specs.List.{list_all}
 use Rattle.std.proofs.lemmas.List.{append-nil, length-append, drop_all}
@@ -76,7 +79,8 @@ name_short v h =
     let a = both (is_global v.path) (is_thin_kind v.initial.kind) h in
     let b = both (is_nobody v.path.owner) (is_name v.path.name && (length v.path.steps == 0)) a.0 in
     let c = both (is_name v.path.name) (length v.path.steps == 0) b.1 in
-    let d = both (not (length v.path.name == 0)) (nat_le (length v.path.name) 64 && list_all is_word_byte v.path.name) c.0 in
+    let d = both (not (length v.path.name == 0)) (nat_le (length v.path.name) 64 && list_all is_word_byte v.path.name)
+    c.0 in
     let e = both (nat_le (length v.path.name) 64) (list_all is_word_byte v.path.name) d.1 in
     let f = e.0 in
     grind (arith, nat_tests)
@@ -88,12 +92,15 @@ line_by path keyword =
     let c = length-append path (codes " ") in
     omega arith
 
-pub line_is : (v : PlanVariable) → is_thin_variable v ≡ true → length (line_of v) ≡ length v.path.name + length (row_of v.initial.kind).keyword + 2
+pub line_is : (v : PlanVariable) → is_thin_variable v ≡ true
+    → length (line_of v) ≡ length v.path.name + length (row_of v.initial.kind).keyword + 2
 line_is v h =
     let a = both (is_global v.path) (is_thin_kind v.initial.kind) h in
-    line_by (path_text v.path) (row_of v.initial.kind).keyword ∙ ap (λ x. length x + length (row_of v.initial.kind).keyword + 2) (path_is v.path a.0)
+    line_by (path_text v.path) (row_of v.initial.kind).keyword
+    ∙ ap (λ x. length x + length (row_of v.initial.kind).keyword + 2) (path_is v.path a.0)
 
-kept_by : (v : PlanVariable) (vs : List PlanVariable) (r : Bool) → v.retained ≡ r → length (layout_text vs) + values_length vs ≡ all_kept vs
+kept_by : (v : PlanVariable) (vs : List PlanVariable) (r : Bool) → v.retained ≡ r
+    → length (layout_text vs) + values_length vs ≡ all_kept vs
     → length (layout_text (v ∷ vs)) + values_length (v ∷ vs) ≡ kept_length v + all_kept vs
 kept_by v vs true e h = let a = length-append (line_of v) (layout_text vs) in rw e (omega arith)
 kept_by v vs false e h = rw e (h ∙ omega arith)
@@ -105,7 +112,8 @@ all_kept_is (v ∷ vs) = kept_by v vs v.retained refl (all_kept_is vs)
 pub record_is : (vs : List PlanVariable) → record_length vs ≡ 12 + all_kept vs
 record_is vs = let e = all_kept_is vs in omega arith
 
-pub kept_step : (vs : List PlanVariable) (i : ℕ) (d : PlanVariable) → i < length vs → all_kept (drop i vs) ≡ kept_length (get_or vs i d) + all_kept (drop (i + 1) vs)
+pub kept_step : (vs : List PlanVariable) (i : ℕ) (d : PlanVariable) → i < length vs
+    → all_kept (drop i vs) ≡ kept_length (get_or vs i d) + all_kept (drop (i + 1) vs)
 kept_step vs i d lt = ap all_kept (drop-cons vs i d lt ∙ ap (λ n. get_or vs i d ∷ drop n vs) (suc-eq-add-one i))
 
 pub none_behind : (vs : List PlanVariable) (i : ℕ) → length vs ≤ i → all_kept (drop i vs) ≡ 0

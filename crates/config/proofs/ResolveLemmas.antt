@@ -1,5 +1,6 @@
 -- In a thin unit the type of an assigned variable is what each untyped literal takes.
-use Rattle.std.proofs.Common.{◌≡◌, Bool, true, false, ◌&&◌, if◌then◌else◌, List, [], ◌∷◌, map, Option, Some, None, option_map, nat_lt, refl, ap, sym, ◌∙◌}
+use Rattle.std.proofs.Common.{◌≡◌, Bool, true, false, ◌&&◌, if◌then◌else◌, List, [], ◌∷◌, map, Option, Some, None}
+use Rattle.std.proofs.Common.{option_map, nat_lt, refl, ap, sym, ◌∙◌}
 use Rattle.std.specs.Prelude.{option_and_then}
 use Rattle.std.specs.List.{list_all}
 use Rattle.std.proofs.lemmas.Bool.{and_parts}
@@ -14,7 +15,8 @@ use Rattle.st_trees.specs.declared.unit.UnitSort.TheVariants.{Function, Function
 use Rattle.st_trees.specs.declared.declaration.Section.{Section}
 use Rattle.st_trees.specs.declared.data_type.VariableType.{VariableType}
 use Rattle.st_trees.specs.declared.data_type.VariableType.TheVariants as types
-use Rattle.st_trees.specs.Expressions.{Expr, literal, read, call, parenthesis, unary, binary, variable, no_selectors, selector_then}
+use Rattle.st_trees.specs.Expressions.{Expr, literal, read, call, parenthesis, unary, binary, variable, no_selectors}
+use Rattle.st_trees.specs.Expressions.{selector_then}
 use Rattle.st_trees.specs.Statements.{Stmt, assign}
 use Rattle.st_trees.specs.Declarations.{Declaration, VariableBlock}
 use Rattle.st_trees.specs.Initials.{Initial}
@@ -24,11 +26,15 @@ use Rattle.st_plans.specs.declared.plan.PlanVariable.{PlanVariable}
 use Rattle.st_plans.specs.declared.plan.PlanInput.{PlanInput}
 use Rattle.st_types.specs.Operators.{number_of, or_kind}
 use Rattle.st_types.specs.Scopes.{Name}
-use Rattle.st_types.specs.NameTypes.{Declared, is_named, elementary, result_kind, type_in_blocks, type_behind, kind_of_type, kind_of_variable}
+use Rattle.st_types.specs.NameTypes.{Declared, is_named, elementary, result_kind, type_in_blocks, type_behind}
+use Rattle.st_types.specs.NameTypes.{kind_of_type, kind_of_variable}
 use Rattle.st_types.specs.Resolution.{own_kind, is_untyped, operand_kind, taken_kind, resolved_expr}
-use Rattle.st_types.specs.ResolvedUnits.{resolved, resolved_stmt, resolved_type, resolved_initial, resolved_declaration, resolved_block}
+use Rattle.st_types.specs.ResolvedUnits.{resolved, resolved_stmt, resolved_type, resolved_initial, resolved_declaration}
+use Rattle.st_types.specs.ResolvedUnits.{resolved_block}
 use Rattle.st_words.proofs.KindLemmas.{same_kind_is}
-use Rattle.config.specs.Thin.{is_variable_of, are_there, is_absent, is_thin_declaration, is_thin_block, kind_in, is_of, is_of_or_none, is_typed, is_typed_for, is_typed_stmt, is_program, is_short, is_undeclared, is_thin_unit}
+use Rattle.config.specs.Thin.{is_variable_of, are_there, is_absent, is_thin_declaration, is_thin_block, kind_in, is_of}
+use Rattle.config.specs.Thin.{is_of_or_none, is_typed, is_typed_for, is_typed_stmt, is_program, is_short, is_undeclared}
+use Rattle.config.specs.Thin.{is_thin_unit}
 use Rattle.config.specs.Filled.{filled, filled_for, filled_stmt}
 
 -- the types of a unit's names are those of its externals
@@ -39,7 +45,8 @@ Agrees text u = (x : Identifier) → kind_of_variable text u (variable x no_sele
 abbrev kind_if : Bool → Kind → Option Kind
 kind_if untyped k = if untyped then None else Some k
 
-written_is : (k : Kind) (w : Option Kind) → is_of_or_none k w ≡ true → w ≡ kind_if (elim w [ Some l ↦ false | None ↦ true ]) k
+written_is : (k : Kind) (w : Option Kind) → is_of_or_none k w ≡ true
+    → w ≡ kind_if (elim w [ Some l ↦ false | None ↦ true ]) k
 written_is k None h = refl
 written_is k (Some l) h = ap (λ m. Some m) (sym (same_kind_is k l h))
 
@@ -53,8 +60,10 @@ joined_is k true false = refl
 joined_is k false true = refl
 joined_is k false false = refl
 
-own_is : (text : Declared) (u : OrganisationUnit) (k : Kind) (e : Expr) → Agrees text u → is_typed u.blocks k e ≡ true → own_kind text u e ≡ kind_if (is_untyped e) k
-own_is text u k (literal (literals.Number n)) agrees h = written_is k n.written (and_parts (is_of_or_none k n.written) (holds k (number_of n)) h).0
+own_is : (text : Declared) (u : OrganisationUnit) (k : Kind) (e : Expr) → Agrees text u → is_typed u.blocks k e ≡ true
+    → own_kind text u e ≡ kind_if (is_untyped e) k
+own_is text u k (literal (literals.Number n)) agrees h =
+    written_is k n.written (and_parts (is_of_or_none k n.written) (holds k (number_of n)) h).0
 own_is text u k (literal (literals.Truth at b)) agrees h = absurd (cc)
 own_is text u k (literal (literals.Duration at n)) agrees h = absurd (cc)
 own_is text u k (read (variable x no_selectors)) agrees h = agrees x ∙ read_is k (kind_in u.blocks x.name) h
@@ -76,13 +85,17 @@ expected_is k false true = refl
 expected_is k false false = refl
 
 -- both operands of a sum expect its type
-operand_is : (text : Declared) (u : OrganisationUnit) (k : Kind) (l r : Expr) → Agrees text u → is_typed u.blocks k l ≡ true → is_typed u.blocks k r ≡ true → operand_kind text u (Some k) Add l r ≡ Some k
+operand_is : (text : Declared) (u : OrganisationUnit) (k : Kind) (l r : Expr) → Agrees text u
+    → is_typed u.blocks k l ≡ true → is_typed u.blocks k r ≡ true → operand_kind text u (Some k) Add l r ≡ Some k
 operand_is text u k l r agrees hl hr =
-    ap (λ a. if is_untyped l && is_untyped r then Some k else or_kind a (own_kind text u r)) (own_is text u k l agrees hl)
-    ∙ ap (λ b. if is_untyped l && is_untyped r then Some k else or_kind (kind_if (is_untyped l) k) b) (own_is text u k r agrees hr)
+    ap (λ a. if is_untyped l && is_untyped r then Some k else or_kind a (own_kind text u r))
+    (own_is text u k l agrees hl)
+    ∙ ap (λ b. if is_untyped l && is_untyped r then Some k else or_kind (kind_if (is_untyped l) k) b)
+    (own_is text u k r agrees hr)
     ∙ expected_is k (is_untyped l) (is_untyped r)
 
-resolved_is : (text : Declared) (u : OrganisationUnit) (k : Kind) (e : Expr) → Agrees text u → is_typed u.blocks k e ≡ true → resolved_expr text u (Some k) e ≡ filled (taken_kind (Some k)) e
+resolved_is : (text : Declared) (u : OrganisationUnit) (k : Kind) (e : Expr) → Agrees text u
+    → is_typed u.blocks k e ≡ true → resolved_expr text u (Some k) e ≡ filled (taken_kind (Some k)) e
 resolved_is text u k (literal l) agrees h = refl
 resolved_is text u k (read (variable x no_selectors)) agrees h = refl
 resolved_is text u k (read (variable x (selector_then y ys))) agrees h = absurd (cc)
@@ -96,18 +109,25 @@ resolved_is text u k (binary Add l r) agrees h =
     ∙ ap (λ x. binary Add (filled (taken_kind (Some k)) l) x) (resolved_is text u k r agrees p.1)
 resolved_is text u k (binary op l r) agrees h = absurd (cc)
 
-assigned_is : (text : Declared) (u : OrganisationUnit) (variables : List PlanVariable) (x : Name) (e : Expr) (o : Option Kind) → Agrees text u → is_typed_for variables u.blocks x e o ≡ true → resolved_expr text u o e ≡ filled_for o e
+assigned_is :
+    (text : Declared) (u : OrganisationUnit) (variables : List PlanVariable) (x : Name) (e : Expr) (o : Option Kind)
+    → Agrees text u → is_typed_for variables u.blocks x e o ≡ true → resolved_expr text u o e ≡ filled_for o e
 assigned_is text u variables x e None agrees h = absurd (cc)
-assigned_is text u variables x e (Some k) agrees h = resolved_is text u k e agrees (and_parts (is_variable_of variables k x) (is_typed u.blocks k e) h).1
+assigned_is text u variables x e (Some k) agrees h =
+    resolved_is text u k e agrees (and_parts (is_variable_of variables k x) (is_typed u.blocks k e) h).1
 
-stmt_is : (text : Declared) (u : OrganisationUnit) (variables : List PlanVariable) (s : Stmt) → Agrees text u → is_typed_stmt variables u.blocks s ≡ true → resolved_stmt text u s ≡ filled_stmt u.blocks s
+stmt_is : (text : Declared) (u : OrganisationUnit) (variables : List PlanVariable) (s : Stmt) → Agrees text u
+    → is_typed_stmt variables u.blocks s ≡ true → resolved_stmt text u s ≡ filled_stmt u.blocks s
 stmt_is text u variables (assign (variable x no_selectors) e) agrees h =
     ap (λ o. assign (variable x no_selectors) (resolved_expr text u o e)) (agrees x)
-    ∙ ap (λ y. assign (variable x no_selectors) y) (assigned_is text u variables x.name e (kind_in u.blocks x.name) agrees h)
+    ∙ ap (λ y. assign (variable x no_selectors) y)
+    (assigned_is text u variables x.name e (kind_in u.blocks x.name) agrees h)
 stmt_is text u variables (assign (variable x (selector_then y ys)) e) agrees h = absurd (cc)
 stmt_is text u variables s agrees h = absurd (cc)
 
-body_is : (text : Declared) (u : OrganisationUnit) (variables : List PlanVariable) (xs : List Stmt) → Agrees text u → list_all (is_typed_stmt variables u.blocks) xs ≡ true → map (resolved_stmt text u) xs ≡ map (filled_stmt u.blocks) xs
+body_is : (text : Declared) (u : OrganisationUnit) (variables : List PlanVariable) (xs : List Stmt) → Agrees text u
+    → list_all (is_typed_stmt variables u.blocks) xs ≡ true
+    → map (resolved_stmt text u) xs ≡ map (filled_stmt u.blocks) xs
 body_is text u variables [] agrees h = refl
 body_is text u variables (s ∷ xs) agrees h =
     let p = and_parts (is_typed_stmt variables u.blocks s) (list_all (is_typed_stmt variables u.blocks) xs) h in
@@ -115,7 +135,8 @@ body_is text u variables (s ∷ xs) agrees h =
     ∙ ap (λ ys. filled_stmt u.blocks s ∷ ys) (body_is text u variables xs agrees p.1)
 
 -- declarations of elementary types without initial values stay
-type_is : (variables : List PlanVariable) (inputs : List PlanInput) (section : Section) (names : List Identifier) (t : VariableType) → are_there variables inputs section (kind_of_type t) names ≡ true → resolved_type t ≡ t
+type_is : (variables : List PlanVariable) (inputs : List PlanInput) (section : Section) (names : List Identifier)
+    (t : VariableType) → are_there variables inputs section (kind_of_type t) names ≡ true → resolved_type t ≡ t
 type_is variables inputs section names (types.Simple t) h = refl
 type_is variables inputs section names (types.Array a) h = absurd (cc)
 
@@ -123,24 +144,37 @@ initial_is : (f : Initial → Initial) (o : Option Initial) → is_absent o ≡ 
 initial_is f None h = refl
 initial_is f (Some i) h = absurd (cc)
 
-declaration_is : (text : Declared) (variables : List PlanVariable) (inputs : List PlanInput) (section : Section) (d : Declaration) → is_thin_declaration variables inputs section d ≡ true → resolved_declaration text d ≡ d
+declaration_is : (text : Declared) (variables : List PlanVariable) (inputs : List PlanInput) (section : Section)
+    (d : Declaration) → is_thin_declaration variables inputs section d ≡ true → resolved_declaration text d ≡ d
 declaration_is text variables inputs section d h =
     let p = and_parts (is_absent d.initial) (are_there variables inputs section (kind_of_type d.declared) d.names) h in
-    ap (λ t. let r : Declaration = record { names = d.names; declared = t; initial = option_map (resolved_initial text (Some d.declared)) d.initial } in r) (type_is variables inputs section d.names d.declared p.1)
-    ∙ ap (λ o. let r : Declaration = record { names = d.names; declared = d.declared; initial = o } in r) (initial_is (resolved_initial text (Some d.declared)) d.initial p.0)
+    ap (λ t. let r : Declaration = record {
+      names = d.names;
+      declared = t;
+      initial =
+          option_map (resolved_initial text (Some d.declared)) d.initial;
+    } in r)
+    (type_is variables inputs section d.names d.declared p.1)
+    ∙ ap (λ o. let r : Declaration = record { names = d.names; declared = d.declared; initial = o } in r)
+    (initial_is (resolved_initial text (Some d.declared)) d.initial p.0)
 
-declarations_are : (text : Declared) (variables : List PlanVariable) (inputs : List PlanInput) (section : Section) (ds : List Declaration) → list_all (is_thin_declaration variables inputs section) ds ≡ true → map (resolved_declaration text) ds ≡ ds
+declarations_are : (text : Declared) (variables : List PlanVariable) (inputs : List PlanInput) (section : Section)
+    (ds : List Declaration) → list_all (is_thin_declaration variables inputs section) ds ≡ true
+    → map (resolved_declaration text) ds ≡ ds
 declarations_are text variables inputs section [] h = refl
 declarations_are text variables inputs section (d ∷ ds) h =
-    let p = and_parts (is_thin_declaration variables inputs section d) (list_all (is_thin_declaration variables inputs section) ds) h in
+    let p = and_parts (is_thin_declaration variables inputs section d)
+    (list_all (is_thin_declaration variables inputs section) ds) h in
     ap (λ y. y ∷ map (resolved_declaration text) ds) (declaration_is text variables inputs section d p.0)
     ∙ ap (λ ys. d ∷ ys) (declarations_are text variables inputs section ds p.1)
 
-pub blocks_are : (text : Declared) (variables : List PlanVariable) (inputs : List PlanInput) (bs : List VariableBlock) → list_all (is_thin_block variables inputs) bs ≡ true → map (resolved_block text) bs ≡ bs
+pub blocks_are : (text : Declared) (variables : List PlanVariable) (inputs : List PlanInput) (bs : List VariableBlock)
+    → list_all (is_thin_block variables inputs) bs ≡ true → map (resolved_block text) bs ≡ bs
 blocks_are text variables inputs [] h = refl
 blocks_are text variables inputs (b ∷ bs) h =
     let p = and_parts (is_thin_block variables inputs b) (list_all (is_thin_block variables inputs) bs) h in
-    ap (λ ds. let r : VariableBlock = record { section = b.section; declarations = ds } in r ∷ map (resolved_block text) bs) (declarations_are text variables inputs b.section b.declarations p.0)
+    ap (λ ds. let r : VariableBlock = record { section = b.section; declarations = ds } in
+    r ∷ map (resolved_block text) bs) (declarations_are text variables inputs b.section b.declarations p.0)
     ∙ ap (λ ys. b ∷ ys) (blocks_are text variables inputs bs p.1)
 
 -- a name that no block declares has no type
@@ -149,19 +183,28 @@ undeclared None h = refl
 undeclared (Some t) h = absurd (cc)
 
 -- a program's own name is no variable
-kind_at_name : (text : Declared) (sort : UnitSort) (o : Option VariableType) (own : Bool) → is_program sort ≡ true → (own ≡ true → o ≡ None) → option_and_then kind_of_type (option_and_then (type_behind text no_selectors) (if own then option_map elementary (result_kind sort) else o)) ≡ option_and_then kind_of_type o
+kind_at_name : (text : Declared) (sort : UnitSort) (o : Option VariableType) (own : Bool) → is_program sort ≡ true
+    → (own ≡ true → o ≡ None) → option_and_then kind_of_type
+    (option_and_then (type_behind text no_selectors) (if own then option_map elementary (result_kind sort) else o))
+    ≡ option_and_then kind_of_type o
 kind_at_name text Program o true p none = sym (ap (option_and_then kind_of_type) (none refl))
 kind_at_name text FunctionBlock o true p none = absurd (cc)
 kind_at_name text (Function k at) o true p none = absurd (cc)
 kind_at_name text sort None false p none = refl
 kind_at_name text sort (Some t) false p none = refl
 
-agrees_in : (text : Declared) (u : OrganisationUnit) (variables : List PlanVariable) (inputs : List PlanInput) → is_program u.sort ≡ true → list_all (is_thin_block variables inputs) u.blocks ≡ true → is_undeclared (type_in_blocks u.blocks u.name.name) ≡ true → Agrees text u
+agrees_in : (text : Declared) (u : OrganisationUnit) (variables : List PlanVariable) (inputs : List PlanInput)
+    → is_program u.sort ≡ true → list_all (is_thin_block variables inputs) u.blocks ≡ true
+    → is_undeclared (type_in_blocks u.blocks u.name.name) ≡ true → Agrees text u
 agrees_in text u variables inputs program thin other x =
-    kind_at_name text u.sort (type_in_blocks u.blocks x.name) (is_named x.name u.name) program (λ own. ap (type_in_blocks u.blocks) ((bytes_eq-Decides x.name u.name.name).0 own) ∙ undeclared (type_in_blocks u.blocks u.name.name) other)
+    kind_at_name text u.sort (type_in_blocks u.blocks x.name) (is_named x.name u.name) program
+    (λ own. ap (type_in_blocks u.blocks) ((bytes_eq-Decides x.name u.name.name).0 own)
+    ∙ undeclared (type_in_blocks u.blocks u.name.name) other)
 
 -- a thin unit with its body filled is what the definitions resolve it to
-pub unit_resolved : (text : Declared) (u : OrganisationUnit) (variables : List PlanVariable) (inputs : List PlanInput) (body : List Stmt) → is_thin_unit variables inputs u ≡ true → body ≡ map (filled_stmt u.blocks) u.body → record u { body = body } ≡ resolved text u
+pub unit_resolved : (text : Declared) (u : OrganisationUnit) (variables : List PlanVariable) (inputs : List PlanInput)
+    (body : List Stmt) → is_thin_unit variables inputs u ≡ true → body ≡ map (filled_stmt u.blocks) u.body
+    → record u { body = body } ≡ resolved text u
 unit_resolved text u variables inputs body h e =
     let thin = list_all (is_thin_block variables inputs) u.blocks in
     let other = is_undeclared (type_in_blocks u.blocks u.name.name) in
@@ -170,6 +213,8 @@ unit_resolved text u variables inputs body h e =
     let p = and_parts (is_program u.sort && is_short u.name.name) (thin && (other && (typed && low))) h in
     let q = and_parts thin (other && (typed && low)) p.1 in
     let r = and_parts other (typed && low) q.1 in
-    let agrees = agrees_in text u variables inputs (and_parts (is_program u.sort) (is_short u.name.name) p.0).0 q.0 r.0 in
+    let agrees =
+    agrees_in text u variables inputs (and_parts (is_program u.sort) (is_short u.name.name) p.0).0 q.0 r.0 in
     ap (λ b. record u { body = b }) (e ∙ sym (body_is text u variables u.body agrees (and_parts typed low r.1).0))
-    ∙ ap (λ bs. record u { blocks = bs; body = map (resolved_stmt text u) u.body }) (sym (blocks_are text variables inputs u.blocks q.0))
+    ∙ ap (λ bs. record u { blocks = bs; body = map (resolved_stmt text u) u.body })
+    (sym (blocks_are text variables inputs u.blocks q.0))

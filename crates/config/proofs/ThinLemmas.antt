@@ -1,5 +1,6 @@
 -- What a thin plan is made of.
-use Rattle.std.proofs.Common.{◌≡◌, ℕ, ◌+◌, ◌<◌, ◌≤◌, ◌&&◌, List, [], ◌∷◌, map, length, drop, get_or, true, false, Some, ap, sym, ◌∙◌}
+use Rattle.std.proofs.Common.{◌≡◌, ℕ, ◌+◌, ◌<◌, ◌≤◌, ◌&&◌, List, [], ◌∷◌, map, length, drop, get_or, true, false, Some}
+use Rattle.std.proofs.Common.{ap, sym, ◌∙◌}
 use Rattle.std.specs.Prelude.{max, All}
 use Rattle.std.proofs.Common.{◌++◌, subst, rules, append_assoc}
 use Rattle.std.proofs.lemmas.List.{map-append, length-map}
@@ -33,7 +34,8 @@ use Rattle.config.specs.PlanViews.{program_view}
 use Rattle.st_types.specs.Slots.{IsLayout}
 use Rattle.st_plans.specs.Layouts.{layout_of}
 use Rattle.config.specs.Sound.{are_different}
-use Rattle.config.specs.ThinPlans.{is_thin_variable, is_thin_input, names_of, is_within, is_thin, resources_of, is_thin_program, program_from, programs_from}
+use Rattle.config.specs.ThinPlans.{is_thin_variable, is_thin_input, names_of, is_within, is_thin, resources_of}
+use Rattle.config.specs.ThinPlans.{is_thin_program, program_from, programs_from}
 use Rattle.config.proofs.GlobalSlotLemmas.{layout_distinct}
 use Rattle.st_plans.specs.Plans as plans
 use Rattle.std.specs.Prelude.{nat_lt, ◌^◌}
@@ -43,29 +45,37 @@ use Rattle.config.proofs.PlainLemmas.{unit_plain}
 use Rattle.config.proofs.ResolveLemmas.{blocks_are}
 
 -- what a thin unit resolves to is plain over globals that are there
-pub plain_unit : (new : code_unit.Unit) (u : OrganisationUnit) (text : Declared) (variables : List PlanVariable) (inputs : List PlanInput) (globals : List GlobalSlot)
-    → unit_view new ≡ resolved text u → is_thin_unit variables inputs u ≡ true → map (λ g. g.name) globals ≡ externals_in u.blocks
-    → ((k : Kind) (x : Name) (g : GlobalSlot) → is_variable_of variables k x ≡ true → global_named globals x ≡ Some g → g.is_input ≡ false)
+pub plain_unit : (new : code_unit.Unit) (u : OrganisationUnit) (text : Declared) (variables : List PlanVariable)
+    (inputs : List PlanInput) (globals : List GlobalSlot)
+    → unit_view new ≡ resolved text u → is_thin_unit variables inputs u ≡ true
+    → map (λ g. g.name) globals ≡ externals_in u.blocks
+    → ((k : Kind) (x : Name) (g : GlobalSlot) → is_variable_of variables k x ≡ true → global_named globals x ≡ Some g
+    → g.is_input ≡ false)
     → IsPlain new globals
 plain_unit new u text variables inputs globals e h names out =
-    let p = and_parts (is_program u.sort && is_short u.name.name) (list_all (is_thin_block variables inputs) u.blocks && _) h in
+    let p = and_parts (is_program u.sort && is_short u.name.name)
+    (list_all (is_thin_block variables inputs) u.blocks && _) h in
     let q = and_parts (list_all (is_thin_block variables inputs) u.blocks) _ p.1 in
     record {
       names = names ∙ ap externals_in (sym (ap (λ v. v.blocks) e ∙ blocks_are text variables inputs u.blocks q.0));
       body = ap (λ v. are_plain globals v.body) e ∙ unit_plain text u variables inputs globals h names out;
     }
 
-program_at : (ps : List ThinProgram) (i : ℕ) (d : ThinProgram) → i < length ps → drop i ps ≡ get_or ps i d ∷ drop (i + 1) ps
+program_at : (ps : List ThinProgram) (i : ℕ) (d : ThinProgram) → i < length ps
+    → drop i ps ≡ get_or ps i d ∷ drop (i + 1) ps
 program_at ps i d lt = drop-cons ps i d lt ∙ ap (λ n. get_or ps i d ∷ drop n ps) (suc-eq-add-one i)
 
-pub resources_step : (ps : List ThinProgram) (i : ℕ) (d : ThinProgram) → i < length ps → resources_of (drop i ps) ≡ max ((get_or ps i d).resource + 1) (resources_of (drop (i + 1) ps))
+pub resources_step : (ps : List ThinProgram) (i : ℕ) (d : ThinProgram) → i < length ps
+    → resources_of (drop i ps) ≡ max ((get_or ps i d).resource + 1) (resources_of (drop (i + 1) ps))
 resources_step ps i d lt = ap resources_of (program_at ps i d lt)
 
 pub resources_none : (ps : List ThinProgram) (i : ℕ) → length ps ≤ i → resources_of (drop i ps) ≡ 0
 resources_none ps i le = ap resources_of (drop_all i ps le)
 
-pub units_step : (text : Declared) (done all : List ThinUnit) (u : ThinUnit) (left rest : List code_unit.Unit) (new : code_unit.Unit) (whole : List OrganisationUnit)
-    → units_in done ++ map (resolved text) (map unit_view left) ≡ whole → left ≡ new ∷ rest → unit_view u.unit.value ≡ resolved text (unit_view new) → all ≡ done ++ u ∷ []
+pub units_step : (text : Declared) (done all : List ThinUnit) (u : ThinUnit) (left rest : List code_unit.Unit)
+    (new : code_unit.Unit) (whole : List OrganisationUnit)
+    → units_in done ++ map (resolved text) (map unit_view left) ≡ whole → left ≡ new ∷ rest
+    → unit_view u.unit.value ≡ resolved text (unit_view new) → all ≡ done ++ u ∷ []
     → units_in all ++ map (resolved text) (map unit_view rest) ≡ whole
 units_step text done all u left rest new whole h more is pushed =
     ap (λ x. units_in x ++ map (resolved text) (map unit_view rest)) pushed
@@ -75,20 +85,31 @@ units_step text done all u left rest new whole h more is pushed =
     ∙ ap (λ x. units_in done ++ map (resolved text) (map unit_view x)) (sym more)
     ∙ h
 
-pub places_step : (layout : List Slot) (done all : List ThinUnit) (u : ThinUnit) → All (λ v. HaveSlots layout v.globals.items) done → HaveSlots layout u.globals.items → all ≡ done ++ u ∷ [] → All (λ v. HaveSlots layout v.globals.items) all
-places_step layout done all u h is pushed = subst (All (λ v. HaveSlots layout v.globals.items)) (sym pushed) (All-append (λ v. HaveSlots layout v.globals.items) done (u ∷ []) h (search rules))
+pub places_step : (layout : List Slot) (done all : List ThinUnit) (u : ThinUnit)
+    → All (λ v. HaveSlots layout v.globals.items) done → HaveSlots layout u.globals.items → all ≡ done ++ u ∷ []
+    → All (λ v. HaveSlots layout v.globals.items) all
+places_step layout done all u h is pushed = subst (All (λ v. HaveSlots layout v.globals.items)) (sym pushed)
+    (All-append (λ v. HaveSlots layout v.globals.items) done (u ∷ []) h (search rules))
 
-pub thin_rest : (variables : List PlanVariable) (inputs : List PlanInput) (left rest : List code_unit.Unit) (new : code_unit.Unit) → list_all (is_thin_unit variables inputs) (map unit_view left) ≡ true → left ≡ new ∷ rest
-    → (is_thin_unit variables inputs (unit_view new) ≡ true) × (list_all (is_thin_unit variables inputs) (map unit_view rest) ≡ true)
-thin_rest variables inputs left rest new h more = and_parts (is_thin_unit variables inputs (unit_view new)) (list_all (is_thin_unit variables inputs) (map unit_view rest)) (ap (λ x. list_all (is_thin_unit variables inputs) (map unit_view x)) (sym more) ∙ h)
+pub thin_rest : (variables : List PlanVariable) (inputs : List PlanInput) (left rest : List code_unit.Unit)
+    (new : code_unit.Unit) → list_all (is_thin_unit variables inputs) (map unit_view left) ≡ true → left ≡ new ∷ rest
+    → (is_thin_unit variables inputs (unit_view new) ≡ true)
+    × (list_all (is_thin_unit variables inputs) (map unit_view rest) ≡ true)
+thin_rest variables inputs left rest new h more = and_parts (is_thin_unit variables inputs (unit_view new))
+    (list_all (is_thin_unit variables inputs) (map unit_view rest))
+    (ap (λ x. list_all (is_thin_unit variables inputs) (map unit_view x)) (sym more) ∙ h)
 
-pub known_unit : (variables : List PlanVariable) (inputs : List PlanInput) (u : OrganisationUnit) (names : List Name) → is_thin_unit variables inputs u ≡ true → names ≡ externals_in u.blocks → list_all (is_named_in variables inputs) names ≡ true
+pub known_unit : (variables : List PlanVariable) (inputs : List PlanInput) (u : OrganisationUnit) (names : List Name)
+    → is_thin_unit variables inputs u ≡ true → names ≡ externals_in u.blocks
+    → list_all (is_named_in variables inputs) names ≡ true
 known_unit variables inputs u names h is =
-    let p = and_parts (is_program u.sort && is_short u.name.name) (list_all (is_thin_block variables inputs) u.blocks && _) h in
+    let p = and_parts (is_program u.sort && is_short u.name.name)
+    (list_all (is_thin_block variables inputs) u.blocks && _) h in
     let q = and_parts (list_all (is_thin_block variables inputs) u.blocks) _ p.1 in
     ap (list_all (is_named_in variables inputs)) is ∙ externals_known variables inputs u.blocks q.0
 
-pub unit_there : (n : ℕ) (ps : List ThinProgram) (i : ℕ) (d : ThinProgram) → list_all (is_thin_program n) ps ≡ true → i < length ps → (get_or ps i d).unit < n
+pub unit_there : (n : ℕ) (ps : List ThinProgram) (i : ℕ) (d : ThinProgram) → list_all (is_thin_program n) ps ≡ true
+    → i < length ps → (get_or ps i d).unit < n
 unit_there n [] i d h lt = absurd (omega arith)
 unit_there n (p ∷ ps) zero d h lt =
     let a = and_parts (is_thin_program n p) (list_all (is_thin_program n) ps) h in
@@ -98,8 +119,10 @@ unit_there n (p ∷ ps) zero d h lt =
 unit_there n (p ∷ ps) (suc i) d h lt =
     unit_there n ps i d (and_parts (is_thin_program n p) (list_all (is_thin_program n) ps) h).1 (omega arith)
 
-pub programs_step : (us : List OrganisationUnit) (ps : List ThinProgram) (k : ℕ) (d : ThinProgram) (done all : List Program) (p : Program) (whole : List plans.Program)
-    → map program_view done ++ programs_from us k (drop k ps) ≡ whole → k < length ps → program_view p ≡ program_from us k (get_or ps k d) → all ≡ done ++ p ∷ []
+pub programs_step : (us : List OrganisationUnit) (ps : List ThinProgram) (k : ℕ) (d : ThinProgram)
+    (done all : List Program) (p : Program) (whole : List plans.Program)
+    → map program_view done ++ programs_from us k (drop k ps) ≡ whole → k < length ps
+    → program_view p ≡ program_from us k (get_or ps k d) → all ≡ done ++ p ∷ []
     → map program_view all ++ programs_from us (k + 1) (drop (k + 1) ps) ≡ whole
 programs_step us ps k d done all p whole h lt is pushed =
     ap (λ x. map program_view x ++ programs_from us (k + 1) (drop (k + 1) ps)) pushed
@@ -109,29 +132,38 @@ programs_step us ps k d done all p whole h lt is pushed =
     ∙ ap (λ x. map program_view done ++ programs_from us k x) (sym (program_at ps k d lt))
     ∙ h
 
-pub code_places_step : (layout : List Slot) (done all : List Program) (p : Program) → All (λ v. HaveSlots layout v.code.value.globals.items) done → HaveSlots layout p.code.value.globals.items → all ≡ done ++ p ∷ []
+pub code_places_step : (layout : List Slot) (done all : List Program) (p : Program)
+    → All (λ v. HaveSlots layout v.code.value.globals.items) done → HaveSlots layout p.code.value.globals.items
+    → all ≡ done ++ p ∷ []
     → All (λ v. HaveSlots layout v.code.value.globals.items) all
 code_places_step layout done all p h is pushed =
-    subst (All (λ v. HaveSlots layout v.code.value.globals.items)) (sym pushed) (All-append (λ v. HaveSlots layout v.code.value.globals.items) done (p ∷ []) h (search rules))
+    subst (All (λ v. HaveSlots layout v.code.value.globals.items)) (sym pushed)
+    (All-append (λ v. HaveSlots layout v.code.value.globals.items) done (p ∷ []) h (search rules))
 
-pub programs_end : (us : List OrganisationUnit) (ps : List ThinProgram) (k : ℕ) → length ps ≤ k → programs_from us k (drop k ps) ≡ []
+pub programs_end : (us : List OrganisationUnit) (ps : List ThinProgram) (k : ℕ) → length ps ≤ k
+    → programs_from us k (drop k ps) ≡ []
 programs_end us ps k le = ap (programs_from us k) (drop_all k ps le)
 
 -- what the parts of thin plans are asked for
-pub thin_layout : (units : List OrganisationUnit) (vs : List PlanVariable) (is : List PlanInput) (ps : List ThinProgram) (budget : ℕ) → is_thin units vs is ps budget ≡ true → IsLayout (layout_of vs is)
+pub thin_layout : (units : List OrganisationUnit) (vs : List PlanVariable) (is : List PlanInput) (ps : List ThinProgram)
+    (budget : ℕ) → is_thin units vs is ps budget ≡ true → IsLayout (layout_of vs is)
 thin_layout units vs is ps budget h =
     let a = and_parts (list_all is_thin_variable vs) _ h in
     let b = and_parts (list_all is_thin_input is) _ a.1 in
     layout_distinct vs is (and_parts (are_different (names_of vs is)) _ b.1).0
 
-pub thin_units_are : (units : List OrganisationUnit) (vs : List PlanVariable) (is : List PlanInput) (ps : List ThinProgram) (budget : ℕ) → is_thin units vs is ps budget ≡ true → list_all (is_thin_unit vs is) units ≡ true
+pub thin_units_are :
+    (units : List OrganisationUnit) (vs : List PlanVariable) (is : List PlanInput) (ps : List ThinProgram) (budget : ℕ)
+    → is_thin units vs is ps budget ≡ true → list_all (is_thin_unit vs is) units ≡ true
 thin_units_are units vs is ps budget h =
     let a = and_parts (list_all is_thin_variable vs) _ h in
     let b = and_parts (list_all is_thin_input is) _ a.1 in
     let c = and_parts (are_different (names_of vs is)) _ b.1 in
     (and_parts (list_all (is_thin_unit vs is) units) _ c.1).0
 
-pub thin_programs_are : (units : List OrganisationUnit) (vs : List PlanVariable) (is : List PlanInput) (ps : List ThinProgram) (budget : ℕ) → is_thin units vs is ps budget ≡ true → list_all (is_thin_program (length units)) ps ≡ true
+pub thin_programs_are :
+    (units : List OrganisationUnit) (vs : List PlanVariable) (is : List PlanInput) (ps : List ThinProgram) (budget : ℕ)
+    → is_thin units vs is ps budget ≡ true → list_all (is_thin_program (length units)) ps ≡ true
 thin_programs_are units vs is ps budget h =
     let a = and_parts (list_all is_thin_variable vs) _ h in
     let b = and_parts (list_all is_thin_input is) _ a.1 in
@@ -139,7 +171,8 @@ thin_programs_are units vs is ps budget h =
     let d = and_parts (list_all (is_thin_unit vs is) units) _ c.1 in
     (and_parts (list_all (is_thin_program (length units)) ps) (is_within vs is ps budget) d.1).0
 
-pub programs_are_few : (n : ℕ) (ps : List ThinProgram) → list_all (is_thin_program n) ps ≡ true → All (λ p. p.resource < 8) ps
+pub programs_are_few : (n : ℕ) (ps : List ThinProgram) → list_all (is_thin_program n) ps ≡ true
+    → All (λ p. p.resource < 8) ps
 programs_are_few n [] h = search rules
 programs_are_few n (p ∷ ps) h =
     let a = and_parts (is_thin_program n p) (list_all (is_thin_program n) ps) h in
@@ -149,5 +182,8 @@ programs_are_few n (p ∷ ps) h =
     search rules
 
 -- as many units are resolved as there were
-pub count_kept : (made : List ThinUnit) (units : List OrganisationUnit) (text : Declared) (ps : List ThinProgram) → units_in made ≡ map (resolved text) units → list_all (is_thin_program (length units)) ps ≡ true → list_all (is_thin_program (length made)) ps ≡ true
-count_kept made units text ps h thin = ap (λ n. list_all (is_thin_program n) ps) (sym (length-map made (λ u. unit_view u.unit.value)) ∙ ap length h ∙ length-map units (resolved text)) ∙ thin
+pub count_kept : (made : List ThinUnit) (units : List OrganisationUnit) (text : Declared) (ps : List ThinProgram)
+    → units_in made ≡ map (resolved text) units → list_all (is_thin_program (length units)) ps ≡ true
+    → list_all (is_thin_program (length made)) ps ≡ true
+count_kept made units text ps h thin = ap (λ n. list_all (is_thin_program n) ps)
+    (sym (length-map made (λ u. unit_view u.unit.value)) ∙ ap length h ∙ length-map units (resolved text)) ∙ thin

@@ -10,7 +10,8 @@ use Rattle.slot_code.specs.declared.global.GlobalSlot.{GlobalSlot}
 
 -- a variable or an input bears the name
 abbrev pub is_named_in : List PlanVariable → List PlanInput → Name → Bool
-is_named_in variables inputs x = list_any (λ v. same_path (unowned x) v.path) variables || list_any (λ i. same_path (unowned x) i.path) inputs
+is_named_in variables inputs x =
+    list_any (λ v. same_path (unowned x) v.path) variables || list_any (λ i. same_path (unowned x) i.path) inputs
 
 -- the global has the slot of its name
 abbrev pub HasSlot : List Slot → GlobalSlot → Type 0

@@ -20,7 +20,8 @@ trigger_view variables (Input i) = single_input i
 trigger_view variables (Variable k) = single_of (slice_get variables k)
 
 abbrev pub task_view : List PlanVariable → Task → plans.Task
-task_view variables t = record { single = trigger_view variables t.single; interval = t.interval; priority = t.priority }
+task_view variables t =
+    record { single = trigger_view variables t.single; interval = t.interval; priority = t.priority }
 
 abbrev pub program_view : Program → plans.Program
 program_view p = record { resource = p.resource; task = p.task; code = program_of (code_view p.code.value) }

@@ -1,7 +1,9 @@
 -- What the parts of a plan have to do with each other, and their limits.
-use Rattle.std.specs.Prelude.{◌≡◌, ℕ, ◌+◌, ◌<◌, ◌≤◌, ◌==◌, nat_le, List, [], ◌∷◌, length, map, filter, Bool, true, false, not, ◌&&◌, Option, Some, None, slice_get}
+use Rattle.std.specs.Prelude.{◌≡◌, ℕ, ◌+◌, ◌<◌, ◌≤◌, ◌==◌, nat_le, List, [], ◌∷◌, length, map, filter, Bool, true}
+use Rattle.std.specs.Prelude.{false, not, ◌&&◌, Option, Some, None, slice_get}
 use Rattle.std.specs.List.{list_all}
-use Rattle.st_words.specs.declared.limits.TheConstants.{MAX_BUDGET, MAX_PATHS, MAX_PROGRAMS, MAX_RECORD_BODY, MAX_RESOURCES, MAX_TASKS}
+use Rattle.st_words.specs.declared.limits.TheConstants.{MAX_BUDGET, MAX_PATHS, MAX_PROGRAMS, MAX_RECORD_BODY}
+use Rattle.st_words.specs.declared.limits.TheConstants.{MAX_RESOURCES, MAX_TASKS}
 use Rattle.st_words.specs.declared.kind.Kind.TheVariants.{Bool as Boolean}
 use Rattle.st_words.specs.Kinds.{same_kind}
 use Rattle.st_plans.specs.declared.plan.PlanVariable.{PlanVariable}
@@ -46,8 +48,10 @@ is_of_resource r (Some t) = t.resource == r
 abbrev pub tasks_of : ℕ → List Task → ℕ
 tasks_of r tasks = length (filter (λ t. t.resource == r) tasks)
 
--- The limits: 4,096 paths, 8 resources with 32 tasks each, 64 programs, 1 to 1,000,000 ticks, a record of 131,059 bytes.
-pub record IsWithinLimits (variables : List PlanVariable) (inputs : List PlanInput) (resources : ℕ) (tasks : List Task) (programs budget : ℕ) : Type 0 where
+-- The limits: 4,096 paths, 8 resources with 32 tasks each, 64 programs, 1 to 1,000,000 ticks, a record of 131,059
+-- bytes.
+pub record IsWithinLimits (variables : List PlanVariable) (inputs : List PlanInput) (resources : ℕ) (tasks : List Task)
+    (programs budget : ℕ) : Type 0 where
   pub paths : length variables + length inputs ≤ MAX_PATHS
   pub resources_are : resources ≤ MAX_RESOURCES
   pub tasks_each : list_all (λ t. nat_le (tasks_of t.resource tasks) MAX_TASKS) tasks ≡ true
@@ -56,14 +60,18 @@ pub record IsWithinLimits (variables : List PlanVariable) (inputs : List PlanInp
   pub ticks : budget ≤ MAX_BUDGET
   pub record_is : record_length variables ≤ MAX_RECORD_BODY
 
--- Each path has one slot, and the code of each program the slots of the globals that it names; each program runs in a task of its
--- resource; each path can be spelled in a record, and no two are spelled alike.
-pub record PlanInvariant (variables : List PlanVariable) (inputs : List PlanInput) (resources : ℕ) (tasks : List Task) (programs : List Program) (budget : ℕ) : Type 0 where
+-- Each path has one slot, and the code of each program the slots of the globals that it names; each program runs in a
+-- task of its resource; each path can be spelled in a record, and no two are spelled alike.
+pub record PlanInvariant (variables : List PlanVariable) (inputs : List PlanInput) (resources : ℕ) (tasks : List Task)
+    (programs : List Program) (budget : ℕ) : Type 0 where
   pub layout : IsLayout (layout_of variables inputs)
-  pub codes : (k : ℕ) (p : Program) → slice_get programs k ≡ Some p → Fits (layout_of variables inputs) p.code.value.globals.items
-  pub placed : (k : ℕ) (p : Program) → slice_get programs k ≡ Some p → HaveSlots (layout_of variables inputs) p.code.value.globals.items
+  pub codes : (k : ℕ) (p : Program) → slice_get programs k ≡ Some p
+      → Fits (layout_of variables inputs) p.code.value.globals.items
+  pub placed : (k : ℕ) (p : Program) → slice_get programs k ≡ Some p
+      → HaveSlots (layout_of variables inputs) p.code.value.globals.items
   pub resources_are : (k : ℕ) (t : Task) → slice_get tasks k ≡ Some t → t.resource < resources
-  pub places : (k : ℕ) (p : Program) → slice_get programs k ≡ Some p → is_of_resource p.resource (slice_get tasks p.task) ≡ true
+  pub places : (k : ℕ) (p : Program) → slice_get programs k ≡ Some p
+      → is_of_resource p.resource (slice_get tasks p.task) ≡ true
   pub singles : list_all (λ t. is_sound_trigger variables inputs t.single) tasks ≡ true
   pub spelled : list_all (λ v. is_spelled (path_text v.path)) variables ≡ true
   pub different : are_different (map (λ v. path_text v.path) variables) ≡ true

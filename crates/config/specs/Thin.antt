@@ -52,7 +52,8 @@ is_absent None = true
 is_absent (Some i) = false
 
 abbrev pub is_thin_declaration : List PlanVariable → List PlanInput → Section → Declaration → Bool
-is_thin_declaration variables inputs section d = is_absent d.initial && are_there variables inputs section (kind_of_type d.declared) d.names
+is_thin_declaration variables inputs section d =
+    is_absent d.initial && are_there variables inputs section (kind_of_type d.declared) d.names
 
 abbrev pub is_thin_block : List PlanVariable → List PlanInput → VariableBlock → Bool
 is_thin_block variables inputs b = list_all (is_thin_declaration variables inputs b.section) b.declarations
@@ -86,7 +87,8 @@ is_typed_for variables blocks x e (Some k) = is_variable_of variables k x && is_
 
 -- an assignment of a sum to a variable of its type
 abbrev pub is_typed_stmt : List PlanVariable → List VariableBlock → Stmt → Bool
-is_typed_stmt variables blocks (assign (variable x no_selectors) e) = is_typed_for variables blocks x.name e (kind_in blocks x.name)
+is_typed_stmt variables blocks (assign (variable x no_selectors) e) =
+    is_typed_for variables blocks x.name e (kind_in blocks x.name)
 is_typed_stmt variables blocks _ = false
 
 -- the name is that of no external
@@ -102,7 +104,8 @@ is_program _ = false
 abbrev pub is_short : Name → Bool
 is_short x = nat_lt (length x) 65
 
--- a program whose externals are there, none of them of its own name, and whose body is of assignments, each at most 64 deep
+-- a program whose externals are there, none of them of its own name, and whose body is of assignments, each at most 64
+-- deep
 abbrev pub is_thin_unit : List PlanVariable → List PlanInput → OrganisationUnit → Bool
 is_thin_unit variables inputs u =
     (is_program u.sort && is_short u.name.name)

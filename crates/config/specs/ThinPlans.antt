@@ -1,8 +1,11 @@
--- Thin plans: programs that assign whole numbers, names and their sums to INT and DINT globals, each in a task of its own.
-use Rattle.std.specs.Prelude.{◌≡◌, ℕ, ◌+◌, ◌^◌, ◌==◌, nat_le, nat_lt, max, List, [], ◌∷◌, ◌++◌, length, map, filter, Bool, true, false, not, ◌&&◌, ◌||◌, Option, Some, None, slice_index_or, codes}
+-- Thin plans: programs that assign whole numbers, names and their sums to INT and DINT globals, each in a task of its
+-- own.
+use Rattle.std.specs.Prelude.{◌≡◌, ℕ, ◌+◌, ◌^◌, ◌==◌, nat_le, nat_lt, max, List, [], ◌∷◌, ◌++◌, length, map, filter}
+use Rattle.std.specs.Prelude.{Bool, true, false, not, ◌&&◌, ◌||◌, Option, Some, None, slice_index_or, codes}
 use Rattle.std.specs.List.{list_all}
 use Rattle.std.specs.Fmt.{decimal}
-use Rattle.st_words.specs.declared.limits.TheConstants.{MAX_BUDGET, MAX_NAME_LENGTH, MAX_PATHS, MAX_PROGRAMS, MAX_RECORD_BODY, MAX_RESOURCES, MAX_TASKS}
+use Rattle.st_words.specs.declared.limits.TheConstants.{MAX_BUDGET, MAX_NAME_LENGTH, MAX_PATHS, MAX_PROGRAMS}
+use Rattle.st_words.specs.declared.limits.TheConstants.{MAX_RECORD_BODY, MAX_RESOURCES, MAX_TASKS}
 use Rattle.st_words.specs.declared.kind.Kind.{Kind}
 use Rattle.st_words.specs.declared.kind.Kind.TheVariants.{Int, Uint, Word, Bool as Boolean}
 use Rattle.st_words.specs.declared.path.Owner.{Owner}
@@ -96,7 +99,12 @@ abbrev pub no_unit : OrganisationUnit
 no_unit = record { sort = ProgramSort; name = record { name = []; place = 0 }; blocks = []; body = [] }
 
 abbrev pub program_from : List OrganisationUnit → ℕ → ThinProgram → plans.Program
-program_from units k p = record { resource = p.resource; task = k; code = plain_program (owner_of p.resource k) (slice_index_or units p.unit no_unit) }
+program_from units k p = record {
+  resource = p.resource;
+  task = k;
+  code =
+      plain_program (owner_of p.resource k) (slice_index_or units p.unit no_unit);
+}
 
 -- the programs of resolved units, of which the first is of this number
 abbrev pub programs_from : List OrganisationUnit → ℕ → List ThinProgram → List plans.Program
@@ -119,7 +127,9 @@ thin_plan units variables inputs programs budget = record {
 }
 
 -- There is a plan exactly where the conditions hold, and it is that of its arguments.
-abbrev pub IsThinPlan : List OrganisationUnit → List PlanVariable → List PlanInput → List ThinProgram → ℕ → Option Plan → Type 0
+abbrev pub IsThinPlan : List OrganisationUnit → List PlanVariable → List PlanInput → List ThinProgram → ℕ → Option Plan
+    → Type 0
 IsThinPlan units variables inputs programs budget None = is_thin units variables inputs programs budget ≡ false
 IsThinPlan units variables inputs programs budget (Some plan) =
-    (is_thin units variables inputs programs budget ≡ true) × (plan_view plan ≡ thin_plan units variables inputs programs budget)
+    (is_thin units variables inputs programs budget ≡ true)
+    × (plan_view plan ≡ thin_plan units variables inputs programs budget)

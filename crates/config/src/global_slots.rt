@@ -40,7 +40,8 @@ fn push_declared_names(
     names: &mut Vec<Name>,
     declarations: &[Declaration],
 ) -> Result<(), AllocError>
-    ensures { IfOk result (λ done. names.new.items ≡ names.old.items ++ declared_names (map declaration_view declarations.now)) }
+    ensures { IfOk result
+        (λ done. names.new.items ≡ names.old.items ++ declared_names (map declaration_view declarations.now)) }
 {
     for declaration in declarations {
         push_names(alloc, names, &declaration.names)?;
@@ -89,7 +90,8 @@ fn input_at(inputs: &[PlanInput], name: &Name) -> Option<usize>
 fn slot_of(variables: &[PlanVariable], inputs: &[PlanInput], name: &Name) -> Option<Found>
     ensures { MatchOption result
         (is_named_in variables.now inputs.now name.now ≡ false)
-        (λ slot. slice_get (layout_of variables.now inputs.now) slot.slot ≡ Some (record { path = unowned name.now; is_input = slot.is_input })) }
+        (λ slot. slice_get (layout_of variables.now inputs.now) slot.slot
+        ≡ Some (record { path = unowned name.now; is_input = slot.is_input })) }
 {
     if let Some(slot) = variable_at(variables, name) {
         return Some(Found {

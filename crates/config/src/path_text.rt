@@ -23,7 +23,8 @@ fn push_owner(text: &mut Vec<u8>, owner: &Option<Owner>) -> Result<(), AllocErro
 
 /// A subscript in brackets.
 fn push_subscript(alloc: Global, text: &mut Vec<u8>, subscript: i128) -> Result<(), AllocError>
-    ensures { IfOk result (λ _. text.new.items ≡ text.old.items ++ (codes "[" ++ signed_decimal subscript ++ codes "]")) }
+    ensures { IfOk result
+        (λ _. text.new.items ≡ text.old.items ++ (codes "[" ++ signed_decimal subscript ++ codes "]")) }
 {
     let subscript = format!(in alloc; "[{subscript}]")?;
     text.extend_from_slice(subscript.as_bytes())

@@ -7,7 +7,8 @@ ghost use Rattle.st_types.specs.Scopes.{contains_name};
 ghost use Rattle.st_plans.specs.Layouts.{record_length};
 ghost use Rattle.config.specs.Thin.{is_thin_unit};
 ghost use Rattle.config.specs.Sound.{are_different};
-ghost use Rattle.config.specs.ThinPlans.{is_word_byte, is_name, is_global, is_thin_variable, is_input_kind, is_thin_input, names_of, is_thin_program, programs_on, is_within, is_thin};
+ghost use Rattle.config.specs.ThinPlans.{is_word_byte, is_name, is_global, is_thin_variable, is_input_kind};
+ghost use Rattle.config.specs.ThinPlans.{is_thin_input, names_of, is_thin_program, programs_on, is_within, is_thin};
 
 use crate::record_length::record_length;
 use crate::thin_program::ThinProgram;
@@ -168,10 +169,12 @@ fn are_thin_variables(variables: &[PlanVariable]) -> bool
     variables.iter().all(|v| is_thin_variable(v))
 }
 
-/// Whether a record of these variables would be longer than 131,059 bytes. It is told of at most 4,096 variables of a thin plan alone.
+/// Whether a record of these variables would be longer than 131,059 bytes. It is told of at most 4,096 variables of a
+/// thin plan alone.
 pub fn has_long_record(variables: &[PlanVariable]) -> bool
     ensures long { result ≡ true → MAX_RECORD_BODY < record_length variables.now }
-    ensures short { result ≡ false → length variables.now ≤ MAX_PATHS → list_all is_thin_variable variables.now ≡ true → record_length variables.now ≤ MAX_RECORD_BODY }
+    ensures short { result ≡ false → length variables.now ≤ MAX_PATHS → list_all is_thin_variable variables.now ≡ true
+        → record_length variables.now ≤ MAX_RECORD_BODY }
 {
     if variables.len() > MAX_PATHS || !are_thin_variables(variables) {
         return false;
@@ -207,7 +210,8 @@ pub fn is_thin(
     programs: &[ThinProgram],
     budget: u32,
 ) -> Result<bool, AllocError>
-    ensures { IfOk result (λ answer. answer ≡ is_thin (map unit_view units.now) variables.now inputs.now programs.now budget) }
+    ensures { IfOk result
+        (λ answer. answer ≡ is_thin (map unit_view units.now) variables.now inputs.now programs.now budget) }
 {
     if !are_thin_variables(variables) {
         return Ok(false);

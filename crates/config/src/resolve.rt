@@ -19,13 +19,15 @@ use st_words::{Kind, Literal, Number};
 
 /// Gives each untyped literal of a program its type: that of the variable that is assigned.
 pub fn resolve(unit: &mut Unit)
-    ensures { (variables : List PlanVariable) (inputs : List PlanInput) (text : Declared) → is_thin_unit variables inputs (unit_view unit.old) ≡ true → unit_view unit.new ≡ resolved text (unit_view unit.old) }
+    ensures { (variables : List PlanVariable) (inputs : List PlanInput) (text : Declared) → is_thin_unit variables
+        inputs (unit_view unit.old) ≡ true → unit_view unit.new ≡ resolved text (unit_view unit.old) }
 {
     fill_statements(&unit.blocks, &mut unit.body);
 }
 
 fn fill_statements(blocks: &[VariableBlock], statements: &mut [Stmt])
-    ensures { map stmt_view statements.new ≡ map (filled_stmt (map variable_block_view blocks.now)) (map stmt_view statements.old) }
+    ensures { map stmt_view statements.new
+        ≡ map (filled_stmt (map variable_block_view blocks.now)) (map stmt_view statements.old) }
 {
     for statement in statements.iter_mut() {
         fill_statement(blocks, statement);

@@ -12,7 +12,8 @@ ghost use Rattle.config.specs.Thin.{is_thin_unit};
 ghost use Rattle.config.specs.GlobalSlots.{HaveSlots};
 ghost use Rattle.config.specs.PlanViews.{program_view, plan_view};
 ghost use Rattle.config.specs.ThinParts.{task_in, units_in};
-ghost use Rattle.config.specs.ThinPlans.{resources_of, is_thin_program, program_from, programs_from, is_thin, thin_plan, IsThinPlan};
+ghost use Rattle.config.specs.ThinPlans.{resources_of, is_thin_program, program_from, programs_from, is_thin};
+ghost use Rattle.config.specs.ThinPlans.{thin_plan, IsThinPlan};
 
 use crate::global_slots::{externals_in, slots_of};
 use crate::instance_name::owner_of;
@@ -88,8 +89,10 @@ fn thin_units(
 ) -> Result<Vec<ThinUnit>, AllocError>
     requires thin { list_all (is_thin_unit variables.now inputs.now) (map unit_view units.items) ≡ true }
     requires layout { IsLayout (layout_of variables.now inputs.now) }
-    ensures units { (text : Declared) → IfOk result (λ us. units_in us.items ≡ map (resolved text) (map unit_view units.items)) }
-    ensures slots { IfOk result (λ us. All (λ u. HaveSlots (layout_of variables.now inputs.now) u.globals.items) us.items) }
+    ensures units { (text : Declared)
+        → IfOk result (λ us. units_in us.items ≡ map (resolved text) (map unit_view units.items)) }
+    ensures slots { IfOk result
+        (λ us. All (λ u. HaveSlots (layout_of variables.now inputs.now) u.globals.items) us.items) }
 {
     let mut resolved = Vec::new(alloc);
     for unit in units {
@@ -107,7 +110,8 @@ fn program_of(
 ) -> Result<Program, AllocError>
     requires there { program.unit < length units.now }
     ensures view { IfOk result (λ p. program_view p ≡ program_from (units_in units.now) number program) }
-    ensures slots { (layout : List Slot) → All (λ u. HaveSlots layout u.globals.items) units.now → IfOk result (λ p. HaveSlots layout p.code.value.globals.items) }
+    ensures slots { (layout : List Slot) → All (λ u. HaveSlots layout u.globals.items) units.now
+        → IfOk result (λ p. HaveSlots layout p.code.value.globals.items) }
 {
     let unit = &units[program.unit];
     let code = Code {
@@ -131,7 +135,8 @@ fn programs_of(
 ) -> Result<Vec<Program>, AllocError>
     requires there { list_all (is_thin_program (length units.now)) programs.now ≡ true }
     ensures views { IfOk result (λ ps. map program_view ps.items ≡ programs_from (units_in units.now) 0 programs.now) }
-    ensures slots { (layout : List Slot) → All (λ u. HaveSlots layout u.globals.items) units.now → IfOk result (λ ps. All (λ p. HaveSlots layout p.code.value.globals.items) ps.items) }
+    ensures slots { (layout : List Slot) → All (λ u. HaveSlots layout u.globals.items) units.now
+        → IfOk result (λ ps. All (λ p. HaveSlots layout p.code.value.globals.items) ps.items) }
 {
     let mut made = Vec::new(alloc);
     for k in 0..programs.len() {
@@ -150,7 +155,8 @@ fn plan_of(
     budget: u32,
 ) -> Result<Plan, AllocError>
     requires thin { is_thin (map unit_view units.items) variables.items inputs.items programs.now budget ≡ true }
-    ensures { IfOk result (λ p. plan_view p ≡ thin_plan (map unit_view units.items) variables.items inputs.items programs.now budget) }
+    ensures { IfOk result
+        (λ p. plan_view p ≡ thin_plan (map unit_view units.items) variables.items inputs.items programs.now budget) }
 {
     let units = thin_units(alloc, units, &variables, &inputs)?;
     let resources = resources_of(programs);
@@ -167,12 +173,13 @@ fn plan_of(
 }
 
 impl Plan {
-    /// The plan of programs that assign whole numbers, names and their sums to INT and DINT globals, each in a task of its own
-    /// with this INTERVAL and PRIORITY 0. Resource number i is named Ri, and the program of number k is the instance Pk.
+    /// The plan of programs that assign whole numbers, names and their sums to INT and DINT globals, each in a task of
+    /// its own with this INTERVAL and PRIORITY 0. Resource number i is named Ri, and the program of number k is the
+    /// instance Pk.
     ///
-    /// There is none where two globals bear one name or a name is not 1 to 64 capital letters, digits and underscores, where a name stands for no
-    /// global of its type or a literal is outside its type, where a unit or a declaration is of another form, and where a limit of
-    /// the language is passed. The only error is out of memory.
+    /// There is none where two globals bear one name or a name is not 1 to 64 capital letters, digits and underscores,
+    /// where a name stands for no global of its type or a literal is outside its type, where a unit or a declaration is
+    /// of another form, and where a limit of the language is passed. The only error is out of memory.
     pub fn thin(
         alloc: Global,
         units: Vec<Unit>,
@@ -181,7 +188,8 @@ impl Plan {
         programs: Vec<ThinProgram>,
         budget: u32,
     ) -> Result<Option<Plan>, AllocError>
-        ensures { IfOk result (IsThinPlan (map unit_view units.items) variables.items inputs.items programs.items budget) }
+        ensures { IfOk result
+            (IsThinPlan (map unit_view units.items) variables.items inputs.items programs.items budget) }
     {
         if is_thin(alloc, &units, &variables, &inputs, &programs, budget)? {
             let plan = plan_of(alloc, units, variables, inputs, &programs, budget)?;

@@ -8,7 +8,9 @@ ghost use Rattle.st_trees.specs.DeclarationViews.{declaration_view, variable_blo
 ghost use Rattle.st_trees.specs.Depths.{depth_of_stmt};
 ghost use Rattle.st_trees.specs.UnitViews.{unit_view};
 ghost use Rattle.st_types.specs.NameTypes.{kind_of_type, type_in, type_in_blocks, is_named};
-ghost use Rattle.config.specs.Thin.{is_thin_kind, is_variable_of, is_input_of, is_there, are_there, is_absent, is_thin_declaration, is_thin_block, kind_in, is_of, is_of_or_none, is_literal_of, is_typed, is_typed_for, is_typed_stmt, is_program, is_short, is_thin_unit};
+ghost use Rattle.config.specs.Thin.{is_thin_kind, is_variable_of, is_input_of, is_there, are_there, is_absent};
+ghost use Rattle.config.specs.Thin.{is_thin_declaration, is_thin_block, kind_in, is_of, is_of_or_none, is_literal_of};
+ghost use Rattle.config.specs.Thin.{is_typed, is_typed_for, is_typed_stmt, is_program, is_short, is_thin_unit};
 
 use crate::global_path::is_global_of;
 use crate::lookup::kind_in;
@@ -98,7 +100,8 @@ fn are_thin_declarations(
     section: Section,
     declarations: &[Declaration],
 ) -> bool
-    ensures { result ≡ list_all (λ d. is_thin_declaration variables.now inputs.now section (declaration_view d)) declarations.now }
+    ensures { result
+        ≡ list_all (λ d. is_thin_declaration variables.now inputs.now section (declaration_view d)) declarations.now }
 {
     declarations
         .iter()
@@ -179,7 +182,8 @@ fn are_thin_blocks(
 }
 
 fn are_typed(variables: &[PlanVariable], blocks: &[VariableBlock], statements: &[Stmt]) -> bool
-    ensures { result ≡ list_all (λ x. is_typed_stmt variables.now (map variable_block_view blocks.now) (stmt_view x)) statements.now }
+    ensures { result ≡ list_all (λ x. is_typed_stmt variables.now (map variable_block_view blocks.now) (stmt_view x))
+        statements.now }
 {
     statements
         .iter()

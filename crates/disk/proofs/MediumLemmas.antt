@@ -1,5 +1,6 @@
 -- What a stop may leave of a medium after a write comes of what it might have left before, and the other way round.
-use Rattle.std.proofs.Common.{◌≡◌, ◌⊎◌, inl, inr, ℕ, zero, suc, ◌+◌, ◌-◌, ◌<◌, ◌≤◌, min, Bool, true, false, List, [], ◌∷◌, length, get_or, take, replicate, refl, sym, ◌∙◌, arith, length-take}
+use Rattle.std.proofs.Common.{◌≡◌, ◌⊎◌, inl, inr, ℕ, zero, suc, ◌+◌, ◌-◌, ◌<◌, ◌≤◌, min, Bool, true, false, List, []}
+use Rattle.std.proofs.Common.{◌∷◌, length, get_or, take, replicate, refl, sym, ◌∙◌, arith, length-take}
 use Rattle.std.proofs.lemmas.Bool.{cases_lt}
 use Rattle.std.proofs.lemmas.List.{get_or-take, get_or_past, get_or-replicate, ext_get_or, length-replicate}
 use Rattle.disk.specs.Disk.{Torn, Follows, Admits, Only}
@@ -22,7 +23,8 @@ length-mix (true ∷ bs) (x ∷ xs) (y ∷ ys) k = omega (arith, length-mix bs x
 length-mix (false ∷ bs) (x ∷ xs) (y ∷ ys) k = omega (arith, length-mix bs xs ys (omega arith))
 
 mix_at : (bs : List Bool) (xs ys : List ℕ) (i : ℕ) → length xs ≤ length ys → i < length xs
-    → ((get_or bs i true ≡ true) × (get_or (mix bs xs ys) i 0 ≡ get_or xs i 0)) ⊎ ((get_or bs i true ≡ false) × (get_or (mix bs xs ys) i 0 ≡ get_or ys i 0))
+    → ((get_or bs i true ≡ true) × (get_or (mix bs xs ys) i 0 ≡ get_or xs i 0))
+    ⊎ ((get_or bs i true ≡ false) × (get_or (mix bs xs ys) i 0 ≡ get_or ys i 0))
 mix_at [] xs ys i k l = inl (refl, refl)
 mix_at (b ∷ bs) [] ys i k l = absurd (omega arith)
 mix_at (b ∷ bs) (x ∷ xs) [] i k l = absurd (omega arith)
@@ -47,12 +49,14 @@ module _ (medium : MediumView) (at : ℕ) (bytes : List ℕ) where
   same_synced_len : synced_len (with_write medium at bytes) ≡ synced_len medium
   same_synced_len = omega (arith, length-put_over 0 0 medium.file at bytes)
 
-  same_flag : (i : ℕ) → IsOutside at (length bytes) i → get_or (with_write medium at bytes).written i true ≡ get_or medium.written i true
+  same_flag : (i : ℕ) → IsOutside at (length bytes) i
+      → get_or (with_write medium at bytes).written i true ≡ get_or medium.written i true
   unfolding flags
   same_flag i outside = elim outside [
     | inl under ↦ elim (cases_lt i (length medium.written)) [
       | inl low ↦ put_over_before true true medium.written at flags i under low
-      | inr past ↦ put_over_gap true true medium.written at flags i past under ∙ sym (get_or_past medium.written i true past)
+      | inr past ↦ put_over_gap true true medium.written at flags i past under
+          ∙ sym (get_or_past medium.written i true past)
     ]
     | inr over ↦ put_over_behind true true medium.written at flags i (omega (arith, length-flags, over))
   ]
@@ -74,20 +78,23 @@ module _ (medium : MediumView) (at : ℕ) (bytes : List ℕ) where
     ]
   ]
 
-  same_byte : (i : ℕ) → IsOutside at (length bytes) i → i < length medium.file → get_or (with_write medium at bytes).file i 0 ≡ get_or medium.file i 0
+  same_byte : (i : ℕ) → IsOutside at (length bytes) i → i < length medium.file
+      → get_or (with_write medium at bytes).file i 0 ≡ get_or medium.file i 0
   same_byte i outside low = elim outside [
     | inl under ↦ put_over_before 0 0 medium.file at bytes i under low
     | inr over ↦ put_over_behind 0 0 medium.file at bytes i over
   ]
 
-  same_torn : (old new : List ℕ) → Torn at (length bytes) old new → (i : ℕ) → IsOutside at (length bytes) i → i < length old → get_or new i 0 ≡ get_or old i 0
+  same_torn : (old new : List ℕ) → Torn at (length bytes) old new → (i : ℕ) → IsOutside at (length bytes) i
+      → i < length old → get_or new i 0 ≡ get_or old i 0
   same_torn old new torn i outside low = elim outside [
     | inl under ↦ torn.before i low under
     | inr over ↦ torn.behind i low over
   ]
 
   -- each file that comes of an old one by a torn write is one of the new
-  pub admits : ((i : ℕ) → synced_len medium ≤ i → get_or medium.written i true ≡ true) → Admits (Torn at (length bytes)) (MayLeave medium) (MayLeave (with_write medium at bytes))
+  pub admits : ((i : ℕ) → synced_len medium ≤ i → get_or medium.written i true ≡ true)
+      → Admits (Torn at (length bytes)) (MayLeave medium) (MayLeave (with_write medium at bytes))
   admits appended from file left torn = record {
     no_shorter = omega (arith, same_synced_len, left.no_shorter, torn.no_shorter);
     no_longer = omega (arith, length-put_over 0 0 medium.file at bytes, left.no_longer, torn.no_longer);
@@ -109,13 +116,17 @@ module _ (medium : MediumView) (at : ℕ) (bytes : List ℕ) where
 
     size : length from ≡ min (length medium.file) (length left)
     unfolding from
-    size = length-mix medium.written (take (length medium.file) left) medium.file (omega (arith, length-take (length medium.file) left)) ∙ length-take (length medium.file) left
+    size = length-mix medium.written (take (length medium.file) left) medium.file
+        (omega (arith, length-take (length medium.file) left)) ∙ length-take (length medium.file) left
 
-    at_place : (i : ℕ) → i < length from → ((get_or medium.written i true ≡ true) × (get_or from i 0 ≡ get_or left i 0)) ⊎ ((get_or medium.written i true ≡ false) × (get_or from i 0 ≡ get_or medium.file i 0))
+    at_place : (i : ℕ) → i < length from → ((get_or medium.written i true ≡ true) × (get_or from i 0 ≡ get_or left i 0))
+        ⊎ ((get_or medium.written i true ≡ false) × (get_or from i 0 ≡ get_or medium.file i 0))
     unfolding from
     at_place i low =
-        let inside : i < length (take (length medium.file) left) = omega (arith, size, length-take (length medium.file) left) in
-        elim (mix_at medium.written (take (length medium.file) left) medium.file i (omega (arith, length-take (length medium.file) left)) inside) [
+        let inside : i < length (take (length medium.file) left) =
+        omega (arith, size, length-take (length medium.file) left) in
+        elim (mix_at medium.written (take (length medium.file) left) medium.file i
+        (omega (arith, length-take (length medium.file) left)) inside) [
           | inl here ↦ inl (here.0, here.1 ∙ get_or-take (length medium.file) left i 0 (omega (arith, size)))
           | inr here ↦ inr here
         ]
@@ -123,7 +134,8 @@ module _ (medium : MediumView) (at : ℕ) (bytes : List ℕ) where
     same : (i : ℕ) → i < length from → IsOutside at (length bytes) i → get_or left i 0 ≡ get_or from i 0
     same i low outside = elim (at_place i low) [
       | inl here ↦ sym here.1
-      | inr here ↦ may.kept i (omega (arith, size)) (same_flag i outside ∙ here.0) ∙ same_byte i outside (omega (arith, size)) ∙ sym here.1
+      | inr here ↦ may.kept i (omega (arith, size)) (same_flag i outside ∙ here.0)
+          ∙ same_byte i outside (omega (arith, size)) ∙ sym here.1
     ]
 
     kept : (i : ℕ) → i < length from → IsSynced medium i → get_or from i 0 ≡ get_or medium.file i 0
@@ -135,7 +147,11 @@ module _ (medium : MediumView) (at : ℕ) (bytes : List ℕ) where
     came : (old : List ℕ) × MayLeave medium old × Torn at (length bytes) old left
     came = (
       from,
-      record { no_shorter = omega (arith, size, same_synced_len, may.no_shorter); no_longer = omega (arith, size); kept = kept },
+      record {
+        no_shorter = omega (arith, size, same_synced_len, may.no_shorter);
+        no_longer = omega (arith, size);
+        kept = kept;
+      },
       record {
         no_shorter = omega (arith, size);
         no_longer = omega (arith, size, may.no_longer, length-put_over 0 0 medium.file at bytes);
@@ -150,10 +166,12 @@ module _ (medium : MediumView) (at : ℕ) (bytes : List ℕ) where
 
 -- a stop leaves only the file where all of it is synced
 pub only : (file : List ℕ) (room : ℕ) → Only file (MayLeave (all_synced file room))
-only file room left may = ext_get_or 0 left file (omega (arith, may.no_shorter, may.no_longer)) (λ i low. may.kept i low (get_or-replicate (length file) i false true (omega (arith, may.no_longer))))
+only file room left may = ext_get_or 0 left file (omega (arith, may.no_shorter, may.no_longer))
+    (λ i low. may.kept i low (get_or-replicate (length file) i false true (omega (arith, may.no_longer))))
 
 -- what a stop leaves that was told how is one of the files that it may leave
-pub may_be_left : (medium : MediumView) (torn : List ℕ) (len : ℕ) (left : List ℕ) → IsLeft medium torn len left → MayLeave medium left
+pub may_be_left : (medium : MediumView) (torn : List ℕ) (len : ℕ) (left : List ℕ) → IsLeft medium torn len left
+    → MayLeave medium left
 may_be_left medium torn len left is = record {
   no_shorter = omega (arith, is.moved);
   no_longer = omega (arith, is.moved);

@@ -1,5 +1,6 @@
 -- What a stop may leave after a write of a simulated disk.
-use Rattle.std.proofs.Common.{◌≡◌, ◌⊎◌, inl, inr, ℕ, ◌+◌, ◌%◌, ◌^◌, ◌≤◌, Bool, true, false, not, ◌&&◌, ◌||◌, if◌then◌else◌, is_ok, Result, Ok, Err, List, length, refl, sym, ap, subst, OnOk, OnErr}
+use Rattle.std.proofs.Common.{◌≡◌, ◌⊎◌, inl, inr, ℕ, ◌+◌, ◌%◌, ◌^◌, ◌≤◌, Bool, true, false, not, ◌&&◌, ◌||◌}
+use Rattle.std.proofs.Common.{if◌then◌else◌, is_ok, Result, Ok, Err, List, length, refl, sym, ap, subst, OnOk, OnErr}
 use Rattle.disk.specs.Disk.{Torn, Follows, Admits, Within, Counts, overwritten}
 use Rattle.disk.specs.Medium.{MediumView, MayLeave, synced_len, with_write, IsWritten}
 use Rattle.disk.specs.Simulated.{SimView, answer_of, works, is_stop, is_failing, has_room, after_write, counted}
@@ -7,7 +8,8 @@ use Rattle.disk.specs.Runs.{torn_none}
 use Rattle.disk.proofs.MediumLemmas.{admits, follows}
 
 -- what holds of a call that works and can be done
-on_ok : (works possible : Bool) (P : Type 0) → (works ≡ true → possible ≡ true → P) → OnOk (answer_of {T = Unit {0}} works possible tt) P
+on_ok : (works possible : Bool) (P : Type 0) → (works ≡ true → possible ≡ true → P)
+    → OnOk (answer_of {T = Unit {0}} works possible tt) P
 on_ok true true P holds = holds refl refl
 on_ok true false P holds = tt
 on_ok false possible P holds = tt
@@ -23,7 +25,8 @@ on_err (Ok value) P holds = tt
 on_err (Err error) P holds = holds
 
 -- an error counts as one
-counts : {T E : Type 0} (result : Result T E) (old new : ℕ) → new ≡ old → Counts result old (if is_ok result then new else (new + 1) % 2 ^ 64)
+counts : {T E : Type 0} (result : Result T E) (old new : ℕ) → new ≡ old
+    → Counts result old (if is_ok result then new else (new + 1) % 2 ^ 64)
 counts (Ok value) old new same = record { same = same; more = tt }
 counts (Err error) old new same = record { same = tt; more = ap (λ (n : ℕ). (n + 1) % 2 ^ 64) same }
 
@@ -50,15 +53,24 @@ module _ (disk : SimView) (at : ℕ) (bytes : List ℕ) where
   -- one that succeeds does
   reached : works disk ≡ true → has_room disk at (length bytes) ≡ true → reaches ≡ true
   unfolding reaches
-  reached works room = rw (room, not_stopped disk.stopped (is_stop disk.stop disk.step) (is_failing disk.failing disk.step) works) refl
+  reached works room =
+      rw (room, not_stopped disk.stopped (is_stop disk.stop disk.step) (is_failing disk.failing disk.step) works) refl
 
-  pub seen_write : OnOk (answer_of {T = Unit {0}} (works disk) (has_room disk at (length bytes)) tt) ((after_write disk at bytes).medium.file ≡ overwritten disk.medium.file at bytes)
-  seen_write = on_ok _ _ _ (λ works room. ap (λ (medium : MediumView). medium.file) (after_reached (reached works room)))
+  pub seen_write : OnOk (answer_of {T = Unit {0}} (works disk) (has_room disk at (length bytes)) tt)
+      ((after_write disk at bytes).medium.file ≡ overwritten disk.medium.file at bytes)
+  seen_write =
+      on_ok _ _ _ (λ works room. ap (λ (medium : MediumView). medium.file) (after_reached (reached works room)))
 
-  pub follows_write : Follows (Torn at (length bytes)) (MayLeave disk.medium) (MayLeave (after_write disk at bytes).medium)
+  pub follows_write :
+      Follows (Torn at (length bytes)) (MayLeave disk.medium) (MayLeave (after_write disk at bytes).medium)
   follows_write = elim cases [
-    | inl is ↦ λ file left. follows disk.medium at bytes file (subst (λ (medium : MediumView). MayLeave medium file) (after_reached is) left)
-    | inr is ↦ λ file left. (file, subst (λ (medium : MediumView). MayLeave medium file) (after_kept is) left, torn_none at (length bytes) file file refl)
+    | inl is ↦ λ file left. follows disk.medium at bytes file
+        (subst (λ (medium : MediumView). MayLeave medium file) (after_reached is) left)
+    | inr is ↦ λ file left. (
+      file,
+      subst (λ (medium : MediumView). MayLeave medium file) (after_kept is) left,
+      torn_none at (length bytes) file file refl,
+    )
   ]
 
   same_failures : (b : Bool) → reaches ≡ b → (after_write disk at bytes).failures ≡ disk.failures
@@ -67,18 +79,26 @@ module _ (disk : SimView) (at : ℕ) (bytes : List ℕ) where
   same_failures false is = rw is refl
 
   -- a write that fails counts as one
-  pub counts_write : Counts (answer_of {T = Unit {0}} (works disk) (has_room disk at (length bytes)) tt) disk.failures (counted (answer_of {T = Unit {0}} (works disk) (has_room disk at (length bytes)) tt) (after_write disk at bytes)).failures
+  pub counts_write :
+      Counts (answer_of {T = Unit {0}} (works disk) (has_room disk at (length bytes)) tt) disk.failures (counted
+      (answer_of {T = Unit {0}} (works disk) (has_room disk at (length bytes)) tt) (after_write disk at bytes)).failures
   counts_write = counts _ _ _ (elim cases [ inl is ↦ same_failures true is | inr is ↦ same_failures false is ])
 
   module _ (appended : (i : ℕ) → synced_len disk.medium ≤ i → IsWritten disk.medium i) where
-    admits_write : reaches ≡ true → Admits (Torn at (length bytes)) (MayLeave disk.medium) (MayLeave (after_write disk at bytes).medium)
-    admits_write is from file left torn = subst (λ (medium : MediumView). MayLeave medium file) (sym (after_reached is)) (admits disk.medium at bytes appended from file left torn)
+    admits_write : reaches ≡ true
+        → Admits (Torn at (length bytes)) (MayLeave disk.medium) (MayLeave (after_write disk at bytes).medium)
+    admits_write is from file left torn = subst (λ (medium : MediumView). MayLeave medium file) (sym (after_reached is))
+        (admits disk.medium at bytes appended from file left torn)
 
-    pub widens_write : OnOk (answer_of {T = Unit {0}} (works disk) (has_room disk at (length bytes)) tt) (Admits (Torn at (length bytes)) (MayLeave disk.medium) (MayLeave (after_write disk at bytes).medium))
+    pub widens_write : OnOk (answer_of {T = Unit {0}} (works disk) (has_room disk at (length bytes)) tt)
+        (Admits (Torn at (length bytes)) (MayLeave disk.medium) (MayLeave (after_write disk at bytes).medium))
     widens_write = on_ok _ _ _ (λ works room. admits_write (reached works room))
 
-    pub widens_or_keeps_write : Admits (Torn at (length bytes)) (MayLeave disk.medium) (MayLeave (after_write disk at bytes).medium)
-        ⊎ (((after_write disk at bytes).medium.file ≡ disk.medium.file) × Within (MayLeave disk.medium) (MayLeave (after_write disk at bytes).medium) × Within (MayLeave (after_write disk at bytes).medium) (MayLeave disk.medium))
+    pub widens_or_keeps_write :
+        Admits (Torn at (length bytes)) (MayLeave disk.medium) (MayLeave (after_write disk at bytes).medium)
+        ⊎ (((after_write disk at bytes).medium.file ≡ disk.medium.file)
+        × Within (MayLeave disk.medium) (MayLeave (after_write disk at bytes).medium)
+        × Within (MayLeave (after_write disk at bytes).medium) (MayLeave disk.medium))
     widens_or_keeps_write = elim cases [
       | inl is ↦ inl (admits_write is)
       | inr is ↦ inr (

@@ -1,5 +1,6 @@
 -- What the calls of a disk do to its file, and what a stop may do to it between two syncs.
-use Rattle.std.specs.Prelude.{◌≡◌, ◌⊎◌, ◌<◌, ◌≤◌, ◌+◌, ◌-◌, ◌%◌, ◌^◌, ℕ, max, List, ◌++◌, length, take, drop, slice_index, replicate, Result, OnOk, OnErr}
+use Rattle.std.specs.Prelude.{◌≡◌, ◌⊎◌, ◌<◌, ◌≤◌, ◌+◌, ◌-◌, ◌%◌, ◌^◌, ℕ, max, List, ◌++◌, length, take, drop}
+use Rattle.std.specs.Prelude.{slice_index, replicate, Result, OnOk, OnErr}
 
 -- a list after these elements are put at this place, with a filler in a gap before them
 abbrev pub put_over : {X : Type 0} → X → List X → ℕ → List X → List X
@@ -36,11 +37,14 @@ Only one files = (file : List ℕ) → files file → file ≡ one
 -- a write that failed, by the file that a read gives and the files that a stop may leave: it widens these just as one
 -- that succeeds, or it was refused and changes nothing
 abbrev pub WidensOrKeeps : (List ℕ → List ℕ → Type 0) → List ℕ → List ℕ → (List ℕ → Type 0) → (List ℕ → Type 0) → Type 0
-WidensOrKeeps step old_file new_file old new = Admits step old new ⊎ ((new_file ≡ old_file) × Within old new × Within new old)
+WidensOrKeeps step old_file new_file old new =
+    Admits step old new ⊎ ((new_file ≡ old_file) × Within old new × Within new old)
 
--- Time goes on by a call: since any moment a stop might have left what it might have left before, or what it may leave now.
+-- Time goes on by a call: since any moment a stop might have left what it might have left before, or what it may leave
+-- now.
 abbrev pub NothingElse : {D : Type 0} → (D → D → List ℕ → Type 0) → (D → List ℕ → Type 0) → D → D → Type 0
-NothingElse {D} left_since may_leave old new = (then : D) (file : List ℕ) → left_since then new file → left_since then old file ⊎ may_leave new file
+NothingElse {D} left_since may_leave old new = (then : D) (file : List ℕ) → left_since then new file
+    → left_since then old file ⊎ may_leave new file
 
 -- an error adds one to the count, from the greatest number to 0, and nothing else changes it
 pub record Counts {T E : Type 0} (result : Result T E) (old new : ℕ) : Type 0 where

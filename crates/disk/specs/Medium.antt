@@ -1,5 +1,6 @@
 -- What is on a simulated disk, what a stop may leave of it, and what a stop leaves that was told how.
-use Rattle.std.specs.Prelude.{◌≡◌, ◌≢◌, ◌≤◌, ◌<◌, ◌+◌, ◌-◌, ◌%◌, ℕ, min, max, List, [], length, take, slice_index, slice_index_or, count_by, replicate, Bool, true, false}
+use Rattle.std.specs.Prelude.{◌≡◌, ◌≢◌, ◌≤◌, ◌<◌, ◌+◌, ◌-◌, ◌%◌, ℕ, min, max, List, [], length, take, slice_index}
+use Rattle.std.specs.Prelude.{slice_index_or, count_by, replicate, Bool, true, false}
 use Rattle.std.proofs.Common.{arith, refl}
 use Rattle.disk.specs.Disk.{overwritten, put_over}
 
@@ -57,8 +58,10 @@ pub record MayLeave (medium : MediumView) (left : List ℕ) : Type 0 where
 -- span from the synced length to the current one; all else is as synced.
 pub record IsLeft (medium : MediumView) (torn : List ℕ) (len : ℕ) (left : List ℕ) : Type 0 where
   pub moved : length left ≡ max (synced_len medium) (min len (length medium.file))
-  pub chosen : torn ≢ [] → (i : ℕ) → i < length left → IsWritten medium i → slice_index left i ≡ torn_byte torn (rank medium i)
-  pub as_written : torn ≡ [] → (i : ℕ) → i < length left → IsWritten medium i → slice_index left i ≡ slice_index medium.file i
+  pub chosen : torn ≢ [] → (i : ℕ) → i < length left → IsWritten medium i
+      → slice_index left i ≡ torn_byte torn (rank medium i)
+  pub as_written : torn ≡ [] → (i : ℕ) → i < length left → IsWritten medium i
+      → slice_index left i ≡ slice_index medium.file i
   pub kept : (i : ℕ) → i < length left → IsSynced medium i → slice_index left i ≡ slice_index medium.file i
 
 -- what a medium keeps: a flag for each byte, and each appended one counts as written

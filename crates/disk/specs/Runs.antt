@@ -4,7 +4,8 @@ use Rattle.std.proofs.Common.{inl, inr, ⊎_elim, subst, sym, ap, arith}
 use Rattle.disk.specs.Disk.{NothingElse, Torn, Follows, Within, Only}
 
 -- A stop at any moment from the old state to the new one leaves a file that has P.
-pub record LeavesOnly {D : Type 0} (left_since : D → D → List ℕ → Type 0) (may_leave : D → List ℕ → Type 0) (old new : D) (P : List ℕ → Type 0) : Type 0 where
+pub record LeavesOnly {D : Type 0} (left_since : D → D → List ℕ → Type 0) (may_leave : D → List ℕ → Type 0)
+    (old new : D) (P : List ℕ → Type 0) : Type 0 where
   pub each : (file : List ℕ) → left_since old new file → P file
   -- after it too
   pub now : (file : List ℕ) → may_leave new file → P file
@@ -22,7 +23,8 @@ torn_none at n old new same = record {
 
 module _ {D : Type 0} (left_since : D → D → List ℕ → Type 0) (may_leave : D → List ℕ → Type 0) where
   -- before the first call
-  pub started : (old : D) (P : List ℕ → Type 0) → ((file : List ℕ) → left_since old old file → may_leave old file) → ((file : List ℕ) → may_leave old file → P file) → LeavesOnly left_since may_leave old old P
+  pub started : (old : D) (P : List ℕ → Type 0) → ((file : List ℕ) → left_since old old file → may_leave old file)
+      → ((file : List ℕ) → may_leave old file → P file) → LeavesOnly left_since may_leave old old P
   started old P only_now here = record {
     each = λ file left. here file (only_now file left);
     now = here;
@@ -30,7 +32,9 @@ module _ {D : Type 0} (left_since : D → D → List ℕ → Type 0) (may_leave 
   }
 
   -- one call more, after which a stop leaves what has P
-  pub goes_on : (old mid new : D) (P : List ℕ → Type 0) → LeavesOnly left_since may_leave old mid P → NothingElse left_since may_leave mid new → ((file : List ℕ) → may_leave new file → P file) → LeavesOnly left_since may_leave old new P
+  pub goes_on : (old mid new : D) (P : List ℕ → Type 0) → LeavesOnly left_since may_leave old mid P
+      → NothingElse left_since may_leave mid new → ((file : List ℕ) → may_leave new file → P file)
+      → LeavesOnly left_since may_leave old new P
   goes_on old mid new P so_far past here = record {
     each = λ file left. ⊎_elim (so_far.each file) (here file) (past old file left);
     now = here;
@@ -38,15 +42,19 @@ module _ {D : Type 0} (left_since : D → D → List ℕ → Type 0) (may_leave 
   }
 
   -- one run after another
-  pub joins : (old mid new : D) (P Q : List ℕ → Type 0) → LeavesOnly left_since may_leave old mid P → LeavesOnly left_since may_leave mid new Q → ((file : List ℕ) → Q file → P file) → LeavesOnly left_since may_leave old new P
+  pub joins : (old mid new : D) (P Q : List ℕ → Type 0) → LeavesOnly left_since may_leave old mid P
+      → LeavesOnly left_since may_leave mid new Q → ((file : List ℕ) → Q file → P file)
+      → LeavesOnly left_since may_leave old new P
   joins old mid new P Q first second weaker = record {
     each = λ file left. ⊎_elim (first.each file) (weaker file) (second.before old file left);
     now = λ file left. weaker file (second.now file left);
-    before = λ then file left. ⊎_elim (first.before then file) (λ q. inr (weaker file q)) (second.before then file left);
+    before =
+        λ then file left. ⊎_elim (first.before then file) (λ q. inr (weaker file q)) (second.before then file left);
   }
 
   -- what follows of P
-  pub weakens : (old new : D) (P Q : List ℕ → Type 0) → LeavesOnly left_since may_leave old new P → ((file : List ℕ) → P file → Q file) → LeavesOnly left_since may_leave old new Q
+  pub weakens : (old new : D) (P Q : List ℕ → Type 0) → LeavesOnly left_since may_leave old new P
+      → ((file : List ℕ) → P file → Q file) → LeavesOnly left_since may_leave old new Q
   weakens old new P Q run weaker = record {
     each = λ file left. weaker file (run.each file left);
     now = λ file left. weaker file (run.now file left);
@@ -54,21 +62,31 @@ module _ {D : Type 0} (left_since : D → D → List ℕ → Type 0) (may_leave 
   }
 
   -- what a stop may leave after a write over a synced file
-  pub wrote : (old new : D) (first : List ℕ) (at n : ℕ) → Only first (may_leave old) → Follows (Torn at n) (may_leave old) (may_leave new) → Within (may_leave new) (Torn at n first)
+  pub wrote : (old new : D) (first : List ℕ) (at n : ℕ) → Only first (may_leave old)
+      → Follows (Torn at n) (may_leave old) (may_leave new) → Within (may_leave new) (Torn at n first)
   wrote old new first at n only follows file left =
       let from = follows file left in subst (λ (f : List ℕ). Torn at n f file) (only from.0 from.1) from.2
 
   -- a write over a synced file
-  pub one_write : (old new : D) (first : List ℕ) (at n : ℕ) → ((file : List ℕ) → left_since old old file → may_leave old file) → Only first (may_leave old) → Follows (Torn at n) (may_leave old) (may_leave new) → NothingElse left_since may_leave old new → LeavesOnly left_since may_leave old new (Torn at n first)
+  pub one_write : (old new : D) (first : List ℕ) (at n : ℕ)
+      → ((file : List ℕ) → left_since old old file → may_leave old file) → Only first (may_leave old)
+      → Follows (Torn at n) (may_leave old) (may_leave new) → NothingElse left_since may_leave old new
+      → LeavesOnly left_since may_leave old new (Torn at n first)
   one_write old new first at n only_now only follows past =
-      goes_on old old new (Torn at n first) (started old (Torn at n first) only_now (λ file left. torn_none at n first file (only file left))) past (wrote old new first at n only follows)
+      goes_on old old new (Torn at n first) (started old (Torn at n first) only_now
+      (λ file left. torn_none at n first file (only file left))) past (wrote old new first at n only follows)
 
   -- a call that writes nothing, over a synced file
-  pub one_call : (old new : D) (first : List ℕ) (P : List ℕ → Type 0) → ((file : List ℕ) → left_since old old file → may_leave old file) → Only first (may_leave old) → Within (may_leave new) (may_leave old) → NothingElse left_since may_leave old new → P first → LeavesOnly left_since may_leave old new P
+  pub one_call : (old new : D) (first : List ℕ) (P : List ℕ → Type 0)
+      → ((file : List ℕ) → left_since old old file → may_leave old file) → Only first (may_leave old)
+      → Within (may_leave new) (may_leave old) → NothingElse left_since may_leave old new → P first
+      → LeavesOnly left_since may_leave old new P
   one_call old new first P only_now only within past holds =
       let all : (file : List ℕ) → may_leave old file → P file = λ file may. subst P (sym (only file may)) holds in
       goes_on old old new P (started old P only_now all) past (λ file may. all file (within file may))
 
   -- no call yet, over a synced file
-  pub at_rest : (old : D) (first : List ℕ) (P : List ℕ → Type 0) → ((file : List ℕ) → left_since old old file → may_leave old file) → Only first (may_leave old) → P first → LeavesOnly left_since may_leave old old P
+  pub at_rest : (old : D) (first : List ℕ) (P : List ℕ → Type 0)
+      → ((file : List ℕ) → left_since old old file → may_leave old file) → Only first (may_leave old) → P first
+      → LeavesOnly left_since may_leave old old P
   at_rest old first P only_now only holds = started old P only_now (λ file may. subst P (sym (only file may)) holds)

@@ -1,5 +1,6 @@
 -- A simulated disk: its steps, the one that fails, and the one within which the machine stops.
-use Rattle.std.specs.Prelude.{◌+◌, ◌-◌, ◌%◌, ◌^◌, ◌==◌, ◌||◌, ◌&&◌, ℕ, min, max, List, length, nat_le, not, Bool, false, if◌then◌else◌, Option, Some, None, Result, Ok, Err, is_ok}
+use Rattle.std.specs.Prelude.{◌+◌, ◌-◌, ◌%◌, ◌^◌, ◌==◌, ◌||◌, ◌&&◌, ℕ, min, max, List, length, nat_le, not, Bool, false}
+use Rattle.std.specs.Prelude.{if◌then◌else◌, Option, Some, None, Result, Ok, Err, is_ok}
 use Rattle.disk.specs.declared.sim_disk.TheConstants.{ROOM_BYTES}
 use Rattle.disk.specs.Medium.{MediumView, all_synced, with_write}
 use Rattle.disk.specs.declared.disk.DiskError.{DiskError}
@@ -44,7 +45,8 @@ is_stop (Some stop) step = stop.step == step
 -- The disk as a call begins: the call has its number, the next has the next one up to the greatest of 64 bits, and the
 -- machine has stopped where the stop falls on this one.
 abbrev pub begun : SimView → SimView
-begun disk = record disk { step = min (disk.step + 1) (2 ^ 64 - 1); stopped = disk.stopped || is_stop disk.stop disk.step }
+begun disk =
+    record disk { step = min (disk.step + 1) (2 ^ 64 - 1); stopped = disk.stopped || is_stop disk.stop disk.step }
 
 -- The next call works, unless the machine has stopped before or stops within it, or it is the one that fails.
 abbrev pub works : SimView → Bool
@@ -76,4 +78,5 @@ after_write disk at bytes =
 
 -- the disk after a sync, which settles what was written where it works
 abbrev pub after_sync : SimView → SimView
-after_sync disk = if works disk then record (begun disk) { medium = all_synced disk.medium.file disk.medium.room } else begun disk
+after_sync disk =
+    if works disk then record (begun disk) { medium = all_synced disk.medium.file disk.medium.room } else begun disk

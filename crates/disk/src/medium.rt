@@ -1,5 +1,6 @@
 // What is on a simulated disk, and which of its bytes a stop may still change.
-ghost use Rattle.std.specs.Prelude.{◌≡◌, ◌≤◌, ◌<◌, ◌+◌, ◌-◌, ◌++◌, ℕ, length, take, drop, replicate, slice_index, slice_index_or, count_by, true, false, IfOk};
+ghost use Rattle.std.specs.Prelude.{◌≡◌, ◌≤◌, ◌<◌, ◌+◌, ◌-◌, ◌++◌, ℕ, length, take, drop, replicate, slice_index};
+ghost use Rattle.std.specs.Prelude.{slice_index_or, count_by, true, false, IfOk};
 ghost use Rattle.disk.specs.Medium.{all_synced, synced_len, with_write, IsLeft, IsWritten, torn_byte};
 
 use std::alloc::{AllocError, Global};
@@ -142,7 +143,8 @@ fn tear(bytes: &mut [u8], touched: &[bool], torn: &[u8])
     requires some { 0 < length torn.now }
     ensures torn { (i : ℕ) → i < length bytes.old → slice_index_or touched.now i true ≡ true
         → slice_index bytes.new i ≡ torn_byte torn.now (count_by (λ t. t) (take i touched.now)) }
-    ensures kept { (i : ℕ) → slice_index_or touched.now i true ≡ false → slice_index bytes.new i ≡ slice_index bytes.old i }
+    ensures kept { (i : ℕ) → slice_index_or touched.now i true ≡ false
+        → slice_index bytes.new i ≡ slice_index bytes.old i }
 {
     let mut count = 0;
     for i in 0..bytes.len() {

@@ -1,8 +1,10 @@
 // A disk in memory that fails or stops where it is told to. It tells what it does.
-ghost use Rattle.std.specs.Prelude.{◌≡◌, ◌≤◌, ◌+◌, ℕ, true, is_ok, MatchOption, length, take, drop, IfOk, nat_le, if◌then◌else◌};
+ghost use Rattle.std.specs.Prelude.{◌≡◌, ◌≤◌, ◌+◌, ℕ, true, is_ok, MatchOption, length, take, drop, IfOk, nat_le};
+ghost use Rattle.std.specs.Prelude.{if◌then◌else◌};
 ghost use Rattle.disk.specs.Disk.{Only};
 ghost use Rattle.disk.specs.Medium.{MayLeave, IsLeft, IsWritten, synced_len, file_may_be_left};
-ghost use Rattle.disk.specs.Simulated.{fresh, StopView, is_stop, begun, works, answer_of, counted, has_range, has_room, after_write, after_sync};
+ghost use Rattle.disk.specs.Simulated.{fresh, StopView, is_stop, begun, works, answer_of, counted, has_range, has_room};
+ghost use Rattle.disk.specs.Simulated.{after_write, after_sync};
 
 use crate::disk::{Disk, DiskError};
 use crate::medium::Medium;

@@ -65,7 +65,8 @@ fn tell_left(text: &mut String, rt: &HostRuntime, name: &str) -> Result<(), RowE
     Ok(())
 }
 
-/// Makes the calls on a new file with these bytes, or with none where it isn't there before, and tells what it has then.
+/// Makes the calls on a new file with these bytes, or with none where it isn't there before, and tells what it has
+/// then.
 pub fn real(
     text: &mut String,
     rt: &HostRuntime,

@@ -1,5 +1,7 @@
 -- Decimal numbers, read and spelled.
-use Rattle.std.proofs.Common.{◌≡◌, ◌≢◌, ◌∙◌, sym, refl, ap, ℕ, suc, zero, ◌+◌, ◌-◌, ◌<◌, ◌≤◌, ◌^◌, ℤ, pos, negsuc, List, [], ◌∷◌, length, take, drop, get_or, Bool, true, false, ◌&&◌, ◌==◌, Option, Some, None, IfSome, IfNone, Result, Ok, Err, IfOk, arith, unsigned_abs}
+use Rattle.std.proofs.Common.{◌≡◌, ◌≢◌, ◌∙◌, sym, refl, ap, ℕ, suc, zero, ◌+◌, ◌-◌, ◌<◌, ◌≤◌, ◌^◌, ℤ, pos, negsuc, List}
+use Rattle.std.proofs.Common.{[], ◌∷◌, length, take, drop, get_or, Bool, true, false, ◌&&◌, ◌==◌, Option, Some, None}
+use Rattle.std.proofs.Common.{IfSome, IfNone, Result, Ok, Err, IfOk, arith, unsigned_abs}
 use Rattle.std.specs.Result.{result_ok}
 use Rattle.std.specs.Prelude.{◌≤ℤ◌, neg_ℤ, int_le, if◌then◌else◌}
 use Rattle.std.specs.Int.Signed.{le_z_yes}
@@ -7,7 +9,8 @@ use Rattle.std.proofs.lemmas.Int.{ints}
 use Rattle.std.proofs.lemmas.Bool.{and_parts}
 use Rattle.std.proofs.lemmas.Float.{T_from_true}
 use Rattle.st_words.specs.declared.kind.Kind.{Kind}
-use Rattle.st_words.specs.declared.kind.Kind.TheVariants.{Sint, Int, Dint, Lint, Usint, Uint, Udint, Ulint, Byte, Word, Dword, Lword, Time, Bool as Boolean}
+use Rattle.st_words.specs.declared.kind.Kind.TheVariants.{Sint, Int, Dint, Lint, Usint, Uint, Udint, Ulint, Byte, Word}
+use Rattle.st_words.specs.declared.kind.Kind.TheVariants.{Dword, Lword, Time, Bool as Boolean}
 use Rattle.st_words.specs.declared.fault.Fault.{Fault}
 use Rattle.st_words.specs.declared.fault.Fault.TheVariants.{Range}
 use Rattle.st_words.specs.Kinds.{holds, least, greatest, same_kind}
@@ -18,7 +21,8 @@ use Rattle.std.specs.Str.Parse.{AllDigits, digits_value, ParsesUnsigned}
 use Rattle.std.specs.Fmt.{decimal, signed_decimal}
 use Rattle.std.proofs.lemmas.Str.{IsUtf8-from_ascii}
 use Rattle.std.proofs.lemmas.Str.Parse.{IsNumeralModel, numerals_by_value, tells_digits, parse_plain, digit_at}
-use Rattle.std.proofs.lemmas.Fmt.{decimal-digits_value, parse-decimal, decimal_is_IsNumeral, first_decimal, decimal_digit, IsAscii-decimal, decimal_injective}
+use Rattle.std.proofs.lemmas.Fmt.{decimal-digits_value, parse-decimal, decimal_is_IsNumeral, first_decimal}
+use Rattle.std.proofs.lemmas.Fmt.{decimal_digit, IsAscii-decimal, decimal_injective}
 use Rattle.std.proofs.lemmas.Bool.Decides.{nat_tests}
 use Rattle.std.proofs.lemmas.Grind.{common_steps}
 use Rattle.image.specs.Numbers.{may_begin, SpellsValue}
@@ -37,7 +41,8 @@ alone [] h e = absurd (cc)
 alone (b ∷ bs) h e = grind (arith, nat_tests)
 
 -- what is parsed is spelled so
-pub spelled_number : {E : Type 0} (bs : List ℕ) (r : Result ℕ E) → may_begin bs ≡ true → ParsesUnsigned 64 10 bs r → IfOk r (λ n. bs ≡ decimal n)
+pub spelled_number : {E : Type 0} (bs : List ℕ) (r : Result ℕ E) → may_begin bs ≡ true → ParsesUnsigned 64 10 bs r
+    → IfOk r (λ n. bs ≡ decimal n)
 spelled_number {E} bs (Ok n) h p =
     let (digits, is) = parse_plain own {E = E} 64 bs (Ok n) p (no_plus bs h) in
     let back = decimal-digits_value own bs digits.0 digits.1 (alone bs h) digits.2 in
@@ -45,7 +50,8 @@ spelled_number {E} bs (Ok n) h p =
 spelled_number {E} bs (Err e) h p = tt
 
 -- what is spelled so is parsed
-pub number_parsed : {E : Type 0} (bs : List ℕ) (r : Result ℕ E) → ParsesUnsigned 64 10 bs r → (n : ℕ) → n < 2 ^ 64 → bs ≡ decimal n → r ≡ Ok n
+pub number_parsed : {E : Type 0} (bs : List ℕ) (r : Result ℕ E) → ParsesUnsigned 64 10 bs r → (n : ℕ) → n < 2 ^ 64
+    → bs ≡ decimal n → r ≡ Ok n
 number_parsed bs r p n small e = parse-decimal 64 n bs r small small e p
 
 begins_at : (bs : List ℕ) → 0 < length bs → 48 < get_or bs 0 0 → get_or bs 0 0 ≤ 57 → may_begin bs ≡ true
@@ -56,7 +62,8 @@ pub begins_decimal : (n : ℕ) → n < 2 ^ 64 → may_begin (decimal n) ≡ true
 begins_decimal zero small = rw (decimal_digit 0 (omega arith)) refl
 begins_decimal (suc n) small =
     let numeral = (decimal_is_IsNumeral (suc n) small).0 in
-    begins_at (decimal (suc n)) numeral.0 (first_decimal (suc n) (omega arith) small) (digit_at (decimal (suc n)) 0 numeral.1 numeral.0).1
+    begins_at (decimal (suc n)) numeral.0 (first_decimal (suc n) (omega arith) small)
+    (digit_at (decimal (suc n)) 0 numeral.1 numeral.0).1
 
 pub utf8_decimal : (n : ℕ) → n < 2 ^ 64 → IsUtf8 (decimal n)
 utf8_decimal n small = IsUtf8-from_ascii (decimal n) (IsAscii-decimal n small)
@@ -72,7 +79,8 @@ ok_some P (Ok x) h = h
 ok_some P (Err e) h = tt
 
 -- where nothing was parsed, nothing is spelled
-pub none_spelled : {E : Type 0} (bs : List ℕ) (r : Result ℕ E) → ((n : ℕ) → n < 2 ^ 64 → bs ≡ decimal n → r ≡ Ok n) → IfNone (result_ok r) ((n : ℕ) → n < 2 ^ 64 → bs ≢ decimal n)
+pub none_spelled : {E : Type 0} (bs : List ℕ) (r : Result ℕ E) → ((n : ℕ) → n < 2 ^ 64 → bs ≡ decimal n → r ≡ Ok n)
+    → IfNone (result_ok r) ((n : ℕ) → n < 2 ^ 64 → bs ≢ decimal n)
 none_spelled bs (Ok n) h = tt
 none_spelled bs (Err e) h = λ n small is. let impossible = h n small is in cc
 
@@ -99,7 +107,8 @@ none_behind_minus (b ∷ bs) some first none (negsuc n) short e =
     none n (omega arith) (same_rest b bs ∙ (rest ∙ ap decimal next))
 
 -- a type's numbers are short
-held_within : (low high z : ℤ) → neg_ℤ (pos (2 ^ 63)) ≤ℤ low → high ≤ℤ pos (2 ^ 64 - 1) → (int_le low z && int_le z high) ≡ true → unsigned_abs z < 2 ^ 64
+held_within : (low high z : ℤ) → neg_ℤ (pos (2 ^ 63)) ≤ℤ low → high ≤ℤ pos (2 ^ 64 - 1)
+    → (int_le low z && int_le z high) ≡ true → unsigned_abs z < 2 ^ 64
 held_within low high z a b h =
     let parts = and_parts (int_le low z) (int_le z high) h in
     let above : low ≤ℤ z = le_z_yes (T_from_true (int_le low z) parts.0) in
@@ -146,7 +155,8 @@ pub held_short : (k : Kind) (z : ℤ) → holds k z ≡ true → unsigned_abs z 
 held_short k z h = held_within (least k) (greatest k) z (least_is k) (greatest_is k) h
 
 -- a spelling spells one number
-pub one_number : (y z : ℤ) → unsigned_abs y < 2 ^ 64 → unsigned_abs z < 2 ^ 64 → signed_decimal y ≡ signed_decimal z → y ≡ z
+pub one_number : (y z : ℤ) → unsigned_abs y < 2 ^ 64 → unsigned_abs z < 2 ^ 64 → signed_decimal y ≡ signed_decimal z
+    → y ≡ z
 one_number (pos m) (pos n) a b e = ap pos (decimal_injective m n a b e)
 one_number (pos m) (negsuc n) a b e = absurd (no_minus m a (decimal (suc n)) (sym e))
 one_number (negsuc m) (pos n) a b e = absurd (no_minus n b (decimal (suc m)) e)
@@ -164,7 +174,8 @@ pub value_spelled : (k : Kind) (field : List ℕ) (z : ℤ) (b : Bool) → b ≡
 value_spelled k field z true h e = (same_kind-refl k, sym h, e)
 value_spelled k field z false h e = tt
 
-pub value_refused : (k : Kind) (field : List ℕ) (z : ℤ) (b : Bool) → b ≡ holds k z → unsigned_abs z < 2 ^ 64 → field ≡ signed_decimal z
+pub value_refused : (k : Kind) (field : List ℕ) (z : ℤ) (b : Bool) → b ≡ holds k z → unsigned_abs z < 2 ^ 64
+    → field ≡ signed_decimal z
     → IfNone (result_ok (made k z b)) ((v : Datum) → SpellsValue k field v → ⊥)
 value_refused k field z true h short e = tt
 value_refused k field z false h short e = λ v spells.

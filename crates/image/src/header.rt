@@ -10,7 +10,8 @@ use st_plans::PlanInput;
 
 /// Whether the field at this column is the name, in any case.
 fn is_name_at(record: &ByteRecord, column: usize, name: &[u8]) -> bool
-    ensures { IsTrue result ↔ (option_map (map to_ascii_lowercase) (field_at (fields_of record.now) column) ≡ Some (map to_ascii_lowercase name.now)) }
+    ensures { IsTrue result ↔ (option_map (map to_ascii_lowercase) (field_at (fields_of record.now) column)
+        ≡ Some (map to_ascii_lowercase name.now)) }
 {
     match record.get(column) {
         Some(field) => field.eq_ignore_ascii_case(name),

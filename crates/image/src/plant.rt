@@ -1,6 +1,7 @@
 //! Plants, row by row.
 
-ghost use Rattle.std.specs.Prelude.{◌≡◌, ◌≤◌, ◌<◌, ◌++◌, ◌∷◌, [], ◌⊎◌, true, if◌then◌else◌, length, List, MatchBool, OnOk, OnErr, IfOk, IfErr, IsErrOf, IfSome};
+ghost use Rattle.std.specs.Prelude.{◌≡◌, ◌≤◌, ◌<◌, ◌++◌, ◌∷◌, [], ◌⊎◌, true, if◌then◌else◌, length, List, MatchBool};
+ghost use Rattle.std.specs.Prelude.{OnOk, OnErr, IfOk, IfErr, IsErrOf, IfSome};
 ghost use Rattle.csv.specs.Records.{fields_of};
 ghost use Rattle.st_plans.specs.Rows.{Latch};
 ghost use Rattle.image.specs.Plants.{AreRowsOf, IsLater, IsNotLater, IsPlant, IsRowOf, spelled};
@@ -36,10 +37,12 @@ fn add_row(
     record: &ByteRecord,
 ) -> Result<(), PlantError>
     requires { AreRowsOf inputs.now rows.old.items }
-    ensures added { OnOk result ((row : Latch) × (rows.new.items ≡ rows.old.items ++ row ∷ []) × (fields_of record.now ≡ spelled row)) }
+    ensures added { OnOk result
+        ((row : Latch) × (rows.new.items ≡ rows.old.items ++ row ∷ []) × (fields_of record.now ≡ spelled row)) }
     ensures rows_are { OnOk result (AreRowsOf inputs.now rows.new.items) }
     ensures field { IsErrOf result PlantError.Field → IsNoRow inputs.now (fields_of record.now) }
-    ensures not_later { IsErrOf result PlantError.NotLater → (row : Latch) × IsRowOf inputs.now row × (fields_of record.now ≡ spelled row) × IsNotLater rows.old.items row.moment }
+    ensures not_later { IsErrOf result PlantError.NotLater → (row : Latch) × IsRowOf inputs.now row
+        × (fields_of record.now ≡ spelled row) × IsNotLater rows.old.items row.moment }
     ensures too_many { IsErrOf result PlantError.TooManyRows → length rows.old.items ≡ MAX_ROWS }
     ensures never { IsErrOf result PlantError.Header → ⊥ }
 {
@@ -65,10 +68,11 @@ fn refusal(error: csv::Error) -> PlantError
     }
 }
 
-/// The rows of a plant: a CSV text with a header. Moments are in milliseconds; each row has a value for each input of the
-/// plan, in declaration order. At most 10,000 rows.
+/// The rows of a plant: a CSV text with a header. Moments are in milliseconds; each row has a value for each input of
+/// the plan, in declaration order. At most 10,000 rows.
 ///
-/// I1 to I4 come only where they apply; which of several comes is not promised. I5 is a reader that fails, I6 out of memory.
+/// I1 to I4 come only where they apply; which of several comes is not promised. I5 is a reader that fails, I6 out of
+/// memory.
 pub fn read_plant<R: Read + Drop>(
     alloc: Global,
     reader: R,
@@ -76,9 +80,12 @@ pub fn read_plant<R: Read + Drop>(
 ) -> Result<Vec<Row>, PlantError>
     ensures rows { IfOk result (λ rows. AreRowsOf plan.now.inputs.items rows.items) }
     ensures plant { IfOk result (λ rows. OfRecords (R.remaining reader) (IsPlant plan.now.inputs.items rows.items)) }
-    ensures header { IsErrOf result PlantError.Header → OfRecords (R.remaining reader) (HasNoHeader plan.now.inputs.items) }
-    ensures field { IsErrOf result PlantError.Field → OfRecords (R.remaining reader) (HasWrongField plan.now.inputs.items) }
-    ensures not_later { IsErrOf result PlantError.NotLater → OfRecords (R.remaining reader) (HasNoRise plan.now.inputs.items) }
+    ensures header { IsErrOf result PlantError.Header
+        → OfRecords (R.remaining reader) (HasNoHeader plan.now.inputs.items) }
+    ensures field { IsErrOf result PlantError.Field
+        → OfRecords (R.remaining reader) (HasWrongField plan.now.inputs.items) }
+    ensures not_later { IsErrOf result PlantError.NotLater
+        → OfRecords (R.remaining reader) (HasNoRise plan.now.inputs.items) }
     ensures too_many { IsErrOf result PlantError.TooManyRows → OfRecords (R.remaining reader) HasTooManyRows }
 {
     let mut records = ReaderBuilder::new()

@@ -1,6 +1,7 @@
 //! Rows of a plant.
 
-ghost use Rattle.std.specs.Prelude.{◌≡◌, ◌≢◌, ◌<◌, ◌⊎◌, ◌^◌, ◌∷◌, ℕ, List, true, drop, IfOk, IfErr, IsErrOf, IfSome, IfNone, Err};
+ghost use Rattle.std.specs.Prelude.{◌≡◌, ◌≢◌, ◌<◌, ◌⊎◌, ◌^◌, ◌∷◌, ℕ, List, true, drop, IfOk, IfErr, IsErrOf, IfSome};
+ghost use Rattle.std.specs.Prelude.{IfNone, Err};
 ghost use Rattle.std.specs.Fmt.{decimal};
 ghost use Rattle.st_words.specs.declared.limits.TheConstants.{MOMENT_LIMIT};
 ghost use Rattle.csv.specs.Records.{field_at, fields_of};
@@ -32,7 +33,8 @@ fn value_at(kind: Kind, record: &ByteRecord, column: usize) -> Option<Value>
 fn image(alloc: Global, inputs: &[PlanInput], record: &ByteRecord) -> Result<Vec<Value>, PlantError>
     ensures spelled { IfOk result (λ image. drop 1 (fields_of record.now) ≡ spelled_values image.items) }
     ensures held { IfOk result (λ image. holds_each inputs.now image.items ≡ true) }
-    ensures none { IsErrOf result PlantError.Field → (first : List ℕ) (values : List Datum) → holds_each inputs.now values ≡ true → fields_of record.now ≢ first ∷ spelled_values values }
+    ensures none { IsErrOf result PlantError.Field → (first : List ℕ) (values : List Datum)
+        → holds_each inputs.now values ≡ true → fields_of record.now ≢ first ∷ spelled_values values }
     ensures only { IfErr result (λ e. (e ≡ PlantError.Field) ⊎ (e ≡ PlantError.NoMemory)) }
 {
     if record.len() != inputs.len() + 1 {

@@ -49,7 +49,8 @@ fn number(digits: &str) -> u64 {
     digits.parse::<u64>().unwrap_or(0)
 }
 
-/// What a plan answers to a plant. `\#10000` is one with so many rows. `\!8 TEXT` is read by a reader that fails where 8 bytes are left.
+/// What a plan answers to a plant. `\#10000` is one with so many rows. `\!8 TEXT` is read by a reader that fails where
+/// 8 bytes are left.
 fn answered(alloc: Global, plan: &Plan, plant: &str) -> Result<String, AllocError> {
     if let Some(rows) = plant.strip_prefix("\\#") {
         return counted(alloc, plan, number(rows));

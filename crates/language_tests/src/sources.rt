@@ -67,8 +67,8 @@ fn outcome_of(alloc: Global, text: &[u8]) -> Outcome {
     }
 }
 
-/// Of the prefixes of the text, itself included: how many are read as a source with a configuration, and how many are refused otherwise than
-/// a text that ends too early.
+/// Of the prefixes of the text, itself included: how many are read as a source with a configuration, and how many are
+/// refused otherwise than a text that ends too early.
 pub fn fronts(out: &mut String, alloc: Global, text: &[u8]) -> Result<(), AllocError> {
     let mut configured: u64 = 0;
     let mut refused: u64 = 0;

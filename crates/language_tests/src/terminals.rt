@@ -74,7 +74,8 @@ pub fn shown_next(out: &mut String, tokens: &[Token]) -> Result<(), AllocError> 
     Ok(())
 }
 
-/// Whether a closing parenthesis, the keyword WITH, a number, a literal and a name are each refused for the first token, as that is.
+/// Whether a closing parenthesis, the keyword WITH, a number, a literal and a name are each refused for the first
+/// token, as that is.
 fn is_refused(alloc: Global, tokens: &[Token]) -> bool {
     let unexpected = ReadError::Refused(Refusal::Unexpected(tokens.len()));
     mark(Mark::Close, tokens).err() == Some(unexpected)

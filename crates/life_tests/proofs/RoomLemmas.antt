@@ -3,7 +3,8 @@ use Rattle.std.proofs.Common.{ℕ, ◌+◌, ◌*◌, ◌≤◌, List, [], ◌∷
 use Rattle.std.specs.List.{flat_map}
 use Rattle.std.proofs.lemmas.List.{length-append}
 use Rattle.st_words.specs.declared.kind.Kind.{Kind}
-use Rattle.st_words.specs.declared.kind.Kind.TheVariants.{Sint, Int, Dint, Lint, Usint, Uint, Udint, Ulint, Byte, Word, Dword, Lword, Time, Bool as Boolean}
+use Rattle.st_words.specs.declared.kind.Kind.TheVariants.{Sint, Int, Dint, Lint, Usint, Uint, Udint, Ulint, Byte, Word}
+use Rattle.st_words.specs.declared.kind.Kind.TheVariants.{Dword, Lword, Time, Bool as Boolean}
 use Rattle.st_words.specs.Values.{Datum}
 use Rattle.st_words.specs.Kinds.{width_of}
 use Rattle.retain_store.specs.Records.{value_bytes, record_bytes}
@@ -29,7 +30,16 @@ width_small Boolean = lit≤ tt
 
 values_small : (values : List Datum) → length (flat_map value_bytes values) ≤ 8 * length values
 values_small [] = omega arith
-values_small (d ∷ values) = omega (arith, length-append (value_bytes d) (flat_map value_bytes values), value_length d, width_small d.kind, values_small values)
+values_small (d ∷ values) = omega (
+  arith,
+  length-append (value_bytes d) (flat_map value_bytes values),
+  value_length d,
+  width_small d.kind,
+  values_small values,
+)
 
-pub body_fits : (moment : Option ℕ) (layout : List ℕ) (values : List Datum) → length (record_bytes (record { moment = moment; layout = layout; values = values })) ≤ 12 + length layout + 8 * length values
-body_fits moment layout values = omega (arith, body_length moment layout (flat_map value_bytes values), values_small values)
+pub body_fits : (moment : Option ℕ) (layout : List ℕ) (values : List Datum)
+    → length (record_bytes (record { moment = moment; layout = layout; values = values })) ≤ 12 + length layout
+    + 8 * length values
+body_fits moment layout values =
+    omega (arith, body_length moment layout (flat_map value_bytes values), values_small values)

@@ -1,5 +1,5 @@
-//! Chains of lives, each whole or stopped within each device step that it has. Two chains that come to one file go on alike, so a
-//! life is lived once over each file that the lives before it may leave.
+//! Chains of lives, each whole or stopped within each device step that it has. Two chains that come to one file go on
+//! alike, so a life is lived once over each file that the lives before it may leave.
 //!
 //! They are thousands of lives: a few seconds as they are built, and many minutes under `rt try`, whose code is slow.
 
@@ -115,8 +115,8 @@ fn is_among(fronts: &[Point], course: &Course, point: Point) -> bool {
     false
 }
 
-/// Whether a warm start goes on from a prefix of the life's log that holds all that it acknowledged. A life that was not started
-/// leaves what was there before, or where it begins.
+/// Whether a warm start goes on from a prefix of the life's log that holds all that it acknowledged. A life that was
+/// not started leaves what was there before, or where it begins.
 fn is_kept(before: Option<Point>, told: &Told, after: Option<Point>, chapter: Chapter) -> bool {
     let (Some(before), Some(after)) = (before, after) else {
         return false;
@@ -175,7 +175,8 @@ struct Link<'a> {
 }
 
 impl Link<'_> {
-    /// Lives the life over the file with a stop within this step, and adds the file that it leaves. It says whether power went in it.
+    /// Lives the life over the file with a stop within this step, and adds the file that it leaves. It says whether
+    /// power went in it.
     fn stop_at(
         self,
         alloc: Global,
@@ -202,7 +203,8 @@ impl Link<'_> {
         }
     }
 
-    /// Lives the life over the file with a stop within each step in turn, until it has no such step. Adds the files that are left.
+    /// Lives the life over the file with a stop within each step in turn, until it has no such step. Adds the files
+    /// that are left.
     fn stop_at_each(
         self,
         alloc: Global,
@@ -282,8 +284,8 @@ fn next_files(
     link.left_over(alloc, files)
 }
 
-/// Lives a chain that is written `cold 0 10, warm 20 30`, the first life over an empty file, and writes after each the numbers
-/// from which a warm start over one of its files goes on.
+/// Lives a chain that is written `cold 0 10, warm 20 30`, the first life over an empty file, and writes after each the
+/// numbers from which a warm start over one of its files goes on.
 pub fn write_chain(
     text: &mut String,
     alloc: Global,

@@ -80,8 +80,8 @@ pub enum Mishap {
     Nothing,
     /// The device step fails.
     Fails(Steps),
-    /// The machine stops within the device step. The length is what is left, moved into the span from the synced length to the
-    /// current one.
+    /// The machine stops within the device step. The length is what is left, moved into the span from the synced length
+    /// to the current one.
     Stops { steps: Steps, torn: Torn, len: u64 },
 }
 

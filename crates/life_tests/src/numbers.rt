@@ -6,7 +6,8 @@ use serial_core::Refusal as Serial;
 use std::alloc::AllocError;
 use std::fmt::Write;
 
-/// Writes the numbers of the refusals of a core: full, not waiting, foreign, not later, a store that failed, out of memory.
+/// Writes the numbers of the refusals of a core: full, not waiting, foreign, not later, a store that failed, out of
+/// memory.
 pub fn write_refusals(text: &mut String) -> Result<(), AllocError> {
     write!(text, "refusals")?;
     for refusal in [
@@ -22,8 +23,8 @@ pub fn write_refusals(text: &mut String) -> Result<(), AllocError> {
     Ok(())
 }
 
-/// Writes the numbers of the faults of a start: a file that is too long or damaged, a device that failed, the greatest generation, want of
-/// memory, a store that failed before, another layout, out of memory.
+/// Writes the numbers of the faults of a start: a file that is too long or damaged, a device that failed, the greatest
+/// generation, want of memory, a store that failed before, another layout, out of memory.
 pub fn write_start_faults(text: &mut String) -> Result<(), AllocError> {
     write!(text, "faults")?;
     for fault in [

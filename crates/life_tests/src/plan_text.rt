@@ -146,7 +146,8 @@ fn write_configuration(
     text.push_str("END_CONFIGURATION")
 }
 
-/// The text of programs over globals, which the blocks of a configuration declare. The programs have ` / ` between them.
+/// The text of programs over globals, which the blocks of a configuration declare. The programs have ` / ` between
+/// them.
 pub fn text_of(
     alloc: Global,
     blocks: &str,

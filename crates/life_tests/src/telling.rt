@@ -112,8 +112,8 @@ fn write_course(
     write!(text, "acked {} of {}", course.acked, course.len)
 }
 
-/// Writes what a life told: the globals at its begin, the replies, the globals at its end, how much of its log is acknowledged,
-/// and how often the device failed.
+/// Writes what a life told: the globals at its begin, the replies, the globals at its end, how much of its log is
+/// acknowledged, and how often the device failed.
 pub fn write_lived(
     text: &mut String,
     globals: &[Declared<'_>],

@@ -1,5 +1,6 @@
 -- Counts over a log.
-use Rattle.std.proofs.Common.{◌≡◌, ◌∙◌, ap, refl, arith, ℕ, suc, ◌+◌, ◌<◌, ◌≤◌, min, sum, ◌++◌, Bool, true, false, List, [], ◌∷◌, length, take, get_or, count_by, cond, option_map, slice_get, unwrap_or, inl, inr}
+use Rattle.std.proofs.Common.{◌≡◌, ◌∙◌, ap, refl, arith, ℕ, suc, ◌+◌, ◌<◌, ◌≤◌, min, sum, ◌++◌, Bool, true, false, List}
+use Rattle.std.proofs.Common.{[], ◌∷◌, length, take, get_or, count_by, cond, option_map, slice_get, unwrap_or, inl, inr}
 use Rattle.std.proofs.lemmas.List.Sums.{count_by_more_no, count_by_more_yes, sum_by-append, sum_by-cons}
 use Rattle.std.proofs.lemmas.List.{get_or_append_left, get_or_push, length-append}
 use Rattle.std.proofs.lemmas.Bool.{cases_lt}
@@ -15,13 +16,15 @@ use Rattle.serial_core.specs.Steps.{State, made}
 use Rattle.plant_program.specs.Lives.{AreOverruns, is_done, is_row}
 
 -- a list that passes at the next place has one more that passes, and one that does not has no more
-pub count_yes : {X : Type 0} (p : X → Bool) (xs : List X) (i : ℕ) → unwrap_or (option_map p (slice_get xs i)) false ≡ true → count_by p (take (i + 1) xs) ≡ count_by p (take i xs) + 1
+pub count_yes : {X : Type 0} (p : X → Bool) (xs : List X) (i : ℕ)
+    → unwrap_or (option_map p (slice_get xs i)) false ≡ true → count_by p (take (i + 1) xs) ≡ count_by p (take i xs) + 1
 count_yes p xs i is = elim (slice_get_cases xs i).1 [
   | inl (x, small, found, at) ↦ count_by_more_yes p xs i x small (rw at (rw found at is))
   | inr (past, none) ↦ let bad : false ≡ true = rw none at is in cc
 ]
 
-pub count_no : {X : Type 0} (p : X → Bool) (xs : List X) (i : ℕ) → i < length xs → unwrap_or (option_map p (slice_get xs i)) false ≡ false → count_by p (take (i + 1) xs) ≡ count_by p (take i xs)
+pub count_no : {X : Type 0} (p : X → Bool) (xs : List X) (i : ℕ) → i < length xs
+    → unwrap_or (option_map p (slice_get xs i)) false ≡ false → count_by p (take (i + 1) xs) ≡ count_by p (take i xs)
 count_no p xs i small is = elim (slice_get_cases xs i).1 [
   | inl (x, less, found, at) ↦ count_by_more_no p xs i x small (rw at (rw found at is))
   | inr (past, none) ↦ absurd (omega arith)
@@ -32,28 +35,35 @@ pub rows_and_dones : (log : List Entry) → count_by is_row log + count_by is_do
 rows_and_dones [] = refl
 rows_and_dones (Row row ∷ log) =
     let more = rows_and_dones log in
-    let rows : count_by is_row (Row row ∷ log) ≡ 1 + count_by is_row log = sum_by-cons (λ e. cond (is_row e) 1 0) (Row row) log in
-    let dones : count_by is_done (Row row ∷ log) ≡ 0 + count_by is_done log = sum_by-cons (λ e. cond (is_done e) 1 0) (Row row) log in
+    let rows : count_by is_row (Row row ∷ log) ≡ 1 + count_by is_row log =
+    sum_by-cons (λ e. cond (is_row e) 1 0) (Row row) log in
+    let dones : count_by is_done (Row row ∷ log) ≡ 0 + count_by is_done log =
+    sum_by-cons (λ e. cond (is_done e) 1 0) (Row row) log in
     let all : length (Row row ∷ log) ≡ suc (length log) = refl in
     rw (rows, dones, all) (omega arith)
 rows_and_dones (Done a ∷ log) =
     let more = rows_and_dones log in
-    let rows : count_by is_row (Done a ∷ log) ≡ 0 + count_by is_row log = sum_by-cons (λ e. cond (is_row e) 1 0) (Done a) log in
-    let dones : count_by is_done (Done a ∷ log) ≡ 1 + count_by is_done log = sum_by-cons (λ e. cond (is_done e) 1 0) (Done a) log in
+    let rows : count_by is_row (Done a ∷ log) ≡ 0 + count_by is_row log =
+    sum_by-cons (λ e. cond (is_row e) 1 0) (Done a) log in
+    let dones : count_by is_done (Done a ∷ log) ≡ 1 + count_by is_done log =
+    sum_by-cons (λ e. cond (is_done e) 1 0) (Done a) log in
     let all : length (Done a ∷ log) ≡ suc (length log) = refl in
     rw (rows, dones, all) (omega arith)
 
 -- each entry has an outcome, or none
-outcomes_from_counted : (plan : Plan) (past : Past) (log : List Entry) → length (outcomes_from plan past log) ≡ length log
+outcomes_from_counted : (plan : Plan) (past : Past) (log : List Entry)
+    → length (outcomes_from plan past log) ≡ length log
 outcomes_from_counted plan past [] = refl
 outcomes_from_counted plan past (e ∷ log) = ap suc (outcomes_from_counted plan (with_entry plan past e) log)
 
-pub outcomes_counted : (plan : Plan) (start : Store) (log : List Entry) → length (outcomes_of plan start log) ≡ length log
+pub outcomes_counted : (plan : Plan) (start : Store) (log : List Entry)
+    → length (outcomes_of plan start log) ≡ length log
 outcomes_counted plan start log = outcomes_from_counted plan (beginning start) log
 
 -- the overruns of one program more
 pub overruns_more : (state : State) (i n : ℕ) (each : List ℕ) → AreOverruns state i each
-    → (i < length state.plan.programs.items → HasOverruns (schedules_of (plan_view state.plan)) (made state).history i n)
+    → (i < length state.plan.programs.items
+    → HasOverruns (schedules_of (plan_view state.plan)) (made state).history i n)
     → (length state.plan.programs.items ≤ i → n ≡ 0) → AreOverruns state (i + 1) (each ++ n ∷ [])
 overruns_more state i n each are has none =
     let last : get_or (each ++ n ∷ []) i 0 ≡ n = get_or_push each n 0 i are.number in
@@ -70,7 +80,8 @@ overruns_more state i n each are has none =
     }
 
 -- a sum that stops at a limit, with one number more
-pub sum_more : (each : List ℕ) (n total limit : ℕ) → total ≡ min (sum each) limit → min (total + n) limit ≡ min (sum (each ++ n ∷ [])) limit
+pub sum_more : (each : List ℕ) (n total limit : ℕ) → total ≡ min (sum each) limit
+    → min (total + n) limit ≡ min (sum (each ++ n ∷ [])) limit
 sum_more each n total limit so_far =
     let more : sum (each ++ n ∷ []) ≡ sum each + (0 + n) = sum_by-append (λ x. x) each (n ∷ []) in
     rw (so_far, more) (omega arith)

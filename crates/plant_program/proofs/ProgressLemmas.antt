@@ -41,7 +41,8 @@ goes_by_row s t row same = record {
   plan_is = ap (λ (x : State). x.plan) same;
   start_is = ap (λ (x : State). x.start) same;
   before_is = ap (λ (x : State). x.before) same;
-  rows_are = ap (λ (x : State). (made x).rows) same ∙ ap (λ p. p.rows) (past_of-add (plan_view s.plan) s.start s.log (Row row));
+  rows_are = ap (λ (x : State). (made x).rows) same
+      ∙ ap (λ p. p.rows) (past_of-add (plan_view s.plan) s.start s.log (Row row));
 }
 
 -- an execution is committed, or is stale
@@ -51,7 +52,9 @@ goes_by_commit s t effect (Committed n) h = record {
   plan_is = ap (λ (x : State). x.plan) h.4;
   start_is = ap (λ (x : State). x.start) h.4;
   before_is = ap (λ (x : State). x.before) h.4;
-  rows_are = ap (λ (x : State). (made x).rows) h.4 ∙ ap (λ p. p.rows) (past_of-add (plan_view s.plan) s.start s.log (Done effect.activation)) ∙ sym (append-nil (made s).rows);
+  rows_are = ap (λ (x : State). (made x).rows) h.4
+      ∙ ap (λ p. p.rows) (past_of-add (plan_view s.plan) s.start s.log (Done effect.activation))
+      ∙ sym (append-nil (made s).rows);
 }
 
 -- a commit that is answered
@@ -65,16 +68,19 @@ commit_goes_on old new effect (Err (Serial refusal)) h = tt
 pub goes_as_far : (s t u : State) (xs : List Latch) → GoesOn s t xs → GoesOn t u [] → GoesOn s u xs
 goes_as_far s t u xs a b = subst (λ rows. GoesOn s u rows) (append-nil xs) (goes_further s t u xs [] a b)
 
-pub then_no_rows : {A E : Type 0} (s t u : State) (xs : List Latch) (r : Result A E) → GoesOn s t xs → OnOk r (GoesOn t u []) → OnOk r (GoesOn s u xs)
+pub then_no_rows : {A E : Type 0} (s t u : State) (xs : List Latch) (r : Result A E) → GoesOn s t xs
+    → OnOk r (GoesOn t u []) → OnOk r (GoesOn s u xs)
 then_no_rows s t u xs (Ok x) a b = goes_as_far s t u xs a b
 then_no_rows s t u xs (Err e) a b = tt
 
 -- one row of a list is taken off it
-pub one_more : (all front rest : List Latch) (row : Latch) → all ≡ front ++ row ∷ rest → all ≡ (front ++ row ∷ []) ++ rest
+pub one_more : (all front rest : List Latch) (row : Latch) → all ≡ front ++ row ∷ rest
+    → all ≡ (front ++ row ∷ []) ++ rest
 one_more all front rest row h = h ∙ sym (append_assoc front (row ∷ []) rest)
 
 -- from a new life on, it is a run
-pub run_of : (begun s : State) (plan : Plan) (rows : List Latch) (room : ℕ) → IsNew begun plan room → GoesOn begun s rows → IsRunOf plan rows s
+pub run_of : (begun s : State) (plan : Plan) (rows : List Latch) (room : ℕ) → IsNew begun plan room
+    → GoesOn begun s rows → IsRunOf plan rows s
 run_of begun s plan rows room new goes = record {
   plan_is = goes.plan_is ∙ new.plan_is;
   rows_are = goes.rows_are ∙ ap (λ log. (past_of (plan_view begun.plan) begun.start log).rows ++ rows) new.empty;

@@ -13,15 +13,18 @@ use Rattle.plant_program.proofs.ProgressLemmas.{run_of}
 use Rattle.plant_program.specs.Settling.{IsSettled, NothingWaits}
 
 -- where nothing waits, a flush settles
-pub settled : {D : Type 0} (old new : CoreView D) (n resources : ℕ) → n ≡ length old.state.log → new.state ≡ old.state → new.acked ≡ n → NothingWaits old.state resources → IsSettled new resources
+pub settled : {D : Type 0} (old new : CoreView D) (n resources : ℕ) → n ≡ length old.state.log → new.state ≡ old.state
+    → new.acked ≡ n → NothingWaits old.state resources → IsSettled new resources
 settled old new n resources counted same acked none = (
   acked ∙ counted ∙ sym (ap (λ (s : State). length s.log) same),
   subst (λ (s : State). NothingWaits s resources) (sym same) none,
 )
 
 -- a report of a settled life that is the run of a plan over rows, by another name for the plan
-pub reported : {D T E : Type 0} (items : T → List ℕ) (begun : State) (life : CoreView D) (rows : List Latch) (room : ℕ) (here plan : Plan) (r : Result T E) → here ≡ plan
-    → AreRowsOf plan.inputs.items rows → IsNew begun plan room → OnOk r (GoesOn begun life.state rows) → OnOk r (IsSettled life here.resources)
+pub reported : {D T E : Type 0} (items : T → List ℕ) (begun : State) (life : CoreView D) (rows : List Latch) (room : ℕ)
+    (here plan : Plan) (r : Result T E) → here ≡ plan
+    → AreRowsOf plan.inputs.items rows → IsNew begun plan room → OnOk r (GoesOn begun life.state rows)
+    → OnOk r (IsSettled life here.resources)
     → IfOk r (λ t. IsReport life.state life.acked (length here.programs.items) here.variables.items (items t))
     → IfOk r (λ t. IsReportOf D plan (items t))
 reported items begun life rows room here plan (Ok t) same are new goes settles reports = record {
@@ -30,6 +33,7 @@ reported items begun life rows room here plan (Ok t) same are new goes settles r
   rows_are = are;
   run = run_of begun life.state plan rows room new goes;
   settled = subst (λ (p : Plan). IsSettled life p.resources) same settles;
-  report = subst (λ (p : Plan). IsReport life.state life.acked (length p.programs.items) p.variables.items (items t)) same reports;
+  report = subst (λ (p : Plan). IsReport life.state life.acked (length p.programs.items) p.variables.items (items t))
+      same reports;
 }
 reported items begun life rows room here plan (Err e) same are new goes settles reports = tt

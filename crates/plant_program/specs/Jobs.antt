@@ -34,7 +34,8 @@ pub record IsCheck (budget : ℕ) (told : List ℕ) : Type 0 where
   pub is : IsPlanIn text budget plan
   pub sizes : told ≡ sizes_text plan
 
--- the report of a life of the plan in which the rows of a plant are latched and no others, nothing waits and all is acknowledged
+-- the report of a life of the plan in which the rows of a plant are latched and no others, nothing waits and all is
+-- acknowledged
 pub record IsReportOf (D : Type 0) (plan : Plan) (told : List ℕ) : Type 0 where
   pub life : CoreView D
   pub rows : List Latch
@@ -62,7 +63,8 @@ Tells D (jobs.Check source) end = IsCheck DEFAULT_BUDGET (end_text end)
 Tells D (jobs.Run job) end = RunTells D job end
 Tells D (jobs.Replay job) end = end ≡ NotYet
 
--- The source can't be read, of which files tell nothing, so X1 is not held to it; or the number of a text without a plan applies to it.
+-- The source can't be read, of which files tell nothing, so X1 is not held to it; or the number of a text without a
+-- plan applies to it.
 abbrev pub RefusesSource : ℕ → Fault → Type 0
 RefusesSource budget faults.Source = Unit {0}
 RefusesSource budget (faults.Build e) = (text : List ℕ) × Refused text budget e

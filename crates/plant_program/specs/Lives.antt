@@ -1,5 +1,6 @@
 -- What is told of a life.
-use Rattle.std.specs.Prelude.{◌≡◌, ◌-◌, ◌^◌, ◌<◌, ◌≤◌, ℕ, min, List, Bool, true, false, length, sum, count_by, slice_index, Option, Some, None}
+use Rattle.std.specs.Prelude.{◌≡◌, ◌-◌, ◌^◌, ◌<◌, ◌≤◌, ℕ, min, List, Bool, true, false, length, sum, count_by}
+use Rattle.std.specs.Prelude.{slice_index, Option, Some, None}
 use Rattle.st_plans.specs.declared.entry.Entry.{Entry}
 use Rattle.st_plans.specs.declared.entry.Entry.TheVariants.{Row, Done}
 use Rattle.st_types.specs.declared.outcome.Outcome.{Outcome}
@@ -40,7 +41,8 @@ fault_count state = count_by is_faulted (outcomes_of (plan_view state.plan) stat
 -- the overruns of so many programs, one after another; one that the core hasn't has none
 pub record AreOverruns (state : State) (programs : ℕ) (each : List ℕ) : Type 0 where
   pub number : length each ≡ programs
-  pub overruns : (p : ℕ) → p < programs → p < length state.plan.programs.items → HasOverruns (schedules_of (plan_view state.plan)) (made state).history p (slice_index each p)
+  pub overruns : (p : ℕ) → p < programs → p < length state.plan.programs.items
+      → HasOverruns (schedules_of (plan_view state.plan)) (made state).history p (slice_index each p)
   pub none : (p : ℕ) → p < programs → length state.plan.programs.items ≤ p → slice_index each p ≡ 0
 
 -- the overruns of so many programs in all, up to the greatest number of 64 bits

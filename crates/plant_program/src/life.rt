@@ -3,7 +3,8 @@
 ghost use Rattle.std.specs.Prelude.{◌≡◌, IfOk, Some, option_map, slice_get, unwrap_or, false, length};
 ghost use Rattle.st_plans.specs.Logs.{outcomes_of};
 ghost use Rattle.config.specs.PlanViews.{plan_view};
-ghost use Rattle.plant_program.specs.Lives.{done_count, fault_count, HasOverrunsInAll, IsReport, is_faulted, is_row, row_count};
+ghost use Rattle.plant_program.specs.Lives.{done_count, fault_count, HasOverrunsInAll, IsReport, is_faulted, is_row};
+ghost use Rattle.plant_program.specs.Lives.{row_count};
 
 use crate::report::{Counts, Findings, write_report};
 use commit_lock::Core;
@@ -27,7 +28,8 @@ fn is_row_at<D: Disk>(core: &Core<D>, number: usize) -> bool
 
 /// Whether the execution of that entry ended with a fault.
 fn is_faulted_at<D: Disk>(core: &Core<D>, number: usize) -> bool
-    ensures { result ≡ unwrap_or (option_map is_faulted (slice_get (outcomes_of (plan_view core.now.state.plan) core.now.state.start core.now.state.log) number)) false }
+    ensures { result ≡ unwrap_or (option_map is_faulted (slice_get
+        (outcomes_of (plan_view core.now.state.plan) core.now.state.start core.now.state.log) number)) false }
 {
     match core.outcome(number) {
         Some(Outcome::Faulted(_)) => true,
@@ -93,7 +95,8 @@ fn counts<D: Disk>(plan: &Plan, core: &Core<D>) -> Counts
 
 /// The report of a life of the plan; the only error is out of memory.
 pub fn report_of<D: Disk>(alloc: Global, plan: &Plan, core: &Core<D>) -> Result<Vec<u8>, AllocError>
-    ensures report { IfOk result (λ text. IsReport core.now.state core.now.acked (length plan.now.programs.items) plan.now.variables.items text.items) }
+    ensures report { IfOk result (λ text.
+        IsReport core.now.state core.now.acked (length plan.now.programs.items) plan.now.variables.items text.items) }
 {
     let mut report = Vec::new(alloc);
     let counts = counts(plan, core);

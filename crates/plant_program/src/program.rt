@@ -26,8 +26,8 @@ fn check<F: Files>(alloc: Global, files: &mut F, source: &str) -> Result<End, Fa
     Ok(End::Report(sizes_of(alloc, &plan)?))
 }
 
-/// Reads and builds the source, then reads the plant, then opens the store and starts, then runs. This version writes no trace, and
-/// does nothing where one is asked for.
+/// Reads and builds the source, then reads the plant, then opens the store and starts, then runs. This version writes
+/// no trace, and does nothing where one is asked for.
 fn run<F: Files>(alloc: Global, files: &mut F, job: &RunJob<'_>) -> Result<End, Fault>
     ensures told { IfOk result (λ end. RunTells F.Disk job.now end) }
 {
@@ -65,9 +65,9 @@ fn done<F: Files>(alloc: Global, files: &mut F, job: &Job<'_>) -> Result<End, Fa
     }
 }
 
-/// Does what the words ask, the program's name first, and gives the exit status: 0 done, 1 for words that are refused, and those of
-/// `Fault`. A fault is one line `fault CODE` or `fault CODE at PLACE` on the standard error, and nothing is on the standard output
-/// then.
+/// Does what the words ask, the program's name first, and gives the exit status: 0 done, 1 for words that are refused,
+/// and those of `Fault`. A fault is one line `fault CODE` or `fault CODE at PLACE` on the standard error, and nothing
+/// is on the standard output then.
 pub fn plant<F: Files, O: Write, E: Write>(
     alloc: Global,
     words: &[&str],

@@ -81,7 +81,8 @@ fn write_variables<W: Write, F: Findings>(
     variables: &[PlanVariable],
     findings: &F,
 ) -> io::Result<()>
-    ensures { OnOk result (Appends (W.contents out.old) (W.contents out.new) (variables_text (F.value_of findings.now) variables.now)) }
+    ensures { OnOk result
+        (Appends (W.contents out.old) (W.contents out.new) (variables_text (F.value_of findings.now) variables.now)) }
 {
     for variable in variables {
         write_line(out, &variable.path, findings.value(&variable.path))?;
@@ -96,7 +97,8 @@ pub fn write_report<W: Write, F: Findings>(
     variables: &[PlanVariable],
     findings: &F,
 ) -> io::Result<()>
-    ensures spelled { OnOk result (Appends (W.contents out.old) (W.contents out.new) (report_text counts.now (F.value_of findings.now) variables.now)) }
+    ensures spelled { OnOk result (Appends (W.contents out.old) (W.contents out.new)
+        (report_text counts.now (F.value_of findings.now) variables.now)) }
 {
     write_counts(out, counts)?;
     write_variables(out, variables, findings)

@@ -99,21 +99,23 @@ fn served<D: Disk>(
 ) -> Result<Vec<u8>, Fault>
     ensures settled { OnOk result (IsSettled core.new plan.now.resources) }
     ensures goes_on { OnOk result (GoesOn core.old.state core.new.state rows.items) }
-    ensures report { IfOk result (λ text. IsReport core.new.state core.new.acked (length plan.now.programs.items) plan.now.variables.items text.items) }
+    ensures report { IfOk result (λ text.
+        IsReport core.new.state core.new.acked (length plan.now.programs.items) plan.now.variables.items text.items) }
 {
     run_rows(alloc, core, plan.resources(), pace, rows)?;
     Ok(report_of(alloc, plan, core)?)
 }
 
-/// Reads the plant, opens the store and starts, then runs on one thread, and gives the report; the first fault ends it. It writes no
-/// trace.
+/// Reads the plant, opens the store and starts, then runs on one thread, and gives the report; the first fault ends it.
+/// It writes no trace.
 pub fn run_plan<F: Files>(
     alloc: Global,
     files: &mut F,
     plan: Plan,
     job: &RunJob<'_>,
 ) -> Result<Vec<u8>, Fault>
-    // The report is that of a life of the plan in which the rows of a plant are latched, nothing waits and all is acknowledged.
+    // The report is that of a life of the plan in which the rows of a plant are latched, nothing waits and all is
+    // acknowledged.
     ensures report { IfOk result (λ text. IsReportOf F.Disk plan text.items) }
 {
     let rows = read_rows(alloc, files, job.plant, &plan)?;

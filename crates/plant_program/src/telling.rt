@@ -22,8 +22,8 @@ pub(crate) enum End {
     NotYet,
 }
 
-/// Tells how a job ended, and gives the exit status; an error is that of the standard output. A status stands even where its line on
-/// the standard error can't be written.
+/// Tells how a job ended, and gives the exit status; an error is that of the standard output. A status stands even
+/// where its line on the standard error can't be written.
 pub(crate) fn tell<O: Write, E: Write>(
     end: Result<End, Fault>,
     out: &mut O,
@@ -51,8 +51,8 @@ pub(crate) fn tell<O: Write, E: Write>(
     }
 }
 
-/// Tells why the words are refused, or the help that they ask for, and gives the exit status; an error is that of the standard
-/// output.
+/// Tells why the words are refused, or the help that they ask for, and gives the exit status; an error is that of the
+/// standard output.
 pub(crate) fn tell_words<O: Write, E: Write>(
     refused: &WordsError,
     out: &mut O,

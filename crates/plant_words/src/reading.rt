@@ -76,8 +76,8 @@ pub fn is_out_of_memory(error: &WordsError) -> bool
     error.kind() == ErrorKind::OutOfMemory
 }
 
-/// Reads the words, the program's name first. A refusal shows as the text for the user; one that asks for help is for the standard
-/// output.
+/// Reads the words, the program's name first. A refusal shows as the text for the user; one that asks for help is for
+/// the standard output.
 pub fn read_words<'a>(alloc: Global, words: &'a [&'a str]) -> Result<Job<'a>, Error> {
     let matches = command(alloc)?.try_get_matches_from(words)?;
     let job = match matches.subcommand() {

@@ -7,16 +7,23 @@ use Rattle.config.specs.declared.task.Program.{Program}
 use Rattle.config.specs.PlanViews.{task_view, program_view}
 use Rattle.ready_list.specs.Schedules.{code_task_at, code_schedule}
 
-interval-same : (variables : List PlanVariable) (tasks : List Task) (t : ℕ) → (task_at (map (task_view variables) tasks) t).interval ≡ (code_task_at tasks t).interval
+interval-same : (variables : List PlanVariable) (tasks : List Task) (t : ℕ)
+    → (task_at (map (task_view variables) tasks) t).interval ≡ (code_task_at tasks t).interval
 interval-same variables [] t = refl
 interval-same variables (x ∷ tasks) zero = refl
 interval-same variables (x ∷ tasks) (suc t) = interval-same variables tasks t
 
-priority-same : (variables : List PlanVariable) (tasks : List Task) (t : ℕ) → (task_at (map (task_view variables) tasks) t).priority ≡ (code_task_at tasks t).priority
+priority-same : (variables : List PlanVariable) (tasks : List Task) (t : ℕ)
+    → (task_at (map (task_view variables) tasks) t).priority ≡ (code_task_at tasks t).priority
 priority-same variables [] t = refl
 priority-same variables (x ∷ tasks) zero = refl
 priority-same variables (x ∷ tasks) (suc t) = priority-same variables tasks t
 
-pub schedules-same : (variables : List PlanVariable) (tasks : List Task) (programs : List Program) → map (code_schedule tasks) programs ≡ map (schedule_of (map (task_view variables) tasks)) (map program_view programs)
+pub schedules-same : (variables : List PlanVariable) (tasks : List Task) (programs : List Program) → map
+    (code_schedule tasks) programs ≡ map (schedule_of (map (task_view variables) tasks)) (map program_view programs)
 schedules-same variables tasks [] = refl
-schedules-same variables tasks (p ∷ programs) = rw (interval-same variables tasks p.task, priority-same variables tasks p.task, schedules-same variables tasks programs) refl
+schedules-same variables tasks (p ∷ programs) = rw (
+  interval-same variables tasks p.task,
+  priority-same variables tasks p.task,
+  schedules-same variables tasks programs,
+) refl

@@ -1,13 +1,15 @@
 -- What the ready list keeps.
-use Rattle.std.specs.Prelude.{◌≡◌, ℕ, ◌+◌, ◌-◌, ◌<◌, ◌≤◌, Bool, true, false, ◌&&◌, ◌==◌, not, List, length, Option, Some, None, option_map, if◌then◌else◌, slice_index_or}
+use Rattle.std.specs.Prelude.{◌≡◌, ℕ, ◌+◌, ◌-◌, ◌<◌, ◌≤◌, Bool, true, false, ◌&&◌, ◌==◌, not, List, length, Option}
+use Rattle.std.specs.Prelude.{Some, None, option_map, if◌then◌else◌, slice_index_or}
 use Rattle.st_plans.specs.declared.entry.Activation.{Activation}
 use Rattle.st_plans.specs.declared.plan.Schedule.{Schedule}
-use Rattle.st_plans.specs.Due.{History, sample, sampled_at, rule, schedule_at, due, served, Waits, sooner, due_count, run_count, with_run}
+use Rattle.st_plans.specs.Due.{History, sample, sampled_at, rule, schedule_at, due, served, Waits, sooner, due_count}
+use Rattle.st_plans.specs.Due.{run_count, with_run}
 use Rattle.ready_list.specs.declared.standing.Standing.{Standing}
 use Rattle.ready_list.specs.declared.standing.NewRow.{NewRow}
 
--- the list as callers see it: where the programs run, SINGLE of each task at the last row, what is kept for each program, the moments
--- of the first row and of the last, and how many rows there were
+-- the list as callers see it: where the programs run, SINGLE of each task at the last row, what is kept for each
+-- program, the moments of the first row and of the last, and how many rows there were
 pub record Ready : Type 0 where
   pub schedules : List Schedule
   pub samples : List Bool
@@ -43,11 +45,13 @@ marked s true row = marked_at s.waiting s.overruns row
 -- what is kept for each program, before a row and after it
 abbrev pub AreMarked : List Schedule → List Standing → List Standing → List Bool → List Bool → NewRow → Type 0
 AreMarked schedules old new before samples row =
-    (p : ℕ) → p < length schedules → stand_at new p ≡ marked (stand_at old p) (is_due_at row (schedule_at schedules p) before samples) row.number
+    (p : ℕ) → p < length schedules
+    → stand_at new p ≡ marked (stand_at old p) (is_due_at row (schedule_at schedules p) before samples) row.number
 
 -- what waits of the program, if it runs on the resource
 abbrev pub offered : Schedule → Standing → ℕ → ℕ → Option Activation
-offered schedule s resource p = if schedule.resource == resource then option_map (λ k. record { program = p; row = k }) s.waiting else None
+offered schedule s resource p =
+    if schedule.resource == resource then option_map (λ k. record { program = p; row = k }) s.waiting else None
 
 abbrev pub offered_at : List Schedule → List Standing → ℕ → ℕ → Option Activation
 offered_at schedules standings resource p = offered (schedule_at schedules p) (stand_at standings p) resource p
@@ -60,23 +64,26 @@ sooner_of schedules (Some a) (Some b) = if sooner schedules b a then Some b else
 
 -- of the programs below n, what is to run first on the resource
 abbrev pub IsFirst : List Schedule → List Standing → ℕ → ℕ → Option Activation → Type 0
-IsFirst schedules standings resource n None = (p : ℕ) (b : Activation) → p < n → offered_at schedules standings resource p ≡ Some b → ⊥
+IsFirst schedules standings resource n None = (p : ℕ) (b : Activation) → p < n
+    → offered_at schedules standings resource p ≡ Some b → ⊥
 IsFirst schedules standings resource n (Some a) =
     (offered_at schedules standings resource a.program ≡ Some a)
     × (a.program < n)
-    × ((p : ℕ) (b : Activation) → p < n → offered_at schedules standings resource p ≡ Some b → sooner schedules b a ≡ false)
+    × ((p : ℕ) (b : Activation) → p < n → offered_at schedules standings resource p ≡ Some b
+    → sooner schedules b a ≡ false)
 
 -- 1 where it waits
 abbrev pub waiting_count : Option ℕ → ℕ
 waiting_count None = 0
 waiting_count (Some k) = 1
 
--- What is kept for a program is right: it waits with the row kept, or since its last Done it was due at no row; and the rows at which
--- it was due are its Dones, its overruns and the one that waits.
+-- What is kept for a program is right: it waits with the row kept, or since its last Done it was due at no row; and the
+-- rows at which it was due are its Dones, its overruns and the one that waits.
 pub record HasStanding (schedules : List Schedule) (h : History) (p : ℕ) (s : Standing) : Type 0 where
   pub some : (k : ℕ) → s.waiting ≡ Some k → Waits schedules h record { program = p; row = k }
   pub none : s.waiting ≡ None → (k : ℕ) → served p h.runs ≤ k → due schedules p h.sampled k ≡ false
-  pub count : due_count schedules p h.sampled (length h.sampled) ≡ run_count p h.runs + s.overruns + waiting_count s.waiting
+  pub count : due_count schedules p h.sampled (length h.sampled) ≡ run_count p h.runs + s.overruns
+      + waiting_count s.waiting
   pub within : served p h.runs ≤ length h.sampled
 
 -- The list is what these rows and runs make of it.
@@ -84,7 +91,8 @@ pub record IsReadyOf (h : History) (r : Ready) : Type 0 where
   pub rows : r.rows ≡ length h.sampled
   pub first : r.first ≡ (sampled_at h.sampled 0).moment
   pub last : r.last ≡ (sampled_at h.sampled (length h.sampled - 1)).moment
-  pub samples : (t : ℕ) → sample r.samples t ≡ (not (length h.sampled == 0) && sample (sampled_at h.sampled (length h.sampled - 1)).samples t)
+  pub samples : (t : ℕ) → sample r.samples t
+      ≡ (not (length h.sampled == 0) && sample (sampled_at h.sampled (length h.sampled - 1)).samples t)
   pub placed : (p : ℕ) → p < length r.schedules → HasStanding r.schedules h p (stand_at r.standings p)
 
 -- The activation is taken away exactly where it waits.

@@ -10,4 +10,9 @@ code_task_at tasks t = slice_index_or tasks t record { resource = 0; single = Ab
 
 -- where and how often a program runs, its task's interval and priority 0 where the task isn't there
 abbrev pub code_schedule : List Task → Program → Schedule
-code_schedule tasks p = record { resource = p.resource; task = p.task; interval = (code_task_at tasks p.task).interval; priority = (code_task_at tasks p.task).priority }
+code_schedule tasks p = record {
+  resource = p.resource;
+  task = p.task;
+  interval = (code_task_at tasks p.task).interval;
+  priority = (code_task_at tasks p.task).priority;
+}

@@ -1,6 +1,7 @@
 //! The ready list.
 
-ghost use Rattle.std.specs.Prelude.{◌≡◌, ◌+◌, ◌≤◌, ◌<◌, ◌^◌, ◌↔◌, ℕ, IsTrue, Some, None, false, if◌then◌else◌, length, IfOk, MatchOption, All};
+ghost use Rattle.std.specs.Prelude.{◌≡◌, ◌+◌, ◌≤◌, ◌<◌, ◌^◌, ◌↔◌, ℕ, IsTrue, Some, None, false, if◌then◌else◌, length};
+ghost use Rattle.std.specs.Prelude.{IfOk, MatchOption, All};
 ghost use Rattle.st_words.specs.declared.limits.TheConstants.{MOMENT_LIMIT};
 ghost use Rattle.st_plans.specs.Due.{History, Waits, NoneWaits, IsBest, HasOverruns, with_row, no_history};
 ghost use Rattle.st_plans.specs.Plans.{schedules_of as schedules_in};
@@ -75,7 +76,8 @@ fn moment_or(start: bool, moment: u64, old: u64) -> u64
 
 /// Whether the program is there and waits with that row.
 fn is_listed(standings: &[Standing], a: Activation) -> bool
-    ensures { IsTrue result ↔ ((a.program < length standings.now) × ((stand_at standings.now a.program).waiting ≡ Some a.row)) }
+    ensures { IsTrue result
+        ↔ ((a.program < length standings.now) × ((stand_at standings.now a.program).waiting ≡ Some a.row)) }
 {
     a.program < standings.len() && standings[a.program].waiting == Some(a.row)
 }
@@ -118,8 +120,8 @@ impl ReadyList {
         list_of(alloc, schedules, plan.tasks.len())
     }
 
-    /// Takes a row: its moment in milliseconds, later than that of the row before and less than 2^62, and a sample of SINGLE for
-    /// each task, FALSE where it has none. It takes no memory.
+    /// Takes a row: its moment in milliseconds, later than that of the row before and less than 2^62, and a sample of
+    /// SINGLE for each task, FALSE where it has none. It takes no memory.
     pub fn due(&mut self, moment: u64, samples: &[bool])
         requires number { length samples.now ≡ length self.old.samples }
         requires later { 0 < self.old.rows → self.old.last < moment }
@@ -150,11 +152,12 @@ impl ReadyList {
         self.rows += 1;
     }
 
-    /// What is to run next on the resource, by its number from 0: of what waits there the lowest PRIORITY number, then the lowest
-    /// row, then the program that was declared first. None where nothing waits.
+    /// What is to run next on the resource, by its number from 0: of what waits there the lowest PRIORITY number, then
+    /// the lowest row, then the program that was declared first. None where nothing waits.
     #[tactic(auto, using(crate::proofs::BestLemmas::best_first))]
     pub fn best(&self, resource: usize) -> Option<Activation>
-        ensures { (h : History) → IsReadyOf h self.now → MatchOption result (NoneWaits self.now.schedules h resource) (IsBest self.now.schedules h resource) }
+        ensures { (h : History) → IsReadyOf h self.now
+            → MatchOption result (NoneWaits self.now.schedules h resource) (IsBest self.now.schedules h resource) }
     {
         first_of(&self.schedules, &self.standings, resource)
     }
@@ -185,7 +188,8 @@ impl ReadyList {
     #[tactic(auto, using(crate::proofs::ReadyLemmas::overruns_there))]
     pub fn overruns(&self, program: usize) -> u64
         ensures none { length self.now.schedules ≤ program → result ≡ 0 }
-        ensures overruns { (h : History) → IsReadyOf h self.now → program < length self.now.schedules → HasOverruns self.now.schedules h program result }
+        ensures overruns { (h : History) → IsReadyOf h self.now → program < length self.now.schedules
+            → HasOverruns self.now.schedules h program result }
     {
         standing_at(&self.standings, program).overruns
     }

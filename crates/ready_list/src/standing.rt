@@ -37,9 +37,17 @@ fn sample(samples: &[bool], task: usize) -> bool
     }
 }
 
-/// Whether a program is due at the row, by its task's interval and the samples of SINGLE at the row before and at this one.
+/// Whether a program is due at the row, by its task's interval and the samples of SINGLE at the row before and at this
+/// one.
 fn is_due(row: NewRow, interval: u64, before: bool, sample: bool) -> bool
-    ensures { result ≡ rule interval record { is_first = row.number == 0; single_before = before; single = sample; first = row.first; last = row.last; moment = row.moment } }
+    ensures { result ≡ rule interval record {
+      is_first = row.number == 0;
+      single_before = before;
+      single = sample;
+      first = row.first;
+      last = row.last;
+      moment = row.moment;
+    } }
 {
     if sample {
         return !before;

@@ -1,5 +1,6 @@
 -- What a stop leaves while a short file is made one of two closed areas.
-use Rattle.std.proofs.Common.{◌-◌, ◌≡◌, ◌≢◌, ◌⊎◌, inl, inr, ⊎_elim, ℕ, ◌<◌, ◌≤◌, List, [], ◌∷◌, ◌++◌, length, get_or, take, replicate, zero, suc, refl, ◌∙◌, ap, arith, length-append}
+use Rattle.std.proofs.Common.{◌-◌, ◌≡◌, ◌≢◌, ◌⊎◌, inl, inr, ⊎_elim, ℕ, ◌<◌, ◌≤◌, List, [], ◌∷◌, ◌++◌, length, get_or}
+use Rattle.std.proofs.Common.{take, replicate, zero, suc, refl, ◌∙◌, ap, arith, length-append}
 use Rattle.std.proofs.lemmas.Grind.{common_steps}
 use Rattle.std.proofs.lemmas.Bool.{cases_eq}
 use Rattle.std.proofs.lemmas.Bool.Decides.{nat_tests}
@@ -19,7 +20,8 @@ unfolding recovered
 long_too_long file long = grind (arith, nat_tests)
 
 pub empty_nothing : (file : List ℕ) → IsEmpty file → recovered file ≡ Nothing
-empty_nothing file empty = recovered_shut 0 file (inl refl) empty.size (shut_area 0 file empty.first) ∙ ap alone (shut_area AREA_BYTES file empty.second)
+empty_nothing file empty = recovered_shut 0 file (inl refl) empty.size (shut_area 0 file empty.first)
+    ∙ ap alone (shut_area AREA_BYTES file empty.second)
 
 not_open : (n : ℕ) → n ≡ 0 → n ≢ OPEN_GATE
 not_open n is_zero here = absurd (omega arith)
@@ -64,9 +66,11 @@ zero_taken (suc m) (suc n) zero = refl
 zero_taken (suc m) (suc n) (suc i) = zero_taken m n i
 
 -- the front of a file of zero bytes
-pub zeros_in_front : (m n : ℕ) (bytes : List ℕ) → bytes ≡ replicate n 0 → m ≡ (FILE_BYTES - 1) → m ≤ n → IsZeros (take m bytes)
+pub zeros_in_front : (m n : ℕ) (bytes : List ℕ) → bytes ≡ replicate n 0 → m ≡ (FILE_BYTES - 1) → m ≤ n
+    → IsZeros (take m bytes)
 zeros_in_front m n bytes is size within = record {
-  size = length-take-le m bytes (let long : length bytes ≡ n = ap length is ∙ length-replicate n 0 in omega arith) ∙ size;
+  size = length-take-le m bytes (let long : length bytes ≡ n = ap length is ∙ length-replicate n 0 in omega arith)
+      ∙ size;
   all = λ i. ap (λ (l : List ℕ). get_or (take m l) i 0) is ∙ zero_taken m n i;
 }
 

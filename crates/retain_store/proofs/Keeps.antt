@@ -13,7 +13,8 @@ use Rattle.retain_store.specs.declared.store.Saves.{Saves}
 use Rattle.retain_store.specs.declared.store.Saves.TheVariants as saves
 use Rattle.retain_store.specs.Records.{Content}
 use Rattle.retain_store.specs.Recovered.{Recovered, Open, Nothing, Found, area, recovered}
-use Rattle.retain_store.specs.Areas.{alone, at_of, other_of, IsOlder, IsOpen, GateIs, IsReady, IsEither, IsSaved, IsSurveyed, areas_after_save}
+use Rattle.retain_store.specs.Areas.{alone, at_of, other_of, IsOlder, IsOpen, GateIs, IsReady, IsEither, IsSaved}
+use Rattle.retain_store.specs.Areas.{IsSurveyed, areas_after_save}
 use Rattle.retain_store.specs.Surveys.{held}
 use Rattle.retain_store.specs.Opening.{IsSettled}
 use Rattle.retain_store.specs.Kept.{StoreInvariant, IsLast}
@@ -30,13 +31,18 @@ gate_moves gates.Closed at c d same gate = λ here. gate (sym same ∙ here)
 -- the record of a generation
 pub held_last : (generation : ℕ) (content : Content) → IsLast generation (held generation content)
 held_last generation content = elim (cases_eq generation 0) [
-  | inl none ↦ let is : held generation content ≡ Nothing = grind (arith, nat_tests) in subst (IsLast generation) (sym is) none
-  | inr some ↦ let is : held generation content ≡ Found generation content = grind (arith, nat_tests) in subst (IsLast generation) (sym is) (refl, omega arith)
+  | inl none ↦ let is : held generation content ≡ Nothing = grind (arith, nat_tests) in
+      subst (IsLast generation) (sym is) none
+  | inr some ↦ let is : held generation content ≡ Found generation content = grind (arith, nat_tests) in
+      subst (IsLast generation) (sym is) (refl, omega arith)
 ]
 
 -- by the offsets of the halves
-surveyed_at : (file : List ℕ) (target : Half) (gate other_gate : Gate) (generation : ℕ) (last : Recovered) (n : ℕ) → at_of target ≡ n → IsReady (generation + 1) n file → GateIs gate n file → GateIs other_gate (AREA_BYTES - n) file → recovered file ≡ last
-    → IsSurveyed file (record { target = target; target_gate = gate; other_gate = other_gate; generation = generation }) last
+surveyed_at : (file : List ℕ) (target : Half) (gate other_gate : Gate) (generation : ℕ) (last : Recovered) (n : ℕ)
+    → at_of target ≡ n → IsReady (generation + 1) n file → GateIs gate n file → GateIs other_gate (AREA_BYTES - n) file
+    → recovered file ≡ last
+    → IsSurveyed file (record { target = target; target_gate = gate; other_gate = other_gate; generation = generation })
+    last
 surveyed_at file target gate other_gate generation last n is ready gate_is other_is last_is = record {
   ready = subst (λ (k : ℕ). IsReady (generation + 1) k file) (sym is) ready;
   gate = subst (λ (k : ℕ). GateIs gate k file) (sym is) gate_is;
@@ -44,38 +50,52 @@ surveyed_at file target gate other_gate generation last n is ready gate_is other
   last_is = last_is;
 }
 
-surveyed_next : (first file : List ℕ) (areas : Areas) (last : Recovered) (content : Content) → IsSurveyed first areas last → IsSaved (areas.generation + 1) (at_of areas.target) content first file
+surveyed_next : (first file : List ℕ) (areas : Areas) (last : Recovered) (content : Content)
+    → IsSurveyed first areas last → IsSaved (areas.generation + 1) (at_of areas.target) content first file
     → IsSurveyed file (areas_after_save areas) (Found (areas.generation + 1) content)
 surveyed_next first file areas last content surveyed saved =
     let at = at_of areas.target in
     let half = is_half areas.target in
     let generation = areas.generation + 1 in
-    let here : area (AREA_BYTES - (AREA_BYTES - at)) file ≡ Open generation content = subst (λ (n : ℕ). area n file ≡ Open generation content) (sym (twice at half)) saved.saved in
-    surveyed_at file (other_of areas.target) areas.other_gate gates.Open generation (Found generation content) (AREA_BYTES - at) (other_at areas.target)
+    let here : area (AREA_BYTES - (AREA_BYTES - at)) file ≡ Open generation content =
+    subst (λ (n : ℕ). area n file ≡ Open generation content) (sym (twice at half)) saved.saved in
+    surveyed_at file (other_of areas.target) areas.other_gate gates.Open generation (Found generation content)
+    (AREA_BYTES - at) (other_at areas.target)
     (record {
       spare = record { size = saved.size; last = saved.found ∙ ap alone (sym here) };
-      older = subst (IsOlder (generation + 1)) (sym here) (let below : generation < generation + 1 = omega arith in below);
+      older =
+          subst (IsOlder (generation + 1)) (sym here) (let below : generation < generation + 1 = omega arith in below);
     })
     (gate_moves areas.other_gate (AREA_BYTES - at) file first saved.other_gate surveyed.other_gate)
     (subst (λ (n : ℕ). IsOpen n file) (sym (twice at half)) saved.gate)
     saved.found
 
 -- after a save that succeeded
-pub kept_ok : (tells : Type 0) (first file : List ℕ) (files files' : List ℕ → Type 0) (areas : Areas) (met : Saves) (last : Recovered) (content : Content) (size : ℕ) → HEADER_BYTES ≤ size → size ≤ (AREA_BYTES - 1)
-    → (tells → IsSettled first files areas last) → (tells → IsSaved (areas.generation + 1) (at_of areas.target) content first file) → (tells → Only file files')
-    → StoreInvariant tells file files' (areas_after_save areas) met (held (areas.generation + 1) content) (held (areas.generation + 1) content) size
+pub kept_ok : (tells : Type 0) (first file : List ℕ) (files files' : List ℕ → Type 0) (areas : Areas) (met : Saves)
+    (last : Recovered) (content : Content) (size : ℕ) → HEADER_BYTES ≤ size → size ≤ (AREA_BYTES - 1)
+    → (tells → IsSettled first files areas last)
+    → (tells → IsSaved (areas.generation + 1) (at_of areas.target) content first file) → (tells → Only file files')
+    → StoreInvariant tells file files' (areas_after_save areas) met (held (areas.generation + 1) content)
+    (held (areas.generation + 1) content) size
 kept_ok tells first file files files' areas met last content size least greatest settled saved synced =
-    let is : held (areas.generation + 1) content ≡ Found (areas.generation + 1) content = held_some (areas.generation + 1) content (let some : 0 < areas.generation + 1 = omega arith in some) in
+    let is : held (areas.generation + 1) content ≡ Found (areas.generation + 1) content =
+    held_some (areas.generation + 1) content (let some : 0 < areas.generation + 1 = omega arith in some) in
     record {
       left = λ t c may. inl (ap recovered (synced t c may) ∙ (saved t).found ∙ sym is);
-      settled = λ t ok. record { synced = synced t; surveyed = subst (IsSurveyed file (areas_after_save areas)) (sym is) (surveyed_next first file areas last content (settled t).surveyed (saved t)) };
+      settled = λ t ok. record {
+        synced = synced t;
+        surveyed = subst (IsSurveyed file (areas_after_save areas)) (sym is)
+            (surveyed_next first file areas last content (settled t).surveyed (saved t));
+      };
       least = least;
       greatest = greatest;
     }
 
 -- after one that failed
-pub kept_err : (tells : Type 0) (file : List ℕ) (files : List ℕ → Type 0) (areas : Areas) (last tried : Recovered) (size : ℕ) → HEADER_BYTES ≤ size → size ≤ (AREA_BYTES - 1)
-    → (tells → (c : List ℕ) → files c → IsEither last tried (recovered c)) → StoreInvariant tells file files areas saves.Broken last tried size
+pub kept_err : (tells : Type 0) (file : List ℕ) (files : List ℕ → Type 0) (areas : Areas) (last tried : Recovered)
+    (size : ℕ) → HEADER_BYTES ≤ size → size ≤ (AREA_BYTES - 1)
+    → (tells → (c : List ℕ) → files c → IsEither last tried (recovered c))
+    → StoreInvariant tells file files areas saves.Broken last tried size
 kept_err tells file files areas last tried size least greatest left = record {
   left = left;
   settled = λ t ok. cc;
@@ -84,7 +104,8 @@ kept_err tells file files areas last tried size least greatest left = record {
 }
 
 -- after the file was opened
-pub kept_opened : (tells : Type 0) (file : List ℕ) (files : List ℕ → Type 0) (areas : Areas) (last : Recovered) (size : ℕ) → HEADER_BYTES ≤ size → size ≤ (AREA_BYTES - 1) → (tells → IsSettled file files areas last)
+pub kept_opened : (tells : Type 0) (file : List ℕ) (files : List ℕ → Type 0) (areas : Areas) (last : Recovered)
+    (size : ℕ) → HEADER_BYTES ≤ size → size ≤ (AREA_BYTES - 1) → (tells → IsSettled file files areas last)
     → StoreInvariant tells file files areas saves.Working last last size
 kept_opened tells file files areas last size least greatest settled = record {
   left = λ t c may. inl (ap recovered ((settled t).synced c may) ∙ (settled t).surveyed.last_is);
@@ -94,7 +115,8 @@ kept_opened tells file files areas last size least greatest settled = record {
 }
 
 -- after a save that was refused because the generations are used up
-pub kept_used_up : (tells : Type 0) (file : List ℕ) (files : List ℕ → Type 0) (areas : Areas) (last tried : Recovered) (size : ℕ) → StoreInvariant tells file files areas saves.Working last tried size
+pub kept_used_up : (tells : Type 0) (file : List ℕ) (files : List ℕ → Type 0) (areas : Areas) (last tried : Recovered)
+    (size : ℕ) → StoreInvariant tells file files areas saves.Working last tried size
     → StoreInvariant tells file files areas saves.UsedUp last tried size
 kept_used_up tells file files areas last tried size kept = record {
   left = kept.left;

@@ -8,7 +8,8 @@ use Rattle.retain_store.specs.declared.area.Gate.TheVariants as gates
 use Rattle.retain_store.specs.declared.area.Half.{Half}
 use Rattle.retain_store.specs.declared.area.Half.TheVariants.{First, Second}
 use Rattle.retain_store.specs.Records.{Content}
-use Rattle.retain_store.specs.Recovered.{Area, Closed, Damaged, Open, Recovered, Nothing, Refused, Found, area, recovered}
+use Rattle.retain_store.specs.Recovered.{Area, Closed, Damaged, Open, Recovered, Nothing, Refused, Found, area}
+use Rattle.retain_store.specs.Recovered.{recovered}
 
 -- where an area begins
 abbrev pub at_of : Half → ℕ
@@ -96,8 +97,8 @@ pub record IsEmpty (file : List ℕ) : Type 0 where
   pub first : IsShut 0 file
   pub second : IsShut AREA_BYTES file
 
--- How the areas of a whole file stand: where the next record goes, whose generation is one more than the last one's, both
--- gates, and the last record.
+-- How the areas of a whole file stand: where the next record goes, whose generation is one more than the last one's,
+-- both gates, and the last record.
 pub record IsSurveyed (file : List ℕ) (areas : Areas) (last : Recovered) : Type 0 where
   pub ready : IsReady (areas.generation + 1) (at_of areas.target) file
   pub gate : GateIs areas.target_gate (at_of areas.target) file

@@ -13,8 +13,9 @@ use Rattle.retain_store.specs.Areas.{IsEither}
 use Rattle.retain_store.specs.Surveys.{held}
 use Rattle.retain_store.specs.Opening.{IsSettled}
 
--- what callers see of a store: its disk, the generation of the last record (0 for none), the last record, the record that
--- a failed save tried (else the last), whether a save has failed since it was opened, and the greatest body in bytes
+-- what callers see of a store: its disk, the generation of the last record (0 for none), the last record, the record
+-- that a failed save tried (else the last), whether a save has failed since it was opened, and the greatest body in
+-- bytes
 pub record StoreView (D : Type 0) : Type 0 where
   pub disk : D
   pub generation : ℕ
@@ -50,16 +51,18 @@ has_failed saves.Working = false
 has_failed saves.Broken = true
 has_failed saves.UsedUp = true
 
--- After a failure of the device the record that was to be saved was tried; a save that was refused makes no device call.
+-- After a failure of the device the record that was to be saved was tried; a save that was refused makes no device
+-- call.
 abbrev pub IsTriedAfter : {D : Type 0} → StoreFault → Content → StoreView D → StoreView D → Type 0
 IsTriedAfter faults.Device content old new = new.tried ≡ Found (old.generation + 1) content
 IsTriedAfter faults.Generations content old new = (new.tried ≡ old.last) × (new.disk ≡ old.disk)
 IsTriedAfter faults.Failed content old new = new ≡ old
 IsTriedAfter other content old new = ⊥
 
--- Each file that a stop now may leave is recovered to the last record or to a failed save's; where no save has failed, the
--- file is synced and the areas are known. The frame has room for a header and a body.
-pub record StoreInvariant (tells : Type 0) (file : List ℕ) (files : List ℕ → Type 0) (areas : Areas) (met : Saves) (last tried : Recovered) (size : ℕ) : Type 0 where
+-- Each file that a stop now may leave is recovered to the last record or to a failed save's; where no save has failed,
+-- the file is synced and the areas are known. The frame has room for a header and a body.
+pub record StoreInvariant (tells : Type 0) (file : List ℕ) (files : List ℕ → Type 0) (areas : Areas) (met : Saves)
+    (last tried : Recovered) (size : ℕ) : Type 0 where
   pub left : tells → (c : List ℕ) → files c → IsEither last tried (recovered c)
   pub settled : tells → met ≡ saves.Working → IsSettled file files areas last
   pub least : HEADER_BYTES ≤ size

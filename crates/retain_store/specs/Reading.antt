@@ -1,10 +1,12 @@
 -- The record that a body spells, field by field from the front.
-use Rattle.std.specs.Prelude.{◌≡◌, ◌-◌, nat_le, nat_lt, ◌==◌, ℕ, zero, suc, ℤ, pos, Bool, true, ◌&&◌, not, if◌then◌else◌, Option, Some, None, List, [], ◌∷◌, length, map, take, drop, bytes_eq}
+use Rattle.std.specs.Prelude.{◌≡◌, ◌-◌, nat_le, nat_lt, ◌==◌, ℕ, zero, suc, ℤ, pos, Bool, true, ◌&&◌, not}
+use Rattle.std.specs.Prelude.{if◌then◌else◌, Option, Some, None, List, [], ◌∷◌, length, map, take, drop, bytes_eq}
 use Rattle.std.specs.List.{find, list_any}
 use Rattle.std.specs.Int.{Width, w32, w64, byte_len, from_be_bytes, cast_signed}
 use Rattle.st_words.specs.declared.limits.TheConstants.{MAX_RECORD_BODY, MOMENT_LIMIT}
 use Rattle.st_words.specs.declared.kind.Kind.{Kind}
-use Rattle.st_words.specs.declared.kind.Kind.TheVariants.{Sint, Int, Dint, Lint, Usint, Uint, Udint, Ulint, Byte, Word, Dword, Lword, Time, Bool as Boolean}
+use Rattle.st_words.specs.declared.kind.Kind.TheVariants.{Sint, Int, Dint, Lint, Usint, Uint, Udint, Ulint, Byte, Word}
+use Rattle.st_words.specs.declared.kind.Kind.TheVariants.{Dword, Lword, Time, Bool as Boolean}
 use Rattle.st_words.specs.Kinds.{row_of, is_signed, holds}
 use Rattle.st_words.specs.Values.{Datum}
 use Rattle.retain_store.specs.Records.{Content, Line, is_path_text, wide_of}
@@ -16,7 +18,8 @@ None >>= f = None
 
 -- the number in the first bytes, and the bytes after it
 abbrev pub number_at : Width → List ℕ → Option (ℕ × List ℕ)
-number_at w bytes = if nat_lt (length bytes) (byte_len w) then None else Some (from_be_bytes w (take (byte_len w) bytes), drop (byte_len w) bytes)
+number_at w bytes = if nat_lt (length bytes) (byte_len w) then None
+    else Some (from_be_bytes w (take (byte_len w) bytes), drop (byte_len w) bytes)
 
 -- what stands before the first such byte, and what stands after it
 abbrev pub cut : ℕ → List ℕ → Option (List ℕ × List ℕ)
@@ -95,7 +98,9 @@ unfoldable pub decoded : List ℕ → Option Content
 decoded body = if nat_le (length body) MAX_RECORD_BODY then (do
   parts ← parts_at body
   all ← variables_in (length parts.layout) parts.layout parts.rest
-  if are_distinct (map (λ v. v.path) all) then Some (record { moment = parts.moment; layout = parts.layout; values = map (λ v. v.value) all }) else None) else None
+  if are_distinct (map (λ v. v.path) all)
+      then Some (record { moment = parts.moment; layout = parts.layout; values = map (λ v. v.value) all }) else None)
+    else None
 
 -- ---- paths by their offsets
 

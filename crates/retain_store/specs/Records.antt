@@ -1,5 +1,6 @@
 -- Records: what a body of an area holds, and the bytes that spell it.
-use Rattle.std.specs.Prelude.{◌≡◌, ◌+◌, ◌<◌, ◌≤◌, nat_le, ℕ, Bool, false, true, ◌&&◌, if◌then◌else◌, Option, Some, None, IfSome, List, [], ◌∷◌, ◌++◌, length, map, bytes_eq, codes}
+use Rattle.std.specs.Prelude.{◌≡◌, ◌+◌, ◌<◌, ◌≤◌, nat_le, ℕ, Bool, false, true, ◌&&◌, if◌then◌else◌, Option, Some, None}
+use Rattle.std.specs.Prelude.{IfSome, List, [], ◌∷◌, ◌++◌, length, map, bytes_eq, codes}
 use Rattle.std.specs.List.{flat_map, list_all, AllByRecursion, IsDistinct}
 use Rattle.std.specs.Int.{Width, w8, w16, w32, w64, to_be_bytes, cast_unsigned}
 use Rattle.st_words.specs.declared.limits.TheConstants.{MAX_RECORD_BODY, MOMENT_LIMIT}
@@ -48,7 +49,8 @@ moment_code (Some t) = t + 1
 
 -- the whole bytes that hold a value of the type
 abbrev pub wide_of : Kind → Width
-wide_of k = if nat_le (row_of k).bits 8 then w8 else if nat_le (row_of k).bits 16 then w16 else if nat_le (row_of k).bits 32 then w32 else w64
+wide_of k = if nat_le (row_of k).bits 8 then w8 else if nat_le (row_of k).bits 16 then w16
+    else if nat_le (row_of k).bits 32 then w32 else w64
 
 -- big-endian, two's complement; a BOOL is one byte 0 or 1
 abbrev pub value_bytes : Datum → List ℕ
@@ -56,7 +58,8 @@ value_bytes d = to_be_bytes (wide_of d.kind) (cast_unsigned (wide_of d.kind) d.n
 
 -- the spelling of a record
 abbrev pub record_bytes : Content → List ℕ
-record_bytes c = to_be_bytes w64 (moment_code c.moment) ++ to_be_bytes w32 (length c.layout) ++ c.layout ++ flat_map value_bytes c.values
+record_bytes c = to_be_bytes w64 (moment_code c.moment) ++ to_be_bytes w32 (length c.layout) ++ c.layout
+    ++ flat_map value_bytes c.values
 
 -- what a record may hold: a moment below its limit, values that their types hold, and a line for each of them
 pub record IsRecordable (c : Content) : Type 0 where

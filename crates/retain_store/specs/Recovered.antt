@@ -1,5 +1,6 @@
 -- What a retain file is recovered to.
-use Rattle.std.specs.Prelude.{◌+◌, ◌-◌, ◌==◌, nat_lt, nat_le, ℕ, Option, Some, None, List, length, take, drop, slice_index, if◌then◌else◌}
+use Rattle.std.specs.Prelude.{◌+◌, ◌-◌, ◌==◌, nat_lt, nat_le, ℕ, Option, Some, None, List, length, take, drop}
+use Rattle.std.specs.Prelude.{slice_index, if◌then◌else◌}
 use Rattle.std.specs.Int.{w32, w64, from_be_bytes}
 use Rattle.st_words.specs.declared.limits.TheConstants.{MAX_RECORD_BODY}
 use Rattle.retain_store.specs.declared.format.TheConstants.{AREA_BYTES, FILE_BYTES, HEADER_BYTES, OPEN_GATE}
@@ -27,7 +28,8 @@ area_with generation (Some content) = if generation == 0 then Damaged else Open 
 -- the body is the next bytes after the header, and not too long
 abbrev pub area_of_parts : ℕ → ℕ → List ℕ → Area
 area_of_parts size generation behind =
-    if nat_le size MAX_RECORD_BODY then area_with generation (decoded (take size (drop HEADER_BYTES behind))) else Damaged
+    if nat_le size MAX_RECORD_BODY then area_with generation (decoded (take size (drop HEADER_BYTES behind)))
+    else Damaged
 
 -- after an open gate: 8 bytes of the generation, 4 of the body's length, and the body
 unfoldable pub opened : List ℕ → Area

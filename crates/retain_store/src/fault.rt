@@ -12,7 +12,8 @@ pub enum StoreFault {
     /// The file is longer than 262,144 bytes.
     #[error("S1")]
     TooLong,
-    /// A gate is open over a body that is no record or over the generation 0, or both areas are open with one generation.
+    /// A gate is open over a body that is no record or over the generation 0, or both areas are open with one
+    /// generation.
     #[error("S2")]
     Damaged,
     /// The device failed.

@@ -7,8 +7,8 @@ ghost use Rattle.retain_store.specs.Records.{Content, IsRecord, value_bytes};
 ghost use Rattle.retain_store.specs.Reading.{decoded};
 ghost use Rattle.retain_store.specs.FieldLaws.{IsBytes};
 
-/// Bytes are decoded to a content exactly where they are a record of it. So a content has one spelling, and a spelling has
-/// one content.
+/// Bytes are decoded to a content exactly where they are a record of it. So a content has one spelling, and a spelling
+/// has one content.
 pub fn records_have_one_spelling()
     ensures decoded { (body : List ℕ) (c : Content) → IsRecord body c → decoded body ≡ Some c }
     ensures recorded { (body : List ℕ) (c : Content) → IsBytes body → decoded body ≡ Some c → IsRecord body c }

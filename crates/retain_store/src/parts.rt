@@ -17,7 +17,8 @@ pub(crate) struct Parts<'a> {
 /// The fields at the front of a body, and the bytes after them.
 #[tactic(auto, unfolding(crate::specs::Reading::parts_at))]
 pub(crate) fn parts_at(body: &[u8]) -> Option<Parts<'_>>
-    ensures { option_map (λ p. record { moment = p.moment; layout = p.layout.now; rest = p.rest.now }) result ≡ parts_at body.now }
+    ensures { option_map (λ p. record { moment = p.moment; layout = p.layout.now; rest = p.rest.now }) result
+        ≡ parts_at body.now }
 {
     let (code, behind) = u64_at(body)?;
     let (size, behind) = u32_at(behind)?;

@@ -29,8 +29,8 @@ impl LineRoom {
     }
 }
 
-/// Whether no two of the lines that begin at these offsets have one path. It sorts the offsets by their paths, in n log n
-/// steps for n lines, and takes no memory.
+/// Whether no two of the lines that begin at these offsets have one path. It sorts the offsets by their paths, in n log
+/// n steps for n lines, and takes no memory.
 pub(crate) fn are_distinct(text: &[u8], starts: &mut [u32]) -> bool
     ensures { result ≡ are_distinct (map (path_from text.now) starts.old) }
 {

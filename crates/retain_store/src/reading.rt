@@ -16,8 +16,8 @@ struct Variable<'a> {
     value: Value,
 }
 
-/// Reads lines and their values to the end of both: where the lines begin, and the values. False where these are no lines
-/// with their values; the two lists are left open then. It takes no memory.
+/// Reads lines and their values to the end of both: where the lines begin, and the values. False where these are no
+/// lines with their values; the two lists are left open then. It takes no memory.
 pub(crate) fn read_variables(
     text: &[u8],
     bytes: &[u8],
@@ -52,7 +52,8 @@ pub(crate) fn read_variables(
 /// The line at the front of the text and the value at the front of the bytes, and what stands after them.
 #[tactic(auto, unfolding(crate::specs::Reading::variable_at))]
 fn variable_at<'a>(text: &'a [u8], bytes: &'a [u8]) -> Option<(Variable<'a>, &'a [u8], &'a [u8])>
-    ensures { option_map (λ p. (record { path = p.0.path.now; value = p.0.value }, p.1.now, p.2.now)) result ≡ variable_at text.now bytes.now }
+    ensures { option_map (λ p. (record { path = p.0.path.now; value = p.0.value }, p.1.now, p.2.now)) result
+        ≡ variable_at text.now bytes.now }
 {
     let (line, text_behind) = line_at(text)?;
     let Some((value, bytes_behind)) = value_at(line.kind, bytes) else {

@@ -57,8 +57,8 @@ impl Record {
         &self.values
     }
 
-    /// No moment, no layout text and no values, and room for every record; `AllocError` where there is no memory for it.
-    /// No other call of a record takes memory.
+    /// No moment, no layout text and no values, and room for every record; `AllocError` where there is no memory for
+    /// it. No other call of a record takes memory.
     pub(crate) fn with_room(alloc: Global) -> Result<Record, AllocError>
         ensures { IfOk result (λ r. r ≡ record { moment = None; layout = []; values = [] }) }
     {
@@ -72,7 +72,8 @@ impl Record {
     /// Makes it hold these. It takes no memory.
     pub(crate) fn set(&mut self, moment: Option<u64>, layout: &[u8], values: &[Value])
         requires sound { IsRecordable (record { moment = moment; layout = layout.now; values = values.now }) }
-        requires short { length (record_bytes (record { moment = moment; layout = layout.now; values = values.now })) ≤ MAX_RECORD_BODY }
+        requires short { length (record_bytes (record { moment = moment; layout = layout.now; values = values.now }))
+            ≤ MAX_RECORD_BODY }
         ensures { self.new ≡ record { moment = moment; layout = layout.now; values = values.now } }
     {
         self.moment = moment;

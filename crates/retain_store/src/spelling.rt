@@ -17,9 +17,12 @@ pub(crate) fn spell(
 ) -> usize
     requires moment { IfSome moment (λ t. t < MOMENT_LIMIT) }
     requires layout { length layout.now < 2 ^ 32 }
-    requires room { length (record_bytes (record { moment = moment; layout = layout.now; values = values.now })) ≤ length buffer.old }
-    ensures length { result ≡ length (record_bytes (record { moment = moment; layout = layout.now; values = values.now })) }
-    ensures spelled { take result buffer.new ≡ record_bytes (record { moment = moment; layout = layout.now; values = values.now }) }
+    requires room { length (record_bytes (record { moment = moment; layout = layout.now; values = values.now }))
+        ≤ length buffer.old }
+    ensures length { result
+        ≡ length (record_bytes (record { moment = moment; layout = layout.now; values = values.now })) }
+    ensures spelled { take result buffer.new
+        ≡ record_bytes (record { moment = moment; layout = layout.now; values = values.now }) }
     ensures same_room { length buffer.new ≡ length buffer.old }
 {
     let at = put(buffer, 0, &moment_code(moment).to_be_bytes());

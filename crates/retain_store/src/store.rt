@@ -1,6 +1,7 @@
 //! A store that saves records, one after another.
 
-ghost use Rattle.std.specs.Prelude.{◌≡◌, ◌≢◌, ◌≤◌, ◌+◌, ◌-◌, ◌^◌, ◌↔◌, List, ℕ, true, false, IfOk, IfErr, IfSome, OnOk, OnErr, IsErrOf, MatchResult, length, take};
+ghost use Rattle.std.specs.Prelude.{◌≡◌, ◌≢◌, ◌≤◌, ◌+◌, ◌-◌, ◌^◌, ◌↔◌, List, ℕ, true, false, IfOk, IfErr, IfSome, OnOk};
+ghost use Rattle.std.specs.Prelude.{OnErr, IsErrOf, MatchResult, length, take};
 ghost use Rattle.std.specs.Option.{option_copied};
 ghost use Rattle.st_words.specs.declared.limits.TheConstants.{MAX_RECORD_BODY};
 ghost use Rattle.disk.specs.Disk.{Only};
@@ -34,11 +35,11 @@ enum Saves {
     UsedUp,
 }
 
-/// A retain file with its last record. It saves a record in such an order that a stop at any moment leaves the last record
-/// or the one being saved. Contracts see its disk, the last record and the one that a failed save tried.
+/// A retain file with its last record. It saves a record in such an order that a stop at any moment leaves the last
+/// record or the one being saved. Contracts see its disk, the last record and the one that a failed save tried.
 ///
-/// The type keeps that the last record is sound, and that each file which a stop now may leave is recovered to one of these
-/// two; on a disk that tells nothing it keeps nothing of files.
+/// The type keeps that the last record is sound, and that each file which a stop now may leave is recovered to one of
+/// these two; on a disk that tells nothing it keeps nothing of files.
 #[derive(Drop)]
 pub struct Store<D: Disk> {
     disk: D,
@@ -108,8 +109,8 @@ impl Room {
 }
 
 impl<D: Disk> Store<D> {
-    /// Opens the file of a disk. Its memory, for any record that the file may hold and for saves of bodies of at most `room`
-    /// bytes, is taken before the first device call.
+    /// Opens the file of a disk. Its memory, for any record that the file may hold and for saves of bodies of at most
+    /// `room` bytes, is taken before the first device call.
     ///
     /// S1 to S3, and S5 out of memory. An error gives the disk back, and makes no more calls of it.
     pub fn open(alloc: Global, disk: D, room: usize) -> Result<Store<D>, (StoreFault, D)>
@@ -178,8 +179,8 @@ impl<D: Disk> Store<D> {
 
     /// Saves a record. At `Ok` it is the last, and a stop leaves it. It takes no memory.
     ///
-    /// S3 where the device failed, S4 before any device call where the generations are used up; after one of these S6, until
-    /// the disk is opened again. An error leaves the last record as it was.
+    /// S3 where the device failed, S4 before any device call where the generations are used up; after one of these S6,
+    /// until the disk is opened again. An error leaves the last record as it was.
     pub fn save(
         &mut self,
         moment: Option<u64>,

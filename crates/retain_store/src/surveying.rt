@@ -119,8 +119,8 @@ fn choose(first: Look, second: Look) -> Choice
     }
 }
 
-/// Tells how the areas of a whole file stand, and leaves its last record in `last` where there is one; `None` for a file
-/// that is refused for what is damaged in it.
+/// Tells how the areas of a whole file stand, and leaves its last record in `last` where there is one; `None` for a
+/// file that is refused for what is damaged in it.
 pub(crate) fn survey(
     file: &[u8],
     last: &mut Record,

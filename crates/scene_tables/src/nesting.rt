@@ -15,7 +15,8 @@ fn nested(alloc: Global, times: usize, parts: &str) -> Result<Vec<u8>, AllocErro
     Ok(text)
 }
 
-/// The text that a row writes: `\^62 head|(|1|)|tail` is a text with so many openings and closings, and any other has escapes alone.
+/// The text that a row writes: `\^62 head|(|1|)|tail` is a text with so many openings and closings, and any other has
+/// escapes alone.
 pub fn spelled(alloc: Global, written: &str) -> Result<Vec<u8>, AllocError> {
     if let Some(deep) = written.strip_prefix("\\^") {
         if let Some((times, parts)) = deep.split_once(' ') {

@@ -3,8 +3,8 @@
 use std::alloc::{AllocError, AllocGlobal, Global};
 use std::io;
 
-/// Reads a table from standard input: a line with the name of a scene, then its rows `GIVEN ==> ANSWER`. It prints the scenes, each
-/// row that is answered otherwise, and how many rows are answered so.
+/// Reads a table from standard input: a line with the name of a scene, then its rows `GIVEN ==> ANSWER`. It prints the
+/// scenes, each row that is answered otherwise, and how many rows are answered so.
 pub fn read_table<
     R: Input + Print + AllocGlobal,
     F: Fn(Global, &str) -> Result<String, AllocError>,

@@ -1,5 +1,6 @@
 -- What a core keeps when an execution is committed.
-use Rattle.std.proofs.Common.{◌≡◌, ℕ, Bool, true, false, IsTrue, ◌↔◌, List, [], ◌∷◌, ◌++◌, length, map, Option, Some, None, option_map, slice_get, slice_index, refl, sym, ap, subst, ◌∙◌, arith, length-append}
+use Rattle.std.proofs.Common.{◌≡◌, ℕ, Bool, true, false, IsTrue, ◌↔◌, List, [], ◌∷◌, ◌++◌, length, map, Option, Some}
+use Rattle.std.proofs.Common.{None, option_map, slice_get, slice_index, refl, sym, ap, subst, ◌∙◌, arith, length-append}
 use Rattle.std.proofs.lemmas.Option.{slice_get-map}
 use Rattle.st_words.specs.Values.{Datum}
 use Rattle.st_plans.specs.declared.entry.Entry.{Entry}
@@ -39,9 +40,11 @@ use Rattle.serial_core.proofs.PlanSlots.{values_back, variables_alone, inputs_be
 use Rattle.serial_core.proofs.TakeLemmas.{found, same_row, values_are, waits-row, row-there}
 
 -- equal texts run alike
-same_run : (X : Type 0) (f : runs.Program → ℕ → Store → Store → ℕ → X) (t t' : CodeView) (b b' : ℕ) (s s' i i' : Store) (m m' : ℕ) → t ≡ t' → b ≡ b' → s ≡ s' → i ≡ i' → m ≡ m' → f (program_of t) b s i m ≡ f (program_of t') b' s' i' m'
+same_run : (X : Type 0) (f : runs.Program → ℕ → Store → Store → ℕ → X) (t t' : CodeView) (b b' : ℕ) (s s' i i' : Store)
+    (m m' : ℕ) → t ≡ t' → b ≡ b' → s ≡ s' → i ≡ i' → m ≡ m' → f (program_of t) b s i m ≡ f (program_of t') b' s' i' m'
 same_run X f t t' b b' s s' i i' m m' et eb es ei em =
-    ap (λ x. f (program_of x) b s i m) et ∙ ap (λ x. f (program_of t') x s i m) eb ∙ ap (λ x. f (program_of t') b' x i m) es
+    ap (λ x. f (program_of x) b s i m) et ∙ ap (λ x. f (program_of t') x s i m) eb
+    ∙ ap (λ x. f (program_of t') b' x i m) es
     ∙ ap (λ x. f (program_of t') b' s' x m) ei ∙ ap (λ x. f (program_of t') b' s' i' x) em
 
 -- an activation's own program
@@ -50,53 +53,74 @@ pub record IsProgram (plan : Plan) (p : ℕ) (code : Code) : Type 0 where
   pub at : slice_get plan.programs.items p ≡ Some program
   pub text : code_view program.code.value ≡ code_view code
 
-own_program : (plan : Plan) (row : Latch) (effect : Effect) → IsOwnOf plan row effect → IsProgram plan effect.activation.program effect.code
+own_program : (plan : Plan) (row : Latch) (effect : Effect) → IsOwnOf plan row effect
+    → IsProgram plan effect.activation.program effect.code
 own_program plan row effect own =
     let f = found Code CodeView code_view (code_at plan effect.activation.program) (code_view effect.code) own.text in
     let g = found Program Code (λ q. q.code.value) (slice_get plan.programs.items effect.activation.program) f.0 f.1 in
     record { program = g.0; at = g.1; text = ap code_view g.2 ∙ f.2 }
 
-program_found : (plan : Plan) (p : ℕ) (q : Program) → slice_get plan.programs.items p ≡ Some q → program_at (plan_view plan) p ≡ Some (program_view q)
+program_found : (plan : Plan) (p : ℕ) (q : Program) → slice_get plan.programs.items p ≡ Some q
+    → program_at (plan_view plan) p ≡ Some (program_view q)
 program_found plan p q at = slice_get-map program_view plan.programs.items p ∙ ap (option_map program_view) at
 
-own_fits : (plan : Plan) (p : ℕ) (code : Code) → IsProgram plan p code → Fits (layout_of plan.variables.items plan.inputs.items) code.globals.items
+own_fits : (plan : Plan) (p : ℕ) (code : Code) → IsProgram plan p code
+    → Fits (layout_of plan.variables.items plan.inputs.items) code.globals.items
 own_fits plan p code is =
-    subst (λ (t : CodeView). Fits (layout_of plan.variables.items plan.inputs.items) t.globals) is.text (plan.sound.codes p is.program is.at)
+    subst (λ (t : CodeView). Fits (layout_of plan.variables.items plan.inputs.items) t.globals) is.text
+    (plan.sound.codes p is.program is.at)
 
 -- where the reads stand, the run is that of the plan's program
 pub record Ran (plan : Plan) (values : List Datum) (row : Latch) (store : Store) (effect : Effect) : Type 0 where
-  pub after : after_run (plan_view plan) (program_at (plan_view plan) effect.activation.program) store row ≡ store_in plan (written values effect.writes)
-  pub outcome : (past : Past) → past.store ≡ store → row_at past.rows effect.activation.row ≡ row → outcome_at (plan_view plan) past (Done effect.activation) ≡ Some effect.outcome
+  pub after : after_run (plan_view plan) (program_at (plan_view plan) effect.activation.program) store row
+      ≡ store_in plan (written values effect.writes)
+  pub outcome : (past : Past) → past.store ≡ store → row_at past.rows effect.activation.row ≡ row
+      → outcome_at (plan_view plan) past (Done effect.activation) ≡ Some effect.outcome
 
-ran_outcome : (plan : plans.Plan) (past : Past) (row : Latch) (store : Store) (a : Activation) (q : plans.Program) (o : Outcome) → program_at plan a.program ≡ Some q → row_at past.rows a.row ≡ row → past.store ≡ store
-    → outcome_of q.code plan.budget store (image_of plan.inputs row.image) row.moment ≡ o → outcome_at plan past (Done a) ≡ Some o
+ran_outcome : (plan : plans.Plan) (past : Past) (row : Latch) (store : Store) (a : Activation) (q : plans.Program)
+    (o : Outcome) → program_at plan a.program ≡ Some q → row_at past.rows a.row ≡ row → past.store ≡ store
+    → outcome_of q.code plan.budget store (image_of plan.inputs row.image) row.moment ≡ o
+    → outcome_at plan past (Done a) ≡ Some o
 ran_outcome plan past row store a q o at r s is =
-    ap (option_map (λ p. outcome_of p.code plan.budget past.store (image_of plan.inputs (row_at past.rows a.row).image) (row_at past.rows a.row).moment)) at
+    ap (option_map (λ p. outcome_of p.code plan.budget past.store (image_of plan.inputs (row_at past.rows a.row).image)
+    (row_at past.rows a.row).moment)) at
     ∙ ap (λ (x : Latch). Some (outcome_of q.code plan.budget past.store (image_of plan.inputs x.image) x.moment)) r
     ∙ ap (λ x. Some (outcome_of q.code plan.budget x (image_of plan.inputs row.image) row.moment)) s
     ∙ ap (λ x. Some x) is
 
-pub ran : (plan : Plan) (values : List Datum) (row : Latch) (store : Store) (effect : Effect) → length values ≡ length plan.variables.items → length row.image ≡ length plan.inputs.items → store_in plan values ≡ store
-    → IsOwnOf plan row effect → IsTrueOf effect.code effect.moment effect.budget effect.reads effect.writes effect.outcome → agrees (values ++ row.image) effect.reads ≡ true → Ran plan values row store effect
+pub ran : (plan : Plan) (values : List Datum) (row : Latch) (store : Store) (effect : Effect)
+    → length values ≡ length plan.variables.items → length row.image ≡ length plan.inputs.items
+    → store_in plan values ≡ store
+    → IsOwnOf plan row effect
+    → IsTrueOf effect.code effect.moment effect.budget effect.reads effect.writes effect.outcome
+    → agrees (values ++ row.image) effect.reads ≡ true → Ran plan values row store effect
 ran plan values row store effect sized imaged is own true_of stands =
     let xs = plan.variables.items in
     let ins = plan.inputs.items in
     let q = own_program plan row effect own in
     let known = program_found plan effect.activation.program q.program q.at in
-    let runs = true_of.run (layout_of xs ins) (values ++ row.image) (own_fits plan effect.activation.program effect.code q) (length_layout xs ins values row.image sized imaged) stands in
-    let s : store ≡ variables_in (layout_of xs ins) (values ++ row.image) = sym is ∙ sym (variables_alone xs ins values row.image sized) in
-    let i : image_of ins row.image ≡ inputs_in (layout_of xs ins) (values ++ row.image) = sym (inputs_behind xs ins values row.image sized) in
+    let runs =
+    true_of.run (layout_of xs ins) (values ++ row.image) (own_fits plan effect.activation.program effect.code q)
+    (length_layout xs ins values row.image sized imaged) stands in
+    let s : store ≡ variables_in (layout_of xs ins) (values ++ row.image) = sym is
+    ∙ sym (variables_alone xs ins values row.image sized) in
+    let i : image_of ins row.image ≡ inputs_in (layout_of xs ins) (values ++ row.image) =
+    sym (inputs_behind xs ins values row.image sized) in
     record {
       after =
           ap (λ o. after_run (plan_view plan) o store row) known
-          ∙ same_run Store store_after (code_view q.program.code.value) (code_view effect.code) plan.budget effect.budget store _ _ _ row.moment effect.moment q.text (sym own.budget) s i (sym own.moment)
+          ∙ same_run Store store_after (code_view q.program.code.value) (code_view effect.code) plan.budget
+          effect.budget store _ _ _ row.moment effect.moment q.text (sym own.budget) s i (sym own.moment)
           ∙ runs.1 ∙ variables_written xs ins effect.writes values row.image sized;
-      outcome = λ past e r. ran_outcome (plan_view plan) past row store effect.activation (program_view q.program) effect.outcome known r e
-          (same_run Outcome outcome_of (code_view q.program.code.value) (code_view effect.code) plan.budget effect.budget store _ _ _ row.moment effect.moment q.text (sym own.budget) s i (sym own.moment) ∙ runs.0);
+      outcome = λ past e r. ran_outcome (plan_view plan) past row store effect.activation (program_view q.program)
+          effect.outcome known r e
+          (same_run Outcome outcome_of (code_view q.program.code.value) (code_view effect.code) plan.budget
+          effect.budget store _ _ _ row.moment effect.moment q.text (sym own.budget) s i (sym own.moment) ∙ runs.0);
     }
 
 -- a run changes no variable's type
-run_shape : (plan : plans.Plan) (o : Option plans.Program) (s : Store) (row : Latch) → shape_of (after_run plan o s row) ≡ shape_of s
+run_shape : (plan : plans.Plan) (o : Option plans.Program) (s : Store) (row : Latch)
+    → shape_of (after_run plan o s row) ≡ shape_of s
 run_shape plan None s row = refl
 run_shape plan (Some p) s row = store_after_shape p.code plan.budget s (image_of plan.inputs row.image) row.moment
 
@@ -104,7 +128,9 @@ kinds_in : (s : Store) → map (λ e. e.1) (shape_of s) ≡ map (λ d. d.kind) (
 kinds_in [] = refl
 kinds_in (e ∷ s) = ap (λ (ks : List Kind). e.1.kind ∷ ks) (kinds_in s)
 
-typed_same : (xs : List PlanVariable) (is : List PlanInput) (ds es : List Datum) → length ds ≡ length xs → length es ≡ length xs → shape_of (variables_in (layout_of xs is) es) ≡ shape_of (variables_in (layout_of xs is) ds)
+typed_same : (xs : List PlanVariable) (is : List PlanInput) (ds es : List Datum) → length ds ≡ length xs
+    → length es ≡ length xs
+    → shape_of (variables_in (layout_of xs is) es) ≡ shape_of (variables_in (layout_of xs is) ds)
     → map (λ d. d.kind) es ≡ map (λ d. d.kind) ds
 typed_same xs is ds es d e same =
     sym (kinds_in (variables_in (layout_of xs is) es) ∙ ap (map (λ d. d.kind)) (values_back xs is es e))
@@ -115,90 +141,139 @@ pub not_true : (t : Bool) → t ≡ false → IsTrue t → ⊥
 not_true t e h = cc
 
 -- what was taken away from the ready list
-removed : (h : History) (old new : Ready) (a : Activation) (t : Bool) → Removes h old a t new → Waits old.schedules h a → IsReadyOf (with_run h a.program) new
+removed : (h : History) (old new : Ready) (a : Activation) (t : Bool) → Removes h old a t new → Waits old.schedules h a
+    → IsReadyOf (with_run h a.program) new
 removed h old new a true r w = r.1
 removed h old new a false r w = absurd (r.0 w)
 
-pub IsTrueOf-same : (e e' : Effect) → e ≡ e' → IsTrueOf e.code e.moment e.budget e.reads e.writes e.outcome → IsTrueOf e'.code e'.moment e'.budget e'.reads e'.writes e'.outcome
+pub IsTrueOf-same : (e e' : Effect) → e ≡ e' → IsTrueOf e.code e.moment e.budget e.reads e.writes e.outcome
+    → IsTrueOf e'.code e'.moment e'.budget e'.reads e'.writes e'.outcome
 IsTrueOf-same e e' same h = subst (λ (x : Effect). IsTrueOf x.code x.moment x.budget x.reads x.writes x.outcome) same h
 
-module _ {plan : Plan} {start values : List Datum} {before : Option ℕ} {samples : List Bool} {log : List Entry} {outcomes : List (Option Outcome)} {rows : List ℕ} {last : Option ℕ} {ready : Ready} (kept : SerialInvariant plan start before values samples log outcomes rows last ready) where
+module _ {plan : Plan} {start values : List Datum} {before : Option ℕ} {samples : List Bool} {log : List Entry}
+    {outcomes : List (Option Outcome)} {rows : List ℕ} {last : Option ℕ} {ready : Ready}
+    (kept : SerialInvariant plan start before values samples log outcomes rows last ready) where
   -- with a Done of what waits
-  SerialInvariant-done : (a : Activation) (outcome : Outcome) (values' : List Datum) (ready' : Ready) → Waits (schedules_of (plan_view plan)) (past_of (plan_view plan) (store_in plan start) log).history a → length values' ≡ length values
-      → store_in plan values' ≡ after_run (plan_view plan) (program_at (plan_view plan) a.program) (past_of (plan_view plan) (store_in plan start) log).store (row_at (past_of (plan_view plan) (store_in plan start) log).rows a.row)
+  SerialInvariant-done : (a : Activation) (outcome : Outcome) (values' : List Datum) (ready' : Ready)
+      → Waits (schedules_of (plan_view plan)) (past_of (plan_view plan) (store_in plan start) log).history a
+      → length values' ≡ length values
+      → store_in plan values' ≡ after_run (plan_view plan) (program_at (plan_view plan) a.program)
+      (past_of (plan_view plan) (store_in plan start) log).store
+      (row_at (past_of (plan_view plan) (store_in plan start) log).rows a.row)
       → outcome_at (plan_view plan) (past_of (plan_view plan) (store_in plan start) log) (Done a) ≡ Some outcome
-      → ready'.schedules ≡ ready.schedules → length ready'.samples ≡ length ready.samples → ready'.last ≡ ready.last → ready'.rows ≡ ready.rows
+      → ready'.schedules ≡ ready.schedules → length ready'.samples ≡ length ready.samples → ready'.last ≡ ready.last
+      → ready'.rows ≡ ready.rows
       → IsReadyOf (with_run (past_of (plan_view plan) (store_in plan start) log).history a.program) ready'
-      → SerialInvariant plan start before values' samples (log ++ Done a ∷ []) (outcomes ++ Some outcome ∷ []) rows last ready'
+      → SerialInvariant plan start before values' samples (log ++ Done a ∷ []) (outcomes ++ Some outcome ∷ []) rows last
+      ready'
   SerialInvariant-done a outcome values' ready' waits same store ended schedules tasks latest number ready_is =
       let now = past_of (plan_view plan) (store_in plan start) log in
       record {
-        legal = IsLegal-add (plan_view plan) (store_in plan start) before log (Done a) kept.legal (done_follows a waits);
+        legal =
+            IsLegal-add (plan_view plan) (store_in plan start) before log (Done a) kept.legal (done_follows a waits);
         begun = kept.begun;
         sized = same ∙ kept.sized;
-        typed = typed_same plan.variables.items plan.inputs.items values values' kept.sized (same ∙ kept.sized) (ap shape_of store ∙ run_shape (plan_view plan) (program_at (plan_view plan) a.program) now.store (row_at now.rows a.row) ∙ ap shape_of (sym kept.of_past.variables)) ∙ kept.typed;
+        typed = typed_same plan.variables.items plan.inputs.items values values' kept.sized (same ∙ kept.sized)
+            (ap shape_of store ∙ run_shape (plan_view plan) (program_at (plan_view plan) a.program) now.store
+            (row_at now.rows a.row) ∙ ap shape_of (sym kept.of_past.variables)) ∙ kept.typed;
         early = kept.early;
         numbered = kept.numbered;
         few_rows = omega (arith, kept.few_rows, length-append log (Done a ∷ []));
-        outcomes_are = ap (λ os. os ++ Some outcome ∷ []) kept.outcomes_are ∙ ap (λ o. outcomes_of (plan_view plan) (store_in plan start) log ++ o ∷ []) (sym ended) ∙ sym (outcomes_of-add (plan_view plan) (store_in plan start) log (Done a));
+        outcomes_are = ap (λ os. os ++ Some outcome ∷ []) kept.outcomes_are
+            ∙ ap (λ o. outcomes_of (plan_view plan) (store_in plan start) log ++ o ∷ []) (sym ended)
+            ∙ sym (outcomes_of-add (plan_view plan) (store_in plan start) log (Done a));
         schedules = schedules ∙ kept.schedules;
         tasks = tasks ∙ kept.tasks;
-        of_past = subst (IsOfPast plan before values' (log ++ Done a ∷ []) rows last ready') (sym (past_of-add (plan_view plan) (store_in plan start) log (Done a))) record {
-          variables = store;
-          rows_are = λ k h. get-add log (Done a ∷ []) (slice_index rows k) _ (kept.of_past.rows_are k h);
-          row_count = kept.of_past.row_count;
-          sampled_count = kept.of_past.sampled_count;
-          images = kept.of_past.images;
-          last_is = kept.of_past.last_is;
-          later = λ s. kept.of_past.later (omega (arith, s, number)) ∙ ap (λ m. Some m) (sym latest);
-          ready_is = ready_is;
-        };
+        of_past = subst (IsOfPast plan before values' (log ++ Done a ∷ []) rows last ready')
+            (sym (past_of-add (plan_view plan) (store_in plan start) log (Done a))) record {
+              variables = store;
+              rows_are = λ k h. get-add log (Done a ∷ []) (slice_index rows k) _ (kept.of_past.rows_are k h);
+              row_count = kept.of_past.row_count;
+              sampled_count = kept.of_past.sampled_count;
+              images = kept.of_past.images;
+              last_is = kept.of_past.last_is;
+              later = λ s. kept.of_past.later (omega (arith, s, number)) ∙ ap (λ m. Some m) (sym latest);
+              ready_is = ready_is;
+            };
       }
 
   module _ (effect : Effect) (b : Activation) (same : b ≡ effect.activation) where
-    pub waits_told : (t : Bool) → ((h : History) → IsReadyOf h ready → IsTrue t ↔ Waits ready.schedules h b) → IsTrue t ↔ Waits (schedules_of (plan_view plan)) (past_of (plan_view plan) (store_in plan start) log).history effect.activation
-    waits_told t tells = subst (λ x. IsTrue t ↔ Waits (schedules_of (plan_view plan)) (past_of (plan_view plan) (store_in plan start) log).history x) same
-        (subst (λ ps. IsTrue t ↔ Waits ps (past_of (plan_view plan) (store_in plan start) log).history b) kept.schedules (tells _ kept.of_past.ready_is))
+    pub waits_told : (t : Bool) → ((h : History) → IsReadyOf h ready → IsTrue t ↔ Waits ready.schedules h b) → IsTrue t
+        ↔ Waits (schedules_of (plan_view plan)) (past_of (plan_view plan) (store_in plan start) log).history
+        effect.activation
+    waits_told t tells = subst (λ x. IsTrue t
+        ↔ Waits (schedules_of (plan_view plan)) (past_of (plan_view plan) (store_in plan start) log).history x) same
+        (subst (λ ps. IsTrue t ↔ Waits ps (past_of (plan_view plan) (store_in plan start) log).history b) kept.schedules
+        (tells _ kept.of_past.ready_is))
 
-    pub row_found : (log' : List Entry) (rows' : List ℕ) → log' ≡ log → rows' ≡ rows → Waits (schedules_of (plan_view plan)) (past_of (plan_view plan) (store_in plan start) log).history effect.activation
-        → slice_get log' (slice_index rows' b.row) ≡ Some (Row (row_at (past_of (plan_view plan) (store_in plan start) log).rows effect.activation.row))
-    row_found log' rows' l r w = ap (λ x. slice_get x (slice_index rows' b.row)) l ∙ ap (λ x. slice_get log (slice_index x b.row)) r ∙ ap (λ (x : Activation). slice_get log (slice_index rows x.row)) same ∙ row-there kept effect.activation (waits-row kept effect.activation w)
+    pub row_found : (log' : List Entry) (rows' : List ℕ) → log' ≡ log → rows' ≡ rows → Waits
+        (schedules_of (plan_view plan)) (past_of (plan_view plan) (store_in plan start) log).history effect.activation
+        → slice_get log' (slice_index rows' b.row)
+        ≡ Some (Row (row_at (past_of (plan_view plan) (store_in plan start) log).rows effect.activation.row))
+    row_found log' rows' l r w = ap (λ x. slice_get x (slice_index rows' b.row)) l
+        ∙ ap (λ x. slice_get log (slice_index x b.row)) r
+        ∙ ap (λ (x : Activation). slice_get log (slice_index rows x.row)) same
+        ∙ row-there kept effect.activation (waits-row kept effect.activation w)
 
-    pub own_told : (log' : List Entry) (rows' : List ℕ) (plan' : Plan) (r : Latch) (t : Bool) → log' ≡ log → rows' ≡ rows → plan' ≡ plan → Waits (schedules_of (plan_view plan)) (past_of (plan_view plan) (store_in plan start) log).history effect.activation
-        → slice_get log' (slice_index rows' b.row) ≡ Some (Row r) → IsTrue t ↔ IsOwnOf plan' r effect → IsTrue t ↔ IsOwnOf plan (row_at (past_of (plan_view plan) (store_in plan start) log).rows effect.activation.row) effect
+    pub own_told : (log' : List Entry) (rows' : List ℕ) (plan' : Plan) (r : Latch) (t : Bool) → log' ≡ log
+        → rows' ≡ rows → plan' ≡ plan → Waits (schedules_of (plan_view plan))
+        (past_of (plan_view plan) (store_in plan start) log).history effect.activation
+        → slice_get log' (slice_index rows' b.row) ≡ Some (Row r) → IsTrue t ↔ IsOwnOf plan' r effect → IsTrue t
+        ↔ IsOwnOf plan (row_at (past_of (plan_view plan) (store_in plan start) log).rows effect.activation.row)
+        effect
     own_told log' rows' plan' r t l rs p w got tells =
-        subst (λ x. IsTrue t ↔ IsOwnOf plan x effect) (same_row r _ (sym got ∙ row_found log' rows' l rs w)) (subst (λ x. IsTrue t ↔ IsOwnOf x r effect) p tells)
+        subst (λ x. IsTrue t ↔ IsOwnOf plan x effect) (same_row r _ (sym got ∙ row_found log' rows' l rs w))
+        (subst (λ x. IsTrue t ↔ IsOwnOf x r effect) p tells)
 
-    pub stands_told : (log' : List Entry) (rows' : List ℕ) (r : Latch) (values' image : List Datum) (reads : List slots.Cell) (t : Bool) → log' ≡ log → rows' ≡ rows → values' ≡ values → image ≡ r.image → reads ≡ effect.reads
-        → Waits (schedules_of (plan_view plan)) (past_of (plan_view plan) (store_in plan start) log).history effect.activation
+    pub stands_told : (log' : List Entry) (rows' : List ℕ) (r : Latch) (values' image : List Datum)
+        (reads : List slots.Cell) (t : Bool) → log' ≡ log → rows' ≡ rows → values' ≡ values → image ≡ r.image
+        → reads ≡ effect.reads
+        → Waits (schedules_of (plan_view plan)) (past_of (plan_view plan) (store_in plan start) log).history
+        effect.activation
         → slice_get log' (slice_index rows' b.row) ≡ Some (Row r) → t ≡ agrees (values' ++ image) reads
-        → t ≡ agrees (map (λ e. e.1) (past_of (plan_view plan) (store_in plan start) log).store ++ (row_at (past_of (plan_view plan) (store_in plan start) log).rows effect.activation.row).image) effect.reads
+        → t ≡ agrees (map (λ e. e.1) (past_of (plan_view plan) (store_in plan start) log).store
+        ++ (row_at (past_of (plan_view plan) (store_in plan start) log).rows effect.activation.row).image)
+        effect.reads
     stands_told log' rows' r values' image reads t l rs v im rd w got says =
         says ∙ ap (agrees (values' ++ image)) rd
         ∙ ap (λ vs. agrees (vs ++ image) effect.reads) (v ∙ values_are kept)
-        ∙ ap (λ i. agrees (map (λ e. e.1) (past_of (plan_view plan) (store_in plan start) log).store ++ i) effect.reads) (im ∙ ap (λ (x : Latch). x.image) (same_row r _ (sym got ∙ row_found log' rows' l rs w)))
+        ∙ ap (λ i. agrees (map (λ e. e.1) (past_of (plan_view plan) (store_in plan start) log).store ++ i) effect.reads)
+        (im ∙ ap (λ (x : Latch). x.image) (same_row r _ (sym got ∙ row_found log' rows' l rs w)))
 
     -- with an execution that stands
-    pub SerialInvariant-commit : (ready' : Ready) (values' : List Datum) (writes : List slots.Cell) (log' : List Entry) (outcomes' : List (Option Outcome)) (o : Outcome) (t : Bool)
-        → Waits (schedules_of (plan_view plan)) (past_of (plan_view plan) (store_in plan start) log).history effect.activation
+    pub SerialInvariant-commit : (ready' : Ready) (values' : List Datum) (writes : List slots.Cell) (log' : List Entry)
+        (outcomes' : List (Option Outcome)) (o : Outcome) (t : Bool)
+        → Waits (schedules_of (plan_view plan)) (past_of (plan_view plan) (store_in plan start) log).history
+        effect.activation
         → IsOwnOf plan (row_at (past_of (plan_view plan) (store_in plan start) log).rows effect.activation.row) effect
         → IsTrueOf effect.code effect.moment effect.budget effect.reads effect.writes effect.outcome
-        → agrees (map (λ e. e.1) (past_of (plan_view plan) (store_in plan start) log).store ++ (row_at (past_of (plan_view plan) (store_in plan start) log).rows effect.activation.row).image) effect.reads ≡ true
+        → agrees (map (λ e. e.1) (past_of (plan_view plan) (store_in plan start) log).store
+        ++ (row_at (past_of (plan_view plan) (store_in plan start) log).rows effect.activation.row).image)
+        effect.reads ≡ true
         → writes ≡ effect.writes → values' ≡ written values writes → o ≡ effect.outcome
         → log' ≡ log ++ Done b ∷ [] → outcomes' ≡ outcomes ++ Some o ∷ []
-        → ready'.schedules ≡ ready.schedules → length ready'.samples ≡ length ready.samples → ready'.last ≡ ready.last → ready'.rows ≡ ready.rows
+        → ready'.schedules ≡ ready.schedules → length ready'.samples ≡ length ready.samples → ready'.last ≡ ready.last
+        → ready'.rows ≡ ready.rows
         → ((h : History) → IsReadyOf h ready → Removes h ready b t ready')
         → SerialInvariant plan start before values' samples log' outcomes' rows last ready'
-    SerialInvariant-commit ready' values' writes log' outcomes' o t waits own true_of stands ws vs os lg outs schedules tasks latest number remove =
+    SerialInvariant-commit ready' values' writes log' outcomes' o t waits own true_of stands ws vs os lg outs schedules
+        tasks latest number remove =
         let now = past_of (plan_view plan) (store_in plan start) log in
         let row = row_at now.rows effect.activation.row in
         let there = waits-row kept effect.activation waits in
         let imaged = kept.of_past.images effect.activation.row (omega (arith, there, kept.of_past.row_count)) in
-        let agree : agrees (values ++ row.image) effect.reads ≡ true = ap (λ xs. agrees (xs ++ row.image) effect.reads) (values_are kept) ∙ stands in
+        let agree : agrees (values ++ row.image) effect.reads ≡ true =
+        ap (λ xs. agrees (xs ++ row.image) effect.reads) (values_are kept) ∙ stands in
         let it = ran plan values row now.store effect kept.sized imaged kept.of_past.variables own true_of agree in
         let is : values' ≡ written values effect.writes = vs ∙ ap (written values) ws in
-        let gone = subst (λ (x : Activation). Removes now.history ready x t ready') same (remove now.history kept.of_past.ready_is) in
-        subst (λ l. SerialInvariant plan start before values' samples l outcomes' rows last ready') (sym (lg ∙ ap (λ (x : Activation). log ++ Done x ∷ []) same))
-        (subst (λ l. SerialInvariant plan start before values' samples (log ++ Done effect.activation ∷ []) l rows last ready') (sym (outs ∙ ap (λ x. outcomes ++ Some x ∷ []) os))
-        (SerialInvariant-done effect.activation effect.outcome values' ready' waits (ap length is ∙ length_written effect.writes values) (ap (store_in plan) is ∙ sym it.after) (it.outcome now refl refl) schedules tasks latest number
-        (removed now.history ready ready' effect.activation t gone (subst (λ ps. Waits ps now.history effect.activation) (sym kept.schedules) waits))))
+        let gone = subst (λ (x : Activation). Removes now.history ready x t ready') same
+        (remove now.history kept.of_past.ready_is) in
+        subst (λ l. SerialInvariant plan start before values' samples l outcomes' rows last ready')
+        (sym (lg ∙ ap (λ (x : Activation). log ++ Done x ∷ []) same))
+        (subst (λ l. SerialInvariant plan start before values' samples (log ++ Done effect.activation ∷ []) l rows last
+        ready') (sym (outs ∙ ap (λ x. outcomes ++ Some x ∷ []) os))
+        (SerialInvariant-done effect.activation effect.outcome values' ready' waits
+        (ap length is ∙ length_written effect.writes values) (ap (store_in plan) is ∙ sym it.after)
+        (it.outcome now refl refl) schedules tasks latest number
+        (removed now.history ready ready' effect.activation t gone
+        (subst (λ ps. Waits ps now.history effect.activation) (sym kept.schedules) waits))))

@@ -1,5 +1,7 @@
 -- What a core keeps, after a row.
-use Rattle.std.proofs.Common.{◌≡◌, ℕ, ◌+◌, ◌<◌, ◌^◌, inl, inr, Bool, true, false, ◌&&◌, List, [], ◌∷◌, ◌++◌, length, map, Option, Some, None, slice_get, slice_index, refl, sym, ap, subst, ◌∙◌, arith, length-append}
+use Rattle.std.proofs.Common.{◌≡◌, ℕ, ◌+◌, ◌<◌, ◌^◌, inl, inr, Bool, true, false, ◌&&◌, List, [], ◌∷◌, ◌++◌, length}
+use Rattle.std.proofs.Common.{map, Option, Some, None, slice_get, slice_index, refl, sym, ap, subst, ◌∙◌, arith}
+use Rattle.std.proofs.Common.{length-append}
 use Rattle.std.specs.List.{list_all}
 use Rattle.std.proofs.lemmas.List.{get_or_append_left, length-map}
 use Rattle.std.proofs.Math.Seq.{get_or-append_seam}
@@ -41,59 +43,92 @@ right_of_and : (a b : Bool) → (a && b) ≡ true → b ≡ true
 right_of_and true b e = e
 right_of_and false b e = absurd (cc)
 
-image_length : (plan : Plan) (row : Latch) → fits (plan_view plan) row ≡ true → length row.image ≡ length plan.inputs.items
+image_length : (plan : Plan) (row : Latch) → fits (plan_view plan) row ≡ true
+    → length row.image ≡ length plan.inputs.items
 image_length plan row e = length_held plan.inputs.items row.image (left_of_and _ _ e)
 
 moment_low : (plan : Plan) (row : Latch) → fits (plan_view plan) row ≡ true → row.moment < MOMENT_LIMIT
 moment_low plan row e = ltb-true row.moment MOMENT_LIMIT (right_of_and _ _ e)
 
 -- the samples by slots are those by paths
-variable_same : (vs : List PlanVariable) (ins : List PlanInput) (ds image : List Datum) (k : ℕ) (o : Option PlanVariable) → IsLayout (layout_of vs ins) → length ds ≡ length vs → slice_get vs k ≡ o → is_boolean_variable o ≡ true
+variable_same :
+    (vs : List PlanVariable) (ins : List PlanInput) (ds image : List Datum) (k : ℕ) (o : Option PlanVariable)
+    → IsLayout (layout_of vs ins) → length ds ≡ length vs → slice_get vs k ≡ o → is_boolean_variable o ≡ true
     → is_on (slice_get ds k) ≡ sample_of (variables_in (layout_of vs ins) ds) image (single_of o)
 variable_same vs ins ds image k None layout sized at b = absurd (cc)
 variable_same vs ins ds image k (Some v) layout sized at b = ap is_on (sym (get_in vs ins ds k v layout sized at))
 
-sample_same : (vs : List PlanVariable) (ins : List PlanInput) (ds image : List Datum) (t : Trigger) → IsLayout (layout_of vs ins) → length ds ≡ length vs → is_sound_trigger vs ins t ≡ true
+sample_same : (vs : List PlanVariable) (ins : List PlanInput) (ds image : List Datum) (t : Trigger)
+    → IsLayout (layout_of vs ins) → length ds ≡ length vs → is_sound_trigger vs ins t ≡ true
     → sample_at ds image t ≡ sample_of (variables_in (layout_of vs ins) ds) image (trigger_view vs t)
 sample_same vs ins ds image Absent layout sized s = refl
 sample_same vs ins ds image (Input i) layout sized s = refl
-sample_same vs ins ds image (Variable k) layout sized s = variable_same vs ins ds image k (slice_get vs k) layout sized refl s
+sample_same vs ins ds image (Variable k) layout sized s =
+    variable_same vs ins ds image k (slice_get vs k) layout sized refl s
 
-samples_same : (vs : List PlanVariable) (ins : List PlanInput) (ds image : List Datum) (tasks : List Task) → IsLayout (layout_of vs ins) → length ds ≡ length vs → list_all (λ t. is_sound_trigger vs ins t.single) tasks ≡ true
-    → map (sample_task ds image) tasks ≡ map (λ t. sample_of (variables_in (layout_of vs ins) ds) image t.single) (map (task_view vs) tasks)
+samples_same : (vs : List PlanVariable) (ins : List PlanInput) (ds image : List Datum) (tasks : List Task)
+    → IsLayout (layout_of vs ins) → length ds ≡ length vs
+    → list_all (λ t. is_sound_trigger vs ins t.single) tasks ≡ true
+    → map (sample_task ds image) tasks
+    ≡ map (λ t. sample_of (variables_in (layout_of vs ins) ds) image t.single) (map (task_view vs) tasks)
 samples_same vs ins ds image [] layout sized s = refl
 samples_same vs ins ds image (t ∷ tasks) layout sized s =
     let a = sample_same vs ins ds image t.single layout sized (left_of_and _ _ s) in
     let b = samples_same vs ins ds image tasks layout sized (right_of_and _ _ s) in
     rw (a, b) refl
 
-module _ {plan : Plan} {start values : List Datum} {before : Option ℕ} {samples : List Bool} {log : List Entry} {outcomes : List (Option Outcome)} {rows : List ℕ} {last : Option ℕ} {ready : Ready} (kept : SerialInvariant plan start before values samples log outcomes rows last ready) where
-  pub sampled : (row : Latch) → map (sample_task values row.image) plan.tasks.items ≡ samples_of (plan_view plan) (past_of (plan_view plan) (store_in plan start) log).store row.image
+module _ {plan : Plan} {start values : List Datum} {before : Option ℕ} {samples : List Bool} {log : List Entry}
+    {outcomes : List (Option Outcome)} {rows : List ℕ} {last : Option ℕ} {ready : Ready}
+    (kept : SerialInvariant plan start before values samples log outcomes rows last ready) where
+  pub sampled : (row : Latch) → map (sample_task values row.image) plan.tasks.items
+      ≡ samples_of (plan_view plan) (past_of (plan_view plan) (store_in plan start) log).store row.image
   sampled row =
-      samples_same plan.variables.items plan.inputs.items values row.image plan.tasks.items plan.sound.layout kept.sized plan.sound.singles
+      samples_same plan.variables.items plan.inputs.items values row.image plan.tasks.items plan.sound.layout kept.sized
+      plan.sound.singles
       ∙ ap (λ s. samples_of (plan_view plan) s row.image) kept.of_past.variables
 
-  rows_then : (row : Latch) (k : ℕ) → k < length (rows ++ length log ∷ []) → slice_get (log ++ Row row ∷ []) (slice_index (rows ++ length log ∷ []) k) ≡ Some (Row (row_at ((past_of (plan_view plan) (store_in plan start) log).rows ++ row ∷ []) k))
+  rows_then : (row : Latch) (k : ℕ) → k < length (rows ++ length log ∷ [])
+      → slice_get (log ++ Row row ∷ []) (slice_index (rows ++ length log ∷ []) k)
+      ≡ Some (Row (row_at ((past_of (plan_view plan) (store_in plan start) log).rows ++ row ∷ []) k))
   rows_then row k h = elim (eqb_tells k (length rows)) [
     | inl t ↦
-        let n : slice_index (rows ++ length log ∷ []) k ≡ length log = ap (slice_index (rows ++ length log ∷ [])) t.1 ∙ get_or-append_seam rows (length log) [] 0 in
-        let r : row_at ((past_of (plan_view plan) (store_in plan start) log).rows ++ row ∷ []) k ≡ row = ap (row_at ((past_of (plan_view plan) (store_in plan start) log).rows ++ row ∷ [])) (t.1 ∙ kept.of_past.row_count) ∙ get_or-append_seam (past_of (plan_view plan) (store_in plan start) log).rows row [] record { moment = 0; image = [] } in
+        let n : slice_index (rows ++ length log ∷ []) k ≡ length log = ap (slice_index (rows ++ length log ∷ [])) t.1
+        ∙ get_or-append_seam rows (length log) [] 0 in
+        let r : row_at ((past_of (plan_view plan) (store_in plan start) log).rows ++ row ∷ []) k ≡ row =
+        ap (row_at ((past_of (plan_view plan) (store_in plan start) log).rows ++ row ∷ []))
+        (t.1 ∙ kept.of_past.row_count) ∙ get_or-append_seam
+        (past_of (plan_view plan) (store_in plan start) log).rows row [] record { moment = 0; image = [] } in
         ap (slice_get (log ++ Row row ∷ [])) n ∙ get-end log (Row row) ∙ ap (λ x. Some (Row x)) (sym r)
     | inr f ↦
         let below : k < length rows = omega (arith, f.1, h, length-append rows (length log ∷ [])) in
-        let n : slice_index (rows ++ length log ∷ []) k ≡ slice_index rows k = get_or_append_left rows (length log ∷ []) 0 k below in
-        let r : row_at ((past_of (plan_view plan) (store_in plan start) log).rows ++ row ∷ []) k ≡ row_at (past_of (plan_view plan) (store_in plan start) log).rows k = get_or_append_left (past_of (plan_view plan) (store_in plan start) log).rows (row ∷ []) record { moment = 0; image = [] } k (omega (arith, below, kept.of_past.row_count)) in
-        ap (slice_get (log ++ Row row ∷ [])) n ∙ get-add log (Row row ∷ []) (slice_index rows k) _ (kept.of_past.rows_are k below) ∙ ap (λ x. Some (Row x)) (sym r)
+        let n : slice_index (rows ++ length log ∷ []) k ≡ slice_index rows k =
+        get_or_append_left rows (length log ∷ []) 0 k below in
+        let r : row_at ((past_of (plan_view plan) (store_in plan start) log).rows ++ row ∷ []) k
+        ≡ row_at (past_of (plan_view plan) (store_in plan start) log).rows k =
+        get_or_append_left (past_of (plan_view plan) (store_in plan start) log).rows (row ∷ [])
+        record { moment = 0; image = [] } k (omega (arith, below, kept.of_past.row_count)) in
+        ap (slice_get (log ++ Row row ∷ [])) n
+        ∙ get-add log (Row row ∷ []) (slice_index rows k) _ (kept.of_past.rows_are k below)
+        ∙ ap (λ x. Some (Row x)) (sym r)
   ]
 
-  images_then : (row : Latch) → length row.image ≡ length plan.inputs.items → (k : ℕ) → k < length ((past_of (plan_view plan) (store_in plan start) log).rows ++ row ∷ []) → length (row_at ((past_of (plan_view plan) (store_in plan start) log).rows ++ row ∷ []) k).image ≡ length plan.inputs.items
+  images_then : (row : Latch) → length row.image ≡ length plan.inputs.items → (k : ℕ)
+      → k < length ((past_of (plan_view plan) (store_in plan start) log).rows ++ row ∷ [])
+      → length (row_at ((past_of (plan_view plan) (store_in plan start) log).rows ++ row ∷ []) k).image
+      ≡ length plan.inputs.items
   images_then row e k h = elim (eqb_tells k (length (past_of (plan_view plan) (store_in plan start) log).rows)) [
     | inl t ↦
-        let r : row_at ((past_of (plan_view plan) (store_in plan start) log).rows ++ row ∷ []) k ≡ row = ap (row_at ((past_of (plan_view plan) (store_in plan start) log).rows ++ row ∷ [])) t.1 ∙ get_or-append_seam (past_of (plan_view plan) (store_in plan start) log).rows row [] record { moment = 0; image = [] } in
+        let r : row_at ((past_of (plan_view plan) (store_in plan start) log).rows ++ row ∷ []) k ≡ row =
+        ap (row_at ((past_of (plan_view plan) (store_in plan start) log).rows ++ row ∷ [])) t.1 ∙ get_or-append_seam
+        (past_of (plan_view plan) (store_in plan start) log).rows row [] record { moment = 0; image = [] } in
         ap (λ (x : Latch). length x.image) r ∙ e
     | inr f ↦
-        let below : k < length (past_of (plan_view plan) (store_in plan start) log).rows = omega (arith, f.1, h, length-append (past_of (plan_view plan) (store_in plan start) log).rows (row ∷ [])) in
-        let r : row_at ((past_of (plan_view plan) (store_in plan start) log).rows ++ row ∷ []) k ≡ row_at (past_of (plan_view plan) (store_in plan start) log).rows k = get_or_append_left (past_of (plan_view plan) (store_in plan start) log).rows (row ∷ []) record { moment = 0; image = [] } k below in
+        let below : k < length (past_of (plan_view plan) (store_in plan start) log).rows =
+        omega (arith, f.1, h, length-append (past_of (plan_view plan) (store_in plan start) log).rows (row ∷ [])) in
+        let r : row_at ((past_of (plan_view plan) (store_in plan start) log).rows ++ row ∷ []) k
+        ≡ row_at (past_of (plan_view plan) (store_in plan start) log).rows k =
+        get_or_append_left (past_of (plan_view plan) (store_in plan start) log).rows (row ∷ [])
+        record { moment = 0; image = [] } k below in
         ap (λ (x : Latch). length x.image) r ∙ kept.of_past.images k below
   ]
 
@@ -103,36 +138,51 @@ module _ {plan : Plan} {start values : List Datum} {before : Option ℕ} {sample
       → samples' ≡ map (sample_task values row.image) plan.tasks.items
       → ready'.schedules ≡ ready.schedules → length ready'.samples ≡ length ready.samples → ready'.last ≡ row.moment
       → ((h : History) → IsReadyOf h ready → IsReadyOf (with_row h row.moment samples') ready')
-      → SerialInvariant plan start before values samples' (log ++ Row row ∷ []) (outcomes ++ None ∷ []) (rows ++ length log ∷ []) (Some row.moment) ready'
+      → SerialInvariant plan start before values samples' (log ++ Row row ∷ []) (outcomes ++ None ∷ [])
+      (rows ++ length log ∷ []) (Some row.moment) ready'
   kept_latched row samples' ready' fit later e schedules tasks latest due =
       let now = past_of (plan_view plan) (store_in plan start) log in
       let got : samples' ≡ samples_of (plan_view plan) now.store row.image = e ∙ sampled row in
       record {
-        legal = IsLegal-add (plan_view plan) (store_in plan start) before log (Row row) kept.legal (row_follows row fit (ap (λ o. is_later o row.moment) (sym kept.of_past.last_is) ∙ later));
+        legal = IsLegal-add (plan_view plan) (store_in plan start) before log (Row row) kept.legal
+            (row_follows row fit (ap (λ o. is_later o row.moment) (sym kept.of_past.last_is) ∙ later));
         begun = kept.begun;
         sized = kept.sized;
         typed = kept.typed;
         early = moment_low plan row fit;
         numbered = ap length e ∙ length-map plan.tasks.items (sample_task values row.image);
         few_rows = omega (arith, kept.few_rows, length-append log (Row row ∷ []), length-append rows (length log ∷ []));
-        outcomes_are = ap (λ (os : List (Option Outcome)). os ++ None ∷ []) kept.outcomes_are ∙ sym (outcomes_of-add (plan_view plan) (store_in plan start) log (Row row));
+        outcomes_are = ap (λ (os : List (Option Outcome)). os ++ None ∷ []) kept.outcomes_are
+            ∙ sym (outcomes_of-add (plan_view plan) (store_in plan start) log (Row row));
         schedules = schedules ∙ kept.schedules;
         tasks = tasks ∙ kept.tasks;
-        of_past = subst (IsOfPast plan before values (log ++ Row row ∷ []) (rows ++ length log ∷ []) (Some row.moment) ready') (sym (past_of-add (plan_view plan) (store_in plan start) log (Row row))) record {
-          variables = kept.of_past.variables;
-          rows_are = rows_then row;
-          row_count = omega (arith, kept.of_past.row_count, length-append rows (length log ∷ []), length-append now.rows (row ∷ []));
-          sampled_count = length-append now.history.sampled (record { moment = row.moment; samples = samples_of (plan_view plan) now.store row.image } ∷ []) ∙ ap (λ n. n + 1) kept.of_past.sampled_count ∙ sym (length-append now.rows (row ∷ []));
-          images = images_then row (image_length plan row fit);
-          last_is = sym (last_moment-add before now.rows row);
-          later = λ s. ap (λ m. Some m) (sym latest);
-          ready_is = subst (λ ss. IsReadyOf (with_row now.history row.moment ss) ready') got (due now.history kept.of_past.ready_is);
-        };
+        of_past =
+            subst (IsOfPast plan before values (log ++ Row row ∷ []) (rows ++ length log ∷ []) (Some row.moment) ready')
+            (sym (past_of-add (plan_view plan) (store_in plan start) log (Row row))) record {
+              variables = kept.of_past.variables;
+              rows_are = rows_then row;
+              row_count = omega (
+                arith,
+                kept.of_past.row_count,
+                length-append rows (length log ∷ []),
+                length-append now.rows (row ∷ []),
+              );
+              sampled_count = length-append now.history.sampled
+                  (record { moment = row.moment; samples = samples_of (plan_view plan) now.store row.image } ∷ [])
+                  ∙ ap (λ n. n + 1) kept.of_past.sampled_count ∙ sym (length-append now.rows (row ∷ []));
+              images = images_then row (image_length plan row fit);
+              last_is = sym (last_moment-add before now.rows row);
+              later = λ s. ap (λ m. Some m) (sym latest);
+              ready_is = subst (λ ss. IsReadyOf (with_row now.history row.moment ss) ready') got
+                  (due now.history kept.of_past.ready_is);
+            };
       }
 
   -- the same, of what the code has
-  pub kept_latch : (row : Latch) (moment n : ℕ) (image : List Datum) (samples' : List Bool) (log' : List Entry) (outcomes' : List (Option Outcome)) (rows' : List ℕ) (ready' : Ready)
-      → moment ≡ row.moment → n ≡ length log → log' ≡ log ++ Row row ∷ [] → outcomes' ≡ outcomes ++ None ∷ [] → rows' ≡ rows ++ n ∷ []
+  pub kept_latch : (row : Latch) (moment n : ℕ) (image : List Datum) (samples' : List Bool) (log' : List Entry)
+      (outcomes' : List (Option Outcome)) (rows' : List ℕ) (ready' : Ready)
+      → moment ≡ row.moment → n ≡ length log → log' ≡ log ++ Row row ∷ [] → outcomes' ≡ outcomes ++ None ∷ []
+      → rows' ≡ rows ++ n ∷ []
       → fits (plan_view plan) row ≡ true
       → is_later last moment ≡ true
       → image ≡ row.image
@@ -140,9 +190,15 @@ module _ {plan : Plan} {start values : List Datum} {before : Option ℕ} {sample
       → ready'.schedules ≡ ready.schedules → length ready'.samples ≡ length ready.samples → ready'.last ≡ moment
       → ((h : History) → IsReadyOf h ready → IsReadyOf (with_row h moment samples') ready')
       → SerialInvariant plan start before values samples' log' outcomes' rows' (Some moment) ready'
-  kept_latch row moment n image samples' log' outcomes' rows' ready' mo ln lg os rs fit later im e schedules tasks latest due =
+  kept_latch row moment n image samples' log' outcomes' rows' ready' mo ln lg os rs fit later im e schedules tasks
+      latest due =
       subst (λ l. SerialInvariant plan start before values samples' l outcomes' rows' (Some moment) ready') (sym lg)
-      (subst (λ o. SerialInvariant plan start before values samples' (log ++ Row row ∷ []) o rows' (Some moment) ready') (sym os)
-      (subst (λ r. SerialInvariant plan start before values samples' (log ++ Row row ∷ []) (outcomes ++ None ∷ []) r (Some moment) ready') (sym (rs ∙ ap (λ m. rows ++ m ∷ []) ln))
-      (subst (λ m. is_later last m ≡ true → ready'.last ≡ m → ((h : History) → IsReadyOf h ready → IsReadyOf (with_row h m samples') ready') → SerialInvariant plan start before values samples' (log ++ Row row ∷ []) (outcomes ++ None ∷ []) (rows ++ length log ∷ []) (Some m) ready') (sym mo)
-      (λ l t d. kept_latched row samples' ready' fit l (e ∙ ap (λ i. map (sample_task values i) plan.tasks.items) im) schedules tasks t d) later latest due)))
+      (subst (λ o. SerialInvariant plan start before values samples' (log ++ Row row ∷ []) o rows' (Some moment) ready')
+      (sym os)
+      (subst (λ r. SerialInvariant plan start before values samples' (log ++ Row row ∷ []) (outcomes ++ None ∷ []) r
+      (Some moment) ready') (sym (rs ∙ ap (λ m. rows ++ m ∷ []) ln))
+      (subst (λ m. is_later last m ≡ true → ready'.last ≡ m → ((h : History) → IsReadyOf h ready
+      → IsReadyOf (with_row h m samples') ready') → SerialInvariant plan start before values samples'
+      (log ++ Row row ∷ []) (outcomes ++ None ∷ []) (rows ++ length log ∷ []) (Some m) ready') (sym mo)
+      (λ l t d. kept_latched row samples' ready' fit l (e ∙ ap (λ i. map (sample_task values i) plan.tasks.items) im)
+      schedules tasks t d) later latest due)))

@@ -11,4 +11,5 @@ by_both false false f g = refl
 
 pub same_by_test : (t : Bool) (p q : Path) → (IsTrue t ↔ (p ≡ q)) → t ≡ same_path p q
 same_by_test t p q tells =
-    by_both t (same_path p q) (λ e. subst (λ r. same_path p r ≡ true) (tells.0 e) (same_path_itself p)) (λ e. tells.1 (same_path_is p q e))
+    by_both t (same_path p q) (λ e. subst (λ r. same_path p r ≡ true) (tells.0 e) (same_path_itself p))
+    (λ e. tells.1 (same_path_is p q e))

@@ -13,20 +13,28 @@ use Rattle.ready_list.specs.Ready.{Ready}
 use Rattle.serial_core.specs.Steps.{store_in}
 use Rattle.serial_core.specs.Kept.{SerialInvariant}
 
-outcomes_from-add : (plan : plans.Plan) (past : Past) (log : List Entry) (e : Entry) → outcomes_from plan past (log ++ e ∷ []) ≡ outcomes_from plan past log ++ outcome_at plan (fold (with_entry plan) past log) e ∷ []
+outcomes_from-add : (plan : plans.Plan) (past : Past) (log : List Entry) (e : Entry)
+    → outcomes_from plan past (log ++ e ∷ []) ≡ outcomes_from plan past log
+    ++ outcome_at plan (fold (with_entry plan) past log) e ∷ []
 outcomes_from-add plan past [] e = refl
-outcomes_from-add plan past (x ∷ log) e = ap (λ (os : List (Option Outcome)). outcome_at plan past x ∷ os) (outcomes_from-add plan (with_entry plan past x) log e)
+outcomes_from-add plan past (x ∷ log) e = ap (λ (os : List (Option Outcome)). outcome_at plan past x ∷ os)
+    (outcomes_from-add plan (with_entry plan past x) log e)
 
 -- a log with one entry more
-pub outcomes_of-add : (plan : plans.Plan) (start : Store) (log : List Entry) (e : Entry) → outcomes_of plan start (log ++ e ∷ []) ≡ outcomes_of plan start log ++ outcome_at plan (past_of plan start log) e ∷ []
+pub outcomes_of-add : (plan : plans.Plan) (start : Store) (log : List Entry) (e : Entry)
+    → outcomes_of plan start (log ++ e ∷ []) ≡ outcomes_of plan start log
+    ++ outcome_at plan (past_of plan start log) e ∷ []
 outcomes_of-add plan start log e = outcomes_from-add plan (beginning start) log e
 
-outcomes_counted : (plan : plans.Plan) (past : Past) (log : List Entry) → length (outcomes_from plan past log) ≡ length log
+outcomes_counted : (plan : plans.Plan) (past : Past) (log : List Entry)
+    → length (outcomes_from plan past log) ≡ length log
 outcomes_counted plan past [] = refl
 outcomes_counted plan past (x ∷ log) = ap suc (outcomes_counted plan (with_entry plan past x) log)
 
 -- as many as there are entries
-pub outcomes_kept : {plan : Plan} {start values : List Datum} {before : Option ℕ} {samples : List Bool} {log : List Entry} {outcomes : List (Option Outcome)} {rows : List ℕ} {last : Option ℕ} {ready : Ready}
+pub outcomes_kept : {plan : Plan} {start values : List Datum} {before : Option ℕ} {samples : List Bool}
+    {log : List Entry} {outcomes : List (Option Outcome)} {rows : List ℕ} {last : Option ℕ} {ready : Ready}
     → SerialInvariant plan start before values samples log outcomes rows last ready → length outcomes ≡ length log
 outcomes_kept {plan} {start} {values} {before} {samples} {log} {outcomes} {rows} {last} {ready} kept =
-    ap (λ (os : List (Option Outcome)). length os) kept.outcomes_are ∙ outcomes_counted (plan_view plan) (beginning (store_in plan start)) log
+    ap (λ (os : List (Option Outcome)). length os) kept.outcomes_are
+    ∙ outcomes_counted (plan_view plan) (beginning (store_in plan start)) log

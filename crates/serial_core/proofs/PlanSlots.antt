@@ -1,5 +1,6 @@
 -- The slots of a plan: its variables, and after them its inputs.
-use Rattle.std.proofs.Common.{◌≡◌, ℕ, zero, suc, List, [], ◌∷◌, ◌++◌, length, map, slice_set, refl, sym, ap, ◌∙◌, arith, length-append}
+use Rattle.std.proofs.Common.{◌≡◌, ℕ, zero, suc, List, [], ◌∷◌, ◌++◌, length, map, slice_set, refl, sym, ap, ◌∙◌, arith}
+use Rattle.std.proofs.Common.{length-append}
 use Rattle.std.proofs.lemmas.List.{length-map, length-set}
 use Rattle.st_words.specs.Values.{Datum}
 use Rattle.st_plans.specs.declared.plan.PlanVariable.{PlanVariable}
@@ -14,14 +15,16 @@ no_variables (i ∷ is) [] = refl
 no_variables (i ∷ is) (v ∷ im) = no_variables is im
 
 -- the values after those of the variables are not of variables
-pub variables_alone : (xs : List PlanVariable) (is : List PlanInput) (vs im : List Datum) → length vs ≡ length xs → variables_in (layout_of xs is) (vs ++ im) ≡ variables_in (layout_of xs is) vs
+pub variables_alone : (xs : List PlanVariable) (is : List PlanInput) (vs im : List Datum) → length vs ≡ length xs
+    → variables_in (layout_of xs is) (vs ++ im) ≡ variables_in (layout_of xs is) vs
 variables_alone [] is [] im e = no_variables is im ∙ sym (no_variables is [])
 variables_alone [] is (v ∷ vs) im e = absurd (omega arith)
 variables_alone (x ∷ xs) is [] im e = absurd (omega arith)
 variables_alone (x ∷ xs) is (v ∷ vs) im e = ap (λ s. (x.path, v) ∷ s) (variables_alone xs is vs im (omega arith))
 
 -- the variables of slots have their values in order
-pub values_back : (xs : List PlanVariable) (is : List PlanInput) (vs : List Datum) → length vs ≡ length xs → map (λ e. e.1) (variables_in (layout_of xs is) vs) ≡ vs
+pub values_back : (xs : List PlanVariable) (is : List PlanInput) (vs : List Datum) → length vs ≡ length xs
+    → map (λ e. e.1) (variables_in (layout_of xs is) vs) ≡ vs
 values_back [] is [] e = ap (map (λ e. e.1)) (no_variables is [])
 values_back [] is (v ∷ vs) e = absurd (omega arith)
 values_back (x ∷ xs) is [] e = absurd (omega arith)
@@ -33,7 +36,8 @@ inputs_alone (i ∷ is) [] = refl
 inputs_alone (i ∷ is) (v ∷ im) = ap (λ s. (i.path, v) ∷ s) (inputs_alone is im)
 
 -- the inputs of slots are those of the row's image
-pub inputs_behind : (xs : List PlanVariable) (is : List PlanInput) (vs im : List Datum) → length vs ≡ length xs → inputs_in (layout_of xs is) (vs ++ im) ≡ image_of is im
+pub inputs_behind : (xs : List PlanVariable) (is : List PlanInput) (vs im : List Datum) → length vs ≡ length xs
+    → inputs_in (layout_of xs is) (vs ++ im) ≡ image_of is im
 inputs_behind [] is [] im e = inputs_alone is im
 inputs_behind [] is (v ∷ vs) im e = absurd (omega arith)
 inputs_behind (x ∷ xs) is [] im e = absurd (omega arith)
@@ -45,17 +49,29 @@ behind_set [] im k v = slice_set im k v
 behind_set (u ∷ vs) im zero v = im
 behind_set (u ∷ vs) im (suc k) v = behind_set vs im k v
 
-set_both : (vs im : List Datum) (k : ℕ) (v : Datum) → slice_set (vs ++ im) k v ≡ slice_set vs k v ++ behind_set vs im k v
+set_both : (vs im : List Datum) (k : ℕ) (v : Datum)
+    → slice_set (vs ++ im) k v ≡ slice_set vs k v ++ behind_set vs im k v
 set_both [] im k v = refl
 set_both (u ∷ vs) im zero v = refl
 set_both (u ∷ vs) im (suc k) v = ap (λ t. u ∷ t) (set_both vs im k v)
 
 -- the variables after writes do not turn on what stands after them
-pub variables_written : (xs : List PlanVariable) (is : List PlanInput) (ws : List Cell) (vs im : List Datum) → length vs ≡ length xs → variables_in (layout_of xs is) (written (vs ++ im) ws) ≡ variables_in (layout_of xs is) (written vs ws)
+pub variables_written : (xs : List PlanVariable) (is : List PlanInput) (ws : List Cell) (vs im : List Datum)
+    → length vs ≡ length xs
+    → variables_in (layout_of xs is) (written (vs ++ im) ws) ≡ variables_in (layout_of xs is) (written vs ws)
 variables_written xs is [] vs im e = variables_alone xs is vs im e
 variables_written xs is (c ∷ ws) vs im e =
     ap (λ t. variables_in (layout_of xs is) (written t ws)) (set_both vs im c.0 c.1)
     ∙ variables_written xs is ws (slice_set vs c.0 c.1) (behind_set vs im c.0 c.1) (length-set vs c.0 c.1 ∙ e)
 
-pub length_layout : (xs : List PlanVariable) (is : List PlanInput) (vs im : List Datum) → length vs ≡ length xs → length im ≡ length is → length (layout_of xs is) ≡ length (vs ++ im)
-length_layout xs is vs im e f = omega (arith, e, f, length-append (map variable_slot xs) (map input_slot is), length-map xs variable_slot, length-map is input_slot, length-append vs im)
+pub length_layout : (xs : List PlanVariable) (is : List PlanInput) (vs im : List Datum) → length vs ≡ length xs
+    → length im ≡ length is → length (layout_of xs is) ≡ length (vs ++ im)
+length_layout xs is vs im e f = omega (
+  arith,
+  e,
+  f,
+  length-append (map variable_slot xs) (map input_slot is),
+  length-map xs variable_slot,
+  length-map is input_slot,
+  length-append vs im,
+)

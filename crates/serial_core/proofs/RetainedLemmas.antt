@@ -1,5 +1,7 @@
 -- Retained variables: what is kept of a store, and what a restart makes of it.
-use Rattle.std.proofs.Common.{◌≡◌, ℕ, zero, suc, Bool, true, false, not, ◌&&◌, ◌||◌, if◌then◌else◌, inl, inr, List, [], ◌∷◌, ◌++◌, length, map, Some, Result, Ok, slice_get, refl, sym, ap, subst, ◌∙◌, arith, append_assoc}
+use Rattle.std.proofs.Common.{◌≡◌, ℕ, zero, suc, Bool, true, false, not, ◌&&◌, ◌||◌, if◌then◌else◌, inl, inr, List, []}
+use Rattle.std.proofs.Common.{◌∷◌, ◌++◌, length, map, Some, Result, Ok, slice_get, refl, sym, ap, subst, ◌∙◌, arith}
+use Rattle.std.proofs.Common.{append_assoc}
 use Rattle.std.specs.Prelude.{filter, bytes_eq}
 use Rattle.std.proofs.lemmas.Bool.{and_parts, and_from, or_parts, or_from, not-true, cases_Bool}
 use Rattle.std.proofs.lemmas.Slice.Eq.{bytes_eq-Decides}
@@ -20,7 +22,8 @@ use Rattle.st_types.specs.Scopes.{Name, contains_name}
 use Rattle.st_types.proofs.SlotLemmas.{same_path_is, same_path_itself}
 use Rattle.slot_run.proofs.Bools.{same_itself}
 use Rattle.config.specs.Sound.{are_different}
-use Rattle.serial_core.specs.Retained.{retained_paths, retained_kinds, retained_values, first_or, others, restored, paired}
+use Rattle.serial_core.specs.Retained.{retained_paths, retained_kinds, retained_values, first_or, others, restored}
+use Rattle.serial_core.specs.Retained.{paired}
 use Rattle.serial_core.proofs.PlanSlots.{no_variables}
 
 abbrev initials : List PlanVariable → List Datum
@@ -33,34 +36,42 @@ kinds vs = map (λ v. v.initial.kind) vs
 abbrev pub GoesByItself : (Path → Bool) → List PlanVariable → Type 0
 GoesByItself keep vs = (k : ℕ) (v : PlanVariable) → slice_get vs k ≡ Some v → keep v.path ≡ v.retained
 
-kept_first : (keep : Path → Bool) (v : PlanVariable) (d : Datum) (r : Bool) (s : Store) (ps : List Path) (ws : List Datum) → keep v.path ≡ r → filter (λ e. keep e.0) s ≡ paired ps ws
+kept_first : (keep : Path → Bool) (v : PlanVariable) (d : Datum) (r : Bool) (s : Store) (ps : List Path)
+    (ws : List Datum) → keep v.path ≡ r → filter (λ e. keep e.0) s ≡ paired ps ws
     → filter (λ e. keep e.0) ((v.path, d) ∷ s) ≡ paired (if r then v.path ∷ ps else ps) (if r then d ∷ ws else ws)
 kept_first keep v d true s ps ws is rest = rw is (ap (λ (t : Store). (v.path, d) ∷ t) rest)
 kept_first keep v d false s ps ws is rest = rw is rest
 
 -- what is kept of the variables, by their order
-pub kept_paired : (keep : Path → Bool) (vs : List PlanVariable) (ins : List PlanInput) (ds : List Datum) → length ds ≡ length vs → GoesByItself keep vs
+pub kept_paired : (keep : Path → Bool) (vs : List PlanVariable) (ins : List PlanInput) (ds : List Datum)
+    → length ds ≡ length vs → GoesByItself keep vs
     → filter (λ e. keep e.0) (variables_in (layout_of vs ins) ds) ≡ paired (retained_paths vs) (retained_values vs ds)
 kept_paired keep [] ins ds e goes = ap (filter (λ e. keep e.0)) (no_variables ins ds)
 kept_paired keep (v ∷ vs) ins [] e goes = absurd (omega arith)
 kept_paired keep (v ∷ vs) ins (d ∷ ds) e goes =
-    kept_first keep v d v.retained (variables_in (layout_of vs ins) ds) (retained_paths vs) (retained_values vs ds) (goes 0 v refl) (kept_paired keep vs ins ds (omega arith) (λ k u. goes (suc k) u))
+    kept_first keep v d v.retained (variables_in (layout_of vs ins) ds) (retained_paths vs) (retained_values vs ds)
+    (goes 0 v refl) (kept_paired keep vs ins ds (omega arith) (λ k u. goes (suc k) u))
 
-values_first : (v : PlanVariable) (d : Datum) (r : Bool) (ps : List Path) (ws : List Datum) → map (λ e. e.1) (paired ps ws) ≡ ws → map (λ e. e.1) (paired (if r then v.path ∷ ps else ps) (if r then d ∷ ws else ws)) ≡ (if r then d ∷ ws else ws)
+values_first : (v : PlanVariable) (d : Datum) (r : Bool) (ps : List Path) (ws : List Datum)
+    → map (λ e. e.1) (paired ps ws) ≡ ws
+    → map (λ e. e.1) (paired (if r then v.path ∷ ps else ps) (if r then d ∷ ws else ws)) ≡ (if r then d ∷ ws else ws)
 values_first v d true ps ws rest = ap (λ (t : List Datum). d ∷ t) rest
 values_first v d false ps ws rest = rest
 
 -- the values that are kept
-pub values_paired : (vs : List PlanVariable) (ds : List Datum) → map (λ e. e.1) (paired (retained_paths vs) (retained_values vs ds)) ≡ retained_values vs ds
+pub values_paired : (vs : List PlanVariable) (ds : List Datum)
+    → map (λ e. e.1) (paired (retained_paths vs) (retained_values vs ds)) ≡ retained_values vs ds
 values_paired [] ds = refl
 values_paired (v ∷ vs) [] = none (retained_paths (v ∷ vs))
   where
     none : (ps : List Path) → map (λ e. e.1) (paired ps []) ≡ []
     none [] = refl
     none (p ∷ ps) = refl
-values_paired (v ∷ vs) (d ∷ ds) = values_first v d v.retained (retained_paths vs) (retained_values vs ds) (values_paired vs ds)
+values_paired (v ∷ vs) (d ∷ ds) =
+    values_first v d v.retained (retained_paths vs) (retained_values vs ds) (values_paired vs ds)
 
-kinds_first : (v : PlanVariable) (d : Datum) (r : Bool) (ws : List Datum) (ks : List Kind) → d.kind ≡ v.initial.kind → map (λ d. d.kind) ws ≡ ks → map (λ d. d.kind) (if r then d ∷ ws else ws) ≡ (if r then v.initial.kind ∷ ks else ks)
+kinds_first : (v : PlanVariable) (d : Datum) (r : Bool) (ws : List Datum) (ks : List Kind) → d.kind ≡ v.initial.kind
+    → map (λ d. d.kind) ws ≡ ks → map (λ d. d.kind) (if r then d ∷ ws else ws) ≡ (if r then v.initial.kind ∷ ks else ks)
 kinds_first v d true ws ks is rest = rw (is, rest) refl
 kinds_first v d false ws ks is rest = rest
 
@@ -71,10 +82,12 @@ cons_tail : {a b : Kind} {xs ys : List Kind} → a ∷ xs ≡ b ∷ ys → xs �
 cons_tail h = cc
 
 -- their types
-pub kinds_kept : (vs : List PlanVariable) (ds : List Datum) → map (λ d. d.kind) ds ≡ kinds vs → map (λ d. d.kind) (retained_values vs ds) ≡ retained_kinds vs
+pub kinds_kept : (vs : List PlanVariable) (ds : List Datum) → map (λ d. d.kind) ds ≡ kinds vs
+    → map (λ d. d.kind) (retained_values vs ds) ≡ retained_kinds vs
 kinds_kept [] ds e = refl
 kinds_kept (v ∷ vs) [] e = absurd (omega (arith, ap length e))
-kinds_kept (v ∷ vs) (d ∷ ds) e = kinds_first v d v.retained (retained_values vs ds) (retained_kinds vs) (cons_head e) (kinds_kept vs ds (cons_tail e))
+kinds_kept (v ∷ vs) (d ∷ ds) e = kinds_first v d v.retained (retained_values vs ds) (retained_kinds vs) (cons_head e)
+    (kinds_kept vs ds (cons_tail e))
 
 -- ---- paths that are spelled differently
 
@@ -103,29 +116,37 @@ kept_here : (p : Path) (r rest : Bool) → rest ≡ false → ((same_path p p &&
 kept_here p true rest e = rw (same_path_itself p) refl
 kept_here p false rest e = rw (same_path_itself p, e) refl
 
-none_alike : (v : PlanVariable) (vs : List PlanVariable) → contains_name (texts vs) (path_text v.path) ≡ false → is_kept_of vs v.path ≡ false
+none_alike : (v : PlanVariable) (vs : List PlanVariable) → contains_name (texts vs) (path_text v.path) ≡ false
+    → is_kept_of vs v.path ≡ false
 none_alike v [] h = refl
 none_alike v (u ∷ vs) h =
     let p = or_parts (bytes_eq (path_text v.path) (path_text u.path)) (contains_name (texts vs) (path_text v.path)) h in
-    kept_behind v.path u.path u.retained (is_kept_of vs v.path) (unlike v.path u.path (differ (path_text v.path) (path_text u.path) p.0)) ∙ none_alike v vs p.1
+    kept_behind v.path u.path u.retained (is_kept_of vs v.path)
+    (unlike v.path u.path (differ (path_text v.path) (path_text u.path) p.0)) ∙ none_alike v vs p.1
 
-apart_at : (u : PlanVariable) (vs : List PlanVariable) (k : ℕ) (v : PlanVariable) → contains_name (texts vs) (path_text u.path) ≡ false → slice_get vs k ≡ Some v → bytes_eq (path_text u.path) (path_text v.path) ≡ false
+apart_at : (u : PlanVariable) (vs : List PlanVariable) (k : ℕ) (v : PlanVariable)
+    → contains_name (texts vs) (path_text u.path) ≡ false → slice_get vs k ≡ Some v
+    → bytes_eq (path_text u.path) (path_text v.path) ≡ false
 apart_at u [] k v h at = absurd (cc)
 apart_at u (w ∷ vs) zero v h at =
     let p = or_parts (bytes_eq (path_text u.path) (path_text w.path)) (contains_name (texts vs) (path_text u.path)) h in
     let is : w ≡ v = cc in subst (λ x. bytes_eq (path_text u.path) (path_text x.path) ≡ false) is p.0
 apart_at u (w ∷ vs) (suc k) v h at =
-    let p = or_parts (bytes_eq (path_text u.path) (path_text w.path)) (contains_name (texts vs) (path_text u.path)) h in apart_at u vs k v p.1 at
+    let p = or_parts (bytes_eq (path_text u.path) (path_text w.path)) (contains_name (texts vs) (path_text u.path)) h in
+    apart_at u vs k v p.1 at
 
 pub goes_by_itself : (vs : List PlanVariable) → are_different (texts vs) ≡ true → GoesByItself (is_kept_of vs) vs
 goes_by_itself [] d k v at = absurd (cc)
 goes_by_itself (u ∷ vs) d zero v at =
     let p = and_parts (not (contains_name (texts vs) (path_text u.path))) (are_different (texts vs)) d in
     let is : u ≡ v = cc in
-    subst (λ x. is_kept_of (u ∷ vs) x.path ≡ x.retained) is (kept_here u.path u.retained (is_kept_of vs u.path) (none_alike u vs (not-true (contains_name (texts vs) (path_text u.path)) p.0)))
+    subst (λ x. is_kept_of (u ∷ vs) x.path ≡ x.retained) is (kept_here u.path u.retained (is_kept_of vs u.path)
+    (none_alike u vs (not-true (contains_name (texts vs) (path_text u.path)) p.0)))
 goes_by_itself (u ∷ vs) d (suc k) v at =
     let p = and_parts (not (contains_name (texts vs) (path_text u.path))) (are_different (texts vs)) d in
-    kept_behind v.path u.path u.retained (is_kept_of vs v.path) (unlike v.path u.path (λ same. differ (path_text u.path) (path_text v.path) (apart_at u vs k v (not-true (contains_name (texts vs) (path_text u.path)) p.0) at) (sym same)))
+    kept_behind v.path u.path u.retained (is_kept_of vs v.path)
+    (unlike v.path u.path (λ same. differ (path_text u.path) (path_text v.path)
+    (apart_at u vs k v (not-true (contains_name (texts vs) (path_text u.path)) p.0) at) (sym same)))
     ∙ goes_by_itself vs p.1 k v at
 
 -- ---- a restart
@@ -133,13 +154,15 @@ goes_by_itself (u ∷ vs) d (suc k) v at =
 abbrev IsAbsent : Store → Path → Type 0
 IsAbsent s p = list_any (λ e. same_path p e.0) s ≡ false
 
-assigned_behind : (s t : Store) (p : Path) (d w : Datum) → IsAbsent s p → may_replace d w ≡ true → assigned (s ++ (p, d) ∷ t) p w ≡ Ok (s ++ (p, w) ∷ t)
+assigned_behind : (s t : Store) (p : Path) (d w : Datum) → IsAbsent s p → may_replace d w ≡ true
+    → assigned (s ++ (p, d) ∷ t) p w ≡ Ok (s ++ (p, w) ∷ t)
 assigned_behind [] t p d w absent may = rw (same_path_itself p, may) refl
 assigned_behind (e ∷ s) t p d w absent may =
     let q = or_parts (same_path p e.0) (list_any (λ x. same_path p x.0) s) absent in
     rw (q.0, assigned_behind s t p d w q.1 may) refl
 
-absent_more : (s : Store) (e : Path × Datum) (p : Path) → IsAbsent s p → same_path p e.0 ≡ false → IsAbsent (s ++ e ∷ []) p
+absent_more : (s : Store) (e : Path × Datum) (p : Path) → IsAbsent s p → same_path p e.0 ≡ false
+    → IsAbsent (s ++ e ∷ []) p
 absent_more [] e p absent other = rw other refl
 absent_more (x ∷ s) e p absent other =
     let q = or_parts (same_path p x.0) (list_any (λ y. same_path p y.0) s) absent in
@@ -152,11 +175,16 @@ all_absent : (vs : List PlanVariable) → AreAbsent [] vs
 all_absent [] = tt
 all_absent (v ∷ vs) = (refl, all_absent vs)
 
-absent_next : (s : Store) (u : PlanVariable) (d : Datum) (vs : List PlanVariable) → AreAbsent s vs → contains_name (texts vs) (path_text u.path) ≡ false → AreAbsent (s ++ (u.path, d) ∷ []) vs
+absent_next : (s : Store) (u : PlanVariable) (d : Datum) (vs : List PlanVariable) → AreAbsent s vs
+    → contains_name (texts vs) (path_text u.path) ≡ false → AreAbsent (s ++ (u.path, d) ∷ []) vs
 absent_next s u d [] absent h = tt
 absent_next s u d (v ∷ vs) absent h =
-    let p = or_parts (bytes_eq (path_text u.path) (path_text v.path)) (contains_name (texts vs) (path_text u.path)) h in
-    (absent_more s (u.path, d) v.path absent.0 (unlike v.path u.path (λ same. differ (path_text u.path) (path_text v.path) p.0 (sym same))), absent_next s u d vs absent.1 p.1)
+    let p = or_parts (bytes_eq (path_text u.path) (path_text v.path)) (contains_name (texts vs) (path_text u.path))
+    h in (
+      absent_more s (u.path, d) v.path absent.0 (unlike v.path u.path
+          (λ same. differ (path_text u.path) (path_text v.path) p.0 (sym same))),
+      absent_next s u d vs absent.1 p.1,
+    )
 
 abbrev entries : List PlanVariable → Store
 entries vs = map (λ v. (v.path, v.initial)) vs
@@ -165,62 +193,86 @@ kind_itself : (k l : Kind) → k ≡ l → same_kind k l ≡ true
 kind_itself k l e = subst (λ m. same_kind k m ≡ true) e (same_itself (kind_index k))
 
 takes_its_kind : (v : PlanVariable) (w : Datum) → w.kind ≡ v.initial.kind → IsHeld w → may_replace v.initial w ≡ true
-takes_its_kind v w is held = and_from (same_kind v.initial.kind w.kind) (holds w.kind w.number) (kind_itself v.initial.kind w.kind (sym is)) held
+takes_its_kind v w is held =
+    and_from (same_kind v.initial.kind w.kind) (holds w.kind w.number) (kind_itself v.initial.kind w.kind (sym is)) held
 
 -- the record's values written over the initial ones
 abbrev RestartsTo : List PlanVariable → List PlanInput → Type 0
-RestartsTo vs ins = (s : Store) (ws : List Datum) → AreAbsent s vs → are_different (texts vs) ≡ true → map (λ d. d.kind) ws ≡ retained_kinds vs → AllByRecursion IsHeld ws
-    → written_over (s ++ entries vs) (paired (retained_paths vs) ws) ≡ s ++ variables_in (layout_of vs ins) (restored vs ws)
+RestartsTo vs ins = (s : Store) (ws : List Datum) → AreAbsent s vs → are_different (texts vs) ≡ true
+    → map (λ d. d.kind) ws ≡ retained_kinds vs → AllByRecursion IsHeld ws
+    → written_over (s ++ entries vs) (paired (retained_paths vs) ws) ≡ s
+    ++ variables_in (layout_of vs ins) (restored vs ws)
 
-over_first : (s : Store) (v : PlanVariable) (vs : List PlanVariable) (ins : List PlanInput) (ws : List Datum) (r : Bool) → RestartsTo vs ins → AreAbsent s (v ∷ vs) → are_different (texts (v ∷ vs)) ≡ true
-    → map (λ d. d.kind) ws ≡ (if r then v.initial.kind ∷ retained_kinds vs else retained_kinds vs) → AllByRecursion IsHeld ws
-    → written_over (s ++ (v.path, v.initial) ∷ entries vs) (paired (if r then v.path ∷ retained_paths vs else retained_paths vs) ws)
-    ≡ s ++ variables_in (layout_of (v ∷ vs) ins) (if r then first_or v.initial ws ∷ restored vs (others ws) else v.initial ∷ restored vs ws)
+over_first : (s : Store) (v : PlanVariable) (vs : List PlanVariable) (ins : List PlanInput) (ws : List Datum) (r : Bool)
+    → RestartsTo vs ins → AreAbsent s (v ∷ vs) → are_different (texts (v ∷ vs)) ≡ true
+    → map (λ d. d.kind) ws ≡ (if r then v.initial.kind ∷ retained_kinds vs else retained_kinds vs)
+    → AllByRecursion IsHeld ws
+    → written_over (s ++ (v.path, v.initial) ∷ entries vs)
+    (paired (if r then v.path ∷ retained_paths vs else retained_paths vs) ws)
+    ≡ s ++ variables_in (layout_of (v ∷ vs) ins)
+    (if r then first_or v.initial ws ∷ restored vs (others ws) else v.initial ∷ restored vs ws)
 over_first s v vs ins [] true again absent d e held = absurd (omega (arith, ap length e))
 over_first s v vs ins (w ∷ ws) true again absent d e held =
     let p = and_parts (not (contains_name (texts vs) (path_text v.path))) (are_different (texts vs)) d in
     let next = absent_next s v w vs absent.1 (not-true (contains_name (texts vs) (path_text v.path)) p.0) in
-    ap (λ (r : Result Store Fault). written_over (or_else (unless_refused r) (s ++ (v.path, v.initial) ∷ entries vs)) (paired (retained_paths vs) ws)) (assigned_behind s (entries vs) v.path v.initial w absent.0 (takes_its_kind v w (cons_head e) held.0))
-    ∙ ap (λ (t : Store). written_over t (paired (retained_paths vs) ws)) (sym (append_assoc s ((v.path, w) ∷ []) (entries vs)))
+    ap (λ (r : Result Store Fault). written_over (or_else (unless_refused r) (s ++ (v.path, v.initial) ∷ entries vs))
+    (paired (retained_paths vs) ws))
+    (assigned_behind s (entries vs) v.path v.initial w absent.0 (takes_its_kind v w (cons_head e) held.0))
+    ∙ ap (λ (t : Store). written_over t (paired (retained_paths vs) ws))
+    (sym (append_assoc s ((v.path, w) ∷ []) (entries vs)))
     ∙ again (s ++ (v.path, w) ∷ []) ws next p.1 (cons_tail e) held.1
     ∙ append_assoc s ((v.path, w) ∷ []) (variables_in (layout_of vs ins) (restored vs ws))
 over_first s v vs ins ws false again absent d e held =
     let p = and_parts (not (contains_name (texts vs) (path_text v.path))) (are_different (texts vs)) d in
     let next = absent_next s v v.initial vs absent.1 (not-true (contains_name (texts vs) (path_text v.path)) p.0) in
-    ap (λ (t : Store). written_over t (paired (retained_paths vs) ws)) (sym (append_assoc s ((v.path, v.initial) ∷ []) (entries vs)))
+    ap (λ (t : Store). written_over t (paired (retained_paths vs) ws))
+    (sym (append_assoc s ((v.path, v.initial) ∷ []) (entries vs)))
     ∙ again (s ++ (v.path, v.initial) ∷ []) ws next p.1 e held
     ∙ append_assoc s ((v.path, v.initial) ∷ []) (variables_in (layout_of vs ins) (restored vs ws))
 
 over_initial : (vs : List PlanVariable) (ins : List PlanInput) → RestartsTo vs ins
 over_initial [] ins s ws absent d e held = ap (λ (t : Store). s ++ t) (sym (no_variables ins []))
-over_initial (v ∷ vs) ins s ws absent d e held = over_first s v vs ins ws v.retained (over_initial vs ins) absent d e held
+over_initial (v ∷ vs) ins s ws absent d e held =
+    over_first s v vs ins ws v.retained (over_initial vs ins) absent d e held
 
-pub restart_is : (vs : List PlanVariable) (ins : List PlanInput) (ws : List Datum) → are_different (texts vs) ≡ true → map (λ d. d.kind) ws ≡ retained_kinds vs → AllByRecursion IsHeld ws
+pub restart_is : (vs : List PlanVariable) (ins : List PlanInput) (ws : List Datum) → are_different (texts vs) ≡ true
+    → map (λ d. d.kind) ws ≡ retained_kinds vs → AllByRecursion IsHeld ws
     → written_over (entries vs) (paired (retained_paths vs) ws) ≡ variables_in (layout_of vs ins) (restored vs ws)
 restart_is vs ins ws d e held = over_initial vs ins [] ws (all_absent vs) d e held
 
 -- what was restored is what is kept
-back_first : (v : PlanVariable) (vs : List PlanVariable) (ws : List Datum) (r : Bool) → ((us : List Datum) → map (λ d. d.kind) us ≡ retained_kinds vs → retained_values vs (restored vs us) ≡ us)
+back_first : (v : PlanVariable) (vs : List PlanVariable) (ws : List Datum) (r : Bool)
+    → ((us : List Datum) → map (λ d. d.kind) us ≡ retained_kinds vs → retained_values vs (restored vs us) ≡ us)
     → map (λ d. d.kind) ws ≡ (if r then v.initial.kind ∷ retained_kinds vs else retained_kinds vs)
-    → (if r then first_or v.initial ws ∷ retained_values vs (restored vs (others ws)) else retained_values vs (restored vs ws)) ≡ ws
+    → (if r then first_or v.initial ws ∷ retained_values vs (restored vs (others ws))
+    else retained_values vs (restored vs ws)) ≡ ws
 back_first v vs [] true again e = absurd (omega (arith, ap length e))
 back_first v vs (w ∷ ws) true again e = ap (λ (t : List Datum). w ∷ t) (again ws (cons_tail e))
 back_first v vs ws false again e = again ws e
 
 restored_first : (v : PlanVariable) (vs : List PlanVariable) (ws : List Datum) (r : Bool) → v.retained ≡ r
-    → retained_values (v ∷ vs) (restored (v ∷ vs) ws) ≡ (if r then first_or v.initial ws ∷ retained_values vs (restored vs (others ws)) else retained_values vs (restored vs ws))
+    → retained_values (v ∷ vs) (restored (v ∷ vs) ws) ≡ (if r then
+    first_or v.initial ws ∷ retained_values vs (restored vs (others ws)) else retained_values vs (restored vs ws))
 restored_first v vs ws true is = rw is refl
 restored_first v vs ws false is = rw is refl
 
-pub restored_back : (vs : List PlanVariable) (ws : List Datum) → map (λ d. d.kind) ws ≡ retained_kinds vs → retained_values vs (restored vs ws) ≡ ws
+pub restored_back : (vs : List PlanVariable) (ws : List Datum) → map (λ d. d.kind) ws ≡ retained_kinds vs
+    → retained_values vs (restored vs ws) ≡ ws
 restored_back [] [] e = refl
 restored_back [] (w ∷ ws) e = absurd (omega (arith, ap length e))
-restored_back (v ∷ vs) ws e = restored_first v vs ws v.retained refl ∙ back_first v vs ws v.retained (restored_back vs) e
+restored_back (v ∷ vs) ws e = restored_first v vs ws v.retained refl
+    ∙ back_first v vs ws v.retained (restored_back vs) e
 
 -- the initial values restored over themselves
-same_first : (v : PlanVariable) (vs : List PlanVariable) (r : Bool) → restored vs (retained_values vs (initials vs)) ≡ initials vs
-    → (if r then first_or v.initial (if r then v.initial ∷ retained_values vs (initials vs) else retained_values vs (initials vs)) ∷ restored vs (others (if r then v.initial ∷ retained_values vs (initials vs) else retained_values vs (initials vs)))
-    else v.initial ∷ restored vs (if r then v.initial ∷ retained_values vs (initials vs) else retained_values vs (initials vs))) ≡ v.initial ∷ initials vs
+same_first : (v : PlanVariable) (vs : List PlanVariable) (r : Bool)
+    → restored vs (retained_values vs (initials vs)) ≡ initials vs
+    → (if r then first_or v.initial
+    (if r then v.initial ∷ retained_values vs (initials vs) else retained_values vs (initials vs)) ∷ restored vs
+    (others (if r then v.initial ∷ retained_values vs (initials vs) else retained_values vs (initials vs)))
+    else v.initial
+    ∷ restored vs (if r then v.initial ∷ retained_values vs (initials vs) else retained_values vs (initials vs)))
+    ≡ v.initial
+    ∷ initials vs
 same_first v vs true rest = ap (λ (t : List Datum). v.initial ∷ t) rest
 same_first v vs false rest = ap (λ (t : List Datum). v.initial ∷ t) rest
 
@@ -228,19 +280,23 @@ pub initials_again : (vs : List PlanVariable) → restored vs (retained_values v
 initials_again [] = refl
 initials_again (v ∷ vs) = same_first v vs v.retained (initials_again vs)
 
-kinds_restored : (v : PlanVariable) (vs : List PlanVariable) (ws : List Datum) (r : Bool) → ((us : List Datum) → map (λ d. d.kind) us ≡ retained_kinds vs → map (λ d. d.kind) (restored vs us) ≡ kinds vs)
+kinds_restored : (v : PlanVariable) (vs : List PlanVariable) (ws : List Datum) (r : Bool)
+    → ((us : List Datum) → map (λ d. d.kind) us ≡ retained_kinds vs → map (λ d. d.kind) (restored vs us) ≡ kinds vs)
     → map (λ d. d.kind) ws ≡ (if r then v.initial.kind ∷ retained_kinds vs else retained_kinds vs)
-    → map (λ d. d.kind) (if r then first_or v.initial ws ∷ restored vs (others ws) else v.initial ∷ restored vs ws) ≡ v.initial.kind ∷ kinds vs
+    → map (λ d. d.kind) (if r then first_or v.initial ws ∷ restored vs (others ws) else v.initial ∷ restored vs ws)
+    ≡ v.initial.kind ∷ kinds vs
 kinds_restored v vs [] true again e = absurd (omega (arith, ap length e))
 kinds_restored v vs (w ∷ ws) true again e = rw (cons_head e, again ws (cons_tail e)) refl
 kinds_restored v vs ws false again e = ap (λ (t : List Kind). v.initial.kind ∷ t) (again ws e)
 
 -- each restored value is of its variable's type
-pub restored_typed : (vs : List PlanVariable) (ws : List Datum) → map (λ d. d.kind) ws ≡ retained_kinds vs → map (λ d. d.kind) (restored vs ws) ≡ kinds vs
+pub restored_typed : (vs : List PlanVariable) (ws : List Datum) → map (λ d. d.kind) ws ≡ retained_kinds vs
+    → map (λ d. d.kind) (restored vs ws) ≡ kinds vs
 restored_typed [] ws e = refl
 restored_typed (v ∷ vs) ws e = kinds_restored v vs ws v.retained (restored_typed vs) e
 
 -- one value more, which is held
-pub held_more : (ws : List Datum) (d : Datum) → AllByRecursion IsHeld ws → IsHeld d → AllByRecursion IsHeld (ws ++ d ∷ [])
+pub held_more : (ws : List Datum) (d : Datum) → AllByRecursion IsHeld ws → IsHeld d
+    → AllByRecursion IsHeld (ws ++ d ∷ [])
 held_more [] d h k = (k, tt)
 held_more (w ∷ ws) d h k = (h.0, held_more ws d h.1 k)

@@ -19,10 +19,12 @@ pub holds_none : (is : List PlanInput) (vs : List Datum) → (length is ≡ leng
 holds_none [] [] h = absurd (h refl)
 holds_none [] (v ∷ vs) h = refl
 holds_none (i ∷ is) [] h = refl
-holds_none (i ∷ is) (v ∷ vs) h = and_false (same_kind i.kind v.kind) (holds v.kind v.number) (holds_each is vs) (holds_none is vs (λ e. h (omega arith)))
+holds_none (i ∷ is) (v ∷ vs) h = and_false (same_kind i.kind v.kind) (holds v.kind v.number) (holds_each is vs)
+    (holds_none is vs (λ e. h (omega arith)))
 
 pub length_held : (is : List PlanInput) (vs : List Datum) → holds_each is vs ≡ true → length vs ≡ length is
 length_held [] [] h = refl
 length_held [] (v ∷ vs) h = absurd (cc)
 length_held (i ∷ is) [] h = absurd (cc)
-length_held (i ∷ is) (v ∷ vs) h = let r = length_held is vs (last_true (same_kind i.kind v.kind) (holds v.kind v.number) (holds_each is vs) h) in omega arith
+length_held (i ∷ is) (v ∷ vs) h = let r =
+    length_held is vs (last_true (same_kind i.kind v.kind) (holds v.kind v.number) (holds_each is vs) h) in omega arith

@@ -1,5 +1,6 @@
 -- What is taken from a core.
-use Rattle.std.proofs.Common.{◌≡◌, ℕ, suc, ◌<◌, nat_lt, Bool, true, List, [], ◌∷◌, ◌++◌, length, map, Option, Some, None, option_map, slice_get, slice_index, refl, sym, ap, subst, ◌∙◌, arith}
+use Rattle.std.proofs.Common.{◌≡◌, ℕ, suc, ◌<◌, nat_lt, Bool, true, List, [], ◌∷◌, ◌++◌, length, map, Option, Some}
+use Rattle.std.proofs.Common.{None, option_map, slice_get, slice_index, refl, sym, ap, subst, ◌∙◌, arith}
 use Rattle.std.specs.List.{list_all}
 use Rattle.std.proofs.lemmas.Bool.Decides.{nat_tests}
 use Rattle.std.proofs.lemmas.List.{length-map}
@@ -31,30 +32,49 @@ use Rattle.serial_core.proofs.PlanSlots.{values_back, length_layout}
 pub same_row : (a b : Latch) → ◌≡◌ {A = Option Entry} (Some (Row a)) (Some (Row b)) → a ≡ b
 same_row a b e = cc
 
-module _ {plan : Plan} {start values : List Datum} {before : Option ℕ} {samples : List Bool} {log : List Entry} {outcomes : List (Option Outcome)} {rows : List ℕ} {last : Option ℕ} {ready : Ready} (kept : SerialInvariant plan start before values samples log outcomes rows last ready) where
-  pub NoneWaits-best : (resource : ℕ) → ((h : History) → IsReadyOf h ready → NoneWaits ready.schedules h resource) → NoneWaits (schedules_of (plan_view plan)) (past_of (plan_view plan) (store_in plan start) log).history resource
-  NoneWaits-best resource none = subst (λ ps. NoneWaits ps (past_of (plan_view plan) (store_in plan start) log).history resource) kept.schedules (none _ kept.of_past.ready_is)
+module _ {plan : Plan} {start values : List Datum} {before : Option ℕ} {samples : List Bool} {log : List Entry}
+    {outcomes : List (Option Outcome)} {rows : List ℕ} {last : Option ℕ} {ready : Ready}
+    (kept : SerialInvariant plan start before values samples log outcomes rows last ready) where
+  pub NoneWaits-best : (resource : ℕ) → ((h : History) → IsReadyOf h ready → NoneWaits ready.schedules h resource)
+      → NoneWaits (schedules_of (plan_view plan)) (past_of (plan_view plan) (store_in plan start) log).history resource
+  NoneWaits-best resource none =
+      subst (λ ps. NoneWaits ps (past_of (plan_view plan) (store_in plan start) log).history resource) kept.schedules
+      (none _ kept.of_past.ready_is)
 
-  pub IsBest-best : (resource : ℕ) (a : Activation) → ((h : History) → IsReadyOf h ready → IsBest ready.schedules h resource a) → IsBest (schedules_of (plan_view plan)) (past_of (plan_view plan) (store_in plan start) log).history resource a
-  IsBest-best resource a best = subst (λ ps. IsBest ps (past_of (plan_view plan) (store_in plan start) log).history resource a) kept.schedules (best _ kept.of_past.ready_is)
+  pub IsBest-best : (resource : ℕ) (a : Activation)
+      → ((h : History) → IsReadyOf h ready → IsBest ready.schedules h resource a)
+      → IsBest (schedules_of (plan_view plan)) (past_of (plan_view plan) (store_in plan start) log).history resource a
+  IsBest-best resource a best =
+      subst (λ ps. IsBest ps (past_of (plan_view plan) (store_in plan start) log).history resource a) kept.schedules
+      (best _ kept.of_past.ready_is)
 
-  pub waits-program : (a : Activation) → Waits (schedules_of (plan_view plan)) (past_of (plan_view plan) (store_in plan start) log).history a → a.program < length plan.programs.items
-  waits-program a w = let t = Waits-there (schedules_of (plan_view plan)) (past_of (plan_view plan) (store_in plan start) log).history a w in
+  pub waits-program : (a : Activation)
+      → Waits (schedules_of (plan_view plan)) (past_of (plan_view plan) (store_in plan start) log).history a
+      → a.program < length plan.programs.items
+  waits-program a w = let t =
+      Waits-there (schedules_of (plan_view plan)) (past_of (plan_view plan) (store_in plan start) log).history a w in
       subst (λ n. a.program < n) (length-map _ _ ∙ length-map _ _) t.0
 
-  pub waits-row : (a : Activation) → Waits (schedules_of (plan_view plan)) (past_of (plan_view plan) (store_in plan start) log).history a → a.row < length rows
-  waits-row a w = let t = Waits-there (schedules_of (plan_view plan)) (past_of (plan_view plan) (store_in plan start) log).history a w in
+  pub waits-row : (a : Activation)
+      → Waits (schedules_of (plan_view plan)) (past_of (plan_view plan) (store_in plan start) log).history a
+      → a.row < length rows
+  waits-row a w = let t =
+      Waits-there (schedules_of (plan_view plan)) (past_of (plan_view plan) (store_in plan start) log).history a w in
       omega (arith, t.1, kept.of_past.sampled_count, kept.of_past.row_count)
 
-  pub row-there : (a : Activation) → a.row < length rows → slice_get log (slice_index rows a.row) ≡ Some (Row (row_at (past_of (plan_view plan) (store_in plan start) log).rows a.row))
+  pub row-there : (a : Activation) → a.row < length rows → slice_get log (slice_index rows a.row)
+      ≡ Some (Row (row_at (past_of (plan_view plan) (store_in plan start) log).rows a.row))
   row-there a l = kept.of_past.rows_are a.row l
 
   -- the values of the slots of variables
   pub values_are : values ≡ map (λ e. e.1) (past_of (plan_view plan) (store_in plan start) log).store
-  values_are = sym (values_back plan.variables.items plan.inputs.items values kept.sized) ∙ ap (map (λ e. e.1)) kept.of_past.variables
+  values_are = sym (values_back plan.variables.items plan.inputs.items values kept.sized)
+      ∙ ap (map (λ e. e.1)) kept.of_past.variables
 
   -- the values of an activation's slots are as many as the slots
-  pub slots_counted : (a : Activation) (row : Latch) → a.row < length rows → row ≡ row_at (past_of (plan_view plan) (store_in plan start) log).rows a.row → length (layout_of plan.variables.items plan.inputs.items) ≡ length (values ++ row.image)
+  pub slots_counted : (a : Activation) (row : Latch) → a.row < length rows
+      → row ≡ row_at (past_of (plan_view plan) (store_in plan start) log).rows a.row
+      → length (layout_of plan.variables.items plan.inputs.items) ≡ length (values ++ row.image)
   slots_counted a row l e =
       length_layout plan.variables.items plan.inputs.items values row.image kept.sized
       (ap (λ (r : Latch). length r.image) e ∙ kept.of_past.images a.row (omega (arith, l, kept.of_past.row_count)))
@@ -62,46 +82,61 @@ module _ {plan : Plan} {start values : List Datum} {before : Option ℕ} {sample
   -- what is made of these parts
   pub snapshot_is : (room resource : ℕ) (a : Activation) (row : Latch) (code : Code) (slots : List Datum) (s : Snapshot)
       → IsBest (schedules_of (plan_view plan)) (past_of (plan_view plan) (store_in plan start) log).history resource a
-      → code_at plan a.program ≡ Some code → row ≡ row_at (past_of (plan_view plan) (store_in plan start) log).rows a.row → slots ≡ values ++ row.image
+      → code_at plan a.program ≡ Some code
+      → row ≡ row_at (past_of (plan_view plan) (store_in plan start) log).rows a.row → slots ≡ values ++ row.image
       → s.code.value ≡ code → s.activation ≡ a → s.moment ≡ row.moment → s.budget ≡ plan.budget → s.slots.items ≡ slots
-      → IsSnapshotOf record { plan = plan; start = store_in plan start; before = before; log = log; room = room } resource s
+      → IsSnapshotOf record { plan = plan; start = store_in plan start; before = before; log = log; room = room }
+      resource s
   snapshot_is room resource a row code slots s best coded rowed slotted c act m b ss =
       let now = past_of (plan_view plan) (store_in plan start) log in
       record {
         best = subst (IsBest (schedules_of (plan_view plan)) now.history resource) (sym act) best;
         code = ap (λ (x : Activation). code_at plan x.program) act ∙ coded ∙ ap (λ (x : Code). Some x) (sym c);
-        moment = m ∙ ap (λ (r : Latch). r.moment) rowed ∙ ap (λ (x : Activation). (row_at now.rows x.row).moment) (sym act);
+        moment = m ∙ ap (λ (r : Latch). r.moment) rowed
+            ∙ ap (λ (x : Activation). (row_at now.rows x.row).moment) (sym act);
         budget = b;
         slots = ss ∙ slotted ∙ ap (λ vs. vs ++ row.image) values_are
-            ∙ ap (λ (r : Latch). map (λ e. e.1) now.store ++ r.image) rowed ∙ ap (λ (x : Activation). map (λ e. e.1) now.store ++ (row_at now.rows x.row).image) (sym act);
+            ∙ ap (λ (r : Latch). map (λ e. e.1) now.store ++ r.image) rowed
+            ∙ ap (λ (x : Activation). map (λ e. e.1) now.store ++ (row_at now.rows x.row).image) (sym act);
       }
 
-pub IsSnapshotOf-same : {st st' : State} {resource : ℕ} {snapshot : Snapshot} → st ≡ st' → IsSnapshotOf st resource snapshot → IsSnapshotOf st' resource snapshot
+pub IsSnapshotOf-same : {st st' : State} {resource : ℕ} {snapshot : Snapshot} → st ≡ st'
+    → IsSnapshotOf st resource snapshot → IsSnapshotOf st' resource snapshot
 IsSnapshotOf-same {resource = resource} {snapshot = snapshot} e is = subst (λ x. IsSnapshotOf x resource snapshot) e is
 
 -- where an activation is best, something waits
-pub waits_here : (st st' : State) (resource : ℕ) (a : Activation) → st ≡ st' → IsBest (schedules_of (plan_view st.plan)) (past_of (plan_view st.plan) st.start st.log).history resource a → none_waits st' resource → ⊥
-waits_here st st' resource a e best none = subst (λ (x : State). none_waits x resource → ⊥) e (λ n. n a best.waits best.here) none
+pub waits_here : (st st' : State) (resource : ℕ) (a : Activation) → st ≡ st'
+    → IsBest (schedules_of (plan_view st.plan)) (past_of (plan_view st.plan) st.start st.log).history resource a
+    → none_waits st' resource → ⊥
+waits_here st st' resource a e best none =
+    subst (λ (x : State). none_waits x resource → ⊥) e (λ n. n a best.waits best.here) none
 
 -- globals that have schedules in a layout have slots of it
-all_within : (layout : List Slot) (n : ℕ) (globals : List GlobalSlot) → length layout ≡ n → HaveSlots layout globals → list_all (λ g. nat_lt g.slot n) globals ≡ true
+all_within : (layout : List Slot) (n : ℕ) (globals : List GlobalSlot) → length layout ≡ n → HaveSlots layout globals
+    → list_all (λ g. nat_lt g.slot n) globals ≡ true
 all_within layout n [] len h = refl
 all_within layout n (g ∷ gs) len h =
     let at = slice_get_within layout g.slot _ (h 0 g (omega arith)) in
     let t : nat_lt g.slot n ≡ true = grind (arith, nat_tests) in
     rw (t, all_within layout n gs len (λ k d lt. h (suc k) d (omega arith))) refl
 
-pub globals_within : (plan : Plan) (p : ℕ) (code : Code) (n : ℕ) → HaveSlots (layout_of plan.variables.items plan.inputs.items) code.globals.items → length (layout_of plan.variables.items plan.inputs.items) ≡ n
+pub globals_within : (plan : Plan) (p : ℕ) (code : Code) (n : ℕ)
+    → HaveSlots (layout_of plan.variables.items plan.inputs.items) code.globals.items
+    → length (layout_of plan.variables.items plan.inputs.items) ≡ n
     → list_all (λ g. nat_lt g.slot n) code.globals.items ≡ true
-globals_within plan p code n placed len = all_within (layout_of plan.variables.items plan.inputs.items) n code.globals.items len placed
+globals_within plan p code n placed len =
+    all_within (layout_of plan.variables.items plan.inputs.items) n code.globals.items len placed
 
 -- what a value that is found is made of
-pub found : (A B : Type 0) (f : A → B) (o : Option A) (b : B) → option_map f o ≡ Some b → (a : A) × (o ≡ Some a) × (f a ≡ b)
+pub found : (A B : Type 0) (f : A → B) (o : Option A) (b : B) → option_map f o ≡ Some b
+    → (a : A) × (o ≡ Some a) × (f a ≡ b)
 found A B f None b e = absurd (let y : ◌≡◌ {A = Option B} None (Some b) = e in cc)
 found A B f (Some a) b e = (a, refl, let y : ◌≡◌ {A = Option B} (Some (f a)) (Some b) = e in cc)
 
-pub placed_at : (plan : Plan) (p : ℕ) (code : Code) → ((k : ℕ) (q : Program) → slice_get plan.programs.items k ≡ Some q → HaveSlots (layout_of plan.variables.items plan.inputs.items) q.code.value.globals.items)
+pub placed_at : (plan : Plan) (p : ℕ) (code : Code) → ((k : ℕ) (q : Program) → slice_get plan.programs.items k ≡ Some q
+    → HaveSlots (layout_of plan.variables.items plan.inputs.items) q.code.value.globals.items)
     → code_at plan p ≡ Some code → HaveSlots (layout_of plan.variables.items plan.inputs.items) code.globals.items
 placed_at plan p code placed e =
     let f = found Program Code (λ q. q.code.value) (slice_get plan.programs.items p) code e in
-    subst (λ (x : Code). HaveSlots (layout_of plan.variables.items plan.inputs.items) x.globals.items) f.2 (placed p f.0 f.1)
+    subst (λ (x : Code). HaveSlots (layout_of plan.variables.items plan.inputs.items) x.globals.items) f.2
+    (placed p f.0 f.1)

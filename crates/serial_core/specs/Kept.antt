@@ -1,5 +1,6 @@
 -- What a core keeps of its fields.
-use Rattle.std.specs.Prelude.{◌≡◌, ℕ, ◌<◌, ◌≤◌, ◌^◌, IfSome, List, Bool, length, map, Option, Some, slice_get, slice_index}
+use Rattle.std.specs.Prelude.{◌≡◌, ℕ, ◌<◌, ◌≤◌, ◌^◌, IfSome, List, Bool, length, map, Option, Some, slice_get}
+use Rattle.std.specs.Prelude.{slice_index}
 use Rattle.st_words.specs.declared.limits.TheConstants.{MOMENT_LIMIT}
 use Rattle.st_words.specs.Values.{Datum}
 use Rattle.st_plans.specs.declared.entry.Entry.{Entry}
@@ -13,7 +14,8 @@ use Rattle.ready_list.specs.Ready.{Ready, IsReadyOf}
 use Rattle.serial_core.specs.Steps.{store_in}
 
 -- The fields are what this past makes of them.
-pub record IsOfPast (plan : Plan) (before : Option ℕ) (values : List Datum) (log : List Entry) (rows : List ℕ) (last : Option ℕ) (ready : Ready) (now : Past) : Type 0 where
+pub record IsOfPast (plan : Plan) (before : Option ℕ) (values : List Datum) (log : List Entry) (rows : List ℕ)
+    (last : Option ℕ) (ready : Ready) (now : Past) : Type 0 where
   pub variables : store_in plan values ≡ now.store
   pub rows_are : (k : ℕ) → k < length rows → slice_get log (slice_index rows k) ≡ Some (Row (row_at now.rows k))
   pub row_count : length rows ≡ length now.rows
@@ -23,8 +25,11 @@ pub record IsOfPast (plan : Plan) (before : Option ℕ) (values : List Datum) (l
   pub later : 0 < ready.rows → last ≡ Some ready.last
   pub ready_is : IsReadyOf now.history ready
 
--- The log is legal, the variables and outcomes are what it makes, each variable has its type, moments are within their limit, and the ready list has all that waits.
-pub record SerialInvariant (plan : Plan) (start : List Datum) (before : Option ℕ) (values : List Datum) (samples : List Bool) (log : List Entry) (outcomes : List (Option Outcome)) (rows : List ℕ) (last : Option ℕ) (ready : Ready) : Type 0 where
+-- The log is legal, the variables and outcomes are what it makes, each variable has its type, moments are within their
+-- limit, and the ready list has all that waits.
+pub record SerialInvariant (plan : Plan) (start : List Datum) (before : Option ℕ) (values : List Datum)
+    (samples : List Bool) (log : List Entry) (outcomes : List (Option Outcome)) (rows : List ℕ) (last : Option ℕ)
+    (ready : Ready) : Type 0 where
   pub legal : IsLegal (plan_view plan) (store_in plan start) before log
   pub begun : length start ≡ length plan.variables.items
   pub sized : length values ≡ length plan.variables.items

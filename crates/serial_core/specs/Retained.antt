@@ -33,7 +33,8 @@ others (w ∷ ws) = ws
 -- the initial values, but these for the retained variables, in order
 abbrev pub restored : List PlanVariable → List Datum → List Datum
 restored [] ws = []
-restored (v ∷ vs) ws = if v.retained then first_or v.initial ws ∷ restored vs (others ws) else v.initial ∷ restored vs ws
+restored (v ∷ vs) ws =
+    if v.retained then first_or v.initial ws ∷ restored vs (others ws) else v.initial ∷ restored vs ws
 
 -- each path with its value
 abbrev pub paired : List Path → List Datum → Store

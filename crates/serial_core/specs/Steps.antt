@@ -1,5 +1,6 @@
 -- The steps of a core, each by the cases of its answer. Each refusal carries that those before it do not apply.
-use Rattle.std.specs.Prelude.{◌≡◌, ℕ, ◌<◌, ◌≤◌, Bool, true, false, List, [], ◌∷◌, ◌++◌, map, length, Option, Some, None, option_map, Result, Ok, Err, slice_get}
+use Rattle.std.specs.Prelude.{◌≡◌, ℕ, ◌<◌, ◌≤◌, Bool, true, false, List, [], ◌∷◌, ◌++◌, map, length, Option, Some, None}
+use Rattle.std.specs.Prelude.{option_map, Result, Ok, Err, slice_get}
 use Rattle.st_words.specs.Values.{Datum}
 use Rattle.st_plans.specs.declared.entry.Entry.{Entry}
 use Rattle.st_plans.specs.declared.entry.Entry.TheVariants.{Row, Done}
@@ -23,7 +24,8 @@ use Rattle.serial_core.specs.declared.refusal.Answer.TheVariants.{Committed, Sta
 use Rattle.serial_core.specs.declared.refusal.Refusal.{Refusal}
 use Rattle.serial_core.specs.declared.refusal.Refusal.TheVariants.{Full, NotWaiting, Foreign, NotLater, NoMemory}
 
--- a core: its plan, what its variables and its last moment were at the start, and its log, with room for so many entries
+-- a core: its plan, what its variables and its last moment were at the start, and its log, with room for so many
+-- entries
 pub record State : Type 0 where
   pub plan : Plan
   pub start : Store
@@ -41,7 +43,14 @@ made state = past_of (plan_view state.plan) state.start state.log
 
 -- the core with one entry more
 abbrev pub grown : State → Entry → State
-grown state entry = record { plan = state.plan; start = state.start; before = state.before; log = state.log ++ entry ∷ []; room = state.room }
+grown state entry = record {
+  plan = state.plan;
+  start = state.start;
+  before = state.before;
+  log =
+      state.log ++ entry ∷ [];
+  room = state.room;
+}
 
 abbrev pub comes_later : State → Latch → Bool
 comes_later state row = is_later (last_moment state.before (made state).rows) row.moment
@@ -50,8 +59,10 @@ comes_later state row = is_later (last_moment state.before (made state).rows) ro
 abbrev pub Latches : State → Latch → Result ℕ Refusal → State → Type 0
 Latches old row (Err Full) new = (old.room ≤ length old.log) × (new ≡ old)
 Latches old row (Err Foreign) new = (length old.log < old.room) × (fits (plan_view old.plan) row ≡ false) × (new ≡ old)
-Latches old row (Err NotLater) new = (length old.log < old.room) × (fits (plan_view old.plan) row ≡ true) × (comes_later old row ≡ false) × (new ≡ old)
-Latches old row (Ok n) new = (length old.log < old.room) × (fits (plan_view old.plan) row ≡ true) × (comes_later old row ≡ true) × (n ≡ length (made old).rows) × (new ≡ grown old (Row row))
+Latches old row (Err NotLater) new =
+    (length old.log < old.room) × (fits (plan_view old.plan) row ≡ true) × (comes_later old row ≡ false) × (new ≡ old)
+Latches old row (Ok n) new = (length old.log < old.room) × (fits (plan_view old.plan) row ≡ true)
+    × (comes_later old row ≡ true) × (n ≡ length (made old).rows) × (new ≡ grown old (Row row))
 Latches old row (Err NotWaiting) new = ⊥
 Latches old row (Err NoMemory) new = ⊥
 
@@ -63,7 +74,8 @@ slots_for state a = map (λ e. e.1) (made state).store ++ (row_at (made state).r
 abbrev pub code_at : Plan → ℕ → Option Code
 code_at plan p = option_map (λ q. q.code.value) (slice_get plan.programs.items p)
 
--- what is taken for a resource: the best activation with its program's code, its row's moment and the values of all slots
+-- what is taken for a resource: the best activation with its program's code, its row's moment and the values of all
+-- slots
 pub record IsSnapshotOf (state : State) (resource : ℕ) (snapshot : Snapshot) : Type 0 where
   pub best : IsBest (schedules_of (plan_view state.plan)) (made state).history resource snapshot.activation
   pub code : code_at state.plan snapshot.activation.program ≡ Some snapshot.code.value
@@ -99,10 +111,14 @@ waits_in state a = Waits (schedules_of (plan_view state.plan)) (made state).hist
 -- what a commit is answered, and the core after it
 abbrev pub Commits : State → Effect → Result Answer Refusal → State → Type 0
 Commits old effect (Err Full) new = (old.room ≤ length old.log) × (new ≡ old)
-Commits old effect (Err NotWaiting) new = (length old.log < old.room) × (waits_in old effect.activation → ⊥) × (new ≡ old)
-Commits old effect (Err Foreign) new = (length old.log < old.room) × waits_in old effect.activation × (IsOwn old effect → ⊥) × (new ≡ old)
-Commits old effect (Ok Stale) new = (length old.log < old.room) × waits_in old effect.activation × IsOwn old effect × (stands old effect ≡ false) × (new ≡ old)
-Commits old effect (Ok (Committed n)) new = (length old.log < old.room) × waits_in old effect.activation × IsOwn old effect × (stands old effect ≡ true) × (new ≡ grown old (Done effect.activation)) × (n ≡ length new.log)
+Commits old effect (Err NotWaiting) new =
+    (length old.log < old.room) × (waits_in old effect.activation → ⊥) × (new ≡ old)
+Commits old effect (Err Foreign) new =
+    (length old.log < old.room) × waits_in old effect.activation × (IsOwn old effect → ⊥) × (new ≡ old)
+Commits old effect (Ok Stale) new = (length old.log < old.room) × waits_in old effect.activation × IsOwn old effect
+    × (stands old effect ≡ false) × (new ≡ old)
+Commits old effect (Ok (Committed n)) new = (length old.log < old.room) × waits_in old effect.activation
+    × IsOwn old effect × (stands old effect ≡ true) × (new ≡ grown old (Done effect.activation)) × (n ≡ length new.log)
 Commits old effect (Err NotLater) new = ⊥
 Commits old effect (Err NoMemory) new = ⊥
 

@@ -37,10 +37,11 @@ fn settle(ready: &mut ReadyList, activation: Activation) -> bool
 }
 
 impl SerialCore {
-    /// Appends the execution's Done and applies its writes, if all that it read has its value still. It takes no memory.
+    /// Appends the execution's Done and applies its writes, if all that it read has its value still. It takes no
+    /// memory.
     ///
-    /// K1 where the log is full, else K2 where the activation is not waiting, else K3 where the execution is not that of its
-    /// activation in this core, else Stale where something that it read has another value now.
+    /// K1 where the log is full, else K2 where the activation is not waiting, else K3 where the execution is not that
+    /// of its activation in this core, else Stale where something that it read has another value now.
     pub fn commit(&mut self, execution: Execution) -> Result<Answer, Refusal>
         ensures { Commits self.old execution result self.new }
     {

@@ -9,8 +9,8 @@ use slot_run::run;
 use std::alloc::Global;
 
 impl SerialCore {
-    /// Takes, runs and commits the best activation that waits on the resource, in one step, and gives the log's length after it;
-    /// none where nothing waits there. Nothing that was read can have changed, so it is never stale.
+    /// Takes, runs and commits the best activation that waits on the resource, in one step, and gives the log's length
+    /// after it; none where nothing waits there. Nothing that was read can have changed, so it is never stale.
     ///
     /// K1 where the log is full, K6 out of memory.
     pub fn commit_here(&mut self, alloc: Global, resource: usize) -> Result<Option<usize>, Refusal>

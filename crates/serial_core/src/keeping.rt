@@ -1,6 +1,7 @@
 //! What a record keeps of a core.
 
-ghost use Rattle.std.specs.Prelude.{◌≡◌, ◌≤◌, ◌<◌, ◌^◌, IfSome, ◌+◌, ◌++◌, ◌∷◌, [], map, length, vec_len, vec_capacity, if◌then◌else◌};
+ghost use Rattle.std.specs.Prelude.{◌≡◌, ◌≤◌, ◌<◌, ◌^◌, IfSome, ◌+◌, ◌++◌, ◌∷◌, [], map, length, vec_len, vec_capacity};
+ghost use Rattle.std.specs.Prelude.{if◌then◌else◌};
 ghost use Rattle.std.specs.List.{AllByRecursion};
 ghost use Rattle.st_words.specs.declared.limits.TheConstants.{MOMENT_LIMIT};
 ghost use Rattle.st_words.specs.Values.{IsHeld};
@@ -73,12 +74,15 @@ impl SerialCore {
     pub fn retain(&self, values: &mut Vec<Value>)
         requires room { length self.now.plan.variables.items ≤ vec_capacity values.old }
         ensures values { values.new.items ≡ map (λ e. e.1) (kept (plan_view self.now.plan) (made self.now).store) }
-        ensures named { paired (retained_paths self.now.plan.variables.items) values.new.items ≡ kept (plan_view self.now.plan) (made self.now).store }
+        ensures named { paired (retained_paths self.now.plan.variables.items) values.new.items
+            ≡ kept (plan_view self.now.plan) (made self.now).store }
         ensures kinds { map (λ d. d.kind) values.new.items ≡ retained_kinds self.now.plan.variables.items }
         ensures held { AllByRecursion IsHeld values.new.items }
         // What is kept of the initial values makes the initial values.
         ensures initial { (made self.now).store ≡ initial_store (plan_view self.now.plan)
-            → written_over (initial_store (plan_view self.now.plan)) (kept (plan_view self.now.plan) (initial_store (plan_view self.now.plan))) ≡ initial_store (plan_view self.now.plan) }
+            → written_over (initial_store (plan_view self.now.plan))
+            (kept (plan_view self.now.plan) (initial_store (plan_view self.now.plan)))
+            ≡ initial_store (plan_view self.now.plan) }
         ensures capacity { vec_capacity values.old ≤ vec_capacity values.new }
     {
         retain(&self.values, &self.plan.variables, values);

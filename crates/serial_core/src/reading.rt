@@ -54,7 +54,8 @@ impl SerialCore {
 
     /// How the execution of an entry ended; none for a row, and where the log has no such entry.
     pub fn outcome(&self, number: usize) -> Option<Outcome>
-        ensures { result ≡ option_and_then (λ o. o) (slice_get (outcomes_of (plan_view self.now.plan) self.now.start self.now.log) number) }
+        ensures { result ≡ option_and_then (λ o. o)
+            (slice_get (outcomes_of (plan_view self.now.plan) self.now.start self.now.log) number) }
     {
         match self.outcomes.get(number) {
             Some(outcome) => *outcome,
@@ -62,7 +63,8 @@ impl SerialCore {
         }
     }
 
-    /// The value of a variable, or of an input at the last row, 0 or FALSE before the first; none where no such path is there.
+    /// The value of a variable, or of an input at the last row, 0 or FALSE before the first; none where no such path is
+    /// there.
     pub fn value(&self, path: &Path) -> Option<Value>
         ensures { result ≡ seen (inputs_now self.now) (made self.now).store path.now }
     {
@@ -85,7 +87,8 @@ impl SerialCore {
     /// The value of an input at the last row, or 0 or FALSE.
     fn input(&self, number: usize) -> Value
         requires there { number < length self.now.plan.inputs.items }
-        ensures { Some result ≡ slice_get (last_image (first_image self.now.plan.inputs.items) (made self.now).rows) number }
+        ensures { Some result
+            ≡ slice_get (last_image (first_image self.now.plan.inputs.items) (made self.now).rows) number }
     {
         match self.rows.len().checked_sub(1) {
             Some(last) => row_of(&self.log, &self.rows, last).image()[number],
@@ -96,7 +99,8 @@ impl SerialCore {
     /// How often the program was due while it waited already; 0 for a program that is not there.
     pub fn overruns(&self, program: usize) -> u64
         ensures none { length self.now.plan.programs.items ≤ program → result ≡ 0 }
-        ensures overruns { program < length self.now.plan.programs.items → HasOverruns (schedules_of (plan_view self.now.plan)) (made self.now).history program result }
+        ensures overruns { program < length self.now.plan.programs.items
+            → HasOverruns (schedules_of (plan_view self.now.plan)) (made self.now).history program result }
     {
         self.ready.overruns(program)
     }

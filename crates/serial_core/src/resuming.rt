@@ -6,7 +6,8 @@ ghost use Rattle.st_words.specs.declared.limits.TheConstants.{MOMENT_LIMIT};
 ghost use Rattle.st_words.specs.Values.{IsHeld};
 ghost use Rattle.st_plans.specs.Restarts.{kept, warm_start};
 ghost use Rattle.config.specs.PlanViews.{plan_view};
-ghost use Rattle.serial_core.specs.Retained.{restored, retained_kinds, retained_paths, paired, told_by, first_or, others};
+ghost use Rattle.serial_core.specs.Retained.{restored, retained_kinds, retained_paths, paired, told_by, first_or};
+ghost use Rattle.serial_core.specs.Retained.{others};
 
 use crate::serial::SerialCore;
 use config::Plan;
@@ -15,7 +16,8 @@ use st_words::Value;
 
 /// What a variable starts with, where these values are left for it and the retained variables after it.
 fn value_of(variable: &PlanVariable, kept: &[Value]) -> Value
-    ensures { result ≡ (if variable.now.retained then first_or variable.now.initial kept.now else variable.now.initial) }
+    ensures { result
+        ≡ (if variable.now.retained then first_or variable.now.initial kept.now else variable.now.initial) }
 {
     match kept.first() {
         Some(value) if variable.retained => *value,
@@ -46,8 +48,8 @@ fn restore(values: &mut Vec<Value>, variables: &[PlanVariable], kept: &[Value])
 }
 
 impl SerialCore {
-    /// Goes on from a record: the retained variables take these values, in order, and rows have to be later than this moment in
-    /// milliseconds. The log is empty before. It takes no memory.
+    /// Goes on from a record: the retained variables take these values, in order, and rows have to be later than this
+    /// moment in milliseconds. The log is empty before. It takes no memory.
     pub fn resume(&mut self, values: &[Value], moment: Option<u64>)
         requires empty { self.old.log ≡ [] }
         requires kinds { map (λ d. d.kind) values.now ≡ retained_kinds self.old.plan.variables.items }
@@ -55,12 +57,14 @@ impl SerialCore {
         requires held { AllByRecursion IsHeld values.now }
         ensures restarted { self.new ≡ record {
           plan = self.old.plan;
-          start = (warm_start (plan_view self.old.plan) (Some (told_by self.old.plan.variables.items values.now moment))).store;
+          start = (warm_start (plan_view self.old.plan)
+              (Some (told_by self.old.plan.variables.items values.now moment))).store;
           before = moment;
           log = [];
           room = self.old.room;
         } }
-        ensures kept { kept (plan_view self.old.plan) self.new.start ≡ paired (retained_paths self.old.plan.variables.items) values.now }
+        ensures kept { kept (plan_view self.old.plan) self.new.start
+            ≡ paired (retained_paths self.old.plan.variables.items) values.now }
     {
         let plan: &Plan = &self.plan;
         restore(&mut self.start, &plan.variables, values);

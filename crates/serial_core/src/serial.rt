@@ -58,7 +58,8 @@ impl Model for SerialCore {
     } };
 
     ghost invariant = { λ x.
-        SerialInvariant x.plan.value x.start.items x.before x.values.items x.samples.items x.log.items x.outcomes.items x.rows.items x.last x.ready
+        SerialInvariant x.plan.value x.start.items x.before x.values.items x.samples.items x.log.items x.outcomes.items
+        x.rows.items x.last x.ready
         × (length x.log.items ≤ x.room)
         × (x.room ≤ vec_capacity x.log)
         × (x.room ≤ vec_capacity x.outcomes)

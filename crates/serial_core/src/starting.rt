@@ -25,11 +25,17 @@ fn initial_values(alloc: Global, variables: &[PlanVariable]) -> Result<Vec<Value
 }
 
 impl SerialCore {
-    /// A core of the plan without a disk: every variable has its initial value, and the log is empty with room for so many
-    /// entries, 1 to 65,536. It makes all the memory that `latch`, `commit` and the calls that only tell need.
+    /// A core of the plan without a disk: every variable has its initial value, and the log is empty with room for so
+    /// many entries, 1 to 65,536. It makes all the memory that `latch`, `commit` and the calls that only tell need.
     pub fn start(alloc: Global, plan: Arc<Plan>, log_room: usize) -> Result<SerialCore, AllocError>
         requires room { log_room ≤ MAX_LOG_ROOM }
-        ensures { IfOk result (λ core. core ≡ record { plan = plan.value; start = initial_store (plan_view plan.value); before = None; log = []; room = log_room }) }
+        ensures { IfOk result (λ core. core ≡ record {
+          plan = plan.value;
+          start = initial_store (plan_view plan.value);
+          before = None;
+          log = [];
+          room = log_room;
+        }) }
     {
         let start = initial_values(alloc, &plan.variables)?;
         let values = initial_values(alloc, &plan.variables)?;

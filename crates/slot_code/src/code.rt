@@ -8,7 +8,8 @@ use st_trees::Unit;
 use st_words::Owner;
 use std::sync::Arc;
 
-/// The code of a program's instance: its resolved tree, and the slots of its externals in the order of their declarations.
+/// The code of a program's instance: its resolved tree, and the slots of its externals in the order of their
+/// declarations.
 ///
 /// Its body is of assignments of whole numbers, names and sums of them.
 #[derive(Drop)]

@@ -1,5 +1,7 @@
 -- How the statements of plain code run one after another.
-use Rattle.std.proofs.Common.{◌≡◌, ℕ, suc, ◌+◌, ◌<◌, ◌==◌, Bool, true, false, not, ◌&&◌, ◌||◌, if◌then◌else◌, List, [], ◌∷◌, map, length, drop, get_or, slice_set, Option, Some, Result, Ok, Err, refl, sym, ap, ◌∙◌}
+use Rattle.std.proofs.Common.{◌≡◌, ℕ, suc, ◌+◌, ◌<◌, ◌==◌, Bool, true, false, not, ◌&&◌, ◌||◌, if◌then◌else◌, List, []}
+use Rattle.std.proofs.Common.{◌∷◌, map, length, drop, get_or, slice_set, Option, Some, Result, Ok, Err, refl, sym, ap}
+use Rattle.std.proofs.Common.{◌∙◌}
 use Rattle.std.specs.Prelude.{bytes_eq}
 use Rattle.std.specs.List.{filter, list_any, list_all}
 use Rattle.std.proofs.Math.Seq.{drop-cons}
@@ -34,85 +36,113 @@ use Rattle.slot_run.proofs.OnceLemmas.{none_once, once_with}
 -- the whole run from here is the rest from where it stands
 abbrev pub GoesOn : CodeView → List Datum → List Stmt → ℕ → ℕ → List Cell → Type 0
 GoesOn text us rest budget left writes =
-    (layout : List Slot) (vs : List Datum) (moment : ℕ) → Fits layout text.globals → length layout ≡ length vs → AreAlike text.globals vs us
+    (layout : List Slot) (vs : List Datum) (moment : ℕ) → Fits layout text.globals → length layout ≡ length vs
+    → AreAlike text.globals vs us
     → exec_all (scope_over text layout vs moment budget) (stmts_of text.unit.body) (variables_in layout vs) budget
-    ≡ exec_all (scope_over text layout (written vs writes) moment budget) (stmts_of rest) (variables_in layout (written vs writes)) left
+    ≡ exec_all (scope_over text layout (written vs writes) moment budget) (stmts_of rest)
+    (variables_in layout (written vs writes)) left
 
 -- where a run stands before the rest of its statements
-pub record Reached (text : CodeView) (us : List Datum) (rest : List Stmt) (budget left : ℕ) (slots : List Datum) (writes : List Cell) : Type 0 where
+pub record Reached (text : CodeView) (us : List Datum) (rest : List Stmt) (budget left : ℕ) (slots : List Datum)
+    (writes : List Cell) : Type 0 where
   pub goes_on : GoesOn text us rest budget left writes
   pub now : slots ≡ written us writes
   pub plain : are_plain text.globals rest ≡ true
   pub variables : list_all (λ c. is_variable_slot text.globals c.0) writes ≡ true
-  pub behind : (p : Name → Bool) → list_any p (all_targets (stmts_of rest)) ≡ true → list_any p (all_targets (stmts_of text.unit.body)) ≡ true
+  pub behind : (p : Name → Bool) → list_any p (all_targets (stmts_of rest)) ≡ true
+      → list_any p (all_targets (stmts_of text.unit.body)) ≡ true
   pub targets : list_all (λ c. is_target_slot text c.0) writes ≡ true
   pub once : EachSlotOnce writes
 
 -- the slots of what is written are those of variables
-found_slot : (h g : GlobalSlot) (t : Bool) (rest : Option GlobalSlot) (others : Bool) → g.is_input ≡ false → (rest ≡ Some g → others ≡ true) → (if t then Some h else rest) ≡ Some g → (((h.slot == g.slot) && not h.is_input) || others) ≡ true
+found_slot : (h g : GlobalSlot) (t : Bool) (rest : Option GlobalSlot) (others : Bool) → g.is_input ≡ false
+    → (rest ≡ Some g → others ≡ true) → (if t then Some h else rest) ≡ Some g
+    → (((h.slot == g.slot) && not h.is_input) || others) ≡ true
 found_slot h g true rest others out later e = let is : h ≡ g = cc in rw (is, same_itself g.slot, out) refl
 found_slot h g false rest others out later e = or_true ((h.slot == g.slot) && not h.is_input) others (later e)
 
-variable_slot_at : (globals : List GlobalSlot) (x : Name) (g : GlobalSlot) → global_named globals x ≡ Some g → g.is_input ≡ false → is_variable_slot globals g.slot ≡ true
+variable_slot_at : (globals : List GlobalSlot) (x : Name) (g : GlobalSlot) → global_named globals x ≡ Some g
+    → g.is_input ≡ false → is_variable_slot globals g.slot ≡ true
 variable_slot_at [] x g known out = absurd (cc)
-variable_slot_at (h ∷ globals) x g known out = found_slot h g (bytes_eq x h.name) (global_named globals x) (is_variable_slot globals g.slot) out (λ e. variable_slot_at globals x g e out) known
+variable_slot_at (h ∷ globals) x g known out = found_slot h g (bytes_eq x h.name) (global_named globals x)
+    (is_variable_slot globals g.slot) out (λ e. variable_slot_at globals x g e out) known
 
 variable_slot : (globals : List GlobalSlot) (k : ℕ) → IsVariable globals k → is_variable_slot globals k ≡ true
-variable_slot globals k v = ap (is_variable_slot globals) (sym v.slot) ∙ variable_slot_at globals v.name v.global v.known v.sort
+variable_slot globals k v = ap (is_variable_slot globals) (sym v.slot)
+    ∙ variable_slot_at globals v.name v.global v.known v.sort
 
-kept_or_not : (p : Cell → Bool) (c : Cell) (t : Bool) (cells : List Cell) → p c ≡ true → list_all p cells ≡ true → list_all p (if t then c ∷ cells else cells) ≡ true
+kept_or_not : (p : Cell → Bool) (c : Cell) (t : Bool) (cells : List Cell) → p c ≡ true → list_all p cells ≡ true
+    → list_all p (if t then c ∷ cells else cells) ≡ true
 kept_or_not p c true cells here rest = rw here rest
 kept_or_not p c false cells here rest = rest
 
 all_kept : (p q : Cell → Bool) (cells : List Cell) → list_all p cells ≡ true → list_all p (filter q cells) ≡ true
 all_kept p q [] h = refl
-all_kept p q (c ∷ cells) h = let b = both (p c) (list_all p cells) h in kept_or_not p c (q c) (filter q cells) b.0 (all_kept p q cells b.1)
+all_kept p q (c ∷ cells) h = let b = both (p c) (list_all p cells) h in
+    kept_or_not p c (q c) (filter q cells) b.0 (all_kept p q cells b.1)
 
-all_with : (p : Cell → Bool) (cells : List Cell) (c : Cell) → list_all p cells ≡ true → p c ≡ true → list_all p (with_cell cells c) ≡ true
+all_with : (p : Cell → Bool) (cells : List Cell) (c : Cell) → list_all p cells ≡ true → p c ≡ true
+    → list_all p (with_cell cells c) ≡ true
 all_with p cells c h here = rw (list_all-append, all_kept p (λ d. not (d.0 == c.0)) cells h, here) refl
 
 -- the targets of a statement and of those after it
-here_or_behind : (p : Name → Bool) (x : Stmt) (rest : List Stmt) → list_any p (all_targets (stmts_of (x ∷ rest))) ≡ (list_any p (targets x) || list_any p (all_targets (stmts_of rest)))
+here_or_behind : (p : Name → Bool) (x : Stmt) (rest : List Stmt) → list_any p (all_targets (stmts_of (x ∷ rest)))
+    ≡ (list_any p (targets x) || list_any p (all_targets (stmts_of rest)))
 here_or_behind p x rest = list_any-append p (targets x) (all_targets (stmts_of rest))
 
-among_here : (p : Name → Bool) (x : Stmt) (rest : List Stmt) → list_any p (targets x) ≡ true → list_any p (all_targets (stmts_of (x ∷ rest))) ≡ true
-among_here p x rest h = here_or_behind p x rest ∙ or_left (list_any p (targets x)) (list_any p (all_targets (stmts_of rest))) h
+among_here : (p : Name → Bool) (x : Stmt) (rest : List Stmt) → list_any p (targets x) ≡ true
+    → list_any p (all_targets (stmts_of (x ∷ rest))) ≡ true
+among_here p x rest h = here_or_behind p x rest
+    ∙ or_left (list_any p (targets x)) (list_any p (all_targets (stmts_of rest))) h
 
-among_rest : (p : Name → Bool) (x : Stmt) (rest : List Stmt) → list_any p (all_targets (stmts_of rest)) ≡ true → list_any p (all_targets (stmts_of (x ∷ rest))) ≡ true
-among_rest p x rest h = here_or_behind p x rest ∙ or_true (list_any p (targets x)) (list_any p (all_targets (stmts_of rest))) h
+among_rest : (p : Name → Bool) (x : Stmt) (rest : List Stmt) → list_any p (all_targets (stmts_of rest)) ≡ true
+    → list_any p (all_targets (stmts_of (x ∷ rest))) ≡ true
+among_rest p x rest h = here_or_behind p x rest
+    ∙ or_true (list_any p (targets x)) (list_any p (all_targets (stmts_of rest))) h
 
 -- one statement more
-moved : (text : CodeView) (x : Stmt) (rest : List Stmt) (layout : List Slot) (vs ts : List Datum) (moment budget left : ℕ)
-    → exec (scope_over text layout vs moment budget) x (variables_in layout vs) (suc left) ≡ Ok (goes_on (variables_in layout ts), left) → inputs_in layout ts ≡ inputs_in layout vs
-    → exec_all (scope_over text layout vs moment budget) (stmts_of (x ∷ rest)) (variables_in layout vs) (suc left) ≡ exec_all (scope_over text layout ts moment budget) (stmts_of rest) (variables_in layout ts) left
+moved :
+    (text : CodeView) (x : Stmt) (rest : List Stmt) (layout : List Slot) (vs ts : List Datum) (moment budget left : ℕ)
+    → exec (scope_over text layout vs moment budget) x (variables_in layout vs) (suc left)
+    ≡ Ok (goes_on (variables_in layout ts), left) → inputs_in layout ts ≡ inputs_in layout vs
+    → exec_all (scope_over text layout vs moment budget) (stmts_of (x ∷ rest)) (variables_in layout vs) (suc left)
+    ≡ exec_all (scope_over text layout ts moment budget) (stmts_of rest) (variables_in layout ts) left
 moved text x rest layout vs ts moment budget left h e = rw (h, e) refl
 
-pub reached_next : (text : CodeView) (us : List Datum) (x : Stmt) (rest : List Stmt) (budget before left : ℕ) (slots : List Datum) (writes : List Cell) (c : Cell) → before ≡ suc left
-    → Reached text us (x ∷ rest) budget before slots writes → Steps text x slots (Ok c) → IsVariable text.globals c.0 → is_slot_of text.globals (targets x) c.0 ≡ true
+pub reached_next : (text : CodeView) (us : List Datum) (x : Stmt) (rest : List Stmt) (budget before left : ℕ)
+    (slots : List Datum) (writes : List Cell) (c : Cell) → before ≡ suc left
+    → Reached text us (x ∷ rest) budget before slots writes → Steps text x slots (Ok c) → IsVariable text.globals c.0
+    → is_slot_of text.globals (targets x) c.0 ≡ true
     → Reached text us rest budget left (slice_set slots c.0 c.1) (with_cell writes c)
 reached_next text us x rest budget before left slots writes c one r steps variable target = record {
   goes_on = λ layout vs moment fits len alike.
       let ts = written vs writes in
       let alike_there : AreAlike text.globals ts slots = rw r.now (alike_written text.globals vs us writes alike) in
       let stepped = steps layout ts moment budget left fits (len ∙ sym (length_written writes vs)) alike_there in
-      let next = moved text x rest layout ts (slice_set ts c.0 c.1) moment budget left stepped (inputs_stay text.globals layout ts c.0 c.1 fits variable) in
+      let next = moved text x rest layout ts (slice_set ts c.0 c.1) moment budget left stepped
+      (inputs_stay text.globals layout ts c.0 c.1 fits variable) in
       r.goes_on layout vs moment fits len alike
       ∙ ap (exec_all (scope_over text layout ts moment budget) (stmts_of (x ∷ rest)) (variables_in layout ts)) one
       ∙ next
-      ∙ ap (λ zs. exec_all (scope_over text layout zs moment budget) (stmts_of rest) (variables_in layout zs) left) (sym (written_with writes vs c));
+      ∙ ap (λ zs. exec_all (scope_over text layout zs moment budget) (stmts_of rest) (variables_in layout zs) left)
+      (sym (written_with writes vs c));
   now = ap (λ zs. slice_set zs c.0 c.1) r.now ∙ sym (written_with writes us c);
   plain = (both (is_plain text.globals x) (are_plain text.globals rest) r.plain).1;
-  variables = all_with (λ d. is_variable_slot text.globals d.0) writes c r.variables (variable_slot text.globals c.0 variable);
+  variables =
+      all_with (λ d. is_variable_slot text.globals d.0) writes c r.variables (variable_slot text.globals c.0 variable);
   behind = λ p h. r.behind p (among_rest p x rest h);
   targets =
       let assigned = λ (y : Name). has_slot (global_named text.globals y) c.0 in
-      all_with (λ d. is_target_slot text d.0) writes c r.targets (r.behind assigned (among_here assigned x rest target));
+      all_with (λ d. is_target_slot text d.0) writes c r.targets
+      (r.behind assigned (among_here assigned x rest target));
   once = once_with writes c r.once;
 }
 
 -- a statement that faults
-pub ends_by_fault : (text : CodeView) (us : List Datum) (x : Stmt) (rest : List Stmt) (budget before left : ℕ) (slots : List Datum) (writes : List Cell) (f : Fault) → before ≡ suc left
-    → Reached text us (x ∷ rest) budget before slots writes → Steps text x slots (Err f) → Runs text us budget writes (Faulted f)
+pub ends_by_fault : (text : CodeView) (us : List Datum) (x : Stmt) (rest : List Stmt) (budget before left : ℕ)
+    (slots : List Datum) (writes : List Cell) (f : Fault) → before ≡ suc left
+    → Reached text us (x ∷ rest) budget before slots writes → Steps text x slots (Err f)
+    → Runs text us budget writes (Faulted f)
 ends_by_fault text us x rest budget before left slots writes f one r steps layout vs moment fits len alike =
     let ts = written vs writes in
     let alike_there : AreAlike text.globals ts slots = rw r.now (alike_written text.globals vs us writes alike) in
@@ -134,7 +164,8 @@ no_tick w (REPEAT body e) s = refl
 no_tick w (EXIT at) s = refl
 no_tick w RETURN s = refl
 
-pub ends_by_budget : (text : CodeView) (us : List Datum) (x : Stmt) (rest : List Stmt) (budget left : ℕ) (slots : List Datum) (writes : List Cell) → left ≡ 0
+pub ends_by_budget : (text : CodeView) (us : List Datum) (x : Stmt) (rest : List Stmt) (budget left : ℕ)
+    (slots : List Datum) (writes : List Cell) → left ≡ 0
     → Reached text us (x ∷ rest) budget left slots writes → Runs text us budget writes (Faulted Budget)
 ends_by_budget text us x rest budget left slots writes none r layout vs moment fits len alike =
     let ts = written vs writes in
@@ -143,11 +174,15 @@ ends_by_budget text us x rest budget left slots writes none r layout vs moment f
     ∙ rw (no_tick (scope_over text layout ts moment budget) x (variables_in layout ts)) refl
 
 -- the statements from a place on
-pub rest_at : {A : Type 0} → (xs : List A) (i : ℕ) (x : A) → i < length xs → x ≡ get_or xs i x → drop i xs ≡ x ∷ drop (i + 1) xs
-rest_at xs i x lt e = drop-cons xs i x lt ∙ ap (λ y. y ∷ drop (suc i) xs) (sym e) ∙ ap (λ n. x ∷ drop n xs) (suc-eq-add-one i)
+pub rest_at : {A : Type 0} → (xs : List A) (i : ℕ) (x : A) → i < length xs → x ≡ get_or xs i x
+    → drop i xs ≡ x ∷ drop (i + 1) xs
+rest_at xs i x lt e = drop-cons xs i x lt ∙ ap (λ y. y ∷ drop (suc i) xs) (sym e)
+    ∙ ap (λ n. x ∷ drop n xs) (suc-eq-add-one i)
 
-pub at_statement : (text : CodeView) (us : List Datum) (xs ys : List code_stmt.Stmt) (i : ℕ) (x : code_stmt.Stmt) (budget left : ℕ) (slots : List Datum) (writes : List Cell) → ys ≡ xs → i < length ys → x ≡ get_or ys i x
-    → Reached text us (map stmt_view (drop i xs)) budget left slots writes → Reached text us (stmt_view x ∷ map stmt_view (drop (i + 1) xs)) budget left slots writes
+pub at_statement : (text : CodeView) (us : List Datum) (xs ys : List code_stmt.Stmt) (i : ℕ) (x : code_stmt.Stmt)
+    (budget left : ℕ) (slots : List Datum) (writes : List Cell) → ys ≡ xs → i < length ys → x ≡ get_or ys i x
+    → Reached text us (map stmt_view (drop i xs)) budget left slots writes
+    → Reached text us (stmt_view x ∷ map stmt_view (drop (i + 1) xs)) budget left slots writes
 at_statement text us xs ys i x budget left slots writes same lt is r =
     let here = ap (map stmt_view) (rest_at xs i x (rw same at lt) (rw same at is)) in rw here at r
 
@@ -156,42 +191,53 @@ outcome_at : (outcome : Outcome) (t : Store) (r : Result (End × ℕ) Fault) →
 outcome_at Done t r h = rw h.1 refl
 outcome_at (Faulted f) t r h = rw h refl
 
-store_at : (outcome : Outcome) (layout : List Slot) (vs : List Datum) (writes : List Cell) (r : Result (End × ℕ) Fault) → IsEnd outcome (variables_in layout (written vs writes)) r
+store_at : (outcome : Outcome) (layout : List Slot) (vs : List Datum) (writes : List Cell) (r : Result (End × ℕ) Fault)
+    → IsEnd outcome (variables_in layout (written vs writes)) r
     → store_in r (variables_in layout vs) ≡ variables_in layout (written vs (lasting_writes outcome writes))
 store_at Done layout vs writes r h = rw h.1 refl
 store_at (Faulted f) layout vs writes r h = rw h refl
 
-all_left : (p : Cell → Bool) (outcome : Outcome) (writes : List Cell) → list_all p writes ≡ true → list_all p (lasting_writes outcome writes) ≡ true
+all_left : (p : Cell → Bool) (outcome : Outcome) (writes : List Cell) → list_all p writes ≡ true
+    → list_all p (lasting_writes outcome writes) ≡ true
 all_left p Done writes h = h
 all_left p (Faulted f) writes h = refl
 
-once_left : (outcome : Outcome) (writes : List Cell) → EachSlotOnce writes → EachSlotOnce (lasting_writes outcome writes)
+once_left : (outcome : Outcome) (writes : List Cell) → EachSlotOnce writes
+    → EachSlotOnce (lasting_writes outcome writes)
 once_left Done writes h = h
 once_left (Faulted f) writes h = none_once
 
-none_kept : (outcome : Outcome) (writes : List Cell) (f : Fault) → outcome ≡ Faulted f → lasting_writes outcome writes ≡ []
+none_kept : (outcome : Outcome) (writes : List Cell) (f : Fault) → outcome ≡ Faulted f
+    → lasting_writes outcome writes ≡ []
 none_kept Done writes f e = absurd (cc)
 none_kept (Faulted g) writes f e = refl
 
-run_whole : (code : Code) (us : List Datum) (moment budget : ℕ) (reads writes : List Cell) (outcome : Outcome) → map (λ c. c.0) reads ≡ each_once (map (λ g. g.slot) code.globals.items) → agrees us reads ≡ true
-    → Runs (code_view code) us budget writes outcome → (layout : List Slot) (vs : List Datum) → Fits layout code.globals.items → length layout ≡ length vs → agrees vs reads ≡ true
-    → IsEnd outcome (variables_in layout (written vs writes)) (ran (program_of (code_view code)) (inputs_in layout vs) moment budget (variables_in layout vs))
+run_whole : (code : Code) (us : List Datum) (moment budget : ℕ) (reads writes : List Cell) (outcome : Outcome)
+    → map (λ c. c.0) reads ≡ each_once (map (λ g. g.slot) code.globals.items) → agrees us reads ≡ true
+    → Runs (code_view code) us budget writes outcome → (layout : List Slot) (vs : List Datum)
+    → Fits layout code.globals.items → length layout ≡ length vs → agrees vs reads ≡ true
+    → IsEnd outcome (variables_in layout (written vs writes))
+    (ran (program_of (code_view code)) (inputs_in layout vs) moment budget (variables_in layout vs))
 unfolding ran ran_where
 run_whole code us moment budget reads writes outcome all agreed runs layout vs fits len agree =
     runs layout vs moment fits len (alike_by_reads code.globals.items reads vs us all agree agreed)
 
-pub run_is_true : (code : Code) (us : List Datum) (moment budget : ℕ) (reads writes : List Cell) (outcome : Outcome) → map (λ c. c.0) reads ≡ each_once (map (λ g. g.slot) code.globals.items) → agrees us reads ≡ true
-    → Runs (code_view code) us budget writes outcome → list_all (λ c. is_variable_slot code.globals.items c.0) writes ≡ true → list_all (λ c. is_target_slot (code_view code) c.0) writes ≡ true → EachSlotOnce reads → EachSlotOnce writes
+pub run_is_true : (code : Code) (us : List Datum) (moment budget : ℕ) (reads writes : List Cell) (outcome : Outcome)
+    → map (λ c. c.0) reads ≡ each_once (map (λ g. g.slot) code.globals.items) → agrees us reads ≡ true
+    → Runs (code_view code) us budget writes outcome
+    → list_all (λ c. is_variable_slot code.globals.items c.0) writes ≡ true
+    → list_all (λ c. is_target_slot (code_view code) c.0) writes ≡ true → EachSlotOnce reads → EachSlotOnce writes
     → IsTrueOf code moment budget reads (lasting_writes outcome writes) outcome
 unfolding outcome_of store_after
-run_is_true code us moment budget reads writes outcome all agreed runs variables targets reads_once writes_once = record {
-  run = λ layout vs fits len agree.
-      let h = run_whole code us moment budget reads writes outcome all agreed runs layout vs fits len agree in
-      let r = ran (program_of (code_view code)) (inputs_in layout vs) moment budget (variables_in layout vs) in
-      (outcome_at outcome (variables_in layout (written vs writes)) r h, store_at outcome layout vs writes r h);
-  variables = all_left (λ c. is_variable_slot code.globals.items c.0) outcome writes variables;
-  targets = all_left (λ c. is_target_slot (code_view code) c.0) outcome writes targets;
-  reads_once = reads_once;
-  writes_once = once_left outcome writes writes_once;
-  none = none_kept outcome writes;
-}
+run_is_true code us moment budget reads writes outcome all agreed runs variables targets reads_once writes_once =
+    record {
+      run = λ layout vs fits len agree.
+          let h = run_whole code us moment budget reads writes outcome all agreed runs layout vs fits len agree in
+          let r = ran (program_of (code_view code)) (inputs_in layout vs) moment budget (variables_in layout vs) in
+          (outcome_at outcome (variables_in layout (written vs writes)) r h, store_at outcome layout vs writes r h);
+      variables = all_left (λ c. is_variable_slot code.globals.items c.0) outcome writes variables;
+      targets = all_left (λ c. is_target_slot (code_view code) c.0) outcome writes targets;
+      reads_once = reads_once;
+      writes_once = once_left outcome writes writes_once;
+      none = none_kept outcome writes;
+    }

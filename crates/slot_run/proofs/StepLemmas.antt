@@ -1,5 +1,6 @@
 -- What an assignment of plain code does.
-use Rattle.std.proofs.Common.{◌≡◌, ℕ, zero, suc, ◌<◌, Bool, true, false, not, ◌||◌, if◌then◌else◌, List, [], ◌∷◌, map, length, slice_get, Some, None, Result, Ok, Err, refl, sym, ap, ◌∙◌, arith, rules}
+use Rattle.std.proofs.Common.{◌≡◌, ℕ, zero, suc, ◌<◌, Bool, true, false, not, ◌||◌, if◌then◌else◌, List, [], ◌∷◌, map}
+use Rattle.std.proofs.Common.{length, slice_get, Some, None, Result, Ok, Err, refl, sym, ap, ◌∙◌, arith, rules}
 use Rattle.std.specs.Prelude.{bytes_eq}
 use Rattle.std.proofs.lemmas.Option.{slice_get_within}
 use Rattle.st_words.specs.declared.fault.Fault.{Fault}
@@ -34,25 +35,33 @@ abbrev pub AreNamed : CodeView → Type 0
 AreNamed text = map (λ g. g.name) text.globals ≡ externals_in text.unit.blocks
 
 -- a plain statement is an assignment of a sum to a variable
-plain_parts : (globals : List GlobalSlot) (x : Identifier) (xs : Selectors) (e : Expr) → is_plain globals (assign (variable x xs) e) ≡ true
+plain_parts : (globals : List GlobalSlot) (x : Identifier) (xs : Selectors) (e : Expr)
+    → is_plain globals (assign (variable x xs) e) ≡ true
     → (xs ≡ no_selectors) × (is_assignable (global_named globals x.name) ≡ true) × (is_sum globals e ≡ true)
-plain_parts globals x no_selectors e h = let p = both (is_assignable (global_named globals x.name)) (is_sum globals e) h in (refl, p.0, p.1)
+plain_parts globals x no_selectors e h = let p =
+    both (is_assignable (global_named globals x.name)) (is_sum globals e) h in (refl, p.0, p.1)
 plain_parts globals x (selector_then y ys) e h = absurd (cc)
 
-assign_view_is : (v : code_variable.Variable) (e : code_expr.Expr) → stmt_view (code_stmt.Assign v e) ≡ assign (variable_view v) (expr_view e)
+assign_view_is : (v : code_variable.Variable) (e : code_expr.Expr)
+    → stmt_view (code_stmt.Assign v e) ≡ assign (variable_view v) (expr_view e)
 assign_view_is v e = search (rules, code_stmt.the_lemmas)
 
-assign_view : (v : code_variable.Variable) (e : code_expr.Expr) → stmt_view (code_stmt.Assign v e) ≡ assign (variable v.name (selectors_of (map selector_view v.selectors.items))) (expr_view e)
+assign_view : (v : code_variable.Variable) (e : code_expr.Expr) → stmt_view (code_stmt.Assign v e)
+    ≡ assign (variable v.name (selectors_of (map selector_view v.selectors.items))) (expr_view e)
 assign_view v e = assign_view_is v e ∙ ap (λ u. assign u (expr_view e)) (variable_view_is v)
 
-pub plain_view : (globals : List GlobalSlot) (s : code_stmt.Stmt) (v : code_variable.Variable) (e : code_expr.Expr) → s ≡ code_stmt.Assign v e → is_plain globals (stmt_view s) ≡ true
-    → (stmt_view s ≡ assign (variable v.name no_selectors) (expr_view e)) × (is_assignable (global_named globals v.name.name) ≡ true) × (is_sum globals (expr_view e) ≡ true)
+pub plain_view : (globals : List GlobalSlot) (s : code_stmt.Stmt) (v : code_variable.Variable) (e : code_expr.Expr)
+    → s ≡ code_stmt.Assign v e → is_plain globals (stmt_view s) ≡ true
+    → (stmt_view s ≡ assign (variable v.name no_selectors) (expr_view e))
+    × (is_assignable (global_named globals v.name.name) ≡ true) × (is_sum globals (expr_view e) ≡ true)
 plain_view globals s v e is plain =
     let view = ap stmt_view is ∙ assign_view v e in
-    let p = plain_parts globals v.name (selectors_of (map selector_view v.selectors.items)) (expr_view e) (rw view at plain) in
+    let p = plain_parts globals v.name (selectors_of (map selector_view v.selectors.items)) (expr_view e)
+    (rw view at plain) in
     (view ∙ ap (λ xs. assign (variable v.name xs) (expr_view e)) p.0, p.1, p.2)
 
-pub no_input : (globals : List GlobalSlot) (x : Name) (g : GlobalSlot) → is_assignable (global_named globals x) ≡ true → global_named globals x ≡ Some g → g.is_input ≡ false
+pub no_input : (globals : List GlobalSlot) (x : Name) (g : GlobalSlot) → is_assignable (global_named globals x) ≡ true
+    → global_named globals x ≡ Some g → g.is_input ≡ false
 no_input globals x g may known = not_true g.is_input (ap is_assignable (sym known) ∙ may)
   where
     not_true : (b : Bool) → not b ≡ true → b ≡ false
@@ -60,41 +69,59 @@ no_input globals x g may known = not_true g.is_input (ap is_assignable (sym know
     not_true false h = refl
 
 -- so a name of a global stands for the global
-named_there : (globals : List GlobalSlot) (x : Name) (g : GlobalSlot) → global_named globals x ≡ Some g → contains_name (map (λ h. h.name) globals) x ≡ true
+named_there : (globals : List GlobalSlot) (x : Name) (g : GlobalSlot) → global_named globals x ≡ Some g
+    → contains_name (map (λ h. h.name) globals) x ≡ true
 named_there [] x g known = absurd (cc)
 named_there (h ∷ globals) x g known = by_test (bytes_eq x h.name) known (named_there globals x g)
   where
-    by_test : (t : Bool) → (if t then Some h else global_named globals x) ≡ Some g → (global_named globals x ≡ Some g → contains_name (map (λ i. i.name) globals) x ≡ true) → (t || contains_name (map (λ i. i.name) globals) x) ≡ true
+    by_test : (t : Bool) → (if t then Some h else global_named globals x) ≡ Some g
+        → (global_named globals x ≡ Some g → contains_name (map (λ i. i.name) globals) x ≡ true)
+        → (t || contains_name (map (λ i. i.name) globals) x) ≡ true
     by_test true e later = refl
     by_test false e later = later e
 
-contains_there : (text : CodeView) (x : Name) (g : GlobalSlot) → AreNamed text → global_named text.globals x ≡ Some g → contains_name (externals_in text.unit.blocks) x ≡ true
+contains_there : (text : CodeView) (x : Name) (g : GlobalSlot) → AreNamed text → global_named text.globals x ≡ Some g
+    → contains_name (externals_in text.unit.blocks) x ≡ true
 contains_there text x g named known = ap (λ xs. contains_name xs x) (sym named) ∙ named_there text.globals x g known
 
-path_of_global : (text : CodeView) (layout : List Slot) (vs : List Datum) (moment budget : ℕ) (x : Name) (g : GlobalSlot) → AreNamed text → global_named text.globals x ≡ Some g
-    → path_in (scope_over text layout vs moment budget).frame (scope_over text layout vs moment budget).body x ≡ unowned x
+path_of_global : (text : CodeView) (layout : List Slot) (vs : List Datum) (moment budget : ℕ) (x : Name)
+    (g : GlobalSlot) → AreNamed text → global_named text.globals x ≡ Some g
+    → path_in (scope_over text layout vs moment budget).frame (scope_over text layout vs moment budget).body x
+    ≡ unowned x
 path_of_global text layout vs moment budget x g named known =
     rw (contains_there text x g named known) refl
 
 -- the place where a global's slot meets the look-up of its name
-sees_over : (text : CodeView) (layout : List Slot) (vs : List Datum) (moment budget : ℕ) → AreNamed text → Fits layout text.globals → length layout ≡ length vs → Sees (scope_over text layout vs moment budget) (variables_in layout vs) text.globals vs
+sees_over : (text : CodeView) (layout : List Slot) (vs : List Datum) (moment budget : ℕ) → AreNamed text
+    → Fits layout text.globals → length layout ≡ length vs
+    → Sees (scope_over text layout vs moment budget) (variables_in layout vs) text.globals vs
 sees_over text layout vs moment budget named fits len = record {
   there = λ x g known.
       rw (path_of_global text layout vs moment budget x g named known)
-      (seen_slot layout vs fits.distinct len g.slot (record { path = unowned x; is_input = g.is_input }) (fits.slots x g known));
+      (seen_slot layout vs fits.distinct len g.slot (record { path = unowned x; is_input = g.is_input })
+      (fits.slots x g known));
   missing = refl;
 }
 
-sees_alike : (w : Scope) (s : Store) (globals : List GlobalSlot) (vs us : List Datum) → Sees w s globals vs → AreAlike globals vs us → Sees w s globals us
-sees_alike w s globals vs us sees alike = record { there = λ x g known. sees.there x g known ∙ alike x g known; missing = sees.missing }
+sees_alike : (w : Scope) (s : Store) (globals : List GlobalSlot) (vs us : List Datum) → Sees w s globals vs
+    → AreAlike globals vs us → Sees w s globals us
+sees_alike w s globals vs us sees alike =
+    record { there = λ x g known. sees.there x g known ∙ alike x g known; missing = sees.missing }
 
-sum_over : (text : CodeView) (e : Expr) (us : List Datum) (result : Result Datum Fault) (layout : List Slot) (vs : List Datum) (moment budget left : ℕ) → AreNamed text → IsValueOf text.globals us e result → is_sum text.globals e ≡ true
-    → Fits layout text.globals → length layout ≡ length vs → AreAlike text.globals vs us → value (scope_over text layout vs moment budget) (variables_in layout vs) e left ≡ take result left
+sum_over : (text : CodeView) (e : Expr) (us : List Datum) (result : Result Datum Fault) (layout : List Slot)
+    (vs : List Datum) (moment budget left : ℕ) → AreNamed text → IsValueOf text.globals us e result
+    → is_sum text.globals e ≡ true
+    → Fits layout text.globals → length layout ≡ length vs → AreAlike text.globals vs us
+    → value (scope_over text layout vs moment budget) (variables_in layout vs) e left ≡ take result left
 sum_over text e us result layout vs moment budget left named is sum fits len alike =
-    is (scope_over text layout vs moment budget) (variables_in layout vs) left (sees_alike (scope_over text layout vs moment budget) (variables_in layout vs) text.globals vs us (sees_over text layout vs moment budget named fits len) alike) sum
+    is (scope_over text layout vs moment budget) (variables_in layout vs) left
+    (sees_alike (scope_over text layout vs moment budget) (variables_in layout vs) text.globals vs us
+    (sees_over text layout vs moment budget named fits len) alike) sum
 
 -- a right side that faults
-pub steps_fault : (text : CodeView) (x : Identifier) (e : Expr) (us : List Datum) (f : Fault) → AreNamed text → is_sum text.globals e ≡ true → IsValueOf text.globals us e (Err f) → Steps text (assign (variable x no_selectors) e) us (Err f)
+pub steps_fault : (text : CodeView) (x : Identifier) (e : Expr) (us : List Datum) (f : Fault) → AreNamed text
+    → is_sum text.globals e ≡ true → IsValueOf text.globals us e (Err f)
+    → Steps text (assign (variable x no_selectors) e) us (Err f)
 steps_fault text x e us f named sum is layout vs moment budget left fits len alike =
     rw (sum_over text e us (Err f) layout vs moment budget left named is sum fits len alike) refl
 
@@ -104,30 +131,55 @@ not_past [] k lt none = absurd (omega arith)
 not_past (v ∷ vs) zero lt none = absurd (cc)
 not_past (v ∷ vs) (suc k) lt none = not_past vs k (omega arith) none
 
-pub steps_nowhere : (text : CodeView) (x : Name) (s : Stmt) (g : GlobalSlot) (us : List Datum) (result : Result Cell Fault) → global_named text.globals x ≡ Some g → slice_get us g.slot ≡ None → Steps text s us result
+pub steps_nowhere :
+    (text : CodeView) (x : Name) (s : Stmt) (g : GlobalSlot) (us : List Datum) (result : Result Cell Fault)
+    → global_named text.globals x ≡ Some g → slice_get us g.slot ≡ None → Steps text s us result
 steps_nowhere text x s g us result known none layout vs moment budget left fits len alike =
-    let at = slice_get_within layout g.slot (record { path = unowned x; is_input = g.is_input }) (fits.slots x g known) in
+    let at =
+    slice_get_within layout g.slot (record { path = unowned x; is_input = g.is_input }) (fits.slots x g known) in
     absurd (not_past vs g.slot (omega arith) (alike x g known ∙ none))
 
 -- a value that the target's type takes or not
-assigned_global : (text : CodeView) (x : Name) (us : List Datum) (v old : Datum) (g : GlobalSlot) (layout : List Slot) (vs : List Datum) → global_named text.globals x ≡ Some g → g.is_input ≡ false → slice_get us g.slot ≡ Some old
-    → Fits layout text.globals → length layout ≡ length vs → AreAlike text.globals vs us → assigned (variables_in layout vs) (unowned x) v ≡ written_slot layout vs g.slot old v
+assigned_global : (text : CodeView) (x : Name) (us : List Datum) (v old : Datum) (g : GlobalSlot) (layout : List Slot)
+    (vs : List Datum) → global_named text.globals x ≡ Some g → g.is_input ≡ false → slice_get us g.slot ≡ Some old
+    → Fits layout text.globals → length layout ≡ length vs → AreAlike text.globals vs us
+    → assigned (variables_in layout vs) (unowned x) v ≡ written_slot layout vs g.slot old v
 assigned_global text x us v old g layout vs known out at fits len alike =
-    assigned_slot layout vs fits.distinct len g.slot (record { path = unowned x; is_input = g.is_input }) old v (fits.slots x g known) out (alike x g known ∙ at)
+    assigned_slot layout vs fits.distinct len g.slot (record { path = unowned x; is_input = g.is_input }) old v
+    (fits.slots x g known) out (alike x g known ∙ at)
 
-pub steps_written : (text : CodeView) (x : Identifier) (e : Expr) (us : List Datum) (v old : Datum) (g : GlobalSlot) → AreNamed text → is_sum text.globals e ≡ true → IsValueOf text.globals us e (Ok v) → global_named text.globals x.name ≡ Some g → g.is_input ≡ false → slice_get us g.slot ≡ Some old
+pub steps_written : (text : CodeView) (x : Identifier) (e : Expr) (us : List Datum) (v old : Datum) (g : GlobalSlot)
+    → AreNamed text → is_sum text.globals e ≡ true → IsValueOf text.globals us e (Ok v)
+    → global_named text.globals x.name ≡ Some g → g.is_input ≡ false → slice_get us g.slot ≡ Some old
     → may_replace old v ≡ true → Steps text (assign (variable x no_selectors) e) us (Ok (g.slot, v))
 steps_written text x e us v old g named sum is known out at may layout vs moment budget left fits len alike =
-    rw (sum_over text e us (Ok v) layout vs moment budget left named is sum fits len alike, contains_there text x.name g named known, assigned_global text x.name us v old g layout vs known out at fits len alike, may) refl
+    rw (
+      sum_over text e us (Ok v) layout vs moment budget left named is sum fits len alike,
+      contains_there text x.name g
+          named known,
+      assigned_global text x.name us v old g layout vs known out at fits len alike,
+      may,
+    ) refl
 
-pub steps_refused : (text : CodeView) (x : Identifier) (e : Expr) (us : List Datum) (v old : Datum) (g : GlobalSlot) → AreNamed text → is_sum text.globals e ≡ true → IsValueOf text.globals us e (Ok v) → global_named text.globals x.name ≡ Some g → g.is_input ≡ false → slice_get us g.slot ≡ Some old
+pub steps_refused : (text : CodeView) (x : Identifier) (e : Expr) (us : List Datum) (v old : Datum) (g : GlobalSlot)
+    → AreNamed text → is_sum text.globals e ≡ true → IsValueOf text.globals us e (Ok v)
+    → global_named text.globals x.name ≡ Some g → g.is_input ≡ false → slice_get us g.slot ≡ Some old
     → may_replace old v ≡ false → Steps text (assign (variable x no_selectors) e) us (Err Conversion)
 steps_refused text x e us v old g named sum is known out at may layout vs moment budget left fits len alike =
-    rw (sum_over text e us (Ok v) layout vs moment budget left named is sum fits len alike, contains_there text x.name g named known, assigned_global text x.name us v old g layout vs known out at fits len alike, may) refl
+    rw (
+      sum_over text e us (Ok v) layout vs moment budget left named is sum fits len alike,
+      contains_there text x.name g
+          named known,
+      assigned_global text x.name us v old g layout vs known out at fits len alike,
+      may,
+    ) refl
 
-pub at_globals : (gs hs : List GlobalSlot) (us : List Datum) (e : Expr) (r : Result Datum Fault) → gs ≡ hs → IsValueOf gs us e r → IsValueOf hs us e r
+pub at_globals : (gs hs : List GlobalSlot) (us : List Datum) (e : Expr) (r : Result Datum Fault) → gs ≡ hs
+    → IsValueOf gs us e r → IsValueOf hs us e r
 at_globals gs hs us e r is v = rw (← is) v
 
 -- the slot of an assignment's target
-pub target_there : (globals : List GlobalSlot) (x : Identifier) (e : Expr) (g : GlobalSlot) → global_named globals x.name ≡ Some g → is_slot_of globals (targets (assign (variable x no_selectors) e)) g.slot ≡ true
+pub target_there : (globals : List GlobalSlot) (x : Identifier) (e : Expr) (g : GlobalSlot)
+    → global_named globals x.name ≡ Some g
+    → is_slot_of globals (targets (assign (variable x no_selectors) e)) g.slot ≡ true
 target_there globals x e g known = rw (known, same_itself g.slot) refl

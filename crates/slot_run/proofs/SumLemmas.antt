@@ -1,5 +1,6 @@
 -- The value of a sum by the values of its parts.
-use Rattle.std.proofs.Common.{rules, ◌≡◌, ℕ, true, List, map, slice_get, Option, Some, None, Result, Ok, Err, refl, sym, ◌∙◌, ap}
+use Rattle.std.proofs.Common.{rules, ◌≡◌, ℕ, true, List, map, slice_get, Option, Some, None, Result, Ok, Err, refl, sym}
+use Rattle.std.proofs.Common.{◌∙◌, ap}
 use Rattle.st_words.specs.declared.fault.Fault.{Fault}
 use Rattle.st_words.specs.declared.fault.Fault.TheVariants.{Index}
 use Rattle.st_words.specs.declared.identifier.Identifier.{Identifier}
@@ -11,7 +12,8 @@ use Rattle.std.specs.declared.alloc.Global.{Global}
 use Rattle.st_trees.specs.declared.expression.Expr as code_expr
 use Rattle.st_trees.specs.declared.expression.Variable as code_variable
 use Rattle.st_trees.specs.ExpressionViews.{expr_view, variable_view, selector_view}
-use Rattle.st_trees.specs.Expressions.{Expr, binary, read, variable, Selectors, no_selectors, selector_then, selectors_of}
+use Rattle.st_trees.specs.Expressions.{Expr, binary, read, variable, Selectors, no_selectors, selector_then}
+use Rattle.st_trees.specs.Expressions.{selectors_of}
 use Rattle.st_types.specs.Stores.{Store}
 use Rattle.st_types.specs.Scopes.{Scope}
 use Rattle.st_types.specs.Ticks.{take, or_fault}
@@ -24,26 +26,37 @@ use Rattle.slot_run.proofs.Bools.{both}
 
 -- what a sum gives wherever the globals have these values
 abbrev pub IsValueOf : List GlobalSlot → List Datum → Expr → Result Datum Fault → Type 0
-IsValueOf globals vs e result = (w : Scope) (s : Store) (b : ℕ) → Sees w s globals vs → is_sum globals e ≡ true → value w s e b ≡ take result b
+IsValueOf globals vs e result = (w : Scope) (s : Store) (b : ℕ) → Sees w s globals vs → is_sum globals e ≡ true
+    → value w s e b ≡ take result b
 
-binary_view : (op : BinaryOperator) (l r : Box code_expr.Expr Global) → expr_view (code_expr.Binary op l r) ≡ binary op (expr_view l.value) (expr_view r.value)
+binary_view : (op : BinaryOperator) (l r : Box code_expr.Expr Global)
+    → expr_view (code_expr.Binary op l r) ≡ binary op (expr_view l.value) (expr_view r.value)
 binary_view op l r = search (rules, code_expr.the_lemmas)
 
-pub sum_view : (e : code_expr.Expr) (op : BinaryOperator) (l r : Box code_expr.Expr Global) (x y : code_expr.Expr) → e ≡ code_expr.Binary op l r → x ≡ l.value → y ≡ r.value → expr_view e ≡ binary op (expr_view x) (expr_view y)
+pub sum_view : (e : code_expr.Expr) (op : BinaryOperator) (l r : Box code_expr.Expr Global) (x y : code_expr.Expr)
+    → e ≡ code_expr.Binary op l r → x ≡ l.value → y ≡ r.value → expr_view e ≡ binary op (expr_view x) (expr_view y)
 sum_view e op l r x y is left right = rw (left, right) (ap expr_view is ∙ binary_view op l r)
 
 -- a sum has no operator but +
-is_added : (globals : List GlobalSlot) (op : BinaryOperator) (l r : Expr) → is_sum globals (binary op l r) ≡ true → (op ≡ Add) × (is_sum globals l ≡ true) × (is_sum globals r ≡ true)
+is_added : (globals : List GlobalSlot) (op : BinaryOperator) (l r : Expr) → is_sum globals (binary op l r) ≡ true
+    → (op ≡ Add) × (is_sum globals l ≡ true) × (is_sum globals r ≡ true)
 is_added globals Add l r h = let p = both (is_sum globals l) (is_sum globals r) h in (refl, p.0, p.1)
 is_added globals op l r h = absurd (cc)
 
-pub left_faults : (globals : List GlobalSlot) (vs : List Datum) (op : BinaryOperator) (l r : Expr) (f : Fault) → IsValueOf globals vs l (Err f) → IsValueOf globals vs (binary op l r) (Err f)
-left_faults globals vs op l r f left w s b sees sum = let p = is_added globals op l r sum in rw (left w s b sees p.1) refl
+pub left_faults : (globals : List GlobalSlot) (vs : List Datum) (op : BinaryOperator) (l r : Expr) (f : Fault)
+    → IsValueOf globals vs l (Err f) → IsValueOf globals vs (binary op l r) (Err f)
+left_faults globals vs op l r f left w s b sees sum = let p = is_added globals op l r sum in
+    rw (left w s b sees p.1) refl
 
-pub right_faults : (globals : List GlobalSlot) (vs : List Datum) (op : BinaryOperator) (l r : Expr) (x : Datum) (f : Fault) → IsValueOf globals vs l (Ok x) → IsValueOf globals vs r (Err f) → IsValueOf globals vs (binary op l r) (Err f)
-right_faults globals vs op l r x f left right w s b sees sum = let p = is_added globals op l r sum in rw (left w s b sees p.1, right w s b sees p.2) refl
+pub right_faults :
+    (globals : List GlobalSlot) (vs : List Datum) (op : BinaryOperator) (l r : Expr) (x : Datum) (f : Fault)
+    → IsValueOf globals vs l (Ok x) → IsValueOf globals vs r (Err f) → IsValueOf globals vs (binary op l r) (Err f)
+right_faults globals vs op l r x f left right w s b sees sum = let p = is_added globals op l r sum in
+    rw (left w s b sees p.1, right w s b sees p.2) refl
 
-pub both_added : (globals : List GlobalSlot) (vs : List Datum) (op : BinaryOperator) (l r : Expr) (x y : Datum) → IsValueOf globals vs l (Ok x) → IsValueOf globals vs r (Ok y) → IsValueOf globals vs (binary op l r) (apply Add x y)
+pub both_added : (globals : List GlobalSlot) (vs : List Datum) (op : BinaryOperator) (l r : Expr) (x y : Datum)
+    → IsValueOf globals vs l (Ok x) → IsValueOf globals vs r (Ok y)
+    → IsValueOf globals vs (binary op l r) (apply Add x y)
 both_added globals vs op l r x y left right w s b sees sum =
     let p = is_added globals op l r sum in rw (left w s b sees p.1, right w s b sees p.2, p.0) refl
 
@@ -61,27 +74,34 @@ all_known (Some v) held = rw held refl
 all_known None held = refl
 
 -- where a global's slot meets the look-up of its name
-read_seen : (globals : List GlobalSlot) (vs : List Datum) (w : Scope) (s : Store) (x : Identifier) (g : GlobalSlot) (o : Option Datum) (b : ℕ) → Sees w s globals vs → global_named globals x.name ≡ Some g → slice_get vs g.slot ≡ o → IfSome o IsHeld
+read_seen : (globals : List GlobalSlot) (vs : List Datum) (w : Scope) (s : Store) (x : Identifier) (g : GlobalSlot)
+    (o : Option Datum) (b : ℕ) → Sees w s globals vs → global_named globals x.name ≡ Some g → slice_get vs g.slot ≡ o
+    → IfSome o IsHeld
     → value w s (read (variable x no_selectors)) b ≡ take (or_index o) b
-read_seen globals vs w s x g o b sees named at held = rw (sees.there x.name g named, at, sees.missing, all_known o held) (or_index_taken o b)
+read_seen globals vs w s x g o b sees named at held =
+    rw (sees.there x.name g named, at, sees.missing, all_known o held) (or_index_taken o b)
 
 known_global : (o : Option GlobalSlot) → is_known o ≡ true → (g : GlobalSlot) × (o ≡ Some g)
 known_global None h = absurd (cc)
 known_global (Some g) h = (g, refl)
 
-global_read : (globals : List GlobalSlot) (vs : List Datum) (x : Identifier) (xs : Selectors) (o : Option Datum) → o ≡ value_at globals vs x.name → IfSome o IsHeld → IsValueOf globals vs (read (variable x xs)) (or_index o)
+global_read : (globals : List GlobalSlot) (vs : List Datum) (x : Identifier) (xs : Selectors) (o : Option Datum)
+    → o ≡ value_at globals vs x.name → IfSome o IsHeld → IsValueOf globals vs (read (variable x xs)) (or_index o)
 global_read globals vs x no_selectors o found held w s b sees sum =
     let k = known_global (global_named globals x.name) sum in
     read_seen globals vs w s x k.0 o b sees k.1 (sym (rw k.1 at found)) held
 global_read globals vs x (selector_then y ys) o found held w s b sees sum = absurd (cc)
 
-pub variable_view_is : (v : code_variable.Variable) → variable_view v ≡ variable v.name (selectors_of (map selector_view v.selectors.items))
+pub variable_view_is : (v : code_variable.Variable)
+    → variable_view v ≡ variable v.name (selectors_of (map selector_view v.selectors.items))
 variable_view_is v = search (rules, code_variable.the_lemmas)
 
 read_view_is : (v : code_variable.Variable) → expr_view (code_expr.Variable v) ≡ read (variable_view v)
 read_view_is v = search (rules, code_expr.the_lemmas)
 
-pub read_value : (globals : List GlobalSlot) (vs : List Datum) (e : code_expr.Expr) (v : code_variable.Variable) (o : Option Datum) → e ≡ code_expr.Variable v → o ≡ value_at globals vs v.name.name → IfSome o IsHeld → IsValueOf globals vs (expr_view e) (or_index o)
+pub read_value : (globals : List GlobalSlot) (vs : List Datum) (e : code_expr.Expr) (v : code_variable.Variable)
+    (o : Option Datum) → e ≡ code_expr.Variable v → o ≡ value_at globals vs v.name.name → IfSome o IsHeld
+    → IsValueOf globals vs (expr_view e) (or_index o)
 read_value globals vs e v o is found held =
     let view = ap expr_view is ∙ read_view_is v ∙ ap read (variable_view_is v) in
     rw view (global_read globals vs v.name (selectors_of (map selector_view v.selectors.items)) o found held)

@@ -27,12 +27,15 @@ pub record Effect : Type 0 where
   pub writes : List Cell
   pub outcome : Outcome
 
--- In every layout that has the code's globals, and wherever what was read stands, the program ends so and leaves these writes.
+-- In every layout that has the code's globals, and wherever what was read stands, the program ends so and leaves these
+-- writes.
 abbrev pub IsRunOf : Code → ℕ → ℕ → List Cell → List Cell → Outcome → Type 0
 IsRunOf code moment budget reads writes outcome =
-    (layout : List Slot) (vs : List Datum) → Fits layout code.globals.items → length layout ≡ length vs → agrees vs reads ≡ true
+    (layout : List Slot) (vs : List Datum) → Fits layout code.globals.items → length layout ≡ length vs
+    → agrees vs reads ≡ true
     → (outcome_of (program_of (code_view code)) budget (variables_in layout vs) (inputs_in layout vs) moment ≡ outcome)
-    × (store_after (program_of (code_view code)) budget (variables_in layout vs) (inputs_in layout vs) moment ≡ variables_in layout (written vs writes))
+    × (store_after (program_of (code_view code)) budget (variables_in layout vs) (inputs_in layout vs) moment
+    ≡ variables_in layout (written vs writes))
 
 -- the slot of a global that is no input
 abbrev pub is_variable_slot : List GlobalSlot → ℕ → Bool
@@ -51,8 +54,8 @@ is_slot_of globals names k = list_any (λ x. has_slot (global_named globals x) k
 abbrev pub is_target_slot : CodeView → ℕ → Bool
 is_target_slot text k = is_slot_of text.globals (all_targets (stmts_of text.unit.body)) k
 
--- What a run did is true of it; its writes go to variables alone, and to those that its program assigns; no slot stands twice among
--- its reads or among its writes; and a fault leaves none.
+-- What a run did is true of it; its writes go to variables alone, and to those that its program assigns; no slot stands
+-- twice among its reads or among its writes; and a fault leaves none.
 pub record IsTrueOf (code : Code) (moment budget : ℕ) (reads writes : List Cell) (outcome : Outcome) : Type 0 where
   pub run : IsRunOf code moment budget reads writes outcome
   pub variables : list_all (λ c. is_variable_slot code.globals.items c.0) writes ≡ true

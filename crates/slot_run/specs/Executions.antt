@@ -5,7 +5,8 @@ use Rattle.slot_run.specs.Cells.{each_once}
 use Rattle.slot_run.specs.Effects.{Effect}
 use Rattle.slot_run.specs.declared.snapshot.Snapshot.{Snapshot}
 
--- The effect is of this snapshot: it has read all globals that the code names, each slot once, and nothing else, with the snapshot's values.
+-- The effect is of this snapshot: it has read all globals that the code names, each slot once, and nothing else, with
+-- the snapshot's values.
 pub record IsEffectOf (snapshot : Snapshot) (effect : Effect) : Type 0 where
   pub code : effect.code ≡ snapshot.code.value
   pub activation : effect.activation ≡ snapshot.activation

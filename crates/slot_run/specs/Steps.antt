@@ -1,5 +1,6 @@
 -- What a statement of plain code does to the slots.
-use Rattle.std.specs.Prelude.{◌≡◌, ℕ, suc, false, List, [], length, slice_get, slice_set, Option, Some, option_and_then, Result, Ok, Err}
+use Rattle.std.specs.Prelude.{◌≡◌, ℕ, suc, false, List, [], length, slice_get, slice_set, Option, Some, option_and_then}
+use Rattle.std.specs.Prelude.{Result, Ok, Err}
 use Rattle.st_words.specs.Values.{Datum}
 use Rattle.st_words.specs.declared.fault.Fault.{Fault}
 use Rattle.st_words.specs.declared.fault.Fault.TheVariants.{Index}
@@ -18,7 +19,8 @@ use Rattle.slot_code.specs.Codes.{CodeView, program_of}
 
 -- Each global has in the store, or among the inputs, the value of its slot, and F3 stands where a name has no value.
 pub record Sees (w : Scope) (s : Store) (globals : List GlobalSlot) (vs : List Datum) : Type 0 where
-  pub there : (x : Name) (g : GlobalSlot) → global_named globals x ≡ Some g → seen w.image s (path_in w.frame w.body x) ≡ slice_get vs g.slot
+  pub there : (x : Name) (g : GlobalSlot) → global_named globals x ≡ Some g
+      → seen w.image s (path_in w.frame w.body x) ≡ slice_get vs g.slot
   pub missing : w.missing ≡ Index
 
 -- what stands in the slot of a name
@@ -27,7 +29,8 @@ value_at globals vs x = option_and_then (λ g. slice_get vs g.slot) (global_name
 
 -- the globals have one value in both lists
 abbrev pub AreAlike : List GlobalSlot → List Datum → List Datum → Type 0
-AreAlike globals vs us = (x : Name) (g : GlobalSlot) → global_named globals x ≡ Some g → slice_get vs g.slot ≡ slice_get us g.slot
+AreAlike globals vs us = (x : Name) (g : GlobalSlot) → global_named globals x ≡ Some g
+    → slice_get vs g.slot ≡ slice_get us g.slot
 
 -- the slot is that of a named global that is no input
 pub record IsVariable (globals : List GlobalSlot) (k : ℕ) : Type 0 where
@@ -49,7 +52,8 @@ ended layout vs left (Err f) = Err f
 -- The statement writes the cell, or faults, wherever the globals have these values.
 abbrev pub Steps : CodeView → Stmt → List Datum → Result Cell Fault → Type 0
 Steps text x us result =
-    (layout : List Slot) (vs : List Datum) (moment budget left : ℕ) → Fits layout text.globals → length layout ≡ length vs → AreAlike text.globals vs us
+    (layout : List Slot) (vs : List Datum) (moment budget left : ℕ) → Fits layout text.globals
+    → length layout ≡ length vs → AreAlike text.globals vs us
     → exec (scope_over text layout vs moment budget) x (variables_in layout vs) (suc left) ≡ ended layout vs left result
 
 -- statements that end so, and leave this store where they are done
@@ -60,8 +64,10 @@ IsEnd (Faulted f) s r = r ≡ Err f
 -- The code ends so, and writes these cells where it is done, wherever the globals have these values.
 abbrev pub Runs : CodeView → List Datum → ℕ → List Cell → Outcome → Type 0
 Runs text us budget writes outcome =
-    (layout : List Slot) (vs : List Datum) (moment : ℕ) → Fits layout text.globals → length layout ≡ length vs → AreAlike text.globals vs us
-    → IsEnd outcome (variables_in layout (written vs writes)) (exec_all (scope_over text layout vs moment budget) (stmts_of text.unit.body) (variables_in layout vs) budget)
+    (layout : List Slot) (vs : List Datum) (moment : ℕ) → Fits layout text.globals → length layout ≡ length vs
+    → AreAlike text.globals vs us
+    → IsEnd outcome (variables_in layout (written vs writes))
+    (exec_all (scope_over text layout vs moment budget) (stmts_of text.unit.body) (variables_in layout vs) budget)
 
 -- the cells that are left after such an end: a fault leaves none
 abbrev pub lasting_writes : Outcome → List Cell → List Cell

@@ -1,7 +1,9 @@
 -- The names that a program's statements assign.
 use Rattle.std.specs.Prelude.{List, [], ◌∷◌, ◌++◌}
 use Rattle.st_trees.specs.Expressions.{variable}
-use Rattle.st_trees.specs.Statements.{Argument, given, copied, Stmt, empty, assign, invoke, IF, CASE, FOR, WHILE, REPEAT, EXIT, RETURN, Stmts, no_stmts, stmt_then, Arms, no_arms, arm_then, CaseArms, no_case_arms, case_arm_then}
+use Rattle.st_trees.specs.Statements.{Argument, given, copied, Stmt, empty, assign, invoke, IF, CASE, FOR, WHILE}
+use Rattle.st_trees.specs.Statements.{REPEAT, EXIT, RETURN, Stmts, no_stmts, stmt_then, Arms, no_arms, arm_then}
+use Rattle.st_trees.specs.Statements.{CaseArms, no_case_arms, case_arm_then}
 use Rattle.st_types.specs.Scopes.{Name}
 
 -- the variables that a call's outputs are copied to

@@ -13,8 +13,9 @@ use std::sync::Arc;
 
 /// A run of an activation's code: what it read, what it writes, and how it ended. Contracts see these as an `Effect`.
 ///
-/// Wherever what it read stands, the program ends so and leaves these writes; one that faulted writes nothing. It writes only variables
-/// that the program's statements assign, and no slot stands twice among its reads or among its writes.
+/// Wherever what it read stands, the program ends so and leaves these writes; one that faulted writes nothing. It
+/// writes only variables that the program's statements assign, and no slot stands twice among its reads or among its
+/// writes.
 #[derive(Drop)]
 pub struct Execution {
     code: Arc<Code>,
@@ -51,7 +52,8 @@ impl Model for Execution {
       outcome = x.outcome;
     } };
 
-    ghost invariant = { λ x. IsTrueOf x.code.value x.moment x.budget (map cut x.reads.items) (map cut x.writes.items) x.outcome };
+    ghost invariant = { λ x. IsTrueOf x.code.value x.moment x.budget (map cut x.reads.items) (map cut x.writes.items)
+        x.outcome };
 }
 
 impl Execution {
@@ -66,7 +68,15 @@ impl Execution {
         outcome: Outcome,
     ) -> Execution
         requires { IsTrueOf code.value moment budget (map cut reads.items) (map cut writes.items) outcome }
-        ensures { result ≡ record { code = code.value; activation = activation; moment = moment; budget = budget; reads = map cut reads.items; writes = map cut writes.items; outcome = outcome } }
+        ensures { result ≡ record {
+          code = code.value;
+          activation = activation;
+          moment = moment;
+          budget = budget;
+          reads = map cut reads.items;
+          writes = map cut writes.items;
+          outcome = outcome;
+        } }
     {
         Execution {
             code,
@@ -82,7 +92,8 @@ impl Execution {
     /// The program that ran.
     pub fn code(&self) -> &Code
         ensures code { result.now ≡ self.now.code }
-        ensures true_of { IsTrueOf self.now.code self.now.moment self.now.budget self.now.reads self.now.writes self.now.outcome }
+        ensures true_of { IsTrueOf self.now.code self.now.moment self.now.budget self.now.reads self.now.writes
+            self.now.outcome }
     {
         &self.code
     }

@@ -35,7 +35,8 @@ fn is_among(cells: &[Cell], slot: usize) -> bool
 fn reads_of(alloc: Global, globals: &[GlobalSlot], slots: &[Value]) -> Result<Vec<Cell>, AllocError>
     requires there { list_all (λ g. nat_lt g.slot (length slots.now)) globals.now ≡ true }
     ensures agrees { IfOk result (λ cells. agrees slots.now (map cut cells.items) ≡ true) }
-    ensures all { IfOk result (λ cells. map (λ c. c.0) (map cut cells.items) ≡ each_once (map (λ g. g.slot) globals.now)) }
+    ensures all { IfOk result
+        (λ cells. map (λ c. c.0) (map cut cells.items) ≡ each_once (map (λ g. g.slot) globals.now)) }
     ensures once { IfOk result (λ cells. EachSlotOnce (map cut cells.items)) }
 {
     let mut reads = Vec::new(alloc);
@@ -62,7 +63,8 @@ fn step(code: &Code, statement: &Stmt, slots: &[Value]) -> Result<Cell, Fault>
     requires plain { is_plain code.now.globals.items (stmt_view statement.now) ≡ true }
     ensures steps { Steps (code_view code.now) (stmt_view statement.now) slots.now (cut_of result) }
     ensures variable { IfOk result (λ c. IsVariable code.now.globals.items c.slot) }
-    ensures target { IfOk result (λ c. is_slot_of code.now.globals.items (targets (stmt_view statement.now)) c.slot ≡ true) }
+    ensures target { IfOk result
+        (λ c. is_slot_of code.now.globals.items (targets (stmt_view statement.now)) c.slot ≡ true) }
     ensures there { IfOk result (λ c. c.slot < length slots.now) }
 {
     let Stmt::Assign(target, expression) = statement else {
@@ -102,9 +104,12 @@ fn run_all(
     budget: u32,
 ) -> Result<Outcome, AllocError>
     requires none { writes.old.items ≡ [] }
-    ensures runs { IfOk result (λ outcome. Runs (code_view code.now) slots.items budget (map cut writes.new.items) outcome) }
-    ensures variables { IfOk result (λ _. list_all (λ c. is_variable_slot code.now.globals.items c.0) (map cut writes.new.items) ≡ true) }
-    ensures targets { IfOk result (λ _. list_all (λ c. is_target_slot (code_view code.now) c.0) (map cut writes.new.items) ≡ true) }
+    ensures runs { IfOk result
+        (λ outcome. Runs (code_view code.now) slots.items budget (map cut writes.new.items) outcome) }
+    ensures variables { IfOk result
+        (λ _. list_all (λ c. is_variable_slot code.now.globals.items c.0) (map cut writes.new.items) ≡ true) }
+    ensures targets { IfOk result
+        (λ _. list_all (λ c. is_target_slot (code_view code.now) c.0) (map cut writes.new.items) ≡ true) }
     ensures once { IfOk result (λ _. EachSlotOnce (map cut writes.new.items)) }
 {
     let mut left = budget;
@@ -133,8 +138,8 @@ fn lasting_writes(outcome: Outcome, mut writes: Vec<Cell>) -> Vec<Cell>
     writes
 }
 
-/// Runs a snapshot's code on its values. What it reads are all globals that the program names, each once; what it writes are variables
-/// that its statements assign, each once.
+/// Runs a snapshot's code on its values. What it reads are all globals that the program names, each once; what it
+/// writes are variables that its statements assign, each once.
 ///
 /// The only error is out of memory.
 pub fn run(alloc: Global, snapshot: Snapshot) -> Result<Execution, AllocError>

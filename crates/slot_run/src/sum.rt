@@ -45,7 +45,8 @@ fn global_value(globals: &[GlobalSlot], slots: &[Value], name: &Name) -> Option<
 
 /// The value of a sum over these slots. It takes no ticks.
 pub fn value(expression: &Expr, globals: &[GlobalSlot], slots: &[Value]) -> Result<Value, Fault>
-    ensures { (w : Scope) (s : Store) (b : ℕ) → Sees w s globals.now slots.now → is_sum globals.now (expr_view expression.now) ≡ true
+    ensures { (w : Scope) (s : Store) (b : ℕ) → Sees w s globals.now slots.now
+        → is_sum globals.now (expr_view expression.now) ≡ true
         → meaning.value w s (expr_view expression.now) b ≡ take result b }
 {
     match expression {

@@ -1,5 +1,6 @@
 -- A text has one plan, or a refusal.
-use Rattle.std.proofs.Common.{◌≡◌, ◌∙◌, ◌<◌, ◌≤◌, ap, sym, subst, refl, ℕ, ◌+◌, List, [], ◌∷◌, map, length, Bool, true, false, ◌&&◌, Some, Ok, Err, Result, IfOk, IfErr, rules, arith}
+use Rattle.std.proofs.Common.{◌≡◌, ◌∙◌, ◌<◌, ◌≤◌, ap, sym, subst, refl, ℕ, ◌+◌, List, [], ◌∷◌, map, length, Bool, true}
+use Rattle.std.proofs.Common.{false, ◌&&◌, Some, Ok, Err, Result, IfOk, IfErr, rules, arith}
 use Rattle.std.specs.Prelude.{nat_le}
 use Rattle.std.specs.Global.{Vec}
 use Rattle.st_trees.specs.declared.source.Source.{Source as Tree}
@@ -27,14 +28,16 @@ use Rattle.config.specs.PlanViews.{plan_view}
 use Rattle.config.specs.declared.thin_program.ThinProgram.{ThinProgram}
 use Rattle.config.specs.Sound.{are_different}
 use Rattle.config.specs.Thin.{is_thin_unit}
-use Rattle.config.specs.ThinPlans.{is_thin, is_thin_variable, is_thin_input, names_of, is_thin_program, programs_on, is_within, thin_plan}
+use Rattle.config.specs.ThinPlans.{is_thin, is_thin_variable, is_thin_input, names_of, is_thin_program, programs_on}
+use Rattle.config.specs.ThinPlans.{is_within, thin_plan}
 use Rattle.st_build.specs.declared.build_error.BuildError.{BuildError}
 use Rattle.st_build.specs.declared.build_error.BuildError.TheVariants as errors
 use Rattle.st_rules.specs.declared.rule.Broken.{Broken}
 use Rattle.st_rules.specs.Rules as broken_rules
 use Rattle.st_build.specs.TextParts.{configurations_in, has_types, IsNotConfigured}
 use Rattle.st_build.specs.Refusals.{HasGlobals, HasTooManyPaths, HasThinRecordTooLong}
-use Rattle.st_build.specs.Plans.{MeetsRules, HasPrograms, IsPlanFrom, IsPlanOf, IsUnsupported, IsBeyond, Breaks, Applies, IsMemory, GivesPlan}
+use Rattle.st_build.specs.Plans.{MeetsRules, HasPrograms, IsPlanFrom, IsPlanOf, IsUnsupported, IsBeyond, Breaks}
+use Rattle.st_build.specs.Plans.{Applies, IsMemory, GivesPlan}
 use Rattle.st_build.proofs.ListLemmas.{same_parts}
 
 -- the limits that a thin plan keeps
@@ -44,7 +47,8 @@ record Limits (variables : List PlanVariable) (inputs : List PlanInput) (budget 
   most : nat_le budget MAX_BUDGET ≡ true
   long : nat_le (record_length variables) MAX_RECORD_BODY ≡ true
 
-limits_of : (units : List OrganisationUnit) (vs : List PlanVariable) (is : List PlanInput) (ps : List ThinProgram) (budget : ℕ) → is_thin units vs is ps budget ≡ true → Limits vs is budget
+limits_of : (units : List OrganisationUnit) (vs : List PlanVariable) (is : List PlanInput) (ps : List ThinProgram)
+    (budget : ℕ) → is_thin units vs is ps budget ≡ true → Limits vs is budget
 limits_of units vs is ps budget h =
     let a = and_parts (list_all is_thin_variable vs) _ h in
     let b = and_parts (list_all is_thin_input is) _ a.1 in
@@ -58,23 +62,28 @@ limits_of units vs is ps budget h =
     let k = and_parts (nat_le budget MAX_BUDGET) (nat_le (record_length vs) MAX_RECORD_BODY) j.1 in
     record { paths = f.0; least = j.0; most = k.0; long = k.1 }
 
-same_variables : (c : Configuration) (vs ws : List PlanVariable) (is js : List PlanInput) → HasGlobals c vs is → HasGlobals c ws js → vs ≡ ws
+same_variables : (c : Configuration) (vs ws : List PlanVariable) (is js : List PlanInput) → HasGlobals c vs is
+    → HasGlobals c ws js → vs ≡ ws
 same_variables c vs ws is js a b = same_parts vs ws (a.variables_are ∙ sym b.variables_are)
 
-same_inputs : (c : Configuration) (vs ws : List PlanVariable) (is js : List PlanInput) → HasGlobals c vs is → HasGlobals c ws js → is ≡ js
+same_inputs : (c : Configuration) (vs ws : List PlanVariable) (is js : List PlanInput) → HasGlobals c vs is
+    → HasGlobals c ws js → is ≡ js
 same_inputs c vs ws is js a b = same_parts is js (a.inputs_are ∙ sym b.inputs_are)
 
 -- units and a configuration have one plan
-one_plan : (units : List OrganisationUnit) (c : Configuration) (budget : ℕ) (p q : plans.Plan) → IsPlanFrom units c budget p → IsPlanFrom units c budget q → p ≡ q
+one_plan : (units : List OrganisationUnit) (c : Configuration) (budget : ℕ) (p q : plans.Plan)
+    → IsPlanFrom units c budget p → IsPlanFrom units c budget q → p ≡ q
 one_plan units c budget p q a b =
     let v = same_variables c a.variables b.variables a.inputs b.inputs a.globals b.globals in
     let i = same_inputs c a.variables b.variables a.inputs b.inputs a.globals b.globals in
     let r = same_parts a.programs b.programs (a.programs_are.programs_are ∙ sym b.programs_are.programs_are) in
-    a.is ∙ ap (λ x. thin_plan units x a.inputs a.programs budget) v ∙ ap (λ x. thin_plan units b.variables x a.programs budget) i
+    a.is ∙ ap (λ x. thin_plan units x a.inputs a.programs budget) v
+    ∙ ap (λ x. thin_plan units b.variables x a.programs budget) i
     ∙ ap (λ x. thin_plan units b.variables b.inputs x budget) r ∙ sym b.is
 
 -- units and a configuration that have a plan are refused only where memory runs out
-not_refused : (units : List OrganisationUnit) (c : Configuration) (budget : ℕ) (p : plans.Plan) (e : BuildError) → IsPlanFrom units c budget p → Breaks units c budget e → IsMemory e
+not_refused : (units : List OrganisationUnit) (c : Configuration) (budget : ℕ) (p : plans.Plan) (e : BuildError)
+    → IsPlanFrom units c budget p → Breaks units c budget e → IsMemory e
 not_refused units c budget p errors.Unknown a h = let k = a.kept.known in absurd (cc)
 not_refused units c budget p errors.Address a h = let k = a.kept.addresses in absurd (cc)
 not_refused units c budget p errors.TooMany a h = let k = a.kept.few in absurd (cc)
@@ -99,7 +108,8 @@ not_refused units c budget p (errors.Words x) a h = absurd h
 not_refused units c budget p (errors.Grammar x) a h = absurd h
 
 -- parts that make no plan
-pub not_thin : (units : List OrganisationUnit) (c : Configuration) (budget : ℕ) (vs : List PlanVariable) (is : List PlanInput) (ps : List ThinProgram)
+pub not_thin : (units : List OrganisationUnit) (c : Configuration) (budget : ℕ) (vs : List PlanVariable)
+    (is : List PlanInput) (ps : List ThinProgram)
     → HasGlobals c vs is → HasPrograms units c ps → is_thin units vs is ps budget ≡ false
     → (plan : plans.Plan) → IsPlanFrom units c budget plan → ⊥
 not_thin units c budget vs is ps globals programs none plan a =
@@ -127,26 +137,40 @@ same_one : (c d : Configuration) → c ∷ [] ≡ d ∷ [] → c ≡ d
 same_one c d h = ap (head_or c) h
 
 -- what there is of a whole text, of its units and its configuration
-pub plan_of_text : (source : Source) (units : List OrganisationUnit) (c : Configuration) (budget : ℕ) (plan : plans.Plan)
-    → units ≡ units_in source → configurations_in source ≡ c ∷ [] → has_types source ≡ false → ((broken : Broken) → broken_rules.Breaks source broken → ⊥)
+pub plan_of_text :
+    (source : Source) (units : List OrganisationUnit) (c : Configuration) (budget : ℕ) (plan : plans.Plan)
+    → units ≡ units_in source → configurations_in source ≡ c ∷ [] → has_types source ≡ false
+    → ((broken : Broken) → broken_rules.Breaks source broken → ⊥)
     → IsPlanFrom units c budget plan → IsPlanOf source budget plan
 plan_of_text source units c budget plan us one plain unbroken from =
-    record { configuration = c; one = one; unbroken = unbroken; plain = plain; from = subst (λ x. IsPlanFrom x c budget plan) us from }
+    record {
+      configuration = c;
+      one = one;
+      unbroken = unbroken;
+      plain = plain;
+      from =
+          subst (λ x. IsPlanFrom x c budget plan) us from;
+    }
 
 -- a text that has a plan has one of its units and its configuration
 from_text : (source : Source) (units : List OrganisationUnit) (c : Configuration) (budget : ℕ) (plan : plans.Plan)
-    → units ≡ units_in source → configurations_in source ≡ c ∷ [] → IsPlanOf source budget plan → IsPlanFrom units c budget plan
+    → units ≡ units_in source → configurations_in source ≡ c ∷ [] → IsPlanOf source budget plan
+    → IsPlanFrom units c budget plan
 from_text source units c budget plan us one p =
     let same = same_one p.configuration c (sym p.one ∙ one) in
-    subst (λ x. IsPlanFrom x c budget plan) (sym us) (subst (λ x. IsPlanFrom (units_in source) x budget plan) same p.from)
+    subst (λ x. IsPlanFrom x c budget plan) (sym us)
+    (subst (λ x. IsPlanFrom (units_in source) x budget plan) same p.from)
 
 here : (source : Source) (units : List OrganisationUnit) (c : Configuration) (budget : ℕ) (e : BuildError)
-    → units ≡ units_in source → configurations_in source ≡ c ∷ [] → Breaks units c budget e → (d : Configuration) × (configurations_in source ≡ d ∷ []) × Breaks (units_in source) d budget e
+    → units ≡ units_in source → configurations_in source ≡ c ∷ [] → Breaks units c budget e
+    → (d : Configuration) × (configurations_in source ≡ d ∷ []) × Breaks (units_in source) d budget e
 here source units c budget e us one h = (c, one, subst (λ x. Breaks x c budget e) us h)
 
 -- a text without a plan of its units and its configuration
-beyond : (source : Source) (units : List OrganisationUnit) (c : Configuration) (budget : ℕ) → units ≡ units_in source → configurations_in source ≡ c ∷ []
-    → ((broken : Broken) → broken_rules.Breaks source broken → ⊥) → IsUnsupported units c budget → IsBeyond source budget
+beyond : (source : Source) (units : List OrganisationUnit) (c : Configuration) (budget : ℕ) → units ≡ units_in source
+    → configurations_in source ≡ c ∷ []
+    → ((broken : Broken) → broken_rules.Breaks source broken → ⊥) → IsUnsupported units c budget
+    → IsBeyond source budget
 beyond source units c budget us one unbroken h = record {
   configuration = c;
   one = one;
@@ -158,26 +182,32 @@ beyond source units c budget us one unbroken h = record {
 }
 
 -- a text whose units and configuration have a plan, and that has types
-pub beyond_types : (source : Source) (units : List OrganisationUnit) (c : Configuration) (budget : ℕ) (plan : plans.Plan) → units ≡ units_in source → configurations_in source ≡ c ∷ []
-    → ((broken : Broken) → broken_rules.Breaks source broken → ⊥) → has_types source ≡ true → IsPlanFrom units c budget plan → IsBeyond source budget
+pub beyond_types : (source : Source) (units : List OrganisationUnit) (c : Configuration) (budget : ℕ)
+    (plan : plans.Plan) → units ≡ units_in source → configurations_in source ≡ c ∷ []
+    → ((broken : Broken) → broken_rules.Breaks source broken → ⊥) → has_types source ≡ true
+    → IsPlanFrom units c budget plan → IsBeyond source budget
 beyond_types source units c budget plan us one unbroken types from = record {
   configuration = c;
   one = one;
   unbroken = unbroken;
   kept = subst (λ x. MeetsRules x c) us from.kept;
   few = λ many. not_refused units c budget plan errors.TooManyPaths from many;
-  short = λ long. not_refused units c budget plan errors.RecordTooLong from record { variables = long.variables; inputs = long.inputs; globals = long.globals; long = long.long };
+  short = λ long. not_refused units c budget plan errors.RecordTooLong from
+      record { variables = long.variables; inputs = long.inputs; globals = long.globals; long = long.long };
   none = λ other p. let plain = p.plain in absurd (cc);
 }
 
 pub breaks_text : (source : Source) (units : List OrganisationUnit) (c : Configuration) (budget : ℕ) (e : BuildError)
-    → units ≡ units_in source → configurations_in source ≡ c ∷ [] → ((broken : Broken) → broken_rules.Breaks source broken → ⊥) → Breaks units c budget e → Applies source budget e
+    → units ≡ units_in source → configurations_in source ≡ c ∷ []
+    → ((broken : Broken) → broken_rules.Breaks source broken → ⊥) → Breaks units c budget e → Applies source budget e
 breaks_text source units c budget errors.Unknown us one unbroken h = here source units c budget errors.Unknown us one h
 breaks_text source units c budget errors.Address us one unbroken h = here source units c budget errors.Address us one h
 breaks_text source units c budget errors.TooMany us one unbroken h = here source units c budget errors.TooMany us one h
 breaks_text source units c budget errors.NoTask us one unbroken h = here source units c budget errors.NoTask us one h
-breaks_text source units c budget errors.TooManyPaths us one unbroken h = here source units c budget errors.TooManyPaths us one h
-breaks_text source units c budget errors.RecordTooLong us one unbroken h = here source units c budget errors.RecordTooLong us one h
+breaks_text source units c budget errors.TooManyPaths us one unbroken h =
+    here source units c budget errors.TooManyPaths us one h
+breaks_text source units c budget errors.RecordTooLong us one unbroken h =
+    here source units c budget errors.RecordTooLong us one h
 breaks_text source units c budget errors.Unsupported us one unbroken h = beyond source units c budget us one unbroken h
 breaks_text source units c budget errors.Memory us one unbroken h = h
 breaks_text source units c budget errors.Budget us one unbroken h = absurd h
@@ -186,7 +216,8 @@ breaks_text source units c budget (errors.Rule x) us one unbroken h = absurd h
 breaks_text source units c budget (errors.Words x) us one unbroken h = absurd h
 breaks_text source units c budget (errors.Grammar x) us one unbroken h = absurd h
 
-pub not_configured : (source : Source) (budget : ℕ) (e : BuildError) → IsNotConfigured source e → Applies source budget e
+pub not_configured : (source : Source) (budget : ℕ) (e : BuildError) → IsNotConfigured source e
+    → Applies source budget e
 not_configured source budget errors.NoConfiguration h = h
 not_configured source budget errors.Unsupported h = absurd h
 not_configured source budget errors.Memory h = h
@@ -201,15 +232,20 @@ not_configured source budget (errors.Rule x) h = absurd h
 not_configured source budget (errors.Words x) h = absurd h
 not_configured source budget (errors.Grammar x) h = absurd h
 
-there : (source : Source) (budget : ℕ) (p : plans.Plan) (e : BuildError) → IsPlanOf source budget p → ((c : Configuration) × (configurations_in source ≡ c ∷ []) × Breaks (units_in source) c budget e) → IsMemory e
-there source budget p e a h = not_refused (units_in source) h.0 budget p e (from_text source (units_in source) h.0 budget p refl h.1 a) h.2
+there : (source : Source) (budget : ℕ) (p : plans.Plan) (e : BuildError) → IsPlanOf source budget p
+    → ((c : Configuration) × (configurations_in source ≡ c ∷ []) × Breaks (units_in source) c budget e) → IsMemory e
+there source budget p e a h =
+    not_refused (units_in source) h.0 budget p e (from_text source (units_in source) h.0 budget p refl h.1 a) h.2
 
 -- a text has one plan
-pub text_plan : (source : Source) (budget : ℕ) (p q : plans.Plan) → IsPlanOf source budget p → IsPlanOf source budget q → p ≡ q
-text_plan source budget p q a b = one_plan (units_in source) b.configuration budget p q (from_text source (units_in source) b.configuration budget p refl b.one a) b.from
+pub text_plan : (source : Source) (budget : ℕ) (p q : plans.Plan) → IsPlanOf source budget p → IsPlanOf source budget q
+    → p ≡ q
+text_plan source budget p q a b = one_plan (units_in source) b.configuration budget p q
+    (from_text source (units_in source) b.configuration budget p refl b.one a) b.from
 
 -- a text that has a plan is refused only where memory runs out
-pub text_refused : (source : Source) (budget : ℕ) (p : plans.Plan) (e : BuildError) → IsPlanOf source budget p → Applies source budget e → IsMemory e
+pub text_refused : (source : Source) (budget : ℕ) (p : plans.Plan) (e : BuildError) → IsPlanOf source budget p
+    → Applies source budget e → IsMemory e
 text_refused source budget p errors.NoConfiguration a h = absurd (let one = a.one in cc)
 text_refused source budget p errors.Unsupported a h = absurd (h.none p a)
 text_refused source budget p (errors.Rule x) a h = absurd (a.unbroken x h)
@@ -225,18 +261,21 @@ text_refused source budget p (errors.Words x) a h = there source budget p (error
 text_refused source budget p (errors.Grammar x) a h = there source budget p (errors.Grammar x) a h
 
 -- the lexer and the parser give what is there, or want memory
-pub words_refused : (e : LexError) (found : Result (Vec Token) LexError) (tokens : List Token) → found ≡ Err e → texts.Gives found tokens → IsMemory (errors.Words e)
+pub words_refused : (e : LexError) (found : Result (Vec Token) LexError) (tokens : List Token) → found ≡ Err e
+    → texts.Gives found tokens → IsMemory (errors.Words e)
 words_refused lexing.Memory found tokens is h = search rules
 words_refused lexing.TooLong found tokens is h = absurd (subst (λ x. texts.Gives x tokens) is h)
 words_refused (lexing.Fault f place) found tokens is h = absurd (subst (λ x. texts.Gives x tokens) is h)
 
-pub grammar_refused : (e : ParseError) (found : Result Tree ParseError) (source : Source) → found ≡ Err e → parsing.Answers source found → IsMemory (errors.Grammar e)
+pub grammar_refused : (e : ParseError) (found : Result Tree ParseError) (source : Source) → found ≡ Err e
+    → parsing.Answers source found → IsMemory (errors.Grammar e)
 grammar_refused grammar.Memory found source is h = search rules
 grammar_refused grammar.Deep found source is h = absurd (subst (λ x. parsing.Answers source x) is h)
 grammar_refused (grammar.Unexpected place) found source is h = absurd (subst (λ x. parsing.Answers source x) is h)
 
 -- a budget that is refused has no plan
-pub budget_refused : (source : Source) (budget : ℕ) (p : plans.Plan) → IsPlanOf source budget p → (1 ≤ budget) × (budget ≤ MAX_BUDGET)
+pub budget_refused : (source : Source) (budget : ℕ) (p : plans.Plan) → IsPlanOf source budget p
+    → (1 ≤ budget) × (budget ≤ MAX_BUDGET)
 budget_refused source budget p a =
     let f = a.from in
     let limits = limits_of (units_in source) f.variables f.inputs f.programs budget f.thin in
@@ -253,7 +292,8 @@ err_more P Q (Ok x) f h = h
 err_more P Q (Err e) f h = f e h
 
 -- the plan of a text is given, unless memory ran out
-pub plan_given : (source : Source) (budget : ℕ) (plan : plans.Plan) (r : Result Plan BuildError) → IsPlanOf source budget plan
+pub plan_given : (source : Source) (budget : ℕ) (plan : plans.Plan) (r : Result Plan BuildError)
+    → IsPlanOf source budget plan
     → IfOk r (λ q. IsPlanOf source budget (plan_view q)) → IfErr r (λ e. Applies source budget e) → GivesPlan r plan
 plan_given source budget plan (Ok q) is ok err = text_plan source budget (plan_view q) plan ok is
 plan_given source budget plan (Err e) is ok err = text_refused source budget plan e is err

@@ -1,5 +1,6 @@
 -- Globals that stand at direct addresses.
-use Rattle.std.specs.Prelude.{Bool, true, false, not, ◌&&◌, ◌||◌, ◌==◌, nat_lt, List, [], ◌∷◌, flat_map, Option, Some, None}
+use Rattle.std.specs.Prelude.{Bool, true, false, not, ◌&&◌, ◌||◌, ◌==◌, nat_lt, List, [], ◌∷◌, flat_map, Option, Some}
+use Rattle.std.specs.Prelude.{None}
 use Rattle.std.specs.List.{list_all, list_any}
 use Rattle.st_words.specs.declared.kind.Kind.{Kind}
 use Rattle.st_words.specs.declared.kind.Kind.TheVariants.{Int, Uint, Word, Bool as Boolean}
@@ -33,7 +34,8 @@ abbrev pub holds_kind : Address → Option Kind → Bool
 holds_kind a None = false
 holds_kind a (Some k) = has_width a.width k
 
--- The address is in its range and has the width of its type, it does not stand with CONSTANT, and an input has no initial value.
+-- The address is in its range and has the width of its type, it does not stand with CONSTANT, and an input has no
+-- initial value.
 abbrev pub is_sound_at : Option GlobalQualifier → GlobalDeclaration → Address → Bool
 is_sound_at q d a =
     (is_below_limit a.width a && holds_kind a (kind_of_type d.declared))

@@ -12,7 +12,8 @@ use Rattle.st_trees.specs.declared.declaration.Section.{Section}
 use Rattle.st_trees.specs.declared.declaration.Section.TheVariants.{External, ConstantExternal}
 use Rattle.st_trees.specs.Declarations.{Declaration, VariableBlock}
 use Rattle.st_trees.specs.Units.{OrganisationUnit}
-use Rattle.st_trees.specs.Configurations.{GlobalNames, located, listed, GlobalDeclaration, GlobalBlock, Resource, Configuration}
+use Rattle.st_trees.specs.Configurations.{GlobalNames, located, listed, GlobalDeclaration, GlobalBlock, Resource}
+use Rattle.st_trees.specs.Configurations.{Configuration}
 use Rattle.st_types.specs.Scopes.{Name}
 use Rattle.st_types.specs.NameTypes.{is_named, kind_of_type}
 use Rattle.config.specs.Thin.{is_program, is_of}
@@ -35,9 +36,11 @@ agree (Some k) None = false
 agree None (Some l) = false
 agree None None = true
 
--- The declaration is of a global of this name and type, which no program may assign just where the external is CONSTANT.
+-- The declaration is of a global of this name and type, which no program may assign just where the external is
+-- CONSTANT.
 abbrev pub is_behind : Bool → Option Kind → Name → Option GlobalQualifier → GlobalDeclaration → Bool
-is_behind constant k x q d = is_among x d.names && (agree k (kind_of_type d.declared) && (if constant then is_fixed q d.names else not (is_fixed q d.names)))
+is_behind constant k x q d = is_among x d.names
+    && (agree k (kind_of_type d.declared) && (if constant then is_fixed q d.names else not (is_fixed q d.names)))
 
 abbrev pub stands_in : Bool → Option Kind → Name → GlobalBlock → Bool
 stands_in constant k x b = list_any (is_behind constant k x b.qualifier) b.declarations
@@ -85,8 +88,10 @@ abbrev pub is_known_instance : List OrganisationUnit → List Task → Instance 
 is_known_instance units tasks i = is_known_task tasks i.task && is_known_program units i.program.name
 
 abbrev pub is_known_resource : List OrganisationUnit → List GlobalBlock → Resource → Bool
-is_known_resource units blocks r = list_all (is_known_instance units r.tasks) r.instances && list_all (λ t. is_known_single blocks t.single) r.tasks
+is_known_resource units blocks r =
+    list_all (is_known_instance units r.tasks) r.instances && list_all (λ t. is_known_single blocks t.single) r.tasks
 
 -- Tasks, programs, globals and SINGLEs are known, and externals are of the types of their globals.
 abbrev pub are_known : List OrganisationUnit → Configuration → Bool
-are_known units c = list_all (has_known_externals c.globals) units && list_all (is_known_resource units c.globals) c.resources
+are_known units c =
+    list_all (has_known_externals c.globals) units && list_all (is_known_resource units c.globals) c.resources

@@ -1,5 +1,6 @@
 -- The variables that the globals of a configuration are.
-use Rattle.std.specs.Prelude.{Bool, true, false, not, ◌&&◌, if◌then◌else◌, List, [], ◌∷◌, map, flat_map, Option, Some, None, option_map, option_and_then, Result, Ok, Err}
+use Rattle.std.specs.Prelude.{Bool, true, false, not, ◌&&◌, if◌then◌else◌, List, [], ◌∷◌, map, flat_map, Option, Some}
+use Rattle.std.specs.Prelude.{None, option_map, option_and_then, Result, Ok, Err}
 use Rattle.st_words.specs.declared.identifier.Identifier.{Identifier}
 use Rattle.st_words.specs.declared.kind.Kind.{Kind}
 use Rattle.st_words.specs.declared.literal.Literal.TheVariants as literals
@@ -48,7 +49,8 @@ started q d = if is_constant q then None else option_and_then (λ k. start_of k 
 
 -- A global of an elementary type that is no constant is a variable, which is kept where its block has RETAIN.
 abbrev pub variable_of : Option GlobalQualifier → GlobalDeclaration → Identifier → Option PlanVariable
-variable_of q d x = option_map (λ v. record { path = unowned x.name; initial = v; retained = is_retain q }) (started q d)
+variable_of q d x =
+    option_map (λ v. record { path = unowned x.name; initial = v; retained = is_retain q }) (started q d)
 
 -- names without an address
 abbrev pub listed_names : GlobalNames → List Identifier

@@ -1,5 +1,6 @@
 -- The inputs of the plant that the globals of a configuration are.
-use Rattle.std.specs.Prelude.{Bool, true, false, ◌&&◌, if◌then◌else◌, List, [], ◌∷◌, flat_map, Option, Some, None, option_map}
+use Rattle.std.specs.Prelude.{Bool, true, false, ◌&&◌, if◌then◌else◌, List, [], ◌∷◌, flat_map, Option, Some, None}
+use Rattle.std.specs.Prelude.{option_map}
 use Rattle.st_words.specs.declared.identifier.Identifier.{Identifier}
 use Rattle.st_words.specs.declared.kind.Kind.{Kind}
 use Rattle.st_trees.specs.declared.configuration.Address.{Address}
@@ -14,7 +15,8 @@ abbrev pub is_unqualified : Option GlobalQualifier → Bool
 is_unqualified None = true
 is_unqualified (Some q) = false
 
--- A global of an elementary type at an address %I is an input of the plant. Outputs and blocks with a qualifier are for later versions.
+-- A global of an elementary type at an address %I is an input of the plant. Outputs and blocks with a qualifier are for
+-- later versions.
 abbrev pub input_kind : Option GlobalQualifier → GlobalDeclaration → Address → Option Kind
 input_kind q d a = if is_unqualified q && is_input a.direction then kind_of_type d.declared else None
 

@@ -26,7 +26,8 @@ use Rattle.st_build.specs.declared.build_error.BuildError.TheVariants as errors
 use Rattle.st_build.specs.TextParts.{configurations_in, has_types}
 use Rattle.st_build.specs.Programs.{programs_in, have_own_tasks}
 use Rattle.st_build.specs.Externals.{are_known}
-use Rattle.st_build.specs.Refusals.{HasGlobals, has_sound_addresses, are_too_many, is_without_task, HasTooManyPaths, HasTooLongRecord, HasThinRecordTooLong}
+use Rattle.st_build.specs.Refusals.{HasGlobals, has_sound_addresses, are_too_many, is_without_task, HasTooManyPaths}
+use Rattle.st_build.specs.Refusals.{HasTooLongRecord, HasThinRecordTooLong}
 
 -- Names are known, addresses are sound, and there are enough tasks and not too many.
 pub record MeetsRules (units : List OrganisationUnit) (c : Configuration) : Type 0 where
@@ -40,8 +41,10 @@ pub record HasPrograms (units : List OrganisationUnit) (c : Configuration) (prog
   pub programs_are : map Some programs ≡ programs_in units 0 c.resources
   pub own : have_own_tasks c.resources ≡ true
 
--- The plan of units and a configuration that this version runs: its variables and inputs are the globals, its programs the instances.
-pub record IsPlanFrom (units : List OrganisationUnit) (c : Configuration) (budget : ℕ) (plan : plans.Plan) : Type 0 where
+-- The plan of units and a configuration that this version runs: its variables and inputs are the globals, its programs
+-- the instances.
+pub record IsPlanFrom (units : List OrganisationUnit) (c : Configuration) (budget : ℕ) (plan : plans.Plan) :
+    Type 0 where
   pub variables : List PlanVariable
   pub inputs : List PlanInput
   pub programs : List ThinProgram
@@ -73,7 +76,8 @@ abbrev pub LacksGlobals : Configuration → BuildError → Type 0
 LacksGlobals c errors.TooManyPaths = HasTooManyPaths c
 LacksGlobals c errors.RecordTooLong = HasTooLongRecord c
 LacksGlobals c errors.Memory = Unit {0}
-LacksGlobals c errors.Unsupported = (variables : List PlanVariable) (inputs : List PlanInput) → HasGlobals c variables inputs → ⊥
+LacksGlobals c errors.Unsupported = (variables : List PlanVariable) (inputs : List PlanInput)
+    → HasGlobals c variables inputs → ⊥
 LacksGlobals c _ = ⊥
 
 -- why it has no programs
@@ -112,7 +116,8 @@ Applies source budget (errors.Rule broken) = rules.Breaks source broken
 Applies source budget errors.NoConfiguration = (length (configurations_in source) == 1) ≡ false
 Applies source budget errors.Memory = Unit {0}
 Applies source budget errors.Unsupported = IsBeyond source budget
-Applies source budget e = (c : Configuration) × (configurations_in source ≡ c ∷ []) × Breaks (units_in source) c budget e
+Applies source budget e =
+    (c : Configuration) × (configurations_in source ≡ c ∷ []) × Breaks (units_in source) c budget e
 
 -- The bytes spell the source.
 pub record IsTextOf (text : List ℕ) (source : Source) : Type 0 where
@@ -125,7 +130,8 @@ pub record IsTextOf (text : List ℕ) (source : Source) : Type 0 where
 abbrev pub Refused : List ℕ → ℕ → BuildError → Type 0
 Refused text budget errors.Budget = (budget ≡ 0) ⊎ (MAX_BUDGET < budget)
 Refused text budget (errors.Words e) = texts.Applies text e
-Refused text budget (errors.Grammar e) = (tokens : List Token) × texts.IsSpelledBy text tokens × parsing.Refused tokens e
+Refused text budget (errors.Grammar e) =
+    (tokens : List Token) × texts.IsSpelledBy text tokens × parsing.Refused tokens e
 Refused text budget errors.Memory = Unit {0}
 Refused text budget e = (source : Source) × IsTextOf text source × Applies source budget e
 

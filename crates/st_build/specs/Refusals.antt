@@ -1,7 +1,9 @@
 -- Why a configuration has no plan.
-use Rattle.std.specs.Prelude.{◌≡◌, ℕ, ◌<◌, ◌+◌, Bool, true, false, ◌&&◌, ◌||◌, nat_lt, List, flat_map, map, length, Option, Some, None}
+use Rattle.std.specs.Prelude.{◌≡◌, ℕ, ◌<◌, ◌+◌, Bool, true, false, ◌&&◌, ◌||◌, nat_lt, List, flat_map, map, length}
+use Rattle.std.specs.Prelude.{Option, Some, None}
 use Rattle.std.specs.List.{list_all, list_any}
-use Rattle.st_words.specs.declared.limits.TheConstants.{MAX_PATHS, MAX_PROGRAMS, MAX_RECORD_BODY, MAX_RESOURCES, MAX_TASKS}
+use Rattle.st_words.specs.declared.limits.TheConstants.{MAX_PATHS, MAX_PROGRAMS, MAX_RECORD_BODY, MAX_RESOURCES}
+use Rattle.st_words.specs.declared.limits.TheConstants.{MAX_TASKS}
 use Rattle.st_words.specs.declared.identifier.Identifier.{Identifier}
 use Rattle.st_trees.specs.Configurations.{GlobalBlock, Resource, Configuration}
 use Rattle.st_plans.specs.declared.plan.PlanVariable.{PlanVariable}
@@ -18,7 +20,8 @@ has_sound_addresses blocks = list_all is_sound_block blocks && are_single (addre
 
 -- more than 8 resources, 32 tasks on one of them, or 64 programs in all
 abbrev pub are_too_many : List Resource → Bool
-are_too_many rs = nat_lt MAX_RESOURCES (length rs) || (list_any (λ r. nat_lt MAX_TASKS (length r.tasks)) rs || nat_lt MAX_PROGRAMS (length (flat_map (λ r. r.instances) rs)))
+are_too_many rs = nat_lt MAX_RESOURCES (length rs) || (list_any (λ r. nat_lt MAX_TASKS (length r.tasks)) rs
+    || nat_lt MAX_PROGRAMS (length (flat_map (λ r. r.instances) rs)))
 
 abbrev pub is_nothing : Option Identifier → Bool
 is_nothing None = true

@@ -3,7 +3,9 @@
 ghost use Rattle.std.specs.Prelude.{◌≡◌, ◌++◌, map, flat_map, IfOk};
 ghost use Rattle.std.specs.List.{list_all, list_any};
 ghost use Rattle.st_trees.specs.ConfigurationViews.{global_names_view, global_declaration_view, global_block_view};
-ghost use Rattle.st_build.specs.Addresses.{is_input, has_width, is_below_limit, holds_kind, is_sound_at, is_sound_address, is_sound_block, address_in, addresses_of, addresses_in, same_width, same_direction, same_address, are_single};
+ghost use Rattle.st_build.specs.Addresses.{is_input, has_width, is_below_limit, holds_kind, is_sound_at};
+ghost use Rattle.st_build.specs.Addresses.{is_sound_address, is_sound_block, address_in, addresses_of, addresses_in};
+ghost use Rattle.st_build.specs.Addresses.{same_width, same_direction, same_address, are_single};
 ghost use Rattle.st_build.specs.Refusals.{has_sound_addresses};
 
 use crate::variables::is_constant;
@@ -109,7 +111,8 @@ fn push_addresses(
     addresses: &mut Vec<Address>,
     declarations: &[GlobalDeclaration],
 ) -> Result<(), AllocError>
-    ensures { IfOk result (λ done. addresses.new.items ≡ addresses.old.items ++ flat_map (λ d. address_in d.names) (map global_declaration_view declarations.now)) }
+    ensures { IfOk result (λ done. addresses.new.items ≡ addresses.old.items
+        ++ flat_map (λ d. address_in d.names) (map global_declaration_view declarations.now)) }
 {
     for declaration in declarations {
         if let GlobalNames::Located(_, address) = &declaration.names {

@@ -4,9 +4,13 @@ ghost use Rattle.std.specs.Prelude.{◌≡◌, map};
 ghost use Rattle.std.specs.List.{list_all, list_any};
 ghost use Rattle.st_trees.specs.DeclarationViews.{declaration_view, variable_block_view};
 ghost use Rattle.st_trees.specs.UnitViews.{unit_view};
-ghost use Rattle.st_trees.specs.ConfigurationViews.{global_names_view, global_declaration_view, global_block_view, resource_view, configuration_view};
+ghost use Rattle.st_trees.specs.ConfigurationViews.{global_names_view, global_declaration_view, global_block_view};
+ghost use Rattle.st_trees.specs.ConfigurationViews.{resource_view, configuration_view};
 ghost use Rattle.st_types.specs.NameTypes.{is_named};
-ghost use Rattle.st_build.specs.Externals.{is_among, is_fixed, agree, is_behind, stands_in, is_there, are_there, is_known_block, has_known_externals, is_boolean, has_boolean, is_known_single, is_known_task, is_program_named, is_known_program, is_known_instance, is_known_resource, are_known};
+ghost use Rattle.st_build.specs.Externals.{is_among, is_fixed, agree, is_behind, stands_in, is_there, are_there};
+ghost use Rattle.st_build.specs.Externals.{is_known_block, has_known_externals, is_boolean, has_boolean};
+ghost use Rattle.st_build.specs.Externals.{is_known_single, is_known_task, is_program_named, is_known_program};
+ghost use Rattle.st_build.specs.Externals.{is_known_instance, is_known_resource, are_known};
 
 use crate::addresses::is_input;
 use crate::variables::is_constant;
@@ -77,7 +81,8 @@ fn is_declared(
     qualifier: Option<GlobalQualifier>,
     declarations: &[GlobalDeclaration],
 ) -> bool
-    ensures { result ≡ list_any (λ d. is_behind constant kind name.now qualifier (global_declaration_view d)) declarations.now }
+    ensures { result
+        ≡ list_any (λ d. is_behind constant kind name.now qualifier (global_declaration_view d)) declarations.now }
 {
     declarations
         .iter()
@@ -116,7 +121,8 @@ fn are_there(blocks: &[GlobalBlock], constant: bool, declaration: &Declaration) 
 }
 
 fn all_there(blocks: &[GlobalBlock], constant: bool, declarations: &[Declaration]) -> bool
-    ensures { result ≡ list_all (λ d. are_there (map global_block_view blocks.now) constant (declaration_view d)) declarations.now }
+    ensures { result
+        ≡ list_all (λ d. are_there (map global_block_view blocks.now) constant (declaration_view d)) declarations.now }
 {
     declarations.iter().all(|d| are_there(blocks, constant, d))
 }
@@ -133,7 +139,8 @@ fn is_known_block(blocks: &[GlobalBlock], block: &VariableBlock) -> bool
 }
 
 fn are_known_blocks(blocks: &[GlobalBlock], own: &[VariableBlock]) -> bool
-    ensures { result ≡ list_all (λ b. is_known_block (map global_block_view blocks.now) (variable_block_view b)) own.now }
+    ensures { result
+        ≡ list_all (λ b. is_known_block (map global_block_view blocks.now) (variable_block_view b)) own.now }
 {
     own.iter().all(|b| is_known_block(blocks, b))
 }
@@ -258,14 +265,16 @@ fn are_known_instances(units: &[Unit], tasks: &[Task], instances: &[Instance]) -
 }
 
 fn is_known_resource(units: &[Unit], blocks: &[GlobalBlock], resource: &Resource) -> bool
-    ensures { result ≡ is_known_resource (map unit_view units.now) (map global_block_view blocks.now) (resource_view resource.now) }
+    ensures { result
+        ≡ is_known_resource (map unit_view units.now) (map global_block_view blocks.now) (resource_view resource.now) }
 {
     are_known_instances(units, &resource.tasks, &resource.instances)
         && are_known_singles(blocks, &resource.tasks)
 }
 
 fn have_known_parts(units: &[Unit], blocks: &[GlobalBlock], resources: &[Resource]) -> bool
-    ensures { result ≡ list_all (λ r. is_known_resource (map unit_view units.now) (map global_block_view blocks.now) (resource_view r)) resources.now }
+    ensures { result ≡ list_all (λ r. is_known_resource (map unit_view units.now) (map global_block_view blocks.now)
+        (resource_view r)) resources.now }
 {
     resources
         .iter()
@@ -275,7 +284,8 @@ fn have_known_parts(units: &[Unit], blocks: &[GlobalBlock], resources: &[Resourc
 /// Whether tasks, programs and SINGLEs of the resources are known.
 #[tactic(auto, using(crate::proofs::ListLemmas::all_viewed))]
 fn are_known_resources(units: &[Unit], blocks: &[GlobalBlock], resources: &[Resource]) -> bool
-    ensures { result ≡ list_all (is_known_resource (map unit_view units.now) (map global_block_view blocks.now)) (map resource_view resources.now) }
+    ensures { result ≡ list_all (is_known_resource (map unit_view units.now) (map global_block_view blocks.now))
+        (map resource_view resources.now) }
 {
     have_known_parts(units, blocks, resources)
 }

@@ -36,8 +36,10 @@ fn input_of(
     name: &Identifier,
     address: Address,
 ) -> Result<PlanInput, Lack>
-    ensures found { IfOk result (λ i. input_of qualifier (global_declaration_view declaration.now) name.now address ≡ Some i) }
-    ensures none { IsErrOf result Lack.Support → input_of qualifier (global_declaration_view declaration.now) name.now address ≡ None }
+    ensures found { IfOk result
+        (λ i. input_of qualifier (global_declaration_view declaration.now) name.now address ≡ Some i) }
+    ensures none { IsErrOf result Lack.Support
+        → input_of qualifier (global_declaration_view declaration.now) name.now address ≡ None }
 {
     let Some(kind) = input_kind(qualifier, declaration, address) else {
         return Err(Lack::Support);
@@ -54,8 +56,10 @@ fn push_declared(
     qualifier: Option<GlobalQualifier>,
     declaration: &GlobalDeclaration,
 ) -> Result<(), Lack>
-    ensures found { OnOk result (map Some inputs.new.items ≡ map Some inputs.old.items ++ input_declared qualifier (global_declaration_view declaration.now)) }
-    ensures none { IsErrOf result Lack.Support → list_any is_missing (input_declared qualifier (global_declaration_view declaration.now)) ≡ true }
+    ensures found { OnOk result (map Some inputs.new.items ≡ map Some inputs.old.items
+        ++ input_declared qualifier (global_declaration_view declaration.now)) }
+    ensures none { IsErrOf result Lack.Support
+        → list_any is_missing (input_declared qualifier (global_declaration_view declaration.now)) ≡ true }
 {
     if let GlobalNames::Located(name, address) = &declaration.names {
         inputs.push(input_of(alloc, qualifier, declaration, name, *address)?)?;
@@ -69,8 +73,10 @@ fn push_all(
     qualifier: Option<GlobalQualifier>,
     declarations: &[GlobalDeclaration],
 ) -> Result<(), Lack>
-    ensures found { OnOk result (map Some inputs.new.items ≡ map Some inputs.old.items ++ flat_map (input_declared qualifier) (map global_declaration_view declarations.now)) }
-    ensures none { IsErrOf result Lack.Support → list_any is_missing (flat_map (input_declared qualifier) (map global_declaration_view declarations.now)) ≡ true }
+    ensures found { OnOk result (map Some inputs.new.items ≡ map Some inputs.old.items
+        ++ flat_map (input_declared qualifier) (map global_declaration_view declarations.now)) }
+    ensures none { IsErrOf result Lack.Support → list_any is_missing
+        (flat_map (input_declared qualifier) (map global_declaration_view declarations.now)) ≡ true }
 {
     for declaration in declarations {
         push_declared(alloc, inputs, qualifier, declaration)?;
@@ -81,7 +87,8 @@ fn push_all(
 /// The inputs of a configuration, in order; none where this version can't run some of its addresses.
 pub fn inputs_in(alloc: Global, blocks: &[GlobalBlock]) -> Result<Vec<PlanInput>, Lack>
     ensures found { IfOk result (λ is. map Some is.items ≡ inputs_in (map global_block_view blocks.now)) }
-    ensures none { IsErrOf result Lack.Support → list_any is_missing (inputs_in (map global_block_view blocks.now)) ≡ true }
+    ensures none { IsErrOf result Lack.Support
+        → list_any is_missing (inputs_in (map global_block_view blocks.now)) ≡ true }
 {
     let mut inputs = Vec::new(alloc);
     for block in blocks {

@@ -5,7 +5,8 @@ ghost use Rattle.st_trees.specs.UnitViews.{unit_view};
 ghost use Rattle.st_trees.specs.ConfigurationViews.{configuration_view};
 ghost use Rattle.config.specs.PlanViews.{plan_view};
 ghost use Rattle.st_build.specs.Refusals.{HasGlobals, HasTooManyPaths, HasThinRecordTooLong};
-ghost use Rattle.st_build.specs.Plans.{MeetsRules, HasPrograms, IsPlanFrom, BreaksRule, LacksGlobals, LacksPrograms, Breaks};
+ghost use Rattle.st_build.specs.Plans.{MeetsRules, HasPrograms, IsPlanFrom, BreaksRule, LacksGlobals, LacksPrograms};
+ghost use Rattle.st_build.specs.Plans.{Breaks};
 
 use crate::addresses::has_sound_addresses;
 use crate::build_error::BuildError;
@@ -31,7 +32,8 @@ struct Globals {
 /// Refuses a configuration that breaks a rule.
 fn check(alloc: Global, units: &[Unit], configuration: &Configuration) -> Result<(), BuildError>
     ensures kept { OnOk result (MeetsRules (map unit_view units.now) (configuration_view configuration.now)) }
-    ensures refused { IfErr result (λ e. BreaksRule (map unit_view units.now) (configuration_view configuration.now) e) }
+    ensures refused { IfErr result
+        (λ e. BreaksRule (map unit_view units.now) (configuration_view configuration.now) e) }
 {
     if !are_known(units, configuration) {
         return Err(BuildError::Unknown);
@@ -49,7 +51,8 @@ fn check(alloc: Global, units: &[Unit], configuration: &Configuration) -> Result
 }
 
 fn globals_of(alloc: Global, configuration: &Configuration) -> Result<Globals, BuildError>
-    ensures globals { IfOk result (λ g. HasGlobals (configuration_view configuration.now) g.variables.items g.inputs.items) }
+    ensures globals { IfOk result
+        (λ g. HasGlobals (configuration_view configuration.now) g.variables.items g.inputs.items) }
     ensures few { OnOk result (HasTooManyPaths (configuration_view configuration.now) → ⊥) }
     ensures short { OnOk result (HasThinRecordTooLong (configuration_view configuration.now) → ⊥) }
     ensures refused { IfErr result (λ e. LacksGlobals (configuration_view configuration.now) e) }
@@ -70,8 +73,10 @@ fn programs_of(
     units: &[Unit],
     configuration: &Configuration,
 ) -> Result<Vec<ThinProgram>, BuildError>
-    ensures programs { IfOk result (λ ps. HasPrograms (map unit_view units.now) (configuration_view configuration.now) ps.items) }
-    ensures refused { IfErr result (λ e. LacksPrograms (map unit_view units.now) (configuration_view configuration.now) e) }
+    ensures programs { IfOk result
+        (λ ps. HasPrograms (map unit_view units.now) (configuration_view configuration.now) ps.items) }
+    ensures refused { IfErr result
+        (λ e. LacksPrograms (map unit_view units.now) (configuration_view configuration.now) e) }
 {
     let programs = programs_in(alloc, units, &configuration.resources)?;
     if !have_own_tasks(&configuration.resources) {
@@ -87,8 +92,10 @@ pub fn plan_from(
     configuration: &Configuration,
     budget: u32,
 ) -> Result<Plan, BuildError>
-    ensures plan { IfOk result (λ plan. IsPlanFrom (map unit_view units.items) (configuration_view configuration.now) budget (plan_view plan)) }
-    ensures refused { IfErr result (λ e. Breaks (map unit_view units.items) (configuration_view configuration.now) budget e) }
+    ensures plan { IfOk result (λ plan.
+        IsPlanFrom (map unit_view units.items) (configuration_view configuration.now) budget (plan_view plan)) }
+    ensures refused { IfErr result
+        (λ e. Breaks (map unit_view units.items) (configuration_view configuration.now) budget e) }
 {
     check(alloc, &units, configuration)?;
     let globals = globals_of(alloc, configuration)?;

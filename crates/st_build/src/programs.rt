@@ -1,6 +1,7 @@
 //! The programs that resources run.
 
-ghost use Rattle.std.specs.Prelude.{◌≡◌, ◌++◌, ◌≤◌, ◌+◌, ◌^◌, length, map, position, Some, None, IfOk, OnOk, IsErrOf, true};
+ghost use Rattle.std.specs.Prelude.{◌≡◌, ◌++◌, ◌≤◌, ◌+◌, ◌^◌, length, map, position, Some, None, IfOk, OnOk, IsErrOf};
+ghost use Rattle.std.specs.Prelude.{true};
 ghost use Rattle.std.specs.List.{list_any};
 ghost use Rattle.st_trees.specs.UnitViews.{unit_view};
 ghost use Rattle.st_trees.specs.ConfigurationViews.{resource_view};
@@ -56,8 +57,10 @@ fn push_programs(
     tasks: &[Task],
     instances: &[Instance],
 ) -> Result<(), Lack>
-    ensures found { OnOk result (map Some programs.new.items ≡ map Some programs.old.items ++ map (program_of (map unit_view units.now) number tasks.now) instances.now) }
-    ensures none { IsErrOf result Lack.Support → list_any is_missing (map (program_of (map unit_view units.now) number tasks.now) instances.now) ≡ true }
+    ensures found { OnOk result (map Some programs.new.items ≡ map Some programs.old.items
+        ++ map (program_of (map unit_view units.now) number tasks.now) instances.now) }
+    ensures none { IsErrOf result Lack.Support
+        → list_any is_missing (map (program_of (map unit_view units.now) number tasks.now) instances.now) ≡ true }
 {
     for instance in instances {
         let Some(program) = program_of(units, number, tasks, instance) else {
@@ -74,8 +77,10 @@ pub fn programs_in(
     units: &[Unit],
     resources: &[Resource],
 ) -> Result<Vec<ThinProgram>, Lack>
-    ensures found { IfOk result (λ ps. map Some ps.items ≡ programs_in (map unit_view units.now) 0 (map resource_view resources.now)) }
-    ensures none { IsErrOf result Lack.Support → list_any is_missing (programs_in (map unit_view units.now) 0 (map resource_view resources.now)) ≡ true }
+    ensures found { IfOk result
+        (λ ps. map Some ps.items ≡ programs_in (map unit_view units.now) 0 (map resource_view resources.now)) }
+    ensures none { IsErrOf result Lack.Support
+        → list_any is_missing (programs_in (map unit_view units.now) 0 (map resource_view resources.now)) ≡ true }
 {
     let mut programs = Vec::new(alloc);
     for number in 0..resources.len() {

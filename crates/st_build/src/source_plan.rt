@@ -40,17 +40,19 @@ fn plan_of(alloc: Global, source: Source, budget: u32) -> Result<Plan, BuildErro
 
 /// The plan of a text in Structured Text for a budget of 1 to 1,000,000 ticks.
 ///
-/// This version runs programs that assign whole-number literals, names and their sums to VAR_EXTERNAL globals of INT and DINT, and
-/// inputs of the plant, each program in a task of its own with an INTERVAL and PRIORITY 0. G7 comes first, then the lexer's and the
-/// parser's refusals, then the others, of which any that applies may come. X2 is for what this version can't run, where no other
-/// number applies.
+/// This version runs programs that assign whole-number literals, names and their sums to VAR_EXTERNAL globals of INT
+/// and DINT, and inputs of the plant, each program in a task of its own with an INTERVAL and PRIORITY 0. G7 comes
+/// first, then the lexer's and the parser's refusals, then the others, of which any that applies may come. X2 is for
+/// what this version can't run, where no other number applies.
 pub fn build(alloc: Global, text: &[u8], budget: u32) -> Result<Plan, BuildError>
     // The budget is judged before all else.
     ensures budget { (budget ≡ 0) ⊎ (MAX_BUDGET < budget) → IsErrOf result BuildError.Budget }
     // The plan is that of a tree that the bytes spell.
-    ensures plan { IfOk result (λ plan. (source : tree.Source) × IsTextOf text.now source × IsPlanOf source budget (plan_view plan)) }
+    ensures plan { IfOk result
+        (λ plan. (source : tree.Source) × IsTextOf text.now source × IsPlanOf source budget (plan_view plan)) }
     // A text of which there is such a plan is given it, unless memory runs out.
-    ensures only { (source : tree.Source) (plan : plans.Plan) → IsTextOf text.now source → IsPlanOf source budget plan → GivesPlan result plan }
+    ensures only { (source : tree.Source) (plan : plans.Plan) → IsTextOf text.now source → IsPlanOf source budget plan
+        → GivesPlan result plan }
     // A refusal applies.
     ensures refused { IfErr result (λ e. Refused text.now budget e) }
 {

@@ -3,7 +3,8 @@
 ghost use Rattle.std.specs.Prelude.{◌≡◌, ◌==◌, map, filter, length};
 ghost use Rattle.std.specs.List.{list_all, list_any};
 ghost use Rattle.st_trees.specs.ConfigurationViews.{resource_view};
-ghost use Rattle.st_build.specs.Programs.{plain_interval, interval_named, interval_of, runs_in, is_own, has_own_tasks, have_own_tasks};
+ghost use Rattle.st_build.specs.Programs.{plain_interval, interval_named, interval_of, runs_in, is_own, has_own_tasks};
+ghost use Rattle.st_build.specs.Programs.{have_own_tasks};
 ghost use Rattle.st_build.specs.Refusals.{has_no_task, is_without_task};
 
 use st_trees::{Instance, Resource, Task};

@@ -23,7 +23,8 @@ pub struct TextParts {
 /// Takes a text apart.
 pub fn parts_of(alloc: Global, source: Source) -> Result<TextParts, AllocError>
     ensures units { IfOk result (λ parts. map unit_view parts.units.items ≡ units_in (source_view source)) }
-    ensures configurations { IfOk result (λ parts. map configuration_view parts.configurations.items ≡ configurations_in (source_view source)) }
+    ensures configurations { IfOk result
+        (λ parts. map configuration_view parts.configurations.items ≡ configurations_in (source_view source)) }
     ensures types { IfOk result (λ parts. parts.has_types ≡ has_types (source_view source)) }
 {
     let mut units = Vec::new(alloc);
@@ -55,7 +56,8 @@ pub struct Configured {
 /// Takes a text apart that has one configuration.
 pub fn configuration_of(alloc: Global, source: Source) -> Result<Configured, BuildError>
     ensures units { IfOk result (λ text. map unit_view text.units.items ≡ units_in (source_view source)) }
-    ensures one { IfOk result (λ text. configurations_in (source_view source) ≡ configuration_view text.configuration ∷ []) }
+    ensures one { IfOk result
+        (λ text. configurations_in (source_view source) ≡ configuration_view text.configuration ∷ []) }
     ensures types { IfOk result (λ text. text.has_types ≡ has_types (source_view source)) }
     ensures refused { IfErr result (λ e. IsNotConfigured (source_view source) e) }
 {

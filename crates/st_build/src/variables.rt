@@ -5,7 +5,8 @@ ghost use Rattle.std.specs.List.{list_any};
 ghost use Rattle.st_trees.specs.InitialViews.{initial_view};
 ghost use Rattle.st_trees.specs.ConfigurationViews.{global_names_view, global_declaration_view, global_block_view};
 ghost use Rattle.st_plans.specs.Plans.{initial_value};
-ghost use Rattle.st_build.specs.Globals.{is_retain, is_constant, number_value, start_of, started, variable_of, listed_names, variables_declared, variables_in};
+ghost use Rattle.st_build.specs.Globals.{is_retain, is_constant, number_value, start_of, started, variable_of};
+ghost use Rattle.st_build.specs.Globals.{listed_names, variables_declared, variables_in};
 ghost use Rattle.st_build.specs.Lists.{is_missing};
 
 use crate::lack::Lack;
@@ -84,8 +85,10 @@ fn variable_of(
     declaration: &GlobalDeclaration,
     name: &Identifier,
 ) -> Result<PlanVariable, Lack>
-    ensures found { IfOk result (λ v. variable_of qualifier (global_declaration_view declaration.now) name.now ≡ Some v) }
-    ensures none { IsErrOf result Lack.Support → variable_of qualifier (global_declaration_view declaration.now) name.now ≡ None }
+    ensures found { IfOk result
+        (λ v. variable_of qualifier (global_declaration_view declaration.now) name.now ≡ Some v) }
+    ensures none { IsErrOf result Lack.Support
+        → variable_of qualifier (global_declaration_view declaration.now) name.now ≡ None }
 {
     let Some(initial) = started(qualifier, declaration) else {
         return Err(Lack::Support);
@@ -104,8 +107,10 @@ fn push_named(
     declaration: &GlobalDeclaration,
     names: &[Identifier],
 ) -> Result<(), Lack>
-    ensures found { OnOk result (map Some variables.new.items ≡ map Some variables.old.items ++ map (variable_of qualifier (global_declaration_view declaration.now)) names.now) }
-    ensures none { IsErrOf result Lack.Support → list_any is_missing (map (variable_of qualifier (global_declaration_view declaration.now)) names.now) ≡ true }
+    ensures found { OnOk result (map Some variables.new.items ≡ map Some variables.old.items
+        ++ map (variable_of qualifier (global_declaration_view declaration.now)) names.now) }
+    ensures none { IsErrOf result Lack.Support
+        → list_any is_missing (map (variable_of qualifier (global_declaration_view declaration.now)) names.now) ≡ true }
 {
     for name in names {
         variables.push(variable_of(alloc, qualifier, declaration, name)?)?;
@@ -119,8 +124,10 @@ fn push_declared(
     qualifier: Option<GlobalQualifier>,
     declaration: &GlobalDeclaration,
 ) -> Result<(), Lack>
-    ensures found { OnOk result (map Some variables.new.items ≡ map Some variables.old.items ++ variables_declared qualifier (global_declaration_view declaration.now)) }
-    ensures none { IsErrOf result Lack.Support → list_any is_missing (variables_declared qualifier (global_declaration_view declaration.now)) ≡ true }
+    ensures found { OnOk result (map Some variables.new.items ≡ map Some variables.old.items
+        ++ variables_declared qualifier (global_declaration_view declaration.now)) }
+    ensures none { IsErrOf result Lack.Support
+        → list_any is_missing (variables_declared qualifier (global_declaration_view declaration.now)) ≡ true }
 {
     match &declaration.names {
         GlobalNames::Located(_, _) => Ok(()),
@@ -134,8 +141,10 @@ fn push_all(
     qualifier: Option<GlobalQualifier>,
     declarations: &[GlobalDeclaration],
 ) -> Result<(), Lack>
-    ensures found { OnOk result (map Some variables.new.items ≡ map Some variables.old.items ++ flat_map (variables_declared qualifier) (map global_declaration_view declarations.now)) }
-    ensures none { IsErrOf result Lack.Support → list_any is_missing (flat_map (variables_declared qualifier) (map global_declaration_view declarations.now)) ≡ true }
+    ensures found { OnOk result (map Some variables.new.items ≡ map Some variables.old.items
+        ++ flat_map (variables_declared qualifier) (map global_declaration_view declarations.now)) }
+    ensures none { IsErrOf result Lack.Support → list_any is_missing
+        (flat_map (variables_declared qualifier) (map global_declaration_view declarations.now)) ≡ true }
 {
     for declaration in declarations {
         push_declared(alloc, variables, qualifier, declaration)?;
@@ -146,7 +155,8 @@ fn push_all(
 /// The variables of a configuration, in order; none where this version can't run some of its globals.
 pub fn variables_in(alloc: Global, blocks: &[GlobalBlock]) -> Result<Vec<PlanVariable>, Lack>
     ensures found { IfOk result (λ vs. map Some vs.items ≡ variables_in (map global_block_view blocks.now)) }
-    ensures none { IsErrOf result Lack.Support → list_any is_missing (variables_in (map global_block_view blocks.now)) ≡ true }
+    ensures none { IsErrOf result Lack.Support
+        → list_any is_missing (variables_in (map global_block_view blocks.now)) ≡ true }
 {
     let mut variables = Vec::new(alloc);
     for block in blocks {

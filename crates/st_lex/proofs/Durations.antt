@@ -1,5 +1,6 @@
 -- Sums of milliseconds.
-use Rattle.std.proofs.Common.{◌≡◌, ℕ, ◌+◌, ◌-◌, ◌^◌, List, [], ◌∷◌, length, take, drop, get_or, Bool, ◌∙◌, ◌≤◌, Option, Some, None, cond, ltb, true, false, refl, sym, arith, inl, inr}
+use Rattle.std.proofs.Common.{◌≡◌, ℕ, ◌+◌, ◌-◌, ◌^◌, List, [], ◌∷◌, length, take, drop, get_or, Bool, ◌∙◌, ◌≤◌, Option}
+use Rattle.std.proofs.Common.{Some, None, cond, ltb, true, false, refl, sym, arith, inl, inr}
 use Rattle.std.proofs.lemmas.Bool.{lt-ltb, cases_lt, le-ltb}
 use Rattle.std.proofs.lemmas.List.{take_all}
 use Rattle.st_lex.specs.declared.duration.TimeUnit.{TimeUnit}
@@ -22,7 +23,8 @@ fits_sum (Some n) (Some m) = elim (cases_lt n (2 ^ 63)) [
 ]
 
 -- a part in the first of the units, and the rest in the smaller ones
-pub with_part : (units : List TimeUnit) (is_first is_part : Bool) (text front rest : List ℕ) (part smaller whole : Option ℕ)
+pub with_part :
+    (units : List TimeUnit) (is_first is_part : Bool) (text front rest : List ℕ) (part smaller whole : Option ℕ)
     → 1 ≤ length units → front ≡ over_underscore is_first text → rest ≡ behind_part front
     → is_part ≡ is_part_in (get_or units 0 Day) front → is_part ≡ true
     → part ≡ fits (part_milliseconds (get_or units 0 Day) is_first front)
@@ -31,6 +33,8 @@ pub with_part : (units : List TimeUnit) (is_first is_part : Bool) (text front re
 with_part [] is_first is_part text front rest part smaller whole some f r p t m s w = absurd (omega arith)
 with_part (unit ∷ units) is_first is_part text front rest part smaller whole some f r p t m s w =
     let q : is_part_in unit (over_underscore is_first text) ≡ true = rw (sym f) (sym p ∙ t) in
-    let u : take (length (unit ∷ units) - 1) (drop 1 (unit ∷ units)) ≡ units = take_all (length (unit ∷ units) - 1) units (omega arith) in
-    let v : whole ≡ fits (sum (part_milliseconds unit is_first front) (parts units false rest)) = w ∙ rw (m, s, u) (fits_sum (part_milliseconds unit is_first front) (parts units false rest)) in
+    let u : take (length (unit ∷ units) - 1) (drop 1 (unit ∷ units)) ≡ units =
+    take_all (length (unit ∷ units) - 1) units (omega arith) in
+    let v : whole ≡ fits (sum (part_milliseconds unit is_first front) (parts units false rest)) = w
+    ∙ rw (m, s, u) (fits_sum (part_milliseconds unit is_first front) (parts units false rest)) in
     rw q (v ∙ rw (r, f) refl)

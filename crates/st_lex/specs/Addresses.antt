@@ -11,7 +11,8 @@ use Rattle.st_lex.specs.Numbers.{value_from, below}
 
 -- `I` or `Q`
 abbrev pub direction : ℕ → Option Direction
-direction b = if to_ascii_uppercase b == 73 then Some Input else if to_ascii_uppercase b == 81 then Some Output else None
+direction b =
+    if to_ascii_uppercase b == 73 then Some Input else if to_ascii_uppercase b == 81 then Some Output else None
 
 -- `X` or `W`
 abbrev pub width : ℕ → Option AddressWidth
@@ -19,7 +20,8 @@ width b = if to_ascii_uppercase b == 88 then Some Bit else if to_ascii_uppercase
 
 -- decimal digits alone
 unfoldable pub number : List ℕ → Option ℕ
-number digits = if nat_lt 0 (length digits) && list_all is_ascii_digit digits then below (2 ^ 64) (value_from 10 0 digits) else None
+number digits =
+    if nat_lt 0 (length digits) && list_all is_ascii_digit digits then below (2 ^ 64) (value_from 10 0 digits) else None
 
 abbrev pub joined : Option Direction → Option AddressWidth → Option ℕ → Option Address
 joined (Some d) (Some w) (Some n) = Some (record { direction = d; width = w; number = n })

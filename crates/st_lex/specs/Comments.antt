@@ -18,7 +18,8 @@ to_close inside = before 42 41 inside
 abbrev pub to_open : List ℕ → ℕ
 to_open inside = before 40 42 inside
 
--- what a comment is, by what stands after its opening: all its bytes are allowed, no other begins in it, and it is closed
+-- what a comment is, by what stands after its opening: all its bytes are allowed, no other begins in it, and it is
+-- closed
 unfoldable pub comment_front : List ℕ → Front
 comment_front inside =
     if not (list_all is_allowed (take (to_close inside) inside)) then fronts.Fault faults.Byte 0 else

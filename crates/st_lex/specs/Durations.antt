@@ -1,5 +1,6 @@
 -- Durations: parts of decimal digits and a unit, each unit at most once and from great to small.
-use Rattle.std.specs.Prelude.{ℕ, ◌+◌, ◌*◌, ◌^◌, List, [], ◌∷◌, drop, length, Bool, true, false, not, ◌&&◌, ◌||◌, ◌==◌, nat_lt, if◌then◌else◌, Option, Some, None, codes}
+use Rattle.std.specs.Prelude.{ℕ, ◌+◌, ◌*◌, ◌^◌, List, [], ◌∷◌, drop, length, Bool, true, false, not, ◌&&◌, ◌||◌, ◌==◌}
+use Rattle.std.specs.Prelude.{nat_lt, if◌then◌else◌, Option, Some, None, codes}
 use Rattle.std.specs.Str.{str_eq_ignore_ascii_case}
 use Rattle.std.specs.List.{take_while}
 use Rattle.std.specs.Char.{is_ascii_digit, is_ascii_alphabetic}
@@ -7,7 +8,8 @@ use Rattle.st_lex.specs.declared.duration.TimeUnit.{TimeUnit}
 use Rattle.st_lex.specs.declared.duration.TimeUnit.TheVariants.{Day, Hour, Minute, Second, Millisecond}
 use Rattle.st_lex.specs.Numbers.{value_from, below, before_hash, behind_hash}
 
--- a line of the table of units: its letters, its length in milliseconds, and below how many of it a later part must be; a day is none
+-- a line of the table of units: its letters, its length in milliseconds, and below how many of it a later part must be;
+-- a day is none
 pub record UnitRow : Type 0 where
   pub letters : List ℕ
   pub milliseconds : ℕ
@@ -48,7 +50,8 @@ abbrev pub behind_part : List ℕ → List ℕ
 behind_part text = drop (length (letters_of text)) (behind_digits text)
 
 abbrev pub is_part_in : TimeUnit → List ℕ → Bool
-is_part_in unit text = nat_lt 0 (length (digits_of text)) && str_eq_ignore_ascii_case (letters_of text) (unit_row unit).letters
+is_part_in unit text =
+    nat_lt 0 (length (digits_of text)) && str_eq_ignore_ascii_case (letters_of text) (unit_row unit).letters
 
 -- how many of its unit the part in front has
 abbrev pub count_of : List ℕ → ℕ
@@ -57,7 +60,8 @@ count_of text = value_from 10 0 (digits_of text)
 -- the first part may overflow its unit, a later one must be below the limit
 abbrev pub part_milliseconds : TimeUnit → Bool → List ℕ → Option ℕ
 part_milliseconds unit is_first text =
-    if is_first || nat_lt (count_of text) (unit_row unit).limit then Some (count_of text * (unit_row unit).milliseconds) else None
+    if is_first || nat_lt (count_of text) (unit_row unit).limit then Some (count_of text * (unit_row unit).milliseconds)
+    else None
 
 abbrev pub sum : Option ℕ → Option ℕ → Option ℕ
 sum (Some n) (Some m) = Some (n + m)
@@ -68,7 +72,8 @@ abbrev pub parts : List TimeUnit → Bool → List ℕ → Option ℕ
 parts [] is_first text = if is_first || nat_lt 0 (length text) then None else Some 0
 parts (unit ∷ smaller) is_first text =
     if is_part_in unit (over_underscore is_first text)
-    then sum (part_milliseconds unit is_first (over_underscore is_first text)) (parts smaller false (behind_part (over_underscore is_first text)))
+    then sum (part_milliseconds unit is_first (over_underscore is_first text))
+    (parts smaller false (behind_part (over_underscore is_first text)))
     else parts smaller is_first text
 
 -- less than 2^63 milliseconds
@@ -80,7 +85,8 @@ unfoldable pub milliseconds : List ℕ → Option ℕ
 milliseconds text = fits (parts units true text)
 
 abbrev pub is_duration : List ℕ → Bool
-is_duration word = str_eq_ignore_ascii_case (before_hash word) (codes "T") || str_eq_ignore_ascii_case (before_hash word) (codes "TIME")
+is_duration word = str_eq_ignore_ascii_case (before_hash word) (codes "T")
+    || str_eq_ignore_ascii_case (before_hash word) (codes "TIME")
 
 -- `T#` or `TIME#`, then parts
 unfoldable pub duration : List ℕ → Option ℕ

@@ -16,11 +16,13 @@ Each P (t ∷ ts) = P t × Each P ts
 
 -- the token's slice of the text is spelled by this token alone
 abbrev pub IsItsSlice : List ℕ → Token → Type 0
-IsItsSlice text t = IsSpelledBy (slice_range text t.start t.end) (record { kind = t.kind; start = 0; end = t.end - t.start } ∷ [])
+IsItsSlice text t =
+    IsSpelledBy (slice_range text t.start t.end) (record { kind = t.kind; start = 0; end = t.end - t.start } ∷ [])
 
 -- not both the byte before this place and the byte at it are characters of a word
 abbrev pub IsParted : List ℕ → ℕ → Type 0
-IsParted text at = 0 < at → is_word_character (slice_index text (at - 1)) && is_word_character (slice_index text at) ≡ false
+IsParted text at = 0 < at
+    → is_word_character (slice_index text (at - 1)) && is_word_character (slice_index text at) ≡ false
 
 -- no word goes on before the token or after it
 abbrev pub IsWhole : List ℕ → Token → Type 0

@@ -1,5 +1,6 @@
 -- Whole numbers and bit strings.
-use Rattle.std.specs.Prelude.{ℕ, ◌+◌, ◌*◌, ◌^◌, List, [], ◌∷◌, drop, Bool, true, false, not, ◌&&◌, ◌||◌, ◌==◌, nat_lt, if◌then◌else◌, Option, Some, None, length, codes}
+use Rattle.std.specs.Prelude.{ℕ, ◌+◌, ◌*◌, ◌^◌, List, [], ◌∷◌, drop, Bool, true, false, not, ◌&&◌, ◌||◌, ◌==◌, nat_lt}
+use Rattle.std.specs.Prelude.{if◌then◌else◌, Option, Some, None, length, codes}
 use Rattle.std.specs.List.{list_all, take_while}
 use Rattle.std.specs.Option.{option_map, option_or}
 use Rattle.std.specs.Char.{is_digit, digit_value}
@@ -23,7 +24,8 @@ starts_with_digit base (b ∷ bs) = is_digit b base
 
 -- digits of the base, with single underscores between digits
 abbrev pub is_numeral : ℕ → List ℕ → Bool
-is_numeral base word = starts_with_digit base word && is_spaced word && list_all (λ b. (b == 95) || is_digit b base) word
+is_numeral base word =
+    starts_with_digit base word && is_spaced word && list_all (λ b. (b == 95) || is_digit b base) word
 
 abbrev pub below : ℕ → ℕ → Option ℕ
 below limit n = if nat_lt n limit then Some n else None
@@ -62,7 +64,8 @@ is_whole sorts.Duration = false
 is_whole sorts.Truth = false
 
 abbrev pub with_type : Option Kind → Option ℕ → Option WholeNumber
-with_type (Some kind) (Some n) = if is_whole (row_of kind).sort then Some (record { written = Some kind; magnitude = n; is_decimal = false }) else None
+with_type (Some kind) (Some n) = if is_whole (row_of kind).sort
+    then Some (record { written = Some kind; magnitude = n; is_decimal = false }) else None
 with_type _ _ = None
 
 -- a whole-number or bit-string type's name, `#`, then a decimal or based literal
@@ -74,4 +77,5 @@ untyped is_decimal n = record { written = None; magnitude = n; is_decimal = is_d
 
 -- a decimal, based or typed literal
 unfoldable pub whole_number : List ℕ → Option WholeNumber
-whole_number word = option_or (option_map (untyped true) (numeral 10 word)) (option_or (option_map (untyped false) (based word)) (typed word))
+whole_number word = option_or (option_map (untyped true) (numeral 10 word))
+    (option_or (option_map (untyped false) (based word)) (typed word))

@@ -15,15 +15,19 @@ pub data Spells : ℕ → List ℕ → List Token → Type 0 where
   ends : {at : ℕ} {text : List ℕ} → front_of text ≡ fronts.End → Spells at text []
   blank : {at : ℕ} {text : List ℕ} {tokens : List Token} (n : ℕ) → front_of text ≡ fronts.Blank n
       → Spells (at + n) (drop n text) tokens → Spells at text tokens
-  token : {at : ℕ} {text : List ℕ} {tokens : List Token} (kind : TokenKind) (n : ℕ) → front_of text ≡ fronts.Token kind n
-      → Spells (at + n) (drop n text) tokens → Spells at text (record { kind = kind; start = at; end = at + n } ∷ tokens)
+  token : {at : ℕ} {text : List ℕ} {tokens : List Token} (kind : TokenKind) (n : ℕ)
+      → front_of text ≡ fronts.Token kind n
+      → Spells (at + n) (drop n text) tokens
+      → Spells at text (record { kind = kind; start = at; end = at + n } ∷ tokens)
 
 -- After some tokens there is a fault at a place.
 pub data Breaks : ℕ → List ℕ → LexFault → ℕ → Type 0 where
-  here : {at : ℕ} {text : List ℕ} {fault : LexFault} (n : ℕ) → front_of text ≡ fronts.Fault fault n → Breaks at text fault (at + n)
+  here : {at : ℕ} {text : List ℕ} {fault : LexFault} (n : ℕ) → front_of text ≡ fronts.Fault fault n
+      → Breaks at text fault (at + n)
   after_blank : {at : ℕ} {text : List ℕ} {fault : LexFault} {place : ℕ} (n : ℕ) → front_of text ≡ fronts.Blank n
       → Breaks (at + n) (drop n text) fault place → Breaks at text fault place
-  after_token : {at : ℕ} {text : List ℕ} {fault : LexFault} {place : ℕ} (kind : TokenKind) (n : ℕ) → front_of text ≡ fronts.Token kind n
+  after_token : {at : ℕ} {text : List ℕ} {fault : LexFault} {place : ℕ} (kind : TokenKind) (n : ℕ)
+      → front_of text ≡ fronts.Token kind n
       → Breaks (at + n) (drop n text) fault place → Breaks at text fault place
 
 -- A text that is not too long is spelled so.

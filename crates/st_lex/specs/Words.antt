@@ -1,5 +1,6 @@
 -- Words: the longest runs of letters, digits, `_` and `#`, each with a `%` directly before it where there is one.
-use Rattle.std.specs.Prelude.{ℕ, ◌+◌, List, [], ◌∷◌, length, map, Bool, false, ◌&&◌, ◌||◌, ◌==◌, nat_le, if◌then◌else◌, Option, Some, None}
+use Rattle.std.specs.Prelude.{ℕ, ◌+◌, List, [], ◌∷◌, length, map, Bool, false, ◌&&◌, ◌||◌, ◌==◌, nat_le, if◌then◌else◌}
+use Rattle.std.specs.Prelude.{Option, Some, None}
 use Rattle.std.specs.Option.{unwrap_or}
 use Rattle.std.specs.List.{list_any, prefix_len}
 use Rattle.std.specs.Char.{to_ascii_uppercase, is_ascii_digit}
@@ -20,7 +21,8 @@ with_percent n = if n == 0 then 0 else n + 1
 -- how many bytes the word in front has, 0 where there is none
 abbrev pub word_length : List ℕ → ℕ
 word_length [] = 0
-word_length (b ∷ bs) = if b == 37 then with_percent (prefix_len is_word_character bs) else prefix_len is_word_character (b ∷ bs)
+word_length (b ∷ bs) =
+    if b == 37 then with_percent (prefix_len is_word_character bs) else prefix_len is_word_character (b ∷ bs)
 
 abbrev pub upper : List ℕ → List ℕ
 upper word = map to_ascii_uppercase word
@@ -33,7 +35,8 @@ starts_with_decimal_digit (b ∷ bs) = is_ascii_digit b
 abbrev pub must_be_literal : List ℕ → Bool
 must_be_literal word = starts_with_decimal_digit word || list_any (λ b. (b == 35) || (b == 37)) word
 
--- of such a word that need not be a literal: at most 64 characters, without two underscores in a row and without a trailing one
+-- of such a word that need not be a literal: at most 64 characters, without two underscores in a row and without a
+-- trailing one
 abbrev pub is_identifier : List ℕ → Bool
 is_identifier word = nat_le (length word) MAX_NAME_LENGTH && is_spaced word
 

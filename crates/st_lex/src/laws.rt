@@ -1,4 +1,5 @@
-//! Laws of the tokens of a text, each proved of the definitions. The functions do nothing: their contracts are the laws.
+//! Laws of the tokens of a text, each proved of the definitions. The functions do nothing: their contracts are the
+//! laws.
 
 ghost use Rattle.std.specs.Prelude.{◌≡◌, ℕ, ◌≤◌, length, List, ◌⊎◌};
 ghost use Rattle.st_lex.specs.declared.token.Token.{Token};
@@ -9,9 +10,12 @@ ghost use Rattle.st_lex.specs.Laws.{IsSpelled, IsBroken, AreInOrder, Each, IsIts
 /// A text, however long, has either tokens or a first fault at a place, never both, and of neither two.
 pub fn a_text_is_read_in_one_way()
     ensures decided { (text : List ℕ) → IsSpelled 0 text ⊎ IsBroken 0 text }
-    ensures tokens { (text : List ℕ) (these those : List Token) → Spells 0 text these → Spells 0 text those → these ≡ those }
-    ensures fault { (text : List ℕ) (f g : LexFault) (p q : ℕ) → Breaks 0 text f p → Breaks 0 text g q → (f ≡ g) × (p ≡ q) }
-    ensures apart { (text : List ℕ) (tokens : List Token) (f : LexFault) (p : ℕ) → Spells 0 text tokens → Breaks 0 text f p → ⊥ }
+    ensures tokens { (text : List ℕ) (these those : List Token) → Spells 0 text these → Spells 0 text those
+        → these ≡ those }
+    ensures fault { (text : List ℕ) (f g : LexFault) (p q : ℕ) → Breaks 0 text f p → Breaks 0 text g q
+        → (f ≡ g) × (p ≡ q) }
+    ensures apart { (text : List ℕ) (tokens : List Token) (f : LexFault) (p : ℕ) → Spells 0 text tokens
+        → Breaks 0 text f p → ⊥ }
 {}
 
 /// Tokens have bytes, stand in order, do not overlap and lie within the text.

@@ -17,7 +17,8 @@ use Rattle.st_parse.specs.Configurations as c
 use Rattle.st_parse.specs.Sources.{IsElement, IsSource}
 use Rattle.st_parse.specs.Sources as s
 use Rattle.st_parse.specs.Depths.{TypeWithin, UnitWithin, ConfigurationWithin, ElementWithin, SourceWithin}
-use Rattle.st_parse.specs.SourceReading.{types_element_at, function_element_at, block_element_at, program_element_at, configuration_element_at, element_by, element_at, is_token, source_at}
+use Rattle.st_parse.specs.SourceReading.{types_element_at, function_element_at, block_element_at, program_element_at}
+use Rattle.st_parse.specs.SourceReading.{configuration_element_at, element_by, element_at, is_token, source_at}
 use Rattle.st_parse.proofs.AgainParts.{many_again, by_keyword_again}
 use Rattle.st_parse.proofs.AgainTypes.{types_again}
 use Rattle.st_parse.proofs.AgainUnits.{function_again, block_unit_again, program_again}
@@ -29,33 +30,47 @@ some_token [] us short = absurd (omega arith)
 some_token (t ∷ ts) us short = refl
 
 module _ (depth : ℕ) where
-  types_word : {ts us : Tokens} {xs : List TypeDeclaration} → IsTypes ts xs us → element_at depth ts ≡ types_element_at depth ts
+  types_word : {ts us : Tokens} {xs : List TypeDeclaration} → IsTypes ts xs us
+      → element_at depth ts ≡ types_element_at depth ts
   unfolding element_at
   types_word (types_block b i e) = by_keyword_again (element_by depth) w.Type b.1
 
-  configuration_word : {ts us : Tokens} {x : Configuration} → IsConfiguration ts x us → element_at depth ts ≡ configuration_element_at depth ts
+  configuration_word : {ts us : Tokens} {x : Configuration} → IsConfiguration ts x us
+      → element_at depth ts ≡ configuration_element_at depth ts
   unfolding element_at
   configuration_word (c.configuration x gs rs k n g r e q) = by_keyword_again (element_by depth) w.Configuration k.1
 
-  function_word : {ts us : Tokens} {at : ℕ} → Is (keyword w.Function) ts at us → (element_at depth ts ≡ function_element_at depth ts) × (next (is_keyword w.Function) ts ≡ true)
+  function_word : {ts us : Tokens} {at : ℕ} → Is (keyword w.Function) ts at us
+      → (element_at depth ts ≡ function_element_at depth ts) × (next (is_keyword w.Function) ts ≡ true)
   unfolding element_at same_keyword
-  function_word k = (by_keyword_again (element_by depth) w.Function k, keyword_head w.Function (is_keyword w.Function) k)
+  function_word k =
+      (by_keyword_again (element_by depth) w.Function k, keyword_head w.Function (is_keyword w.Function) k)
 
-  block_word : {ts us : Tokens} {at : ℕ} → Is (keyword w.FunctionBlock) ts at us → (element_at depth ts ≡ block_element_at depth ts) × (next (is_keyword w.FunctionBlock) ts ≡ true)
+  block_word : {ts us : Tokens} {at : ℕ} → Is (keyword w.FunctionBlock) ts at us
+      → (element_at depth ts ≡ block_element_at depth ts) × (next (is_keyword w.FunctionBlock) ts ≡ true)
   unfolding element_at same_keyword
-  block_word k = (by_keyword_again (element_by depth) w.FunctionBlock k, keyword_head w.FunctionBlock (is_keyword w.FunctionBlock) k)
+  block_word k = (
+    by_keyword_again (element_by depth) w.FunctionBlock k,
+    keyword_head w.FunctionBlock (is_keyword w.FunctionBlock) k,
+  )
 
-  program_word : {ts us : Tokens} {at : ℕ} → Is (keyword w.Program) ts at us → (element_at depth ts ≡ program_element_at depth ts) × (next (is_keyword w.Program) ts ≡ true)
+  program_word : {ts us : Tokens} {at : ℕ} → Is (keyword w.Program) ts at us
+      → (element_at depth ts ≡ program_element_at depth ts) × (next (is_keyword w.Program) ts ≡ true)
   unfolding element_at same_keyword
   program_word k = (by_keyword_again (element_by depth) w.Program k, keyword_head w.Program (is_keyword w.Program) k)
 
-  unit_again : {ts us : Tokens} {x : OrganisationUnit} → IsUnit ts x us → UnitWithin depth x → element_at depth ts ≡ Ok (e.unit x, us)
+  unit_again : {ts us : Tokens} {x : OrganisationUnit} → IsUnit ts x us → UnitWithin depth x
+      → element_at depth ts ≡ Ok (e.unit x, us)
   unfolding function_element_at block_element_at program_element_at
-  unit_again (u.function x r bs body k n c e b i f q) low = let word = function_word k.1 in word.0 ∙ rw (function_again depth (u.function x r bs body k n c e b i f q) low word.1) refl
-  unit_again (u.function_block x bs body k n b i f q) low = let word = block_word k.1 in word.0 ∙ rw (block_unit_again depth (u.function_block x bs body k n b i f q) low word.1) refl
-  unit_again (u.program x bs body k n b i f q) low = let word = program_word k.1 in word.0 ∙ rw (program_again depth (u.program x bs body k n b i f q) low word.1) refl
+  unit_again (u.function x r bs body k n c e b i f q) low = let word = function_word k.1 in
+      word.0 ∙ rw (function_again depth (u.function x r bs body k n c e b i f q) low word.1) refl
+  unit_again (u.function_block x bs body k n b i f q) low = let word = block_word k.1 in
+      word.0 ∙ rw (block_unit_again depth (u.function_block x bs body k n b i f q) low word.1) refl
+  unit_again (u.program x bs body k n b i f q) low = let word = program_word k.1 in
+      word.0 ∙ rw (program_again depth (u.program x bs body k n b i f q) low word.1) refl
 
-  element_again : {ts us : Tokens} {x : LibraryElement} → IsElement ts x us → ElementWithin depth x → element_at depth ts ≡ Ok (x, us)
+  element_again : {ts us : Tokens} {x : LibraryElement} → IsElement ts x us → ElementWithin depth x
+      → element_at depth ts ≡ Ok (x, us)
   unfolding types_element_at configuration_element_at
   element_again (s.types xs i q) low =
       let low' : AllByRecursion (TypeWithin depth) xs = subst (λ (z : LibraryElement). ElementWithin depth z) q low in
@@ -69,4 +84,6 @@ module _ (depth : ℕ) where
 
   pub source_again : {ts : Tokens} {x : Source} → IsSource ts x → SourceWithin depth x → source_at depth ts ≡ Ok (x, [])
   unfolding source_at
-  source_again i low = many_again is_token (element_at depth) IsElement (ElementWithin depth) (λ ts x us o l. element_again o l) (λ ts x us o. some_token ts us (element_less ts x us o)) element_less i low refl
+  source_again i low =
+      many_again is_token (element_at depth) IsElement (ElementWithin depth) (λ ts x us o l. element_again o l)
+      (λ ts x us o. some_token ts us (element_less ts x us o)) element_less i low refl

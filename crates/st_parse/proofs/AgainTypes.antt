@@ -11,14 +11,18 @@ use Rattle.st_trees.specs.declared.data_type.VariableType.{VariableType}
 use Rattle.st_trees.specs.Initials.{Initial}
 use Rattle.st_trees.specs.Depths.{depth_of_initial}
 use Rattle.st_trees.specs.Declarations.{Field, TypeDefinition, TypeDeclaration}
-use Rattle.st_statements.specs.Tokens.{Tokens, next, Is, is, mark, keyword, is_mark, is_keyword, is_name, Passes, same_mark, same_keyword}
+use Rattle.st_statements.specs.Tokens.{Tokens, next, Is, is, mark, keyword, is_mark, is_keyword, is_name, Passes}
+use Rattle.st_statements.specs.Tokens.{same_mark, same_keyword}
 use Rattle.st_statements.proofs.Again.{one_again, mark_head, keyword_head, name_head, number_again}
 use Rattle.st_statements.proofs.AgainInitials.{initial_again}
 use Rattle.st_parse.specs.Lists.{Optional, absent, present, Several}
-use Rattle.st_parse.specs.Types.{simple, simple_in, IsArray, IsType, plain, IsGiven, given, IsField, field, IsDefinition, structure, IsTypeDeclaration, declared, IsTypes, block}
+use Rattle.st_parse.specs.Types.{simple, simple_in, IsArray, IsType, plain, IsGiven, given, IsField, field}
+use Rattle.st_parse.specs.Types.{IsDefinition, structure, IsTypeDeclaration, declared, IsTypes, block}
 use Rattle.st_parse.specs.Types as t
 use Rattle.st_parse.specs.Depths.{ValueWithin, FieldWithin, DefinitionWithin, TypeWithin}
-use Rattle.st_parse.specs.TypeReading.{array_at, array_type_at, simple_type_at, type_at, given_at, given_or_not, field_at, fields_at, structure_at, array_definition_at, definition_at, type_declaration_at, type_declarations_at, types_at}
+use Rattle.st_parse.specs.TypeReading.{array_at, array_type_at, simple_type_at, type_at, given_at, given_or_not}
+use Rattle.st_parse.specs.TypeReading.{field_at, fields_at, structure_at, array_definition_at, definition_at}
+use Rattle.st_parse.specs.TypeReading.{type_declaration_at, type_declarations_at, types_at}
 use Rattle.st_parse.proofs.AgainParts.{at_least_one_again, optional_none, optional_some}
 use Rattle.st_parse.proofs.Shorter.{field_less, type_declaration_less}
 
@@ -36,7 +40,17 @@ array_head (t.array at l h x k b n r j e o i q) = keyword_head w.Array (is_keywo
 
 array_again : {ts us : Tokens} {a : ArrayType} → IsArray ts a us → array_at ts ≡ Ok (a, us)
 unfolding array_at
-array_again (t.array at l h x k b n r j e o i q) = rw (one_again k, one_again b.1, number_again n, one_again r.1, number_again j, one_again e.1, one_again o.1, one_again i, q) refl
+array_again (t.array at l h x k b n r j e o i q) = rw (
+  one_again k,
+  one_again b.1,
+  number_again n,
+  one_again r.1,
+  number_again j,
+  one_again e.1,
+  one_again o.1,
+  one_again i,
+  q,
+) refl
 
 pub type_again : {ts us : Tokens} {x : VariableType} → IsType ts x us → type_at ts ≡ Ok (x, us)
 unfolding type_at array_type_at simple_type_at
@@ -48,14 +62,18 @@ unfolding same_mark
 given_head (given a i) = mark_head m.Assign (is_mark m.Assign) a.1
 
 module _ (depth : ℕ) where
-  given_again : {ts us : Tokens} {v : Initial} → IsGiven ts v us → depth_of_initial v ≤ depth → given_at depth ts ≡ Ok (v, us)
+  given_again : {ts us : Tokens} {v : Initial} → IsGiven ts v us → depth_of_initial v ≤ depth
+      → given_at depth ts ≡ Ok (v, us)
   unfolding given_at
   given_again (given a i) low = rw (one_again a.1) (initial_again i depth low)
 
-  pub given_or_not_again : {ts us vs : Tokens} {o : Option Initial} → Optional IsGiven ts o us → Passes (mark m.Semicolon) us vs → ValueWithin depth o → given_or_not depth ts ≡ Ok (o, us)
+  pub given_or_not_again : {ts us vs : Tokens} {o : Option Initial} → Optional IsGiven ts o us
+      → Passes (mark m.Semicolon) us vs → ValueWithin depth o → given_or_not depth ts ≡ Ok (o, us)
   unfolding given_or_not same_mark
-  given_or_not_again (absent {ts}) s low = optional_none (is_mark m.Assign) (given_at depth) ts (mark_head m.Semicolon (is_mark m.Assign) s.1)
-  given_or_not_again (present i) s low = optional_some (is_mark m.Assign) (given_at depth) (given_head i) (given_again i low)
+  given_or_not_again (absent {ts}) s low =
+      optional_none (is_mark m.Assign) (given_at depth) ts (mark_head m.Semicolon (is_mark m.Assign) s.1)
+  given_or_not_again (present i) s low =
+      optional_some (is_mark m.Assign) (given_at depth) (given_head i) (given_again i low)
 
   field_again : {ts us : Tokens} {f : Field} → IsField ts f us → FieldWithin depth f → field_at depth ts ≡ Ok (f, us)
   unfolding field_at
@@ -66,22 +84,28 @@ module _ (depth : ℕ) where
   field_head : {ts us : Tokens} {f : Field} → IsField ts f us → next is_name ts ≡ true
   field_head (field x t v n c i g s q) = name_head is_name n
 
-  fields_again : {ts us vs : Tokens} {fs : List Field} → Several IsField ts fs us → Passes (keyword w.EndStruct) us vs → AllByRecursion (FieldWithin depth) fs → fields_at depth ts ≡ Ok (fs, us)
+  fields_again : {ts us vs : Tokens} {fs : List Field} → Several IsField ts fs us → Passes (keyword w.EndStruct) us vs
+      → AllByRecursion (FieldWithin depth) fs → fields_at depth ts ≡ Ok (fs, us)
   unfolding fields_at
-  fields_again i e low = at_least_one_again is_name (field_at depth) IsField (FieldWithin depth) (λ ts x us o l. field_again o l) (λ ts x us o. field_head o) field_less i low (keyword_head w.EndStruct is_name e.1)
+  fields_again i e low =
+      at_least_one_again is_name (field_at depth) IsField (FieldWithin depth) (λ ts x us o l. field_again o l)
+      (λ ts x us o. field_head o) field_less i low (keyword_head w.EndStruct is_name e.1)
 
   structure_head : {ts us : Tokens} → Passes (keyword w.Struct) ts us → next (is_keyword w.Array) ts ≡ false
   unfolding same_keyword
   structure_head s = keyword_head w.Struct (is_keyword w.Array) s.1
 
-  definition_again : {ts us : Tokens} {x : TypeDefinition} → IsDefinition ts x us → DefinitionWithin depth x → definition_at depth ts ≡ Ok (x, us)
+  definition_again : {ts us : Tokens} {x : TypeDefinition} → IsDefinition ts x us → DefinitionWithin depth x
+      → definition_at depth ts ≡ Ok (x, us)
   unfolding definition_at array_definition_at structure_at
   definition_again (t.array a i q) low = rw (array_head i, array_again i, q) refl
   definition_again (structure fs s i e q) low =
-      let low' : AllByRecursion (FieldWithin depth) fs = subst (λ (z : TypeDefinition). DefinitionWithin depth z) q low in
+      let low' : AllByRecursion (FieldWithin depth) fs =
+      subst (λ (z : TypeDefinition). DefinitionWithin depth z) q low in
       rw (structure_head s, one_again s.1, fields_again i e low', one_again e.1, q) refl
 
-  type_declaration_again : {ts us : Tokens} {x : TypeDeclaration} → IsTypeDeclaration ts x us → TypeWithin depth x → type_declaration_at depth ts ≡ Ok (x, us)
+  type_declaration_again : {ts us : Tokens} {x : TypeDeclaration} → IsTypeDeclaration ts x us → TypeWithin depth x
+      → type_declaration_at depth ts ≡ Ok (x, us)
   unfolding type_declaration_at
   type_declaration_again (declared x y n c i s q) low =
       let low' : DefinitionWithin depth y = subst (λ (z : TypeDeclaration). TypeWithin depth z) q low in
@@ -90,10 +114,15 @@ module _ (depth : ℕ) where
   type_declaration_head : {ts us : Tokens} {x : TypeDeclaration} → IsTypeDeclaration ts x us → next is_name ts ≡ true
   type_declaration_head (declared x y n c i s q) = name_head is_name n
 
-  type_declarations_again : {ts us vs : Tokens} {xs : List TypeDeclaration} → Several IsTypeDeclaration ts xs us → Passes (keyword w.EndType) us vs → AllByRecursion (TypeWithin depth) xs → type_declarations_at depth ts ≡ Ok (xs, us)
+  type_declarations_again : {ts us vs : Tokens} {xs : List TypeDeclaration} → Several IsTypeDeclaration ts xs us
+      → Passes (keyword w.EndType) us vs → AllByRecursion (TypeWithin depth) xs
+      → type_declarations_at depth ts ≡ Ok (xs, us)
   unfolding type_declarations_at
-  type_declarations_again i e low = at_least_one_again is_name (type_declaration_at depth) IsTypeDeclaration (TypeWithin depth) (λ ts x us o l. type_declaration_again o l) (λ ts x us o. type_declaration_head o) type_declaration_less i low (keyword_head w.EndType is_name e.1)
+  type_declarations_again i e low = at_least_one_again is_name (type_declaration_at depth) IsTypeDeclaration
+      (TypeWithin depth) (λ ts x us o l. type_declaration_again o l) (λ ts x us o. type_declaration_head o)
+      type_declaration_less i low (keyword_head w.EndType is_name e.1)
 
-  pub types_again : {ts us : Tokens} {xs : List TypeDeclaration} → IsTypes ts xs us → AllByRecursion (TypeWithin depth) xs → types_at depth ts ≡ Ok (xs, us)
+  pub types_again : {ts us : Tokens} {xs : List TypeDeclaration} → IsTypes ts xs us
+      → AllByRecursion (TypeWithin depth) xs → types_at depth ts ≡ Ok (xs, us)
   unfolding types_at
   types_again (block b i e) low = rw (one_again b.1, type_declarations_again i e low, one_again e.1) refl

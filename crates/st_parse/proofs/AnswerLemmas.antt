@@ -1,5 +1,6 @@
 -- From what reading tells to what parsing answers.
-use Rattle.std.proofs.Common.{◌≡◌, ℕ, ◌+◌, ◌-◌, false, [], ◌∷◌, ◌++◌, length, drop, Ok, Err, refl, sym, ap, subst, ◌∙◌, arith}
+use Rattle.std.proofs.Common.{◌≡◌, ℕ, ◌+◌, ◌-◌, false, [], ◌∷◌, ◌++◌, length, drop, Ok, Err, refl, sym, ap, subst, ◌∙◌}
+use Rattle.std.proofs.Common.{arith}
 use Rattle.std.proofs.lemmas.List.{append-nil, length-append}
 use Rattle.std.proofs.Math.Seq.{drop-append_seam}
 use Rattle.st_words.specs.declared.limits.TheConstants.{MAX_DEPTH}
@@ -26,20 +27,23 @@ use Rattle.st_parse.proofs.Bounds.{bounded_source}
 begun : (front : Tokens) → Begins (Many IsElement) front → BeginsSource front
 begun front b = record { more = b.more ++ []; source = b.tree; whole = b.whole [] }
 
-told : (ts : Tokens) → Told (λ n. source_at (MAX_DEPTH + n)) (Many IsElement) (λ xs us. SourceWithin MAX_DEPTH xs × (next is_token us ≡ false)) ts (source_at (MAX_DEPTH + 0) ts)
+told : (ts : Tokens) → Told (λ n. source_at (MAX_DEPTH + n)) (Many IsElement)
+    (λ xs us. SourceWithin MAX_DEPTH xs × (next is_token us ≡ false)) ts (source_at (MAX_DEPTH + 0) ts)
 told = told_by (reads_source MAX_DEPTH)
 
 no_tokens : (us : Tokens) → next is_token us ≡ false → us ≡ []
 no_tokens [] eq = refl
 no_tokens (t ∷ us) eq = absurd cc
 
-kept_source : (ts us : Tokens) (x : Source) → Kept (λ n. source_at (MAX_DEPTH + n)) (Many IsElement) (λ xs us. SourceWithin MAX_DEPTH xs × (next is_token us ≡ false)) ts x us → IsSource ts x × SourceWithin MAX_DEPTH x
+kept_source : (ts us : Tokens) (x : Source) → Kept (λ n. source_at (MAX_DEPTH + n)) (Many IsElement)
+    (λ xs us. SourceWithin MAX_DEPTH xs × (next is_token us ≡ false)) ts x us → IsSource ts x × SourceWithin MAX_DEPTH x
 kept_source ts us x k =
     let none = no_tokens us k.low.1 in
     let parts : ts ≡ k.front ++ [] = k.parts ∙ ap (λ (vs : Tokens). k.front ++ vs) none in
     (subst (λ (zs : Tokens). IsSource zs x) (sym parts) (k.is []), k.low.0)
 
-lost_place : (ts : Tokens) (n : ℕ) → Lost (λ k. source_at (MAX_DEPTH + k)) (Many IsElement) ts n → (front : Tokens) × (rest : Tokens) × (ts ≡ front ++ rest) × (length rest ≡ n) × IsUnexpectedAt ts (place_behind front rest)
+lost_place : (ts : Tokens) (n : ℕ) → Lost (λ k. source_at (MAX_DEPTH + k)) (Many IsElement) ts n → (front : Tokens)
+    × (rest : Tokens) × (ts ≡ front ++ rest) × (length rest ≡ n) × IsUnexpectedAt ts (place_behind front rest)
 lost_place ts n l = (
   l.front,
   l.rest,
@@ -69,22 +73,29 @@ sunk_deep ts l = record {
   none = λ more source i low. let read = source_again MAX_DEPTH i low in let refused = l.again more in absurd cc;
 }
 
-told_as : (ts : Tokens) (r : Outcome Source) → source_at MAX_DEPTH ts ≡ r → Told (λ n. source_at (MAX_DEPTH + n)) (Many IsElement) (λ xs us. SourceWithin MAX_DEPTH xs × (next is_token us ≡ false)) ts r
-told_as ts r eq = subst (λ (z : Outcome Source). Told (λ n. source_at (MAX_DEPTH + n)) (Many IsElement) (λ xs us. SourceWithin MAX_DEPTH xs × (next is_token us ≡ false)) ts z) eq (told ts)
+told_as : (ts : Tokens) (r : Outcome Source) → source_at MAX_DEPTH ts ≡ r → Told (λ n. source_at (MAX_DEPTH + n))
+    (Many IsElement) (λ xs us. SourceWithin MAX_DEPTH xs × (next is_token us ≡ false)) ts r
+told_as ts r eq = subst (λ (z : Outcome Source). Told (λ n. source_at (MAX_DEPTH + n)) (Many IsElement)
+    (λ xs us. SourceWithin MAX_DEPTH xs × (next is_token us ≡ false)) ts z) eq (told ts)
 
-pub found_source : (ts us : Tokens) (x : Source) → source_at MAX_DEPTH ts ≡ Ok (x, us) → IsSource ts x × SourceWithin MAX_DEPTH x
+pub found_source : (ts us : Tokens) (x : Source) → source_at MAX_DEPTH ts ≡ Ok (x, us)
+    → IsSource ts x × SourceWithin MAX_DEPTH x
 found_source ts us x eq = kept_source ts us x (told_as ts (Ok (x, us)) eq)
 
-pub unexpected : (ts : Tokens) (n : ℕ) → source_at MAX_DEPTH ts ≡ Err (Unexpected n) → (front : Tokens) × (rest : Tokens) × (ts ≡ front ++ rest) × (length rest ≡ n) × IsUnexpectedAt ts (place_behind front rest)
+pub unexpected : (ts : Tokens) (n : ℕ) → source_at MAX_DEPTH ts ≡ Err (Unexpected n) → (front : Tokens)
+    × (rest : Tokens) × (ts ≡ front ++ rest) × (length rest ≡ n) × IsUnexpectedAt ts (place_behind front rest)
 unexpected ts n eq = lost_place ts n (told_as ts (Err (Unexpected n)) eq)
 
 pub deep_source : (ts : Tokens) → source_at MAX_DEPTH ts ≡ Err Deep → IsTooDeep ts
 deep_source ts eq = sunk_deep ts (told_as ts (Err Deep) eq)
 
-pub only_ok : (ts us : Tokens) (x source : Source) → source_at MAX_DEPTH ts ≡ Ok (x, us) → IsSource ts source → SourceWithin MAX_DEPTH source → x ≡ source
-only_ok ts us x source eq i low = let read = source_again MAX_DEPTH i low in let both : (x, us) ≡ (source, []) = cc in ap (λ (p : Source × Tokens). p.0) both
+pub only_ok : (ts us : Tokens) (x source : Source) → source_at MAX_DEPTH ts ≡ Ok (x, us) → IsSource ts source
+    → SourceWithin MAX_DEPTH source → x ≡ source
+only_ok ts us x source eq i low = let read = source_again MAX_DEPTH i low in let both : (x, us) ≡ (source, []) = cc in
+    ap (λ (p : Source × Tokens). p.0) both
 
-pub never_refused : (ts : Tokens) (r : Refusal) (source : Source) → source_at MAX_DEPTH ts ≡ Err r → IsSource ts source → SourceWithin MAX_DEPTH source → ⊥
+pub never_refused : (ts : Tokens) (r : Refusal) (source : Source) → source_at MAX_DEPTH ts ≡ Err r → IsSource ts source
+    → SourceWithin MAX_DEPTH source → ⊥
 never_refused ts r source eq i low = let read = source_again MAX_DEPTH i low in absurd cc
 
 -- ---- places
@@ -99,8 +110,10 @@ start_is : (front rest : Tokens) → start_of (end_of 0 (front ++ rest)) rest �
 start_is front [] = ap (λ (ts : Tokens). end_of 0 ts) (append-nil front)
 start_is front (t ∷ rest) = refl
 
-place_is : (ts front rest : Tokens) (n : ℕ) → ts ≡ front ++ rest → length rest ≡ n → place_left ts n ≡ place_behind front rest
-place_is ts front rest n parts count = rw (parts, sym count) (ap (λ (us : Tokens). start_of (end_of 0 (front ++ rest)) us) (rest_is front rest) ∙ start_is front rest)
+place_is : (ts front rest : Tokens) (n : ℕ) → ts ≡ front ++ rest → length rest ≡ n
+    → place_left ts n ≡ place_behind front rest
+place_is ts front rest n parts count = rw (parts, sym count)
+    (ap (λ (us : Tokens). start_of (end_of 0 (front ++ rest)) us) (rest_is front rest) ∙ start_is front rest)
 
 -- ---- answers
 
@@ -111,7 +124,8 @@ error_told ts (errors.Refused (Unexpected n)) f =
     let l = unexpected ts n f in
     subst (λ (place : ℕ). IsUnexpectedAt ts place) (sym (place_is ts l.0 l.1 n l.2 l.3)) l.4
 
-pub error_only : (ts : Tokens) (e : ReadError) (source : Source) → Fails e (source_at MAX_DEPTH ts) → IsSource ts source → SourceWithin MAX_DEPTH source → Answers source (Err (parse_error ts e))
+pub error_only : (ts : Tokens) (e : ReadError) (source : Source) → Fails e (source_at MAX_DEPTH ts) → IsSource ts source
+    → SourceWithin MAX_DEPTH source → Answers source (Err (parse_error ts e))
 error_only ts errors.Memory source f i low = tt
 error_only ts (errors.Refused Deep) source f i low = never_refused ts Deep source f i low
 error_only ts (errors.Refused (Unexpected n)) source f i low = never_refused ts (Unexpected n) source f i low

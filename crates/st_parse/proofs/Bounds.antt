@@ -6,7 +6,9 @@ use Rattle.st_trees.specs.Statements.{stmts_of}
 use Rattle.st_trees.specs.Declarations.{TypeDefinition, array, structure}
 use Rattle.st_trees.specs.Sources.{LibraryElement, types, unit, configuration}
 use Rattle.st_trees.specs.Depths.{depth_of_initial, deepest_stmt}
-use Rattle.st_parse.specs.Depths.{ValueWithin, FieldWithin, DefinitionWithin, TypeWithin, DeclarationWithin, BlockWithin, UnitWithin, GlobalWithin, GlobalBlockWithin, ConfigurationWithin, ElementWithin, SourceWithin}
+use Rattle.st_parse.specs.Depths.{ValueWithin, FieldWithin, DefinitionWithin, TypeWithin, DeclarationWithin}
+use Rattle.st_parse.specs.Depths.{BlockWithin, UnitWithin, GlobalWithin, GlobalBlockWithin, ConfigurationWithin}
+use Rattle.st_parse.specs.Depths.{ElementWithin, SourceWithin}
 
 -- what is within a depth is within each greater one, and each is within some
 pub record Bounded {A : Type 0} (W : ℕ → A → Type 0) : Type 0 where
@@ -22,7 +24,13 @@ bounded_all W b = record { deeper = deeper; bound = bound }
 
     bound : (xs : List _) → (d : ℕ) × AllByRecursion (W d) xs
     bound [] = (0, tt)
-    bound (x ∷ xs) = let one = b.bound x in let others = bound xs in (one.0 + others.0, (b.deeper one.0 (one.0 + others.0) x (omega arith) one.1, deeper others.0 (one.0 + others.0) xs (omega arith) others.1))
+    bound (x ∷ xs) = let one = b.bound x in let others = bound xs in (
+      one.0 + others.0,
+      (
+        b.deeper one.0 (one.0 + others.0) x (omega arith) one.1,
+        deeper others.0 (one.0 + others.0) xs (omega arith) others.1,
+      ),
+    )
 
 bounded_value : Bounded ValueWithin
 bounded_value = record { deeper = deeper; bound = bound }
@@ -36,7 +44,8 @@ bounded_value = record { deeper = deeper; bound = bound }
     bound (Some v) = (depth_of_initial v, omega arith)
 
 bounded_field : Bounded FieldWithin
-bounded_field = record { deeper = λ d d' f. bounded_value.deeper d d' f.initial; bound = λ f. bounded_value.bound f.initial }
+bounded_field =
+    record { deeper = λ d d' f. bounded_value.deeper d d' f.initial; bound = λ f. bounded_value.bound f.initial }
 
 bounded_definition : Bounded DefinitionWithin
 bounded_definition = record { deeper = deeper; bound = bound }
@@ -50,28 +59,55 @@ bounded_definition = record { deeper = deeper; bound = bound }
     bound (structure fs) = (bounded_all FieldWithin bounded_field).bound fs
 
 bounded_type : Bounded TypeWithin
-bounded_type = record { deeper = λ d d' t. bounded_definition.deeper d d' t.definition; bound = λ t. bounded_definition.bound t.definition }
+bounded_type = record {
+  deeper =
+      λ d d' t. bounded_definition.deeper d d' t.definition;
+  bound = λ t. bounded_definition.bound t.definition;
+}
 
 bounded_declaration : Bounded DeclarationWithin
-bounded_declaration = record { deeper = λ d d' x. bounded_value.deeper d d' x.initial; bound = λ x. bounded_value.bound x.initial }
+bounded_declaration =
+    record { deeper = λ d d' x. bounded_value.deeper d d' x.initial; bound = λ x. bounded_value.bound x.initial }
 
 bounded_block : Bounded BlockWithin
-bounded_block = record { deeper = λ d d' x. (bounded_all DeclarationWithin bounded_declaration).deeper d d' x.declarations; bound = λ x. (bounded_all DeclarationWithin bounded_declaration).bound x.declarations }
+bounded_block =
+    record {
+      deeper = λ d d' x. (bounded_all DeclarationWithin bounded_declaration).deeper d d' x.declarations;
+      bound =
+          λ x. (bounded_all DeclarationWithin bounded_declaration).bound x.declarations;
+    }
 
 bounded_unit : Bounded UnitWithin
 bounded_unit = record {
-  deeper = λ d d' u le w. ((bounded_all BlockWithin bounded_block).deeper d d' u.blocks le w.0, (let low = w.1 in omega arith));
-  bound = λ u. let blocks = (bounded_all BlockWithin bounded_block).bound u.blocks in (blocks.0 + deepest_stmt (stmts_of u.body), ((bounded_all BlockWithin bounded_block).deeper blocks.0 (blocks.0 + deepest_stmt (stmts_of u.body)) u.blocks (omega arith) blocks.1, omega arith));
+  deeper = λ d d' u le w.
+      ((bounded_all BlockWithin bounded_block).deeper d d' u.blocks le w.0, (let low = w.1 in omega arith));
+  bound = λ u. let blocks = (bounded_all BlockWithin bounded_block).bound u.blocks in (
+    blocks.0 + deepest_stmt (stmts_of u.body),
+    (
+      (bounded_all BlockWithin bounded_block).deeper blocks.0
+          (blocks.0 + deepest_stmt (stmts_of u.body)) u.blocks (omega arith) blocks.1,
+      omega arith,
+    ),
+  );
 }
 
 bounded_global : Bounded GlobalWithin
-bounded_global = record { deeper = λ d d' x. bounded_value.deeper d d' x.initial; bound = λ x. bounded_value.bound x.initial }
+bounded_global =
+    record { deeper = λ d d' x. bounded_value.deeper d d' x.initial; bound = λ x. bounded_value.bound x.initial }
 
 bounded_global_block : Bounded GlobalBlockWithin
-bounded_global_block = record { deeper = λ d d' x. (bounded_all GlobalWithin bounded_global).deeper d d' x.declarations; bound = λ x. (bounded_all GlobalWithin bounded_global).bound x.declarations }
+bounded_global_block = record {
+  deeper = λ d d' x. (bounded_all GlobalWithin bounded_global).deeper d d' x.declarations;
+  bound = λ x. (bounded_all GlobalWithin bounded_global).bound x.declarations;
+}
 
 bounded_configuration : Bounded ConfigurationWithin
-bounded_configuration = record { deeper = λ d d' x. (bounded_all GlobalBlockWithin bounded_global_block).deeper d d' x.globals; bound = λ x. (bounded_all GlobalBlockWithin bounded_global_block).bound x.globals }
+bounded_configuration =
+    record {
+      deeper = λ d d' x. (bounded_all GlobalBlockWithin bounded_global_block).deeper d d' x.globals;
+      bound =
+          λ x. (bounded_all GlobalBlockWithin bounded_global_block).bound x.globals;
+    }
 
 bounded_element : Bounded ElementWithin
 bounded_element = record { deeper = deeper; bound = bound }

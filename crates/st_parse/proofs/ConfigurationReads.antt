@@ -10,17 +10,22 @@ use Rattle.st_trees.specs.declared.configuration.AddressWidth.TheVariants.{Bit}
 use Rattle.st_trees.specs.declared.configuration.GlobalQualifier.TheVariants as qualifiers
 use Rattle.st_trees.specs.declared.configuration.Task.{Task}
 use Rattle.st_trees.specs.declared.configuration.Instance.{Instance}
-use Rattle.st_trees.specs.Configurations.{GlobalNames, located, listed, GlobalDeclaration, GlobalBlock, Resource, Configuration}
+use Rattle.st_trees.specs.Configurations.{GlobalNames, located, listed, GlobalDeclaration, GlobalBlock, Resource}
+use Rattle.st_trees.specs.Configurations.{Configuration}
 use Rattle.st_statements.specs.Tokens.{Tokens, Is, mark, keyword, name, is_keyword, is_name}
 use Rattle.st_statements.specs.Parsers.{one}
 use Rattle.st_statements.proofs.Told.{Any, Seq, Made, made}
-use Rattle.st_statements.proofs.Readings.{Reads, reads_then, reads_pure, reads_as, reads_if, reads_one, reads_mark, reads_keyword, reads_name, token_of}
+use Rattle.st_statements.proofs.Readings.{Reads, reads_then, reads_pure, reads_as, reads_if, reads_one, reads_mark}
+use Rattle.st_statements.proofs.Readings.{reads_keyword, reads_name, token_of}
 use Rattle.st_parse.specs.Lists.{Many, Several, Optional}
 use Rattle.st_parse.specs.Types.{IsType, IsGiven}
-use Rattle.st_parse.specs.Configurations.{qualifier, address, duration, decimal, IsGlobalNames, IsGlobal, IsGlobalBlock, IsSingle, IsInterval, IsTask, IsWith, IsInstance, IsResource, IsConfiguration}
+use Rattle.st_parse.specs.Configurations.{qualifier, address, duration, decimal, IsGlobalNames, IsGlobal, IsGlobalBlock}
+use Rattle.st_parse.specs.Configurations.{IsSingle, IsInterval, IsTask, IsWith, IsInstance, IsResource, IsConfiguration}
 use Rattle.st_parse.specs.Configurations as c
 use Rattle.st_parse.specs.Depths.{GlobalWithin, GlobalBlockWithin, ConfigurationWithin}
-use Rattle.st_parse.specs.ConfigurationReading.{located_of, listed_of, global_names_at, global_at, is_qualifier, global_block_at, single_at, interval_at, task_at, with_at, instance_at, resource_at, configuration_at}
+use Rattle.st_parse.specs.ConfigurationReading.{located_of, listed_of, global_names_at, global_at, is_qualifier}
+use Rattle.st_parse.specs.ConfigurationReading.{global_block_at, single_at, interval_at, task_at, with_at, instance_at}
+use Rattle.st_parse.specs.ConfigurationReading.{resource_at, configuration_at}
 use Rattle.st_parse.proofs.Parts.{reads_many, reads_at_least_one, reads_optional, reads_names_behind, ListedFrom}
 use Rattle.st_parse.proofs.Shorter.{global_less, global_block_less, task_less, instance_less, resource_less}
 use Rattle.st_parse.proofs.TypeReads.{reads_type, reads_given_or_not}
@@ -30,10 +35,12 @@ use Rattle.st_parse.proofs.TypeReads.{reads_type, reads_given_or_not}
 abbrev AfterName : Identifier → Tokens → GlobalNames → Tokens → Type 0
 AfterName x us n vs = (ts : Tokens) → Is name ts x us → IsGlobalNames ts n vs
 
-is_located : (x : Identifier) (us : Tokens) (n : GlobalNames) (vs : Tokens) → Seq (Is (keyword w.At)) (λ at. Seq (Is address) (λ a. Made (located x a))) us n vs → AfterName x us n vs
+is_located : (x : Identifier) (us : Tokens) (n : GlobalNames) (vs : Tokens)
+    → Seq (Is (keyword w.At)) (λ at. Seq (Is address) (λ a. Made (located x a))) us n vs → AfterName x us n vs
 is_located x us n vs (at, t1, k, (a, t2, i, made eq)) ts s = c.located x a s (at, k) i eq
 
-is_listed : (x : Identifier) (us : Tokens) (n : GlobalNames) (vs : Tokens) → Seq (ListedFrom x) (λ xs. Made (listed xs)) us n vs → AfterName x us n vs
+is_listed : (x : Identifier) (us : Tokens) (n : GlobalNames) (vs : Tokens)
+    → Seq (ListedFrom x) (λ xs. Made (listed xs)) us n vs → AfterName x us n vs
 is_listed x us n vs (xs, t1, k, made eq) ts s = c.listed xs (k ts s) eq
 
 an_address : AddressLeaf
@@ -41,95 +48,172 @@ an_address = record { direction = Input; width = Bit; number = 0 }
 
 reads_global_names : {C : Type 0} → Reads C (λ e. global_names_at) IsGlobalNames Any
 unfolding global_names_at located_of listed_of
-reads_global_names = reads_as (λ ts n us p. p.3 ts p.2) (λ x us d. d) (reads_then reads_name (λ x. reads_if (is_keyword w.At)
-    (reads_as (is_located x) (λ x us d. d) (reads_then (reads_keyword w.At) (λ at. reads_then (reads_one address (token_of (Address an_address)) an_address refl) (λ a. reads_pure (located x a) Any (λ c us. tt)))))
-    (reads_as (is_listed x) (λ x us d. d) (reads_then (reads_names_behind x) (λ xs. reads_pure (listed xs) Any (λ c us. tt))))))
+reads_global_names =
+    reads_as (λ ts n us p. p.3 ts p.2) (λ x us d. d) (reads_then reads_name (λ x. reads_if (is_keyword w.At)
+    (reads_as (is_located x) (λ x us d. d) (reads_then (reads_keyword w.At) (λ at. reads_then (reads_one address
+    (token_of (Address an_address)) an_address refl) (λ a. reads_pure (located x a) Any (λ c us. tt)))))
+    (reads_as (is_listed x) (λ x us d. d)
+    (reads_then (reads_names_behind x) (λ xs. reads_pure (listed xs) Any (λ c us. tt))))))
 
 is_global : (ts : Tokens) (g : GlobalDeclaration) (us : Tokens)
-    → Seq IsGlobalNames (λ ns. Seq (Is (mark m.Colon)) (λ c. Seq IsType (λ t. Seq (Optional IsGiven) (λ v. Seq (Is (mark m.Semicolon)) (λ s. Made (record { names = ns; declared = t; initial = v })))))) ts g us → IsGlobal ts g us
-is_global ts g us (ns, t1, n, (k, t2, i, (t, t3, j, (v, t4, o, (s, t5, e, made eq))))) = c.global ns t v n (k, i) j o (s, e) eq
+    → Seq IsGlobalNames (λ ns. Seq (Is (mark m.Colon)) (λ c. Seq IsType (λ t. Seq (Optional IsGiven)
+    (λ v. Seq (Is (mark m.Semicolon)) (λ s. Made (record { names = ns; declared = t; initial = v })))))) ts g us
+    → IsGlobal ts g us
+is_global ts g us (ns, t1, n, (k, t2, i, (t, t3, j, (v, t4, o, (s, t5, e, made eq))))) =
+    c.global ns t v n (k, i) j o (s, e) eq
 
 is_global_block : (ts : Tokens) (b : GlobalBlock) (us : Tokens)
-    → Seq (Is (keyword w.VarGlobal)) (λ k. Seq (Optional (Is qualifier)) (λ q. Seq (Many IsGlobal) (λ ds. Seq (Is (keyword w.EndVar)) (λ e. Made (record { qualifier = q; declarations = ds }))))) ts b us → IsGlobalBlock ts b us
+    → Seq (Is (keyword w.VarGlobal)) (λ k. Seq (Optional (Is qualifier)) (λ q. Seq (Many IsGlobal)
+    (λ ds. Seq (Is (keyword w.EndVar)) (λ e. Made (record { qualifier = q; declarations = ds }))))) ts b us
+    → IsGlobalBlock ts b us
 is_global_block ts b us (k, t1, i, (q, t2, o, (ds, t3, d, (e, t4, j, made eq)))) = c.block q ds (k, i) o d (e, j) eq
 
 -- ---- tasks and instances
 
-is_single : (ts : Tokens) (x : Identifier) (us : Tokens) → Seq (Is (keyword w.Single)) (λ k. Seq (Is (mark m.Assign)) (λ a. Seq (Is name) (λ x. Seq (Is (mark m.Comma)) (λ c. Made x)))) ts x us → IsSingle ts x us
-is_single ts y us (k, t1, i, (a, t2, j, (x, t3, n, (o, t4, d, made eq)))) = subst (λ (z : Identifier). IsSingle ts z us) (sym eq) (c.single (k, i) (a, j) n (o, d))
+is_single : (ts : Tokens) (x : Identifier) (us : Tokens) → Seq (Is (keyword w.Single))
+    (λ k. Seq (Is (mark m.Assign)) (λ a. Seq (Is name) (λ x. Seq (Is (mark m.Comma)) (λ c. Made x)))) ts x us
+    → IsSingle ts x us
+is_single ts y us (k, t1, i, (a, t2, j, (x, t3, n, (o, t4, d, made eq)))) =
+    subst (λ (z : Identifier). IsSingle ts z us) (sym eq) (c.single (k, i) (a, j) n (o, d))
 
 reads_single : {C : Type 0} → Reads C (λ e. single_at) IsSingle (λ x us. Unit {0})
 unfolding single_at
-reads_single = reads_as is_single (λ x us d. d) (reads_then (reads_keyword w.Single) (λ k. reads_then (reads_mark m.Assign) (λ a. reads_then reads_name (λ x. reads_then (reads_mark m.Comma) (λ c. reads_pure x (λ x us. Unit {0}) (λ c us. tt))))))
+reads_single =
+    reads_as is_single (λ x us d. d) (reads_then (reads_keyword w.Single) (λ k. reads_then (reads_mark m.Assign) (λ a.
+    reads_then reads_name (λ x. reads_then (reads_mark m.Comma) (λ c. reads_pure x (λ x us. Unit {0}) (λ c us. tt))))))
 
-is_interval : (ts : Tokens) (d : ℕ) (us : Tokens) → Seq (Is (keyword w.Interval)) (λ k. Seq (Is (mark m.Assign)) (λ a. Seq (Is duration) (λ d. Seq (Is (mark m.Comma)) (λ c. Made d)))) ts d us → IsInterval ts d us
-is_interval ts y us (k, t1, i, (a, t2, j, (d, t3, n, (o, t4, e, made eq)))) = subst (λ (z : ℕ). IsInterval ts z us) (sym eq) (c.interval (k, i) (a, j) n (o, e))
+is_interval : (ts : Tokens) (d : ℕ) (us : Tokens) → Seq (Is (keyword w.Interval))
+    (λ k. Seq (Is (mark m.Assign)) (λ a. Seq (Is duration) (λ d. Seq (Is (mark m.Comma)) (λ c. Made d)))) ts d us
+    → IsInterval ts d us
+is_interval ts y us (k, t1, i, (a, t2, j, (d, t3, n, (o, t4, e, made eq)))) =
+    subst (λ (z : ℕ). IsInterval ts z us) (sym eq) (c.interval (k, i) (a, j) n (o, e))
 
 reads_interval : {C : Type 0} → Reads C (λ e. interval_at) IsInterval (λ x us. Unit {0})
 unfolding interval_at
-reads_interval = reads_as is_interval (λ x us d. d) (reads_then (reads_keyword w.Interval) (λ k. reads_then (reads_mark m.Assign) (λ a. reads_then (reads_one duration (token_of (Duration 0)) 0 refl) (λ d. reads_then (reads_mark m.Comma) (λ c. reads_pure d (λ x us. Unit {0}) (λ c us. tt))))))
+reads_interval = reads_as is_interval (λ x us d. d) (reads_then (reads_keyword w.Interval)
+    (λ k. reads_then (reads_mark m.Assign) (λ a. reads_then (reads_one duration (token_of (Duration 0)) 0 refl)
+    (λ d. reads_then (reads_mark m.Comma) (λ c. reads_pure d (λ x us. Unit {0}) (λ c us. tt))))))
 
 is_task : (ts : Tokens) (x : Task) (us : Tokens)
-    → Seq (Is (keyword w.Task)) (λ k. Seq (Is name) (λ x. Seq (Is (mark m.Open)) (λ o. Seq (Optional IsSingle) (λ s. Seq (Optional IsInterval) (λ i. Seq (Is (keyword w.Priority)) (λ q. Seq (Is (mark m.Assign)) (λ a. Seq (Is decimal) (λ p.
-    Seq (Is (mark m.Close)) (λ e. Seq (Is (mark m.Semicolon)) (λ z. Made (record { name = x; single = s; interval = i; priority = p }))))))))))) ts x us → IsTask ts x us
-is_task ts y us (k, t1, k', (x, t2, n, (o, t3, o', (s, t4, s', (i, t5, i', (q, t6, q', (a, t7, a', (p, t8, p', (e, t9, e', (z, t10, z', made eq)))))))))) = c.task x s i p (k, k') n (o, o') s' i' (q, q') (a, a') p' (e, e') (z, z') eq
+    → Seq (Is (keyword w.Task))
+    (λ k. Seq (Is name) (λ x. Seq (Is (mark m.Open)) (λ o. Seq (Optional IsSingle) (λ s. Seq (Optional IsInterval)
+    (λ i. Seq (Is (keyword w.Priority)) (λ q. Seq (Is (mark m.Assign)) (λ a. Seq (Is decimal) (λ p.
+    Seq (Is (mark m.Close)) (λ e.
+    Seq (Is (mark m.Semicolon)) (λ z. Made (record { name = x; single = s; interval = i; priority = p })))))))))))
+    ts
+    x
+    us
+    → IsTask
+    ts
+    x
+    us
+is_task ts y us (
+  k,
+  t1,
+  k',
+  (
+    x,
+    t2,
+    n,
+    (o, t3, o', (s, t4, s', (i, t5, i', (q, t6, q', (a, t7, a', (p, t8, p', (e, t9, e', (z, t10, z', made eq)))))))),
+  ),
+) =
+    c.task x s i p (k, k') n (o, o') s' i' (q, q') (a, a') p' (e, e') (z, z') eq
 
 reads_task : {C : Type 0} → Reads C (λ e. task_at) IsTask (λ x us. Unit {0})
 unfolding task_at
-reads_task = reads_as is_task (λ x us d. d) (reads_then (reads_keyword w.Task) (λ k. reads_then reads_name (λ x. reads_then (reads_mark m.Open) (λ o.
-    reads_then (reads_optional (is_keyword w.Single) (λ e. single_at) IsSingle (λ x. Unit {0}) reads_single) (λ s. reads_then (reads_optional (is_keyword w.Interval) (λ e. interval_at) IsInterval (λ x. Unit {0}) reads_interval) (λ i.
-    reads_then (reads_keyword w.Priority) (λ q. reads_then (reads_mark m.Assign) (λ a. reads_then (reads_one decimal (token_of (Number (record { written = None; magnitude = 0; is_decimal = true }))) (record { place = 0; number = 0 }) refl) (λ p.
-    reads_then (reads_mark m.Close) (λ e. reads_then (reads_mark m.Semicolon) (λ z. reads_pure (record { name = x; single = s; interval = i; priority = p }) (λ x us. Unit {0}) (λ c us. tt))))))))))))
+reads_task = reads_as is_task (λ x us d. d)
+    (reads_then (reads_keyword w.Task) (λ k. reads_then reads_name (λ x. reads_then (reads_mark m.Open) (λ o.
+    reads_then (reads_optional (is_keyword w.Single) (λ e. single_at) IsSingle (λ x. Unit {0}) reads_single)
+    (λ s. reads_then
+    (reads_optional (is_keyword w.Interval) (λ e. interval_at) IsInterval (λ x. Unit {0}) reads_interval) (λ i.
+    reads_then (reads_keyword w.Priority)
+    (λ q. reads_then (reads_mark m.Assign) (λ a. reads_then (reads_one decimal (token_of (Number
+    (record { written = None; magnitude = 0; is_decimal = true }))) (record { place = 0; number = 0 }) refl) (λ p.
+    reads_then (reads_mark m.Close) (λ e. reads_then (reads_mark m.Semicolon) (λ z. reads_pure
+    (record { name = x; single = s; interval = i; priority = p }) (λ x us. Unit {0}) (λ c us. tt))))))))))))
 
-is_with : (ts : Tokens) (x : Identifier) (us : Tokens) → Seq (Is (keyword w.With)) (λ k. Seq (Is name) (λ x. Made x)) ts x us → IsWith ts x us
-is_with ts y us (k, t1, i, (x, t2, n, made eq)) = subst (λ (z : Identifier). IsWith ts z us) (sym eq) (c.runs_with (k, i) n)
+is_with : (ts : Tokens) (x : Identifier) (us : Tokens)
+    → Seq (Is (keyword w.With)) (λ k. Seq (Is name) (λ x. Made x)) ts x us → IsWith ts x us
+is_with ts y us (k, t1, i, (x, t2, n, made eq)) =
+    subst (λ (z : Identifier). IsWith ts z us) (sym eq) (c.runs_with (k, i) n)
 
 reads_with : {C : Type 0} → Reads C (λ e. with_at) IsWith (λ x us. Unit {0})
 unfolding with_at
-reads_with = reads_as is_with (λ x us d. d) (reads_then (reads_keyword w.With) (λ k. reads_then reads_name (λ x. reads_pure x (λ x us. Unit {0}) (λ c us. tt))))
+reads_with = reads_as is_with (λ x us d. d)
+    (reads_then (reads_keyword w.With) (λ k. reads_then reads_name (λ x. reads_pure x (λ x us. Unit {0}) (λ c us. tt))))
 
 is_instance : (ts : Tokens) (x : Instance) (us : Tokens)
-    → Seq (Is (keyword w.Program)) (λ k. Seq (Is name) (λ x. Seq (Optional IsWith) (λ t. Seq (Is (mark m.Colon)) (λ o. Seq (Is name) (λ p. Seq (Is (mark m.Semicolon)) (λ s. Made (record { name = x; task = t; program = p }))))))) ts x us → IsInstance ts x us
-is_instance ts y us (k, t1, k', (x, t2, n, (t, t3, t', (o, t4, o', (p, t5, p', (s, t6, s', made eq)))))) = c.instance_of x t p (k, k') n t' (o, o') p' (s, s') eq
+    → Seq (Is (keyword w.Program)) (λ k. Seq (Is name) (λ x. Seq (Optional IsWith) (λ t. Seq (Is (mark m.Colon)) (λ o.
+    Seq (Is name) (λ p. Seq (Is (mark m.Semicolon)) (λ s. Made (record { name = x; task = t; program = p }))))))) ts
+    x us → IsInstance ts x us
+is_instance ts y us (k, t1, k', (x, t2, n, (t, t3, t', (o, t4, o', (p, t5, p', (s, t6, s', made eq)))))) =
+    c.instance_of x t p (k, k') n t' (o, o') p' (s, s') eq
 
 reads_instance : {C : Type 0} → Reads C (λ e. instance_at) IsInstance (λ x us. Unit {0})
 unfolding instance_at
-reads_instance = reads_as is_instance (λ x us d. d) (reads_then (reads_keyword w.Program) (λ k. reads_then reads_name (λ x. reads_then (reads_optional (is_keyword w.With) (λ e. with_at) IsWith (λ x. Unit {0}) reads_with) (λ t. reads_then (reads_mark m.Colon) (λ o.
-    reads_then reads_name (λ p. reads_then (reads_mark m.Semicolon) (λ s. reads_pure (record { name = x; task = t; program = p }) (λ x us. Unit {0}) (λ c us. tt))))))))
+reads_instance = reads_as is_instance (λ x us d. d)
+    (reads_then (reads_keyword w.Program) (λ k. reads_then reads_name (λ x. reads_then (reads_optional
+    (is_keyword w.With) (λ e. with_at) IsWith (λ x. Unit {0}) reads_with) (λ t. reads_then (reads_mark m.Colon) (λ o.
+    reads_then reads_name (λ p. reads_then (reads_mark m.Semicolon)
+    (λ s. reads_pure (record { name = x; task = t; program = p }) (λ x us. Unit {0}) (λ c us. tt))))))))
 
 -- ---- resources and configurations
 
 is_resource : (ts : Tokens) (r : Resource) (us : Tokens)
-    → Seq (Is (keyword w.Resource)) (λ k. Seq (Is name) (λ x. Seq (Is (keyword w.On)) (λ o. Seq (Is name) (λ p. Seq (Many IsTask) (λ ts. Seq (Several IsInstance) (λ is. Seq (Is (keyword w.EndResource)) (λ e.
+    → Seq (Is (keyword w.Resource)) (λ k. Seq (Is name) (λ x. Seq (Is (keyword w.On)) (λ o. Seq (Is name)
+    (λ p. Seq (Many IsTask) (λ ts. Seq (Several IsInstance) (λ is. Seq (Is (keyword w.EndResource)) (λ e.
     Made (record { name = x; processor = p; tasks = ts; instances = is })))))))) ts r us → IsResource ts r us
-is_resource ts r us (k, t1, k', (x, t2, n, (o, t3, o', (p, t4, p', (xs, t5, m', (ys, t6, i', (e, t7, e', made eq))))))) = c.resource x p xs ys (k, k') n (o, o') p' m' i' (e, e') eq
+is_resource ts r us (k, t1, k', (x, t2, n, (o, t3, o', (p, t4, p', (xs, t5, m', (ys, t6, i', (e, t7, e', made eq)))))))
+    = c.resource x p xs ys (k, k') n (o, o') p' m' i' (e, e') eq
 
 reads_resource : {C : Type 0} → Reads C (λ e. resource_at) IsResource (λ x us. Unit {0})
 unfolding resource_at
-reads_resource = reads_as is_resource (λ x us d. d) (reads_then (reads_keyword w.Resource) (λ k. reads_then reads_name (λ x. reads_then (reads_keyword w.On) (λ o. reads_then reads_name (λ p.
-    reads_then (reads_many (is_keyword w.Task) (λ e. task_at) IsTask (λ x. Unit {0}) task_less reads_task) (λ xs. reads_then (reads_at_least_one (is_keyword w.Program) (λ e. instance_at) IsInstance (λ x. Unit {0}) instance_less reads_instance) (λ ys.
-    reads_then (reads_keyword w.EndResource) (λ e. reads_pure (record { name = x; processor = p; tasks = xs; instances = ys }) (λ x us. Unit {0}) (λ c us. tt)))))))))
+reads_resource = reads_as is_resource (λ x us d. d) (reads_then (reads_keyword w.Resource)
+    (λ k. reads_then reads_name (λ x. reads_then (reads_keyword w.On) (λ o. reads_then reads_name (λ p.
+    reads_then (reads_many (is_keyword w.Task) (λ e. task_at) IsTask (λ x. Unit {0}) task_less reads_task)
+    (λ xs. reads_then (reads_at_least_one (is_keyword w.Program) (λ e. instance_at) IsInstance (λ x. Unit {0})
+    instance_less reads_instance) (λ ys.
+    reads_then (reads_keyword w.EndResource) (λ e. reads_pure
+    (record { name = x; processor = p; tasks = xs; instances = ys }) (λ x us. Unit {0}) (λ c us. tt)))))))))
 
 is_configuration : (ts : Tokens) (x : Configuration) (us : Tokens)
-    → Seq (Is (keyword w.Configuration)) (λ k. Seq (Is name) (λ x. Seq (Many IsGlobalBlock) (λ gs. Seq (Several IsResource) (λ rs. Seq (Is (keyword w.EndConfiguration)) (λ e. Made (record { name = x; globals = gs; resources = rs })))))) ts x us → IsConfiguration ts x us
-is_configuration ts y us (k, t1, k', (x, t2, n, (gs, t3, g', (rs, t4, r', (e, t5, e', made eq))))) = c.configuration x gs rs (k, k') n g' r' (e, e') eq
+    → Seq (Is (keyword w.Configuration))
+    (λ k. Seq (Is name) (λ x. Seq (Many IsGlobalBlock) (λ gs. Seq (Several IsResource)
+    (λ rs. Seq (Is (keyword w.EndConfiguration)) (λ e. Made (record { name = x; globals = gs; resources = rs }))))))
+    ts x us → IsConfiguration ts x us
+is_configuration ts y us (k, t1, k', (x, t2, n, (gs, t3, g', (rs, t4, r', (e, t5, e', made eq))))) =
+    c.configuration x gs rs (k, k') n g' r' (e, e') eq
 
 module _ (depth : ℕ) where
   reads_global : {C : Type 0} → Reads C (λ n. global_at (depth + n)) IsGlobal (λ g us. GlobalWithin depth g)
   unfolding global_at
-  reads_global = reads_as is_global (λ x us d. d) (reads_then reads_global_names (λ ns. reads_then (reads_mark m.Colon) (λ c. reads_then reads_type (λ t. reads_then (reads_given_or_not depth) (λ v. reads_then (reads_mark m.Semicolon) (λ s.
-      reads_pure (record { names = ns; declared = t; initial = v }) (λ g us. GlobalWithin depth g) (λ c us. c.0.1.1)))))))
+  reads_global =
+      reads_as is_global (λ x us d. d) (reads_then reads_global_names (λ ns. reads_then (reads_mark m.Colon) (λ c.
+      reads_then reads_type (λ t. reads_then (reads_given_or_not depth) (λ v. reads_then (reads_mark m.Semicolon) (λ s.
+      reads_pure (record { names = ns; declared = t; initial = v }) (λ g us. GlobalWithin depth g)
+      (λ c us. c.0.1.1)))))))
 
-  reads_global_block : {C : Type 0} → Reads C (λ n. global_block_at (depth + n)) IsGlobalBlock (λ b us. GlobalBlockWithin depth b)
+  reads_global_block : {C : Type 0}
+      → Reads C (λ n. global_block_at (depth + n)) IsGlobalBlock (λ b us. GlobalBlockWithin depth b)
   unfolding global_block_at
   reads_global_block = reads_as is_global_block (λ x us d. d) (reads_then (reads_keyword w.VarGlobal) (λ k.
-      reads_then (reads_optional is_qualifier (λ e. one qualifier) (Is qualifier) (λ x. Unit {0}) (reads_as (λ ts x us i. i) (λ x us d. tt) (reads_one qualifier (token_of (Keyword w.Retain)) qualifiers.Retain refl))) (λ q.
-      reads_then (reads_many is_name (λ n. global_at (depth + n)) IsGlobal (GlobalWithin depth) global_less reads_global) (λ ds. reads_then (reads_keyword w.EndVar) (λ e.
-      reads_pure (record { qualifier = q; declarations = ds }) (λ b us. GlobalBlockWithin depth b) (λ c us. c.0.1.1.0))))))
+      reads_then (reads_optional is_qualifier (λ e. one qualifier) (Is qualifier) (λ x. Unit {0}) (reads_as
+      (λ ts x us i. i) (λ x us d. tt) (reads_one qualifier (token_of (Keyword w.Retain)) qualifiers.Retain refl)))
+      (λ q.
+      reads_then (reads_many is_name (λ n. global_at (depth + n)) IsGlobal (GlobalWithin depth) global_less
+      reads_global) (λ ds. reads_then (reads_keyword w.EndVar) (λ e.
+      reads_pure (record { qualifier = q; declarations = ds }) (λ b us. GlobalBlockWithin depth b)
+      (λ c us. c.0.1.1.0))))))
 
-  pub reads_configuration : {C : Type 0} → Reads C (λ n. configuration_at (depth + n)) IsConfiguration (λ x us. ConfigurationWithin depth x)
+  pub reads_configuration : {C : Type 0}
+      → Reads C (λ n. configuration_at (depth + n)) IsConfiguration (λ x us. ConfigurationWithin depth x)
   unfolding configuration_at
-  reads_configuration = reads_as is_configuration (λ x us d. d) (reads_then (reads_keyword w.Configuration) (λ k. reads_then reads_name (λ x.
-      reads_then (reads_many (is_keyword w.VarGlobal) (λ n. global_block_at (depth + n)) IsGlobalBlock (GlobalBlockWithin depth) global_block_less reads_global_block) (λ gs.
-      reads_then (reads_at_least_one (is_keyword w.Resource) (λ e. resource_at) IsResource (λ x. Unit {0}) resource_less reads_resource) (λ rs. reads_then (reads_keyword w.EndConfiguration) (λ e.
-      reads_pure (record { name = x; globals = gs; resources = rs }) (λ x us. ConfigurationWithin depth x) (λ c us. c.0.0.1.1.0)))))))
+  reads_configuration = reads_as is_configuration (λ x us d. d)
+      (reads_then (reads_keyword w.Configuration) (λ k. reads_then reads_name (λ x.
+      reads_then (reads_many (is_keyword w.VarGlobal) (λ n. global_block_at (depth + n)) IsGlobalBlock
+      (GlobalBlockWithin depth) global_block_less reads_global_block) (λ gs.
+      reads_then (reads_at_least_one (is_keyword w.Resource) (λ e. resource_at) IsResource (λ x. Unit {0}) resource_less
+      reads_resource) (λ rs. reads_then (reads_keyword w.EndConfiguration) (λ e.
+      reads_pure (record { name = x; globals = gs; resources = rs }) (λ x us. ConfigurationWithin depth x)
+      (λ c us. c.0.0.1.1.0)))))))

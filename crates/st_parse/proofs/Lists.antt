@@ -7,7 +7,8 @@ use Rattle.st_statements.specs.declared.fault.ReadError.{ReadError}
 use Rattle.st_statements.specs.Tokens.{Tokens}
 use Rattle.st_statements.specs.Parsers.{Gives}
 
-pub plainly : {A : Type 0} (r : Result (Vec A Global × Bor (List Token)) ReadError) (q : Result (List A × Tokens) Refusal)
+pub plainly :
+    {A : Type 0} (r : Result (Vec A Global × Bor (List Token)) ReadError) (q : Result (List A × Tokens) Refusal)
     → Gives (λ x. (map (λ y. y) x.0.items, x.1.now)) r q → Gives (λ x. (x.0.items, x.1.now)) r q
 plainly (Ok x) q e = e ∙ ap (λ (xs : List _). Ok (xs, x.1.now)) (map-id x.0.items)
 plainly (Err x) q e = e

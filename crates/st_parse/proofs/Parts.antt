@@ -1,5 +1,6 @@
 -- Repeated and optional parts: what reading tells of them.
-use Rattle.std.proofs.Common.{◌≡◌, ◌<◌, ◌≤◌, Bool, false, List, [], ◌∷◌, length, Option, Some, None, IfSome, sym, subst, arith}
+use Rattle.std.proofs.Common.{◌≡◌, ◌<◌, ◌≤◌, Bool, false, List, [], ◌∷◌, length, Option, Some, None, IfSome, sym, subst}
+use Rattle.std.proofs.Common.{arith}
 use Rattle.std.specs.List.{AllByRecursion}
 use Rattle.st_words.specs.declared.identifier.Identifier.{Identifier}
 use Rattle.st_lex.specs.declared.token.Token.{Token}
@@ -9,10 +10,12 @@ use Rattle.st_statements.specs.Tokens.{Tokens, next, Is, mark, name, is_mark}
 use Rattle.st_statements.specs.Parsers.{one, several, listed, after_comma as comma}
 use Rattle.st_statements.specs.Laws.{Grammar}
 use Rattle.st_statements.proofs.Told.{Family, Any, Seq, Made, made}
-use Rattle.st_statements.proofs.Readings.{Reads, reads_then, reads_pure, reads_as, reads_under, reads_if, reads_mark, reads_name}
+use Rattle.st_statements.proofs.Readings.{Reads, reads_then, reads_pure, reads_as, reads_under, reads_if, reads_mark}
+use Rattle.st_statements.proofs.Readings.{reads_name}
 use Rattle.st_statements.proofs.Lists.{Each, More, reads_several, reads_listed}
 use Rattle.st_statements.proofs.ExpressionFacts.{is_less}
-use Rattle.st_parse.specs.Lists.{Many, no_more, one_more, Several, several as at_least, AfterComma, after_comma, Listed, listed as with_commas, Optional, absent, present}
+use Rattle.st_parse.specs.Lists.{Many, no_more, one_more, Several, several as at_least, AfterComma, after_comma, Listed}
+use Rattle.st_parse.specs.Lists.{listed as with_commas, Optional, absent, present}
 use Rattle.st_parse.specs.Reading.{optional, many, at_least_one}
 
 pub each_all : {A : Type 0} (L : A → Type 0) (xs : List A) → Each L xs → AllByRecursion L xs
@@ -21,46 +24,60 @@ each_all L (x ∷ xs) all = (all.0, each_all L xs all.1)
 
 -- ---- each takes a token
 
-pub many_less : {A : Type 0} {One : Grammar A} (less : (ts : Tokens) (x : A) (us : Tokens) → One ts x us → length us < length ts) {ts us : Tokens} {xs : List A} → Many One ts xs us → length us ≤ length ts
+pub many_less : {A : Type 0} {One : Grammar A} (less : (ts : Tokens) (x : A) (us : Tokens) → One ts x us
+    → length us < length ts) {ts us : Tokens} {xs : List A} → Many One ts xs us → length us ≤ length ts
 many_less less no_more = omega arith
 many_less less (one_more {ts} {us} {vs} {x} o r) = let a = less ts x us o in let b = many_less less r in omega arith
 
-pub several_less : {A : Type 0} {One : Grammar A} (less : (ts : Tokens) (x : A) (us : Tokens) → One ts x us → length us < length ts) {ts us : Tokens} {xs : List A} → Several One ts xs us → length us < length ts
+pub several_less : {A : Type 0} {One : Grammar A} (less : (ts : Tokens) (x : A) (us : Tokens) → One ts x us
+    → length us < length ts) {ts us : Tokens} {xs : List A} → Several One ts xs us → length us < length ts
 several_less less (at_least {ts} {us} {vs} {x} o r) = let a = less ts x us o in let b = many_less less r in omega arith
 
-comma_less : {A : Type 0} {One : Grammar A} (less : (ts : Tokens) (x : A) (us : Tokens) → One ts x us → length us < length ts) (ts : Tokens) (x : A) (us : Tokens) → AfterComma One ts x us → length us < length ts
-comma_less less rs y ws (after_comma {ts} {us} {vs} {x} c o) = let a = is_less c.1 in let b = less us x vs o in omega arith
+comma_less : {A : Type 0} {One : Grammar A} (less : (ts : Tokens) (x : A) (us : Tokens) → One ts x us
+    → length us < length ts) (ts : Tokens) (x : A) (us : Tokens) → AfterComma One ts x us → length us < length ts
+comma_less less rs y ws (after_comma {ts} {us} {vs} {x} c o) = let a = is_less c.1 in let b = less us x vs o in
+    omega arith
 
-pub listed_less : {A : Type 0} {One : Grammar A} (less : (ts : Tokens) (x : A) (us : Tokens) → One ts x us → length us < length ts) {ts us : Tokens} {xs : List A} → Listed One ts xs us → length us < length ts
-listed_less less (with_commas {ts} {us} {vs} {x} o r) = let a = less ts x us o in let b = many_less (comma_less less) r in omega arith
+pub listed_less : {A : Type 0} {One : Grammar A} (less : (ts : Tokens) (x : A) (us : Tokens) → One ts x us
+    → length us < length ts) {ts us : Tokens} {xs : List A} → Listed One ts xs us → length us < length ts
+listed_less less (with_commas {ts} {us} {vs} {x} o r) = let a = less ts x us o in
+    let b = many_less (comma_less less) r in omega arith
 
-pub optional_less : {A : Type 0} {One : Grammar A} (less : (ts : Tokens) (x : A) (us : Tokens) → One ts x us → length us < length ts) {ts us : Tokens} {o : Option A} → Optional One ts o us → length us ≤ length ts
+pub optional_less : {A : Type 0} {One : Grammar A} (less : (ts : Tokens) (x : A) (us : Tokens) → One ts x us
+    → length us < length ts) {ts us : Tokens} {o : Option A} → Optional One ts o us → length us ≤ length ts
 optional_less less absent = omega arith
 optional_less less (present {ts} {us} {x} o) = let a = less ts x us o in omega arith
 
-pub token_less : {A : Type 0} (of : Token → Option A) (ts : Tokens) (x : A) (us : Tokens) → Is of ts x us → length us < length ts
+pub token_less : {A : Type 0} (of : Token → Option A) (ts : Tokens) (x : A) (us : Tokens) → Is of ts x us
+    → length us < length ts
 token_less of ts x us i = is_less i
 
 -- ---- reading
 
-module _ {A : Type 0} (f : TokenKind → Bool) (P : Family A) (One : Grammar A) (L : A → Type 0) (less : (ts : Tokens) (x : A) (us : Tokens) → One ts x us → length us < length ts) where
+module _ {A : Type 0} (f : TokenKind → Bool) (P : Family A) (One : Grammar A) (L : A → Type 0)
+    (less : (ts : Tokens) (x : A) (us : Tokens) → One ts x us → length us < length ts) where
   abbrev Behind : List A → Grammar (List A)
   Behind = More f P One (Many One) L (λ ts. no_more) (λ ts x us xs vs o r. one_more o r) less
 
   all_many : (ts : Tokens) (ys : List A) (us : Tokens) → Behind [] ts ys us → Many One ts ys us
   all_many ts ys us r = subst (λ (zs : List A). Many One ts zs us) (sym r.2) r.1
 
-  pub reads_many : {C : Type 0} → Reads C P One (λ x us. L x) → Reads C (λ e. many f (P e)) (Many One) (λ xs us. AllByRecursion L xs × (next f us ≡ false))
+  pub reads_many : {C : Type 0} → Reads C P One (λ x us. L x)
+      → Reads C (λ e. many f (P e)) (Many One) (λ xs us. AllByRecursion L xs × (next f us ≡ false))
   unfolding many
-  reads_many p = reads_as all_many (λ xs us d. (each_all L xs d.0, d.1)) (reads_several f P One (Many One) L (λ ts. no_more) (λ ts x us xs vs o r. one_more o r) less [] (λ c. tt) p)
+  reads_many p = reads_as all_many (λ xs us d. (each_all L xs d.0, d.1))
+      (reads_several f P One (Many One) L (λ ts. no_more) (λ ts x us xs vs o r. one_more o r) less [] (λ c. tt) p)
 
-  all_several : (ts : Tokens) (ys : List A) (us : Tokens) → Seq One (λ x. Behind (x ∷ [])) ts ys us → Several One ts ys us
+  all_several : (ts : Tokens) (ys : List A) (us : Tokens) → Seq One (λ x. Behind (x ∷ [])) ts ys us
+      → Several One ts ys us
   all_several ts ys us s = subst (λ (zs : List A). Several One ts zs us) (sym s.3.2) (at_least s.2 s.3.1)
 
-  pub reads_at_least_one : {C : Type 0} → Reads C P One (λ x us. L x) → Reads C (λ e. at_least_one f (P e)) (Several One) (λ xs us. AllByRecursion L xs × (next f us ≡ false))
+  pub reads_at_least_one : {C : Type 0} → Reads C P One (λ x us. L x)
+      → Reads C (λ e. at_least_one f (P e)) (Several One) (λ xs us. AllByRecursion L xs × (next f us ≡ false))
   unfolding at_least_one
   reads_at_least_one p = reads_as all_several (λ xs us d. (each_all L xs d.0, d.1)) (reads_then p (λ x.
-      reads_several f P One (Many One) L (λ ts. no_more) (λ ts x us xs vs o r. one_more o r) less (x ∷ []) (λ c. (c.1.1, tt)) (reads_under (λ c. c.0) p)))
+      reads_several f P One (Many One) L (λ ts. no_more) (λ ts x us xs vs o r. one_more o r) less (x ∷ [])
+      (λ c. (c.1.1, tt)) (reads_under (λ c. c.0) p)))
 
 module _ {A : Type 0} (f : TokenKind → Bool) (P : Family A) (One : Grammar A) (L : A → Type 0) where
   there : (ts : Tokens) (o : Option A) (us : Tokens) → Seq One (λ x. Made (Some x)) ts o us → Optional One ts o us
@@ -69,14 +86,20 @@ module _ {A : Type 0} (f : TokenKind → Bool) (P : Family A) (One : Grammar A) 
   not_there : (ts : Tokens) (o : Option A) (us : Tokens) → Made None ts o us → Optional One ts o us
   not_there ts o us (made eq) = subst (λ (z : Option A). Optional One ts z ts) (sym eq) absent
 
-  pub reads_optional : {C : Type 0} → Reads C P One (λ x us. L x) → Reads C (λ e. optional f (P e)) (Optional One) (λ o us. IfSome o L)
+  pub reads_optional : {C : Type 0} → Reads C P One (λ x us. L x)
+      → Reads C (λ e. optional f (P e)) (Optional One) (λ o us. IfSome o L)
   unfolding optional
-  reads_optional p = reads_if f (reads_as there (λ o us d. d) (reads_then p (λ x. reads_pure (Some x) (λ o us. IfSome o L) (λ c us. c.1.1)))) (reads_as not_there (λ o us d. d) (reads_pure None (λ o us. IfSome o L) (λ c us. tt)))
+  reads_optional p = reads_if f
+      (reads_as there (λ o us d. d) (reads_then p (λ x. reads_pure (Some x) (λ o us. IfSome o L) (λ c us. c.1.1))))
+      (reads_as not_there (λ o us d. d) (reads_pure None (λ o us. IfSome o L) (λ c us. tt)))
 
 -- names with commas between them
-pub reads_names : {C : Type 0} → Reads C (λ e. listed (one name)) (Listed (Is name)) (λ xs us. next (is_mark m.Comma) us ≡ false)
+pub reads_names : {C : Type 0}
+    → Reads C (λ e. listed (one name)) (Listed (Is name)) (λ xs us. next (is_mark m.Comma) us ≡ false)
 reads_names = reads_as (λ ts xs us r. r) (λ xs us d. d.1)
-    (reads_listed (λ e. one name) (Is name) (Many (AfterComma (Is name))) (Listed (Is name)) (λ x. Unit {0}) (λ ts. no_more) (λ ts us x vs xs ws c o r. one_more (after_comma c o) r) (token_less name) (λ ts x us xs vs o r. with_commas o r)
+    (reads_listed (λ e. one name) (Is name) (Many (AfterComma (Is name))) (Listed (Is name)) (λ x. Unit {0})
+    (λ ts. no_more) (λ ts us x vs xs ws c o r. one_more (after_comma c o) r) (token_less name)
+    (λ ts x us xs vs o r. with_commas o r)
     (reads_as (λ ts x us i. i) (λ x us d. tt) reads_name))
 
 -- names after a first one
@@ -89,15 +112,21 @@ NextName = Seq (Is (mark m.Comma)) (λ at. Is name)
 next_less : (ts : Tokens) (x : Identifier) (us : Tokens) → NextName ts x us → length us < length ts
 next_less ts x us (at, vs, c, n) = let a = is_less c in let b = is_less n in omega arith
 
-next_names : (ts : Tokens) (x : Identifier) (us : Tokens) (xs : List Identifier) (vs : Tokens) → NextName ts x us → Many (AfterComma (Is name)) us xs vs → Many (AfterComma (Is name)) ts (x ∷ xs) vs
+next_names : (ts : Tokens) (x : Identifier) (us : Tokens) (xs : List Identifier) (vs : Tokens) → NextName ts x us
+    → Many (AfterComma (Is name)) us xs vs → Many (AfterComma (Is name)) ts (x ∷ xs) vs
 next_names ts x us xs vs (at, ws, c, n) r = one_more (after_comma (at, c) n) r
 
 reads_next : {C : Type 0} → Reads C (λ e. comma (one name)) NextName (λ x us. Unit {0})
 unfolding comma
 reads_next = reads_then (reads_mark m.Comma) (λ at. reads_as (λ ts x us i. i) (λ x us d. tt) reads_name)
 
-all_from : (x : Identifier) (us : Tokens) (ys : List Identifier) (vs : Tokens) → More (is_mark m.Comma) (λ e. comma (one name)) NextName (Many (AfterComma (Is name))) (λ x. Unit {0}) (λ ts. no_more) next_names next_less (x ∷ []) us ys vs → ListedFrom x us ys vs
+all_from : (x : Identifier) (us : Tokens) (ys : List Identifier) (vs : Tokens)
+    → More (is_mark m.Comma) (λ e. comma (one name)) NextName (Many (AfterComma (Is name))) (λ x. Unit {0})
+    (λ ts. no_more) next_names next_less (x ∷ []) us ys vs → ListedFrom x us ys vs
 all_from x us ys vs r ts n = subst (λ (zs : List Identifier). Listed (Is name) ts zs vs) (sym r.2) (with_commas n r.1)
 
-pub reads_names_behind : {C : Type 0} (x : Identifier) → Reads C (λ e. several (is_mark m.Comma) (comma (one name)) (x ∷ [])) (ListedFrom x) Any
-reads_names_behind x = reads_as (all_from x) (λ xs us d. tt) (reads_several (is_mark m.Comma) (λ e. comma (one name)) NextName (Many (AfterComma (Is name))) (λ x. Unit {0}) (λ ts. no_more) next_names next_less (x ∷ []) (λ c. (tt, tt)) reads_next)
+pub reads_names_behind : {C : Type 0} (x : Identifier)
+    → Reads C (λ e. several (is_mark m.Comma) (comma (one name)) (x ∷ [])) (ListedFrom x) Any
+reads_names_behind x = reads_as (all_from x) (λ xs us d. tt)
+    (reads_several (is_mark m.Comma) (λ e. comma (one name)) NextName (Many (AfterComma (Is name))) (λ x. Unit {0})
+    (λ ts. no_more) next_names next_less (x ∷ []) (λ c. (tt, tt)) reads_next)

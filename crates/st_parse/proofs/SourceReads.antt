@@ -17,58 +17,80 @@ use Rattle.st_parse.specs.Configurations.{IsConfiguration}
 use Rattle.st_parse.specs.Sources.{IsElement}
 use Rattle.st_parse.specs.Sources as s
 use Rattle.st_parse.specs.Depths.{ElementWithin, SourceWithin}
-use Rattle.st_parse.specs.SourceReading.{types_element_at, function_element_at, block_element_at, program_element_at, configuration_element_at, element_by, element_at, is_token, source_at}
+use Rattle.st_parse.specs.SourceReading.{types_element_at, function_element_at, block_element_at, program_element_at}
+use Rattle.st_parse.specs.SourceReading.{configuration_element_at, element_by, element_at, is_token, source_at}
 use Rattle.st_parse.proofs.Parts.{reads_many}
 use Rattle.st_parse.proofs.Shorter.{element_less}
 use Rattle.st_parse.proofs.TypeReads.{reads_types}
 use Rattle.st_parse.proofs.UnitReads.{reads_function, reads_block_unit, reads_program}
 use Rattle.st_parse.proofs.ConfigurationReads.{reads_configuration}
 
-is_types : (ts : Tokens) (x : LibraryElement) (us : Tokens) → Seq IsTypes (λ xs. Made (e.types xs)) ts x us → IsElement ts x us
+is_types : (ts : Tokens) (x : LibraryElement) (us : Tokens) → Seq IsTypes (λ xs. Made (e.types xs)) ts x us
+    → IsElement ts x us
 is_types ts x us (xs, vs, i, made eq) = s.types xs i eq
 
-is_unit : (ts : Tokens) (x : LibraryElement) (us : Tokens) → Seq IsUnit (λ u. Made (e.unit u)) ts x us → IsElement ts x us
+is_unit : (ts : Tokens) (x : LibraryElement) (us : Tokens) → Seq IsUnit (λ u. Made (e.unit u)) ts x us
+    → IsElement ts x us
 is_unit ts x us (u, vs, i, made eq) = s.unit u i eq
 
-is_configuration : (ts : Tokens) (x : LibraryElement) (us : Tokens) → Seq IsConfiguration (λ c. Made (e.configuration c)) ts x us → IsElement ts x us
+is_configuration : (ts : Tokens) (x : LibraryElement) (us : Tokens)
+    → Seq IsConfiguration (λ c. Made (e.configuration c)) ts x us → IsElement ts x us
 is_configuration ts x us (c, vs, i, made eq) = s.configuration c i eq
 
 module _ (depth : ℕ) where
-  reads_types_element : {C : Type 0} → Reads C (λ n. types_element_at (depth + n)) IsElement (λ x us. ElementWithin depth x)
+  reads_types_element : {C : Type 0}
+      → Reads C (λ n. types_element_at (depth + n)) IsElement (λ x us. ElementWithin depth x)
   unfolding types_element_at
-  reads_types_element = reads_as is_types (λ x us d. d) (reads_then (reads_types depth) (λ xs. reads_pure (e.types xs) (λ x us. ElementWithin depth x) (λ c us. c.1.1)))
+  reads_types_element = reads_as is_types (λ x us d. d)
+      (reads_then (reads_types depth) (λ xs. reads_pure (e.types xs) (λ x us. ElementWithin depth x) (λ c us. c.1.1)))
 
-  reads_function_element : {C : Type 0} → Reads C (λ n. function_element_at (depth + n)) IsElement (λ x us. ElementWithin depth x)
+  reads_function_element : {C : Type 0}
+      → Reads C (λ n. function_element_at (depth + n)) IsElement (λ x us. ElementWithin depth x)
   unfolding function_element_at
-  reads_function_element = reads_as is_unit (λ x us d. d) (reads_then (reads_function depth) (λ u. reads_pure (e.unit u) (λ x us. ElementWithin depth x) (λ c us. c.1.1)))
+  reads_function_element = reads_as is_unit (λ x us d. d)
+      (reads_then (reads_function depth) (λ u. reads_pure (e.unit u) (λ x us. ElementWithin depth x) (λ c us. c.1.1)))
 
-  reads_block_element : {C : Type 0} → Reads C (λ n. block_element_at (depth + n)) IsElement (λ x us. ElementWithin depth x)
+  reads_block_element : {C : Type 0}
+      → Reads C (λ n. block_element_at (depth + n)) IsElement (λ x us. ElementWithin depth x)
   unfolding block_element_at
-  reads_block_element = reads_as is_unit (λ x us d. d) (reads_then (reads_block_unit depth) (λ u. reads_pure (e.unit u) (λ x us. ElementWithin depth x) (λ c us. c.1.1)))
+  reads_block_element = reads_as is_unit (λ x us d. d)
+      (reads_then (reads_block_unit depth) (λ u. reads_pure (e.unit u) (λ x us. ElementWithin depth x) (λ c us. c.1.1)))
 
-  reads_program_element : {C : Type 0} → Reads C (λ n. program_element_at (depth + n)) IsElement (λ x us. ElementWithin depth x)
+  reads_program_element : {C : Type 0}
+      → Reads C (λ n. program_element_at (depth + n)) IsElement (λ x us. ElementWithin depth x)
   unfolding program_element_at
-  reads_program_element = reads_as is_unit (λ x us d. d) (reads_then (reads_program depth) (λ u. reads_pure (e.unit u) (λ x us. ElementWithin depth x) (λ c us. c.1.1)))
+  reads_program_element = reads_as is_unit (λ x us d. d)
+      (reads_then (reads_program depth) (λ u. reads_pure (e.unit u) (λ x us. ElementWithin depth x) (λ c us. c.1.1)))
 
-  reads_configuration_element : {C : Type 0} → Reads C (λ n. configuration_element_at (depth + n)) IsElement (λ x us. ElementWithin depth x)
+  reads_configuration_element : {C : Type 0}
+      → Reads C (λ n. configuration_element_at (depth + n)) IsElement (λ x us. ElementWithin depth x)
   unfolding configuration_element_at
-  reads_configuration_element = reads_as is_configuration (λ x us d. d) (reads_then (reads_configuration depth) (λ c. reads_pure (e.configuration c) (λ x us. ElementWithin depth x) (λ c us. c.1.1)))
+  reads_configuration_element = reads_as is_configuration (λ x us d. d) (reads_then (reads_configuration depth)
+      (λ c. reads_pure (e.configuration c) (λ x us. ElementWithin depth x) (λ c us. c.1.1)))
 
   element_begins : Begins IsElement []
   element_begins = (reads_types_element {C = Unit {0}}).begins
 
-  told_element_by : (t : Token) (ts : Tokens) (k : TokenKind) → t.kind ≡ k → Told (λ n. element_by (depth + n) k) IsElement (λ x us. ElementWithin depth x) (t ∷ ts) (element_by (depth + 0) k (t ∷ ts))
+  told_element_by : (t : Token) (ts : Tokens) (k : TokenKind) → t.kind ≡ k → Told (λ n. element_by (depth + n) k)
+      IsElement (λ x us. ElementWithin depth x) (t ∷ ts) (element_by (depth + 0) k (t ∷ ts))
   told_element_by t ts (Keyword w.Type) eq = told_by reads_types_element (t ∷ ts)
   told_element_by t ts (Keyword w.Function) eq = told_by reads_function_element (t ∷ ts)
   told_element_by t ts (Keyword w.FunctionBlock) eq = told_by reads_block_element (t ∷ ts)
   told_element_by t ts (Keyword w.Program) eq = told_by reads_program_element (t ∷ ts)
   told_element_by t ts (Keyword w.Configuration) eq = told_by reads_configuration_element (t ∷ ts)
-  told_element_by t ts k eq = told_refuse (λ n. element_by (depth + n) k) IsElement (λ x us. ElementWithin depth x) (t ∷ ts) element_begins (λ n more same. refl)
+  told_element_by t ts k eq = told_refuse (λ n. element_by (depth + n) k) IsElement (λ x us. ElementWithin depth x)
+      (t ∷ ts) element_begins (λ n more same. refl)
 
   reads_element : {C : Type 0} → Reads C (λ n. element_at (depth + n)) IsElement (λ x us. ElementWithin depth x)
   unfolding element_at
-  reads_element = record { begins = element_begins; tells = λ c. told_by_kind (λ n. element_by (depth + n)) IsElement (λ x us. ElementWithin depth x) element_begins (λ t ts. told_element_by t ts t.kind refl) }
+  reads_element = record {
+    begins = element_begins;
+    tells = λ c. told_by_kind (λ n. element_by (depth + n)) IsElement
+        (λ x us. ElementWithin depth x) element_begins (λ t ts. told_element_by t ts t.kind refl);
+  }
 
-  pub reads_source : {C : Type 0} → Reads C (λ n. source_at (depth + n)) (Many IsElement) (λ xs us. SourceWithin depth xs × (next is_token us ≡ false))
+  pub reads_source : {C : Type 0} → Reads C (λ n. source_at (depth + n)) (Many IsElement)
+      (λ xs us. SourceWithin depth xs × (next is_token us ≡ false))
   unfolding source_at
-  reads_source = reads_many is_token (λ n. element_at (depth + n)) IsElement (ElementWithin depth) element_less reads_element
+  reads_source =
+      reads_many is_token (λ n. element_at (depth + n)) IsElement (ElementWithin depth) element_less reads_element

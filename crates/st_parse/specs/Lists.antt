@@ -17,7 +17,8 @@ pub data AfterComma {A : Type 0} (One : Tokens → A → Tokens → Type 0) : To
 
 -- one or more, with commas between them
 pub data Listed {A : Type 0} (One : Tokens → A → Tokens → Type 0) : Tokens → List A → Tokens → Type 0 where
-  listed : {ts us vs : Tokens} {x : A} {xs : List A} → One ts x us → Many (AfterComma One) us xs vs → Listed One ts (x ∷ xs) vs
+  listed : {ts us vs : Tokens} {x : A} {xs : List A} → One ts x us → Many (AfterComma One) us xs vs
+      → Listed One ts (x ∷ xs) vs
 
 -- one, or nothing
 pub data Optional {A : Type 0} (One : Tokens → A → Tokens → Type 0) : Tokens → Option A → Tokens → Type 0 where

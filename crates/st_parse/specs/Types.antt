@@ -30,7 +30,8 @@ simple t = simple_in t.start t.kind
 
 pub data IsArray : Tokens → ArrayType → Tokens → Type 0 where
   array : {ts us vs ws zs qs rs ns os : Tokens} {a : ArrayType} (at : ℕ) (lower upper : Number) (element : SimpleType)
-      → Is (keyword w.Array) ts at us → Passes (mark m.OpenBracket) us vs → IsNumber vs lower ws → Passes (mark m.Range) ws zs → IsNumber zs upper qs
+      → Is (keyword w.Array) ts at us → Passes (mark m.OpenBracket) us vs → IsNumber vs lower ws
+      → Passes (mark m.Range) ws zs → IsNumber zs upper qs
       → Passes (mark m.CloseBracket) qs rs → Passes (keyword w.Of) rs ns → Is simple ns element os
       → a ≡ record { place = at; lower = lower; upper = upper; element = element } → IsArray ts a os
 
@@ -44,13 +45,15 @@ pub data IsGiven : Tokens → Initial → Tokens → Type 0 where
 
 pub data IsField : Tokens → Field → Tokens → Type 0 where
   field : {ts us vs ws zs qs : Tokens} {f : Field} (x : Identifier) (t : VariableType) (v : Option Initial)
-      → Is name ts x us → Passes (mark m.Colon) us vs → IsType vs t ws → Optional IsGiven ws v zs → Passes (mark m.Semicolon) zs qs
+      → Is name ts x us → Passes (mark m.Colon) us vs → IsType vs t ws → Optional IsGiven ws v zs
+      → Passes (mark m.Semicolon) zs qs
       → f ≡ record { name = x; declared = t; initial = v } → IsField ts f qs
 
 pub data IsDefinition : Tokens → TypeDefinition → Tokens → Type 0 where
   array : {ts us : Tokens} {t : TypeDefinition} (a : ArrayType) → IsArray ts a us → t ≡ d.array a → IsDefinition ts t us
   structure : {ts us vs ws : Tokens} {t : TypeDefinition} (fields : List Field)
-      → Passes (keyword w.Struct) ts us → Several IsField us fields vs → Passes (keyword w.EndStruct) vs ws → t ≡ d.structure fields → IsDefinition ts t ws
+      → Passes (keyword w.Struct) ts us → Several IsField us fields vs → Passes (keyword w.EndStruct) vs ws
+      → t ≡ d.structure fields → IsDefinition ts t ws
 
 pub data IsTypeDeclaration : Tokens → TypeDeclaration → Tokens → Type 0 where
   declared : {ts us vs ws zs : Tokens} {t : TypeDeclaration} (x : Identifier) (definition : TypeDefinition)
@@ -60,4 +63,5 @@ pub data IsTypeDeclaration : Tokens → TypeDeclaration → Tokens → Type 0 wh
 -- a block from TYPE to END_TYPE
 pub data IsTypes : Tokens → List TypeDeclaration → Tokens → Type 0 where
   block : {ts us vs ws : Tokens} {xs : List TypeDeclaration}
-      → Passes (keyword w.Type) ts us → Several IsTypeDeclaration us xs vs → Passes (keyword w.EndType) vs ws → IsTypes ts xs ws
+      → Passes (keyword w.Type) ts us → Several IsTypeDeclaration us xs vs → Passes (keyword w.EndType) vs ws
+      → IsTypes ts xs ws

@@ -85,7 +85,8 @@ output_section_at = do
   pure (sections.Output o)
 
 unfoldable pub block_section_at : Parser Section
-block_section_at = if_next (is_keyword w.VarInput) input_section_at (if_next (is_keyword w.VarOutput) output_section_at own_section_at)
+block_section_at =
+    if_next (is_keyword w.VarInput) input_section_at (if_next (is_keyword w.VarOutput) output_section_at own_section_at)
 
 unfoldable pub external_section_at : Parser Section
 external_section_at = do
@@ -107,10 +108,12 @@ unfoldable pub external_block_at : Parser VariableBlock
 external_block_at = block_at external_section_at external_at
 
 unfoldable pub program_block_at : ℕ → Parser VariableBlock
-program_block_at depth = if_next (is_keyword w.VarExternal) external_block_at (block_at own_section_at (declaration_at depth))
+program_block_at depth =
+    if_next (is_keyword w.VarExternal) external_block_at (block_at own_section_at (declaration_at depth))
 
 unfoldable pub variable_block_at : ℕ → Parser VariableBlock
-variable_block_at depth = if_next (is_keyword w.VarExternal) external_block_at (block_at block_section_at (declaration_at depth))
+variable_block_at depth =
+    if_next (is_keyword w.VarExternal) external_block_at (block_at block_section_at (declaration_at depth))
 
 abbrev pub starts_function_section : TokenKind → Bool
 starts_function_section k = is_keyword w.VarInput k || is_keyword w.Var k

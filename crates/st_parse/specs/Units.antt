@@ -41,8 +41,10 @@ elementary t = elementary_in t.start t.kind
 
 -- names of one type and one initial value
 pub data IsDeclaration : Tokens → Declaration → Tokens → Type 0 where
-  declared : {ts us vs ws zs qs : Tokens} {d : Declaration} (names : List Identifier) (t : VariableType) (v : Option Initial)
-      → Listed (Is name) ts names us → Passes (mark m.Colon) us vs → IsType vs t ws → Optional IsGiven ws v zs → Passes (mark m.Semicolon) zs qs
+  declared :
+      {ts us vs ws zs qs : Tokens} {d : Declaration} (names : List Identifier) (t : VariableType) (v : Option Initial)
+      → Listed (Is name) ts names us → Passes (mark m.Colon) us vs → IsType vs t ws → Optional IsGiven ws v zs
+      → Passes (mark m.Semicolon) zs qs
       → d ≡ record { names = names; declared = t; initial = v } → IsDeclaration ts d qs
 
 -- names of one type, without an initial value
@@ -53,46 +55,66 @@ pub data IsExternal : Tokens → Declaration → Tokens → Type 0 where
 
 -- The words that a block of variables begins with: in a function,
 pub data IsFunctionSection : Tokens → Section → Tokens → Type 0 where
-  input : {ts us : Tokens} {s : Section} → Passes (keyword w.VarInput) ts us → s ≡ sections.Input None → IsFunctionSection ts s us
-  own : {ts us : Tokens} {s : Section} → Passes (keyword w.Var) ts us → s ≡ sections.Local None → IsFunctionSection ts s us
-  constant : {ts us vs : Tokens} {s : Section} → Passes (keyword w.Var) ts us → Passes (keyword w.Constant) us vs → s ≡ sections.Constant → IsFunctionSection ts s vs
+  input : {ts us : Tokens} {s : Section} → Passes (keyword w.VarInput) ts us → s ≡ sections.Input None
+      → IsFunctionSection ts s us
+  own : {ts us : Tokens} {s : Section} → Passes (keyword w.Var) ts us → s ≡ sections.Local None
+      → IsFunctionSection ts s us
+  constant : {ts us vs : Tokens} {s : Section} → Passes (keyword w.Var) ts us → Passes (keyword w.Constant) us vs
+      → s ≡ sections.Constant → IsFunctionSection ts s vs
 
 -- in a program,
 pub data IsOwnSection : Tokens → Section → Tokens → Type 0 where
-  own : {ts us vs : Tokens} {s : Section} (o : Option Retention) → Passes (keyword w.Var) ts us → Optional (Is retention) us o vs → s ≡ sections.Local o → IsOwnSection ts s vs
-  constant : {ts us vs : Tokens} {s : Section} → Passes (keyword w.Var) ts us → Passes (keyword w.Constant) us vs → s ≡ sections.Constant → IsOwnSection ts s vs
+  own : {ts us vs : Tokens} {s : Section} (o : Option Retention) → Passes (keyword w.Var) ts us
+      → Optional (Is retention) us o vs → s ≡ sections.Local o → IsOwnSection ts s vs
+  constant : {ts us vs : Tokens} {s : Section} → Passes (keyword w.Var) ts us → Passes (keyword w.Constant) us vs
+      → s ≡ sections.Constant → IsOwnSection ts s vs
 
 -- and in a function block.
 pub data IsBlockSection : Tokens → Section → Tokens → Type 0 where
-  input : {ts us vs : Tokens} {s : Section} (o : Option Retention) → Passes (keyword w.VarInput) ts us → Optional (Is retention) us o vs → s ≡ sections.Input o → IsBlockSection ts s vs
-  output : {ts us vs : Tokens} {s : Section} (o : Option Retention) → Passes (keyword w.VarOutput) ts us → Optional (Is retention) us o vs → s ≡ sections.Output o → IsBlockSection ts s vs
+  input : {ts us vs : Tokens} {s : Section} (o : Option Retention) → Passes (keyword w.VarInput) ts us
+      → Optional (Is retention) us o vs → s ≡ sections.Input o → IsBlockSection ts s vs
+  output : {ts us vs : Tokens} {s : Section} (o : Option Retention) → Passes (keyword w.VarOutput) ts us
+      → Optional (Is retention) us o vs → s ≡ sections.Output o → IsBlockSection ts s vs
   own : {ts us : Tokens} {s : Section} → IsOwnSection ts s us → IsBlockSection ts s us
 
 pub data IsExternalSection : Tokens → Section → Tokens → Type 0 where
-  variable : {ts us : Tokens} {s : Section} → Passes (keyword w.VarExternal) ts us → s ≡ sections.External → IsExternalSection ts s us
-  constant : {ts us vs : Tokens} {s : Section} → Passes (keyword w.VarExternal) ts us → Passes (keyword w.Constant) us vs → s ≡ sections.ConstantExternal → IsExternalSection ts s vs
+  variable : {ts us : Tokens} {s : Section} → Passes (keyword w.VarExternal) ts us → s ≡ sections.External
+      → IsExternalSection ts s us
+  constant : {ts us vs : Tokens} {s : Section} → Passes (keyword w.VarExternal) ts us
+      → Passes (keyword w.Constant) us vs → s ≡ sections.ConstantExternal → IsExternalSection ts s vs
 
 -- a block of variables that begins so, up to END_VAR
-pub data IsBlock (IsSection : Tokens → Section → Tokens → Type 0) (IsOne : Tokens → Declaration → Tokens → Type 0) : Tokens → VariableBlock → Tokens → Type 0 where
+pub data IsBlock (IsSection : Tokens → Section → Tokens → Type 0) (IsOne : Tokens → Declaration → Tokens → Type 0) :
+    Tokens → VariableBlock → Tokens → Type 0 where
   block : {ts us vs ws : Tokens} {b : VariableBlock} (s : Section) (ds : List Declaration)
-      → IsSection ts s us → Many IsOne us ds vs → Passes (keyword w.EndVar) vs ws → b ≡ record { section = s; declarations = ds } → IsBlock IsSection IsOne ts b ws
+      → IsSection ts s us → Many IsOne us ds vs → Passes (keyword w.EndVar) vs ws
+      → b ≡ record { section = s; declarations = ds } → IsBlock IsSection IsOne ts b ws
 
 pub data IsProgramBlock : Tokens → VariableBlock → Tokens → Type 0 where
   own : {ts us : Tokens} {b : VariableBlock} → IsBlock IsOwnSection IsDeclaration ts b us → IsProgramBlock ts b us
-  external : {ts us : Tokens} {b : VariableBlock} → IsBlock IsExternalSection IsExternal ts b us → IsProgramBlock ts b us
+  external : {ts us : Tokens} {b : VariableBlock} → IsBlock IsExternalSection IsExternal ts b us
+      → IsProgramBlock ts b us
 
 pub data IsFunctionBlockBlock : Tokens → VariableBlock → Tokens → Type 0 where
-  own : {ts us : Tokens} {b : VariableBlock} → IsBlock IsBlockSection IsDeclaration ts b us → IsFunctionBlockBlock ts b us
-  external : {ts us : Tokens} {b : VariableBlock} → IsBlock IsExternalSection IsExternal ts b us → IsFunctionBlockBlock ts b us
+  own : {ts us : Tokens} {b : VariableBlock} → IsBlock IsBlockSection IsDeclaration ts b us
+      → IsFunctionBlockBlock ts b us
+  external : {ts us : Tokens} {b : VariableBlock} → IsBlock IsExternalSection IsExternal ts b us
+      → IsFunctionBlockBlock ts b us
 
 pub data IsUnit : Tokens → OrganisationUnit → Tokens → Type 0 where
-  function : {ts us vs ws zs qs rs ns : Tokens} {u : OrganisationUnit} (x : Identifier) (result : Kind × ℕ) (blocks : List VariableBlock) (body : List Stmt)
+  function : {ts us vs ws zs qs rs ns : Tokens} {u : OrganisationUnit} (x : Identifier) (result : Kind × ℕ)
+      (blocks : List VariableBlock) (body : List Stmt)
       → Passes (keyword w.Function) ts us → Is name us x vs → Passes (mark m.Colon) vs ws → Is elementary ws result zs
-      → Many (IsBlock IsFunctionSection IsDeclaration) zs blocks qs → IsStmts qs body rs → Passes (keyword w.EndFunction) rs ns
+      → Many (IsBlock IsFunctionSection IsDeclaration) zs blocks qs → IsStmts qs body rs
+      → Passes (keyword w.EndFunction) rs ns
       → u ≡ record { sort = sorts.Function result.0 result.1; name = x; blocks = blocks; body = body } → IsUnit ts u ns
-  function_block : {ts us vs ws zs qs : Tokens} {u : OrganisationUnit} (x : Identifier) (blocks : List VariableBlock) (body : List Stmt)
-      → Passes (keyword w.FunctionBlock) ts us → Is name us x vs → Many IsFunctionBlockBlock vs blocks ws → IsStmts ws body zs → Passes (keyword w.EndFunctionBlock) zs qs
+  function_block : {ts us vs ws zs qs : Tokens} {u : OrganisationUnit} (x : Identifier) (blocks : List VariableBlock)
+      (body : List Stmt)
+      → Passes (keyword w.FunctionBlock) ts us → Is name us x vs → Many IsFunctionBlockBlock vs blocks ws
+      → IsStmts ws body zs → Passes (keyword w.EndFunctionBlock) zs qs
       → u ≡ record { sort = sorts.FunctionBlock; name = x; blocks = blocks; body = body } → IsUnit ts u qs
-  program : {ts us vs ws zs qs : Tokens} {u : OrganisationUnit} (x : Identifier) (blocks : List VariableBlock) (body : List Stmt)
-      → Passes (keyword w.Program) ts us → Is name us x vs → Many IsProgramBlock vs blocks ws → IsStmts ws body zs → Passes (keyword w.EndProgram) zs qs
+  program : {ts us vs ws zs qs : Tokens} {u : OrganisationUnit} (x : Identifier) (blocks : List VariableBlock)
+      (body : List Stmt)
+      → Passes (keyword w.Program) ts us → Is name us x vs → Many IsProgramBlock vs blocks ws → IsStmts ws body zs
+      → Passes (keyword w.EndProgram) zs qs
       → u ≡ record { sort = sorts.Program; name = x; blocks = blocks; body = body } → IsUnit ts u qs

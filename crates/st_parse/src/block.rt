@@ -104,7 +104,8 @@ fn begins_in_block(tokens: &[Token]) -> bool
 /// The blocks of a function.
 #[tactic(auto, unfolding(crate::specs::Reading::many))]
 pub fn function_blocks(alloc: Global, tokens: &[Token]) -> Blocks<'_>
-    ensures { Gives (λ x. (map variable_block_view x.0.items, x.1.now)) result (many reading.starts_function_section (reading.function_block_at MAX_DEPTH) tokens.now) }
+    ensures { Gives (λ x. (map variable_block_view x.0.items, x.1.now)) result
+        (many reading.starts_function_section (reading.function_block_at MAX_DEPTH) tokens.now) }
 {
     several(
         Vec::new(alloc),
@@ -117,7 +118,8 @@ pub fn function_blocks(alloc: Global, tokens: &[Token]) -> Blocks<'_>
 /// The blocks of a program.
 #[tactic(auto, unfolding(crate::specs::Reading::many))]
 pub fn program_blocks(alloc: Global, tokens: &[Token]) -> Blocks<'_>
-    ensures { Gives (λ x. (map variable_block_view x.0.items, x.1.now)) result (many reading.starts_program_section (reading.program_block_at MAX_DEPTH) tokens.now) }
+    ensures { Gives (λ x. (map variable_block_view x.0.items, x.1.now)) result
+        (many reading.starts_program_section (reading.program_block_at MAX_DEPTH) tokens.now) }
 {
     several(
         Vec::new(alloc),
@@ -130,7 +132,8 @@ pub fn program_blocks(alloc: Global, tokens: &[Token]) -> Blocks<'_>
 /// The blocks of a function block.
 #[tactic(auto, unfolding(crate::specs::Reading::many))]
 pub fn variable_blocks(alloc: Global, tokens: &[Token]) -> Blocks<'_>
-    ensures { Gives (λ x. (map variable_block_view x.0.items, x.1.now)) result (many reading.starts_block_section (reading.variable_block_at MAX_DEPTH) tokens.now) }
+    ensures { Gives (λ x. (map variable_block_view x.0.items, x.1.now)) result
+        (many reading.starts_block_section (reading.variable_block_at MAX_DEPTH) tokens.now) }
 {
     several(
         Vec::new(alloc),

@@ -18,7 +18,8 @@ use std::alloc::Global;
 
 #[tactic(auto, unfolding(crate::specs::Reading::many))]
 fn global_blocks(alloc: Global, tokens: &[Token]) -> Result<(Vec<GlobalBlock>, &[Token]), ReadError>
-    ensures { Gives (λ x. (map global_block_view x.0.items, x.1.now)) result (many (is_keyword keywords.VarGlobal) (reading.global_block_at MAX_DEPTH) tokens.now) }
+    ensures { Gives (λ x. (map global_block_view x.0.items, x.1.now)) result
+        (many (is_keyword keywords.VarGlobal) (reading.global_block_at MAX_DEPTH) tokens.now) }
 {
     several(
         Vec::new(alloc),
@@ -30,7 +31,8 @@ fn global_blocks(alloc: Global, tokens: &[Token]) -> Result<(Vec<GlobalBlock>, &
 
 #[tactic(auto, unfolding(crate::specs::Reading::at_least_one))]
 fn resources(alloc: Global, tokens: &[Token]) -> Result<(Vec<Resource>, &[Token]), ReadError>
-    ensures { Gives (λ x. (map resource_view x.0.items, x.1.now)) result (at_least_one (is_keyword keywords.Resource) reading.resource_at tokens.now) }
+    ensures { Gives (λ x. (map resource_view x.0.items, x.1.now)) result
+        (at_least_one (is_keyword keywords.Resource) reading.resource_at tokens.now) }
 {
     let (first, rest) = resource(alloc, tokens)?;
     let mut found = Vec::new(alloc);

@@ -148,7 +148,8 @@ fn type_declaration(
     alloc: Global,
     tokens: &[Token],
 ) -> Result<(TypeDeclaration, &[Token]), ReadError>
-    ensures { Gives (λ x. (type_declaration_view x.0, x.1.now)) result (reading.type_declaration_at MAX_DEPTH tokens.now) }
+    ensures { Gives (λ x. (type_declaration_view x.0, x.1.now)) result
+        (reading.type_declaration_at MAX_DEPTH tokens.now) }
 {
     let (name, rest) = name(alloc, tokens)?;
     let (_, rest) = mark(Mark::Colon, rest)?;
@@ -162,7 +163,8 @@ fn type_declarations(
     alloc: Global,
     tokens: &[Token],
 ) -> Result<(Vec<TypeDeclaration>, &[Token]), ReadError>
-    ensures { Gives (λ x. (map type_declaration_view x.0.items, x.1.now)) result (reading.type_declarations_at MAX_DEPTH tokens.now) }
+    ensures { Gives (λ x. (map type_declaration_view x.0.items, x.1.now)) result
+        (reading.type_declarations_at MAX_DEPTH tokens.now) }
 {
     let (first, rest) = type_declaration(alloc, tokens)?;
     let mut found = Vec::new(alloc);
@@ -178,7 +180,8 @@ fn type_declarations(
 /// A block from TYPE to END_TYPE, and the tokens after it.
 #[tactic(auto, unfolding(crate::specs::TypeReading::types_at))]
 pub fn types(alloc: Global, tokens: &[Token]) -> Result<(Vec<TypeDeclaration>, &[Token]), ReadError>
-    ensures { Gives (λ x. (map type_declaration_view x.0.items, x.1.now)) result (reading.types_at MAX_DEPTH tokens.now) }
+    ensures { Gives (λ x. (map type_declaration_view x.0.items, x.1.now)) result
+        (reading.types_at MAX_DEPTH tokens.now) }
 {
     let (_, rest) = keyword(Keyword::Type, tokens)?;
     let (found, rest) = type_declarations(alloc, rest)?;

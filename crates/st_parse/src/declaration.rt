@@ -55,7 +55,8 @@ fn external(alloc: Global, tokens: &[Token]) -> Result<(Declaration, &[Token]), 
 /// Any number of declarations.
 #[tactic(auto, unfolding(crate::specs::Reading::many))]
 pub fn declarations(alloc: Global, tokens: &[Token]) -> Declarations<'_>
-    ensures { Gives (λ x. (map declaration_view x.0.items, x.1.now)) result (many is_name (reading.declaration_at MAX_DEPTH) tokens.now) }
+    ensures { Gives (λ x. (map declaration_view x.0.items, x.1.now)) result
+        (many is_name (reading.declaration_at MAX_DEPTH) tokens.now) }
 {
     several(
         Vec::new(alloc),
@@ -68,7 +69,8 @@ pub fn declarations(alloc: Global, tokens: &[Token]) -> Declarations<'_>
 /// Any number of declarations of externals.
 #[tactic(auto, unfolding(crate::specs::Reading::many))]
 pub fn externals(alloc: Global, tokens: &[Token]) -> Declarations<'_>
-    ensures { Gives (λ x. (map declaration_view x.0.items, x.1.now)) result (many is_name reading.external_at tokens.now) }
+    ensures { Gives (λ x. (map declaration_view x.0.items, x.1.now)) result
+        (many is_name reading.external_at tokens.now) }
 {
     several(
         Vec::new(alloc),

@@ -80,7 +80,8 @@ fn global(alloc: Global, tokens: &[Token]) -> Result<(GlobalDeclaration, &[Token
 
 #[tactic(auto, unfolding(crate::specs::Reading::many))]
 fn globals(alloc: Global, tokens: &[Token]) -> Result<(Vec<GlobalDeclaration>, &[Token]), ReadError>
-    ensures { Gives (λ x. (map global_declaration_view x.0.items, x.1.now)) result (many is_name (reading.global_at MAX_DEPTH) tokens.now) }
+    ensures { Gives (λ x. (map global_declaration_view x.0.items, x.1.now)) result
+        (many is_name (reading.global_at MAX_DEPTH) tokens.now) }
 {
     several(
         Vec::new(alloc),

@@ -25,7 +25,8 @@ fn next_name(alloc: Global, tokens: &[Token]) -> Result<(Identifier, &[Token]), 
 
 /// Names after a first one.
 pub fn names_behind<'a>(alloc: Global, first: Identifier, tokens: &'a [Token]) -> Names<'a>
-    ensures { Gives (λ x. (x.0.items, x.1.now)) result (parsers.several (tokens_of.is_mark Comma) (parsers.after_comma (one tokens_of.name)) (first ∷ []) tokens.now) }
+    ensures { Gives (λ x. (x.0.items, x.1.now)) result
+        (parsers.several (tokens_of.is_mark Comma) (parsers.after_comma (one tokens_of.name)) (first ∷ []) tokens.now) }
 {
     let mut found = Vec::new(alloc);
     found.push(first)?;

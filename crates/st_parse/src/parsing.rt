@@ -16,12 +16,15 @@ use std::alloc::Global;
 
 /// The tree of a text from its tokens.
 ///
-/// P1 at the first byte of a token with which what was read no longer begins any text of the grammar, or at the end of the last token where the
-/// tokens end too early. P2 where an expression, a statement or an initial value would be deeper than 64. P3 out of memory.
+/// P1 at the first byte of a token with which what was read no longer begins any text of the grammar, or at the end of
+/// the last token where the tokens end too early. P2 where an expression, a statement or an initial value would be
+/// deeper than 64. P3 out of memory.
 pub fn parse(alloc: Global, tokens: &[Token]) -> Result<Source, ParseError>
-    ensures found { IfOk result (λ parsed. IsSource tokens.now (source_view parsed) × SourceWithin MAX_DEPTH (source_view parsed)) }
+    ensures found { IfOk result
+        (λ parsed. IsSource tokens.now (source_view parsed) × SourceWithin MAX_DEPTH (source_view parsed)) }
     // A text of the grammar has no other tree.
-    ensures only { (source : tree.Source) → IsSource tokens.now source → SourceWithin MAX_DEPTH source → Answers source result }
+    ensures only { (source : tree.Source) → IsSource tokens.now source → SourceWithin MAX_DEPTH source
+        → Answers source result }
     ensures refused { IfErr result (λ error. Refused tokens.now error) }
 {
     match elements(alloc, tokens) {

@@ -85,7 +85,8 @@ fn interval(tokens: &[Token]) -> Result<(u64, &[Token]), ReadError>
 
 #[tactic(auto, unfolding(crate::specs::Reading::optional))]
 fn interval_or_not(tokens: &[Token]) -> Result<(Option<u64>, &[Token]), ReadError>
-    ensures { Gives (λ x. (x.0, x.1.now)) result (optional (is_keyword keywords.Interval) reading.interval_at tokens.now) }
+    ensures { Gives (λ x. (x.0, x.1.now)) result
+        (optional (is_keyword keywords.Interval) reading.interval_at tokens.now) }
 {
     if !leads(Keyword::Interval, tokens) {
         return Ok((None, tokens));
@@ -171,7 +172,8 @@ fn instance(alloc: Global, tokens: &[Token]) -> Result<(Instance, &[Token]), Rea
 
 #[tactic(auto, unfolding(crate::specs::Reading::at_least_one))]
 fn instances(alloc: Global, tokens: &[Token]) -> Result<(Vec<Instance>, &[Token]), ReadError>
-    ensures { Gives (λ x. (x.0.items, x.1.now)) result (at_least_one (is_keyword keywords.Program) reading.instance_at tokens.now) }
+    ensures { Gives (λ x. (x.0.items, x.1.now)) result
+        (at_least_one (is_keyword keywords.Program) reading.instance_at tokens.now) }
 {
     let (first, rest) = instance(alloc, tokens)?;
     let mut found = Vec::new(alloc);

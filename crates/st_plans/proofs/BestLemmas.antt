@@ -5,13 +5,16 @@ use Rattle.st_plans.specs.declared.entry.Activation.{Activation}
 use Rattle.st_plans.specs.declared.plan.Schedule.{Schedule}
 use Rattle.st_plans.specs.Due.{sooner}
 
-same_row : (schedules : List Schedule) (a b : Activation) → sooner schedules a b ≡ false → sooner schedules b a ≡ false → a.row ≡ b.row
+same_row : (schedules : List Schedule) (a b : Activation) → sooner schedules a b ≡ false → sooner schedules b a ≡ false
+    → a.row ≡ b.row
 same_row schedules a b e f = grind (arith, nat_tests)
 
-same_program : (schedules : List Schedule) (a b : Activation) → sooner schedules a b ≡ false → sooner schedules b a ≡ false → a.program ≡ b.program
+same_program : (schedules : List Schedule) (a b : Activation) → sooner schedules a b ≡ false
+    → sooner schedules b a ≡ false → a.program ≡ b.program
 same_program schedules a b e f = grind (arith, nat_tests)
 
-pub none_sooner : (schedules : List Schedule) (a b : Activation) → sooner schedules a b ≡ false → sooner schedules b a ≡ false → a ≡ b
+pub none_sooner : (schedules : List Schedule) (a b : Activation) → sooner schedules a b ≡ false
+    → sooner schedules b a ≡ false → a ≡ b
 none_sooner schedules a b e f =
     let programs = same_program schedules a b e f in
     let rows = same_row schedules a b e f in

@@ -21,7 +21,8 @@ dues_before schedules p sampled (suc n) = dues_before schedules p sampled n ++ d
 abbrev pub dues : List Schedule → ℕ → List SampledRow → List Bool
 dues schedules p sampled = dues_before schedules p sampled (length sampled)
 
--- One resource: P1 by SINGLE s and every 10 ms with priority 1, P2 every 20 ms with priority 1, P3 by SINGLE s with priority 0.
+-- One resource: P1 by SINGLE s and every 10 ms with priority 1, P2 every 20 ms with priority 1, P3 by SINGLE s with
+-- priority 0.
 abbrev pub three_programs : List Schedule
 three_programs =
     record { resource = 0; task = 0; interval = 10; priority = 1 }
@@ -34,7 +35,8 @@ row_with t s = record { moment = t; samples = s ∷ false ∷ s ∷ [] }
 
 -- s is FALSE at 0, TRUE at 5 and 10, and FALSE at 20; no program has run
 abbrev pub four_rows : History
-four_rows = record { sampled = row_with 0 false ∷ row_with 5 true ∷ row_with 10 true ∷ row_with 20 false ∷ []; runs = [] }
+four_rows =
+    record { sampled = row_with 0 false ∷ row_with 5 true ∷ row_with 10 true ∷ row_with 20 false ∷ []; runs = [] }
 
 -- an activation of a program, by its number and the row's
 abbrev pub of : ℕ → ℕ → Activation

@@ -1,5 +1,6 @@
 -- What a log makes of the variables, and what it may hold.
-use Rattle.std.specs.Prelude.{◌≡◌, ℕ, nat_lt, Bool, true, List, [], ◌∷◌, ◌++◌, fold, slice_index_or, Option, Some, None, option_map}
+use Rattle.std.specs.Prelude.{◌≡◌, ℕ, nat_lt, Bool, true, List, [], ◌∷◌, ◌++◌, fold, slice_index_or, Option, Some, None}
+use Rattle.std.specs.Prelude.{option_map}
 use Rattle.st_plans.specs.declared.entry.Entry.{Entry}
 use Rattle.st_plans.specs.declared.entry.Entry.TheVariants.{Row, Done}
 use Rattle.st_plans.specs.Rows.{Latch}
@@ -73,13 +74,15 @@ is_later (Some last) moment = nat_lt last moment
 
 -- A row fits the plan and is later than the one before it. A Done was waiting.
 pub data MayFollow (plan : Plan) (before : Option ℕ) (past : Past) : Entry → Type 0 where
-  row_follows : (row : Latch) → fits plan row ≡ true → is_later (last_moment before past.rows) row.moment ≡ true → MayFollow plan before past (Row row)
+  row_follows : (row : Latch) → fits plan row ≡ true → is_later (last_moment before past.rows) row.moment ≡ true
+      → MayFollow plan before past (Row row)
   done_follows : (a : _) → Waits (schedules_of plan) past.history a → MayFollow plan before past (Done a)
 
 -- Each entry of a legal log may follow those before it.
 abbrev pub IsLegalFrom : Plan → Option ℕ → Past → Log → Type 0
 IsLegalFrom plan before past [] = Unit {0}
-IsLegalFrom plan before past (e ∷ log) = MayFollow plan before past e × IsLegalFrom plan before (with_entry plan past e) log
+IsLegalFrom plan before past (e ∷ log) =
+    MayFollow plan before past e × IsLegalFrom plan before (with_entry plan past e) log
 
 abbrev pub IsLegal : Plan → Store → Option ℕ → Log → Type 0
 IsLegal plan start before log = IsLegalFrom plan before (beginning start) log

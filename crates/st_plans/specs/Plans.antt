@@ -1,5 +1,6 @@
 -- The plan of a text as data: what the runtime needs of it.
-use Rattle.std.specs.Prelude.{ℕ, ◌^◌, pos, nat_lt, Bool, true, false, ◌&&◌, List, [], ◌∷◌, map, slice_index_or, slice_get, Option, Some, None}
+use Rattle.std.specs.Prelude.{ℕ, ◌^◌, pos, nat_lt, Bool, true, false, ◌&&◌, List, [], ◌∷◌, map, slice_index_or}
+use Rattle.std.specs.Prelude.{slice_get, Option, Some, None}
 use Rattle.std.specs.List.{list_any}
 use Rattle.st_words.specs.declared.limits.TheConstants.{MOMENT_LIMIT}
 use Rattle.st_words.specs.declared.kind.Kind.{Kind}
@@ -47,7 +48,8 @@ abbrev pub initial_value : Kind → Option Datum → Datum
 initial_value k (Some v) = v
 initial_value k None = record { kind = k; number = pos 0 }
 
--- Retention goes by the innermost declaration that says something of it; the declarations on the way stand from the outermost in.
+-- Retention goes by the innermost declaration that says something of it; the declarations on the way stand from the
+-- outermost in.
 abbrev pub retained_so_far : Bool → List (Option Retention) → Bool
 retained_so_far so [] = so
 retained_so_far so (None ∷ inner) = retained_so_far so inner
@@ -90,7 +92,12 @@ abbrev pub task_at : List Task → ℕ → Task
 task_at tasks t = slice_index_or tasks t record { single = no_single; interval = 0; priority = 0 }
 
 abbrev pub schedule_of : List Task → Program → Schedule
-schedule_of tasks p = record { resource = p.resource; task = p.task; interval = (task_at tasks p.task).interval; priority = (task_at tasks p.task).priority }
+schedule_of tasks p = record {
+  resource = p.resource;
+  task = p.task;
+  interval = (task_at tasks p.task).interval;
+  priority = (task_at tasks p.task).priority;
+}
 
 abbrev pub schedules_of : Plan → List Schedule
 schedules_of plan = map (schedule_of plan.tasks) plan.programs

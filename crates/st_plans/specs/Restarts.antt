@@ -22,8 +22,8 @@ abbrev pub or_else : Option Store → Store → Store
 or_else None s = s
 or_else (Some t) s = t
 
--- The variables with these values written over them. One for which there is no variable of its type is left out: a record of the
--- plan's own layout has none.
+-- The variables with these values written over them. One for which there is no variable of its type is left out: a
+-- record of the plan's own layout has none.
 abbrev pub written_over : Store → Store → Store
 written_over s [] = s
 written_over s (e ∷ es) = written_over (or_else (unless_refused (assigned s e.0 e.1)) s) es

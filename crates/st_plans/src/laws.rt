@@ -5,7 +5,8 @@ ghost use Rattle.st_plans.specs.declared.entry.Entry.{Entry};
 ghost use Rattle.st_types.specs.Stores.{Store};
 ghost use Rattle.st_plans.specs.declared.plan.Schedule.{Schedule};
 ghost use Rattle.st_plans.specs.Plans.{Plan};
-ghost use Rattle.st_plans.specs.Due.{History, due, served, Waits, IsBest, NoneWaits, HasOverruns, no_history, with_row, with_run};
+ghost use Rattle.st_plans.specs.Due.{History, due, served, Waits, IsBest, NoneWaits, HasOverruns, no_history, with_row};
+ghost use Rattle.st_plans.specs.Due.{with_run};
 ghost use Rattle.st_plans.specs.declared.entry.Entry.TheVariants.{Done};
 ghost use Rattle.st_plans.specs.declared.entry.Activation.{Activation};
 ghost use Rattle.st_plans.specs.Logs.{Log, IsLegal, past_of, with_entry};
@@ -14,8 +15,10 @@ ghost use Rattle.st_plans.specs.Examples.{every, rows_at, dues, three_programs, 
 /// A program every 10 ms is due at the first row, and where a further whole interval has gone by since then.
 pub fn intervals()
     ensures from_5 { dues (every 10) 0 (rows_at (5 ∷ 14 ∷ 15 ∷ 40 ∷ [])) ≡ true ∷ false ∷ true ∷ true ∷ [] }
-    ensures from_0 { dues (every 10) 0 (rows_at (0 ∷ 9 ∷ 10 ∷ 25 ∷ 29 ∷ 30 ∷ [])) ≡ true ∷ false ∷ true ∷ true ∷ false ∷ true ∷ [] }
-    ensures no_interval { dues (every 0) 0 (rows_at (0 ∷ 9 ∷ 10 ∷ 25 ∷ 29 ∷ 30 ∷ [])) ≡ false ∷ false ∷ false ∷ false ∷ false ∷ false ∷ [] }
+    ensures from_0 { dues (every 10) 0 (rows_at (0 ∷ 9 ∷ 10 ∷ 25 ∷ 29 ∷ 30 ∷ [])) ≡ true ∷ false ∷ true ∷ true ∷ false
+        ∷ true ∷ [] }
+    ensures no_interval { dues (every 0) 0 (rows_at (0 ∷ 9 ∷ 10 ∷ 25 ∷ 29 ∷ 30 ∷ [])) ≡ false ∷ false ∷ false ∷ false
+        ∷ false ∷ false ∷ [] }
 {}
 
 /// SINGLE makes due where it rises, and holds the interval back while it is TRUE.
@@ -38,47 +41,66 @@ pub fn three_programs_in_order()
 
 /// At most one activation of a resource is the best.
 pub fn one_activation_is_best()
-    ensures { (schedules : List Schedule) (h : History) (resource : ℕ) (a b : Activation) → IsBest schedules h resource a → IsBest schedules h resource b → a ≡ b }
+    ensures { (schedules : List Schedule) (h : History) (resource : ℕ) (a b : Activation)
+        → IsBest schedules h resource a → IsBest schedules h resource b → a ≡ b }
 {}
 
 /// At most one activation of a program waits, and none right after its Done.
 pub fn one_activation_waits()
-    ensures one { (schedules : List Schedule) (h : History) (p j k : ℕ) → Waits schedules h record { program = p; row = j } → Waits schedules h record { program = p; row = k } → j ≡ k }
-    ensures none_behind_a_done { (schedules : List Schedule) (h : History) (p k : ℕ) → Waits schedules (with_run h p) record { program = p; row = k } → ⊥ }
+    ensures one { (schedules : List Schedule) (h : History) (p j k : ℕ) → Waits schedules h
+        record { program = p; row = j } → Waits schedules h record { program = p; row = k } → j ≡ k }
+    ensures none_behind_a_done { (schedules : List Schedule) (h : History) (p k : ℕ)
+        → Waits schedules (with_run h p) record { program = p; row = k } → ⊥ }
 {}
 
-/// An activation that was served never waits again, whatever rows and Dones follow: a program's last Done stands after the row that
-/// it served and after no more rows than there are, at first and after each row and each Done.
+/// An activation that was served never waits again, whatever rows and Dones follow: a program's last Done stands after
+/// the row that it served and after no more rows than there are, at first and after each row and each Done.
 pub fn served_for_good()
-    ensures by_its_done { (schedules : List Schedule) (h : History) (p k : ℕ) → Waits schedules h record { program = p; row = k } → k < served p (with_run h p).runs }
-    ensures over_dones { (h : History) (p q k : ℕ) → k < served p h.runs → served p h.runs ≤ length h.sampled → k < served p (with_run h q).runs }
-    ensures over_rows { (h : History) (moment : ℕ) (samples : List Bool) (p k : ℕ) → k < served p h.runs → k < served p (with_row h moment samples).runs }
+    ensures by_its_done { (schedules : List Schedule) (h : History) (p k : ℕ)
+        → Waits schedules h record { program = p; row = k } → k < served p (with_run h p).runs }
+    ensures over_dones { (h : History) (p q k : ℕ) → k < served p h.runs → served p h.runs ≤ length h.sampled
+        → k < served p (with_run h q).runs }
+    ensures over_rows { (h : History) (moment : ℕ) (samples : List Bool) (p k : ℕ) → k < served p h.runs
+        → k < served p (with_row h moment samples).runs }
     ensures within_at_first { (p : ℕ) → served p no_history.runs ≤ length no_history.sampled }
-    ensures within_over_dones { (h : History) (p q : ℕ) → served p h.runs ≤ length h.sampled → served p (with_run h q).runs ≤ length (with_run h q).sampled }
-    ensures within_over_rows { (h : History) (moment : ℕ) (samples : List Bool) (p : ℕ) → served p h.runs ≤ length h.sampled → served p (with_row h moment samples).runs ≤ length (with_row h moment samples).sampled }
-    ensures never_waits { (schedules : List Schedule) (h : History) (p k : ℕ) → k < served p h.runs → Waits schedules h record { program = p; row = k } → ⊥ }
+    ensures within_over_dones { (h : History) (p q : ℕ) → served p h.runs ≤ length h.sampled
+        → served p (with_run h q).runs ≤ length (with_run h q).sampled }
+    ensures within_over_rows { (h : History) (moment : ℕ) (samples : List Bool) (p : ℕ) → served p h.runs
+        ≤ length h.sampled → served p (with_row h moment samples).runs ≤ length (with_row h moment samples).sampled }
+    ensures never_waits { (schedules : List Schedule) (h : History) (p k : ℕ) → k < served p h.runs
+        → Waits schedules h record { program = p; row = k } → ⊥ }
 {}
 
-/// There is no overrun at first. A row at which a waiting program is due is one more; one at which it is not due is none, nor is
-/// one at which nothing of it waits. A Done takes none away.
+/// There is no overrun at first. A row at which a waiting program is due is one more; one at which it is not due is
+/// none, nor is one at which nothing of it waits. A Done takes none away.
 pub fn overruns_are_rows_that_meet_a_waiting_program()
     ensures none_at_first { (schedules : List Schedule) (p : ℕ) → HasOverruns schedules no_history p 0 }
-    ensures met { (schedules : List Schedule) (h : History) (moment : ℕ) (samples : List Bool) (p k n : ℕ) → Waits schedules h record { program = p; row = k } → HasOverruns schedules h p n
-        → due schedules p (with_row h moment samples).sampled (length h.sampled) ≡ true → HasOverruns schedules (with_row h moment samples) p (n + 1) }
-    ensures begun { (schedules : List Schedule) (h : History) (moment : ℕ) (samples : List Bool) (p n : ℕ) → served p h.runs ≤ length h.sampled → ((k : ℕ) → Waits schedules h record { program = p; row = k } → ⊥) → HasOverruns schedules h p n
-        → due schedules p (with_row h moment samples).sampled (length h.sampled) ≡ true → HasOverruns schedules (with_row h moment samples) p n }
-    ensures passed { (schedules : List Schedule) (h : History) (moment : ℕ) (samples : List Bool) (p n : ℕ) → HasOverruns schedules h p n
-        → due schedules p (with_row h moment samples).sampled (length h.sampled) ≡ false → HasOverruns schedules (with_row h moment samples) p n }
-    ensures done { (schedules : List Schedule) (h : History) (p k n : ℕ) → Waits schedules h record { program = p; row = k } → HasOverruns schedules h p n → HasOverruns schedules (with_run h p) p n }
+    ensures met { (schedules : List Schedule) (h : History) (moment : ℕ) (samples : List Bool) (p k n : ℕ)
+        → Waits schedules h record { program = p; row = k } → HasOverruns schedules h p n
+        → due schedules p (with_row h moment samples).sampled (length h.sampled) ≡ true
+        → HasOverruns schedules (with_row h moment samples) p (n + 1) }
+    ensures begun { (schedules : List Schedule) (h : History) (moment : ℕ) (samples : List Bool) (p n : ℕ)
+        → served p h.runs ≤ length h.sampled → ((k : ℕ) → Waits schedules h record { program = p; row = k } → ⊥)
+        → HasOverruns schedules h p n
+        → due schedules p (with_row h moment samples).sampled (length h.sampled) ≡ true
+        → HasOverruns schedules (with_row h moment samples) p n }
+    ensures passed { (schedules : List Schedule) (h : History) (moment : ℕ) (samples : List Bool) (p n : ℕ)
+        → HasOverruns schedules h p n
+        → due schedules p (with_row h moment samples).sampled (length h.sampled) ≡ false
+        → HasOverruns schedules (with_row h moment samples) p n }
+    ensures done { (schedules : List Schedule) (h : History) (p k n : ℕ) → Waits schedules h
+        record { program = p; row = k } → HasOverruns schedules h p n → HasOverruns schedules (with_run h p) p n }
 {}
 
 /// What a log with one entry more makes is one step further.
 pub fn logs_grow_by_one_step()
-    ensures { (plan : Plan) (start : Store) (log : List Entry) (e : Entry) → past_of plan start (log ++ e ∷ []) ≡ with_entry plan (past_of plan start log) e }
+    ensures { (plan : Plan) (start : Store) (log : List Entry) (e : Entry)
+        → past_of plan start (log ++ e ∷ []) ≡ with_entry plan (past_of plan start log) e }
 {}
 
 /// A legal log has an activation's Done at most once, whatever stands before, between and after.
 #[tactic(auto, using(crate::proofs::OnceLemmas::done_once))]
 pub fn each_activation_is_done_once()
-    ensures { (plan : Plan) (start : Store) (before : Option ℕ) (a : Activation) (log rest : Log) → IsLegal plan start before (log ++ (Done a ∷ (rest ++ Done a ∷ []))) → ⊥ }
+    ensures { (plan : Plan) (start : Store) (before : Option ℕ) (a : Activation) (log rest : Log)
+        → IsLegal plan start before (log ++ (Done a ∷ (rest ++ Done a ∷ []))) → ⊥ }
 {}

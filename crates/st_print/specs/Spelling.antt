@@ -1,5 +1,6 @@
 -- How values are spelled in reports and traces.
-use Rattle.std.specs.Prelude.{ℕ, zero, suc, ◌/◌, ◌%◌, ◌==◌, List, [], ◌∷◌, ◌++◌, ℤ, unsigned_abs, true, codes, if◌then◌else◌}
+use Rattle.std.specs.Prelude.{ℕ, zero, suc, ◌/◌, ◌%◌, ◌==◌, List, [], ◌∷◌, ◌++◌, ℤ, unsigned_abs, true, codes}
+use Rattle.std.specs.Prelude.{if◌then◌else◌}
 use Rattle.std.specs.Fmt.{digit_glyph, signed_decimal}
 use Rattle.st_words.specs.Values.{Datum}
 use Rattle.st_words.specs.Kinds.{row_of}

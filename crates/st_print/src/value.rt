@@ -9,8 +9,8 @@ use st_words::{Sort, Value};
 use std::io;
 use std::io::Write;
 
-/// Writes a value: a whole number in decimal, a BOOL as TRUE or FALSE, a bit string as `16#` and all its hexadecimal digits in
-/// upper case, a TIME as its milliseconds and `ms`.
+/// Writes a value: a whole number in decimal, a BOOL as TRUE or FALSE, a bit string as `16#` and all its hexadecimal
+/// digits in upper case, a TIME as its milliseconds and `ms`.
 pub fn write_value<W: Write>(out: &mut W, value: Value) -> io::Result<()>
     ensures spelled { OnOk result (Appends (W.contents out.old) (W.contents out.new) (value_text value)) }
 {

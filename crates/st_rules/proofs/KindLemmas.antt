@@ -9,12 +9,14 @@ use Rattle.st_types.specs.NameTypes.{Declared, kind_of_type, kind_of_variable, v
 use Rattle.st_rules.specs.Declarations.{is_there}
 use Rattle.st_rules.specs.Expressions.{kind_of_name, is_plain}
 
-same_type : (o : Option VariableType) → option_and_then kind_of_type o ≡ option_and_then kind_of_type (option_and_then Some o)
+same_type : (o : Option VariableType)
+    → option_and_then kind_of_type o ≡ option_and_then kind_of_type (option_and_then Some o)
 same_type None = refl
 same_type (Some t) = refl
 
 -- the type of a name alone is what the text tells of the variable
-pub kind_of_plain_name : (text : Declared) (u : OrganisationUnit) (v : Variable) → is_there (kind_of_name u v) ≡ true → kind_of_name u v ≡ kind_of_variable text u v
+pub kind_of_plain_name : (text : Declared) (u : OrganisationUnit) (v : Variable) → is_there (kind_of_name u v) ≡ true
+    → kind_of_name u v ≡ kind_of_variable text u v
 kind_of_plain_name text u (variable x no_selectors) h = same_type (variable_type u x.name)
 kind_of_plain_name text u (variable x (selector_then y ys)) h = absurd (cc)
 

@@ -1,6 +1,7 @@
 -- The first of a list of places.
 use Rattle.std.specs.List.{flat_map, Contains}
-use Rattle.std.proofs.Common.{◌≡◌, ℕ, List, [], ◌∷◌, ◌++◌, true, false, Option, Some, None, refl, sym, ap, ◌∙◌, append_assoc, arith}
+use Rattle.std.proofs.Common.{◌≡◌, ℕ, List, [], ◌∷◌, ◌++◌, true, false, Option, Some, None, refl, sym, ap, ◌∙◌}
+use Rattle.std.proofs.Common.{append_assoc, arith}
 use Rattle.st_words.specs.declared.identifier.Identifier.{Identifier}
 use Rattle.st_rules.specs.Places.{first, or_place, repeats}
 use Rattle.st_rules.specs.Expressions.{or_else}
@@ -19,9 +20,11 @@ first_alone [] = refl
 first_alone (x ∷ ps) = refl
 
 -- scopes that stand one after another
-pub repeats_append : (ss ts : List (List Identifier)) → flat_map repeats (ss ++ ts) ≡ flat_map repeats ss ++ flat_map repeats ts
+pub repeats_append : (ss ts : List (List Identifier))
+    → flat_map repeats (ss ++ ts) ≡ flat_map repeats ss ++ flat_map repeats ts
 repeats_append [] ts = refl
-repeats_append (s ∷ ss) ts = ap (λ ps. repeats s ++ ps) (repeats_append ss ts) ∙ sym (append_assoc (repeats s) (flat_map repeats ss) (flat_map repeats ts))
+repeats_append (s ∷ ss) ts = ap (λ ps. repeats s ++ ps) (repeats_append ss ts)
+    ∙ sym (append_assoc (repeats s) (flat_map repeats ss) (flat_map repeats ts))
 
 pub first_or : (ps qs : List ℕ) → or_place (first ps) (first qs) ≡ first (ps ++ qs)
 first_or [] qs = refl
@@ -40,7 +43,8 @@ pub some_is_first : (ps : List ℕ) (p : ℕ) → first ps ≡ Some p → is_non
 some_is_first [] p h = absurd (cc)
 some_is_first (x ∷ ps) p h = refl
 
-pub or_step : (a b found : Option ℕ) (ps qs : List ℕ) → a ≡ first ps → b ≡ first qs → found ≡ or_place a b → found ≡ first (ps ++ qs)
+pub or_step : (a b found : Option ℕ) (ps qs : List ℕ) → a ≡ first ps → b ≡ first qs → found ≡ or_place a b
+    → found ≡ first (ps ++ qs)
 or_step a b found ps qs left right is = rw (is, left, right) (first_or ps qs)
 
 -- what the first place tells of the others

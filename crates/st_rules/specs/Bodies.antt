@@ -12,7 +12,8 @@ use Rattle.st_types.specs.Operators.{number_of}
 use Rattle.st_types.specs.NameTypes.{Declared, variable_type}
 use Rattle.st_types.specs.Resolution.{operand_kind}
 use Rattle.st_rules.specs.Declarations.{is_there}
-use Rattle.st_rules.specs.Expressions.{first_byte, kind_of_name, is_plain, kind_or_taken, kind_at, unless, or_else, wrong_operations}
+use Rattle.st_rules.specs.Expressions.{first_byte, kind_of_name, is_plain, kind_or_taken, kind_at, unless, or_else}
+use Rattle.st_rules.specs.Expressions.{wrong_operations}
 
 -- the place of a variable that the unit does not declare
 abbrev pub unknown_variable : OrganisationUnit → Variable → List ℕ
@@ -31,9 +32,11 @@ abbrev pub unknown_names_of : OrganisationUnit → Stmt → List ℕ
 unknown_names_of u (assign v e) = unknown_variable u v ++ unknown_names u e
 unknown_names_of u _ = []
 
--- an expression that is assigned to a variable of this type: its wrong operations, or else itself where it is of another type
+-- an expression that is assigned to a variable of this type: its wrong operations, or else itself where it is of
+-- another type
 abbrev pub wrong_types : Declared → OrganisationUnit → Kind → Expr → List ℕ
-wrong_types text u k e = or_else (wrong_operations text u (Some k) e) (unless (same_kind (kind_at text u (Some k) e) k) (first_byte e))
+wrong_types text u k e =
+    or_else (wrong_operations text u (Some k) e) (unless (same_kind (kind_at text u (Some k) e) k) (first_byte e))
 
 abbrev pub wrong_types_for : Declared → OrganisationUnit → Expr → Option Kind → List ℕ
 wrong_types_for text u e None = []
@@ -45,7 +48,8 @@ wrong_types_of text u _ = []
 
 -- a literal at a place that expects a type, outside its own type or that which it takes
 abbrev pub literal_out_of_range : Option Kind → Literal → List ℕ
-literal_out_of_range expected (literals.Number n) = unless (holds (kind_or_taken expected n.written) (number_of n)) n.place
+literal_out_of_range expected (literals.Number n) =
+    unless (holds (kind_or_taken expected n.written) (number_of n)) n.place
 literal_out_of_range expected (literals.Truth at b) = []
 literal_out_of_range expected (literals.Duration at n) = []
 
@@ -84,7 +88,8 @@ is_none_of (p ∷ ps) = false
 abbrev pub out_of_range_for : Declared → OrganisationUnit → Expr → Option Kind → List ℕ
 out_of_range_for text u e None = typed_literals_out_of_range e
 out_of_range_for text u e (Some k) =
-    if is_plain u e && is_none_of (wrong_operations text u (Some k) e) then out_of_range text u (Some k) e else typed_literals_out_of_range e
+    if is_plain u e && is_none_of (wrong_operations text u (Some k) e) then out_of_range text u (Some k) e
+    else typed_literals_out_of_range e
 
 abbrev pub out_of_range_of : Declared → OrganisationUnit → Stmt → List ℕ
 out_of_range_of text u (assign v e) = out_of_range_for text u e (kind_of_name u v)

@@ -1,5 +1,6 @@
 -- Expressions of literals, variables, parentheses and operators: where they begin, and the types of their parts.
-use Rattle.std.specs.Prelude.{ℕ, List, [], ◌∷◌, ◌++◌, Bool, true, false, ◌&&◌, if◌then◌else◌, Option, Some, None, option_and_then}
+use Rattle.std.specs.Prelude.{ℕ, List, [], ◌∷◌, ◌++◌, Bool, true, false, ◌&&◌, if◌then◌else◌, Option, Some, None}
+use Rattle.std.specs.Prelude.{option_and_then}
 use Rattle.st_words.specs.declared.kind.Kind.{Kind}
 use Rattle.st_words.specs.declared.kind.Sort.{Sort}
 use Rattle.st_words.specs.declared.kind.Sort.TheVariants.{Signed, Unsigned, Bits, Duration, Truth}
@@ -8,9 +9,12 @@ use Rattle.st_words.specs.declared.literal.Literal.TheVariants as literals
 use Rattle.st_words.specs.declared.operator.UnaryOperator.{UnaryOperator}
 use Rattle.st_words.specs.declared.operator.UnaryOperator.TheVariants.{Negate, Not}
 use Rattle.st_words.specs.declared.operator.BinaryOperator.{BinaryOperator}
-use Rattle.st_words.specs.declared.operator.BinaryOperator.TheVariants.{Or, Xor, And, Equal, NotEqual, Less, Greater, LessOrEqual, GreaterOrEqual, Add, Subtract, Multiply, Divide, Modulo}
+use Rattle.st_words.specs.declared.operator.BinaryOperator.TheVariants.{Or, Xor, And, Equal, NotEqual, Less, Greater}
+use Rattle.st_words.specs.declared.operator.BinaryOperator.TheVariants.{LessOrEqual, GreaterOrEqual, Add, Subtract}
+use Rattle.st_words.specs.declared.operator.BinaryOperator.TheVariants.{Multiply, Divide, Modulo}
 use Rattle.st_words.specs.Kinds.{row_of, same_kind}
-use Rattle.st_trees.specs.Expressions.{Expr, literal, read, call, parenthesis, unary, binary, Variable, variable, no_selectors, selector_then}
+use Rattle.st_trees.specs.Expressions.{Expr, literal, read, call, parenthesis, unary, binary, Variable, variable}
+use Rattle.st_trees.specs.Expressions.{no_selectors, selector_then}
 use Rattle.st_trees.specs.Units.{OrganisationUnit}
 use Rattle.st_types.specs.NameTypes.{Declared, kind_of_type, variable_type}
 use Rattle.st_types.specs.Resolution.{taken_kind, own_kind, operand_kind}
@@ -122,5 +126,7 @@ wrong_operations text u k (parenthesis at e) = wrong_operations text u k e
 wrong_operations text u k (unary op at e) =
     or_else (wrong_operations text u k e) (unless (takes_operand op (row_of (kind_at text u k e)).sort) at)
 wrong_operations text u k (binary op l r) =
-    or_else (wrong_operations text u (operand_kind text u k op l r) l ++ wrong_operations text u (operand_kind text u k op l r) r)
-    (unless (is_operation op (kind_at text u (operand_kind text u k op l r) l) (kind_at text u (operand_kind text u k op l r) r)) (first_byte l))
+    or_else (wrong_operations text u (operand_kind text u k op l r) l
+    ++ wrong_operations text u (operand_kind text u k op l r) r)
+    (unless (is_operation op (kind_at text u (operand_kind text u k op l r) l)
+    (kind_at text u (operand_kind text u k op l r) r)) (first_byte l))

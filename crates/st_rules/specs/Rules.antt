@@ -19,14 +19,17 @@ unknown_names_in (configuration c) = []
 -- initial values and assignments of wrong types
 abbrev pub wrong_types_in : Declared → LibraryElement → List ℕ
 wrong_types_in text (types ts) = []
-wrong_types_in text (unit u) = flat_map (variables_against WrongType) u.blocks ++ flat_map (wrong_types_of text u) u.body
+wrong_types_in text (unit u) =
+    flat_map (variables_against WrongType) u.blocks ++ flat_map (wrong_types_of text u) u.body
 wrong_types_in text (configuration c) = flat_map (globals_against WrongType) c.globals
 
 -- literals outside their types
 abbrev pub out_of_range_in : Declared → LibraryElement → List ℕ
 out_of_range_in text (types ts) = []
-out_of_range_in text (unit u) = flat_map (variables_against OutOfRange) u.blocks ++ flat_map (out_of_range_of text u) u.body
-out_of_range_in text (configuration c) = flat_map (globals_against OutOfRange) c.globals ++ flat_map priorities_out_of_range c.resources
+out_of_range_in text (unit u) =
+    flat_map (variables_against OutOfRange) u.blocks ++ flat_map (out_of_range_of text u) u.body
+out_of_range_in text (configuration c) =
+    flat_map (globals_against OutOfRange) c.globals ++ flat_map priorities_out_of_range c.resources
 
 -- the places at which a rule is broken
 abbrev pub broken_at : Source → Rule → List ℕ

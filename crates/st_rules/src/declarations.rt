@@ -35,7 +35,8 @@ fn repeated_field(alloc: Global, definition: &TypeDefinition) -> Result<Option<u
 
 #[tactic(auto, using(crate::proofs::PlaceLemmas::first_front, crate::proofs::PlaceLemmas::first_behind))]
 fn repeat_in_types(alloc: Global, types: &[TypeDeclaration]) -> Result<Option<usize>, AllocError>
-    ensures { IfOk result (λ place. place ≡ first (flat_map repeats (map (λ t. fields_of t.definition) (map type_declaration_view types.now)))) }
+    ensures { IfOk result (λ place. place
+        ≡ first (flat_map repeats (map (λ t. fields_of t.definition) (map type_declaration_view types.now)))) }
 {
     for declaration in types {
         if let Some(place) = repeated_field(alloc, &declaration.definition)? {
@@ -63,7 +64,8 @@ fn repeat_in_configuration(
     alloc: Global,
     configuration: &Configuration,
 ) -> Result<Option<usize>, AllocError>
-    ensures { IfOk result (λ place. place ≡ first (flat_map repeats (scopes_of_element (element_view (LibraryElement.Configuration configuration.now))))) }
+    ensures { IfOk result (λ place. place ≡ first
+        (flat_map repeats (scopes_of_element (element_view (LibraryElement.Configuration configuration.now))))) }
 {
     let globals = globals_of(alloc, &configuration.globals)?;
     if let Some(place) = first_repeat(&globals) {
@@ -98,7 +100,8 @@ fn repeat_in_elements(
     alloc: Global,
     elements: &[LibraryElement],
 ) -> Result<Option<usize>, AllocError>
-    ensures { IfOk result (λ place. place ≡ first (flat_map repeats (flat_map scopes_of_element (map element_view elements.now)))) }
+    ensures { IfOk result
+        (λ place. place ≡ first (flat_map repeats (flat_map scopes_of_element (map element_view elements.now)))) }
 {
     for element in elements {
         if let Some(place) = repeat_in_element(alloc, element)? {
@@ -145,7 +148,8 @@ fn first_repeated(
     names: &[&Identifier],
     elements: &[LibraryElement],
 ) -> Result<Option<usize>, AllocError>
-    ensures { IfOk result (λ place. place ≡ first (repeats (map (λ x. x.now) names.now) ++ flat_map repeats (flat_map scopes_of_element (map element_view elements.now)))) }
+    ensures { IfOk result (λ place. place ≡ first (repeats (map (λ x. x.now) names.now)
+        ++ flat_map repeats (flat_map scopes_of_element (map element_view elements.now)))) }
 {
     if let Some(place) = first_repeat(names) {
         return Ok(Some(place));
@@ -160,7 +164,9 @@ fn first_refused(
     names: &[&Identifier],
     elements: &[LibraryElement],
 ) -> Result<Option<usize>, AllocError>
-    ensures { IfOk result (λ place. place ≡ first (places_where (λ x. is_standard x.name) (map (λ x. x.now) names.now) ++ places_where (is_taken (map (λ x. x.now) names.now)) (flat_map variables_of_element (map element_view elements.now)))) }
+    ensures { IfOk result
+        (λ place. place ≡ first (places_where (λ x. is_standard x.name) (map (λ x. x.now) names.now) ++ places_where
+        (is_taken (map (λ x. x.now) names.now)) (flat_map variables_of_element (map element_view elements.now)))) }
 {
     if let Some(place) = first_standard(names) {
         return Ok(Some(place));

@@ -7,7 +7,8 @@ ghost use Rattle.st_trees.specs.DeclarationViews.{declaration_view, variable_blo
 ghost use Rattle.st_trees.specs.ConfigurationViews.{global_declaration_view, global_block_view, resource_view};
 ghost use Rattle.st_types.specs.NameTypes.{kind_of_type};
 ghost use Rattle.st_rules.specs.Places.{first};
-ghost use Rattle.st_rules.specs.Initials.{wrong_literal, constant_against, initial_against, variables_against, globals_against, priority_out_of_range, priorities_out_of_range};
+ghost use Rattle.st_rules.specs.Initials.{wrong_literal, constant_against, initial_against, variables_against};
+ghost use Rattle.st_rules.specs.Initials.{globals_against, priority_out_of_range, priorities_out_of_range};
 
 use crate::kinds::{kind_of_literal, kind_or_taken, place_of_literal};
 use crate::ranges::literal_out_of_range;
@@ -53,7 +54,8 @@ fn initial_against(rule: Rule, kind: Option<Kind>, initial: &Option<Initial>) ->
 
 #[tactic(auto, using(crate::proofs::PlaceLemmas::first_front, crate::proofs::PlaceLemmas::first_behind))]
 fn declarations_against(rule: Rule, declarations: &[Declaration]) -> Option<usize>
-    ensures { result ≡ first (flat_map (λ d. initial_against rule (kind_of_type d.declared) d.initial) (map declaration_view declarations.now)) }
+    ensures { result ≡ first (flat_map (λ d. initial_against rule (kind_of_type d.declared) d.initial)
+        (map declaration_view declarations.now)) }
 {
     for declaration in declarations {
         let kind = kind_of_type(&declaration.declared);
@@ -79,7 +81,8 @@ pub fn variables_against(rule: Rule, blocks: &[VariableBlock]) -> Option<usize>
 
 #[tactic(auto, using(crate::proofs::PlaceLemmas::first_front, crate::proofs::PlaceLemmas::first_behind))]
 fn global_declarations_against(rule: Rule, declarations: &[GlobalDeclaration]) -> Option<usize>
-    ensures { result ≡ first (flat_map (λ d. initial_against rule (kind_of_type d.declared) d.initial) (map global_declaration_view declarations.now)) }
+    ensures { result ≡ first (flat_map (λ d. initial_against rule (kind_of_type d.declared) d.initial)
+        (map global_declaration_view declarations.now)) }
 {
     for declaration in declarations {
         let kind = kind_of_type(&declaration.declared);

@@ -6,9 +6,11 @@ ghost use Rattle.st_words.specs.Kinds.{row_of};
 ghost use Rattle.st_trees.specs.ExpressionViews.{expr_view, variable_view};
 ghost use Rattle.st_trees.specs.UnitViews.{unit_view};
 ghost use Rattle.st_types.specs.NameTypes.{Declared, kind_of_variable};
-ghost use Rattle.st_types.specs.Resolution.{is_joining, is_untyped_literal, is_untyped, is_whole_or_bits, taken_kind, kind_of_literal, own_kind, operand_kind};
+ghost use Rattle.st_types.specs.Resolution.{is_joining, is_untyped_literal, is_untyped, is_whole_or_bits, taken_kind};
+ghost use Rattle.st_types.specs.Resolution.{kind_of_literal, own_kind, operand_kind};
 ghost use Rattle.st_rules.specs.Declarations.{is_there};
-ghost use Rattle.st_rules.specs.Expressions.{kind_of_name, place_of_literal, place_of_variable, first_byte, is_plain, kind_or_taken, kind_at, takes_operand, takes_operands, is_operation};
+ghost use Rattle.st_rules.specs.Expressions.{kind_of_name, place_of_literal, place_of_variable, first_byte, is_plain};
+ghost use Rattle.st_rules.specs.Expressions.{kind_or_taken, kind_at, takes_operand, takes_operands, is_operation};
 
 use crate::lookup::kind_of_name;
 use st_trees::{Expr, Unit, Variable};
@@ -175,7 +177,8 @@ fn are_untyped(left: &Expr, right: &Expr) -> bool
 fn common_kind(unit: &Unit, left: &Expr, right: &Expr) -> Option<Kind>
     requires left { is_plain (unit_view unit.now) (expr_view left.now) ≡ true }
     requires right { is_plain (unit_view unit.now) (expr_view right.now) ≡ true }
-    ensures { (text : Declared) → result ≡ or_kind (own_kind text (unit_view unit.now) (expr_view left.now)) (own_kind text (unit_view unit.now) (expr_view right.now)) }
+    ensures { (text : Declared) → result ≡ or_kind (own_kind text (unit_view unit.now) (expr_view left.now))
+        (own_kind text (unit_view unit.now) (expr_view right.now)) }
 {
     own_kind(unit, left).or(own_kind(unit, right))
 }
@@ -190,7 +193,8 @@ pub fn operand_kind(
 ) -> Option<Kind>
     requires left { is_plain (unit_view unit.now) (expr_view left.now) ≡ true }
     requires right { is_plain (unit_view unit.now) (expr_view right.now) ≡ true }
-    ensures { (text : Declared) → result ≡ operand_kind text (unit_view unit.now) expected operator (expr_view left.now) (expr_view right.now) }
+    ensures { (text : Declared)
+        → result ≡ operand_kind text (unit_view unit.now) expected operator (expr_view left.now) (expr_view right.now) }
 {
     if are_untyped(left, right) {
         return if is_joining(operator) { expected } else { None };

@@ -9,7 +9,8 @@ ghost use Rattle.st_types.specs.NameTypes.{Declared};
 ghost use Rattle.st_types.specs.Resolution.{operand_kind};
 ghost use Rattle.st_words.specs.Kinds.{row_of, same_kind};
 ghost use Rattle.st_rules.specs.Places.{first};
-ghost use Rattle.st_rules.specs.Expressions.{kind_at, first_byte, is_plain, takes_operand, is_operation, unless, or_else, wrong_operations};
+ghost use Rattle.st_rules.specs.Expressions.{kind_at, first_byte, is_plain, takes_operand, is_operation, unless};
+ghost use Rattle.st_rules.specs.Expressions.{or_else, wrong_operations};
 ghost use Rattle.st_rules.specs.Bodies.{wrong_types, wrong_types_for, wrong_types_of};
 
 use crate::kinds::{first_byte, is_operation, is_plain, kind_at, operand_kind, takes_operand};
@@ -28,7 +29,9 @@ fn wrong_operands(
 ) -> Option<usize>
     requires left { is_plain (unit_view unit.now) (expr_view left.now) ≡ true }
     requires right { is_plain (unit_view unit.now) (expr_view right.now) ≡ true }
-    ensures { (text : Declared) → result ≡ first (unless (is_operation operator (kind_at text (unit_view unit.now) operand (expr_view left.now)) (kind_at text (unit_view unit.now) operand (expr_view right.now))) (first_byte (expr_view left.now))) }
+    ensures { (text : Declared)
+        → result ≡ first (unless (is_operation operator (kind_at text (unit_view unit.now) operand (expr_view left.now))
+        (kind_at text (unit_view unit.now) operand (expr_view right.now))) (first_byte (expr_view left.now))) }
 {
     let left_kind = kind_at(unit, operand, left);
     let right_kind = kind_at(unit, operand, right);
@@ -48,7 +51,8 @@ fn wrong_operand(
     operand: &Expr,
 ) -> Option<usize>
     requires { is_plain (unit_view unit.now) (expr_view operand.now) ≡ true }
-    ensures { (text : Declared) → result ≡ first (unless (takes_operand operator (row_of (kind_at text (unit_view unit.now) expected (expr_view operand.now))).sort) place) }
+    ensures { (text : Declared) → result ≡ first (unless (takes_operand operator
+        (row_of (kind_at text (unit_view unit.now) expected (expr_view operand.now))).sort) place) }
 {
     if takes_operand(operator, kind_at(unit, expected, operand)) {
         None
@@ -61,7 +65,8 @@ fn wrong_operand(
 #[tactic(auto, using(crate::proofs::KindLemmas::plain_left, crate::proofs::KindLemmas::plain_right, crate::proofs::PlaceLemmas::first_or, crate::proofs::PlaceLemmas::first_or_else))]
 pub fn wrong_operation(unit: &Unit, expected: Option<Kind>, expression: &Expr) -> Option<usize>
     requires { is_plain (unit_view unit.now) (expr_view expression.now) ≡ true }
-    ensures { (text : Declared) → result ≡ first (wrong_operations text (unit_view unit.now) expected (expr_view expression.now)) }
+    ensures { (text : Declared)
+        → result ≡ first (wrong_operations text (unit_view unit.now) expected (expr_view expression.now)) }
 {
     match expression {
         Expr::Literal(_) => None,
@@ -83,10 +88,13 @@ pub fn wrong_operation(unit: &Unit, expected: Option<Kind>, expression: &Expr) -
     }
 }
 
-/// The place of an expression that is right in itself, where it is of another type than the variable that it is assigned to.
+/// The place of an expression that is right in itself, where it is of another type than the variable that it is
+/// assigned to.
 fn other_type(unit: &Unit, kind: Kind, expression: &Expr) -> Option<usize>
     requires { is_plain (unit_view unit.now) (expr_view expression.now) ≡ true }
-    ensures { (text : Declared) → result ≡ first (unless (same_kind (kind_at text (unit_view unit.now) (Some kind) (expr_view expression.now)) kind) (first_byte (expr_view expression.now))) }
+    ensures { (text : Declared) → result
+        ≡ first (unless (same_kind (kind_at text (unit_view unit.now) (Some kind) (expr_view expression.now)) kind)
+        (first_byte (expr_view expression.now))) }
 {
     if kind_at(unit, Some(kind), expression).is(kind) {
         None
@@ -99,7 +107,8 @@ fn other_type(unit: &Unit, kind: Kind, expression: &Expr) -> Option<usize>
 #[tactic(auto, using(crate::proofs::PlaceLemmas::first_or_else))]
 fn wrong_type(unit: &Unit, kind: Kind, expression: &Expr) -> Option<usize>
     requires { is_plain (unit_view unit.now) (expr_view expression.now) ≡ true }
-    ensures { (text : Declared) → result ≡ first (wrong_types text (unit_view unit.now) kind (expr_view expression.now)) }
+    ensures { (text : Declared)
+        → result ≡ first (wrong_types text (unit_view unit.now) kind (expr_view expression.now)) }
 {
     or_place(
         wrong_operation(unit, Some(kind), expression),
@@ -109,7 +118,8 @@ fn wrong_type(unit: &Unit, kind: Kind, expression: &Expr) -> Option<usize>
 
 /// The place of what is wrong in an expression that is assigned to a variable, where that has an elementary type.
 fn wrong_type_for(unit: &Unit, expression: &Expr, kind: Option<Kind>) -> Option<usize>
-    ensures { (text : Declared) → result ≡ first (wrong_types_for text (unit_view unit.now) (expr_view expression.now) kind) }
+    ensures { (text : Declared)
+        → result ≡ first (wrong_types_for text (unit_view unit.now) (expr_view expression.now) kind) }
 {
     let kind = kind?;
     if is_plain(unit, expression) {
@@ -131,7 +141,8 @@ fn wrong_type_in_statement(unit: &Unit, statement: &Stmt) -> Option<usize>
 /// The place of a wrong type in the assignments of a body.
 #[tactic(auto, using(crate::proofs::PlaceLemmas::first_front, crate::proofs::PlaceLemmas::first_behind))]
 pub fn wrong_type_in_body(unit: &Unit, body: &[Stmt]) -> Option<usize>
-    ensures { (text : Declared) → result ≡ first (flat_map (wrong_types_of text (unit_view unit.now)) (map stmt_view body.now)) }
+    ensures { (text : Declared)
+        → result ≡ first (flat_map (wrong_types_of text (unit_view unit.now)) (map stmt_view body.now)) }
 {
     for statement in body {
         if let Some(place) = wrong_type_in_statement(unit, statement) {

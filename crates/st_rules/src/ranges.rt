@@ -10,7 +10,9 @@ ghost use Rattle.st_types.specs.Operators.{number_of};
 ghost use Rattle.st_types.specs.NameTypes.{Declared};
 ghost use Rattle.st_rules.specs.Places.{first};
 ghost use Rattle.st_rules.specs.Expressions.{is_plain};
-ghost use Rattle.st_rules.specs.Bodies.{literal_out_of_range, out_of_range, typed_out_of_range, typed_literal_out_of_range, typed_literals_out_of_range, out_of_range_for, out_of_range_of};
+ghost use Rattle.st_rules.specs.Bodies.{literal_out_of_range, out_of_range, typed_out_of_range};
+ghost use Rattle.st_rules.specs.Bodies.{typed_literal_out_of_range, typed_literals_out_of_range, out_of_range_for};
+ghost use Rattle.st_rules.specs.Bodies.{out_of_range_of};
 
 use crate::kinds::{is_plain, kind_or_taken, operand_kind};
 use crate::lookup::kind_of_name;
@@ -46,7 +48,8 @@ pub fn literal_out_of_range(expected: Option<Kind>, literal: &Literal) -> Option
 #[tactic(auto, using(crate::proofs::KindLemmas::plain_left, crate::proofs::KindLemmas::plain_right, crate::proofs::PlaceLemmas::first_or))]
 fn out_of_range(unit: &Unit, expected: Option<Kind>, expression: &Expr) -> Option<usize>
     requires { is_plain (unit_view unit.now) (expr_view expression.now) ≡ true }
-    ensures { (text : Declared) → result ≡ first (out_of_range text (unit_view unit.now) expected (expr_view expression.now)) }
+    ensures { (text : Declared)
+        → result ≡ first (out_of_range text (unit_view unit.now) expected (expr_view expression.now)) }
 {
     match expression {
         Expr::Literal(literal) => literal_out_of_range(expected, literal),
@@ -105,7 +108,8 @@ fn typed_literals_out_of_range(expression: &Expr) -> Option<usize>
 /// The place of a literal outside its type, in an expression that is assigned to a variable of a type.
 #[tactic(auto, using(crate::proofs::PlaceLemmas::none_is_first, crate::proofs::PlaceLemmas::some_is_first))]
 fn assigned_out_of_range(unit: &Unit, kind: Kind, expression: &Expr) -> Option<usize>
-    ensures { (text : Declared) → result ≡ first (out_of_range_for text (unit_view unit.now) (expr_view expression.now) (Some kind)) }
+    ensures { (text : Declared)
+        → result ≡ first (out_of_range_for text (unit_view unit.now) (expr_view expression.now) (Some kind)) }
 {
     if !is_plain(unit, expression) {
         return typed_literals_out_of_range(expression);
@@ -131,7 +135,8 @@ fn out_of_range_in_statement(unit: &Unit, statement: &Stmt) -> Option<usize>
 /// The place of a literal outside its type, in the assignments of a body.
 #[tactic(auto, using(crate::proofs::PlaceLemmas::first_front, crate::proofs::PlaceLemmas::first_behind))]
 pub fn out_of_range_in_body(unit: &Unit, body: &[Stmt]) -> Option<usize>
-    ensures { (text : Declared) → result ≡ first (flat_map (out_of_range_of text (unit_view unit.now)) (map stmt_view body.now)) }
+    ensures { (text : Declared)
+        → result ≡ first (flat_map (out_of_range_of text (unit_view unit.now)) (map stmt_view body.now)) }
 {
     for statement in body {
         if let Some(place) = out_of_range_in_statement(unit, statement) {

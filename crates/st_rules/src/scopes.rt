@@ -2,11 +2,14 @@
 
 ghost use Rattle.std.specs.Prelude.{◌≡◌, ◌++◌, map, IfOk};
 ghost use Rattle.std.specs.List.{flat_map};
-ghost use Rattle.st_trees.specs.DeclarationViews.{field_view, type_declaration_view, declaration_view, variable_block_view};
+ghost use Rattle.st_trees.specs.DeclarationViews.{field_view, type_declaration_view, declaration_view};
+ghost use Rattle.st_trees.specs.DeclarationViews.{variable_block_view};
 ghost use Rattle.st_trees.specs.UnitViews.{unit_view};
-ghost use Rattle.st_trees.specs.ConfigurationViews.{global_declaration_view, global_block_view, resource_view, configuration_view};
+ghost use Rattle.st_trees.specs.ConfigurationViews.{global_declaration_view, global_block_view, resource_view};
+ghost use Rattle.st_trees.specs.ConfigurationViews.{configuration_view};
 ghost use Rattle.st_trees.specs.SourceViews.{element_view};
-ghost use Rattle.st_rules.specs.Scopes.{names_of_element, variables_of_block, variables_of, variables_of_element, listed_names, globals_of_block, globals_of, names_in};
+ghost use Rattle.st_rules.specs.Scopes.{names_of_element, variables_of_block, variables_of, variables_of_element};
+ghost use Rattle.st_rules.specs.Scopes.{listed_names, globals_of_block, globals_of, names_in};
 
 use crate::names::push_names;
 use st_trees::{
@@ -20,7 +23,8 @@ fn push_type_names<'a>(
     scope: &mut Vec<&'a Identifier>,
     types: &'a [TypeDeclaration],
 ) -> Result<(), AllocError>
-    ensures { IfOk result (λ done. map (λ x. x.now) scope.new.items ≡ map (λ x. x.now) scope.old.items ++ map (λ t. t.name) (map type_declaration_view types.now)) }
+    ensures { IfOk result (λ done. map (λ x. x.now) scope.new.items ≡ map (λ x. x.now) scope.old.items
+        ++ map (λ t. t.name) (map type_declaration_view types.now)) }
 {
     for declaration in types {
         scope.push(&declaration.name)?;
@@ -32,7 +36,8 @@ fn push_element_names<'a>(
     scope: &mut Vec<&'a Identifier>,
     element: &'a LibraryElement,
 ) -> Result<(), AllocError>
-    ensures { IfOk result (λ done. map (λ x. x.now) scope.new.items ≡ map (λ x. x.now) scope.old.items ++ names_of_element (element_view element.now)) }
+    ensures { IfOk result (λ done. map (λ x. x.now) scope.new.items ≡ map (λ x. x.now) scope.old.items
+        ++ names_of_element (element_view element.now)) }
 {
     match element {
         LibraryElement::Types(types) => push_type_names(scope, types),
@@ -49,7 +54,8 @@ pub fn names_of_text<'a>(
     alloc: Global,
     elements: &'a [LibraryElement],
 ) -> Result<Vec<&'a Identifier>, AllocError>
-    ensures { IfOk result (λ scope. map (λ x. x.now) scope.items ≡ flat_map names_of_element (map element_view elements.now)) }
+    ensures { IfOk result
+        (λ scope. map (λ x. x.now) scope.items ≡ flat_map names_of_element (map element_view elements.now)) }
 {
     let mut scope = Vec::new(alloc);
     for element in elements {
@@ -62,7 +68,8 @@ fn push_declared<'a>(
     scope: &mut Vec<&'a Identifier>,
     declarations: &'a [Declaration],
 ) -> Result<(), AllocError>
-    ensures { IfOk result (λ done. map (λ x. x.now) scope.new.items ≡ map (λ x. x.now) scope.old.items ++ flat_map (λ d. d.names) (map declaration_view declarations.now)) }
+    ensures { IfOk result (λ done. map (λ x. x.now) scope.new.items ≡ map (λ x. x.now) scope.old.items
+        ++ flat_map (λ d. d.names) (map declaration_view declarations.now)) }
 {
     for declaration in declarations {
         push_names(scope, &declaration.names)?;
@@ -74,7 +81,8 @@ fn push_variables<'a>(
     scope: &mut Vec<&'a Identifier>,
     blocks: &'a [VariableBlock],
 ) -> Result<(), AllocError>
-    ensures { IfOk result (λ done. map (λ x. x.now) scope.new.items ≡ map (λ x. x.now) scope.old.items ++ flat_map variables_of_block (map variable_block_view blocks.now)) }
+    ensures { IfOk result (λ done. map (λ x. x.now) scope.new.items ≡ map (λ x. x.now) scope.old.items
+        ++ flat_map variables_of_block (map variable_block_view blocks.now)) }
 {
     for block in blocks {
         push_declared(scope, &block.declarations)?;
@@ -95,7 +103,8 @@ fn push_element_variables<'a>(
     scope: &mut Vec<&'a Identifier>,
     element: &'a LibraryElement,
 ) -> Result<(), AllocError>
-    ensures { IfOk result (λ done. map (λ x. x.now) scope.new.items ≡ map (λ x. x.now) scope.old.items ++ variables_of_element (element_view element.now)) }
+    ensures { IfOk result (λ done. map (λ x. x.now) scope.new.items ≡ map (λ x. x.now) scope.old.items
+        ++ variables_of_element (element_view element.now)) }
 {
     match element {
         LibraryElement::Unit(unit) => push_variables(scope, &unit.blocks),
@@ -108,7 +117,8 @@ pub fn variables_of_text<'a>(
     alloc: Global,
     elements: &'a [LibraryElement],
 ) -> Result<Vec<&'a Identifier>, AllocError>
-    ensures { IfOk result (λ scope. map (λ x. x.now) scope.items ≡ flat_map variables_of_element (map element_view elements.now)) }
+    ensures { IfOk result
+        (λ scope. map (λ x. x.now) scope.items ≡ flat_map variables_of_element (map element_view elements.now)) }
 {
     let mut scope = Vec::new(alloc);
     for element in elements {
@@ -135,7 +145,8 @@ fn push_listed<'a>(
     scope: &mut Vec<&'a Identifier>,
     declaration: &'a GlobalDeclaration,
 ) -> Result<(), AllocError>
-    ensures { IfOk result (λ done. map (λ x. x.now) scope.new.items ≡ map (λ x. x.now) scope.old.items ++ listed_names (global_declaration_view declaration.now).names) }
+    ensures { IfOk result (λ done. map (λ x. x.now) scope.new.items ≡ map (λ x. x.now) scope.old.items
+        ++ listed_names (global_declaration_view declaration.now).names) }
 {
     match &declaration.names {
         GlobalNames::Located(name, _) => {
@@ -150,7 +161,8 @@ fn push_globals<'a>(
     scope: &mut Vec<&'a Identifier>,
     declarations: &'a [GlobalDeclaration],
 ) -> Result<(), AllocError>
-    ensures { IfOk result (λ done. map (λ x. x.now) scope.new.items ≡ map (λ x. x.now) scope.old.items ++ flat_map (λ d. listed_names d.names) (map global_declaration_view declarations.now)) }
+    ensures { IfOk result (λ done. map (λ x. x.now) scope.new.items ≡ map (λ x. x.now) scope.old.items
+        ++ flat_map (λ d. listed_names d.names) (map global_declaration_view declarations.now)) }
 {
     for declaration in declarations {
         push_listed(scope, declaration)?;
@@ -163,7 +175,8 @@ pub fn globals_of<'a>(
     alloc: Global,
     blocks: &'a [GlobalBlock],
 ) -> Result<Vec<&'a Identifier>, AllocError>
-    ensures { IfOk result (λ scope. map (λ x. x.now) scope.items ≡ flat_map globals_of_block (map global_block_view blocks.now)) }
+    ensures { IfOk result
+        (λ scope. map (λ x. x.now) scope.items ≡ flat_map globals_of_block (map global_block_view blocks.now)) }
 {
     let mut scope = Vec::new(alloc);
     for block in blocks {
@@ -177,7 +190,8 @@ pub fn names_of_resources<'a>(
     alloc: Global,
     resources: &'a [Resource],
 ) -> Result<Vec<&'a Identifier>, AllocError>
-    ensures { IfOk result (λ scope. map (λ x. x.now) scope.items ≡ map (λ r. r.name) (map resource_view resources.now)) }
+    ensures { IfOk result
+        (λ scope. map (λ x. x.now) scope.items ≡ map (λ r. r.name) (map resource_view resources.now)) }
 {
     let mut scope = Vec::new(alloc);
     for resource in resources {
@@ -187,7 +201,8 @@ pub fn names_of_resources<'a>(
 }
 
 fn push_tasks<'a>(scope: &mut Vec<&'a Identifier>, tasks: &'a [Task]) -> Result<(), AllocError>
-    ensures { IfOk result (λ done. map (λ x. x.now) scope.new.items ≡ map (λ x. x.now) scope.old.items ++ map (λ t. t.name) tasks.now) }
+    ensures { IfOk result
+        (λ done. map (λ x. x.now) scope.new.items ≡ map (λ x. x.now) scope.old.items ++ map (λ t. t.name) tasks.now) }
 {
     for task in tasks {
         scope.push(&task.name)?;
@@ -199,7 +214,8 @@ fn push_instances<'a>(
     scope: &mut Vec<&'a Identifier>,
     instances: &'a [Instance],
 ) -> Result<(), AllocError>
-    ensures { IfOk result (λ done. map (λ x. x.now) scope.new.items ≡ map (λ x. x.now) scope.old.items ++ map (λ i. i.name) instances.now) }
+    ensures { IfOk result (λ done. map (λ x. x.now) scope.new.items ≡ map (λ x. x.now) scope.old.items
+        ++ map (λ i. i.name) instances.now) }
 {
     for instance in instances {
         scope.push(&instance.name)?;

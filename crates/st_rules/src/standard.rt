@@ -23,7 +23,8 @@ fn is_word(name: &Name, word: &[u8]) -> bool
 }
 
 fn is_bistable_or_edge(name: &Name) -> bool
-    ensures { result ≡ (bytes_eq name.now (codes "SR") || (bytes_eq name.now (codes "RS") || (bytes_eq name.now (codes "R_TRIG") || bytes_eq name.now (codes "F_TRIG")))) }
+    ensures { result ≡ (bytes_eq name.now (codes "SR") || (bytes_eq name.now (codes "RS")
+        || (bytes_eq name.now (codes "R_TRIG") || bytes_eq name.now (codes "F_TRIG")))) }
 {
     is_word(name, b"SR")
         || is_word(name, b"RS")
@@ -32,13 +33,15 @@ fn is_bistable_or_edge(name: &Name) -> bool
 }
 
 fn is_counter(name: &Name) -> bool
-    ensures { result ≡ (bytes_eq name.now (codes "CTU") || (bytes_eq name.now (codes "CTD") || bytes_eq name.now (codes "CTUD"))) }
+    ensures { result
+        ≡ (bytes_eq name.now (codes "CTU") || (bytes_eq name.now (codes "CTD") || bytes_eq name.now (codes "CTUD"))) }
 {
     is_word(name, b"CTU") || is_word(name, b"CTD") || is_word(name, b"CTUD")
 }
 
 fn is_timer(name: &Name) -> bool
-    ensures { result ≡ (bytes_eq name.now (codes "TON") || (bytes_eq name.now (codes "TOF") || bytes_eq name.now (codes "TP"))) }
+    ensures { result
+        ≡ (bytes_eq name.now (codes "TON") || (bytes_eq name.now (codes "TOF") || bytes_eq name.now (codes "TP"))) }
 {
     is_word(name, b"TON") || is_word(name, b"TOF") || is_word(name, b"TP")
 }
@@ -52,7 +55,8 @@ fn is_block(name: &Name) -> bool
 }
 
 fn is_selection(name: &Name) -> bool
-    ensures { result ≡ (bytes_eq name.now (codes "ABS") || (bytes_eq name.now (codes "MIN") || (bytes_eq name.now (codes "MAX") || (bytes_eq name.now (codes "LIMIT") || bytes_eq name.now (codes "SEL"))))) }
+    ensures { result ≡ (bytes_eq name.now (codes "ABS") || (bytes_eq name.now (codes "MIN") || (bytes_eq name.now
+        (codes "MAX") || (bytes_eq name.now (codes "LIMIT") || bytes_eq name.now (codes "SEL"))))) }
 {
     is_word(name, b"ABS")
         || is_word(name, b"MIN")
@@ -62,7 +66,8 @@ fn is_selection(name: &Name) -> bool
 }
 
 fn is_shift(name: &Name) -> bool
-    ensures { result ≡ (bytes_eq name.now (codes "SHL") || (bytes_eq name.now (codes "SHR") || (bytes_eq name.now (codes "ROL") || bytes_eq name.now (codes "ROR")))) }
+    ensures { result ≡ (bytes_eq name.now (codes "SHL")
+        || (bytes_eq name.now (codes "SHR") || (bytes_eq name.now (codes "ROL") || bytes_eq name.now (codes "ROR")))) }
 {
     is_word(name, b"SHL") || is_word(name, b"SHR") || is_word(name, b"ROL") || is_word(name, b"ROR")
 }
@@ -131,7 +136,8 @@ fn is_conversion_of(name: &Name, from: Kind, to: Kind) -> bool
 
 /// Whether the name is that of a conversion from the type.
 fn is_conversion_from(name: &Name, from: Kind) -> bool
-    ensures { result ≡ list_any (λ l. not (same_kind from l) && bytes_eq name.now (conversion_name from l)) convertible }
+    ensures { result
+        ≡ list_any (λ l. not (same_kind from l) && bytes_eq name.now (conversion_name from l)) convertible }
 {
     convertible()
         .iter()
@@ -140,7 +146,8 @@ fn is_conversion_from(name: &Name, from: Kind) -> bool
 
 /// Whether the name is that of a conversion.
 fn is_conversion(name: &Name) -> bool
-    ensures { result ≡ list_any (λ k. list_any (λ l. not (same_kind k l) && bytes_eq name.now (conversion_name k l)) convertible) convertible }
+    ensures { result ≡ list_any
+        (λ k. list_any (λ l. not (same_kind k l) && bytes_eq name.now (conversion_name k l)) convertible) convertible }
 {
     convertible()
         .iter()

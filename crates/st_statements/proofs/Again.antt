@@ -1,5 +1,6 @@
 -- What is of the grammar is read: tokens, lists.
-use Rattle.std.proofs.Common.{◌≡◌, ℕ, zero, suc, ◌<◌, ◌≤◌, Bool, true, false, cond, List, [], ◌∷◌, ◌++◌, length, Option, Some, None, Ok, refl, sym, ap, ◌∙◌, arith, append_assoc}
+use Rattle.std.proofs.Common.{◌≡◌, ℕ, zero, suc, ◌<◌, ◌≤◌, Bool, true, false, cond, List, [], ◌∷◌, ◌++◌, length, Option}
+use Rattle.std.proofs.Common.{Some, None, Ok, refl, sym, ap, ◌∙◌, arith, append_assoc}
 use Rattle.std.proofs.lemmas.List.{append-nil}
 use Rattle.st_words.specs.declared.identifier.Identifier.{Identifier}
 use Rattle.st_words.specs.declared.literal.Number.{Number as NumberLeaf}
@@ -9,8 +10,10 @@ use Rattle.st_lex.specs.declared.token.TokenKind.TheVariants.{Name, Keyword, Mar
 use Rattle.st_lex.specs.declared.mark.Mark.{Mark as MarkType}
 use Rattle.st_lex.specs.declared.mark.Mark.TheVariants as m
 use Rattle.st_lex.specs.declared.keyword.Keyword.{Keyword as KeywordType}
-use Rattle.st_statements.specs.Tokens.{Tokens, next, Is, is, Passes, mark, keyword, name, name_in, whole, whole_in, is_mark, is_keyword, is_number, same_mark, IsNumber, plain, negative}
-use Rattle.st_statements.specs.Parsers.{Outcome, Parser, and_then, one, loops, turns, gather, several, after_comma, listed, number_at, negative_number_at}
+use Rattle.st_statements.specs.Tokens.{Tokens, next, Is, is, Passes, mark, keyword, name, name_in, whole, whole_in}
+use Rattle.st_statements.specs.Tokens.{is_mark, is_keyword, is_number, same_mark, IsNumber, plain, negative}
+use Rattle.st_statements.specs.Parsers.{Outcome, Parser, and_then, one, loops, turns, gather, several, after_comma}
+use Rattle.st_statements.specs.Parsers.{listed, number_at, negative_number_at}
 use Rattle.st_statements.proofs.Readings.{mark_is, keyword_is}
 use Rattle.st_statements.proofs.ToldTurns.{halts, turn_is}
 
@@ -29,14 +32,17 @@ mark_kind x t at eq = mark_is x t.kind (stands (is_mark x t.kind) t.start at eq)
 pub keyword_kind : (x : KeywordType) (t : Token) (at : ℕ) → keyword x t ≡ Some at → t.kind ≡ Keyword x
 keyword_kind x t at eq = keyword_is x t.kind (stands (is_keyword x t.kind) t.start at eq)
 
-pub mark_head : (x : MarkType) (f : TokenKind → Bool) {ts us : Tokens} {at : ℕ} → Is (mark x) ts at us → next f ts ≡ f (Mark x)
+pub mark_head : (x : MarkType) (f : TokenKind → Bool) {ts us : Tokens} {at : ℕ} → Is (mark x) ts at us
+    → next f ts ≡ f (Mark x)
 mark_head x f {at = at} (is {t} eq) = ap f (mark_is x t.kind (stands (is_mark x t.kind) t.start at eq))
 
-pub keyword_head : (x : KeywordType) (f : TokenKind → Bool) {ts us : Tokens} {at : ℕ} → Is (keyword x) ts at us → next f ts ≡ f (Keyword x)
+pub keyword_head : (x : KeywordType) (f : TokenKind → Bool) {ts us : Tokens} {at : ℕ} → Is (keyword x) ts at us
+    → next f ts ≡ f (Keyword x)
 keyword_head x f {at = at} (is {t} eq) = ap f (keyword_is x t.kind (stands (is_keyword x t.kind) t.start at eq))
 
 pub name_in_is : (at : ℕ) (k : TokenKind) (x : Identifier) → name_in at k ≡ Some x → k ≡ Name x.name
-name_in_is at (Name n) x eq = let same : record { name = n; place = at } ≡ x = given eq in ap (λ (y : Identifier). Name y.name) same
+name_in_is at (Name n) x eq = let same : record { name = n; place = at } ≡ x = given eq in
+    ap (λ (y : Identifier). Name y.name) same
   where
     given : {a b : Identifier} → Some a ≡ Some b → a ≡ b
     given eq = cc
@@ -68,18 +74,22 @@ module _ {A : Type 0} (f : TokenKind → Bool) (item : Parser A) where
   pub repeats_halt : (ts : Tokens) → next f ts ≡ false → Repeats ts [] ts
   repeats_halt ts eq n found le = rw (append-nil found) (halts f (gather item) n found ts eq)
 
-  pub repeats_step : (ts us vs : Tokens) (x : A) (xs : List A) → next f ts ≡ true → item ts ≡ Ok (x, us) → length us < length ts → Repeats us xs vs → Repeats ts (x ∷ xs) vs
+  pub repeats_step : (ts us vs : Tokens) (x : A) (xs : List A) → next f ts ≡ true → item ts ≡ Ok (x, us)
+      → length us < length ts → Repeats us xs vs → Repeats ts (x ∷ xs) vs
   repeats_step ts us vs x xs eq same less others zero found le = absurd (omega arith)
   repeats_step ts us vs x xs eq same less others (suc n) found le =
       let e : gather item found ts ≡ Ok (found ++ x ∷ [], us) = rw same refl in
       let g = append_assoc found (x ∷ []) xs in
-      turn_is f (gather item) n found ts eq ∙ (ap (λ (r : Outcome (List A)). and_then r (loops f (gather item) n)) e ∙ rw (sym g) (others n (found ++ x ∷ []) (omega arith)))
+      turn_is f (gather item) n found ts eq ∙ (ap (λ (r : Outcome (List A)). and_then r (loops f (gather item) n)) e
+      ∙ rw (sym g) (others n (found ++ x ∷ []) (omega arith)))
 
-  pub several_again : (ts us : Tokens) (found xs : List A) → Repeats ts xs us → several f item found ts ≡ Ok (found ++ xs, us)
+  pub several_again : (ts us : Tokens) (found xs : List A) → Repeats ts xs us
+      → several f item found ts ≡ Ok (found ++ xs, us)
   unfolding turns
   several_again ts us found xs r = r (length ts) found (omega arith)
 
-pub after_comma_again : {A : Type 0} (item : Parser A) {ts us vs : Tokens} {x : A} → Passes (mark m.Comma) ts us → item us ≡ Ok (x, vs) → after_comma item ts ≡ Ok (x, vs)
+pub after_comma_again : {A : Type 0} (item : Parser A) {ts us vs : Tokens} {x : A} → Passes (mark m.Comma) ts us
+    → item us ≡ Ok (x, vs) → after_comma item ts ≡ Ok (x, vs)
 unfolding after_comma
 after_comma_again item c eq = rw (one_again c.1) eq
 
@@ -87,13 +97,16 @@ pub comma_next : {ts us : Tokens} → Passes (mark m.Comma) ts us → next (is_m
 unfolding same_mark
 comma_next c = mark_head m.Comma (is_mark m.Comma) c.1
 
-pub listed_again : {A : Type 0} (item : Parser A) {ts us vs : Tokens} {x : A} {xs : List A} → item ts ≡ Ok (x, us) → Repeats (is_mark m.Comma) (after_comma item) us xs vs → listed item ts ≡ Ok (x ∷ xs, vs)
+pub listed_again : {A : Type 0} (item : Parser A) {ts us vs : Tokens} {x : A} {xs : List A} → item ts ≡ Ok (x, us)
+    → Repeats (is_mark m.Comma) (after_comma item) us xs vs → listed item ts ≡ Ok (x ∷ xs, vs)
 unfolding listed
-listed_again item {us = us} {vs = vs} {x = x} {xs = xs} eq r = rw eq (several_again (is_mark m.Comma) (after_comma item) us vs (x ∷ []) xs r)
+listed_again item {us = us} {vs = vs} {x = x} {xs = xs} eq r =
+    rw eq (several_again (is_mark m.Comma) (after_comma item) us vs (x ∷ []) xs r)
 
 -- ---- numbers
 
 pub number_again : {ts us : Tokens} {n : NumberLeaf} → IsNumber ts n us → number_at ts ≡ Ok (n, us)
 unfolding number_at negative_number_at same_mark
 number_again (plain p) = rw (whole_plain p) (one_again p)
-number_again (negative at k p q eq) = let h = mark_head m.Minus (is_mark m.Minus) p in rw (h, one_again p, one_again q, eq) refl
+number_again (negative at k p q eq) = let h = mark_head m.Minus (is_mark m.Minus) p in
+    rw (h, one_again p, one_again q, eq) refl

@@ -13,7 +13,8 @@ module _ {A B : Type 0} (first last : Keyword) (item : Parser A) (f : A → B) w
   closed x (Err e) = refl
 
   filled : (r : Outcome A)
-      → and_then r (λ x. one (keyword last) >> pure (f x)) ≡ and_then (and_then r (λ x. one (keyword last) >> pure x)) made
+      → and_then r (λ x. one (keyword last) >> pure (f x))
+      ≡ and_then (and_then r (λ x. one (keyword last) >> pure x)) made
   filled (Ok x) = closed x.0 (one (keyword last) x.1)
   filled (Err e) = refl
 

@@ -1,5 +1,6 @@
 -- The grammar of expressions alone.
-use Rattle.std.proofs.Common.{◌≡◌, ℕ, ◌<◌, ◌≤◌, Bool, true, false, ◌||◌, List, [], ◌∷◌, length, Option, refl, ◌⊎◌, arith, inl, inr}
+use Rattle.std.proofs.Common.{◌≡◌, ℕ, ◌<◌, ◌≤◌, Bool, true, false, ◌||◌, List, [], ◌∷◌, length, Option, refl, ◌⊎◌}
+use Rattle.std.proofs.Common.{arith, inl, inr}
 use Rattle.st_words.specs.declared.operator.BinaryOperator.{BinaryOperator}
 use Rattle.st_words.specs.declared.operator.BinaryOperator.TheVariants as ops
 use Rattle.st_lex.specs.declared.token.Token.{Token}
@@ -10,7 +11,10 @@ use Rattle.st_trees.specs.Depths.{depth_of, depth_of_subscript, deepest, deepest
 use Rattle.st_statements.specs.Tokens.{Tokens, Is, is}
 use Rattle.st_statements.specs.Operators.{binds_of}
 use Rattle.st_statements.specs.Laws.{Begins}
-use Rattle.st_statements.specs.Expressions.{IsExpr, literal, variable, call, parenthesis, negative, negated, inverted, binary, IsVariable, selected, IsSelectors, no_selector, selector, IsSelector, member, subscript, IsArguments, no_argument, argument, IsMoreArguments, no_more_arguments, next_argument}
+use Rattle.st_statements.specs.Expressions.{IsExpr, literal, variable, call, parenthesis, negative, negated, inverted}
+use Rattle.st_statements.specs.Expressions.{binary, IsVariable, selected, IsSelectors, no_selector, selector}
+use Rattle.st_statements.specs.Expressions.{IsSelector, member, subscript, IsArguments, no_argument, argument}
+use Rattle.st_statements.specs.Expressions.{IsMoreArguments, no_more_arguments, next_argument}
 use Rattle.st_statements.proofs.Readings.{an_identifier, token_of}
 use Rattle.st_statements.proofs.Lists.{Each}
 
@@ -21,12 +25,15 @@ mutual
   pub expr_less : {k : ℕ} {ts us : Tokens} {x : Expr} → IsExpr k ts x us → length us < length ts
   expr_less (literal l i q) = is_less i
   expr_less (variable v i q) = variable_less i
-  expr_less (call f es n o s c q) = let a = is_less n in let b = is_less o.1 in let d = arguments_less s in let g = is_less c.1 in omega arith
-  expr_less (parenthesis at inner o s c q) = let a = is_less o in let b = expr_less s in let d = is_less c.1 in omega arith
+  expr_less (call f es n o s c q) = let a = is_less n in let b = is_less o.1 in let d = arguments_less s in
+      let g = is_less c.1 in omega arith
+  expr_less (parenthesis at inner o s c q) = let a = is_less o in let b = expr_less s in let d = is_less c.1 in
+      omega arith
   expr_less (negative at n l s i q) = let a = is_less s in let b = is_less i in omega arith
   expr_less (negated at inner l s p i q) = let a = is_less s in let b = expr_less i in omega arith
   expr_less (inverted at inner l s i q) = let a = is_less s in let b = expr_less i in omega arith
-  expr_less (binary op a b l s o t q) = let a' = expr_less s in let b' = is_less o in let c' = expr_less t in omega arith
+  expr_less (binary op a b l s o t q) = let a' = expr_less s in let b' = is_less o in let c' = expr_less t in
+      omega arith
 
   pub variable_less : {ts us : Tokens} {v : Variable} → IsVariable ts v us → length us < length ts
   variable_less (selected x xs n s q) = let a = is_less n in let b = selectors_less s in omega arith
@@ -45,7 +52,8 @@ mutual
 
   pub more_arguments_less : {ts us : Tokens} {xs : List Expr} → IsMoreArguments ts xs us → length us ≤ length ts
   more_arguments_less no_more_arguments = omega arith
-  more_arguments_less (next_argument c i rest) = let a = is_less c.1 in let b = expr_less i in let d = more_arguments_less rest in omega arith
+  more_arguments_less (next_argument c i rest) = let a = is_less c.1 in let b = expr_less i in
+      let d = more_arguments_less rest in omega arith
 
 pub weaken : {k : ℕ} {ts us : Tokens} {x : Expr} (l : ℕ) → l ≤ k → IsExpr k ts x us → IsExpr l ts x us
 weaken l le (literal p q r) = literal p q r
@@ -71,7 +79,8 @@ pub each_depth : (n : ℕ) (xs : List Expr) → Each (λ x. depth_of x ≤ n) xs
 each_depth n [] all = omega arith
 each_depth n (x ∷ xs) all = let a = all.0 in let b = each_depth n xs all.1 in omega arith
 
-pub each_subscript : (n : ℕ) (xs : List Selector) → Each (λ x. depth_of_subscript x ≤ n) xs → deepest_subscript (selectors_of xs) ≤ n
+pub each_subscript : (n : ℕ) (xs : List Selector) → Each (λ x. depth_of_subscript x ≤ n) xs
+    → deepest_subscript (selectors_of xs) ≤ n
 each_subscript n [] all = omega arith
 each_subscript n (x ∷ xs) all = let a = all.0 in let b = each_subscript n xs all.1 in omega arith
 
@@ -104,9 +113,11 @@ abbrev pub a_name : Expr
 a_name = e.read (e.variable an_identifier e.no_selectors)
 
 pub name_is : (k : ℕ) (after : Tokens) → IsExpr k (token_of (Name []) ∷ after) a_name after
-name_is k after = variable (e.variable an_identifier e.no_selectors) (selected an_identifier [] (is refl) no_selector refl) refl
+name_is k after =
+    variable (e.variable an_identifier e.no_selectors) (selected an_identifier [] (is refl) no_selector refl) refl
 
-pub a_variable_is : (after : Tokens) → IsVariable (token_of (Name []) ∷ after) (e.variable an_identifier e.no_selectors) after
+pub a_variable_is : (after : Tokens)
+    → IsVariable (token_of (Name []) ∷ after) (e.variable an_identifier e.no_selectors) after
 a_variable_is after = selected an_identifier [] (is refl) no_selector refl
 
 pub expr_begins : (k : ℕ) → Begins (IsExpr k) []

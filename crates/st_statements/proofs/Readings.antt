@@ -14,10 +14,13 @@ use Rattle.st_lex.specs.declared.token.TokenKind.TheVariants.{Name, Keyword, Mar
 use Rattle.st_lex.specs.declared.mark.Mark.{Mark as MarkType}
 use Rattle.st_lex.specs.declared.mark.Mark.TheVariants as m
 use Rattle.st_lex.specs.declared.keyword.Keyword.{Keyword as KeywordType}
-use Rattle.st_statements.specs.Tokens.{Tokens, Is, mark, keyword, name, whole, whole_in, literal, literal_in, negative_at, is_mark, is_keyword, same_mark, same_keyword, IsNumber, plain, negative}
+use Rattle.st_statements.specs.Tokens.{Tokens, Is, mark, keyword, name, whole, whole_in, literal, literal_in}
+use Rattle.st_statements.specs.Tokens.{negative_at, is_mark, is_keyword, same_mark, same_keyword, IsNumber, plain}
+use Rattle.st_statements.specs.Tokens.{negative}
 use Rattle.st_statements.specs.Parsers.{◌>>=◌, pure, one, if_next, number_at, negative_number_at}
 use Rattle.st_statements.specs.Laws.{Grammar, Begins}
-use Rattle.st_statements.proofs.Told.{Family, Tells, Any, Seq, Made, made, made_begins, seq_begins, begins_as, one_begins, told_as, then_at, told_pure, told_one, told_if}
+use Rattle.st_statements.proofs.Told.{Family, Tells, Any, Seq, Made, made, made_begins, seq_begins, begins_as}
+use Rattle.st_statements.proofs.Told.{one_begins, told_as, then_at, told_pure, told_one, told_if}
 
 -- under a condition
 pub record Reads {A : Type 0} (C : Type 0) (P : Family A) (R : Grammar A) (D : A → Tokens → Type 0) : Type 0 where
@@ -28,28 +31,37 @@ pub record Reads {A : Type 0} (C : Type 0) (P : Family A) (R : Grammar A) (D : A
 abbrev pub With : {A : Type 0} → Type 0 → (A → Tokens → Type 0) → A → Type 0
 With C D x = C × ((us : Tokens) × D x us)
 
-pub told_by : {A : Type 0} {P : Family A} {R : Grammar A} {D : A → Tokens → Type 0} → Reads (Unit {0}) P R D → Tells P R D
+pub told_by : {A : Type 0} {P : Family A} {R : Grammar A} {D : A → Tokens → Type 0} → Reads (Unit {0}) P R D
+    → Tells P R D
 told_by p = p.tells tt
 
-pub reads_then : {A B : Type 0} {C : Type 0} {P : Family A} {Q : A → Family B} {R : Grammar A} {S : A → Grammar B} {D : A → Tokens → Type 0} {E : B → Tokens → Type 0}
+pub reads_then : {A B : Type 0} {C : Type 0} {P : Family A} {Q : A → Family B} {R : Grammar A} {S : A → Grammar B}
+    {D : A → Tokens → Type 0} {E : B → Tokens → Type 0}
     → Reads C P R D → ((x : A) → Reads (With C D x) (Q x) (S x) E) → Reads C (λ e. P e >>= (λ x. Q x e)) (Seq R S) E
 reads_then {P = P} {Q = Q} {R = R} {S = S} {D = D} {E = E} p q = record {
   begins = seq_begins R S [] p.begins (λ x. (q x).begins);
-  tells = λ c ts. then_at P Q R S D E (λ x. (q x).begins) ts (P 0 ts) (p.tells c ts) (λ x us eq k. (q x).tells (c, (us, k.low)) us);
+  tells = λ c ts.
+      then_at P Q R S D E (λ x. (q x).begins) ts (P 0 ts) (p.tells c ts) (λ x us eq k. (q x).tells (c, (us, k.low)) us);
 }
 
-pub reads_pure : {A : Type 0} {C : Type 0} (y : A) (D : A → Tokens → Type 0) → (C → (us : Tokens) → D y us) → Reads C (λ e. pure y) (Made y) D
+pub reads_pure : {A : Type 0} {C : Type 0} (y : A) (D : A → Tokens → Type 0) → (C → (us : Tokens) → D y us)
+    → Reads C (λ e. pure y) (Made y) D
 reads_pure y D low = record { begins = made_begins y; tells = λ c ts. told_pure y D ts (low c ts) }
 
-pub reads_as : {A : Type 0} {C : Type 0} {P : Family A} {R R' : Grammar A} {D D' : A → Tokens → Type 0} → ((ts : Tokens) (x : A) (us : Tokens) → R ts x us → R' ts x us) → ((x : A) (us : Tokens) → D x us → D' x us)
+pub reads_as : {A : Type 0} {C : Type 0} {P : Family A} {R R' : Grammar A} {D D' : A → Tokens → Type 0}
+    → ((ts : Tokens) (x : A) (us : Tokens) → R ts x us → R' ts x us) → ((x : A) (us : Tokens) → D x us → D' x us)
     → Reads C P R D → Reads C P R' D'
-reads_as {P = P} {R = R} {R' = R'} {D = D} {D' = D'} f g p = record { begins = begins_as R R' f [] p.begins; tells = λ c ts. told_as P R R' D D' f g ts (P 0 ts) (p.tells c ts) }
+reads_as {P = P} {R = R} {R' = R'} {D = D} {D' = D'} f g p =
+    record { begins = begins_as R R' f [] p.begins; tells = λ c ts. told_as P R R' D D' f g ts (P 0 ts) (p.tells c ts) }
 
-pub reads_under : {A : Type 0} {C C' : Type 0} {P : Family A} {R : Grammar A} {D : A → Tokens → Type 0} → (C' → C) → Reads C P R D → Reads C' P R D
+pub reads_under : {A : Type 0} {C C' : Type 0} {P : Family A} {R : Grammar A} {D : A → Tokens → Type 0} → (C' → C)
+    → Reads C P R D → Reads C' P R D
 reads_under f p = record { begins = p.begins; tells = λ c. p.tells (f c) }
 
-pub reads_if : {A : Type 0} {C : Type 0} {P Q : Family A} {R : Grammar A} {D : A → Tokens → Type 0} (f : TokenKind → Bool) → Reads C P R D → Reads C Q R D → Reads C (λ e. if_next f (P e) (Q e)) R D
-reads_if {P = P} {Q = Q} {R = R} {D = D} f p q = record { begins = p.begins; tells = λ c ts. told_if f P Q R D ts (λ _. p.tells c ts) (λ _. q.tells c ts) }
+pub reads_if : {A : Type 0} {C : Type 0} {P Q : Family A} {R : Grammar A} {D : A → Tokens → Type 0}
+    (f : TokenKind → Bool) → Reads C P R D → Reads C Q R D → Reads C (λ e. if_next f (P e) (Q e)) R D
+reads_if {P = P} {Q = Q} {R = R} {D = D} f p q =
+    record { begins = p.begins; tells = λ c ts. told_if f P Q R D ts (λ _. p.tells c ts) (λ _. q.tells c ts) }
 
 -- ---- single tokens
 
@@ -87,7 +99,8 @@ mark_stands x = rw (mark_same x) refl
 keyword_stands : (x : KeywordType) → keyword x (token_of (Keyword x)) ≡ Some 0
 keyword_stands x = rw (keyword_same x) refl
 
-pub reads_one : {A : Type 0} {C : Type 0} (of : Token → Option A) (t : Token) (x : A) → of t ≡ Some x → Reads C (λ e. one of) (Is of) Any
+pub reads_one : {A : Type 0} {C : Type 0} (of : Token → Option A) (t : Token) (x : A) → of t ≡ Some x
+    → Reads C (λ e. one of) (Is of) Any
 reads_one of t x eq = record { begins = one_begins of t x eq; tells = λ c. told_one of (one_begins of t x eq) }
 
 pub reads_mark : {C : Type 0} (x : MarkType) → Reads C (λ e. one (mark x)) (Is (mark x)) Any
@@ -125,16 +138,19 @@ is_negative_number ts x us (at, vs, s, (n, ws, w, made eq)) = negative at n s w 
 
 pub reads_negative : {C : Type 0} → Reads C (λ e. negative_number_at) IsNegative Any
 unfolding negative_number_at
-reads_negative = reads_then (reads_mark m.Minus) (λ at. reads_then reads_whole (λ n. reads_pure (negative_at at n) Any (λ c us. tt)))
+reads_negative =
+    reads_then (reads_mark m.Minus) (λ at. reads_then reads_whole (λ n. reads_pure (negative_at at n) Any (λ c us. tt)))
 
 pub reads_number : {C : Type 0} → Reads C (λ e. number_at) IsNumber Any
 unfolding number_at
-reads_number = reads_if (is_mark m.Minus) (reads_as is_negative_number (λ x us d. d) reads_negative) (reads_as (λ ts x us w. plain w) (λ x us d. d) reads_whole)
+reads_number = reads_if (is_mark m.Minus) (reads_as is_negative_number (λ x us d. d) reads_negative)
+    (reads_as (λ ts x us w. plain w) (λ x us d. d) reads_whole)
 
 -- a token that stands for a number is a literal
 pub whole_literal : (t : Token) (n : NumberLeaf) → whole t ≡ Some n → literal t ≡ Some (literals.Number n)
 whole_literal t n eq = by_kind_of t.start t.kind n eq
   where
-    by_kind_of : (at : ℕ) (k : TokenKind) (n : NumberLeaf) → whole_in at k ≡ Some n → literal_in at k ≡ Some (literals.Number n)
+    by_kind_of : (at : ℕ) (k : TokenKind) (n : NumberLeaf) → whole_in at k ≡ Some n
+        → literal_in at k ≡ Some (literals.Number n)
     by_kind_of at (Number m) n eq = ap (λ (o : Option NumberLeaf). numbered o) eq
     by_kind_of at _ n eq = absurd cc

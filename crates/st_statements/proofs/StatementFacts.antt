@@ -6,9 +6,16 @@ use Rattle.st_trees.specs.declared.statement.Label.{Label}
 use Rattle.st_trees.specs.Expressions.{Expr}
 use Rattle.st_trees.specs.Statements.{Argument, Stmt, Arm, CaseArm, stmts_of, arms_of, case_arms_of}
 use Rattle.st_trees.specs.Statements as s
-use Rattle.st_trees.specs.Depths.{depth_of, depth_of_argument, deepest_argument, depth_of_stmt, deepest_stmt, deepest_arm, deepest_case_arm}
+use Rattle.st_trees.specs.Depths.{depth_of, depth_of_argument, deepest_argument, depth_of_stmt, deepest_stmt}
+use Rattle.st_trees.specs.Depths.{deepest_arm, deepest_case_arm}
 use Rattle.st_statements.specs.Tokens.{Tokens, Is, mark, IsNumber, plain, negative}
-use Rattle.st_statements.specs.Statements.{IsArgument, given, copied, IsMoreArguments, no_more_arguments, next_argument, IsArguments, no_argument, argument, IsLabel, single, range, IsMoreLabels, no_more_labels, next_label, IsLabels, labels, IsStep, no_step, step, IsStmt, empty, assign, invoke, choose, select, count, repeat_while, repeat_until, exit, leave, IsStmts, no_stmt, stmt, IsElse, no_else, otherwise, IsArm, arm, IsMoreArms, no_more_arms, elsif, IsCaseArm, case_arm, IsCaseArms, no_case_arm, next_case_arm}
+use Rattle.st_statements.specs.Statements.{IsArgument, given, copied, IsMoreArguments, no_more_arguments, next_argument}
+use Rattle.st_statements.specs.Statements.{IsArguments, no_argument, argument, IsLabel, single, range, IsMoreLabels}
+use Rattle.st_statements.specs.Statements.{no_more_labels, next_label, IsLabels, labels, IsStep, no_step, step, IsStmt}
+use Rattle.st_statements.specs.Statements.{empty, assign, invoke, choose, select, count, repeat_while, repeat_until}
+use Rattle.st_statements.specs.Statements.{exit, leave, IsStmts, no_stmt, stmt, IsElse, no_else, otherwise, IsArm, arm}
+use Rattle.st_statements.specs.Statements.{IsMoreArms, no_more_arms, elsif, IsCaseArm, case_arm, IsCaseArms}
+use Rattle.st_statements.specs.Statements.{no_case_arm, next_case_arm}
 use Rattle.st_statements.specs.Laws.{Grammar}
 use Rattle.st_statements.proofs.Told.{Seq, Made, made}
 use Rattle.st_statements.proofs.Lists.{Each}
@@ -24,7 +31,8 @@ argument_less (copied x v n o i eq) = let a = is_less n in let b = is_less o.1 i
 
 pub more_arguments_less : {ts us : Tokens} {xs : List Argument} → IsMoreArguments ts xs us → length us ≤ length ts
 more_arguments_less no_more_arguments = omega arith
-more_arguments_less (next_argument c i r) = let a = is_less c.1 in let b = argument_less i in let d = more_arguments_less r in omega arith
+more_arguments_less (next_argument c i r) = let a = is_less c.1 in let b = argument_less i in
+    let d = more_arguments_less r in omega arith
 
 pub arguments_less : {ts us : Tokens} {xs : List Argument} → IsArguments ts xs us → length us ≤ length ts
 arguments_less no_argument = omega arith
@@ -32,11 +40,13 @@ arguments_less (argument i r) = let a = argument_less i in let b = more_argument
 
 pub label_less : {ts us : Tokens} {l : Label} → IsLabel ts l us → length us < length ts
 label_less (single n i eq) = number_less i
-label_less (range a b i o j eq) = let a' = number_less i in let b' = is_less o.1 in let c' = number_less j in omega arith
+label_less (range a b i o j eq) = let a' = number_less i in let b' = is_less o.1 in let c' = number_less j in
+    omega arith
 
 pub more_labels_less : {ts us : Tokens} {xs : List Label} → IsMoreLabels ts xs us → length us ≤ length ts
 more_labels_less no_more_labels = omega arith
-more_labels_less (next_label c i r) = let a = is_less c.1 in let b = label_less i in let d = more_labels_less r in omega arith
+more_labels_less (next_label c i r) = let a = is_less c.1 in let b = label_less i in let d = more_labels_less r in
+    omega arith
 
 pub labels_less : {ts us : Tokens} {xs : List Label} → IsLabels ts xs us → length us < length ts
 labels_less (labels i r) = let a = label_less i in let b = more_labels_less r in omega arith
@@ -48,14 +58,22 @@ step_less (step x p i eq) = let a = is_less p.1 in let b = expr_less i in omega 
 mutual
   pub stmt_less : {ts us : Tokens} {x : Stmt} → IsStmt ts x us → length us ≤ length ts
   stmt_less (empty q) = omega arith
-  stmt_less (assign v value i o j q) = let a = variable_less i in let b = is_less o.1 in let c = expr_less j in omega arith
-  stmt_less (invoke f xs n o i c q) = let a = is_less n in let b = is_less o.1 in let c' = arguments_less i in let d = is_less c.1 in omega arith
-  stmt_less (choose arm' arms other o a b c d q) = let f = is_less o.1 in let a' = arm_less a in let b' = more_arms_less b in let c' = else_less c in let d' = is_less d.1 in omega arith
-  stmt_less (select selector arms other o i p a b c q) = let f = is_less o.1 in let g = expr_less i in let h = is_less p.1 in let a' = case_arms_less a in let b' = else_less b in let c' = is_less c.1 in omega arith
+  stmt_less (assign v value i o j q) = let a = variable_less i in let b = is_less o.1 in let c = expr_less j in
+      omega arith
+  stmt_less (invoke f xs n o i c q) = let a = is_less n in let b = is_less o.1 in let c' = arguments_less i in
+      let d = is_less c.1 in omega arith
+  stmt_less (choose arm' arms other o a b c d q) = let f = is_less o.1 in let a' = arm_less a in
+      let b' = more_arms_less b in let c' = else_less c in let d' = is_less d.1 in omega arith
+  stmt_less (select selector arms other o i p a b c q) = let f = is_less o.1 in let g = expr_less i in
+      let h = is_less p.1 in let a' = case_arms_less a in let b' = else_less b in let c' = is_less c.1 in omega arith
   stmt_less (count control start limit by body o n p i t j st d b f q) =
-      let a = is_less o.1 in let a' = is_less n in let b' = is_less p.1 in let c' = expr_less i in let d' = is_less t.1 in let f' = expr_less j in let g' = step_less st in let h' = is_less d.1 in let i' = stmts_less b in let j' = is_less f.1 in omega arith
-  stmt_less (repeat_while condition body o i d b f q) = let a = is_less o.1 in let b' = expr_less i in let c' = is_less d.1 in let d' = stmts_less b in let f' = is_less f.1 in omega arith
-  stmt_less (repeat_until body condition o b u i f q) = let a = is_less o.1 in let b' = stmts_less b in let c' = is_less u.1 in let d' = expr_less i in let f' = is_less f.1 in omega arith
+      let a = is_less o.1 in let a' = is_less n in let b' = is_less p.1 in let c' = expr_less i in
+      let d' = is_less t.1 in let f' = expr_less j in let g' = step_less st in let h' = is_less d.1 in
+      let i' = stmts_less b in let j' = is_less f.1 in omega arith
+  stmt_less (repeat_while condition body o i d b f q) = let a = is_less o.1 in let b' = expr_less i in
+      let c' = is_less d.1 in let d' = stmts_less b in let f' = is_less f.1 in omega arith
+  stmt_less (repeat_until body condition o b u i f q) = let a = is_less o.1 in let b' = stmts_less b in
+      let c' = is_less u.1 in let d' = expr_less i in let f' = is_less f.1 in omega arith
   stmt_less (exit at o q) = let a = is_less o in omega arith
   stmt_less (leave o q) = let a = is_less o.1 in omega arith
 
@@ -68,14 +86,16 @@ mutual
   else_less (otherwise p i) = let a = is_less p.1 in let b = stmts_less i in omega arith
 
   pub arm_less : {ts us : Tokens} {a : Arm} → IsArm ts a us → length us < length ts
-  arm_less (arm condition body i t b q) = let a = expr_less i in let b' = is_less t.1 in let c = stmts_less b in omega arith
+  arm_less (arm condition body i t b q) = let a = expr_less i in let b' = is_less t.1 in let c = stmts_less b in
+      omega arith
 
   pub more_arms_less : {ts us : Tokens} {xs : List Arm} → IsMoreArms ts xs us → length us ≤ length ts
   more_arms_less no_more_arms = omega arith
   more_arms_less (elsif p a r) = let p' = is_less p.1 in let a' = arm_less a in let r' = more_arms_less r in omega arith
 
   pub case_arm_less : {ts us : Tokens} {a : CaseArm} → IsCaseArm ts a us → length us < length ts
-  case_arm_less (case_arm ls body i c b q) = let a = labels_less i in let b' = is_less c.1 in let c' = stmts_less b in omega arith
+  case_arm_less (case_arm ls body i c b q) = let a = labels_less i in let b' = is_less c.1 in let c' = stmts_less b in
+      omega arith
 
   pub case_arms_less : {ts us : Tokens} {xs : List CaseArm} → IsCaseArms ts xs us → length us ≤ length ts
   case_arms_less no_case_arm = omega arith
@@ -88,7 +108,8 @@ IsLine = Seq IsStmt (λ x. Seq (Is (mark m.Semicolon)) (λ at. Made x))
 pub line_less : (ts : Tokens) (x : Stmt) (us : Tokens) → IsLine ts x us → length us < length ts
 line_less ts x us (y, vs, i, (at, ws, o, made eq)) = let a = stmt_less i in let b = is_less o in omega arith
 
-pub line_then : (ts : Tokens) (x : Stmt) (us : Tokens) (xs : List Stmt) (vs : Tokens) → IsLine ts x us → IsStmts us xs vs → IsStmts ts (x ∷ xs) vs
+pub line_then : (ts : Tokens) (x : Stmt) (us : Tokens) (xs : List Stmt) (vs : Tokens) → IsLine ts x us
+    → IsStmts us xs vs → IsStmts ts (x ∷ xs) vs
 line_then ts x us xs vs (y, zs, i, (at, ws, o, made eq)) r = stmt (rw eq i) (at, o) r
 
 -- ---- depths
@@ -101,11 +122,13 @@ pub each_argument : (n : ℕ) (xs : List Argument) → Each (λ x. depth_of_argu
 each_argument n [] all = omega arith
 each_argument n (x ∷ xs) all = let a = all.0 in let b = each_argument n xs all.1 in omega arith
 
-pub each_arm : (n : ℕ) (xs : List Arm) → Each (λ a. max (depth_of a.0) (deepest_stmt a.1) ≤ n) xs → deepest_arm (arms_of xs) ≤ n
+pub each_arm : (n : ℕ) (xs : List Arm) → Each (λ a. max (depth_of a.0) (deepest_stmt a.1) ≤ n) xs
+    → deepest_arm (arms_of xs) ≤ n
 each_arm n [] all = omega arith
 each_arm n (x ∷ xs) all = let a = all.0 in let b = each_arm n xs all.1 in omega arith
 
-pub each_case_arm : (n : ℕ) (xs : List CaseArm) → Each (λ a. deepest_stmt a.1 ≤ n) xs → deepest_case_arm (case_arms_of xs) ≤ n
+pub each_case_arm : (n : ℕ) (xs : List CaseArm) → Each (λ a. deepest_stmt a.1 ≤ n) xs
+    → deepest_case_arm (case_arms_of xs) ≤ n
 each_case_arm n [] all = omega arith
 each_case_arm n (x ∷ xs) all = let a = all.0 in let b = each_case_arm n xs all.1 in omega arith
 

@@ -1,5 +1,6 @@
 -- What reading tells of statements.
-use Rattle.std.proofs.Common.{◌≡◌, ℕ, zero, suc, ◌+◌, ◌-◌, ◌<◌, ◌≤◌, max, true, false, List, [], ◌∷◌, ◌++◌, length, Option, Some, None, Err, refl, sym, ap, subst, ◌∙◌, arith, append_assoc}
+use Rattle.std.proofs.Common.{◌≡◌, ℕ, zero, suc, ◌+◌, ◌-◌, ◌<◌, ◌≤◌, max, true, false, List, [], ◌∷◌, ◌++◌, length}
+use Rattle.std.proofs.Common.{Option, Some, None, Err, refl, sym, ap, subst, ◌∙◌, arith, append_assoc}
 use Rattle.st_words.specs.declared.identifier.Identifier.{Identifier}
 use Rattle.st_words.specs.declared.literal.Number.{Number as NumberLeaf}
 use Rattle.st_lex.specs.declared.token.Token.{Token}
@@ -14,21 +15,38 @@ use Rattle.st_trees.specs.declared.statement.Label.TheVariants as label_forms
 use Rattle.st_trees.specs.Expressions.{Expr, Variable}
 use Rattle.st_trees.specs.Statements.{Argument, Stmt, Arm, CaseArm, stmts_of, arms_of, case_arms_of}
 use Rattle.st_trees.specs.Statements as s
-use Rattle.st_trees.specs.Depths.{depth_of, depth_of_variable, depth_of_step, depth_of_argument, deepest_argument, depth_of_stmt, deepest_stmt, deepest_arm, deepest_case_arm}
-use Rattle.st_statements.specs.Tokens.{Tokens, next, Is, is, Passes, mark, keyword, name, name_in, is_mark, is_keyword, IsNumber}
+use Rattle.st_trees.specs.Depths.{depth_of, depth_of_variable, depth_of_step, depth_of_argument, deepest_argument}
+use Rattle.st_trees.specs.Depths.{depth_of_stmt, deepest_stmt, deepest_arm, deepest_case_arm}
+use Rattle.st_statements.specs.Tokens.{Tokens, next, Is, is, Passes, mark, keyword, name, name_in, is_mark, is_keyword}
+use Rattle.st_statements.specs.Tokens.{IsNumber}
 use Rattle.st_statements.specs.declared.fault.Refusal.TheVariants.{Unexpected}
 use Rattle.st_statements.specs.Parsers.{Parser, ◌>>=◌, ◌>>◌, pure, refuse, one, too_deep, several, listed}
 use Rattle.st_statements.specs.ExpressionReading.{expr_at, variable_at, variable_of}
-use Rattle.st_statements.specs.StatementReading.{starts_number, starts_stmt, range_of, label_at, exit_at, return_at, assign_of, given_of, copied_of, argument_at, arguments_at, invoke_of, named_at, by_at, step_at, arm_at, elsif_at, otherwise_at, else_at, if_at, case_arm_at, case_at, for_at, while_at, repeat_at, stmt_by, stmt_at, lines, line_at, stmts_at}
+use Rattle.st_statements.specs.StatementReading.{starts_number, starts_stmt, range_of, label_at, exit_at, return_at}
+use Rattle.st_statements.specs.StatementReading.{assign_of, given_of, copied_of, argument_at, arguments_at, invoke_of}
+use Rattle.st_statements.specs.StatementReading.{named_at, by_at, step_at, arm_at, elsif_at, otherwise_at, else_at}
+use Rattle.st_statements.specs.StatementReading.{if_at, case_arm_at, case_at, for_at, while_at, repeat_at, stmt_by}
+use Rattle.st_statements.specs.StatementReading.{stmt_at, lines, line_at, stmts_at}
 use Rattle.st_statements.specs.Laws.{Grammar, Begins}
 use Rattle.st_statements.specs.Expressions.{IsExpr, IsVariable}
-use Rattle.st_statements.specs.Statements.{IsArgument, given, copied, IsMoreArguments, no_more_arguments, next_argument, IsArguments, no_argument, argument, IsLabel, single, range, IsMoreLabels, no_more_labels, next_label, IsLabels, labels, IsStep, no_step, step, IsStmt, empty, assign, invoke, choose, select, count, repeat_while, repeat_until, exit, leave, IsStmts, no_stmt, IsElse, no_else, otherwise, IsArm, arm, IsMoreArms, no_more_arms, elsif, IsCaseArm, case_arm, IsCaseArms, no_case_arm, next_case_arm}
-use Rattle.st_statements.proofs.Told.{Family, Told, Tells, Any, Seq, Made, made, told_agree, told_refuse, told_by_kind, told_too_deep, told_shift}
-use Rattle.st_statements.proofs.Readings.{Reads, told_by, reads_then, reads_pure, reads_as, reads_if, reads_mark, reads_keyword, reads_name, reads_number, token_of, an_identifier, mark_at, keyword_at}
+use Rattle.st_statements.specs.Statements.{IsArgument, given, copied, IsMoreArguments, no_more_arguments, next_argument}
+use Rattle.st_statements.specs.Statements.{IsArguments, no_argument, argument, IsLabel, single, range, IsMoreLabels}
+use Rattle.st_statements.specs.Statements.{no_more_labels, next_label, IsLabels, labels, IsStep, no_step, step, IsStmt}
+use Rattle.st_statements.specs.Statements.{empty, assign, invoke, choose, select, count, repeat_while, repeat_until}
+use Rattle.st_statements.specs.Statements.{exit, leave, IsStmts, no_stmt, IsElse, no_else, otherwise, IsArm, arm}
+use Rattle.st_statements.specs.Statements.{IsMoreArms, no_more_arms, elsif, IsCaseArm, case_arm, IsCaseArms}
+use Rattle.st_statements.specs.Statements.{no_case_arm, next_case_arm}
+use Rattle.st_statements.proofs.Told.{Family, Told, Tells, Any, Seq, Made, made, told_agree, told_refuse, told_by_kind}
+use Rattle.st_statements.proofs.Told.{told_too_deep, told_shift}
+use Rattle.st_statements.proofs.Readings.{Reads, told_by, reads_then, reads_pure, reads_as, reads_if, reads_mark}
+use Rattle.st_statements.proofs.Readings.{reads_keyword, reads_name, reads_number, token_of, an_identifier, mark_at}
+use Rattle.st_statements.proofs.Readings.{keyword_at}
 use Rattle.st_statements.proofs.Lists.{reads_several, reads_listed}
 use Rattle.st_statements.proofs.ExpressionFacts.{depth_some, expr_begins, a_name, name_is}
-use Rattle.st_statements.proofs.ToldExpressions.{LowExpr, LowVariable, Selected, selected_is, reads_selected, told_expr, told_variable, variable_begins}
-use Rattle.st_statements.proofs.StatementFacts.{IsLine, line_less, line_then, argument_less, label_less, arm_less, case_arm_less, each_stmt, each_argument, each_arm, each_case_arm}
+use Rattle.st_statements.proofs.ToldExpressions.{LowExpr, LowVariable, Selected, selected_is, reads_selected, told_expr}
+use Rattle.st_statements.proofs.ToldExpressions.{told_variable, variable_begins}
+use Rattle.st_statements.proofs.StatementFacts.{IsLine, line_less, line_then, argument_less, label_less, arm_less}
+use Rattle.st_statements.proofs.StatementFacts.{case_arm_less, each_stmt, each_argument, each_arm, each_case_arm}
 
 abbrev pub LowStmt : ℕ → Stmt → Tokens → Type 0
 LowStmt depth x us = depth_of_stmt x ≤ depth
@@ -50,39 +68,49 @@ LowCaseArm depth a us = deepest_stmt a.1 ≤ depth
 abbrev AfterNumber : NumberLeaf → Grammar Label
 AfterNumber n us l vs = (ts : Tokens) → IsNumber ts n us → IsLabel ts l vs
 
-is_range : (n : NumberLeaf) (us : Tokens) (l : Label) (vs : Tokens) → Seq (Is (mark m.Range)) (λ at. Seq IsNumber (λ k. Made (label_forms.Range n k))) us l vs → AfterNumber n us l vs
+is_range : (n : NumberLeaf) (us : Tokens) (l : Label) (vs : Tokens)
+    → Seq (Is (mark m.Range)) (λ at. Seq IsNumber (λ k. Made (label_forms.Range n k))) us l vs → AfterNumber n us l vs
 is_range n us l vs (at, ws, o, (k, zs, i, made eq)) ts j = range n k j (at, o) i eq
 
-is_single_label : (n : NumberLeaf) (us : Tokens) (l : Label) (vs : Tokens) → Made (label_forms.Single n) us l vs → AfterNumber n us l vs
+is_single_label : (n : NumberLeaf) (us : Tokens) (l : Label) (vs : Tokens) → Made (label_forms.Single n) us l vs
+    → AfterNumber n us l vs
 is_single_label n us l vs (made eq) ts j = single n j eq
 
 reads_range_of : {C : Type 0} (n : NumberLeaf) → Reads C (λ e. range_of n) (AfterNumber n) Any
 unfolding range_of
-reads_range_of n = reads_as (is_range n) (λ x us d. d) (reads_then (reads_mark m.Range) (λ at. reads_then reads_number (λ k. reads_pure (label_forms.Range n k) Any (λ c us. tt))))
+reads_range_of n = reads_as (is_range n) (λ x us d. d) (reads_then (reads_mark m.Range)
+    (λ at. reads_then reads_number (λ k. reads_pure (label_forms.Range n k) Any (λ c us. tt))))
 
 reads_label : {C : Type 0} → Reads C (λ e. label_at) IsLabel Any
 unfolding label_at
-reads_label = reads_as (λ ts l us p. p.3 ts p.2) (λ x us d. d) (reads_then reads_number (λ n. reads_if (is_mark m.Range) (reads_range_of n) (reads_as (is_single_label n) (λ x us d. d) (reads_pure (label_forms.Single n) Any (λ c us. tt)))))
+reads_label = reads_as (λ ts l us p. p.3 ts p.2) (λ x us d. d)
+    (reads_then reads_number (λ n. reads_if (is_mark m.Range) (reads_range_of n)
+    (reads_as (is_single_label n) (λ x us d. d) (reads_pure (label_forms.Single n) Any (λ c us. tt)))))
 
 reads_labels : {C : Type 0} → Reads C (λ e. listed label_at) IsLabels Any
 reads_labels = reads_as (λ ts x us p. p) (λ x us d. tt)
-    (reads_listed (λ e. label_at) IsLabel IsMoreLabels IsLabels (λ l. Unit {0}) (λ ts. no_more_labels) (λ ts us x vs xs ws c o r. next_label c o r) (λ ts x us o. label_less o) (λ ts x us xs vs o r. labels o r) reads_label)
+    (reads_listed (λ e. label_at) IsLabel IsMoreLabels IsLabels (λ l. Unit {0}) (λ ts. no_more_labels) (λ ts us x vs xs
+    ws c o r. next_label c o r) (λ ts x us o. label_less o) (λ ts x us xs vs o r. labels o r) reads_label)
 
 -- ---- leaves
 
-is_exit : (ts : Tokens) (x : Stmt) (us : Tokens) → Seq (Is (keyword w.Exit)) (λ at. Made (s.EXIT at)) ts x us → IsStmt ts x us
+is_exit : (ts : Tokens) (x : Stmt) (us : Tokens) → Seq (Is (keyword w.Exit)) (λ at. Made (s.EXIT at)) ts x us
+    → IsStmt ts x us
 is_exit ts x us (at, vs, o, made eq) = exit at o eq
 
 reads_exit : {C : Type 0} (n : ℕ) → Reads C (λ e. exit_at) IsStmt (LowStmt (n + 1))
 unfolding exit_at
-reads_exit n = reads_as is_exit (λ x us d. d) (reads_then (reads_keyword w.Exit) (λ at. reads_pure (s.EXIT at) (LowStmt (n + 1)) (λ c us. omega arith)))
+reads_exit n = reads_as is_exit (λ x us d. d)
+    (reads_then (reads_keyword w.Exit) (λ at. reads_pure (s.EXIT at) (LowStmt (n + 1)) (λ c us. omega arith)))
 
-is_return : (ts : Tokens) (x : Stmt) (us : Tokens) → Seq (Is (keyword w.Return)) (λ at. Made s.RETURN) ts x us → IsStmt ts x us
+is_return : (ts : Tokens) (x : Stmt) (us : Tokens) → Seq (Is (keyword w.Return)) (λ at. Made s.RETURN) ts x us
+    → IsStmt ts x us
 is_return ts x us (at, vs, o, made eq) = leave (at, o) eq
 
 reads_return : {C : Type 0} (n : ℕ) → Reads C (λ e. return_at) IsStmt (LowStmt (n + 1))
 unfolding return_at
-reads_return n = reads_as is_return (λ x us d. d) (reads_then (reads_keyword w.Return) (λ at. reads_pure s.RETURN (LowStmt (n + 1)) (λ c us. omega arith)))
+reads_return n = reads_as is_return (λ x us d. d)
+    (reads_then (reads_keyword w.Return) (λ at. reads_pure s.RETURN (LowStmt (n + 1)) (λ c us. omega arith)))
 
 -- ---- expressions one level down
 
@@ -92,22 +120,29 @@ AfterName x us y vs = (ts : Tokens) → Is name ts x us → IsStmt ts y vs
 abbrev AfterParameter : Identifier → Grammar Argument
 AfterParameter x us y vs = (ts : Tokens) → Is name ts x us → IsArgument ts y vs
 
-is_assign : (x : Identifier) (us : Tokens) (y : Stmt) (vs : Tokens) → Seq (Selected x) (λ v. Seq (Is (mark m.Assign)) (λ at. Seq (IsExpr 1) (λ value. Made (s.assign v value)))) us y vs → AfterName x us y vs
-is_assign x us y vs (v, ws, p, (at, zs, o, (value, qs, i, made eq))) ts n = assign v value (selected_is x ts us ws v n p) (at, o) i eq
+is_assign : (x : Identifier) (us : Tokens) (y : Stmt) (vs : Tokens)
+    → Seq (Selected x) (λ v. Seq (Is (mark m.Assign)) (λ at. Seq (IsExpr 1) (λ value. Made (s.assign v value)))) us y vs
+    → AfterName x us y vs
+is_assign x us y vs (v, ws, p, (at, zs, o, (value, qs, i, made eq))) ts n =
+    assign v value (selected_is x ts us ws v n p) (at, o) i eq
 
-is_invoke : (f : Identifier) (us : Tokens) (y : Stmt) (vs : Tokens) → Seq (Is (mark m.Open)) (λ at. Seq IsArguments (λ xs. Seq (Is (mark m.Close)) (λ end. Made (s.invoke f xs)))) us y vs → AfterName f us y vs
+is_invoke : (f : Identifier) (us : Tokens) (y : Stmt) (vs : Tokens) → Seq (Is (mark m.Open))
+    (λ at. Seq IsArguments (λ xs. Seq (Is (mark m.Close)) (λ end. Made (s.invoke f xs)))) us y vs → AfterName f us y vs
 is_invoke f us y vs (at, ws, o, (xs, zs, i, (end, qs, c, made eq))) ts n = invoke f xs n (at, o) i (end, c) eq
 
-is_given : (x : Identifier) (us : Tokens) (y : Argument) (vs : Tokens) → Seq (Is (mark m.Assign)) (λ at. Seq (IsExpr 1) (λ v. Made (s.given x v))) us y vs → AfterParameter x us y vs
+is_given : (x : Identifier) (us : Tokens) (y : Argument) (vs : Tokens)
+    → Seq (Is (mark m.Assign)) (λ at. Seq (IsExpr 1) (λ v. Made (s.given x v))) us y vs → AfterParameter x us y vs
 is_given x us y vs (at, ws, o, (v, zs, i, made eq)) ts n = given x v n (at, o) i eq
 
-is_copied : (x : Identifier) (us : Tokens) (y : Argument) (vs : Tokens) → Seq (Is (mark m.Arrow)) (λ at. Seq IsVariable (λ v. Made (s.copied x v))) us y vs → AfterParameter x us y vs
+is_copied : (x : Identifier) (us : Tokens) (y : Argument) (vs : Tokens)
+    → Seq (Is (mark m.Arrow)) (λ at. Seq IsVariable (λ v. Made (s.copied x v))) us y vs → AfterParameter x us y vs
 is_copied x us y vs (at, ws, o, (v, zs, i, made eq)) ts n = copied x v n (at, o) i eq
 
 no_arguments : (ts : Tokens) (xs : List Argument) (us : Tokens) → Made [] ts xs us → IsArguments ts xs us
 no_arguments ts xs us (made eq) = subst (λ (zs : List Argument). IsArguments ts zs ts) (sym eq) no_argument
 
-is_by : (ts : Tokens) (o : Option Expr) (us : Tokens) → Seq (Is (keyword w.By)) (λ at. Seq (IsExpr 1) (λ x. Made (Some x))) ts o us → IsStep ts o us
+is_by : (ts : Tokens) (o : Option Expr) (us : Tokens)
+    → Seq (Is (keyword w.By)) (λ at. Seq (IsExpr 1) (λ x. Made (Some x))) ts o us → IsStep ts o us
 is_by ts o us (at, vs, p, (x, ws, i, made eq)) = step x (at, p) i eq
 
 no_by : (ts : Tokens) (o : Option Expr) (us : Tokens) → Made None ts o us → IsStep ts o us
@@ -129,15 +164,19 @@ module _ (below : ℕ) where
   abbrev shifted : ℕ → ℕ
   shifted n = ((below + n) - 1) - (below - 1)
 
-  target_is : (x : Identifier) (n : ℕ) (ts : Tokens) → Target x n ts ≡ variable_of (expr_at ((below - 1) + shifted n)) x ts
-  target_is x n ts = let h : (below + n) - 1 ≡ (below - 1) + shifted n = omega arith in ap (λ (k : ℕ). variable_of (expr_at k) x ts) h
+  target_is : (x : Identifier) (n : ℕ) (ts : Tokens)
+      → Target x n ts ≡ variable_of (expr_at ((below - 1) + shifted n)) x ts
+  target_is x n ts = let h : (below + n) - 1 ≡ (below - 1) + shifted n = omega arith in
+      ap (λ (k : ℕ). variable_of (expr_at k) x ts) h
 
   told_target : (x : Identifier) → Tells (Target x) (Selected x) (LowVariable ((below - 1) + 1))
   told_target x ts =
       let h : shifted 0 ≡ 0 = omega arith in
       let k : (below + 0) - 1 ≡ (below - 1) + 0 = omega arith in
-      rw k (told_agree (λ n. variable_of (expr_at ((below - 1) + shifted n)) x) (Target x) (Selected x) (LowVariable ((below - 1) + 1)) ts (variable_of (expr_at ((below - 1) + 0)) x ts) (λ n more same. target_is x n more)
-      (told_shift (λ n. variable_of (expr_at ((below - 1) + n)) x) shifted (Selected x) (LowVariable ((below - 1) + 1)) h ts (variable_of (expr_at ((below - 1) + 0)) x ts) (told_by (reads_selected (below - 1) x) ts)))
+      rw k (told_agree (λ n. variable_of (expr_at ((below - 1) + shifted n)) x) (Target x) (Selected x) (LowVariable
+      ((below - 1) + 1)) ts (variable_of (expr_at ((below - 1) + 0)) x ts) (λ n more same. target_is x n more)
+      (told_shift (λ n. variable_of (expr_at ((below - 1) + n)) x) shifted (Selected x) (LowVariable ((below - 1) + 1))
+      h ts (variable_of (expr_at ((below - 1) + 0)) x ts) (told_by (reads_selected (below - 1) x) ts)))
 
   reads_target : {C : Type 0} (x : Identifier) → Reads C (Target x) (Selected x) (LowVariable ((below - 1) + 1))
   reads_target x = record { begins = (reads_selected {C = Unit {0}} (below - 1) x).begins; tells = λ c. told_target x }
@@ -145,50 +184,68 @@ module _ (below : ℕ) where
   assign_low : (d v x : ℕ) → v ≤ (d - 1) + 1 → x ≤ d → 1 ≤ x → max v x + 1 ≤ d + 1
   assign_low d v x a b c = omega arith
 
-  reads_assign_of : {C : Type 0} (x : Identifier) → Reads C (λ n. assign_of (below + n) x) (AfterName x) (LowStmt (below + 1))
+  reads_assign_of : {C : Type 0} (x : Identifier)
+      → Reads C (λ n. assign_of (below + n) x) (AfterName x) (LowStmt (below + 1))
   unfolding assign_of
-  reads_assign_of x = reads_as (is_assign x) (λ y us d. d) (reads_then (reads_target x) (λ v. reads_then (reads_mark m.Assign) (λ at. reads_then reads_expr (λ value.
-      reads_pure (s.assign v value) (LowStmt (below + 1)) (λ c us. assign_low below (depth_of_variable v) (depth_of value) c.0.0.1.1 c.1.1.0 (depth_some value))))))
+  reads_assign_of x = reads_as (is_assign x) (λ y us d. d)
+      (reads_then (reads_target x) (λ v. reads_then (reads_mark m.Assign) (λ at. reads_then reads_expr (λ value.
+      reads_pure (s.assign v value) (LowStmt (below + 1))
+      (λ c us. assign_low below (depth_of_variable v) (depth_of value) c.0.0.1.1 c.1.1.0 (depth_some value))))))
 
-  reads_given_of : {C : Type 0} (x : Identifier) → Reads C (λ n. given_of (below + n) x) (AfterParameter x) (LowArgument below)
+  reads_given_of : {C : Type 0} (x : Identifier)
+      → Reads C (λ n. given_of (below + n) x) (AfterParameter x) (LowArgument below)
   unfolding given_of
-  reads_given_of x = reads_as (is_given x) (λ y us d. d) (reads_then (reads_mark m.Assign) (λ at. reads_then reads_expr (λ v. reads_pure (s.given x v) (LowArgument below) (λ c us. c.1.1.0))))
+  reads_given_of x = reads_as (is_given x) (λ y us d. d) (reads_then (reads_mark m.Assign)
+      (λ at. reads_then reads_expr (λ v. reads_pure (s.given x v) (LowArgument below) (λ c us. c.1.1.0))))
 
-  reads_copied_of : {C : Type 0} (x : Identifier) → Reads C (λ n. copied_of (below + n) x) (AfterParameter x) (LowArgument below)
+  reads_copied_of : {C : Type 0} (x : Identifier)
+      → Reads C (λ n. copied_of (below + n) x) (AfterParameter x) (LowArgument below)
   unfolding copied_of
-  reads_copied_of x = reads_as (is_copied x) (λ y us d. d) (reads_then (reads_mark m.Arrow) (λ at. reads_then reads_variable (λ v. reads_pure (s.copied x v) (LowArgument below) (λ c us. c.1.1))))
+  reads_copied_of x = reads_as (is_copied x) (λ y us d. d) (reads_then (reads_mark m.Arrow)
+      (λ at. reads_then reads_variable (λ v. reads_pure (s.copied x v) (LowArgument below) (λ c us. c.1.1))))
 
   reads_argument : {C : Type 0} → Reads C (λ n. argument_at (below + n)) IsArgument (LowArgument below)
   unfolding argument_at
-  reads_argument = reads_as (λ ts y us p. p.3 ts p.2) (λ y us d. d) (reads_then reads_name (λ x. reads_if (is_mark m.Assign) (reads_given_of x) (reads_copied_of x)))
+  reads_argument = reads_as (λ ts y us p. p.3 ts p.2) (λ y us d. d)
+      (reads_then reads_name (λ x. reads_if (is_mark m.Assign) (reads_given_of x) (reads_copied_of x)))
 
-  reads_arguments : {C : Type 0} → Reads C (λ n. arguments_at (below + n)) IsArguments (λ xs us. deepest_argument xs ≤ below)
+  reads_arguments : {C : Type 0}
+      → Reads C (λ n. arguments_at (below + n)) IsArguments (λ xs us. deepest_argument xs ≤ below)
   unfolding arguments_at
   reads_arguments = reads_if (is_mark m.Close)
       (reads_as no_arguments (λ x us d. d) (reads_pure [] (λ xs us. deepest_argument xs ≤ below) (λ c us. omega arith)))
       (reads_as (λ ts xs us p. p) (λ xs us d. each_argument below xs d.0)
-      (reads_listed (λ n. argument_at (below + n)) IsArgument IsMoreArguments IsArguments (λ x. depth_of_argument x ≤ below) (λ ts. no_more_arguments) (λ ts us x vs xs ws c o r. next_argument c o r) (λ ts x us o. argument_less o) (λ ts x us xs vs o r. argument o r) reads_argument))
+      (reads_listed (λ n. argument_at (below + n)) IsArgument IsMoreArguments IsArguments
+      (λ x. depth_of_argument x ≤ below) (λ ts. no_more_arguments) (λ ts us x vs xs ws c o r. next_argument c o r)
+      (λ ts x us o. argument_less o) (λ ts x us xs vs o r. argument o r) reads_argument))
 
-  reads_invoke_of : {C : Type 0} (f : Identifier) → Reads C (λ n. invoke_of (below + n) f) (AfterName f) (LowStmt (below + 1))
+  reads_invoke_of : {C : Type 0} (f : Identifier)
+      → Reads C (λ n. invoke_of (below + n) f) (AfterName f) (LowStmt (below + 1))
   unfolding invoke_of
-  reads_invoke_of f = reads_as (is_invoke f) (λ y us d. d) (reads_then (reads_mark m.Open) (λ at. reads_then reads_arguments (λ xs. reads_then (reads_mark m.Close) (λ end.
+  reads_invoke_of f = reads_as (is_invoke f) (λ y us d. d)
+      (reads_then (reads_mark m.Open) (λ at. reads_then reads_arguments (λ xs. reads_then (reads_mark m.Close) (λ end.
       reads_pure (s.invoke f xs) (LowStmt (below + 1)) (λ c us. let l = c.0.1.1 in omega arith)))))
 
   reads_named : {C : Type 0} → Reads C (λ n. named_at (below + n)) IsStmt (LowStmt (below + 1))
   unfolding named_at
-  reads_named = reads_as (λ ts y us p. p.3 ts p.2) (λ y us d. d) (reads_then reads_name (λ x. reads_if (is_mark m.Open) (reads_invoke_of x) (reads_assign_of x)))
+  reads_named = reads_as (λ ts y us p. p.3 ts p.2) (λ y us d. d)
+      (reads_then reads_name (λ x. reads_if (is_mark m.Open) (reads_invoke_of x) (reads_assign_of x)))
 
   reads_by : {C : Type 0} → Reads C (λ n. by_at (below + n)) IsStep (LowStep below)
   unfolding by_at
-  reads_by = reads_as is_by (λ x us d. d) (reads_then (reads_keyword w.By) (λ at. reads_then reads_expr (λ x. reads_pure (Some x) (LowStep below) (λ c us. c.1.1.0))))
+  reads_by = reads_as is_by (λ x us d. d) (reads_then (reads_keyword w.By)
+      (λ at. reads_then reads_expr (λ x. reads_pure (Some x) (LowStep below) (λ c us. c.1.1.0))))
 
   reads_step : {C : Type 0} → Reads C (λ n. step_at (below + n)) IsStep (LowStep below)
   unfolding step_at
-  reads_step = reads_if (is_keyword w.By) reads_by (reads_as no_by (λ x us d. d) (reads_pure None (LowStep below) (λ c us. omega arith)))
+  reads_step = reads_if (is_keyword w.By) reads_by
+      (reads_as no_by (λ x us d. d) (reads_pure None (LowStep below) (λ c us. omega arith)))
 
 -- ---- statements one level down
 
-is_arm : (ts : Tokens) (y : Arm) (us : Tokens) → Seq (IsExpr 1) (λ c. Seq (Is (keyword w.Then)) (λ at. Seq IsStmts (λ body. Made (c, stmts_of body)))) ts y us → IsArm ts y us
+is_arm : (ts : Tokens) (y : Arm) (us : Tokens)
+    → Seq (IsExpr 1) (λ c. Seq (Is (keyword w.Then)) (λ at. Seq IsStmts (λ body. Made (c, stmts_of body)))) ts y us
+    → IsArm ts y us
 is_arm ts y us (c, vs, i, (at, ws, t, (body, zs, b, made eq))) = arm c body i (at, t) b eq
 
 abbrev Elsif : Grammar Arm
@@ -197,7 +254,8 @@ Elsif = Seq (Is (keyword w.Elsif)) (λ at. IsArm)
 elsif_less : (ts : Tokens) (y : Arm) (us : Tokens) → Elsif ts y us → length us < length ts
 elsif_less ts y us (at, vs, is eq, a) = let l = arm_less a in omega arith
 
-is_otherwise : (ts : Tokens) (xs : List Stmt) (us : Tokens) → Seq (Is (keyword w.Else)) (λ at. IsStmts) ts xs us → IsElse ts xs us
+is_otherwise : (ts : Tokens) (xs : List Stmt) (us : Tokens) → Seq (Is (keyword w.Else)) (λ at. IsStmts) ts xs us
+    → IsElse ts xs us
 is_otherwise ts xs us p = otherwise (p.0, p.2) p.3
 
 is_no_else : (ts : Tokens) (xs : List Stmt) (us : Tokens) → Made [] ts xs us → IsElse ts xs us
@@ -207,32 +265,64 @@ is_no_else ts xs us (made eq) = subst (λ (zs : List Stmt). IsElse ts zs ts) (sy
 abbrev Arms : Arm → Grammar (List Arm)
 Arms a ts ys us = (xs : List Arm) × IsMoreArms ts xs us × (ys ≡ (a ∷ []) ++ xs)
 
-is_if : (ts : Tokens) (y : Stmt) (us : Tokens) → Seq (Is (keyword w.If)) (λ at. Seq IsArm (λ a. Seq (Arms a) (λ arms. Seq IsElse (λ other. Seq (Is (keyword w.EndIf)) (λ end. Made (s.IF (arms_of arms) (stmts_of other))))))) ts y us → IsStmt ts y us
+is_if : (ts : Tokens) (y : Stmt) (us : Tokens) → Seq (Is (keyword w.If)) (λ at. Seq IsArm (λ a. Seq (Arms a)
+    (λ arms. Seq IsElse (λ other. Seq (Is (keyword w.EndIf)) (λ end. Made (s.IF (arms_of arms) (stmts_of other))))))) ts
+    y us → IsStmt ts y us
 is_if ts y us (at, vs, o, (a, ws, i, (arms, zs, r, (other, qs, x, (end, rs, c, made eq))))) =
     choose a r.0 other (at, o) i r.1 x (end, c) (eq ∙ ap (λ (as' : List Arm). s.IF (arms_of as') (stmts_of other)) r.2)
 
-is_case_arm : (ts : Tokens) (y : CaseArm) (us : Tokens) → Seq IsLabels (λ ls. Seq (Is (mark m.Colon)) (λ at. Seq IsStmts (λ body. Made (ls, stmts_of body)))) ts y us → IsCaseArm ts y us
+is_case_arm : (ts : Tokens) (y : CaseArm) (us : Tokens)
+    → Seq IsLabels (λ ls. Seq (Is (mark m.Colon)) (λ at. Seq IsStmts (λ body. Made (ls, stmts_of body)))) ts y us
+    → IsCaseArm ts y us
 is_case_arm ts y us (ls, vs, i, (at, ws, c, (body, zs, b, made eq))) = case_arm ls body i (at, c) b eq
 
 abbrev CaseArms : Grammar (List CaseArm)
 CaseArms ts ys us = (xs : List CaseArm) × IsCaseArms ts xs us × (ys ≡ [] ++ xs)
 
 is_case : (ts : Tokens) (y : Stmt) (us : Tokens)
-    → Seq (Is (keyword w.Case)) (λ at. Seq (IsExpr 1) (λ x. Seq (Is (keyword w.Of)) (λ of. Seq CaseArms (λ arms. Seq IsElse (λ other. Seq (Is (keyword w.EndCase)) (λ end. Made (s.CASE x (case_arms_of arms) (stmts_of other)))))))) ts y us → IsStmt ts y us
+    → Seq (Is (keyword w.Case)) (λ at. Seq (IsExpr 1) (λ x. Seq (Is (keyword w.Of)) (λ of. Seq CaseArms (λ arms. Seq
+    IsElse (λ other. Seq (Is (keyword w.EndCase)) (λ end. Made (s.CASE x (case_arms_of arms) (stmts_of other))))))))
+    ts y us → IsStmt ts y us
 is_case ts y us (at, vs, o, (x, ws, i, (of, zs, p, (arms, qs, r, (other, rs, q, (end, os, c, made eq)))))) =
-    select x r.0 other (at, o) i (of, p) r.1 q (end, c) (eq ∙ ap (λ (as' : List CaseArm). s.CASE x (case_arms_of as') (stmts_of other)) r.2)
+    select x r.0 other (at, o) i (of, p) r.1 q (end, c)
+    (eq ∙ ap (λ (as' : List CaseArm). s.CASE x (case_arms_of as') (stmts_of other)) r.2)
 
 is_for : (ts : Tokens) (y : Stmt) (us : Tokens)
-    → Seq (Is (keyword w.For)) (λ at. Seq (Is name) (λ x. Seq (Is (mark m.Assign)) (λ a1. Seq (IsExpr 1) (λ start. Seq (Is (keyword w.To)) (λ a2. Seq (IsExpr 1) (λ limit. Seq IsStep (λ by. Seq (Is (keyword w.Do)) (λ a3. Seq IsStmts (λ body.
+    → Seq (Is (keyword w.For))
+    (λ at. Seq (Is name) (λ x. Seq (Is (mark m.Assign)) (λ a1. Seq (IsExpr 1) (λ start. Seq (Is (keyword w.To))
+    (λ a2. Seq (IsExpr 1) (λ limit. Seq IsStep (λ by. Seq (Is (keyword w.Do)) (λ a3. Seq IsStmts (λ body.
     Seq (Is (keyword w.EndFor)) (λ a4. Made (s.FOR x start limit by (stmts_of body)))))))))))) ts y us → IsStmt ts y us
-is_for ts y us (at, vs, o, (x, ws, n, (a1, zs, p, (start, qs, i, (a2, rs, t, (limit, os, j, (by, ps, st, (a3, ms, d, (body, ks, b, (a4, ls, f, made eq)))))))))) =
+is_for ts y us (
+  at,
+  vs,
+  o,
+  (
+    x,
+    ws,
+    n,
+    (
+      a1,
+      zs,
+      p,
+      (start, qs, i, (a2, rs, t, (limit, os, j, (by, ps, st, (a3, ms, d, (body, ks, b, (a4, ls, f, made eq))))))),
+    ),
+  ),
+) =
     count x start limit by body (at, o) n (a1, p) i (a2, t) j st (a3, d) b (a4, f) eq
 
-is_while : (ts : Tokens) (y : Stmt) (us : Tokens) → Seq (Is (keyword w.While)) (λ at. Seq (IsExpr 1) (λ x. Seq (Is (keyword w.Do)) (λ a1. Seq IsStmts (λ body. Seq (Is (keyword w.EndWhile)) (λ a2. Made (s.WHILE x (stmts_of body))))))) ts y us → IsStmt ts y us
-is_while ts y us (at, vs, o, (x, ws, i, (a1, zs, d, (body, qs, b, (a2, rs, f, made eq))))) = repeat_while x body (at, o) i (a1, d) b (a2, f) eq
+is_while : (ts : Tokens) (y : Stmt) (us : Tokens)
+    → Seq (Is (keyword w.While)) (λ at. Seq (IsExpr 1) (λ x. Seq (Is (keyword w.Do))
+    (λ a1. Seq IsStmts (λ body. Seq (Is (keyword w.EndWhile)) (λ a2. Made (s.WHILE x (stmts_of body))))))) ts y us
+    → IsStmt ts y us
+is_while ts y us (at, vs, o, (x, ws, i, (a1, zs, d, (body, qs, b, (a2, rs, f, made eq))))) =
+    repeat_while x body (at, o) i (a1, d) b (a2, f) eq
 
-is_repeat : (ts : Tokens) (y : Stmt) (us : Tokens) → Seq (Is (keyword w.Repeat)) (λ at. Seq IsStmts (λ body. Seq (Is (keyword w.Until)) (λ a1. Seq (IsExpr 1) (λ x. Seq (Is (keyword w.EndRepeat)) (λ a2. Made (s.REPEAT (stmts_of body) x)))))) ts y us → IsStmt ts y us
-is_repeat ts y us (at, vs, o, (body, ws, b, (a1, zs, u, (x, qs, i, (a2, rs, f, made eq))))) = repeat_until body x (at, o) b (a1, u) i (a2, f) eq
+is_repeat : (ts : Tokens) (y : Stmt) (us : Tokens)
+    → Seq (Is (keyword w.Repeat)) (λ at. Seq IsStmts (λ body. Seq (Is (keyword w.Until))
+    (λ a1. Seq (IsExpr 1) (λ x. Seq (Is (keyword w.EndRepeat)) (λ a2. Made (s.REPEAT (stmts_of body) x)))))) ts y us
+    → IsStmt ts y us
+is_repeat ts y us (at, vs, o, (body, ws, b, (a1, zs, u, (x, qs, i, (a2, rs, f, made eq))))) =
+    repeat_until body x (at, o) b (a1, u) i (a2, f) eq
 
 is_empty : (ts : Tokens) (y : Stmt) (us : Tokens) → Made s.empty ts y us → IsStmt ts y us
 is_empty ts y us (made eq) = empty eq
@@ -249,7 +339,8 @@ module _ (below : ℕ) (stmts : ℕ → Parser (List Stmt)) (tells : Tells stmts
 
   reads_arm : {C : Type 0} → Reads C (λ n. arm_at (below + n) (stmts n)) IsArm (LowArm below)
   unfolding arm_at
-  reads_arm = reads_as is_arm (λ x us d. d) (reads_then (reads_expr below) (λ x. reads_then (reads_keyword w.Then) (λ at. reads_then reads_stmts (λ body.
+  reads_arm = reads_as is_arm (λ x us d. d)
+      (reads_then (reads_expr below) (λ x. reads_then (reads_keyword w.Then) (λ at. reads_then reads_stmts (λ body.
       reads_pure (x, stmts_of body) (LowArm below) (λ c us. let a = c.0.0.1.1.0 in let b = c.1.1 in omega arith)))))
 
   reads_elsif : {C : Type 0} → Reads C (λ n. elsif_at (below + n) (stmts n)) Elsif (LowArm below)
@@ -262,50 +353,76 @@ module _ (below : ℕ) (stmts : ℕ → Parser (List Stmt)) (tells : Tells stmts
 
   reads_else : {C : Type 0} → Reads C (λ n. else_at (below + n) (stmts n)) IsElse (LowStmts below)
   unfolding else_at
-  reads_else = reads_if (is_keyword w.Else) reads_otherwise (reads_as is_no_else (λ x us d. d) (reads_pure [] (LowStmts below) (λ c us. omega arith)))
+  reads_else = reads_if (is_keyword w.Else) reads_otherwise
+      (reads_as is_no_else (λ x us d. d) (reads_pure [] (LowStmts below) (λ c us. omega arith)))
 
-  reads_arms : {C : Type 0} (a : Arm) → (C → max (depth_of a.0) (deepest_stmt a.1) ≤ below) → Reads C (λ n. several (is_keyword w.Elsif) (elsif_at (below + n) (stmts n)) (a ∷ [])) (Arms a) (λ xs us. deepest_arm (arms_of xs) ≤ below)
+  reads_arms : {C : Type 0} (a : Arm) → (C → max (depth_of a.0) (deepest_stmt a.1) ≤ below)
+      → Reads C (λ n. several (is_keyword w.Elsif) (elsif_at (below + n) (stmts n)) (a ∷ [])) (Arms a)
+      (λ xs us. deepest_arm (arms_of xs) ≤ below)
   reads_arms a low = reads_as (λ ts xs us p. p) (λ xs us d. each_arm below xs d.0)
-      (reads_several (is_keyword w.Elsif) (λ n. elsif_at (below + n) (stmts n)) Elsif IsMoreArms (λ a. max (depth_of a.0) (deepest_stmt a.1) ≤ below) (λ ts. no_more_arms) (λ ts x us xs vs o r. elsif (o.0, o.2) o.3 r) elsif_less (a ∷ []) (λ c. (low c, tt)) reads_elsif)
+      (reads_several (is_keyword w.Elsif) (λ n. elsif_at (below + n) (stmts n)) Elsif IsMoreArms
+      (λ a. max (depth_of a.0) (deepest_stmt a.1) ≤ below) (λ ts. no_more_arms)
+      (λ ts x us xs vs o r. elsif (o.0, o.2) o.3 r) elsif_less (a ∷ []) (λ c. (low c, tt)) reads_elsif)
 
   reads_if_stmt : {C : Type 0} → Reads C (λ n. if_at (below + n) (stmts n)) IsStmt (LowStmt (below + 1))
   unfolding if_at
-  reads_if_stmt = reads_as is_if (λ x us d. d) (reads_then (reads_keyword w.If) (λ at. reads_then reads_arm (λ a. reads_then (reads_arms a (λ c. c.1.1)) (λ arms. reads_then reads_else (λ other. reads_then (reads_keyword w.EndIf) (λ end.
-      reads_pure (s.IF (arms_of arms) (stmts_of other)) (LowStmt (below + 1)) (λ c us. let a' = c.0.0.1.1 in let b' = c.0.1.1 in omega arith)))))))
+  reads_if_stmt =
+      reads_as is_if (λ x us d. d) (reads_then (reads_keyword w.If) (λ at. reads_then reads_arm (λ a. reads_then
+      (reads_arms a (λ c. c.1.1)) (λ arms. reads_then reads_else (λ other. reads_then (reads_keyword w.EndIf) (λ end.
+      reads_pure (s.IF (arms_of arms) (stmts_of other)) (LowStmt (below + 1))
+      (λ c us. let a' = c.0.0.1.1 in let b' = c.0.1.1 in omega arith)))))))
 
   reads_case_arm : {C : Type 0} → Reads C (λ n. case_arm_at (below + n) (stmts n)) IsCaseArm (LowCaseArm below)
   unfolding case_arm_at
-  reads_case_arm = reads_as is_case_arm (λ x us d. d) (reads_then reads_labels (λ ls. reads_then (reads_mark m.Colon) (λ at. reads_then reads_stmts (λ body. reads_pure (ls, stmts_of body) (LowCaseArm below) (λ c us. c.1.1)))))
+  reads_case_arm = reads_as is_case_arm (λ x us d. d) (reads_then reads_labels (λ ls. reads_then (reads_mark m.Colon)
+      (λ at. reads_then reads_stmts (λ body. reads_pure (ls, stmts_of body) (LowCaseArm below) (λ c us. c.1.1)))))
 
-  reads_case_arms : {C : Type 0} → Reads C (λ n. several starts_number (case_arm_at (below + n) (stmts n)) []) CaseArms (λ xs us. deepest_case_arm (case_arms_of xs) ≤ below)
+  reads_case_arms : {C : Type 0} → Reads C (λ n. several starts_number (case_arm_at (below + n) (stmts n)) []) CaseArms
+      (λ xs us. deepest_case_arm (case_arms_of xs) ≤ below)
   reads_case_arms = reads_as (λ ts xs us p. p) (λ xs us d. each_case_arm below xs d.0)
-      (reads_several starts_number (λ n. case_arm_at (below + n) (stmts n)) IsCaseArm IsCaseArms (λ a. deepest_stmt a.1 ≤ below) (λ ts. no_case_arm) (λ ts x us xs vs o r. next_case_arm o r) (λ ts x us o. case_arm_less o) [] (λ c. tt) reads_case_arm)
+      (reads_several starts_number (λ n. case_arm_at (below + n) (stmts n)) IsCaseArm IsCaseArms
+      (λ a. deepest_stmt a.1 ≤ below) (λ ts. no_case_arm) (λ ts x us xs vs o r. next_case_arm o r)
+      (λ ts x us o. case_arm_less o) [] (λ c. tt) reads_case_arm)
 
   reads_case : {C : Type 0} → Reads C (λ n. case_at (below + n) (stmts n)) IsStmt (LowStmt (below + 1))
   unfolding case_at
-  reads_case = reads_as is_case (λ x us d. d) (reads_then (reads_keyword w.Case) (λ at. reads_then (reads_expr below) (λ x. reads_then (reads_keyword w.Of) (λ of. reads_then reads_case_arms (λ arms. reads_then reads_else (λ other. reads_then (reads_keyword w.EndCase) (λ end.
-      reads_pure (s.CASE x (case_arms_of arms) (stmts_of other)) (LowStmt (below + 1)) (λ c us. let a' = c.0.0.1.1 in let b' = c.0.1.1 in let d' = c.0.0.0.0.1.1.0 in omega arith))))))))
+  reads_case = reads_as is_case (λ x us d. d) (reads_then (reads_keyword w.Case)
+      (λ at. reads_then (reads_expr below) (λ x. reads_then (reads_keyword w.Of) (λ of.
+      reads_then reads_case_arms (λ arms. reads_then reads_else (λ other. reads_then (reads_keyword w.EndCase) (λ end.
+      reads_pure (s.CASE x (case_arms_of arms) (stmts_of other)) (LowStmt (below + 1))
+      (λ c us. let a' = c.0.0.1.1 in let b' = c.0.1.1 in let d' = c.0.0.0.0.1.1.0 in omega arith))))))))
 
   reads_for : {C : Type 0} → Reads C (λ n. for_at (below + n) (stmts n)) IsStmt (LowStmt (below + 1))
   unfolding for_at
-  reads_for = reads_as is_for (λ x us d. d) (reads_then (reads_keyword w.For) (λ at. reads_then reads_name (λ x. reads_then (reads_mark m.Assign) (λ a1. reads_then (reads_expr below) (λ start. reads_then (reads_keyword w.To) (λ a2. reads_then (reads_expr below) (λ limit.
-      reads_then (reads_step below) (λ by. reads_then (reads_keyword w.Do) (λ a3. reads_then reads_stmts (λ body. reads_then (reads_keyword w.EndFor) (λ a4.
-      reads_pure (s.FOR x start limit by (stmts_of body)) (LowStmt (below + 1)) (λ c us. let a' = c.0.1.1 in let b' = c.0.0.0.1.1 in let d' = c.0.0.0.0.1.1.0 in let e' = c.0.0.0.0.0.0.1.1.0 in omega arith))))))))))))
+  reads_for = reads_as is_for (λ x us d. d) (reads_then (reads_keyword w.For)
+      (λ at. reads_then reads_name (λ x. reads_then (reads_mark m.Assign) (λ a1. reads_then (reads_expr below)
+      (λ start. reads_then (reads_keyword w.To) (λ a2. reads_then (reads_expr below) (λ limit.
+      reads_then (reads_step below) (λ by. reads_then (reads_keyword w.Do)
+      (λ a3. reads_then reads_stmts (λ body. reads_then (reads_keyword w.EndFor) (λ a4.
+      reads_pure (s.FOR x start limit by (stmts_of body)) (LowStmt (below + 1)) (λ c us. let a' = c.0.1.1 in
+      let b' = c.0.0.0.1.1 in let d' = c.0.0.0.0.1.1.0 in let e' = c.0.0.0.0.0.0.1.1.0 in omega arith))))))))))))
 
   reads_while : {C : Type 0} → Reads C (λ n. while_at (below + n) (stmts n)) IsStmt (LowStmt (below + 1))
   unfolding while_at
-  reads_while = reads_as is_while (λ x us d. d) (reads_then (reads_keyword w.While) (λ at. reads_then (reads_expr below) (λ x. reads_then (reads_keyword w.Do) (λ a1. reads_then reads_stmts (λ body. reads_then (reads_keyword w.EndWhile) (λ a2.
-      reads_pure (s.WHILE x (stmts_of body)) (LowStmt (below + 1)) (λ c us. let a' = c.0.1.1 in let b' = c.0.0.0.1.1.0 in omega arith)))))))
+  reads_while = reads_as is_while (λ x us d. d)
+      (reads_then (reads_keyword w.While) (λ at. reads_then (reads_expr below) (λ x. reads_then (reads_keyword w.Do)
+      (λ a1. reads_then reads_stmts (λ body. reads_then (reads_keyword w.EndWhile) (λ a2.
+      reads_pure (s.WHILE x (stmts_of body)) (LowStmt (below + 1))
+      (λ c us. let a' = c.0.1.1 in let b' = c.0.0.0.1.1.0 in omega arith)))))))
 
   reads_repeat : {C : Type 0} → Reads C (λ n. repeat_at (below + n) (stmts n)) IsStmt (LowStmt (below + 1))
   unfolding repeat_at
-  reads_repeat = reads_as is_repeat (λ x us d. d) (reads_then (reads_keyword w.Repeat) (λ at. reads_then reads_stmts (λ body. reads_then (reads_keyword w.Until) (λ a1. reads_then (reads_expr below) (λ x. reads_then (reads_keyword w.EndRepeat) (λ a2.
-      reads_pure (s.REPEAT (stmts_of body) x) (LowStmt (below + 1)) (λ c us. let a' = c.0.1.1.0 in let b' = c.0.0.0.1.1 in omega arith)))))))
+  reads_repeat = reads_as is_repeat (λ x us d. d)
+      (reads_then (reads_keyword w.Repeat) (λ at. reads_then reads_stmts (λ body. reads_then (reads_keyword w.Until)
+      (λ a1. reads_then (reads_expr below) (λ x. reads_then (reads_keyword w.EndRepeat) (λ a2.
+      reads_pure (s.REPEAT (stmts_of body) x) (LowStmt (below + 1))
+      (λ c us. let a' = c.0.1.1.0 in let b' = c.0.0.0.1.1 in omega arith)))))))
 
   reads_empty : {C : Type 0} → Reads C (λ n. pure s.empty) IsStmt (LowStmt (below + 1))
   reads_empty = reads_as is_empty (λ x us d. d) (reads_pure s.empty (LowStmt (below + 1)) (λ c us. omega arith))
 
-  told_stmt_by : (k : TokenKind) (t : Token) (ts : Tokens) → Told (λ n. stmt_by (below + n) (stmts n) k) IsStmt (LowStmt (below + 1)) (t ∷ ts) (stmt_by (below + 0) (stmts 0) k (t ∷ ts))
+  told_stmt_by : (k : TokenKind) (t : Token) (ts : Tokens) → Told (λ n. stmt_by (below + n) (stmts n) k) IsStmt
+      (LowStmt (below + 1)) (t ∷ ts) (stmt_by (below + 0) (stmts 0) k (t ∷ ts))
   told_stmt_by (Name x) t ts = told_by (reads_named below) (t ∷ ts)
   told_stmt_by (Mark m.Semicolon) t ts = told_by reads_empty (t ∷ ts)
   told_stmt_by (Keyword w.If) t ts = told_by reads_if_stmt (t ∷ ts)
@@ -315,18 +432,26 @@ module _ (below : ℕ) (stmts : ℕ → Parser (List Stmt)) (tells : Tells stmts
   told_stmt_by (Keyword w.Repeat) t ts = told_by reads_repeat (t ∷ ts)
   told_stmt_by (Keyword w.Exit) t ts = told_by (reads_exit below) (t ∷ ts)
   told_stmt_by (Keyword w.Return) t ts = told_by (reads_return below) (t ∷ ts)
-  told_stmt_by _ t ts = told_refuse (λ n. refuse) IsStmt (LowStmt (below + 1)) (t ∷ ts) stmt_begins (λ n more same. refl)
+  told_stmt_by _ t ts =
+      told_refuse (λ n. refuse) IsStmt (LowStmt (below + 1)) (t ∷ ts) stmt_begins (λ n more same. refl)
 
   reads_stmt : {C : Type 0} → Reads C (λ n. stmt_at (below + n) (stmts n)) IsStmt (LowStmt (below + 1))
   unfolding stmt_at
-  reads_stmt = record { begins = stmt_begins; tells = λ c. told_by_kind (λ n. stmt_by (below + n) (stmts n)) IsStmt (LowStmt (below + 1)) stmt_begins (λ t ts. told_stmt_by t.kind t ts) }
+  reads_stmt = record {
+    begins = stmt_begins;
+    tells = λ c. told_by_kind (λ n. stmt_by (below + n) (stmts n)) IsStmt
+        (LowStmt (below + 1)) stmt_begins (λ t ts. told_stmt_by t.kind t ts);
+  }
 
-  pub reads_line : {C : Type 0} → Reads C (λ n. stmt_at (below + n) (stmts n) >>= (λ x. one (mark m.Semicolon) >> pure x)) IsLine (LowStmt (below + 1))
-  reads_line = reads_then reads_stmt (λ x. reads_then (reads_mark m.Semicolon) (λ at. reads_pure x (LowStmt (below + 1)) (λ c us. c.0.1.1)))
+  pub reads_line : {C : Type 0} → Reads C
+      (λ n. stmt_at (below + n) (stmts n) >>= (λ x. one (mark m.Semicolon) >> pure x)) IsLine (LowStmt (below + 1))
+  reads_line = reads_then reads_stmt
+      (λ x. reads_then (reads_mark m.Semicolon) (λ at. reads_pure x (LowStmt (below + 1)) (λ c us. c.0.1.1)))
 
 -- ---- where no depth is left
 
-stmt_refuses : (below : ℕ) (stmts : Parser (List Stmt)) (k : TokenKind) (ts : Tokens) → starts_stmt k ≡ false → stmt_by below stmts k ts ≡ Err (Unexpected (length ts))
+stmt_refuses : (below : ℕ) (stmts : Parser (List Stmt)) (k : TokenKind) (ts : Tokens) → starts_stmt k ≡ false
+    → stmt_by below stmts k ts ≡ Err (Unexpected (length ts))
 stmt_refuses below stmts (Name x) ts eq = absurd cc
 stmt_refuses below stmts (Mark m.Semicolon) ts eq = absurd cc
 stmt_refuses below stmts (Keyword w.If) ts eq = absurd cc
@@ -363,44 +488,84 @@ passes_sign : (x : MarkType) (after : Tokens) → Passes (mark x) (sign x ∷ af
 passes_sign x after = (0, is (mark_at x (sign x) refl))
 
 -- a statement that is whole but for its semicolon
-with_semicolon : (t : Token) (more : Tokens) (x : Stmt) → ((after : Tokens) → IsStmt (t ∷ (more ++ after)) x after) → Begins IsLine (t ∷ [])
+with_semicolon : (t : Token) (more : Tokens) (x : Stmt) → ((after : Tokens) → IsStmt (t ∷ (more ++ after)) x after)
+    → Begins IsLine (t ∷ [])
 with_semicolon t more x is' = record {
   more = more ++ semicolon ∷ [];
   tree = x;
-  whole = λ after. subst (λ (zs : Tokens). IsLine (t ∷ zs) x after) (sym (append_assoc more (semicolon ∷ []) after)) (x, semicolon ∷ after, is' (semicolon ∷ after), ((passes_sign m.Semicolon after).0, after, (passes_sign m.Semicolon after).1, made refl));
+  whole = λ after. subst (λ (zs : Tokens). IsLine (t ∷ zs) x after) (sym (append_assoc more (semicolon ∷ []) after)) (
+    x,
+    semicolon ∷ after,
+    is' (semicolon ∷ after),
+    ((passes_sign m.Semicolon after).0, after, (passes_sign m.Semicolon after).1, made refl),
+  );
 }
 
 line_begun : (t : Token) (k : TokenKind) → t.kind ≡ k → starts_stmt k ≡ true → Begins IsLine (t ∷ [])
-line_begun t (Name x) eq start = with_semicolon t (sign m.Open ∷ sign m.Close ∷ []) (s.invoke (record { name = x; place = t.start }) [])
-    (λ after. invoke (record { name = x; place = t.start }) [] (is (ap (name_in t.start) eq)) (passes_sign m.Open (sign m.Close ∷ after)) no_argument (passes_sign m.Close after) refl)
-line_begun t (Mark m.Semicolon) eq start = record { more = []; tree = s.empty; whole = λ after. (s.empty, t ∷ after, empty refl, (t.start, after, is (mark_at m.Semicolon t eq), made refl)) }
-line_begun t (Keyword w.If) eq start = with_semicolon t (a_name_token ∷ key w.Then ∷ key w.EndIf ∷ []) (s.IF (arms_of ((a_name, stmts_of []) ∷ [])) (stmts_of []))
-    (λ after. choose (a_name, stmts_of []) [] [] (t.start, is (keyword_at w.If t eq)) (arm a_name [] (name_is 1 (key w.Then ∷ key w.EndIf ∷ after)) (passes_key w.Then (key w.EndIf ∷ after)) no_stmt refl) no_more_arms no_else (passes_key w.EndIf after) refl)
-line_begun t (Keyword w.Case) eq start = with_semicolon t (a_name_token ∷ key w.Of ∷ key w.EndCase ∷ []) (s.CASE a_name (case_arms_of []) (stmts_of []))
-    (λ after. select a_name [] [] (t.start, is (keyword_at w.Case t eq)) (name_is 1 (key w.Of ∷ key w.EndCase ∷ after)) (passes_key w.Of (key w.EndCase ∷ after)) no_case_arm no_else (passes_key w.EndCase after) refl)
-line_begun t (Keyword w.For) eq start = with_semicolon t (a_name_token ∷ sign m.Assign ∷ a_name_token ∷ key w.To ∷ a_name_token ∷ key w.Do ∷ key w.EndFor ∷ []) (s.FOR an_identifier a_name a_name None (stmts_of []))
-    (λ after. count an_identifier a_name a_name None [] (t.start, is (keyword_at w.For t eq)) (is refl) (passes_sign m.Assign (a_name_token ∷ key w.To ∷ a_name_token ∷ key w.Do ∷ key w.EndFor ∷ after)) (name_is 1 (key w.To ∷ a_name_token ∷ key w.Do ∷ key w.EndFor ∷ after))
-    (passes_key w.To (a_name_token ∷ key w.Do ∷ key w.EndFor ∷ after)) (name_is 1 (key w.Do ∷ key w.EndFor ∷ after)) no_step (passes_key w.Do (key w.EndFor ∷ after)) no_stmt (passes_key w.EndFor after) refl)
-line_begun t (Keyword w.While) eq start = with_semicolon t (a_name_token ∷ key w.Do ∷ key w.EndWhile ∷ []) (s.WHILE a_name (stmts_of []))
-    (λ after. repeat_while a_name [] (t.start, is (keyword_at w.While t eq)) (name_is 1 (key w.Do ∷ key w.EndWhile ∷ after)) (passes_key w.Do (key w.EndWhile ∷ after)) no_stmt (passes_key w.EndWhile after) refl)
-line_begun t (Keyword w.Repeat) eq start = with_semicolon t (key w.Until ∷ a_name_token ∷ key w.EndRepeat ∷ []) (s.REPEAT (stmts_of []) a_name)
-    (λ after. repeat_until [] a_name (t.start, is (keyword_at w.Repeat t eq)) no_stmt (passes_key w.Until (a_name_token ∷ key w.EndRepeat ∷ after)) (name_is 1 (key w.EndRepeat ∷ after)) (passes_key w.EndRepeat after) refl)
-line_begun t (Keyword w.Exit) eq start = with_semicolon t [] (s.EXIT t.start) (λ after. exit t.start (is (keyword_at w.Exit t eq)) refl)
-line_begun t (Keyword w.Return) eq start = with_semicolon t [] s.RETURN (λ after. leave (t.start, is (keyword_at w.Return t eq)) refl)
+line_begun t (Name x) eq start =
+    with_semicolon t (sign m.Open ∷ sign m.Close ∷ []) (s.invoke (record { name = x; place = t.start }) [])
+    (λ after. invoke (record { name = x; place = t.start }) [] (is (ap (name_in t.start) eq))
+    (passes_sign m.Open (sign m.Close ∷ after)) no_argument (passes_sign m.Close after) refl)
+line_begun t (Mark m.Semicolon) eq start = record {
+  more = [];
+  tree = s.empty;
+  whole =
+      λ after. (s.empty, t ∷ after, empty refl, (t.start, after, is (mark_at m.Semicolon t eq), made refl));
+}
+line_begun t (Keyword w.If) eq start = with_semicolon t (a_name_token ∷ key w.Then ∷ key w.EndIf ∷ [])
+    (s.IF (arms_of ((a_name, stmts_of []) ∷ [])) (stmts_of []))
+    (λ after. choose (a_name, stmts_of []) [] [] (t.start, is (keyword_at w.If t eq)) (arm a_name []
+    (name_is 1 (key w.Then ∷ key w.EndIf ∷ after)) (passes_key w.Then (key w.EndIf ∷ after)) no_stmt refl)
+    no_more_arms no_else (passes_key w.EndIf after) refl)
+line_begun t (Keyword w.Case) eq start =
+    with_semicolon t (a_name_token ∷ key w.Of ∷ key w.EndCase ∷ []) (s.CASE a_name (case_arms_of []) (stmts_of []))
+    (λ after. select a_name [] [] (t.start, is (keyword_at w.Case t eq)) (name_is 1 (key w.Of ∷ key w.EndCase ∷ after))
+    (passes_key w.Of (key w.EndCase ∷ after)) no_case_arm no_else (passes_key w.EndCase after) refl)
+line_begun t (Keyword w.For) eq start = with_semicolon t (a_name_token ∷ sign m.Assign ∷ a_name_token ∷ key w.To
+    ∷ a_name_token ∷ key w.Do ∷ key w.EndFor ∷ []) (s.FOR an_identifier a_name a_name None (stmts_of []))
+    (λ after. count an_identifier a_name a_name None [] (t.start, is (keyword_at w.For t eq)) (is refl)
+    (passes_sign m.Assign (a_name_token ∷ key w.To ∷ a_name_token ∷ key w.Do ∷ key w.EndFor ∷ after))
+    (name_is 1 (key w.To ∷ a_name_token ∷ key w.Do ∷ key w.EndFor ∷ after))
+    (passes_key w.To (a_name_token ∷ key w.Do ∷ key w.EndFor ∷ after)) (name_is 1 (key w.Do ∷ key w.EndFor ∷ after))
+    no_step (passes_key w.Do (key w.EndFor ∷ after)) no_stmt (passes_key w.EndFor after) refl)
+line_begun t (Keyword w.While) eq start =
+    with_semicolon t (a_name_token ∷ key w.Do ∷ key w.EndWhile ∷ []) (s.WHILE a_name (stmts_of []))
+    (λ after. repeat_while a_name [] (t.start, is (keyword_at w.While t eq)) (name_is 1 (key w.Do ∷ key w.EndWhile
+    ∷ after)) (passes_key w.Do (key w.EndWhile ∷ after)) no_stmt (passes_key w.EndWhile after) refl)
+line_begun t (Keyword w.Repeat) eq start =
+    with_semicolon t (key w.Until ∷ a_name_token ∷ key w.EndRepeat ∷ []) (s.REPEAT (stmts_of []) a_name)
+    (λ after. repeat_until [] a_name (t.start, is (keyword_at w.Repeat t eq)) no_stmt (passes_key w.Until (a_name_token
+    ∷ key w.EndRepeat ∷ after)) (name_is 1 (key w.EndRepeat ∷ after)) (passes_key w.EndRepeat after) refl)
+line_begun t (Keyword w.Exit) eq start =
+    with_semicolon t [] (s.EXIT t.start) (λ after. exit t.start (is (keyword_at w.Exit t eq)) refl)
+line_begun t (Keyword w.Return) eq start =
+    with_semicolon t [] s.RETURN (λ after. leave (t.start, is (keyword_at w.Return t eq)) refl)
 line_begun t _ eq start = absurd cc
 
 pub line_begins : Begins IsLine []
-line_begins = record { more = semicolon ∷ []; tree = s.empty; whole = λ after. (s.empty, semicolon ∷ after, empty refl, ((passes_sign m.Semicolon after).0, after, (passes_sign m.Semicolon after).1, made refl)) }
+line_begins = record {
+  more = semicolon ∷ [];
+  tree = s.empty;
+  whole = λ after. (
+    s.empty,
+    semicolon ∷ after,
+    empty refl,
+    ((passes_sign m.Semicolon after).0, after, (passes_sign m.Semicolon after).1, made refl),
+  );
+}
 
 -- ---- all depths
 
 abbrev ToldLine : ℕ → Type 0
 ToldLine depth = Tells (λ n. line_at (depth + n)) IsLine (LowStmt depth)
 
-pub reads_lines : {C : Type 0} (depth : ℕ) → ToldLine depth → Reads C (λ n. lines (line_at (depth + n))) IsStmts (λ xs us. LowStmts depth xs us × (next starts_stmt us ≡ false))
+pub reads_lines : {C : Type 0} (depth : ℕ) → ToldLine depth
+    → Reads C (λ n. lines (line_at (depth + n))) IsStmts (λ xs us. LowStmts depth xs us × (next starts_stmt us ≡ false))
 unfolding lines
-reads_lines depth tells = reads_as (λ ts ys us p. subst (λ (zs : List Stmt). IsStmts ts zs us) (sym p.2) p.1) (λ xs us d. (each_stmt depth xs d.0, d.1))
-    (reads_several starts_stmt (λ n. line_at (depth + n)) IsLine IsStmts (λ x. depth_of_stmt x ≤ depth) (λ ts. no_stmt) line_then line_less [] (λ c. tt) (record { begins = line_begins; tells = λ c. tells }))
+reads_lines depth tells = reads_as (λ ts ys us p. subst (λ (zs : List Stmt). IsStmts ts zs us) (sym p.2) p.1)
+    (λ xs us d. (each_stmt depth xs d.0, d.1))
+    (reads_several starts_stmt (λ n. line_at (depth + n)) IsLine IsStmts (λ x. depth_of_stmt x ≤ depth) (λ ts. no_stmt)
+    line_then line_less [] (λ c. tt) (record { begins = line_begins; tells = λ c. tells }))
 
 line_none : (ts : Tokens) → line_at (0 + 0) ts ≡ too_deep starts_stmt ts
 unfolding line_at
@@ -414,9 +579,13 @@ unfolding line_at
 line_deeper below n ts = let h : suc below + n ≡ suc (below + n) = omega arith in rw h refl
 
 pub told_line : (depth : ℕ) → ToldLine depth
-told_line zero ts = told_too_deep starts_stmt (λ n. line_at (zero + n)) IsLine (LowStmt zero) line_begins (λ t eq. line_begun t t.kind refl eq) line_none (λ n us eq. line_refuses (0 + n) us eq) ts
-told_line (suc below) ts = rw (line_deeper below 0 ts) (told_agree (Deeper below) (λ n. line_at (suc below + n)) IsLine (LowStmt (suc below)) ts (Deeper below 0 ts) (λ n more same. line_deeper below n more)
-    (told_by (reads_as (λ ts x us p. p) (λ x us d. let l = d in omega arith) (reads_line below (λ n. lines (line_at (below + n))) (told_by (reads_as (λ ts x us p. p) (λ x us d. d.0) (reads_lines below (told_line below)))))) ts))
+told_line zero ts = told_too_deep starts_stmt (λ n. line_at (zero + n)) IsLine (LowStmt zero) line_begins
+    (λ t eq. line_begun t t.kind refl eq) line_none (λ n us eq. line_refuses (0 + n) us eq) ts
+told_line (suc below) ts = rw (line_deeper below 0 ts) (told_agree (Deeper below) (λ n. line_at (suc below + n)) IsLine
+    (LowStmt (suc below)) ts (Deeper below 0 ts) (λ n more same. line_deeper below n more)
+    (told_by (reads_as (λ ts x us p. p) (λ x us d. let l = d in omega arith) (reads_line below (λ n. lines (line_at
+    (below + n))) (told_by (reads_as (λ ts x us p. p) (λ x us d. d.0) (reads_lines below (told_line below)))))) ts))
 
-pub told_stmts : (depth : ℕ) → Tells (λ n. stmts_at (depth + n)) IsStmts (λ xs us. LowStmts depth xs us × (next starts_stmt us ≡ false))
+pub told_stmts : (depth : ℕ)
+    → Tells (λ n. stmts_at (depth + n)) IsStmts (λ xs us. LowStmts depth xs us × (next starts_stmt us ≡ false))
 told_stmts depth = told_by (reads_lines depth (told_line depth))

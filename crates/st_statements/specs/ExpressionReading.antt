@@ -10,9 +10,11 @@ use Rattle.st_lex.specs.declared.keyword.Keyword.TheVariants as w
 use Rattle.st_trees.specs.Expressions.{Expr, Variable, Selector, exprs_of, selectors_of}
 use Rattle.st_trees.specs.Expressions as e
 use Rattle.st_trees.specs.Depths.{depth_of}
-use Rattle.st_statements.specs.Tokens.{is_mark, is_keyword, is_name, is_number, mark, keyword, name, whole, literal, negative_at}
+use Rattle.st_statements.specs.Tokens.{is_mark, is_keyword, is_name, is_number, mark, keyword, name, whole, literal}
+use Rattle.st_statements.specs.Tokens.{negative_at}
 use Rattle.st_statements.specs.Operators.{operator, binds_of, sign_level, operand_level, goes_on}
-use Rattle.st_statements.specs.Parsers.{Parser, ◌>>=◌, ◌>>◌, pure, refuse, one, by_kind, if_next, guard, too_deep, turns, several, listed}
+use Rattle.st_statements.specs.Parsers.{Parser, ◌>>=◌, ◌>>◌, pure, refuse, one, by_kind, if_next, guard, too_deep}
+use Rattle.st_statements.specs.Parsers.{turns, several, listed}
 
 abbrev pub starts_selector : TokenKind → Bool
 starts_selector k = is_mark m.Dot k || is_mark m.OpenBracket k
@@ -149,7 +151,8 @@ module _ (expr : ℕ → Parser Expr) where
 -- an expression of at most a depth, of operators that bind at least so
 unfoldable pub expr_at : ℕ → ℕ → Parser Expr
 expr_at zero least = too_deep (starts_expr least)
-expr_at (suc below) least = λ ts. if nat_lt sign_level least then operand_at (expr_at below) ts else operators_at (expr_at below) below least ts
+expr_at (suc below) least =
+    λ ts. if nat_lt sign_level least then operand_at (expr_at below) ts else operators_at (expr_at below) below least ts
 
 -- a variable of at most a depth
 unfoldable pub variable_at : ℕ → Parser Variable

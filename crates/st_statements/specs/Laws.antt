@@ -27,9 +27,11 @@ pub record IsRead {A : Type 0} (R : Grammar A) (E : Tokens → Type 0) (ts : Tok
   -- it is of the grammar, whatever follows
   pub whole : (after : Tokens) → R (front ++ after) x after
   -- and nothing else is read where the same token comes next
-  pub only : (more : Tokens) (y : A) (vs : Tokens) → SameHead us more → E vs → R (front ++ more) y vs → (y ≡ x) × (vs ≡ more)
+  pub only : (more : Tokens) (y : A) (vs : Tokens) → SameHead us more → E vs → R (front ++ more) y vs
+      → (y ≡ x) × (vs ≡ more)
 
--- The token from which n are left is unexpected: what stands before it begins some text, and with it no text begins so, however deep.
+-- The token from which n are left is unexpected: what stands before it begins some text, and with it no text begins so,
+-- however deep.
 pub record IsUnexpected {A : Type 0} (R : Grammar A) (E : Tokens → Type 0) (ts : Tokens) (n : ℕ) : Type 0 where
   pub front : Tokens
   pub rest : Tokens

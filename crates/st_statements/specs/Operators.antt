@@ -1,7 +1,9 @@
 -- Operators between operands. The levels are those of the standard's Annex B without `**`.
 use Rattle.std.specs.Prelude.{ℕ, Bool, false, Option, Some, None, nat_le}
 use Rattle.st_words.specs.declared.operator.BinaryOperator.{BinaryOperator}
-use Rattle.st_words.specs.declared.operator.BinaryOperator.TheVariants.{Or, Xor, And, Equal, NotEqual, Less, Greater, LessOrEqual, GreaterOrEqual, Add, Subtract, Multiply, Divide, Modulo}
+use Rattle.st_words.specs.declared.operator.BinaryOperator.TheVariants.{Or, Xor, And, Equal, NotEqual, Less, Greater}
+use Rattle.st_words.specs.declared.operator.BinaryOperator.TheVariants.{LessOrEqual, GreaterOrEqual, Add, Subtract}
+use Rattle.st_words.specs.declared.operator.BinaryOperator.TheVariants.{Multiply, Divide, Modulo}
 use Rattle.st_lex.specs.declared.token.Token.{Token}
 use Rattle.st_lex.specs.declared.token.TokenKind.{TokenKind}
 use Rattle.st_lex.specs.declared.token.TokenKind.TheVariants.{Keyword, Mark}

@@ -12,7 +12,8 @@ use Rattle.st_trees.specs.Expressions.{Expr}
 use Rattle.st_trees.specs.Statements.{Argument, Stmt, Arm, CaseArm, stmts_of, arms_of, case_arms_of}
 use Rattle.st_trees.specs.Statements as s
 use Rattle.st_statements.specs.Tokens.{is_mark, is_keyword, is_number, mark, keyword, name}
-use Rattle.st_statements.specs.Parsers.{Parser, ◌>>=◌, ◌>>◌, pure, refuse, one, by_kind, if_next, too_deep, several, listed, number_at}
+use Rattle.st_statements.specs.Parsers.{Parser, ◌>>=◌, ◌>>◌, pure, refuse, one, by_kind, if_next, too_deep, several}
+use Rattle.st_statements.specs.Parsers.{listed, number_at}
 use Rattle.st_statements.specs.ExpressionReading.{expr_at, variable_at, variable_of}
 
 abbrev pub starts_number : TokenKind → Bool

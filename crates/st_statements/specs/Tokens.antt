@@ -61,11 +61,27 @@ name t = name_in t.start t.kind
 
 -- a whole number or bit string without a sign
 abbrev pub unsigned : ℕ → WholeNumber → NumberLeaf
-unsigned at n = record { place = at; is_negative = false; magnitude = n.magnitude; written = n.written; is_decimal = n.is_decimal; taken = None }
+unsigned at n = record {
+  place = at;
+  is_negative = false;
+  magnitude = n.magnitude;
+  written = n.written;
+  is_decimal =
+      n.is_decimal;
+  taken = None;
+}
 
 -- the same with a `-` at a place directly before it
 abbrev pub negative_at : ℕ → NumberLeaf → NumberLeaf
-negative_at at n = record { place = at; is_negative = true; magnitude = n.magnitude; written = n.written; is_decimal = n.is_decimal; taken = None }
+negative_at at n = record {
+  place = at;
+  is_negative = true;
+  magnitude = n.magnitude;
+  written = n.written;
+  is_decimal =
+      n.is_decimal;
+  taken = None;
+}
 
 abbrev pub whole_in : ℕ → TokenKind → Option NumberLeaf
 whole_in at (Number n) = Some (unsigned at n)
@@ -95,4 +111,5 @@ Passes of ts us = (at : ℕ) × Is of ts at us
 -- a number: a whole number or bit string, with a `-` directly before it or not
 pub data IsNumber : Tokens → NumberLeaf → Tokens → Type 0 where
   plain : {ts us : Tokens} {n : NumberLeaf} → Is whole ts n us → IsNumber ts n us
-  negative : {ts us vs : Tokens} {n : NumberLeaf} (at : ℕ) (k : NumberLeaf) → Is (mark m.Minus) ts at us → Is whole us k vs → n ≡ negative_at at k → IsNumber ts n vs
+  negative : {ts us vs : Tokens} {n : NumberLeaf} (at : ℕ) (k : NumberLeaf) → Is (mark m.Minus) ts at us
+      → Is whole us k vs → n ≡ negative_at at k → IsNumber ts n vs

@@ -39,7 +39,8 @@ fn argument(alloc: Global, below: usize, tokens: &[Token]) -> Found<'_>
 #[tactic(auto, unfolding(crate::specs::Parsers::after_comma))]
 fn next_argument(alloc: Global, below: usize, tokens: &[Token]) -> Found<'_>
     requires { below < MAX_DEPTH }
-    ensures { Gives (λ x. (argument_view x.0, x.1.now)) result (parsers.after_comma (reading.argument_at below) tokens.now) }
+    ensures { Gives (λ x. (argument_view x.0, x.1.now)) result
+        (parsers.after_comma (reading.argument_at below) tokens.now) }
 {
     let (_, rest) = mark(Mark::Comma, tokens)?;
     argument(alloc, below, rest)
@@ -52,7 +53,8 @@ fn more_arguments<'a>(
     mut tokens: &'a [Token],
 ) -> Result<(Vec<Argument>, &'a [Token]), ReadError>
     requires { below < MAX_DEPTH }
-    ensures { Gives (λ x. (map argument_view x.0.items, x.1.now)) result (several (is_mark marks.Comma) (parsers.after_comma (reading.argument_at below)) (map argument_view found.items) tokens.entry.now) }
+    ensures { Gives (λ x. (map argument_view x.0.items, x.1.now)) result (several (is_mark marks.Comma)
+        (parsers.after_comma (reading.argument_at below)) (map argument_view found.items) tokens.entry.now) }
 {
     for _turn in 0..tokens.len() {
         if !begins(Mark::Comma, tokens) {

@@ -87,7 +87,8 @@ fn selector(
     tokens: &[Token],
 ) -> Result<(Selector, &[Token]), ReadError>
     requires { below < MAX_DEPTH }
-    ensures { Gives (λ x. (selector_view x.0, x.1.now)) result (reading.selector_at (reading.expr_at below) tokens.now) }
+    ensures { Gives (λ x. (selector_view x.0, x.1.now)) result
+        (reading.selector_at (reading.expr_at below) tokens.now) }
 {
     if begins(Mark::Dot, tokens) {
         let (_, rest) = mark(Mark::Dot, tokens)?;
@@ -107,7 +108,8 @@ fn selectors<'a>(
     mut tokens: &'a [Token],
 ) -> Result<(Vec<Selector>, &'a [Token]), ReadError>
     requires { below < MAX_DEPTH }
-    ensures { Gives (λ x. (map selector_view x.0.items, x.1.now)) result (reading.selectors_at (reading.expr_at below) tokens.entry.now) }
+    ensures { Gives (λ x. (map selector_view x.0.items, x.1.now)) result
+        (reading.selectors_at (reading.expr_at below) tokens.entry.now) }
 {
     let mut found = Vec::new(alloc);
     for _turn in 0..tokens.len() {
@@ -131,7 +133,8 @@ pub fn variable_of<'a>(
     tokens: &'a [Token],
 ) -> Result<(Variable, &'a [Token]), ReadError>
     requires { below < MAX_DEPTH }
-    ensures { Gives (λ x. (variable_view x.0, x.1.now)) result (reading.variable_of (reading.expr_at below) name tokens.now) }
+    ensures { Gives (λ x. (variable_view x.0, x.1.now)) result
+        (reading.variable_of (reading.expr_at below) name tokens.now) }
 {
     let (found, rest) = selectors(alloc, below, tokens)?;
     Ok((Variable::new(name, found), rest))
@@ -155,7 +158,8 @@ fn more_arguments<'a>(
     mut tokens: &'a [Token],
 ) -> Result<(Vec<Expr>, &'a [Token]), ReadError>
     requires { below < MAX_DEPTH }
-    ensures { Gives (λ x. (map expr_view x.0.items, x.1.now)) result (several (is_mark marks.Comma) (parsers.after_comma (reading.expr_at below 1)) (map expr_view found.items) tokens.entry.now) }
+    ensures { Gives (λ x. (map expr_view x.0.items, x.1.now)) result (several (is_mark marks.Comma)
+        (parsers.after_comma (reading.expr_at below 1)) (map expr_view found.items) tokens.entry.now) }
 {
     for _turn in 0..tokens.len() {
         if !begins(Mark::Comma, tokens) {
@@ -176,7 +180,8 @@ fn arguments(
     tokens: &[Token],
 ) -> Result<(Vec<Expr>, &[Token]), ReadError>
     requires { below < MAX_DEPTH }
-    ensures { Gives (λ x. (map expr_view x.0.items, x.1.now)) result (reading.arguments_at (reading.expr_at below) tokens.now) }
+    ensures { Gives (λ x. (map expr_view x.0.items, x.1.now)) result
+        (reading.arguments_at (reading.expr_at below) tokens.now) }
 {
     let mut found = Vec::new(alloc);
     if begins(Mark::Close, tokens) {
@@ -191,7 +196,8 @@ fn arguments(
 #[tactic(auto, unfolding(crate::specs::ExpressionReading::call_of))]
 fn call_of<'a>(alloc: Global, below: usize, function: Identifier, tokens: &'a [Token]) -> Found<'a>
     requires { below < MAX_DEPTH }
-    ensures { Gives (λ x. (expr_view x.0, x.1.now)) result (reading.call_of (reading.expr_at below) function tokens.now) }
+    ensures { Gives (λ x. (expr_view x.0, x.1.now)) result
+        (reading.call_of (reading.expr_at below) function tokens.now) }
 {
     let (_, rest) = mark(Mark::Open, tokens)?;
     let (found, rest) = arguments(alloc, below, rest)?;
@@ -287,7 +293,8 @@ fn unary(alloc: Global, below: usize, tokens: &[Token]) -> Found<'_>
 #[tactic(auto, unfolding(crate::specs::ExpressionReading::operation_of))]
 fn operation<'a>(alloc: Global, below: usize, left: Expr, tokens: &'a [Token]) -> Found<'a>
     requires { below < MAX_DEPTH }
-    ensures { Gives (λ x. (expr_view x.0, x.1.now)) result (reading.operation_of (reading.expr_at below) (expr_view left) tokens.now) }
+    ensures { Gives (λ x. (expr_view x.0, x.1.now)) result
+        (reading.operation_of (reading.expr_at below) (expr_view left) tokens.now) }
 {
     let (op, rest) = operator(tokens)?;
     let (right, rest) = expr(alloc, below, binds(op) + 1, rest)?;
@@ -303,7 +310,8 @@ fn operations<'a>(
     mut tokens: &'a [Token],
 ) -> Found<'a>
     requires { below < MAX_DEPTH }
-    ensures { Gives (λ x. (expr_view x.0, x.1.now)) result (reading.operations_of (reading.expr_at below) below least (expr_view left) tokens.entry.now) }
+    ensures { Gives (λ x. (expr_view x.0, x.1.now)) result
+        (reading.operations_of (reading.expr_at below) below least (expr_view left) tokens.entry.now) }
 {
     for _turn in 0..tokens.len() {
         if !goes_on(least, tokens) {
@@ -323,7 +331,8 @@ fn operations<'a>(
 #[tactic(auto, unfolding(crate::specs::ExpressionReading::operators_at))]
 fn operators(alloc: Global, below: usize, least: usize, tokens: &[Token]) -> Found<'_>
     requires { below < MAX_DEPTH }
-    ensures { Gives (λ x. (expr_view x.0, x.1.now)) result (reading.operators_at (reading.expr_at below) below least tokens.now) }
+    ensures { Gives (λ x. (expr_view x.0, x.1.now)) result
+        (reading.operators_at (reading.expr_at below) below least tokens.now) }
 {
     let (first, rest) = unary(alloc, below, tokens)?;
     operations(alloc, below, least, first, rest)

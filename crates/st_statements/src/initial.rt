@@ -67,7 +67,8 @@ fn member(alloc: Global, depth: usize, tokens: &[Token]) -> FoundMember<'_>
 #[tactic(auto, unfolding(crate::specs::Parsers::after_comma))]
 fn next_member(alloc: Global, depth: usize, tokens: &[Token]) -> FoundMember<'_>
     requires { depth ≤ MAX_DEPTH }
-    ensures { Gives (λ x. (member_view x.0, x.1.now)) result (parsers.after_comma (reading.member_at (reading.initial_at depth)) tokens.now) }
+    ensures { Gives (λ x. (member_view x.0, x.1.now)) result
+        (parsers.after_comma (reading.member_at (reading.initial_at depth)) tokens.now) }
 {
     let (_, rest) = mark(Mark::Comma, tokens)?;
     member(alloc, depth, rest)
@@ -81,7 +82,9 @@ fn more_members<'a>(
     mut tokens: &'a [Token],
 ) -> Result<(Vec<InitialMember>, &'a [Token]), ReadError>
     requires { depth ≤ MAX_DEPTH }
-    ensures { Gives (λ x. (map member_view x.0.items, x.1.now)) result (several (is_mark marks.Comma) (parsers.after_comma (reading.member_at (reading.initial_at depth))) (map member_view found.items) tokens.entry.now) }
+    ensures { Gives (λ x. (map member_view x.0.items, x.1.now)) result
+        (several (is_mark marks.Comma) (parsers.after_comma (reading.member_at (reading.initial_at depth)))
+        (map member_view found.items) tokens.entry.now) }
 {
     for _turn in 0..tokens.len() {
         if !begins(Mark::Comma, tokens) {
@@ -98,7 +101,8 @@ fn more_members<'a>(
 #[tactic(auto, unfolding(crate::specs::InitialReading::structure_at, crate::specs::Parsers::listed))]
 fn structure(alloc: Global, below: usize, tokens: &[Token]) -> Found<'_>
     requires { below < MAX_DEPTH }
-    ensures { Gives (λ x. (initial_view x.0, x.1.now)) result (reading.structure_at (reading.initial_at below) tokens.now) }
+    ensures { Gives (λ x. (initial_view x.0, x.1.now)) result
+        (reading.structure_at (reading.initial_at below) tokens.now) }
 {
     let (place, rest) = mark(Mark::Open, tokens)?;
     let (first, rest) = member(alloc, below, rest)?;
@@ -113,7 +117,8 @@ fn structure(alloc: Global, below: usize, tokens: &[Token]) -> Found<'_>
 #[tactic(auto, unfolding(crate::specs::InitialReading::repetition_of, crate::specs::InitialReading::defaults_of, crate::specs::InitialReading::repeated_of))]
 fn repetition_of(alloc: Global, depth: usize, count: Number, tokens: &[Token]) -> FoundElement<'_>
     requires { depth ≤ MAX_DEPTH }
-    ensures { Gives (λ x. (element_view x.0, x.1.now)) result (reading.repetition_of (reading.initial_at depth) count tokens.now) }
+    ensures { Gives (λ x. (element_view x.0, x.1.now)) result
+        (reading.repetition_of (reading.initial_at depth) count tokens.now) }
 {
     let (_, rest) = mark(Mark::Open, tokens)?;
     if begins(Mark::Close, rest) {
@@ -129,7 +134,8 @@ fn repetition_of(alloc: Global, depth: usize, count: Number, tokens: &[Token]) -
 #[tactic(auto, unfolding(crate::specs::InitialReading::counted_at))]
 fn counted(alloc: Global, depth: usize, tokens: &[Token]) -> FoundElement<'_>
     requires { depth ≤ MAX_DEPTH }
-    ensures { Gives (λ x. (element_view x.0, x.1.now)) result (reading.counted_at (reading.initial_at depth) tokens.now) }
+    ensures { Gives (λ x. (element_view x.0, x.1.now)) result
+        (reading.counted_at (reading.initial_at depth) tokens.now) }
 {
     let (number, rest) = whole(tokens)?;
     if begins(Mark::Open, rest) {
@@ -143,7 +149,8 @@ fn counted(alloc: Global, depth: usize, tokens: &[Token]) -> FoundElement<'_>
 #[tactic(auto, unfolding(crate::specs::InitialReading::element_at, crate::specs::InitialReading::single_at))]
 fn element(alloc: Global, depth: usize, tokens: &[Token]) -> FoundElement<'_>
     requires { depth ≤ MAX_DEPTH }
-    ensures { Gives (λ x. (element_view x.0, x.1.now)) result (reading.element_at (reading.initial_at depth) depth tokens.now) }
+    ensures { Gives (λ x. (element_view x.0, x.1.now)) result
+        (reading.element_at (reading.initial_at depth) depth tokens.now) }
 {
     if depth == 0 {
         return Err(sunk(starts_initial(tokens), tokens));
@@ -159,7 +166,8 @@ fn element(alloc: Global, depth: usize, tokens: &[Token]) -> FoundElement<'_>
 #[tactic(auto, unfolding(crate::specs::Parsers::after_comma))]
 fn next_element(alloc: Global, depth: usize, tokens: &[Token]) -> FoundElement<'_>
     requires { depth ≤ MAX_DEPTH }
-    ensures { Gives (λ x. (element_view x.0, x.1.now)) result (parsers.after_comma (reading.element_at (reading.initial_at depth) depth) tokens.now) }
+    ensures { Gives (λ x. (element_view x.0, x.1.now)) result
+        (parsers.after_comma (reading.element_at (reading.initial_at depth) depth) tokens.now) }
 {
     let (_, rest) = mark(Mark::Comma, tokens)?;
     element(alloc, depth, rest)
@@ -173,7 +181,9 @@ fn more_elements<'a>(
     mut tokens: &'a [Token],
 ) -> Result<(Vec<InitialElement>, &'a [Token]), ReadError>
     requires { depth ≤ MAX_DEPTH }
-    ensures { Gives (λ x. (map element_view x.0.items, x.1.now)) result (several (is_mark marks.Comma) (parsers.after_comma (reading.element_at (reading.initial_at depth) depth)) (map element_view found.items) tokens.entry.now) }
+    ensures { Gives (λ x. (map element_view x.0.items, x.1.now)) result
+        (several (is_mark marks.Comma) (parsers.after_comma (reading.element_at (reading.initial_at depth) depth))
+        (map element_view found.items) tokens.entry.now) }
 {
     for _turn in 0..tokens.len() {
         if !begins(Mark::Comma, tokens) {
@@ -190,7 +200,8 @@ fn more_elements<'a>(
 #[tactic(auto, unfolding(crate::specs::InitialReading::list_at, crate::specs::Parsers::listed))]
 fn list(alloc: Global, below: usize, tokens: &[Token]) -> Found<'_>
     requires { below < MAX_DEPTH }
-    ensures { Gives (λ x. (initial_view x.0, x.1.now)) result (reading.list_at (reading.element_at (reading.initial_at below) below) tokens.now) }
+    ensures { Gives (λ x. (initial_view x.0, x.1.now)) result
+        (reading.list_at (reading.element_at (reading.initial_at below) below) tokens.now) }
 {
     let (place, rest) = mark(Mark::OpenBracket, tokens)?;
     let (first, rest) = element(alloc, below, rest)?;

@@ -40,7 +40,8 @@ fn more_labels<'a>(
     mut found: Vec<Label>,
     mut tokens: &'a [Token],
 ) -> Result<(Vec<Label>, &'a [Token]), ReadError>
-    ensures { Gives (λ x. (x.0.items, x.1.now)) result (several (is_mark marks.Comma) (parsers.after_comma reading.label_at) found.items tokens.entry.now) }
+    ensures { Gives (λ x. (x.0.items, x.1.now)) result
+        (several (is_mark marks.Comma) (parsers.after_comma reading.label_at) found.items tokens.entry.now) }
 {
     for _turn in 0..tokens.len() {
         if !begins(Mark::Comma, tokens) {

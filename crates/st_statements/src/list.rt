@@ -26,7 +26,8 @@ pub fn several<
     requires begins { B.IsAlwaysCallable begins }
     requires item { I.IsAlwaysCallable item }
     ensures { (f : TokenKind → Bool) (p : Parser T.Mirror) → Tests (B.post begins) f → Reads T.view (I.post item) p
-        → Gives (λ x. (map T.view x.0.items, x.1.now)) result (parsers.several f p (map T.view found.items) tokens.entry.now) }
+        → Gives (λ x. (map T.view x.0.items, x.1.now)) result
+        (parsers.several f p (map T.view found.items) tokens.entry.now) }
 {
     for _turn in 0..tokens.len() {
         if !begins(tokens) {

@@ -1,9 +1,9 @@
-//! The parts of a text that declarations and units are made of. Each call reads what stands in prefix of the tokens, and
-//! gives it with the tokens after it.
+//! The parts of a text that declarations and units are made of. Each call reads what stands in prefix of the tokens,
+//! and gives it with the tokens after it.
 //!
-//! Each has four clauses on the grammar: what is read is of the grammar; what is of the grammar is read; where a token is
-//! unexpected it is the first after which no text begins so, however deep; and what is too deep is so in each text that
-//! begins so. They speak of the grammar alone, so that the grammar of whole texts can be put together of them.
+//! Each has four clauses on the grammar: what is read is of the grammar; what is of the grammar is read; where a token
+//! is unexpected it is the first after which no text begins so, however deep; and what is too deep is so in each text
+//! that begins so. They speak of the grammar alone, so that the grammar of whole texts can be put together of them.
 
 ghost use Rattle.std.specs.Prelude.{◌≡◌, List, IfOk, IfErr, map};
 ghost use Rattle.st_words.specs.declared.literal.Number.{Number as NumberLeaf};
@@ -22,7 +22,8 @@ ghost use Rattle.st_statements.specs.Statements.{IsStmts};
 ghost use Rattle.st_statements.specs.ExpressionReading.{expr_at};
 ghost use Rattle.st_statements.specs.InitialReading.{initial_at};
 ghost use Rattle.st_statements.specs.StatementReading.{stmts_at};
-ghost use Rattle.st_statements.specs.Limits.{IsShallow, IsShallowInitial, AreShallow, HasDepthOne, EndsExpression, EndsStatements};
+ghost use Rattle.st_statements.specs.Limits.{IsShallow, IsShallowInitial, AreShallow, HasDepthOne, EndsExpression};
+ghost use Rattle.st_statements.specs.Limits.{EndsStatements};
 
 use crate::expression::expr;
 use crate::fault::ReadError;
@@ -39,11 +40,13 @@ use std::alloc::Global;
 pub fn read_expression(alloc: Global, tokens: &[Token]) -> Result<(Expr, &[Token]), ReadError>
     ensures value { Gives (λ x. (expr_view x.0, x.1.now)) result (expr_at MAX_DEPTH 1 tokens.now) }
     // What is read is of the grammar.
-    ensures found { IfOk result (λ x. IsRead (IsExpr 1) EndsExpression tokens.now (expr_view x.0) x.1.now × IsShallow (expr_view x.0)) }
+    ensures found { IfOk result
+        (λ x. IsRead (IsExpr 1) EndsExpression tokens.now (expr_view x.0) x.1.now × IsShallow (expr_view x.0)) }
     // A refusal applies.
     ensures refused { IfErr result (λ e. Applies (IsExpr 1) EndsExpression IsShallow tokens.now e) }
     // What is of the grammar is read, unless memory runs out.
-    ensures only { (x : expressions.Expr) (us : Tokens) → IsExpr 1 tokens.now x us → EndsExpression us → IsShallow x → Answers (λ x. (expr_view x.0, x.1.now)) result x us }
+    ensures only { (x : expressions.Expr) (us : Tokens) → IsExpr 1 tokens.now x us → EndsExpression us → IsShallow x
+        → Answers (λ x. (expr_view x.0, x.1.now)) result x us }
 {
     expr(alloc, MAX_DEPTH, 1, tokens)
 }
@@ -52,11 +55,13 @@ pub fn read_expression(alloc: Global, tokens: &[Token]) -> Result<(Expr, &[Token
 pub fn read_initial(alloc: Global, tokens: &[Token]) -> Result<(Initial, &[Token]), ReadError>
     ensures value { Gives (λ x. (initial_view x.0, x.1.now)) result (initial_at MAX_DEPTH tokens.now) }
     // What is read is of the grammar.
-    ensures found { IfOk result (λ x. IsRead IsInitial Anywhere tokens.now (initial_view x.0) x.1.now × IsShallowInitial (initial_view x.0)) }
+    ensures found { IfOk result
+        (λ x. IsRead IsInitial Anywhere tokens.now (initial_view x.0) x.1.now × IsShallowInitial (initial_view x.0)) }
     // A refusal applies.
     ensures refused { IfErr result (λ e. Applies IsInitial Anywhere IsShallowInitial tokens.now e) }
     // What is of the grammar is read, unless memory runs out.
-    ensures only { (x : initials.Initial) (us : Tokens) → IsInitial tokens.now x us → IsShallowInitial x → Answers (λ x. (initial_view x.0, x.1.now)) result x us }
+    ensures only { (x : initials.Initial) (us : Tokens) → IsInitial tokens.now x us → IsShallowInitial x
+        → Answers (λ x. (initial_view x.0, x.1.now)) result x us }
 {
     initial(alloc, MAX_DEPTH, tokens)
 }
@@ -65,11 +70,13 @@ pub fn read_initial(alloc: Global, tokens: &[Token]) -> Result<(Initial, &[Token
 pub fn read_statements(alloc: Global, tokens: &[Token]) -> Result<(Vec<Stmt>, &[Token]), ReadError>
     ensures value { Gives (λ x. (map stmt_view x.0.items, x.1.now)) result (stmts_at MAX_DEPTH tokens.now) }
     // What is read is of the grammar.
-    ensures found { IfOk result (λ x. IsRead IsStmts EndsStatements tokens.now (map stmt_view x.0.items) x.1.now × AreShallow (map stmt_view x.0.items)) }
+    ensures found { IfOk result (λ x. IsRead IsStmts EndsStatements tokens.now (map stmt_view x.0.items) x.1.now
+        × AreShallow (map stmt_view x.0.items)) }
     // A refusal applies.
     ensures refused { IfErr result (λ e. Applies IsStmts EndsStatements AreShallow tokens.now e) }
     // What is of the grammar is read, unless memory runs out.
-    ensures only { (xs : List statements.Stmt) (us : Tokens) → IsStmts tokens.now xs us → EndsStatements us → AreShallow xs → Answers (λ x. (map stmt_view x.0.items, x.1.now)) result xs us }
+    ensures only { (xs : List statements.Stmt) (us : Tokens) → IsStmts tokens.now xs us → EndsStatements us
+        → AreShallow xs → Answers (λ x. (map stmt_view x.0.items, x.1.now)) result xs us }
 {
     stmts(alloc, MAX_DEPTH, tokens)
 }
@@ -82,7 +89,8 @@ pub fn read_number(tokens: &[Token]) -> Result<(Number, &[Token]), ReadError>
     // A refusal applies.
     ensures refused { IfErr result (λ e. Applies IsNumber Anywhere HasDepthOne tokens.now e) }
     // What is of the grammar is read.
-    ensures only { (x : NumberLeaf) (us : Tokens) → IsNumber tokens.now x us → Answers (λ x. (x.0, x.1.now)) result x us }
+    ensures only { (x : NumberLeaf) (us : Tokens) → IsNumber tokens.now x us
+        → Answers (λ x. (x.0, x.1.now)) result x us }
 {
     signed_number(tokens)
 }

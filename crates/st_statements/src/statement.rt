@@ -204,7 +204,8 @@ fn arms_behind<'a, I: Fn(&[Token]) -> Block<'_>>(
     requires inner { I.IsAlwaysCallable inner.now }
     requires reads { Reads (λ xs. map stmt_view xs.items) (I.post inner.now) (reading.stmts_at below) }
     ensures { Gives (λ x. (map arm_view x.0.items, x.1.now)) result
-        (parsers.several (is_keyword words.Elsif) (reading.elsif_at below (reading.stmts_at below)) (arm_view first ∷ []) tokens.now) }
+        (parsers.several (is_keyword words.Elsif) (reading.elsif_at below (reading.stmts_at below))
+        (arm_view first ∷ []) tokens.now) }
 {
     let mut found = Vec::new(alloc);
     found.push(first)?;
@@ -226,7 +227,8 @@ fn else_part<'a, I: Fn(&[Token]) -> Block<'_>>(
     requires below { below < MAX_DEPTH }
     requires inner { I.IsAlwaysCallable inner.now }
     requires reads { Reads (λ xs. map stmt_view xs.items) (I.post inner.now) (reading.stmts_at below) }
-    ensures { Gives (λ x. (map stmt_view x.0.items, x.1.now)) result (reading.else_at below (reading.stmts_at below) tokens.now) }
+    ensures { Gives (λ x. (map stmt_view x.0.items, x.1.now)) result
+        (reading.else_at below (reading.stmts_at below) tokens.now) }
 {
     if leads(Keyword::Else, tokens) {
         let (_, rest) = keyword(Keyword::Else, tokens)?;
@@ -265,7 +267,8 @@ fn case_arm<'a, I: Fn(&[Token]) -> Block<'_>>(
     requires below { below < MAX_DEPTH }
     requires inner { I.IsAlwaysCallable inner.now }
     requires reads { Reads (λ xs. map stmt_view xs.items) (I.post inner.now) (reading.stmts_at below) }
-    ensures { Gives (λ x. (case_arm_view x.0, x.1.now)) result (reading.case_arm_at below (reading.stmts_at below) tokens.now) }
+    ensures { Gives (λ x. (case_arm_view x.0, x.1.now)) result
+        (reading.case_arm_at below (reading.stmts_at below) tokens.now) }
 {
     let (labels, rest) = labels(alloc, tokens)?;
     let (_, rest) = mark(Mark::Colon, rest)?;
@@ -347,7 +350,8 @@ fn while_stmt<'a, I: Fn(&[Token]) -> Block<'_>>(
     requires below { below < MAX_DEPTH }
     requires inner { I.IsAlwaysCallable inner.now }
     requires reads { Reads (λ xs. map stmt_view xs.items) (I.post inner.now) (reading.stmts_at below) }
-    ensures { Gives (λ x. (stmt_view x.0, x.1.now)) result (reading.while_at below (reading.stmts_at below) tokens.now) }
+    ensures { Gives (λ x. (stmt_view x.0, x.1.now)) result
+        (reading.while_at below (reading.stmts_at below) tokens.now) }
 {
     let (_, rest) = keyword(Keyword::While, tokens)?;
     let (condition, rest) = expr(alloc, below, 1, rest)?;
@@ -365,7 +369,8 @@ fn repeat_stmt<'a, I: Fn(&[Token]) -> Block<'_>>(
     requires below { below < MAX_DEPTH }
     requires inner { I.IsAlwaysCallable inner.now }
     requires reads { Reads (λ xs. map stmt_view xs.items) (I.post inner.now) (reading.stmts_at below) }
-    ensures { Gives (λ x. (stmt_view x.0, x.1.now)) result (reading.repeat_at below (reading.stmts_at below) tokens.now) }
+    ensures { Gives (λ x. (stmt_view x.0, x.1.now)) result
+        (reading.repeat_at below (reading.stmts_at below) tokens.now) }
 {
     let (_, rest) = keyword(Keyword::Repeat, tokens)?;
     let (body, rest) = inner(rest)?;

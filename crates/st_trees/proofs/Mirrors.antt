@@ -2,16 +2,19 @@
 use Rattle.std.proofs.Common.{◌≡◌, ◌∙◌, ap, ℕ, suc, List, [], ◌∷◌, length, map, refl, sym}
 use Rattle.st_trees.specs.declared.expression.Expr as code_expr
 use Rattle.st_trees.specs.declared.expression.Selector as code_selector
-use Rattle.st_trees.specs.Expressions.{Exprs, no_exprs, expr_then, exprs_of, Selectors, no_selectors, selector_then, selectors_of}
+use Rattle.st_trees.specs.Expressions.{Exprs, no_exprs, expr_then, exprs_of, Selectors, no_selectors, selector_then}
+use Rattle.st_trees.specs.Expressions.{selectors_of}
 use Rattle.st_trees.specs.ExpressionViews.{expr_view, selector_view}
 use Rattle.st_trees.specs.declared.statement.Stmt as code_stmt
 use Rattle.st_trees.specs.declared.statement.Arm as code_arm
 use Rattle.st_trees.specs.declared.statement.CaseArm as code_case_arm
-use Rattle.st_trees.specs.Statements.{Stmts, no_stmts, stmt_then, stmts_of, Arms, no_arms, arm_then, arms_of, CaseArms, no_case_arms, case_arm_then, case_arms_of}
+use Rattle.st_trees.specs.Statements.{Stmts, no_stmts, stmt_then, stmts_of, Arms, no_arms, arm_then, arms_of, CaseArms}
+use Rattle.st_trees.specs.Statements.{no_case_arms, case_arm_then, case_arms_of}
 use Rattle.st_trees.specs.StatementViews.{stmt_view, arm_view, case_arm_view}
 use Rattle.st_trees.specs.declared.initial.InitialElement as code_element
 use Rattle.st_trees.specs.declared.initial.InitialMember as code_member
-use Rattle.st_trees.specs.Initials.{Elements, no_elements, element_then, elements_of, Members, no_members, member_then, members_of}
+use Rattle.st_trees.specs.Initials.{Elements, no_elements, element_then, elements_of, Members, no_members, member_then}
+use Rattle.st_trees.specs.Initials.{members_of}
 use Rattle.st_trees.specs.InitialViews.{element_view, member_view}
 
 abbrev expr_count : Exprs → ℕ
@@ -22,7 +25,8 @@ expr_count_is : (a : List code_expr.Expr) → expr_count (exprs_of (map expr_vie
 expr_count_is [] = refl
 expr_count_is (e ∷ es) = ap suc (expr_count_is es)
 
-pub same_expr_count : (a b : List code_expr.Expr) → exprs_of (map expr_view a) ≡ exprs_of (map expr_view b) → length a ≡ length b
+pub same_expr_count : (a b : List code_expr.Expr) → exprs_of (map expr_view a) ≡ exprs_of (map expr_view b)
+    → length a ≡ length b
 same_expr_count a b e = sym (expr_count_is a) ∙ ap expr_count e ∙ expr_count_is b
 
 abbrev selector_count : Selectors → ℕ
@@ -33,7 +37,8 @@ selector_count_is : (a : List code_selector.Selector) → selector_count (select
 selector_count_is [] = refl
 selector_count_is (x ∷ xs) = ap suc (selector_count_is xs)
 
-pub same_selector_count : (a b : List code_selector.Selector) → selectors_of (map selector_view a) ≡ selectors_of (map selector_view b) → length a ≡ length b
+pub same_selector_count : (a b : List code_selector.Selector)
+    → selectors_of (map selector_view a) ≡ selectors_of (map selector_view b) → length a ≡ length b
 same_selector_count a b e = sym (selector_count_is a) ∙ ap selector_count e ∙ selector_count_is b
 
 abbrev stmt_count : Stmts → ℕ
@@ -44,7 +49,8 @@ stmt_count_is : (a : List code_stmt.Stmt) → stmt_count (stmts_of (map stmt_vie
 stmt_count_is [] = refl
 stmt_count_is (x ∷ xs) = ap suc (stmt_count_is xs)
 
-pub same_stmt_count : (a b : List code_stmt.Stmt) → stmts_of (map stmt_view a) ≡ stmts_of (map stmt_view b) → length a ≡ length b
+pub same_stmt_count : (a b : List code_stmt.Stmt) → stmts_of (map stmt_view a) ≡ stmts_of (map stmt_view b)
+    → length a ≡ length b
 same_stmt_count a b e = sym (stmt_count_is a) ∙ ap stmt_count e ∙ stmt_count_is b
 
 abbrev arm_count : Arms → ℕ
@@ -55,7 +61,8 @@ arm_count_is : (a : List code_arm.Arm) → arm_count (arms_of (map arm_view a)) 
 arm_count_is [] = refl
 arm_count_is (x ∷ xs) = ap suc (arm_count_is xs)
 
-pub same_arm_count : (a b : List code_arm.Arm) → arms_of (map arm_view a) ≡ arms_of (map arm_view b) → length a ≡ length b
+pub same_arm_count : (a b : List code_arm.Arm) → arms_of (map arm_view a) ≡ arms_of (map arm_view b)
+    → length a ≡ length b
 same_arm_count a b e = sym (arm_count_is a) ∙ ap arm_count e ∙ arm_count_is b
 
 abbrev case_arm_count : CaseArms → ℕ
@@ -66,7 +73,8 @@ case_arm_count_is : (a : List code_case_arm.CaseArm) → case_arm_count (case_ar
 case_arm_count_is [] = refl
 case_arm_count_is (x ∷ xs) = ap suc (case_arm_count_is xs)
 
-pub same_case_arm_count : (a b : List code_case_arm.CaseArm) → case_arms_of (map case_arm_view a) ≡ case_arms_of (map case_arm_view b) → length a ≡ length b
+pub same_case_arm_count : (a b : List code_case_arm.CaseArm)
+    → case_arms_of (map case_arm_view a) ≡ case_arms_of (map case_arm_view b) → length a ≡ length b
 same_case_arm_count a b e = sym (case_arm_count_is a) ∙ ap case_arm_count e ∙ case_arm_count_is b
 
 abbrev element_count : Elements → ℕ
@@ -77,7 +85,8 @@ element_count_is : (a : List code_element.InitialElement) → element_count (ele
 element_count_is [] = refl
 element_count_is (x ∷ xs) = ap suc (element_count_is xs)
 
-pub same_element_count : (a b : List code_element.InitialElement) → elements_of (map element_view a) ≡ elements_of (map element_view b) → length a ≡ length b
+pub same_element_count : (a b : List code_element.InitialElement)
+    → elements_of (map element_view a) ≡ elements_of (map element_view b) → length a ≡ length b
 same_element_count a b e = sym (element_count_is a) ∙ ap element_count e ∙ element_count_is b
 
 abbrev member_count : Members → ℕ
@@ -88,5 +97,6 @@ member_count_is : (a : List code_member.InitialMember) → member_count (members
 member_count_is [] = refl
 member_count_is (x ∷ xs) = ap suc (member_count_is xs)
 
-pub same_member_count : (a b : List code_member.InitialMember) → members_of (map member_view a) ≡ members_of (map member_view b) → length a ≡ length b
+pub same_member_count : (a b : List code_member.InitialMember)
+    → members_of (map member_view a) ≡ members_of (map member_view b) → length a ≡ length b
 same_member_count a b e = sym (member_count_is a) ∙ ap member_count e ∙ member_count_is b

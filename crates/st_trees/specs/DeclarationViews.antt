@@ -7,7 +7,8 @@ use Rattle.st_trees.specs.declared.data_type.TypeDeclaration as code_type
 use Rattle.st_trees.specs.declared.declaration.Declaration as code_declaration
 use Rattle.st_trees.specs.declared.declaration.VariableBlock as code_block
 use Rattle.st_trees.specs.InitialViews.{initial_view}
-use Rattle.st_trees.specs.Declarations.{Field, TypeDefinition, array, structure, TypeDeclaration, Declaration, VariableBlock}
+use Rattle.st_trees.specs.Declarations.{Field, TypeDefinition, array, structure, TypeDeclaration, Declaration}
+use Rattle.st_trees.specs.Declarations.{VariableBlock}
 
 abbrev pub field_view : code_field.Field → Field
 field_view f = record { name = f.name; declared = f.declared; initial = option_map initial_view f.initial }
@@ -20,7 +21,8 @@ abbrev pub type_declaration_view : code_type.TypeDeclaration → TypeDeclaration
 type_declaration_view t = record { name = t.name; definition = type_definition_view t.definition }
 
 abbrev pub declaration_view : code_declaration.Declaration → Declaration
-declaration_view d = record { names = d.names.items; declared = d.declared; initial = option_map initial_view d.initial }
+declaration_view d =
+    record { names = d.names.items; declared = d.declared; initial = option_map initial_view d.initial }
 
 abbrev pub variable_block_view : code_block.VariableBlock → VariableBlock
 variable_block_view b = record { section = b.section; declarations = map declaration_view b.declarations.items }

@@ -1,8 +1,13 @@
 -- How deep a tree is. A leaf has depth 1, and a node is one deeper than the deepest of its parts.
 use Rattle.std.specs.Prelude.{ℕ, ◌+◌, max, List, [], ◌∷◌, Option, Some, None}
-use Rattle.st_trees.specs.Expressions.{Expr, literal, read, call, parenthesis, unary, binary, Exprs, no_exprs, expr_then, Variable, variable, Selector, member, subscript, Selectors, no_selectors, selector_then}
-use Rattle.st_trees.specs.Statements.{Argument, given, copied, Stmt, empty, assign, invoke, IF, CASE, FOR, WHILE, REPEAT, EXIT, RETURN, Stmts, no_stmts, stmt_then, Arms, no_arms, arm_then, CaseArms, no_case_arms, case_arm_then}
-use Rattle.st_trees.specs.Initials.{Initial, constant, list, structure, Element, single, repeated, defaults, Elements, no_elements, element_then, Members, no_members, member_then}
+use Rattle.st_trees.specs.Expressions.{Expr, literal, read, call, parenthesis, unary, binary, Exprs, no_exprs}
+use Rattle.st_trees.specs.Expressions.{expr_then, Variable, variable, Selector, member, subscript, Selectors}
+use Rattle.st_trees.specs.Expressions.{no_selectors, selector_then}
+use Rattle.st_trees.specs.Statements.{Argument, given, copied, Stmt, empty, assign, invoke, IF, CASE, FOR, WHILE}
+use Rattle.st_trees.specs.Statements.{REPEAT, EXIT, RETURN, Stmts, no_stmts, stmt_then, Arms, no_arms, arm_then}
+use Rattle.st_trees.specs.Statements.{CaseArms, no_case_arms, case_arm_then}
+use Rattle.st_trees.specs.Initials.{Initial, constant, list, structure, Element, single, repeated, defaults, Elements}
+use Rattle.st_trees.specs.Initials.{no_elements, element_then, Members, no_members, member_then}
 
 -- a parenthesis is a node, and a variable is one node over its subscripts
 abbrev mutual
@@ -49,7 +54,8 @@ abbrev mutual
   depth_of_stmt (invoke x arguments) = deepest_argument arguments + 1
   depth_of_stmt (IF arms otherwise) = max (deepest_arm arms) (deepest_stmt otherwise) + 1
   depth_of_stmt (CASE e arms otherwise) = max (depth_of e) (max (deepest_case_arm arms) (deepest_stmt otherwise)) + 1
-  depth_of_stmt (FOR x start limit step body) = max (max (depth_of start) (depth_of limit)) (max (depth_of_step step) (deepest_stmt body)) + 1
+  depth_of_stmt (FOR x start limit step body) =
+      max (max (depth_of start) (depth_of limit)) (max (depth_of_step step) (deepest_stmt body)) + 1
   depth_of_stmt (WHILE e body) = max (depth_of e) (deepest_stmt body) + 1
   depth_of_stmt (REPEAT body e) = max (deepest_stmt body) (depth_of e) + 1
   depth_of_stmt (EXIT at) = 1

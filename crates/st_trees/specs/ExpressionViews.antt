@@ -3,7 +3,8 @@ use Rattle.st_trees.specs.declared.expression.Expr as code_expr
 use Rattle.st_trees.specs.declared.expression.Variable as code_variable
 use Rattle.st_trees.specs.declared.expression.Selector as code_selector
 use Rattle.st_trees.specs.declared.expression.Expr.TheOpen.{Expr-F, Variable-F, Selector-F}
-use Rattle.st_trees.specs.Expressions.{Expr, literal, read, call, parenthesis, unary, binary, Variable, variable, Selector, member, subscript, exprs_of, selectors_of}
+use Rattle.st_trees.specs.Expressions.{Expr, literal, read, call, parenthesis, unary, binary, Variable, variable}
+use Rattle.st_trees.specs.Expressions.{Selector, member, subscript, exprs_of, selectors_of}
 
 -- one level, with each part already seen as its tree
 abbrev pub expr_step : Expr-F Expr Selector Variable → Expr

@@ -3,7 +3,8 @@ use Rattle.st_trees.specs.declared.initial.Initial as code_initial
 use Rattle.st_trees.specs.declared.initial.InitialElement as code_element
 use Rattle.st_trees.specs.declared.initial.InitialMember as code_member
 use Rattle.st_trees.specs.declared.initial.Initial.TheOpen.{Initial-F, InitialElement-F, InitialMember-F}
-use Rattle.st_trees.specs.Initials.{Initial, constant, list, structure, Element, single, repeated, defaults, Member, elements_of, members_of}
+use Rattle.st_trees.specs.Initials.{Initial, constant, list, structure, Element, single, repeated, defaults, Member}
+use Rattle.st_trees.specs.Initials.{elements_of, members_of}
 
 -- one level, with each part already seen as its mirror
 abbrev pub initial_step : Initial-F Initial Element Member → Initial

@@ -7,7 +7,8 @@ use Rattle.st_trees.specs.declared.statement.Arm as code_arm
 use Rattle.st_trees.specs.declared.statement.CaseArm as code_case_arm
 use Rattle.st_trees.specs.declared.statement.Stmt.TheOpen.{Stmt-F, Arm-F, CaseArm-F}
 use Rattle.st_trees.specs.ExpressionViews.{expr_view, variable_view}
-use Rattle.st_trees.specs.Statements.{Argument, given, copied, Stmt, empty, assign, invoke, IF, CASE, FOR, WHILE, REPEAT, EXIT, RETURN, Stmts, Arm, CaseArm, stmts_of, arms_of, case_arms_of}
+use Rattle.st_trees.specs.Statements.{Argument, given, copied, Stmt, empty, assign, invoke, IF, CASE, FOR, WHILE}
+use Rattle.st_trees.specs.Statements.{REPEAT, EXIT, RETURN, Stmts, Arm, CaseArm, stmts_of, arms_of, case_arms_of}
 
 abbrev pub argument_view : code_argument.Argument → Argument
 argument_view (Input x e) = given x (expr_view e)
@@ -20,7 +21,8 @@ stmt_step (Stmt-F.Assign v e) = assign (variable_view v) (expr_view e)
 stmt_step (Stmt-F.Invoke x arguments) = invoke x (map argument_view arguments.items)
 stmt_step (Stmt-F.If arms xs) = IF (arms_of arms.items) (stmts_of xs.items)
 stmt_step (Stmt-F.Case e arms xs) = CASE (expr_view e) (case_arms_of arms.items) (stmts_of xs.items)
-stmt_step (Stmt-F.For x start limit step xs) = FOR x (expr_view start) (expr_view limit) (option_map expr_view step) (stmts_of xs.items)
+stmt_step (Stmt-F.For x start limit step xs) =
+    FOR x (expr_view start) (expr_view limit) (option_map expr_view step) (stmts_of xs.items)
 stmt_step (Stmt-F.While e xs) = WHILE (expr_view e) (stmts_of xs.items)
 stmt_step (Stmt-F.Repeat xs e) = REPEAT (stmts_of xs.items) (expr_view e)
 stmt_step (Stmt-F.Exit at) = EXIT at

@@ -6,4 +6,10 @@ use Rattle.st_trees.specs.StatementViews.{stmt_view}
 use Rattle.st_trees.specs.Units.{OrganisationUnit}
 
 abbrev pub unit_view : code_unit.Unit → OrganisationUnit
-unit_view u = record { sort = u.sort; name = u.name; blocks = map variable_block_view u.blocks.items; body = map stmt_view u.body.items }
+unit_view u = record {
+  sort = u.sort;
+  name = u.name;
+  blocks = map variable_block_view u.blocks.items;
+  body =
+      map stmt_view u.body.items;
+}

@@ -9,7 +9,10 @@ ghost use Rattle.st_trees.specs.Statements.{stmts_of, arms_of, case_arms_of};
 ghost use Rattle.st_trees.specs.StatementViews.{stmt_view, argument_view, arm_view, case_arm_view};
 ghost use Rattle.st_trees.specs.Initials.{elements_of, members_of};
 ghost use Rattle.st_trees.specs.InitialViews.{initial_view, element_view, member_view};
-ghost use Rattle.st_trees.specs.Depths.{depth_of, deepest, depth_of_variable, deepest_subscript, depth_of_argument, deepest_argument, depth_of_step, depth_of_stmt, deepest_stmt, deepest_arm, deepest_case_arm, depth_of_initial, depth_of_element, deepest_element, deepest_member};
+ghost use Rattle.st_trees.specs.Depths.{depth_of, deepest, depth_of_variable, deepest_subscript, depth_of_argument};
+ghost use Rattle.st_trees.specs.Depths.{deepest_argument, depth_of_step, depth_of_stmt, deepest_stmt, deepest_arm};
+ghost use Rattle.st_trees.specs.Depths.{deepest_case_arm, depth_of_initial, depth_of_element, deepest_element};
+ghost use Rattle.st_trees.specs.Depths.{deepest_member};
 
 use crate::expression::{Expr, Selector, Variable};
 use crate::initial::{Initial, InitialElement, InitialMember};

@@ -167,7 +167,8 @@ fn same_variable(this: &Variable, that: &Variable) -> bool
 
 #[cycle(same_expression)]
 fn same_selectors(these: &[Selector], those: &[Selector]) -> bool
-    ensures { IsTrue result ↔ (selectors_of (map selector_view these.now) ≡ selectors_of (map selector_view those.now)) }
+    ensures { IsTrue result
+        ↔ (selectors_of (map selector_view these.now) ≡ selectors_of (map selector_view those.now)) }
 {
     if these.len() != those.len() {
         return false;

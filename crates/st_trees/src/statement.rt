@@ -104,14 +104,16 @@ impl Stmt {
 
     #[tactic(auto, using(crate::proofs::Bridge::choose_view))]
     pub fn choose(arms: Vec<Arm>, otherwise: Vec<Stmt>) -> Stmt
-        ensures { stmt_view result ≡ tree.IF (arms_of (map arm_view arms.items)) (stmts_of (map stmt_view otherwise.items)) }
+        ensures { stmt_view result
+            ≡ tree.IF (arms_of (map arm_view arms.items)) (stmts_of (map stmt_view otherwise.items)) }
     {
         Stmt::If(arms, otherwise)
     }
 
     #[tactic(auto, using(crate::proofs::Bridge::select_view))]
     pub fn select(selector: Expr, arms: Vec<CaseArm>, otherwise: Vec<Stmt>) -> Stmt
-        ensures { stmt_view result ≡ tree.CASE (expr_view selector) (case_arms_of (map case_arm_view arms.items)) (stmts_of (map stmt_view otherwise.items)) }
+        ensures { stmt_view result ≡ tree.CASE (expr_view selector) (case_arms_of (map case_arm_view arms.items))
+            (stmts_of (map stmt_view otherwise.items)) }
     {
         Stmt::Case(selector, arms, otherwise)
     }
@@ -123,7 +125,8 @@ impl Stmt {
         step: Option<Expr>,
         body: Vec<Stmt>,
     ) -> Stmt
-        ensures { stmt_view result ≡ tree.FOR control (expr_view start) (expr_view limit) (option_map expr_view step) (stmts_of (map stmt_view body.items)) }
+        ensures { stmt_view result ≡ tree.FOR control (expr_view start) (expr_view limit) (option_map expr_view step)
+            (stmts_of (map stmt_view body.items)) }
     {
         Stmt::For {
             control,
@@ -302,7 +305,8 @@ fn same_arm(this: &Arm, that: &Arm) -> bool
 
 #[cycle(same_statement)]
 fn same_case_arms(these: &[CaseArm], those: &[CaseArm]) -> bool
-    ensures { IsTrue result ↔ (case_arms_of (map case_arm_view these.now) ≡ case_arms_of (map case_arm_view those.now)) }
+    ensures { IsTrue result
+        ↔ (case_arms_of (map case_arm_view these.now) ≡ case_arms_of (map case_arm_view those.now)) }
 {
     if these.len() != those.len() {
         return false;

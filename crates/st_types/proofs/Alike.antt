@@ -1,5 +1,6 @@
 -- Two faults for what has no value: two runs end the same way, or each with its fault.
-use Rattle.std.proofs.Common.{◌≡◌, ℕ, zero, suc, ◌⊎◌, inl, inr, IsSome, List, Option, Some, None, Result, Ok, Err, refl, sym, ap}
+use Rattle.std.proofs.Common.{◌≡◌, ℕ, zero, suc, ◌⊎◌, inl, inr, IsSome, List, Option, Some, None, Result, Ok, Err, refl}
+use Rattle.std.proofs.Common.{sym, ap}
 use Rattle.st_words.specs.declared.fault.Fault.{Fault}
 use Rattle.st_words.specs.Values.{Datum}
 use Rattle.st_words.specs.Paths.{Path}
@@ -19,12 +20,14 @@ module _ (f g : Fault) where
   pub record Alike (A : Type 0) (m n : Run A) : Type 0 where
     pub ends : (b : ℕ) → AlikeEnds A (m b) (n b)
 
-  alike_follow : {A B : Type 0} (k l : A → Run B) (x y : Result (A × ℕ) Fault) → AlikeEnds A x y → ((a : A) → Alike B (k a) (l a)) → AlikeEnds B (follow x k) (follow y l)
+  alike_follow : {A B : Type 0} (k l : A → Run B) (x y : Result (A × ℕ) Fault) → AlikeEnds A x y
+      → ((a : A) → Alike B (k a) (l a)) → AlikeEnds B (follow x k) (follow y l)
   alike_follow k l (Ok r) y (inl e) h = rw (sym e) ((h r.0).ends r.1)
   alike_follow k l (Err w) y (inl e) h = rw (sym e) (inl refl)
   alike_follow k l x y (inr e) h = inr (ap (λ z. follow z k) e.0, ap (λ z. follow z l) e.1)
 
-  alike_then : {A B : Type 0} {m n : Run A} {k l : A → Run B} → Alike A m n → ((a : A) → Alike B (k a) (l a)) → Alike B (m >>= k) (n >>= l)
+  alike_then : {A B : Type 0} {m n : Run A} {k l : A → Run B} → Alike A m n → ((a : A) → Alike B (k a) (l a))
+      → Alike B (m >>= k) (n >>= l)
   alike_then {m = m} {n = n} {k = k} {l = l} h i = record { ends = λ b. alike_follow k l (m b) (n b) (h.ends b) i }
 
   alike_give : {A : Type 0} (a : A) → Alike A (give a) (give a)
@@ -37,26 +40,31 @@ module _ (f g : Fault) where
   alike_none : Alike Datum (fault f) (fault g)
   alike_none = record { ends = λ b. inr (refl, refl) }
 
-  ends_behind_tick : {A : Type 0} (m n : Run A) → Alike A m n → (b : ℕ) → AlikeEnds A (follow (tick b) (λ _. m)) (follow (tick b) (λ _. n))
+  ends_behind_tick : {A : Type 0} (m n : Run A) → Alike A m n → (b : ℕ)
+      → AlikeEnds A (follow (tick b) (λ _. m)) (follow (tick b) (λ _. n))
   ends_behind_tick m n h zero = inl refl
   ends_behind_tick m n h (suc b) = h.ends b
 
   alike_tick : {A : Type 0} {m n : Run A} → Alike A m n → Alike A (tick >> m) (tick >> n)
   alike_tick {m = m} {n = n} h = record { ends = ends_behind_tick m n h }
 
-  module _ (turn turn' : Store → Run Turn) (step : Store → Option Store) (h : (s : Store) → Alike Turn (turn s) (turn' s)) where
-    stepped_alike : (next next' : Store → Run End) → ((s : Store) → Alike End (next s) (next' s)) → (s : Store) (o : Option Store) → Alike End (resumed next s o) (resumed next' s o)
+  module _ (turn turn' : Store → Run Turn) (step : Store → Option Store)
+      (h : (s : Store) → Alike Turn (turn s) (turn' s)) where
+    stepped_alike : (next next' : Store → Run End) → ((s : Store) → Alike End (next s) (next' s))
+        → (s : Store) (o : Option Store) → Alike End (resumed next s o) (resumed next' s o)
     stepped_alike next next' k s None = alike_give (goes_on s)
     stepped_alike next next' k s (Some t) = k t
 
-    back_alike : (next next' : Store → Run End) → ((s : Store) → Alike End (next s) (next' s)) → (t : Turn) → Alike End (go_back step next t) (go_back step next' t)
+    back_alike : (next next' : Store → Run End) → ((s : Store) → Alike End (next s) (next' s)) → (t : Turn)
+        → Alike End (go_back step next t) (go_back step next' t)
     back_alike next next' k (over e) = alike_give e
     back_alike next next' k (again s) = alike_tick (stepped_alike next next' k s (step s))
 
     turns_alike : (n : ℕ) (s : Store) → Alike End (turns n turn step s) (turns n turn' step s)
     unfolding turns
     turns_alike zero s = alike_fault _
-    turns_alike (suc n) s = alike_then (h s) (λ t. back_alike (turns n turn step) (turns n turn' step) (turns_alike n) t)
+    turns_alike (suc n) s =
+        alike_then (h s) (λ t. back_alike (turns n turn step) (turns n turn' step) (turns_alike n) t)
 
     looped_alike : (s : Store) → Alike End (looped turn step s) (looped turn' step s)
     unfolding looped
@@ -79,35 +87,44 @@ module _ (f g : Fault) where
     pub functions : (x : Name) (vs : List Datum) → Alike Datum (u.functions x vs) (v.functions x vs)
     pub blocks : (x : Name) (at : Path) (s : Store) → Alike Store (u.blocks x at s) (v.blocks x at s)
 
-  units_alike : (library : Library) (image : Store) (now n : ℕ) → UnitsAlike (units_within f library image now n) (units_within g library image now n)
+  units_alike : (library : Library) (image : Store) (now n : ℕ)
+      → UnitsAlike (units_within f library image now n) (units_within g library image now n)
   unfolding units_within
   units_alike library image now zero = record { functions = λ x vs. alike_fault _; blocks = λ x at s. alike_fault _ }
   units_alike library image now (suc n) =
       let u = units_alike library image now n in
       record {
-        functions = functions_q Alike Alike alike_closed f g library image now (units_within f library image now n) (units_within g library image now n) u.functions u.blocks alike_none;
-        blocks = λ x. instances_q Alike Alike alike_closed f g library image now (units_within f library image now n) (units_within g library image now n) u.functions u.blocks alike_none x (block_of x);
+        functions = functions_q Alike Alike alike_closed f g library image now (units_within f library image now n)
+            (units_within g library image now n) u.functions u.blocks alike_none;
+        blocks = λ x. instances_q Alike Alike alike_closed f g library image now (units_within f library image now n)
+            (units_within g library image now n) u.functions u.blocks alike_none x (block_of x);
       }
 
   pub ran_alike : (p : Program) (image : Store) (now b : ℕ) (s : Store)
-      → (ran_where f p image now b s ≡ ran_where g p image now b s) ⊎ ((ran_where f p image now b s ≡ Err f) × (ran_where g p image now b s ≡ Err g))
+      → (ran_where f p image now b s ≡ ran_where g p image now b s)
+      ⊎ ((ran_where f p image now b s ≡ Err f) × (ran_where g p image now b s ≡ Err g))
   unfolding ran_where
   ran_alike p image now b s =
       let u = units_alike p.library image now b in
-      (exec_all_q Alike Alike alike_closed (scope_where f p image now b) (units_within g p.library image now b) g u.functions u.blocks alike_none p.body.statements s).ends b
+      (exec_all_q Alike Alike alike_closed (scope_where f p image now b) (units_within g p.library image now b) g
+      u.functions u.blocks alike_none p.body.statements s).ends b
 
 -- the end of a run with a third fault
-third : {A : Type 0} (f g h : Fault) (x y z : Result A Fault) → (f ≡ g → ⊥) → x ≡ Err f → y ≡ Err g → (x ≡ z) ⊎ ((x ≡ Err f) × (z ≡ Err h)) → (y ≡ z) ⊎ ((y ≡ Err g) × (z ≡ Err h)) → z ≡ Err h
+third : {A : Type 0} (f g h : Fault) (x y z : Result A Fault) → (f ≡ g → ⊥) → x ≡ Err f → y ≡ Err g
+    → (x ≡ z) ⊎ ((x ≡ Err f) × (z ≡ Err h)) → (y ≡ z) ⊎ ((y ≡ Err g) × (z ≡ Err h)) → z ≡ Err h
 third f g h x y z differ i j (inr k) l = k.1
 third f g h x y z differ i j (inl k) (inr l) = l.1
 third f g h x y z differ i j (inl k) (inl l) = let same : f ≡ g = cc in absurd (differ same)
 
-pub asked_by_two : (f g : Fault) (program : Program) (budget : ℕ) (s image : Store) (now : ℕ) (p : Path) → (f ≡ g → ⊥) → p.owner ≡ None → IsSome (seen image s p)
+pub asked_by_two : (f g : Fault) (program : Program) (budget : ℕ) (s image : Store) (now : ℕ) (p : Path) → (f ≡ g → ⊥)
+    → p.owner ≡ None → IsSome (seen image s p)
     → ran_where f program (without_value image p) now budget (without_value s p) ≡ Err f
     → ran_where g program (without_value image p) now budget (without_value s p) ≡ Err g
     → IsAsked program budget s image now p
 asked_by_two f g program budget s image now p differ of_nobody there i j = record {
   of_nobody = of_nobody;
   is_there = there;
-  is_wanted = λ h. third f g h _ _ _ differ i j (ran_alike f h program (without_value image p) now budget (without_value s p)) (ran_alike g h program (without_value image p) now budget (without_value s p));
+  is_wanted =
+      λ h. third f g h _ _ _ differ i j (ran_alike f h program (without_value image p) now budget (without_value s p))
+      (ran_alike g h program (without_value image p) now budget (without_value s p));
 }

@@ -1,33 +1,46 @@
--- Two runs of one tree, whose calls and whose faults for what has no value are related, are related. P is a relation of runs, and Q is P before the tick that a statement takes.
-use Rattle.std.proofs.Common.{ℕ, zero, ℤ, pos, Bool, true, false, if◌then◌else◌, List, [], ◌∷◌, Option, Some, None, Result, Ok, Err}
+-- Two runs of one tree, whose calls and whose faults for what has no value are related, are related. P is a relation of
+-- runs, and Q is P before the tick that a statement takes.
+use Rattle.std.proofs.Common.{ℕ, zero, ℤ, pos, Bool, true, false, if◌then◌else◌, List, [], ◌∷◌, Option, Some, None}
+use Rattle.std.proofs.Common.{Result, Ok, Err}
 use Rattle.std.specs.List.{list_any}
 use Rattle.st_words.specs.declared.fault.Fault.{Fault}
 use Rattle.st_words.specs.declared.fault.Fault.TheVariants.{Index, ZeroStep}
 use Rattle.st_words.specs.Values.{Datum}
 use Rattle.st_words.specs.Paths.{Path}
-use Rattle.st_trees.specs.Expressions.{Expr, literal, read, call, parenthesis, unary, binary, Exprs, no_exprs, expr_then, Variable, variable, Selector, member, subscript, Selectors, no_selectors, selector_then}
-use Rattle.st_trees.specs.Statements.{Argument, given, copied, Stmt, empty, assign, invoke, IF, CASE, FOR, WHILE, REPEAT, EXIT, RETURN, Stmts, no_stmts, stmt_then, Arms, no_arms, arm_then, CaseArms, no_case_arms, case_arm_then}
+use Rattle.st_trees.specs.Expressions.{Expr, literal, read, call, parenthesis, unary, binary, Exprs, no_exprs}
+use Rattle.st_trees.specs.Expressions.{expr_then, Variable, variable, Selector, member, subscript, Selectors}
+use Rattle.st_trees.specs.Expressions.{no_selectors, selector_then}
+use Rattle.st_trees.specs.Statements.{Argument, given, copied, Stmt, empty, assign, invoke, IF, CASE, FOR, WHILE}
+use Rattle.st_trees.specs.Statements.{REPEAT, EXIT, RETURN, Stmts, no_stmts, stmt_then, Arms, no_arms, arm_then}
+use Rattle.st_trees.specs.Statements.{CaseArms, no_case_arms, case_arm_then}
 use Rattle.st_types.specs.Stores.{Store, get, assigned}
 use Rattle.st_types.specs.Ticks.{Run, ◌>>=◌, ◌>>◌, give, fault, take, or_fault, tick}
 use Rattle.st_types.specs.Operators.{value_of_literal, apply, apply_unary, truth}
 use Rattle.st_types.specs.StandardFunctions.{Standard, standard_of, standard_value}
 use Rattle.st_types.specs.StandardBlocks as standard
 use Rattle.st_types.specs.StandardBlocks.{block_of, members_of, stepped}
-use Rattle.st_types.specs.Runs.{store_of, begun, function_value, member_values, members_assigned, standard_call, block_call, function_call, instance_call}
-use Rattle.st_types.specs.Scopes.{Name, Frame, of_block, of_call, Body, Function, Block, Library, function_in, block_in, Units, Scope, seen, path_in, member_at, block_named}
+use Rattle.st_types.specs.Runs.{store_of, begun, function_value, member_values, members_assigned, standard_call}
+use Rattle.st_types.specs.Runs.{block_call, function_call, instance_call}
+use Rattle.st_types.specs.Scopes.{Name, Frame, of_block, of_call, Body, Function, Block, Library, function_in, block_in}
+use Rattle.st_types.specs.Scopes.{Units, Scope, seen, path_in, member_at, block_named}
 use Rattle.st_types.specs.Evaluation.{known, value, values, place, selected, stepped_to, called, element_at, truth_of}
-use Rattle.st_types.specs.Loops.{End, goes_on, exits, returns, behind, Turn, over, turned, looped, guarded, asked, until, runs_on, step_on, nonzero}
-use Rattle.st_types.specs.Execution.{label_holds, given_inputs, assigned_inputs, copied_outputs, ran_block, step_of, exec, exec_all, exec_arms, exec_case}
+use Rattle.st_types.specs.Loops.{End, goes_on, exits, returns, behind, Turn, over, turned, looped, guarded, asked}
+use Rattle.st_types.specs.Loops.{until, runs_on, step_on, nonzero}
+use Rattle.st_types.specs.Execution.{label_holds, given_inputs, assigned_inputs, copied_outputs, ran_block, step_of}
+use Rattle.st_types.specs.Execution.{exec, exec_all, exec_arms, exec_case}
 
 -- what P and Q are to be closed under
 pub record IsClosed (P Q : (A : Type 0) → Run A → Run A → Type 0) : Type 1 where
   pub gives : {A : Type 0} (a : A) → P A (give a) (give a)
   pub faults : {A : Type 0} (e : Fault) → P A (fault e) (fault e)
-  pub follows : {A B : Type 0} {m n : Run A} {f g : A → Run B} → P A m n → ((a : A) → P B (f a) (g a)) → P B (m >>= f) (n >>= g)
-  pub loops : (turn turn' : Store → Run Turn) (step : Store → Option Store) → ((s : Store) → P Turn (turn s) (turn' s)) → (s : Store) → P End (looped turn step s) (looped turn' step s)
+  pub follows : {A B : Type 0} {m n : Run A} {f g : A → Run B} → P A m n → ((a : A) → P B (f a) (g a))
+      → P B (m >>= f) (n >>= g)
+  pub loops : (turn turn' : Store → Run Turn) (step : Store → Option Store) → ((s : Store) → P Turn (turn s) (turn' s))
+      → (s : Store) → P End (looped turn step s) (looped turn' step s)
   pub stops : {A : Type 0} (e : Fault) → Q A (fault e) (fault e)
   pub begins : {A : Type 0} (a : A) → Q A (give a) (give a)
-  pub continues : {A B : Type 0} {m n : Run A} {f g : A → Run B} → Q A m n → ((a : A) → Q B (f a) (g a)) → Q B (m >>= f) (n >>= g)
+  pub continues : {A B : Type 0} {m n : Run A} {f g : A → Run B} → Q A m n → ((a : A) → Q B (f a) (g a))
+      → Q B (m >>= f) (n >>= g)
   pub ticks : {A : Type 0} {m n : Run A} → P A m n → Q A (tick >> m) (tick >> n)
   pub within : {A : Type 0} {m n : Run A} → Q A m n → P A m n
 
@@ -49,7 +62,8 @@ module _
     p_fault : {A : Type 0} (e : Fault) → P A (fault e) (fault e)
     p_fault e = closed.faults e
 
-    p_then : {A B : Type 0} {m n : Run A} {f g : A → Run B} → P A m n → ((a : A) → P B (f a) (g a)) → P B (m >>= f) (n >>= g)
+    p_then : {A B : Type 0} {m n : Run A} {f g : A → Run B} → P A m n → ((a : A) → P B (f a) (g a))
+        → P B (m >>= f) (n >>= g)
     p_then h k = closed.follows h k
 
     p_take : {A : Type 0} (r : Result A Fault) → P A (take r) (take r)
@@ -64,7 +78,8 @@ module _
     p_known (Some v) = p_give v
     p_known None = lacks
 
-    p_bounded : (s : Store) (p : Path) (b : Bool) → P Path (if b then give p else fault Index) (if b then give p else fault Index)
+    p_bounded : (s : Store) (p : Path) (b : Bool)
+        → P Path (if b then give p else fault Index) (if b then give p else fault Index)
     p_bounded s p true = p_give p
     p_bounded s p false = p_fault Index
 
@@ -100,19 +115,23 @@ module _
     unfolding truth_of
     test_p e s = p_then (value_p s e) (λ v. p_take (truth v))
 
-    given_p : (s : Store) (arguments : List Argument) → P (List (Name × Datum)) (given_inputs w s arguments) (given_inputs other s arguments)
+    given_p : (s : Store) (arguments : List Argument)
+        → P (List (Name × Datum)) (given_inputs w s arguments) (given_inputs other s arguments)
     given_p s [] = p_give []
     given_p s (given x e ∷ rest) = p_then (value_p s e) (λ v. p_then (given_p s rest) (λ vs. p_give ((x.name, v) ∷ vs)))
     given_p s (copied x v ∷ rest) = given_p s rest
 
-    assigned_p : (at : Path) (vs : List (Name × Datum)) (s : Store) → P Store (assigned_inputs at vs s) (assigned_inputs at vs s)
+    assigned_p : (at : Path) (vs : List (Name × Datum)) (s : Store)
+        → P Store (assigned_inputs at vs s) (assigned_inputs at vs s)
     assigned_p at [] s = p_give s
     assigned_p at (e ∷ es) s = p_then (p_take (assigned s (member_at at e.0) e.1)) (λ t. assigned_p at es t)
 
-    copied_p : (at : Path) (arguments : List Argument) (s : Store) → P Store (copied_outputs w at arguments s) (copied_outputs other at arguments s)
+    copied_p : (at : Path) (arguments : List Argument) (s : Store)
+        → P Store (copied_outputs w at arguments s) (copied_outputs other at arguments s)
     copied_p at [] s = p_give s
     copied_p at (given x e ∷ rest) s = copied_p at rest s
-    copied_p at (copied x v ∷ rest) s = p_then (p_or Index (get s (member_at at x.name))) (λ o. p_then (place_p s v) (λ p. p_then (p_take (assigned s p o)) (λ t. copied_p at rest t)))
+    copied_p at (copied x v ∷ rest) s = p_then (p_or Index (get s (member_at at x.name)))
+        (λ o. p_then (place_p s v) (λ p. p_then (p_take (assigned s p o)) (λ t. copied_p at rest t)))
 
     block_p : (at : Path) (o : Option Name) (s : Store) → P Store (ran_block w at o s) (ran_block other at o s)
     block_p at None s = p_fault Index
@@ -126,20 +145,27 @@ module _
     nonzero_p (pos zero) = p_fault ZeroStep
     nonzero_p _ = p_give tt
 
-    p_if : {A : Type 0} {m n m' n' : Run A} (b : Bool) → P A m m' → P A n n' → P A (if b then m else n) (if b then m' else n')
+    p_if : {A : Type 0} {m n m' n' : Run A} (b : Bool) → P A m m' → P A n n'
+        → P A (if b then m else n) (if b then m' else n')
     p_if true h k = h
     p_if false h k = k
 
-    guarded_p : (condition condition' : Store → Run Bool) (body body' : Store → Run End) → ((s : Store) → P Bool (condition s) (condition' s)) → ((s : Store) → P End (body s) (body' s)) → (s : Store) → P Turn (guarded condition body s) (guarded condition' body' s)
+    guarded_p : (condition condition' : Store → Run Bool) (body body' : Store → Run End)
+        → ((s : Store) → P Bool (condition s) (condition' s)) → ((s : Store) → P End (body s) (body' s)) → (s : Store)
+        → P Turn (guarded condition body s) (guarded condition' body' s)
     unfolding guarded
-    guarded_p condition condition' body body' h k s = p_then (h s) (λ go. p_if go (p_then (k s) (λ e. p_give (turned e))) (p_give (over (goes_on s))))
+    guarded_p condition condition' body body' h k s =
+        p_then (h s) (λ go. p_if go (p_then (k s) (λ e. p_give (turned e))) (p_give (over (goes_on s))))
 
-    asked_p : (condition condition' : Store → Run Bool) → ((s : Store) → P Bool (condition s) (condition' s)) → (e : End) → P Turn (asked condition e) (asked condition' e)
+    asked_p : (condition condition' : Store → Run Bool) → ((s : Store) → P Bool (condition s) (condition' s))
+        → (e : End) → P Turn (asked condition e) (asked condition' e)
     asked_p condition condition' h (goes_on s) = p_then (h s) (λ stop. p_give _)
     asked_p condition condition' h (exits s) = p_give (over (goes_on s))
     asked_p condition condition' h (returns s) = p_give (over (returns s))
 
-    until_p : (body body' : Store → Run End) (condition condition' : Store → Run Bool) → ((s : Store) → P End (body s) (body' s)) → ((s : Store) → P Bool (condition s) (condition' s)) → (s : Store) → P Turn (until body condition s) (until body' condition' s)
+    until_p : (body body' : Store → Run End) (condition condition' : Store → Run Bool)
+        → ((s : Store) → P End (body s) (body' s)) → ((s : Store) → P Bool (condition s) (condition' s)) → (s : Store)
+        → P Turn (until body condition s) (until body' condition' s)
     unfolding until
     until_p body body' condition condition' k h s = p_then (k s) (λ e. asked_p condition condition' h e)
 
@@ -147,7 +173,8 @@ module _
     unfolding runs_on
     runs_on_p x limit step s = p_then (p_or Index (get s x)) (λ v. p_give _)
 
-    behind_q : (e : End) (next next' : Store → Run End) → ((s : Store) → Q End (next s) (next' s)) → Q End (behind e next) (behind e next')
+    behind_q : (e : End) (next next' : Store → Run End) → ((s : Store) → Q End (next s) (next' s))
+        → Q End (behind e next) (behind e next')
     behind_q (goes_on s) next next' h = h s
     behind_q (exits s) next next' h = closed.begins (exits s)
     behind_q (returns s) next next' h = closed.begins (returns s)
@@ -155,33 +182,48 @@ module _
     mutual
       exec_q : (x : Stmt) (s : Store) → Q End (exec w x s) (exec other x s)
       exec_q empty s = closed.ticks (p_give (goes_on s))
-      exec_q (assign v e) s = closed.ticks (p_then (value_p s e) (λ x. p_then (place_p s v) (λ p. p_then (p_take (assigned s p x)) (λ t. p_give (goes_on t)))))
+      exec_q (assign v e) s = closed.ticks (p_then (value_p s e)
+          (λ x. p_then (place_p s v) (λ p. p_then (p_take (assigned s p x)) (λ t. p_give (goes_on t)))))
       exec_q (invoke x arguments) s =
           closed.ticks (p_then (given_p s arguments) (λ vs. p_then (assigned_p (path_in w.frame w.body x.name) vs s)
           (λ t. p_then (block_p (path_in w.frame w.body x.name) (block_named w.body.instances x.name) t)
           (λ u. p_then (copied_p (path_in w.frame w.body x.name) arguments u) (λ z. p_give (goes_on z))))))
-      exec_q (IF arms otherwise) s = closed.ticks (arms_p arms (exec_all w otherwise) (exec_all other otherwise) (λ t. closed.within (exec_all_q otherwise t)) s)
-      exec_q (CASE e arms otherwise) s = closed.ticks (p_then (value_p s e) (λ v. case_p v.number arms (exec_all w otherwise) (exec_all other otherwise) (λ t. closed.within (exec_all_q otherwise t)) s))
+      exec_q (IF arms otherwise) s = closed.ticks (arms_p arms (exec_all w otherwise) (exec_all other otherwise)
+          (λ t. closed.within (exec_all_q otherwise t)) s)
+      exec_q (CASE e arms otherwise) s = closed.ticks (p_then (value_p s e) (λ v. case_p v.number arms
+          (exec_all w otherwise) (exec_all other otherwise) (λ t. closed.within (exec_all_q otherwise t)) s))
       exec_q (FOR x start limit step body) s =
-          closed.ticks (p_then (value_p s start) (λ i. p_then (value_p s limit) (λ n. p_then (step_p s step) (λ d. p_then (nonzero_p d)
-          (λ _. p_then (p_take (assigned s (path_in w.frame w.body x.name) i)) (λ t. closed.loops _ _ (step_on (path_in w.frame w.body x.name) d)
-          (λ u. guarded_p _ _ _ _ (runs_on_p (path_in w.frame w.body x.name) n.number d) (λ z. closed.within (exec_all_q body z)) u) t))))))
-      exec_q (WHILE e body) s = closed.ticks (closed.loops _ _ Some (λ u. guarded_p _ _ _ _ (test_p e) (λ z. closed.within (exec_all_q body z)) u) s)
-      exec_q (REPEAT body e) s = closed.ticks (closed.loops _ _ Some (λ u. until_p _ _ _ _ (λ z. closed.within (exec_all_q body z)) (test_p e) u) s)
+          closed.ticks (p_then (value_p s start)
+          (λ i. p_then (value_p s limit) (λ n. p_then (step_p s step) (λ d. p_then (nonzero_p d)
+          (λ _. p_then (p_take (assigned s (path_in w.frame w.body x.name) i))
+          (λ t. closed.loops _ _ (step_on (path_in w.frame w.body x.name) d)
+          (λ u. guarded_p _ _ _ _ (runs_on_p (path_in w.frame w.body x.name) n.number d)
+          (λ z. closed.within (exec_all_q body z)) u) t))))))
+      exec_q (WHILE e body) s = closed.ticks
+          (closed.loops _ _ Some (λ u. guarded_p _ _ _ _ (test_p e) (λ z. closed.within (exec_all_q body z)) u) s)
+      exec_q (REPEAT body e) s = closed.ticks
+          (closed.loops _ _ Some (λ u. until_p _ _ _ _ (λ z. closed.within (exec_all_q body z)) (test_p e) u) s)
       exec_q (EXIT at) s = closed.ticks (p_give (exits s))
       exec_q RETURN s = closed.ticks (p_give (returns s))
 
       pub exec_all_q : (xs : Stmts) (s : Store) → Q End (exec_all w xs s) (exec_all other xs s)
       exec_all_q no_stmts s = closed.begins (goes_on s)
-      exec_all_q (stmt_then x xs) s = closed.continues (exec_q x s) (λ e. behind_q e (exec_all w xs) (exec_all other xs) (λ t. exec_all_q xs t))
+      exec_all_q (stmt_then x xs) s =
+          closed.continues (exec_q x s) (λ e. behind_q e (exec_all w xs) (exec_all other xs) (λ t. exec_all_q xs t))
 
-      arms_p : (arms : Arms) (otherwise otherwise' : Store → Run End) → ((s : Store) → P End (otherwise s) (otherwise' s)) → (s : Store) → P End (exec_arms w arms otherwise s) (exec_arms other arms otherwise' s)
+      arms_p : (arms : Arms) (otherwise otherwise' : Store → Run End)
+          → ((s : Store) → P End (otherwise s) (otherwise' s)) → (s : Store)
+          → P End (exec_arms w arms otherwise s) (exec_arms other arms otherwise' s)
       arms_p no_arms otherwise otherwise' h s = h s
-      arms_p (arm_then e body arms) otherwise otherwise' h s = p_then (test_p e s) (λ go. p_if go (closed.within (exec_all_q body s)) (arms_p arms otherwise otherwise' h s))
+      arms_p (arm_then e body arms) otherwise otherwise' h s =
+          p_then (test_p e s) (λ go. p_if go (closed.within (exec_all_q body s)) (arms_p arms otherwise otherwise' h s))
 
-      case_p : (z : ℤ) (arms : CaseArms) (otherwise otherwise' : Store → Run End) → ((s : Store) → P End (otherwise s) (otherwise' s)) → (s : Store) → P End (exec_case w z arms otherwise s) (exec_case other z arms otherwise' s)
+      case_p : (z : ℤ) (arms : CaseArms) (otherwise otherwise' : Store → Run End)
+          → ((s : Store) → P End (otherwise s) (otherwise' s)) → (s : Store)
+          → P End (exec_case w z arms otherwise s) (exec_case other z arms otherwise' s)
       case_p z no_case_arms otherwise otherwise' h s = h s
-      case_p z (case_arm_then labels body arms) otherwise otherwise' h s = p_if (list_any (label_holds z) labels) (closed.within (exec_all_q body s)) (case_p z arms otherwise otherwise' h s)
+      case_p z (case_arm_then labels body arms) otherwise otherwise' h s = p_if (list_any (label_holds z) labels)
+          (closed.within (exec_all_q body s)) (case_p z arms otherwise otherwise' h s)
 
 module _
     (P Q : (A : Type 0) → Run A → Run A → Type 0)
@@ -199,21 +241,35 @@ module _
     q_or e (Some a) = closed.begins a
     q_or e None = closed.stops e
 
-    body_q : (frame : Frame) (body : Body) (seen : Store) (s : Store) → Q End (exec_all (record { units = units; frame = frame; body = body; image = seen; now = now; missing = missing }) body.statements s) (exec_all (record { units = units'; frame = frame; body = body; image = seen; now = now; missing = missing' }) body.statements s)
-    body_q frame body seen s = exec_all_q P Q closed (record { units = units; frame = frame; body = body; image = seen; now = now; missing = missing }) units' missing' functions blocks lacks body.statements s
+    body_q : (frame : Frame) (body : Body) (seen : Store) (s : Store) → Q End
+        (exec_all (record { units = units; frame = frame; body = body; image = seen; now = now; missing = missing })
+        body.statements s)
+        (exec_all (record { units = units'; frame = frame; body = body; image = seen; now = now; missing = missing' })
+        body.statements s)
+    body_q frame body seen s = exec_all_q P Q closed
+        (record { units = units; frame = frame; body = body; image = seen; now = now; missing = missing }) units'
+        missing' functions blocks lacks body.statements s
 
-    function_q : (f : Function) (vs : List Datum) → Q Datum (function_value missing units now f vs) (function_value missing' units' now f vs)
-    function_q f vs = closed.continues (q_take (begun f.fresh f.inputs vs)) (λ s. closed.continues (body_q of_call f.body [] s) (λ e. q_or Index _))
+    function_q : (f : Function) (vs : List Datum)
+        → Q Datum (function_value missing units now f vs) (function_value missing' units' now f vs)
+    function_q f vs = closed.continues (q_take (begun f.fresh f.inputs vs))
+        (λ s. closed.continues (body_q of_call f.body [] s) (λ e. q_or Index _))
 
-    block_call_q : (b : Block) (at : Path) (s : Store) → Q Store (block_call missing units image now b at s) (block_call missing' units' image now b at s)
+    block_call_q : (b : Block) (at : Path) (s : Store)
+        → Q Store (block_call missing units image now b at s) (block_call missing' units' image now b at s)
     block_call_q b at s = closed.continues (body_q (of_block at) b.body image s) (λ e. closed.begins (store_of e))
 
-    standard_q : (k : standard.StandardBlock) (at : Path) (s : Store) → Q Store (standard_call k now at s) (standard_call k now at s)
-    standard_q k at s = closed.continues (q_or Index (member_values s at (members_of k))) (λ vs. q_take (members_assigned s at (members_of k) (stepped k now vs)))
+    standard_q : (k : standard.StandardBlock) (at : Path) (s : Store)
+        → Q Store (standard_call k now at s) (standard_call k now at s)
+    standard_q k at s = closed.continues (q_or Index (member_values s at (members_of k)))
+        (λ vs. q_take (members_assigned s at (members_of k) (stepped k now vs)))
 
-    pub functions_q : (f : Name) (vs : List Datum) → Q Datum (function_call missing library units now f vs) (function_call missing' library units' now f vs)
+    pub functions_q : (f : Name) (vs : List Datum)
+        → Q Datum (function_call missing library units now f vs) (function_call missing' library units' now f vs)
     functions_q f vs = closed.continues (q_or Index (function_in library.functions f)) (λ g. function_q g vs)
 
-    pub instances_q : (b : Name) (o : Option standard.StandardBlock) (at : Path) (s : Store) → Q Store (instance_call missing library image units now b o at s) (instance_call missing' library image units' now b o at s)
+    pub instances_q : (b : Name) (o : Option standard.StandardBlock) (at : Path) (s : Store)
+        → Q Store (instance_call missing library image units now b o at s)
+        (instance_call missing' library image units' now b o at s)
     instances_q b (Some k) at s = standard_q k at s
     instances_q b None at s = closed.continues (q_or Index (block_in library.blocks b)) (λ c. block_call_q c at s)

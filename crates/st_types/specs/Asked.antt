@@ -16,11 +16,13 @@ not_held v = record { kind = v.kind; number = greatest v.kind +ℤ pos 1 }
 abbrev pub without_value : Store → Path → Store
 without_value s p = map (λ e. if same_path p e.0 then (e.0, not_held e.1) else e) s
 
--- A run asks for the value of a global or an input where without this value it ends with whatever fault stands for a value that is not
--- there. Until it looks the path up it runs as it would with the value, since only a look-up of this path meets what is not there; an
--- assignment to the path gives it a value again. A run that never meets it ends the same way for each fault, so not with each of them.
--- What a standard block reads of its instance, and what a call copies from one by =>, is no look-up.
+-- A run asks for the value of a global or an input where without this value it ends with whatever fault stands for a
+-- value that is not there. Until it looks the path up it runs as it would with the value, since only a look-up of this
+-- path meets what is not there; an assignment to the path gives it a value again. A run that never meets it ends the
+-- same way for each fault, so not with each of them. What a standard block reads of its instance, and what a call
+-- copies from one by =>, is no look-up.
 pub record IsAsked (program : Program) (budget : ℕ) (s image : Store) (now : ℕ) (p : Path) : Type 0 where
   pub of_nobody : p.owner ≡ None
   pub is_there : IsSome (seen image s p)
-  pub is_wanted : (missing : Fault) → ran_where missing program (without_value image p) now budget (without_value s p) ≡ Err missing
+  pub is_wanted : (missing : Fault)
+      → ran_where missing program (without_value image p) now budget (without_value s p) ≡ Err missing

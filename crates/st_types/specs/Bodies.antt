@@ -25,7 +25,8 @@ declared_names (d ∷ ds) = names_of d.names ++ declared_names ds
 -- the names of a unit's externals, in order
 abbrev pub externals_in : List VariableBlock → List Name
 externals_in [] = []
-externals_in (b ∷ bs) = if is_external b.section then declared_names b.declarations ++ externals_in bs else externals_in bs
+externals_in (b ∷ bs) =
+    if is_external b.section then declared_names b.declarations ++ externals_in bs else externals_in bs
 
 -- a program of an instance, without functions and blocks
 abbrev pub plain_program : Owner → OrganisationUnit → Program

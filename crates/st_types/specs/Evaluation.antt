@@ -1,12 +1,15 @@
 -- The value of an expression. All operands are evaluated, the left before the right.
--- F3 is a subscript out of bounds. Where a name has no value, which no well-typed text meets, the scope's fault for it stands.
+-- F3 is a subscript out of bounds. Where a name has no value, which no well-typed text meets, the scope's fault for it
+-- stands.
 use Rattle.std.specs.Prelude.{ℕ, ℤ, List, [], ◌∷◌, ◌++◌, Bool, ◌||◌, if◌then◌else◌, Option, Some, None}
 use Rattle.st_words.specs.declared.fault.Fault.TheVariants.{Index}
 use Rattle.st_words.specs.declared.path.Step.TheVariants.{Element}
 use Rattle.st_words.specs.Kinds.{holds}
 use Rattle.st_words.specs.Values.{Datum}
 use Rattle.st_words.specs.Paths.{Path}
-use Rattle.st_trees.specs.Expressions.{Expr, literal, read, call, parenthesis, unary, binary, Exprs, no_exprs, expr_then, Variable, variable, Selector, member, subscript, Selectors, no_selectors, selector_then}
+use Rattle.st_trees.specs.Expressions.{Expr, literal, read, call, parenthesis, unary, binary, Exprs, no_exprs}
+use Rattle.st_trees.specs.Expressions.{expr_then, Variable, variable, Selector, member, subscript, Selectors}
+use Rattle.st_trees.specs.Expressions.{no_selectors, selector_then}
 use Rattle.st_types.specs.Stores.{Store, has_part}
 use Rattle.st_types.specs.Ticks.{Run, ◌>>=◌, give, fault, take, or_fault}
 use Rattle.st_types.specs.Operators.{value_of_literal, apply, apply_unary, truth}

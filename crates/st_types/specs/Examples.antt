@@ -1,18 +1,21 @@
 -- Words for worked examples: programs of one instance R/P with variables of its own, as trees without places.
-use Rattle.std.specs.Prelude.{ℕ, ℤ, pos, unsigned_abs, int_lt, List, [], ◌∷◌, ◌++◌, take, drop, map, Bool, true, Some, None, Result, codes}
+use Rattle.std.specs.Prelude.{ℕ, ℤ, pos, unsigned_abs, int_lt, List, [], ◌∷◌, ◌++◌, take, drop, map, Bool, true, Some}
+use Rattle.std.specs.Prelude.{None, Result, codes}
 use Rattle.st_words.specs.declared.fault.Fault.{Fault}
 use Rattle.st_words.specs.declared.identifier.Identifier.{Identifier}
 use Rattle.st_words.specs.declared.kind.Kind.{Kind}
 use Rattle.st_words.specs.declared.kind.Kind.TheVariants.{Int, Dint, Time, Bool as Boolean}
 use Rattle.st_words.specs.declared.literal.Literal.TheVariants as literals
-use Rattle.st_words.specs.declared.operator.BinaryOperator.TheVariants.{Less, GreaterOrEqual, Equal, Add, Multiply, Divide}
+use Rattle.st_words.specs.declared.operator.BinaryOperator.TheVariants.{Less, GreaterOrEqual, Equal, Add, Multiply}
+use Rattle.st_words.specs.declared.operator.BinaryOperator.TheVariants.{Divide}
 use Rattle.st_words.specs.declared.path.Owner.{Owner}
 use Rattle.st_words.specs.Values.{Datum}
 use Rattle.st_words.specs.Paths.{Path}
 use Rattle.st_words.specs.Values.{datum_of_truth}
 use Rattle.st_types.specs.StandardBlocks as standard
 use Rattle.st_types.specs.StandardBlocks.{stepped}
-use Rattle.st_trees.specs.Expressions.{Expr, literal, read, call, binary, exprs_of, Variable, variable, subscript, no_selectors, selectors_of}
+use Rattle.st_trees.specs.Expressions.{Expr, literal, read, call, binary, exprs_of, Variable, variable, subscript}
+use Rattle.st_trees.specs.Expressions.{no_selectors, selectors_of}
 use Rattle.st_trees.specs.Statements.{Stmt, stmts_of, assign, empty, IF, FOR, WHILE, REPEAT, EXIT, arms_of}
 use Rattle.st_trees.specs.declared.data_type.SimpleType.TheVariants.{Elementary}
 use Rattle.st_trees.specs.declared.data_type.VariableType.TheVariants.{Simple}
@@ -41,11 +44,25 @@ name x = read (target x)
 
 -- a literal that has taken a type
 abbrev pub number : Kind → ℤ → Expr
-number k z = literal (literals.Number (record { place = 0; is_negative = int_lt z (pos 0); magnitude = unsigned_abs z; written = None; is_decimal = true; taken = Some k }))
+number k z = literal (literals.Number (record {
+  place = 0;
+  is_negative = int_lt z (pos 0);
+  magnitude = unsigned_abs z;
+  written = None;
+  is_decimal = true;
+  taken = Some k;
+}))
 
 -- a literal as it is parsed, before it has taken a type
 abbrev pub untyped : ℤ → Expr
-untyped z = literal (literals.Number (record { place = 0; is_negative = int_lt z (pos 0); magnitude = unsigned_abs z; written = None; is_decimal = true; taken = None }))
+untyped z = literal (literals.Number (record {
+  place = 0;
+  is_negative = int_lt z (pos 0);
+  magnitude = unsigned_abs z;
+  written = None;
+  is_decimal = true;
+  taken = None;
+}))
 
 -- a program's declaration of a variable
 abbrev pub declared : Name → Kind → Declaration
@@ -56,7 +73,11 @@ abbrev pub three_variables : OrganisationUnit
 three_variables = record {
   sort = ProgramSort;
   name = identifier (codes "P");
-  blocks = record { section = Local None; declarations = declared (codes "N") Int ∷ declared (codes "D") Dint ∷ declared (codes "B") Boolean ∷ [] } ∷ [];
+  blocks = record {
+    section = Local None;
+    declarations =
+        declared (codes "N") Int ∷ declared (codes "D") Dint ∷ declared (codes "B") Boolean ∷ [];
+  } ∷ [];
   body = [];
 }
 
@@ -84,7 +105,8 @@ abbrev pub body_of : List Stmt → Body
 body_of xs = record { externals = []; instances = []; statements = stmts_of xs }
 
 abbrev pub program : List Function → List Stmt → Program
-program functions xs = record { library = record { functions = functions; blocks = [] }; owner = owner; body = body_of xs }
+program functions xs =
+    record { library = record { functions = functions; blocks = [] }; owner = owner; body = body_of xs }
 
 -- the end of the statements with the ticks left, or their fault
 abbrev pub ran_with : List Function → ℕ → List Stmt → List (Name × Datum) → Result (End × ℕ) Fault
@@ -120,7 +142,8 @@ Z = codes "Z"
 abbrev pub while_to_3 : List Stmt
 while_to_3 =
     set I (number Int (pos 0))
-    ∷ WHILE (binary Less (name I) (number Int (pos 3))) (stmts_of (set I (binary Add (name I) (number Int (pos 1))) ∷ []))
+    ∷ WHILE (binary Less (name I) (number Int (pos 3)))
+    (stmts_of (set I (binary Add (name I) (number Int (pos 1))) ∷ []))
     ∷ []
 
 -- k := k + 1;
@@ -137,18 +160,21 @@ to_3 = FOR (identifier I) (number Int (pos 1)) (number Int (pos 3)) None (stmts_
 
 -- FOR i := 1 TO 3 BY 0 DO ; END_FOR;
 abbrev pub by_0 : List Stmt
-by_0 = FOR (identifier I) (number Int (pos 1)) (number Int (pos 3)) (Some (number Int (pos 0))) (stmts_of (empty ∷ [])) ∷ []
+by_0 = FOR (identifier I) (number Int (pos 1)) (number Int (pos 3)) (Some (number Int (pos 0))) (stmts_of (empty ∷ []))
+    ∷ []
 
 -- FOR i := 1 TO 5 DO IF i = 3 THEN EXIT; END_IF; k := k + 1; END_FOR;
 abbrev pub exit_at_3 : List Stmt
 exit_at_3 =
     FOR (identifier I) (number Int (pos 1)) (number Int (pos 5)) None
-    (stmts_of (IF (arms_of ((binary Equal (name I) (number Int (pos 3)), stmts_of (EXIT 0 ∷ [])) ∷ [])) (stmts_of []) ∷ one_more ∷ []))
+    (stmts_of (IF (arms_of ((binary Equal (name I) (number Int (pos 3)), stmts_of (EXIT 0 ∷ [])) ∷ [])) (stmts_of [])
+    ∷ one_more ∷ []))
     ∷ []
 
 -- REPEAT i := i + 1; UNTIL i >= 3 END_REPEAT;
 abbrev pub repeat_to_3 : List Stmt
-repeat_to_3 = REPEAT (stmts_of (set I (binary Add (name I) (number Int (pos 1))) ∷ [])) (binary GreaterOrEqual (name I) (number Int (pos 3))) ∷ []
+repeat_to_3 = REPEAT (stmts_of (set I (binary Add (name I) (number Int (pos 1))) ∷ []))
+    (binary GreaterOrEqual (name I) (number Int (pos 3))) ∷ []
 
 -- FUNCTION Sq : DINT VAR_INPUT x : DINT; END_VAR Sq := x * x; END_FUNCTION
 abbrev pub square : Function
@@ -215,12 +241,17 @@ its_inputs = (unowned Z, int (pos 0)) ∷ []
 
 -- statements whose names stand for the globals and the input, but for i, an instance of the block b
 abbrev pub body_over_globals : List Stmt → Body
-body_over_globals xs = record { externals = P ∷ X ∷ Y ∷ C ∷ A ∷ Z ∷ []; instances = (I, codes "B") ∷ []; statements = stmts_of xs }
+body_over_globals xs =
+    record { externals = P ∷ X ∷ Y ∷ C ∷ A ∷ Z ∷ []; instances = (I, codes "B") ∷ []; statements = stmts_of xs }
 
 -- the path is asked for by the statements, with c TRUE or FALSE; the block b is x := p;
 abbrev pub Asks : Bool → List Stmt → Path → Type 0
 Asks c xs p = IsAsked (record {
-  library = record { functions = []; blocks = record { name = codes "B"; body = body_over_globals (set X (name P) ∷ []) } ∷ [] };
+  library = record {
+    functions = [];
+    blocks =
+        record { name = codes "B"; body = body_over_globals (set X (name P) ∷ []) } ∷ [];
+  };
   owner = owner;
   body = body_over_globals xs;
 }) 100 (its_globals c) its_inputs 0 p

@@ -8,13 +8,16 @@ use Rattle.st_words.specs.Paths.{Path}
 use Rattle.st_trees.specs.declared.statement.Label.{Label}
 use Rattle.st_trees.specs.declared.statement.Label.TheVariants.{Single, Range}
 use Rattle.st_trees.specs.Expressions.{Expr, Variable}
-use Rattle.st_trees.specs.Statements.{Argument, given, copied, Stmt, empty, assign, invoke, IF, CASE, FOR, WHILE, REPEAT, EXIT, RETURN, Stmts, no_stmts, stmt_then, Arms, no_arms, arm_then, CaseArms, no_case_arms, case_arm_then}
+use Rattle.st_trees.specs.Statements.{Argument, given, copied, Stmt, empty, assign, invoke, IF, CASE, FOR, WHILE}
+use Rattle.st_trees.specs.Statements.{REPEAT, EXIT, RETURN, Stmts, no_stmts, stmt_then, Arms, no_arms, arm_then}
+use Rattle.st_trees.specs.Statements.{CaseArms, no_case_arms, case_arm_then}
 use Rattle.st_types.specs.Stores.{Store, get, assigned}
 use Rattle.st_types.specs.Ticks.{Run, ◌>>=◌, ◌>>◌, give, fault, take, or_fault, tick}
 use Rattle.st_types.specs.Operators.{number_of}
 use Rattle.st_types.specs.Scopes.{Name, Scope, path_in, member_at, block_named}
 use Rattle.st_types.specs.Evaluation.{value, place, truth_of}
-use Rattle.st_types.specs.Loops.{End, goes_on, exits, returns, behind, looped, guarded, until, runs_on, step_on, nonzero}
+use Rattle.st_types.specs.Loops.{End, goes_on, exits, returns, behind, looped, guarded, until, runs_on, step_on}
+use Rattle.st_types.specs.Loops.{nonzero}
 
 -- a label holds the selector's number
 abbrev pub label_holds : ℤ → Label → Bool
@@ -90,13 +93,15 @@ abbrev mutual
   pub exec : Scope → Stmt → Store → Run End
   exec w empty s = tick >> give (goes_on s)
   exec w (assign v e) s = tick >> assigning w v e s
-  exec w (invoke x arguments) s = tick >> invoking w (path_in w.frame w.body x.name) (block_named w.body.instances x.name) arguments s
+  exec w (invoke x arguments) s =
+      tick >> invoking w (path_in w.frame w.body x.name) (block_named w.body.instances x.name) arguments s
   exec w (IF arms otherwise) s = tick >> exec_arms w arms (exec_all w otherwise) s
   exec w (CASE e arms otherwise) s = do
     tick
     v ← value w s e
     exec_case w v.number arms (exec_all w otherwise) s
-  exec w (FOR x start limit step body) s = tick >> counting w (path_in w.frame w.body x.name) start limit step (exec_all w body) s
+  exec w (FOR x start limit step body) s =
+      tick >> counting w (path_in w.frame w.body x.name) start limit step (exec_all w body) s
   exec w (WHILE e body) s = tick >> looped (guarded (truth_of w e) (exec_all w body)) Some s
   exec w (REPEAT body e) s = tick >> looped (until (exec_all w body) (truth_of w e)) Some s
   exec w (EXIT at) s = tick >> give (exits s)

@@ -1,5 +1,6 @@
 -- Loops.
-use Rattle.std.specs.Prelude.{ℕ, zero, suc, ℤ, pos, ◌+ℤ◌, int_lt, int_le, Bool, if◌then◌else◌, Option, Some, None, option_and_then, Result, Ok, Err}
+use Rattle.std.specs.Prelude.{ℕ, zero, suc, ℤ, pos, ◌+ℤ◌, int_lt, int_le, Bool, if◌then◌else◌, Option, Some, None}
+use Rattle.std.specs.Prelude.{option_and_then, Result, Ok, Err}
 use Rattle.st_words.specs.declared.fault.Fault.{Fault}
 use Rattle.st_words.specs.declared.fault.Fault.TheVariants.{Index, Budget, ZeroStep}
 use Rattle.st_words.specs.Values.{Datum, in_range}
@@ -72,7 +73,8 @@ until body condition s = do
   e ← body s
   asked condition e
 
--- the control variable has not passed the limit: it is not above it for a positive step, and not below it for a negative one
+-- the control variable has not passed the limit: it is not above it for a positive step, and not below it for a
+-- negative one
 unfoldable pub runs_on : Path → ℤ → ℤ → Store → Run Bool
 runs_on x limit step s = do
   v ← or_fault Index (get s x)

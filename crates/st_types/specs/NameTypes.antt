@@ -1,5 +1,6 @@
 -- What a text declares: the types of its variables, and what its calls take and give.
-use Rattle.std.specs.Prelude.{Bool, true, false, List, [], ◌∷◌, ◌++◌, Bool, if◌then◌else◌, Option, Some, None, option_map, option_and_then, bytes_eq}
+use Rattle.std.specs.Prelude.{Bool, true, false, List, [], ◌∷◌, ◌++◌, Bool, if◌then◌else◌, Option, Some, None}
+use Rattle.std.specs.Prelude.{option_map, option_and_then, bytes_eq}
 use Rattle.std.specs.List.{list_any}
 use Rattle.st_words.specs.declared.identifier.Identifier.{Identifier}
 use Rattle.st_words.specs.declared.kind.Kind.{Kind}
@@ -10,8 +11,10 @@ use Rattle.st_trees.specs.declared.declaration.Section.{Section}
 use Rattle.st_trees.specs.declared.declaration.Section.TheVariants.{Input, Output}
 use Rattle.st_trees.specs.declared.unit.UnitSort.{UnitSort}
 use Rattle.st_trees.specs.declared.unit.UnitSort.TheVariants.{Function, FunctionBlock, Program}
-use Rattle.st_trees.specs.Expressions.{Variable, variable, Selector, member, subscript, Selectors, no_selectors, selector_then}
-use Rattle.st_trees.specs.Declarations.{Field, TypeDefinition, array, structure, TypeDeclaration, Declaration, VariableBlock}
+use Rattle.st_trees.specs.Expressions.{Variable, variable, Selector, member, subscript, Selectors, no_selectors}
+use Rattle.st_trees.specs.Expressions.{selector_then}
+use Rattle.st_trees.specs.Declarations.{Field, TypeDefinition, array, structure, TypeDeclaration, Declaration}
+use Rattle.st_trees.specs.Declarations.{VariableBlock}
 use Rattle.st_trees.specs.Units.{OrganisationUnit}
 use Rattle.st_trees.specs.Sources.{LibraryElement, Source}
 use Rattle.st_trees.specs.Sources as sources
@@ -105,7 +108,8 @@ is_output _ = false
 
 abbrev pub type_in_sections : (Section → Bool) → List VariableBlock → Name → Option VariableType
 type_in_sections wanted [] x = None
-type_in_sections wanted (b ∷ bs) x = if wanted b.section then or_type (type_in b.declarations x) (type_in_sections wanted bs x) else type_in_sections wanted bs x
+type_in_sections wanted (b ∷ bs) x = if wanted b.section
+    then or_type (type_in b.declarations x) (type_in_sections wanted bs x) else type_in_sections wanted bs x
 
 abbrev pub sections_of : UnitSort → List VariableBlock → List VariableBlock
 sections_of FunctionBlock bs = bs
@@ -114,10 +118,12 @@ sections_of Program bs = []
 
 -- a variable of the wanted section of a function block of the text
 abbrev pub variable_of_block : Declared → (Section → Bool) → Name → Name → Option VariableType
-variable_of_block text wanted b x = option_and_then (λ u. type_in_sections wanted (sections_of u.sort u.blocks) x) (unit_named text.units b)
+variable_of_block text wanted b x =
+    option_and_then (λ u. type_in_sections wanted (sections_of u.sort u.blocks) x) (unit_named text.units b)
 
 -- an input or an output of a block that is named by a type: a standard one, or one of the text
-abbrev pub block_variable : Declared → (standard.StandardBlock → List standard.Member) → (Section → Bool) → VariableType → Name → Option VariableType
+abbrev pub block_variable : Declared → (standard.StandardBlock → List standard.Member) → (Section → Bool) → VariableType
+    → Name → Option VariableType
 block_variable text standard_ones wanted (types.Array a) x = None
 block_variable text standard_ones wanted (types.Simple (Elementary k at)) x = None
 block_variable text standard_ones wanted (types.Simple (Named b)) x =
@@ -149,7 +155,8 @@ kind_of_type (types.Array a) = None
 
 -- the elementary type of a variable of a unit
 abbrev pub kind_of_variable : Declared → OrganisationUnit → Variable → Option Kind
-kind_of_variable text u (variable x xs) = option_and_then kind_of_type (option_and_then (type_behind text xs) (variable_type u x.name))
+kind_of_variable text u (variable x xs) =
+    option_and_then kind_of_type (option_and_then (type_behind text xs) (variable_type u x.name))
 
 -- the types of the inputs of a list of blocks of variables, in order
 abbrev pub kinds_of_declaration : Declaration → List Identifier → List (Option Kind)
@@ -162,8 +169,10 @@ kinds_of_declarations (d ∷ ds) = kinds_of_declaration d d.names ++ kinds_of_de
 
 abbrev pub input_kinds : List VariableBlock → List (Option Kind)
 input_kinds [] = []
-input_kinds (b ∷ bs) = if is_input b.section then kinds_of_declarations b.declarations ++ input_kinds bs else input_kinds bs
+input_kinds (b ∷ bs) =
+    if is_input b.section then kinds_of_declarations b.declarations ++ input_kinds bs else input_kinds bs
 
 -- the type of an input of a block's instance
 abbrev pub input_kind : Declared → OrganisationUnit → Name → Name → Option Kind
-input_kind text u instance x = option_and_then kind_of_type (option_and_then (λ t. block_variable text inputs_of is_input t x) (variable_type u instance))
+input_kind text u instance x = option_and_then kind_of_type
+    (option_and_then (λ t. block_variable text inputs_of is_input t x) (variable_type u instance))

@@ -1,6 +1,7 @@
 -- What the operators give. Each takes operands of one type; its result is tested once against the range of its type.
 -- F4 stands where a text is not well typed: it is met in none that is.
-use Rattle.std.specs.Prelude.{ℤ, pos, ◌+ℤ◌, ◌-ℤ◌, ◌*ℤ◌, neg_ℤ, int_div, int_lt, int_le, bit_and, bit_or, bit_xor, Bool, not, if◌then◌else◌, Option, Some, None, Result, Ok, Err}
+use Rattle.std.specs.Prelude.{ℤ, pos, ◌+ℤ◌, ◌-ℤ◌, ◌*ℤ◌, neg_ℤ, int_div, int_lt, int_le, bit_and, bit_or, bit_xor, Bool}
+use Rattle.std.specs.Prelude.{not, if◌then◌else◌, Option, Some, None, Result, Ok, Err}
 use Rattle.std.specs.Ordering.{int_eq}
 use Rattle.st_words.specs.declared.fault.Fault.{Fault}
 use Rattle.st_words.specs.declared.fault.Fault.TheVariants.{DivisionByZero, Conversion}
@@ -12,7 +13,9 @@ use Rattle.st_words.specs.declared.literal.Number.{Number}
 use Rattle.st_words.specs.declared.operator.UnaryOperator.{UnaryOperator}
 use Rattle.st_words.specs.declared.operator.UnaryOperator.TheVariants.{Negate, Not}
 use Rattle.st_words.specs.declared.operator.BinaryOperator.{BinaryOperator}
-use Rattle.st_words.specs.declared.operator.BinaryOperator.TheVariants.{Or, Xor, And, Equal, NotEqual, Less, Greater, LessOrEqual, GreaterOrEqual, Add, Subtract, Multiply, Divide, Modulo}
+use Rattle.st_words.specs.declared.operator.BinaryOperator.TheVariants.{Or, Xor, And, Equal, NotEqual, Less, Greater}
+use Rattle.st_words.specs.declared.operator.BinaryOperator.TheVariants.{LessOrEqual, GreaterOrEqual, Add, Subtract}
+use Rattle.st_words.specs.declared.operator.BinaryOperator.TheVariants.{Multiply, Divide, Modulo}
 use Rattle.st_words.specs.Kinds.{greatest, same_kind}
 use Rattle.st_words.specs.Words.{natural}
 use Rattle.st_words.specs.Values.{Datum, in_range, datum_of_truth, is_true}

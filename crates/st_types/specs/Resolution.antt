@@ -1,4 +1,5 @@
--- The types of untyped literals. Each takes the type that its place expects, which the parsed tree and its declarations tell.
+-- The types of untyped literals. Each takes the type that its place expects, which the parsed tree and its declarations
+-- tell.
 use Rattle.std.specs.Prelude.{ℕ, List, [], ◌∷◌, Bool, true, false, ◌&&◌, if◌then◌else◌, Option, Some, None}
 use Rattle.st_words.specs.declared.kind.Kind.{Kind}
 use Rattle.st_words.specs.declared.kind.Kind.TheVariants.{Lint, Time, Bool as Boolean}
@@ -8,9 +9,12 @@ use Rattle.st_words.specs.declared.literal.Literal.{Literal}
 use Rattle.st_words.specs.declared.literal.Literal.TheVariants as literals
 use Rattle.st_words.specs.declared.literal.Number.{Number}
 use Rattle.st_words.specs.declared.operator.BinaryOperator.{BinaryOperator}
-use Rattle.st_words.specs.declared.operator.BinaryOperator.TheVariants.{Equal, NotEqual, Less, Greater, LessOrEqual, GreaterOrEqual}
+use Rattle.st_words.specs.declared.operator.BinaryOperator.TheVariants.{Equal, NotEqual, Less, Greater, LessOrEqual}
+use Rattle.st_words.specs.declared.operator.BinaryOperator.TheVariants.{GreaterOrEqual}
 use Rattle.st_words.specs.Kinds.{row_of}
-use Rattle.st_trees.specs.Expressions.{Expr, literal, read, call, parenthesis, unary, binary, Exprs, no_exprs, expr_then, Variable, variable, Selector, member, subscript, Selectors, no_selectors, selector_then}
+use Rattle.st_trees.specs.Expressions.{Expr, literal, read, call, parenthesis, unary, binary, Exprs, no_exprs}
+use Rattle.st_trees.specs.Expressions.{expr_then, Variable, variable, Selector, member, subscript, Selectors}
+use Rattle.st_trees.specs.Expressions.{no_selectors, selector_then}
 use Rattle.st_trees.specs.declared.unit.UnitSort.{UnitSort}
 use Rattle.st_trees.specs.declared.unit.UnitSort.TheVariants.{Function, FunctionBlock, Program}
 use Rattle.st_trees.specs.Declarations.{VariableBlock}
@@ -34,7 +38,8 @@ is_untyped_literal (literals.Number n) = elim n.written [ Some k ↦ false | Non
 is_untyped_literal (literals.Truth at b) = false
 is_untyped_literal (literals.Duration at n) = false
 
--- Its leaves are literals without a type, joined by parentheses, unary operators and operators of whole numbers and bit strings.
+-- Its leaves are literals without a type, joined by parentheses, unary operators and operators of whole numbers and bit
+-- strings.
 abbrev pub is_untyped : Expr → Bool
 is_untyped (literal l) = is_untyped_literal l
 is_untyped (read v) = false
@@ -68,7 +73,8 @@ kind_of_literal (literals.Number n) = n.written
 kind_of_literal (literals.Truth at b) = Some Boolean
 kind_of_literal (literals.Duration at n) = Some Time
 
--- the common type of a standard function's operands, of those that have it; where the function has one such operand, that is the first
+-- the common type of a standard function's operands, of those that have it; where the function has one such operand,
+-- that is the first
 abbrev pub common_kind : Standard → List (Option Kind) → Option Kind
 common_kind MIN (a ∷ b ∷ []) = or_kind a b
 common_kind MAX (a ∷ b ∷ []) = or_kind a b
@@ -110,10 +116,12 @@ abbrev mutual
   pub own_kind : Declared → OrganisationUnit → Expr → Option Kind
   own_kind text u (literal l) = kind_of_literal l
   own_kind text u (read v) = kind_of_variable text u v
-  own_kind text u (call f es) = elim (standard_of f.name) [ Some std ↦ standard_kind std (own_kinds text u es) | None ↦ result_of_unit (unit_named text.units f.name) ]
+  own_kind text u (call f es) = elim (standard_of f.name)
+      [ Some std ↦ standard_kind std (own_kinds text u es) | None ↦ result_of_unit (unit_named text.units f.name) ]
   own_kind text u (parenthesis at e) = own_kind text u e
   own_kind text u (unary op at e) = own_kind text u e
-  own_kind text u (binary op l r) = if is_joining op then or_kind (own_kind text u l) (own_kind text u r) else Some Boolean
+  own_kind text u (binary op l r) =
+      if is_joining op then or_kind (own_kind text u l) (own_kind text u r) else Some Boolean
 
   pub own_kinds : Declared → OrganisationUnit → Exprs → List (Option Kind)
   own_kinds text u no_exprs = []
@@ -121,7 +129,8 @@ abbrev mutual
 
 -- the types that a call expects of its arguments
 abbrev pub argument_kinds : Declared → OrganisationUnit → List ℕ → Exprs → List (Option Kind)
-argument_kinds text u f es = elim (standard_of f) [ Some std ↦ expected_kinds std (own_kinds text u es) | None ↦ inputs_of_unit (unit_named text.units f) ]
+argument_kinds text u f es = elim (standard_of f)
+    [ Some std ↦ expected_kinds std (own_kinds text u es) | None ↦ inputs_of_unit (unit_named text.units f) ]
 
 -- the first of the types that are expected, and the others
 abbrev pub first_kind : List (Option Kind) → Option Kind
@@ -132,11 +141,14 @@ abbrev pub other_kinds : List (Option Kind) → List (Option Kind)
 other_kinds [] = []
 other_kinds (k ∷ ks) = ks
 
--- what an operator's operands expect: where both are untyped, what the whole place expects; else the type of the typed one
+-- what an operator's operands expect: where both are untyped, what the whole place expects; else the type of the typed
+-- one
 abbrev pub operand_kind : Declared → OrganisationUnit → Option Kind → BinaryOperator → Expr → Expr → Option Kind
-operand_kind text u k op l r = if is_untyped l && is_untyped r then (if is_joining op then k else None) else or_kind (own_kind text u l) (own_kind text u r)
+operand_kind text u k op l r = if is_untyped l && is_untyped r then (if is_joining op then k else None)
+    else or_kind (own_kind text u l) (own_kind text u r)
 
--- An expression at a place that expects a type: an untyped one takes it, and in a typed one each untyped part takes what its own place expects.
+-- An expression at a place that expects a type: an untyped one takes it, and in a typed one each untyped part takes
+-- what its own place expects.
 abbrev mutual
   pub resolved_expr : Declared → OrganisationUnit → Option Kind → Expr → Expr
   resolved_expr text u k (literal l) = literal (taking_literal (taken_kind k) l)
@@ -144,11 +156,13 @@ abbrev mutual
   resolved_expr text u k (call f es) = call f (resolved_exprs text u (argument_kinds text u f.name es) es)
   resolved_expr text u k (parenthesis at e) = parenthesis at (resolved_expr text u k e)
   resolved_expr text u k (unary op at e) = unary op at (resolved_expr text u k e)
-  resolved_expr text u k (binary op l r) = binary op (resolved_expr text u (operand_kind text u k op l r) l) (resolved_expr text u (operand_kind text u k op l r) r)
+  resolved_expr text u k (binary op l r) = binary op (resolved_expr text u (operand_kind text u k op l r) l)
+      (resolved_expr text u (operand_kind text u k op l r) r)
 
   pub resolved_exprs : Declared → OrganisationUnit → List (Option Kind) → Exprs → Exprs
   resolved_exprs text u ks no_exprs = no_exprs
-  resolved_exprs text u ks (expr_then e es) = expr_then (resolved_expr text u (first_kind ks) e) (resolved_exprs text u (other_kinds ks) es)
+  resolved_exprs text u ks (expr_then e es) =
+      expr_then (resolved_expr text u (first_kind ks) e) (resolved_exprs text u (other_kinds ks) es)
 
   -- a subscript that is untyped is a LINT
   pub resolved_variable : Declared → OrganisationUnit → Variable → Variable
@@ -156,7 +170,8 @@ abbrev mutual
 
   pub resolved_selectors : Declared → OrganisationUnit → Selectors → Selectors
   resolved_selectors text u no_selectors = no_selectors
-  resolved_selectors text u (selector_then x xs) = selector_then (resolved_selector text u x) (resolved_selectors text u xs)
+  resolved_selectors text u (selector_then x xs) =
+      selector_then (resolved_selector text u x) (resolved_selectors text u xs)
 
   pub resolved_selector : Declared → OrganisationUnit → Selector → Selector
   resolved_selector text u (member x) = member x

@@ -7,16 +7,21 @@ use Rattle.st_trees.specs.declared.statement.Label.TheVariants.{Single, Range}
 use Rattle.st_trees.specs.declared.data_type.ArrayType.{ArrayType}
 use Rattle.st_trees.specs.declared.data_type.VariableType.{VariableType}
 use Rattle.st_trees.specs.declared.data_type.VariableType.TheVariants as variable_types
-use Rattle.st_trees.specs.Statements.{Argument, given, copied, Stmt, empty, assign, invoke, IF, CASE, FOR, WHILE, REPEAT, EXIT, RETURN, Stmts, no_stmts, stmt_then, Arms, no_arms, arm_then, CaseArms, no_case_arms, case_arm_then}
-use Rattle.st_trees.specs.Initials.{Initial, constant, list, structure, Element, single, repeated, defaults, Elements, no_elements, element_then, Members, no_members, member_then}
+use Rattle.st_trees.specs.Statements.{Argument, given, copied, Stmt, empty, assign, invoke, IF, CASE, FOR, WHILE}
+use Rattle.st_trees.specs.Statements.{REPEAT, EXIT, RETURN, Stmts, no_stmts, stmt_then, Arms, no_arms, arm_then}
+use Rattle.st_trees.specs.Statements.{CaseArms, no_case_arms, case_arm_then}
+use Rattle.st_trees.specs.Initials.{Initial, constant, list, structure, Element, single, repeated, defaults, Elements}
+use Rattle.st_trees.specs.Initials.{no_elements, element_then, Members, no_members, member_then}
 use Rattle.st_trees.specs.Declarations as declared_as
 use Rattle.st_trees.specs.Declarations.{Field, TypeDefinition, TypeDeclaration, Declaration, VariableBlock}
 use Rattle.st_trees.specs.Units.{OrganisationUnit}
 use Rattle.st_trees.specs.Configurations.{GlobalDeclaration, GlobalBlock}
 use Rattle.st_trees.specs.Sources.{LibraryElement, types, unit, configuration, Source}
 use Rattle.st_types.specs.Scopes.{Name}
-use Rattle.st_types.specs.NameTypes.{Declared, declared_in, variable_type, kind_of_type, kind_of_variable, input_kind, definition_of, element_type, field_type}
-use Rattle.st_types.specs.Resolution.{own_kind, taken_kind, taking_number, taking_literal, resolved_expr, resolved_variable}
+use Rattle.st_types.specs.NameTypes.{Declared, declared_in, variable_type, kind_of_type, kind_of_variable, input_kind}
+use Rattle.st_types.specs.NameTypes.{definition_of, element_type, field_type}
+use Rattle.st_types.specs.Resolution.{own_kind, taken_kind, taking_number, taking_literal, resolved_expr}
+use Rattle.st_types.specs.Resolution.{resolved_variable}
 
 -- the elementary type that is there
 abbrev pub elementary_kind : Option VariableType → Option Kind
@@ -36,10 +41,12 @@ resolved_argument text u instance (copied x v) = copied x (resolved_variable tex
 abbrev mutual
   pub resolved_stmt : Declared → OrganisationUnit → Stmt → Stmt
   resolved_stmt text u empty = empty
-  resolved_stmt text u (assign v e) = assign (resolved_variable text u v) (resolved_expr text u (kind_of_variable text u v) e)
+  resolved_stmt text u (assign v e) =
+      assign (resolved_variable text u v) (resolved_expr text u (kind_of_variable text u v) e)
   resolved_stmt text u (invoke x arguments) = invoke x (map (resolved_argument text u x.name) arguments)
   resolved_stmt text u (IF arms otherwise) = IF (resolved_arms text u arms) (resolved_stmts text u otherwise)
-  resolved_stmt text u (CASE e arms otherwise) = CASE (resolved_expr text u None e) (resolved_case_arms text u (own_kind text u e) arms) (resolved_stmts text u otherwise)
+  resolved_stmt text u (CASE e arms otherwise) = CASE (resolved_expr text u None e)
+      (resolved_case_arms text u (own_kind text u e) arms) (resolved_stmts text u otherwise)
   resolved_stmt text u (FOR x start limit step body) =
       FOR x (resolved_expr text u (elementary_kind (variable_type u x.name)) start)
       (resolved_expr text u (elementary_kind (variable_type u x.name)) limit)
@@ -56,11 +63,13 @@ abbrev mutual
 
   pub resolved_arms : Declared → OrganisationUnit → Arms → Arms
   resolved_arms text u no_arms = no_arms
-  resolved_arms text u (arm_then e body arms) = arm_then (resolved_expr text u (Some Boolean) e) (resolved_stmts text u body) (resolved_arms text u arms)
+  resolved_arms text u (arm_then e body arms) =
+      arm_then (resolved_expr text u (Some Boolean) e) (resolved_stmts text u body) (resolved_arms text u arms)
 
   pub resolved_case_arms : Declared → OrganisationUnit → Option Kind → CaseArms → CaseArms
   resolved_case_arms text u k no_case_arms = no_case_arms
-  resolved_case_arms text u k (case_arm_then labels body arms) = case_arm_then (map (resolved_label k) labels) (resolved_stmts text u body) (resolved_case_arms text u k arms)
+  resolved_case_arms text u k (case_arm_then labels body arms) =
+      case_arm_then (map (resolved_label k) labels) (resolved_stmts text u body) (resolved_case_arms text u k arms)
 
 -- the type of a list's elements, and of a structure's field
 abbrev pub element_of : Declared → Option VariableType → Option VariableType
@@ -94,28 +103,46 @@ abbrev mutual
 
   pub resolved_members : Declared → Option VariableType → Members → Members
   resolved_members text t no_members = no_members
-  resolved_members text t (member_then x v rest) = member_then x (resolved_initial text (field_of text t x.name) v) (resolved_members text t rest)
+  resolved_members text t (member_then x v rest) =
+      member_then x (resolved_initial text (field_of text t x.name) v) (resolved_members text t rest)
 
 -- an array's bounds that are untyped are LINTs
 abbrev pub resolved_array : ArrayType → ArrayType
-resolved_array a = record a { lower = taking_number (taken_kind None) a.lower; upper = taking_number (taken_kind None) a.upper }
+resolved_array a =
+    record a { lower = taking_number (taken_kind None) a.lower; upper = taking_number (taken_kind None) a.upper }
 
 abbrev pub resolved_type : VariableType → VariableType
 resolved_type (variable_types.Simple t) = variable_types.Simple t
 resolved_type (variable_types.Array a) = variable_types.Array (resolved_array a)
 
 abbrev pub resolved_declaration : Declared → Declaration → Declaration
-resolved_declaration text d = record { names = d.names; declared = resolved_type d.declared; initial = option_map (resolved_initial text (Some d.declared)) d.initial }
+resolved_declaration text d = record {
+  names = d.names;
+  declared = resolved_type d.declared;
+  initial =
+      option_map (resolved_initial text (Some d.declared)) d.initial;
+}
 
 abbrev pub resolved_block : Declared → VariableBlock → VariableBlock
 resolved_block text b = record { section = b.section; declarations = map (resolved_declaration text) b.declarations }
 
 -- a unit of a text
 abbrev pub resolved : Declared → OrganisationUnit → OrganisationUnit
-resolved text u = record { sort = u.sort; name = u.name; blocks = map (resolved_block text) u.blocks; body = map (resolved_stmt text u) u.body }
+resolved text u = record {
+  sort = u.sort;
+  name = u.name;
+  blocks = map (resolved_block text) u.blocks;
+  body =
+      map (resolved_stmt text u) u.body;
+}
 
 abbrev pub resolved_field : Declared → Field → Field
-resolved_field text f = record { name = f.name; declared = resolved_type f.declared; initial = option_map (resolved_initial text (Some f.declared)) f.initial }
+resolved_field text f = record {
+  name = f.name;
+  declared = resolved_type f.declared;
+  initial =
+      option_map (resolved_initial text (Some f.declared)) f.initial;
+}
 
 abbrev pub resolved_definition : Declared → TypeDefinition → TypeDefinition
 resolved_definition text (declared_as.array a) = declared_as.array (resolved_array a)
@@ -125,7 +152,12 @@ abbrev pub resolved_type_declaration : Declared → TypeDeclaration → TypeDecl
 resolved_type_declaration text t = record { name = t.name; definition = resolved_definition text t.definition }
 
 abbrev pub resolved_global : Declared → GlobalDeclaration → GlobalDeclaration
-resolved_global text d = record { names = d.names; declared = resolved_type d.declared; initial = option_map (resolved_initial text (Some d.declared)) d.initial }
+resolved_global text d = record {
+  names = d.names;
+  declared = resolved_type d.declared;
+  initial =
+      option_map (resolved_initial text (Some d.declared)) d.initial;
+}
 
 abbrev pub resolved_globals : Declared → GlobalBlock → GlobalBlock
 resolved_globals text b = record { qualifier = b.qualifier; declarations = map (resolved_global text) b.declarations }
@@ -133,7 +165,8 @@ resolved_globals text b = record { qualifier = b.qualifier; declarations = map (
 abbrev pub resolved_element_of_text : Declared → LibraryElement → LibraryElement
 resolved_element_of_text text (types ts) = types (map (resolved_type_declaration text) ts)
 resolved_element_of_text text (unit u) = unit (resolved text u)
-resolved_element_of_text text (configuration c) = configuration (record c { globals = map (resolved_globals text) c.globals })
+resolved_element_of_text text (configuration c) =
+    configuration (record c { globals = map (resolved_globals text) c.globals })
 
 -- a whole text
 abbrev pub resolved_source : Source → Source

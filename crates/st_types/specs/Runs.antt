@@ -1,6 +1,7 @@
 -- What a run of a program gives.
 -- F3 stands too where a unit, a member or an argument is not there, which no well-typed text has.
-use Rattle.std.specs.Prelude.{ℕ, zero, suc, List, [], ◌∷◌, Option, Some, None, option_map, option_and_then, Result, Ok, Err}
+use Rattle.std.specs.Prelude.{ℕ, zero, suc, List, [], ◌∷◌, Option, Some, None, option_map, option_and_then, Result, Ok}
+use Rattle.std.specs.Prelude.{Err}
 use Rattle.st_words.specs.declared.fault.Fault.{Fault}
 use Rattle.st_words.specs.declared.fault.Fault.TheVariants.{Index, Budget}
 use Rattle.st_words.specs.declared.path.Owner.{Owner}
@@ -12,7 +13,8 @@ use Rattle.st_types.specs.Stores.{Store, get, assigned}
 use Rattle.st_types.specs.Ticks.{Run, ◌>>=◌, give, fault, take, or_fault, proceed}
 use Rattle.st_types.specs.StandardBlocks as standard
 use Rattle.st_types.specs.StandardBlocks.{block_of, stepped}
-use Rattle.st_types.specs.Scopes.{Name, of_program, of_block, of_call, Body, Function, Block, Library, Units, Scope, unowned, member_at, function_in, block_in}
+use Rattle.st_types.specs.Scopes.{Name, of_program, of_block, of_call, Body, Function, Block, Library, Units, Scope}
+use Rattle.st_types.specs.Scopes.{unowned, member_at, function_in, block_in}
 use Rattle.st_types.specs.Loops.{End, goes_on, exits, returns}
 use Rattle.st_types.specs.Execution.{exec_all}
 
@@ -32,13 +34,15 @@ begun s _ _ = Err Index
 abbrev pub function_value : Fault → Units → ℕ → Function → List Datum → Run Datum
 function_value missing units now f vs = do
   s ← take (begun f.fresh f.inputs vs)
-  e ← exec_all (record { units = units; frame = of_call; body = f.body; image = []; now = now; missing = missing }) f.body.statements s
+  e ← exec_all (record { units = units; frame = of_call; body = f.body; image = []; now = now; missing = missing })
+      f.body.statements s
   or_fault Index (get (store_of e) (unowned f.name))
 
 -- the values of an instance's members
 abbrev pub member_values : Store → Path → List standard.Member → Option (List Datum)
 member_values s at [] = Some []
-member_values s at (m ∷ ms) = option_and_then (λ v. option_map (λ vs. v ∷ vs) (member_values s at ms)) (get s (member_at at m.0))
+member_values s at (m ∷ ms) =
+    option_and_then (λ v. option_map (λ vs. v ∷ vs) (member_values s at ms)) (get s (member_at at m.0))
 
 abbrev pub members_assigned : Store → Path → List standard.Member → List Datum → Result Store Fault
 members_assigned s at (m ∷ ms) (v ∷ vs) = proceed (assigned s (member_at at m.0) v) (λ t. members_assigned t at ms vs)
@@ -53,7 +57,9 @@ standard_call b now at s = do
 -- a call of a block of the text: its body runs on the instance's variables
 abbrev pub block_call : Fault → Units → Store → ℕ → Block → Path → Store → Run Store
 block_call missing units image now b at s = do
-  e ← exec_all (record { units = units; frame = of_block at; body = b.body; image = image; now = now; missing = missing }) b.body.statements s
+  e ← exec_all
+      (record { units = units; frame = of_block at; body = b.body; image = image; now = now; missing = missing })
+      b.body.statements s
   give (store_of e)
 
 -- a function of the text on its arguments
@@ -63,7 +69,8 @@ function_call missing library units now f vs = do
   function_value missing units now g vs
 
 -- a block on its instance: a standard one, or one of the text
-abbrev pub instance_call : Fault → Library → Store → Units → ℕ → Name → Option standard.StandardBlock → Path → Store → Run Store
+abbrev pub instance_call : Fault → Library → Store → Units → ℕ → Name → Option standard.StandardBlock → Path → Store
+    → Run Store
 instance_call missing library image units now b (Some k) at s = standard_call k now at s
 instance_call missing library image units now b None at s = do
   c ← or_fault Index (block_in library.blocks b)
@@ -78,8 +85,10 @@ units_over missing library image now units = record {
 
 -- The units of a text, with calls at most n deep. Each call stands in a statement, which took a tick.
 unfoldable pub units_within : Fault → Library → Store → ℕ → ℕ → Units
-units_within missing library image now zero = record { functions = λ f vs. fault Budget; blocks = λ b at s. fault Budget }
-units_within missing library image now (suc n) = units_over missing library image now (units_within missing library image now n)
+units_within missing library image now zero =
+    record { functions = λ f vs. fault Budget; blocks = λ b at s. fault Budget }
+units_within missing library image now (suc n) =
+    units_over missing library image now (units_within missing library image now n)
 
 -- a program as its runs need it: the units of its text, its instance and its body
 pub record Program : Type 0 where

@@ -1,5 +1,6 @@
 -- Slots: the variables and the inputs of a plan by their numbers.
-use Rattle.std.specs.Prelude.{◌≡◌, ℕ, suc, List, [], ◌∷◌, Bool, true, false, ◌&&◌, if◌then◌else◌, Option, Some, None, option_map, slice_get, slice_set, Result, Ok, Err}
+use Rattle.std.specs.Prelude.{◌≡◌, ℕ, suc, List, [], ◌∷◌, Bool, true, false, ◌&&◌, if◌then◌else◌, Option, Some, None}
+use Rattle.std.specs.Prelude.{option_map, slice_get, slice_set, Result, Ok, Err}
 use Rattle.st_words.specs.Values.{Datum, same_datum}
 use Rattle.st_words.specs.Paths.{Path, same_path}
 use Rattle.st_words.specs.declared.fault.Fault.{Fault}
@@ -51,4 +52,5 @@ written vs (c ∷ cells) = written (slice_set vs c.0 c.1) cells
 
 -- the variables after a value is written to a slot, where it may take the place of the old one
 abbrev pub written_slot : List Slot → List Datum → ℕ → Datum → Datum → Result Store Fault
-written_slot layout vs k old v = if may_replace old v then Ok (variables_in layout (slice_set vs k v)) else Err Conversion
+written_slot layout vs k old v =
+    if may_replace old v then Ok (variables_in layout (slice_set vs k v)) else Err Conversion

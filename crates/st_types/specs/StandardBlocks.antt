@@ -1,6 +1,7 @@
 -- The standard function blocks, as functions from the members before a call to those after it.
 -- Members stand in the order of the layout: inputs, outputs, and those that are hidden from texts.
-use Rattle.std.specs.Prelude.{ℕ, ℤ, pos, ◌+ℤ◌, ◌-ℤ◌, int_lt, int_le, List, [], ◌∷◌, ◌++◌, Bool, true, false, ◌&&◌, ◌||◌, not, if◌then◌else◌, Option, Some, None, codes, bytes_eq}
+use Rattle.std.specs.Prelude.{ℕ, ℤ, pos, ◌+ℤ◌, ◌-ℤ◌, int_lt, int_le, List, [], ◌∷◌, ◌++◌, Bool, true, false, ◌&&◌, ◌||◌}
+use Rattle.std.specs.Prelude.{not, if◌then◌else◌, Option, Some, None, codes, bytes_eq}
 use Rattle.std.specs.Int.{int_min, int_max}
 use Rattle.st_words.specs.declared.kind.Kind.{Kind}
 use Rattle.st_words.specs.declared.kind.Kind.TheVariants.{Int, Time, Bool as Boolean}
@@ -131,10 +132,12 @@ elapsed now t = int_max (pos 0) (pos now -ℤ t.start)
 
 -- a running timer with its time; Q is TRUE from pt on, or before it
 abbrev pub timed_from : ℕ → ℤ → Timer → Timer
-timed_from now pt t = record { q = int_le pt (elapsed now t); et = int_min (elapsed now t) pt; run = t.run; start = t.start }
+timed_from now pt t =
+    record { q = int_le pt (elapsed now t); et = int_min (elapsed now t) pt; run = t.run; start = t.start }
 
 abbrev pub timed_until : ℕ → ℤ → Timer → Timer
-timed_until now pt t = record { q = int_lt (elapsed now t) pt; et = int_min (elapsed now t) pt; run = t.run; start = t.start }
+timed_until now pt t =
+    record { q = int_lt (elapsed now t) pt; et = int_min (elapsed now t) pt; run = t.run; start = t.start }
 
 abbrev pub stopped : Bool → Timer → Timer
 stopped q t = record { q = q; et = pos 0; run = false; start = t.start }
@@ -152,7 +155,8 @@ off_delay now input pt t =
 
 -- pulse: Q is TRUE for pt from the rise of IN; a pulse that is over ends with IN
 abbrev pub ended : ℕ → Bool → ℤ → Timer → Timer
-ended now input pt t = if int_le pt (elapsed now t) && not input then record { q = t.q; et = pos 0; run = false; start = t.start } else t
+ended now input pt t =
+    if int_le pt (elapsed now t) && not input then record { q = t.q; et = pos 0; run = false; start = t.start } else t
 
 abbrev pub pulse : ℕ → Bool → ℤ → Timer → Timer
 pulse now input pt t =
@@ -178,8 +182,10 @@ timer_of q et run start = record { q = is_true q; et = et.number; run = is_true 
 abbrev pub stepped : StandardBlock → ℕ → List Datum → List Datum
 stepped SR now (s1 ∷ r ∷ q1 ∷ []) = s1 ∷ r ∷ datum_of_truth (set_first (is_true s1) (is_true r) (is_true q1)) ∷ []
 stepped RS now (s ∷ r1 ∷ q1 ∷ []) = s ∷ r1 ∷ datum_of_truth (reset_first (is_true s) (is_true r1) (is_true q1)) ∷ []
-stepped R_TRIG now (clk ∷ q ∷ m ∷ []) = clk ∷ datum_of_truth (edge (is_true clk) (is_true m)) ∷ datum_of_truth (is_true clk) ∷ []
-stepped F_TRIG now (clk ∷ q ∷ m ∷ []) = clk ∷ datum_of_truth (edge (not (is_true clk)) (is_true m)) ∷ datum_of_truth (not (is_true clk)) ∷ []
+stepped R_TRIG now (clk ∷ q ∷ m ∷ []) =
+    clk ∷ datum_of_truth (edge (is_true clk) (is_true m)) ∷ datum_of_truth (is_true clk) ∷ []
+stepped F_TRIG now (clk ∷ q ∷ m ∷ []) =
+    clk ∷ datum_of_truth (edge (not (is_true clk)) (is_true m)) ∷ datum_of_truth (not (is_true clk)) ∷ []
 stepped CTU now (cu ∷ r ∷ pv ∷ q ∷ cv ∷ m ∷ []) =
     let z = up_count (is_true r) (edge (is_true cu) (is_true m)) cv.number in
     cu ∷ r ∷ pv ∷ datum_of_truth (int_le pv.number z) ∷ int z ∷ datum_of_truth (is_true cu) ∷ []
@@ -187,9 +193,12 @@ stepped CTD now (cd ∷ ld ∷ pv ∷ q ∷ cv ∷ m ∷ []) =
     let z = down_count (is_true ld) pv.number (edge (is_true cd) (is_true m)) cv.number in
     cd ∷ ld ∷ pv ∷ datum_of_truth (int_le z (pos 0)) ∷ int z ∷ datum_of_truth (is_true cd) ∷ []
 stepped CTUD now (cu ∷ cd ∷ r ∷ ld ∷ pv ∷ qu ∷ qd ∷ cv ∷ mu ∷ md ∷ []) =
-    let z = up_down_count (is_true r) (is_true ld) pv.number (edge (is_true cu) (is_true mu)) (edge (is_true cd) (is_true md)) cv.number in
-    cu ∷ cd ∷ r ∷ ld ∷ pv ∷ datum_of_truth (int_le pv.number z) ∷ datum_of_truth (int_le z (pos 0)) ∷ int z ∷ datum_of_truth (is_true cu) ∷ datum_of_truth (is_true cd) ∷ []
+    let z = up_down_count (is_true r) (is_true ld) pv.number (edge (is_true cu) (is_true mu))
+    (edge (is_true cd) (is_true md)) cv.number in
+    cu ∷ cd ∷ r ∷ ld ∷ pv ∷ datum_of_truth (int_le pv.number z) ∷ datum_of_truth (int_le z (pos 0)) ∷ int z
+    ∷ datum_of_truth (is_true cu) ∷ datum_of_truth (is_true cd) ∷ []
 stepped TON now (input ∷ pt ∷ q ∷ et ∷ run ∷ start ∷ []) = timer_stepped on_delay now input pt (timer_of q et run start)
-stepped TOF now (input ∷ pt ∷ q ∷ et ∷ run ∷ start ∷ []) = timer_stepped off_delay now input pt (timer_of q et run start)
+stepped TOF now (input ∷ pt ∷ q ∷ et ∷ run ∷ start ∷ []) =
+    timer_stepped off_delay now input pt (timer_of q et run start)
 stepped TP now (input ∷ pt ∷ q ∷ et ∷ run ∷ start ∷ []) = timer_stepped pulse now input pt (timer_of q et run start)
 stepped _ now members = members

@@ -1,10 +1,12 @@
 -- The standard functions.
-use Rattle.std.specs.Prelude.{ℕ, ◌+◌, ◌-◌, ◌*◌, ◌/◌, ◌%◌, ◌^◌, ℤ, pos, negsuc, unsigned_abs, int_le, nat_le, List, [], ◌∷◌, ◌++◌, if◌then◌else◌, Option, Some, None, Result, Ok, Err, codes, bytes_eq}
+use Rattle.std.specs.Prelude.{ℕ, ◌+◌, ◌-◌, ◌*◌, ◌/◌, ◌%◌, ◌^◌, ℤ, pos, negsuc, unsigned_abs, int_le, nat_le, List, []}
+use Rattle.std.specs.Prelude.{◌∷◌, ◌++◌, if◌then◌else◌, Option, Some, None, Result, Ok, Err, codes, bytes_eq}
 use Rattle.std.specs.List.{flat_map}
 use Rattle.st_words.specs.declared.fault.Fault.{Fault}
 use Rattle.st_words.specs.declared.fault.Fault.TheVariants.{Range, Conversion}
 use Rattle.st_words.specs.declared.kind.Kind.{Kind}
-use Rattle.st_words.specs.declared.kind.Kind.TheVariants.{Sint, Int, Dint, Lint, Usint, Uint, Udint, Ulint, Byte, Word, Dword, Lword, Bool as Boolean}
+use Rattle.st_words.specs.declared.kind.Kind.TheVariants.{Sint, Int, Dint, Lint, Usint, Uint, Udint, Ulint, Byte, Word}
+use Rattle.st_words.specs.declared.kind.Kind.TheVariants.{Dword, Lword, Bool as Boolean}
 use Rattle.st_words.specs.Kinds.{row_of, holds, same_kind}
 use Rattle.st_words.specs.Values.{Datum, in_range, is_true}
 use Rattle.st_words.specs.Words.{natural}
@@ -32,7 +34,8 @@ conversion_name k l = (row_of k).keyword ++ codes "_TO_" ++ (row_of l).keyword
 -- the conversions from a type to the others
 abbrev pub conversions_from : Kind → List Kind → List (List ℕ × Standard)
 conversions_from k [] = []
-conversions_from k (l ∷ ls) = if same_kind k l then conversions_from k ls else (conversion_name k l, CONVERT k l) ∷ conversions_from k ls
+conversions_from k (l ∷ ls) =
+    if same_kind k l then conversions_from k ls else (conversion_name k l, CONVERT k l) ∷ conversions_from k ls
 
 -- every standard function under its name
 unfoldable pub standard_functions : List (List ℕ × Standard)

@@ -27,7 +27,8 @@ fn kind_of(number: &Number) -> Option<Kind>
     }
 }
 
-/// The value of a literal of a whole number or bit string; F1 where its type does not hold it, and F4 where it has none.
+/// The value of a literal of a whole number or bit string; F1 where its type does not hold it, and F4 where it has
+/// none.
 pub fn value_of_number(number: &Number) -> Result<Value, Fault>
     ensures { result ≡ value_of_number number.now }
 {

@@ -1,7 +1,8 @@
 -- The elementary types, as one table.
 use Rattle.std.specs.Prelude.{ℕ, ◌+◌, ◌-◌, ◌/◌, ◌^◌, ◌==◌, ℤ, pos, neg_ℤ, int_le, List, Bool, true, false, ◌&&◌, codes}
 use Rattle.st_words.specs.declared.kind.Kind.{Kind}
-use Rattle.st_words.specs.declared.kind.Kind.TheVariants.{Sint, Int, Dint, Lint, Usint, Uint, Udint, Ulint, Byte, Word, Dword, Lword, Time, Bool as Boolean}
+use Rattle.st_words.specs.declared.kind.Kind.TheVariants.{Sint, Int, Dint, Lint, Usint, Uint, Udint, Ulint, Byte, Word}
+use Rattle.st_words.specs.declared.kind.Kind.TheVariants.{Dword, Lword, Time, Bool as Boolean}
 use Rattle.st_words.specs.declared.kind.Sort.{Sort}
 use Rattle.st_words.specs.declared.kind.Sort.TheVariants.{Signed, Unsigned, Bits, Duration, Truth}
 

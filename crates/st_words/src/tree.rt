@@ -2,7 +2,8 @@
 
 ghost use Rattle.std.specs.Prelude.{◌≡◌, ◌↔◌, IsTrue, map, option_map};
 
-/// A part of a text's tree. The definitions speak of its mirror alone, in which nothing tells where a part lies in memory.
+/// A part of a text's tree. The definitions speak of its mirror alone, in which nothing tells where a part lies in
+/// memory.
 pub trait Tree {
     /// The type of its mirror.
     ghost Mirror: { Type 0 };

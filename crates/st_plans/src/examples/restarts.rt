@@ -19,8 +19,9 @@ pub fn retention()
     ensures no_declaration { is_retained_by [] ≡ false }
 {}
 
-/// Of `VAR_GLOBAL RETAIN n : INT; p : INT := 2; END_VAR VAR_GLOBAL k : INT := 7; END_VAR` a record keeps n and p. A warm start gives them
-/// the record's values, and its moment; k, and all without a record or in a cold start, take their initial values.
+/// Of `VAR_GLOBAL RETAIN n : INT; p : INT := 2; END_VAR VAR_GLOBAL k : INT := 7; END_VAR` a record keeps n and p. A
+/// warm start gives them the record's values, and its moment; k, and all without a record or in a cold start, take
+/// their initial values.
 pub fn restarts()
     ensures { let plan : Plan = record {
       variables = record { path = unowned (codes "N"); initial = int (pos 0); retained = true }
@@ -33,12 +34,16 @@ pub fn restarts()
       programs = [];
       budget = 1;
     } in
-        let values : ℤ → ℤ → ℤ → Store = λ n p k. (unowned (codes "N"), int n) ∷ (unowned P, int p) ∷ (unowned K, int k) ∷ [] in
+        let values : ℤ → ℤ → ℤ → Store =
+        λ n p k. (unowned (codes "N"), int n) ∷ (unowned P, int p) ∷ (unowned K, int k) ∷ [] in
         let retained : ℤ → ℤ → Store = λ n p. (unowned (codes "N"), int n) ∷ (unowned P, int p) ∷ [] in
         (kept plan (values (pos 3) (pos 4) (pos 10)) ≡ retained (pos 3) (pos 4))
-        × (warm_start plan (Some (record { values = retained (pos 3) (pos 4); moment = Some 20 })) ≡ record { store = values (pos 3) (pos 4) (pos 7); moment = Some 20 })
-        × (warm_start plan (Some (record { values = retained (pos 5) (pos 0); moment = Some 0 })) ≡ record { store = values (pos 5) (pos 0) (pos 7); moment = Some 0 })
-        × (warm_start plan (Some (record { values = retained (pos 6) (pos 2); moment = None })) ≡ record { store = values (pos 6) (pos 2) (pos 7); moment = None })
+        × (warm_start plan (Some (record { values = retained (pos 3) (pos 4); moment = Some 20 }))
+        ≡ record { store = values (pos 3) (pos 4) (pos 7); moment = Some 20 })
+        × (warm_start plan (Some (record { values = retained (pos 5) (pos 0); moment = Some 0 }))
+        ≡ record { store = values (pos 5) (pos 0) (pos 7); moment = Some 0 })
+        × (warm_start plan (Some (record { values = retained (pos 6) (pos 2); moment = None }))
+        ≡ record { store = values (pos 6) (pos 2) (pos 7); moment = None })
         × (warm_start plan None ≡ record { store = values (pos 0) (pos 2) (pos 7); moment = None })
         × (cold_start plan ≡ record { store = values (pos 0) (pos 2) (pos 7); moment = None }) }
 {}

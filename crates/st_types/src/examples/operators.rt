@@ -4,25 +4,40 @@ ghost use Rattle.std.specs.Prelude.{◌≡◌, ◌∷◌, [], map, Ok, Err, pos,
 ghost use Rattle.st_words.specs.declared.kind.Kind.TheVariants.{Int, Sint, Usint, Byte, Word, Time};
 ghost use Rattle.st_words.specs.declared.fault.Fault.TheVariants.{Range};
 ghost use Rattle.st_words.specs.declared.operator.UnaryOperator.TheVariants.{Negate, Not};
-ghost use Rattle.st_words.specs.declared.operator.BinaryOperator.TheVariants.{Or, Xor, And, Equal, NotEqual, Less, Greater, LessOrEqual, GreaterOrEqual, Add, Subtract, Multiply};
+ghost use Rattle.st_words.specs.declared.operator.BinaryOperator.TheVariants.{Or, Xor, And, Equal, NotEqual, Less};
+ghost use Rattle.st_words.specs.declared.operator.BinaryOperator.TheVariants.{Greater, LessOrEqual, GreaterOrEqual};
+ghost use Rattle.st_words.specs.declared.operator.BinaryOperator.TheVariants.{Add, Subtract, Multiply};
 ghost use Rattle.st_trees.specs.Expressions.{unary, binary};
 ghost use Rattle.st_types.specs.Operators.{apply, apply_unary};
 ghost use Rattle.st_types.specs.Examples.{after_with, variables, datum, set, number, name, bool, int, X, Y};
 
-/// What each comparison says of 1, 2 and 3 beside 2, and what `=`, `<>`, `<`, `>`, `<=` and `>=` say of two other pairs and of equal operands.
+/// What each comparison says of 1, 2 and 3 beside 2, and what `=`, `<>`, `<`, `>`, `<=` and `>=` say of two other pairs
+/// and of equal operands.
 pub fn comparisons()
-    ensures equal { map (λ z. apply Equal (int z) (int (pos 2))) (pos 1 ∷ pos 2 ∷ pos 3 ∷ []) ≡ Ok (bool false) ∷ Ok (bool true) ∷ Ok (bool false) ∷ [] }
-    ensures not_equal { map (λ z. apply NotEqual (int z) (int (pos 2))) (pos 1 ∷ pos 2 ∷ pos 3 ∷ []) ≡ Ok (bool true) ∷ Ok (bool false) ∷ Ok (bool true) ∷ [] }
-    ensures less { map (λ z. apply Less (int z) (int (pos 2))) (pos 1 ∷ pos 2 ∷ pos 3 ∷ []) ≡ Ok (bool true) ∷ Ok (bool false) ∷ Ok (bool false) ∷ [] }
-    ensures greater { map (λ z. apply Greater (int z) (int (pos 2))) (pos 1 ∷ pos 2 ∷ pos 3 ∷ []) ≡ Ok (bool false) ∷ Ok (bool false) ∷ Ok (bool true) ∷ [] }
-    ensures less_or_equal { map (λ z. apply LessOrEqual (int z) (int (pos 2))) (pos 1 ∷ pos 2 ∷ pos 3 ∷ []) ≡ Ok (bool true) ∷ Ok (bool true) ∷ Ok (bool false) ∷ [] }
-    ensures greater_or_equal { map (λ z. apply GreaterOrEqual (int z) (int (pos 2))) (pos 1 ∷ pos 2 ∷ pos 3 ∷ []) ≡ Ok (bool false) ∷ Ok (bool true) ∷ Ok (bool true) ∷ [] }
+    ensures equal { map (λ z. apply Equal (int z) (int (pos 2))) (pos 1 ∷ pos 2 ∷ pos 3 ∷ []) ≡ Ok (bool false)
+        ∷ Ok (bool true) ∷ Ok (bool false) ∷ [] }
+    ensures not_equal { map (λ z. apply NotEqual (int z) (int (pos 2))) (pos 1 ∷ pos 2 ∷ pos 3 ∷ []) ≡ Ok (bool true)
+        ∷ Ok (bool false) ∷ Ok (bool true) ∷ [] }
+    ensures less { map (λ z. apply Less (int z) (int (pos 2))) (pos 1 ∷ pos 2 ∷ pos 3 ∷ []) ≡ Ok (bool true)
+        ∷ Ok (bool false) ∷ Ok (bool false) ∷ [] }
+    ensures greater { map (λ z. apply Greater (int z) (int (pos 2))) (pos 1 ∷ pos 2 ∷ pos 3 ∷ []) ≡ Ok (bool false)
+        ∷ Ok (bool false) ∷ Ok (bool true) ∷ [] }
+    ensures less_or_equal { map (λ z. apply LessOrEqual (int z) (int (pos 2))) (pos 1 ∷ pos 2 ∷ pos 3 ∷ [])
+        ≡ Ok (bool true) ∷ Ok (bool true) ∷ Ok (bool false) ∷ [] }
+    ensures greater_or_equal { map (λ z. apply GreaterOrEqual (int z) (int (pos 2))) (pos 1 ∷ pos 2 ∷ pos 3 ∷ [])
+        ≡ Ok (bool false) ∷ Ok (bool true) ∷ Ok (bool true) ∷ [] }
     // -3 with -2
-    ensures below_0 { map (λ op. apply op (int (negsuc 2)) (int (negsuc 1))) (Equal ∷ NotEqual ∷ Less ∷ Greater ∷ LessOrEqual ∷ GreaterOrEqual ∷ []) ≡ map (λ b. Ok (bool b)) (false ∷ true ∷ true ∷ false ∷ true ∷ false ∷ []) }
+    ensures below_0 { map (λ op. apply op (int (negsuc 2)) (int (negsuc 1)))
+        (Equal ∷ NotEqual ∷ Less ∷ Greater ∷ LessOrEqual ∷ GreaterOrEqual ∷ [])
+        ≡ map (λ b. Ok (bool b)) (false ∷ true ∷ true ∷ false ∷ true ∷ false ∷ []) }
     // T#5ms with T#-5ms
-    ensures across_0 { map (λ op. apply op (datum Time (pos 5)) (datum Time (negsuc 4))) (Equal ∷ NotEqual ∷ Less ∷ Greater ∷ LessOrEqual ∷ GreaterOrEqual ∷ []) ≡ map (λ b. Ok (bool b)) (false ∷ true ∷ false ∷ true ∷ false ∷ true ∷ []) }
+    ensures across_0 { map (λ op. apply op (datum Time (pos 5)) (datum Time (negsuc 4)))
+        (Equal ∷ NotEqual ∷ Less ∷ Greater ∷ LessOrEqual ∷ GreaterOrEqual ∷ [])
+        ≡ map (λ b. Ok (bool b)) (false ∷ true ∷ false ∷ true ∷ false ∷ true ∷ []) }
     // BYTE#16#FF with itself
-    ensures equal_operands { map (λ op. apply op (datum Byte (pos 0xFF)) (datum Byte (pos 0xFF))) (Equal ∷ NotEqual ∷ Less ∷ Greater ∷ LessOrEqual ∷ GreaterOrEqual ∷ []) ≡ map (λ b. Ok (bool b)) (true ∷ false ∷ false ∷ false ∷ true ∷ true ∷ []) }
+    ensures equal_operands { map (λ op. apply op (datum Byte (pos 0xFF)) (datum Byte (pos 0xFF)))
+        (Equal ∷ NotEqual ∷ Less ∷ Greater ∷ LessOrEqual ∷ GreaterOrEqual ∷ [])
+        ≡ map (λ b. Ok (bool b)) (true ∷ false ∷ false ∷ false ∷ true ∷ true ∷ []) }
 {}
 
 /// `BYTE#5` with `BYTE#3`, and all four pairs of truths.
@@ -30,12 +45,18 @@ pub fn bit_operators()
     ensures or { apply Or (datum Byte (pos 5)) (datum Byte (pos 3)) ≡ Ok (datum Byte (pos 7)) }
     ensures xor { apply Xor (datum Byte (pos 5)) (datum Byte (pos 3)) ≡ Ok (datum Byte (pos 6)) }
     ensures and { apply And (datum Byte (pos 5)) (datum Byte (pos 3)) ≡ Ok (datum Byte (pos 1)) }
-    ensures or_of_truths { map (λ (b : Bool × Bool). apply Or (bool b.0) (bool b.1)) ((false, false) ∷ (false, true) ∷ (true, false) ∷ (true, true) ∷ []) ≡ Ok (bool false) ∷ Ok (bool true) ∷ Ok (bool true) ∷ Ok (bool true) ∷ [] }
-    ensures xor_of_truths { map (λ (b : Bool × Bool). apply Xor (bool b.0) (bool b.1)) ((false, false) ∷ (false, true) ∷ (true, false) ∷ (true, true) ∷ []) ≡ Ok (bool false) ∷ Ok (bool true) ∷ Ok (bool true) ∷ Ok (bool false) ∷ [] }
-    ensures and_of_truths { map (λ (b : Bool × Bool). apply And (bool b.0) (bool b.1)) ((false, false) ∷ (false, true) ∷ (true, false) ∷ (true, true) ∷ []) ≡ Ok (bool false) ∷ Ok (bool false) ∷ Ok (bool false) ∷ Ok (bool true) ∷ [] }
+    ensures or_of_truths { map (λ (b : Bool × Bool). apply Or (bool b.0) (bool b.1)) ((false, false) ∷ (false, true)
+        ∷ (true, false) ∷ (true, true) ∷ []) ≡ Ok (bool false) ∷ Ok (bool true) ∷ Ok (bool true) ∷ Ok (bool true) ∷ [] }
+    ensures xor_of_truths { map (λ (b : Bool × Bool). apply Xor (bool b.0) (bool b.1))
+        ((false, false) ∷ (false, true) ∷ (true, false) ∷ (true, true) ∷ []) ≡ Ok (bool false) ∷ Ok (bool true)
+        ∷ Ok (bool true) ∷ Ok (bool false) ∷ [] }
+    ensures and_of_truths { map (λ (b : Bool × Bool). apply And (bool b.0) (bool b.1))
+        ((false, false) ∷ (false, true) ∷ (true, false) ∷ (true, true) ∷ []) ≡ Ok (bool false) ∷ Ok (bool false)
+        ∷ Ok (bool false) ∷ Ok (bool true) ∷ [] }
     ensures not_of_a_byte { apply_unary Not (datum Byte (pos 0x0F)) ≡ Ok (datum Byte (pos 0xF0)) }
     ensures not_of_a_word { apply_unary Not (datum Word (pos 0x0F)) ≡ Ok (datum Word (pos 0xFFF0)) }
-    ensures not_of_truths { map (λ b. apply_unary Not (bool b)) (false ∷ true ∷ []) ≡ Ok (bool true) ∷ Ok (bool false) ∷ [] }
+    ensures not_of_truths { map (λ b. apply_unary Not (bool b)) (false ∷ true ∷ []) ≡ Ok (bool true) ∷ Ok (bool false)
+        ∷ [] }
 {}
 
 /// Sums, differences, products and signs; each is F1 where it leaves its type.
@@ -55,15 +76,20 @@ pub fn sums_and_signs()
     ensures negated_least_sint { apply_unary Negate (datum Sint (negsuc 127)) ≡ Err Range }
 {}
 
-/// What stands left of an operator in a text is its left operand, and an operator before an expression works on its value.
+/// What stands left of an operator in a text is its left operand, and an operator before an expression works on its
+/// value.
 #[tactic(auto, unfolding(crate::specs::Runs::ran, crate::specs::Runs::ran_where, crate::specs::Runs::store_after, crate::specs::Runs::units_within))]
 pub fn operators_in_a_text()
     // y := x - 5; with x = 3
-    ensures difference { after_with [] (set Y (binary Subtract (name X) (number Int (pos 5))) ∷ []) ((X, int (pos 3)) ∷ (Y, int (pos 0)) ∷ []) ≡ variables ((X, int (pos 3)) ∷ (Y, int (negsuc 1)) ∷ []) }
+    ensures difference { after_with [] (set Y (binary Subtract (name X) (number Int (pos 5))) ∷ [])
+        ((X, int (pos 3)) ∷ (Y, int (pos 0)) ∷ []) ≡ variables ((X, int (pos 3)) ∷ (Y, int (negsuc 1)) ∷ []) }
     // y := x < 5; with x = 3
-    ensures comparison { after_with [] (set Y (binary Less (name X) (number Int (pos 5))) ∷ []) ((X, int (pos 3)) ∷ (Y, bool false) ∷ []) ≡ variables ((X, int (pos 3)) ∷ (Y, bool true) ∷ []) }
+    ensures comparison { after_with [] (set Y (binary Less (name X) (number Int (pos 5))) ∷ [])
+        ((X, int (pos 3)) ∷ (Y, bool false) ∷ []) ≡ variables ((X, int (pos 3)) ∷ (Y, bool true) ∷ []) }
     // y := - x; with x = 5
-    ensures sign { after_with [] (set Y (unary Negate 0 (name X)) ∷ []) ((X, int (pos 5)) ∷ (Y, int (pos 0)) ∷ []) ≡ variables ((X, int (pos 5)) ∷ (Y, int (negsuc 4)) ∷ []) }
+    ensures sign { after_with [] (set Y (unary Negate 0 (name X)) ∷ []) ((X, int (pos 5)) ∷ (Y, int (pos 0)) ∷ [])
+        ≡ variables ((X, int (pos 5)) ∷ (Y, int (negsuc 4)) ∷ []) }
     // y := NOT x; with x FALSE
-    ensures turned { after_with [] (set Y (unary Not 0 (name X)) ∷ []) ((X, bool false) ∷ (Y, bool false) ∷ []) ≡ variables ((X, bool false) ∷ (Y, bool true) ∷ []) }
+    ensures turned { after_with [] (set Y (unary Not 0 (name X)) ∷ []) ((X, bool false) ∷ (Y, bool false) ∷ [])
+        ≡ variables ((X, bool false) ∷ (Y, bool true) ∷ []) }
 {}

@@ -8,12 +8,24 @@ pub loop-event-preserved : goal.loop-event-preserved
 loop-event-preserved g c =
     let more : c.loop-event.event-iterator.rest.items ≡ c.in-Some.event ∷ c.next.new.self.rest.items = search rules in
     let fewer = ap length more in (
-      drives_step g.D.Disk.tells g.D.Disk.left_since g.D.Disk.may_leave c.args.core.now c.loop-event.core c.step-reply.new.core c.loop-event.held.items c.step-reply.new.held.items
-          c.into_iter-event-iterator.result.rest.items c.next.new.self.rest.items c.loop-event.event-iterator.rest.items c.in-Some.event
+      drives_step g.D.Disk.tells g.D.Disk.left_since g.D.Disk.may_leave c.args.core.now c.loop-event.core
+          c.step-reply.new.core c.loop-event.held.items c.step-reply.new.held.items
+          c.into_iter-event-iterator.result.rest.items c.next.new.self.rest.items c.loop-event.event-iterator.rest.items
+          c.in-Some.event
           c.loop-event.replies.items c.push_within.new.items.items c.step-reply.result
-          c.loop-event.invariant.0 more c.step-reply.ensures.step c.step-reply.ensures.outlives c.push_within.ensures.items,
+          c.loop-event.invariant.0 more c.step-reply.ensures.step c.step-reply.ensures.outlives
+          c.push_within.ensures.items,
       omega (arith, fewer, c.loop-event.invariant.1, c.step-reply.ensures.len, c.step-reply.ensures.capacity),
-      omega (arith, fewer, c.loop-event.invariant.2, c.push_within.ensures.capacity, ap length c.push_within.ensures.items, c.push_within.new.items.ok.0, c.loop-event.replies.ok.0, length-append c.loop-event.replies.items (c.step-reply.result ∷ [])),
+      omega (
+        arith,
+        fewer,
+        c.loop-event.invariant.2,
+        c.push_within.ensures.capacity,
+        ap length c.push_within.ensures.items,
+        c.push_within.new.items.ok.0,
+        c.loop-event.replies.ok.0,
+        length-append c.loop-event.replies.items (c.step-reply.result ∷ []),
+      ),
     )
 
 pub returns-clause-drives : goal.returns-clause-drives
@@ -21,8 +33,12 @@ returns-clause-drives g c =
     let none : length c.loop-event.event-iterator.rest.items ≡ 0 = search rules in
     let all : c.into_iter-event-iterator.result.rest.items ≡ c.args.events.items = search rules in (
       c.loop-event.held.items,
-      drives_end g.D.Disk.tells g.D.Disk.left_since g.D.Disk.may_leave c.args.core.now c.loop-event.core c.loop-event.held.items c.args.events.items c.loop-event.event-iterator.rest.items c.loop-event.replies.items
-          (subst (λ (es : List Event). (replies : _) (new : _) (kept : _) → Drives g.D.Disk.tells g.D.Disk.left_since g.D.Disk.may_leave c.loop-event.core c.loop-event.held.items c.loop-event.event-iterator.rest.items replies new kept → Drives g.D.Disk.tells g.D.Disk.left_since g.D.Disk.may_leave c.args.core.now [] es (c.loop-event.replies.items ++ replies) new kept) all c.loop-event.invariant.0)
+      drives_end g.D.Disk.tells g.D.Disk.left_since g.D.Disk.may_leave c.args.core.now c.loop-event.core
+          c.loop-event.held.items c.args.events.items c.loop-event.event-iterator.rest.items c.loop-event.replies.items
+          (subst (λ (es : List Event). (replies : _) (new : _) (kept : _) → Drives g.D.Disk.tells g.D.Disk.left_since
+          g.D.Disk.may_leave c.loop-event.core c.loop-event.held.items c.loop-event.event-iterator.rest.items
+          replies new kept → Drives g.D.Disk.tells g.D.Disk.left_since g.D.Disk.may_leave c.args.core.now [] es
+          (c.loop-event.replies.items ++ replies) new kept) all c.loop-event.invariant.0)
           none,
     )
 
@@ -30,6 +46,13 @@ pub returns-clause-survives : goal.returns-clause-survives
 returns-clause-survives g c = λ tells front last is.
     let none : length c.loop-event.event-iterator.rest.items ≡ 0 = search rules in
     let all : c.into_iter-event-iterator.result.rest.items ≡ c.args.events.items = search rules in
-    let so_far = subst (λ (es : List Event). (replies : _) (new : _) (kept : _) → Drives g.D.Disk.tells g.D.Disk.left_since g.D.Disk.may_leave c.loop-event.core c.loop-event.held.items c.loop-event.event-iterator.rest.items replies new kept → Drives g.D.Disk.tells g.D.Disk.left_since g.D.Disk.may_leave c.args.core.now [] es (c.loop-event.replies.items ++ replies) new kept) (all ∙ is) c.loop-event.invariant.0 in
-    survives_last g.D.Disk.tells g.D.Disk.left_since g.D.Disk.may_leave c.args.core.now c.loop-event.core [] c.loop-event.held.items front last c.loop-event.replies.items tells
-    (drives_end g.D.Disk.tells g.D.Disk.left_since g.D.Disk.may_leave c.args.core.now c.loop-event.core c.loop-event.held.items (front ++ last ∷ []) c.loop-event.event-iterator.rest.items c.loop-event.replies.items so_far none)
+    let so_far = subst (λ (es : List Event). (replies : _) (new : _) (kept : _)
+    → Drives g.D.Disk.tells g.D.Disk.left_since g.D.Disk.may_leave c.loop-event.core c.loop-event.held.items
+    c.loop-event.event-iterator.rest.items replies new kept → Drives g.D.Disk.tells g.D.Disk.left_since
+    g.D.Disk.may_leave c.args.core.now [] es (c.loop-event.replies.items ++ replies) new kept) (all ∙ is)
+    c.loop-event.invariant.0 in
+    survives_last g.D.Disk.tells g.D.Disk.left_since g.D.Disk.may_leave c.args.core.now c.loop-event.core []
+    c.loop-event.held.items front last c.loop-event.replies.items tells
+    (drives_end g.D.Disk.tells g.D.Disk.left_since g.D.Disk.may_leave c.args.core.now c.loop-event.core
+    c.loop-event.held.items (front ++ last ∷ []) c.loop-event.event-iterator.rest.items c.loop-event.replies.items
+    so_far none)

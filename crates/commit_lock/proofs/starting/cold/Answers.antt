@@ -11,7 +11,8 @@ invariant_of-core g c =
     let last = c.in-Ok.ensures.saved in
     record {
       last = subst (λ (r : Recovered). Survives state.plan state.start state.before state.log 0 r) (sym last.1) now;
-      tried = subst (λ (r : Recovered). Survives state.plan state.start state.before state.log 0 r) (sym (last.2 ∙ last.1)) now;
+      tried = subst (λ (r : Recovered). Survives state.plan state.start state.before state.log 0 r)
+          (sym (last.2 ∙ last.1)) now;
       few = omega arith;
       met = sym last.3;
       layout_is = c.requires.layout;

@@ -12,11 +12,15 @@ resume-requires-clause-kinds g c =
     let sound : IsRecordable c.in-Some.record.now = search rules in
     let same : c.layout.result.now ≡ c.args.layout.now = search rules in
     ap (λ (ds : _). map (λ d. d.kind) ds) c.values.ensures
-    ∙ kinds_told c.args.serial.now.plan.variables.items c.in-Some.record.now.layout _ c.args.serial.now.plan.sound.spelled (sym c.layout.ensures ∙ same ∙ c.requires.layout) sound.layout
+    ∙ kinds_told c.args.serial.now.plan.variables.items c.in-Some.record.now.layout _
+    c.args.serial.now.plan.sound.spelled (sym c.layout.ensures ∙ same ∙ c.requires.layout) sound.layout
 
 pub returns-clause-survives : goal.returns-clause-survives
 returns-clause-survives g c = λ yes.
     let same : c.layout.result.now ≡ c.args.layout.now = search rules in
     let found : Some c.in-Some.record.now ≡ record_in c.args.store.now.last = search rules in
-    survives_found c.args.serial.now.plan c.in-Some.record.now c.resume.new.self c.args.store.now.last found (sym c.layout.ensures ∙ same ∙ c.requires.layout)
-    (ap (λ (st : State). st.plan) c.resume.ensures.restarted) (ap (λ (st : State). st.before) c.resume.ensures.restarted ∙ c.moment.ensures) (c.resume.ensures.kept ∙ ap (paired (retained_paths c.args.serial.now.plan.variables.items)) c.values.ensures)
+    survives_found c.args.serial.now.plan c.in-Some.record.now c.resume.new.self c.args.store.now.last found
+    (sym c.layout.ensures ∙ same ∙ c.requires.layout)
+    (ap (λ (st : State). st.plan) c.resume.ensures.restarted)
+    (ap (λ (st : State). st.before) c.resume.ensures.restarted ∙ c.moment.ensures)
+    (c.resume.ensures.kept ∙ ap (paired (retained_paths c.args.serial.now.plan.variables.items)) c.values.ensures)

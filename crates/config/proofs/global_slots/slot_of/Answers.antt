@@ -3,7 +3,9 @@ use Rattle.config.proofs.GlobalSlotLemmas.{variable_place, input_place}
 use Rattle.config.proofs.global_slots.slot_of.Goals as goal
 
 pub returns-in-Some : goal.returns-in-Some
-returns-in-Some c = variable_place c.args.variables.now c.args.inputs.now c.args.name.now c.in-Some.slot (sym c.in-Some.ensures)
+returns-in-Some c =
+    variable_place c.args.variables.now c.args.inputs.now c.args.name.now c.in-Some.slot (sym c.in-Some.ensures)
 
 pub returns : goal.returns
-returns c = input_place c.args.variables.now c.args.inputs.now c.args.name.now c.in_ok-input.input (sym c.in_ok-input.ensures)
+returns c =
+    input_place c.args.variables.now c.args.inputs.now c.args.name.now c.in_ok-input.input (sym c.in_ok-input.ensures)

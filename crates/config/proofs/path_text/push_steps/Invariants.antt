@@ -3,4 +3,5 @@ use Rattle.st_plans.specs.Layouts.{steps_text}
 use Rattle.config.proofs.path_text.push_steps.Given as goal
 
 abbrev pub invariant-loop-step : goal.invariant-loop-step
-invariant-loop-step l = l.text.items ++ steps_text (drop l.step-index l.steps) ≡ l.initial.text.items ++ steps_text l.steps
+invariant-loop-step l =
+    l.text.items ++ steps_text (drop l.step-index l.steps) ≡ l.initial.text.items ++ steps_text l.steps

@@ -5,4 +5,5 @@ abbrev pub invariant-loop-variable : goal.invariant-loop-variable
 invariant-loop-variable l = l.names.items ≡ map (λ v. v.path.name) (take l.variable-index l.variables)
 
 abbrev pub invariant-loop-input : goal.invariant-loop-input
-invariant-loop-input l = l.names.items ≡ map (λ v. v.path.name) l.variables ++ map (λ i. i.path.name) (take l.input-index l.inputs)
+invariant-loop-input l =
+    l.names.items ≡ map (λ v. v.path.name) l.variables ++ map (λ i. i.path.name) (take l.input-index l.inputs)

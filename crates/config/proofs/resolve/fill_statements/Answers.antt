@@ -9,6 +9,9 @@ pub loop-statement-preserved : goal.loop-statement-preserved
 loop-statement-preserved c =
     let l = c.loop-statement in
     record {
-      behind = step_behind stmt_view (filled_stmt (map variable_block_view c.args.blocks.now)) l.statements c.args.statements.now l.statement-index c.statement-item.result c.fill_statement.new.statement (search rules) (omega arith) l.invariant.before l.invariant.behind c.fill_statement.ensures;
-      before = step_before l.statements c.args.statements.now l.statement-index c.statement-item.result c.fill_statement.new.statement (search rules) (omega arith) l.invariant.before;
+      behind = step_behind stmt_view (filled_stmt (map variable_block_view c.args.blocks.now)) l.statements
+          c.args.statements.now l.statement-index c.statement-item.result c.fill_statement.new.statement (search rules)
+          (omega arith) l.invariant.before l.invariant.behind c.fill_statement.ensures;
+      before = step_before l.statements c.args.statements.now l.statement-index c.statement-item.result
+          c.fill_statement.new.statement (search rules) (omega arith) l.invariant.before;
     }

@@ -8,5 +8,7 @@ use Rattle.config.proofs.thin.programs_of.Given as goal
 
 abbrev pub invariant-loop-k : goal.invariant-loop-k
 invariant-loop-k l =
-    (map program_view l.made.items ++ programs_from (units_in l.units) l.k (drop l.k l.programs) ≡ programs_from (units_in l.units) 0 l.programs)
-    × ((layout : List Slot) → All (λ u. HaveSlots layout u.globals.items) l.units → All (λ p. HaveSlots layout p.code.value.globals.items) l.made.items)
+    (map program_view l.made.items
+    ++ programs_from (units_in l.units) l.k (drop l.k l.programs) ≡ programs_from (units_in l.units) 0 l.programs)
+    × ((layout : List Slot) → All (λ u. HaveSlots layout u.globals.items) l.units
+    → All (λ p. HaveSlots layout p.code.value.globals.items) l.made.items)

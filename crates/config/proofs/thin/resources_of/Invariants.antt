@@ -4,4 +4,5 @@ use Rattle.config.specs.ThinPlans.{resources_of}
 use Rattle.config.proofs.thin.resources_of.Given as goal
 
 abbrev pub invariant-loop-i : goal.invariant-loop-i
-invariant-loop-i l = (max l.resources (resources_of (drop l.i l.programs)) ≡ resources_of l.programs) × (l.resources ≤ 8)
+invariant-loop-i l =
+    (max l.resources (resources_of (drop l.i l.programs)) ≡ resources_of l.programs) × (l.resources ≤ 8)

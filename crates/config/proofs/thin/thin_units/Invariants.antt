@@ -11,6 +11,7 @@ use Rattle.config.proofs.thin.thin_units.Given as goal
 
 abbrev pub invariant-loop-unit : goal.invariant-loop-unit
 invariant-loop-unit l =
-    ((text : Declared) → units_in l.resolved.items ++ map (resolved text) (map unit_view l.unit-iterator.rest.items) ≡ map (resolved text) (map unit_view l.initial.unit-iterator.rest.items))
+    ((text : Declared) → units_in l.resolved.items ++ map (resolved text) (map unit_view l.unit-iterator.rest.items)
+    ≡ map (resolved text) (map unit_view l.initial.unit-iterator.rest.items))
     × All (λ u. HaveSlots (layout_of l.variables l.inputs) u.globals.items) l.resolved.items
     × (list_all (is_thin_unit l.variables l.inputs) (map unit_view l.unit-iterator.rest.items) ≡ true)

@@ -11,11 +11,13 @@ returns-clause-spelled c =
     let short = c.in_ok-number.ensures.short in
     let fits : FitsSigned w128 c.in_ok-number.number = fits_signed_from_abs w128 c.in_ok-number.number (omega arith) in
     let made = rw (to_z-of_z w128 c.in_ok-number.number fits) at c.new.ensures in
-    rw (c.ok.ensures.value, made) (value_spelled c.args.kind c.args.field.now c.in_ok-number.number (holds c.args.kind c.in_ok-number.number) refl c.in_ok-number.ensures.spelled)
+    rw (c.ok.ensures.value, made) (value_spelled c.args.kind c.args.field.now c.in_ok-number.number
+    (holds c.args.kind c.in_ok-number.number) refl c.in_ok-number.ensures.spelled)
 
 pub returns-clause-none : goal.returns-clause-none
 returns-clause-none c =
     let short = c.in_ok-number.ensures.short in
     let fits : FitsSigned w128 c.in_ok-number.number = fits_signed_from_abs w128 c.in_ok-number.number (omega arith) in
     let made = rw (to_z-of_z w128 c.in_ok-number.number fits) at c.new.ensures in
-    rw (c.ok.ensures.value, made) (value_refused c.args.kind c.args.field.now c.in_ok-number.number (holds c.args.kind c.in_ok-number.number) refl short c.in_ok-number.ensures.spelled)
+    rw (c.ok.ensures.value, made) (value_refused c.args.kind c.args.field.now c.in_ok-number.number
+    (holds c.args.kind c.in_ok-number.number) refl short c.in_ok-number.ensures.spelled)

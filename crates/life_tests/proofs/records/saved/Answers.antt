@@ -3,4 +3,11 @@ use Rattle.life_tests.proofs.RoomLemmas.{body_fits}
 use Rattle.life_tests.proofs.records.saved.Goals as goal
 
 pub save-saved-requires-clause-room : goal.save-saved-requires-clause-room
-save-saved-requires-clause-room c = omega (arith, body_fits c.moment.result c.layout-layout.result.now c.values-values.result.now, c.if-values-gt-VALUES.false, c.if-layout-values.false, c.in-Ok.ensures.room)
+save-saved-requires-clause-room c =
+    omega (
+      arith,
+      body_fits c.moment.result c.layout-layout.result.now c.values-values.result.now,
+      c.if-values-gt-VALUES.false,
+      c.if-layout-values.false,
+      c.in-Ok.ensures.room,
+    )

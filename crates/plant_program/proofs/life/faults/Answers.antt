@@ -15,8 +15,10 @@ loop-number-preserved g c =
     let counted = outcomes_counted (plan_view state.plan) state.start state.log in
     let within : i < length state.log = search rules in
     elim c.if-is_faulted_at.branch [
-      | then-is_faulted_at w ↦ w.faults-is ∙ ap (λ n. n + 1) c.loop-number.invariant ∙ sym (count_yes is_faulted outcomes i (sym c.is_faulted_at.ensures ∙ w.if-is_faulted_at.true))
-      | else-is_faulted_at w ↦ w.faults-is ∙ c.loop-number.invariant ∙ sym (count_no is_faulted outcomes i (rw counted within) (sym c.is_faulted_at.ensures ∙ w.if-is_faulted_at.false))
+      | then-is_faulted_at w ↦ w.faults-is ∙ ap (λ n. n + 1) c.loop-number.invariant
+          ∙ sym (count_yes is_faulted outcomes i (sym c.is_faulted_at.ensures ∙ w.if-is_faulted_at.true))
+      | else-is_faulted_at w ↦ w.faults-is ∙ c.loop-number.invariant ∙ sym
+          (count_no is_faulted outcomes i (rw counted within) (sym c.is_faulted_at.ensures ∙ w.if-is_faulted_at.false))
     ]
 
 pub returns : goal.returns

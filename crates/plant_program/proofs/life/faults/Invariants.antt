@@ -6,4 +6,5 @@ use Rattle.plant_program.proofs.life.faults.Given as goal
 
 abbrev pub invariant-loop-number : goal.invariant-loop-number
 invariant-loop-number g l =
-    let state = l.core.state in l.faults ≡ count_by is_faulted (take l.number (outcomes_of (plan_view state.plan) state.start state.log))
+    let state = l.core.state in
+    l.faults ≡ count_by is_faulted (take l.number (outcomes_of (plan_view state.plan) state.start state.log))

@@ -7,6 +7,7 @@ loop-program-preserved g c =
     let (each, are, total) = c.loop-program.invariant in
     let n = c.overruns.result in (
       each ++ n ∷ [],
-      overruns_more c.args.core.now.state c.loop-program.program n each are c.overruns.ensures.overruns c.overruns.ensures.none,
+      overruns_more c.args.core.now.state c.loop-program.program n each are c.overruns.ensures.overruns
+          c.overruns.ensures.none,
       rw c.saturating_add-overruns.ensures (sum_more each n c.loop-program.overruns (2 ^ 64 - 1) total),
     )

@@ -10,5 +10,6 @@ loop-variable-preserved g c =
     let value_of = g.F.Findings.value_of c.args.findings.now in (
       text ++ value_line v.path (value_of v.path),
       appends_both _ _ _ _ _ wrote (search rules),
-      text_more (variables_text value_of) (λ x. value_line x.path (value_of x.path)) (λ x xs. refl) _ c.loop-variable.variable-index v text (search rules) (search rules) so_far,
+      text_more (variables_text value_of) (λ x. value_line x.path (value_of x.path)) (λ x xs. refl) _
+          c.loop-variable.variable-index v text (search rules) (search rules) so_far,
     )

@@ -15,7 +15,8 @@ loop-resource-preserved g c = λ empty r less.
         | inl before ↦ c.loop-resource.invariant (rw w.taken-is at empty) r before
         | inr behind ↦
             let at : r ≡ c.loop-resource.resource = omega arith in
-            let takes : none_waits c.args.core.now.state c.loop-resource.resource = rw w.in-None.is at c.in_ok-snapshot.ensures.takes.2 in
+            let takes : none_waits c.args.core.now.state c.loop-resource.resource =
+            rw w.in-None.is at c.in_ok-snapshot.ensures.takes.2 in
             rw at takes
       ]
     ]

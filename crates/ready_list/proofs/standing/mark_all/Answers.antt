@@ -5,7 +5,11 @@ use Rattle.ready_list.proofs.standing.mark_all.Goals as goal
 
 pub loop-program-preserved : goal.loop-program-preserved
 loop-program-preserved c =
-    MarkedBelow-step c.args.schedules.now c.args.before.now c.args.samples.now c.args.row c.args.standings.now.items c.loop-program.program c.loop-program.standings.items c.index.result.now c.next.result
+    MarkedBelow-step c.args.schedules.now c.args.before.now c.args.samples.now c.args.row c.args.standings.now.items
+    c.loop-program.program c.loop-program.standings.items c.index.result.now c.next.result
     (omega (arith, c.loop-program-test.true, c.requires.sized)) c.loop-program.invariant
-    (c.index.ensures ∙ get_or_default c.loop-program.standings.items c.loop-program.program _ record { waiting = None; overruns = 0 } (omega (arith, c.loop-program-test.true, c.requires.sized, c.loop-program.invariant.2)))
+    (c.index.ensures ∙ get_or_default c.loop-program.standings.items c.loop-program.program _ record {
+      waiting = None;
+      overruns = 0;
+    } (omega (arith, c.loop-program-test.true, c.requires.sized, c.loop-program.invariant.2)))
     c.next.ensures

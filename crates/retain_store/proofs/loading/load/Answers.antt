@@ -7,39 +7,50 @@ use Rattle.retain_store.proofs.loading.load.Goals as goal
 
 pub returns-in_err-len-clause-any_moment : goal.returns-in_err-len-clause-any_moment
 returns-in_err-len-clause-any_moment g c = λ tells only.
-    weakens g.D.Disk.left_since g.D.Disk.may_leave _ _ _ _ (c.synced_len.ensures.any_moment tells only) (λ file same. ap recovered same)
+    weakens g.D.Disk.left_since g.D.Disk.may_leave _ _ _ _ (c.synced_len.ensures.any_moment tells only)
+    (λ file same. ap recovered same)
 
 pub returns-then-len-clause-any_moment : goal.returns-then-len-clause-any_moment
 returns-then-len-clause-any_moment g c = λ tells only.
-    weakens g.D.Disk.left_since g.D.Disk.may_leave _ _ _ _ (c.synced_len.ensures.any_moment tells only) (λ file same. ap recovered same)
+    weakens g.D.Disk.left_since g.D.Disk.may_leave _ _ _ _ (c.synced_len.ensures.any_moment tells only)
+    (λ file same. ap recovered same)
 
 pub returns-then-len-clause-refused : goal.returns-then-len-clause-refused
 returns-then-len-clause-refused g c = λ tells. long_too_long _ (omega (arith, c.in_ok-len.ensures.len tells))
 
 pub returns-in_err-format-clause-any_moment : goal.returns-in_err-format-clause-any_moment
 returns-in_err-format-clause-any_moment g c = λ tells only.
-    let first = weakens g.D.Disk.left_since g.D.Disk.may_leave _ _ _ _ (c.synced_len.ensures.any_moment tells only) (λ (file : List ℕ) (same : file ≡ g.D.Disk.seen c.args.disk.now). ap recovered same) in
+    let first = weakens g.D.Disk.left_since g.D.Disk.may_leave _ _ _ _ (c.synced_len.ensures.any_moment tells only)
+    (λ (file : List ℕ) (same : file ≡ g.D.Disk.seen c.args.disk.now). ap recovered same) in
     let short : length (g.D.Disk.seen c.args.disk.now) < FILE_BYTES = omega (arith, c.in_ok-len.ensures.len tells) in
-    joins g.D.Disk.left_since g.D.Disk.may_leave _ _ _ _ _ first (c.format.ensures.any_moment tells) (λ file none. none ∙ sym (short_nothing _ short))
+    joins g.D.Disk.left_since g.D.Disk.may_leave _ _ _ _ _ first (c.format.ensures.any_moment tells)
+    (λ file none. none ∙ sym (short_nothing _ short))
 
 pub returns-then-len-2-clause-any_moment : goal.returns-then-len-2-clause-any_moment
 returns-then-len-2-clause-any_moment g c = λ tells only.
-    let first = weakens g.D.Disk.left_since g.D.Disk.may_leave _ _ _ _ (c.synced_len.ensures.any_moment tells only) (λ (file : List ℕ) (same : file ≡ g.D.Disk.seen c.args.disk.now). ap recovered same) in
+    let first = weakens g.D.Disk.left_since g.D.Disk.may_leave _ _ _ _ (c.synced_len.ensures.any_moment tells only)
+    (λ (file : List ℕ) (same : file ≡ g.D.Disk.seen c.args.disk.now). ap recovered same) in
     let short : length (g.D.Disk.seen c.args.disk.now) < FILE_BYTES = omega (arith, c.in_ok-len.ensures.len tells) in
-    joins g.D.Disk.left_since g.D.Disk.may_leave _ _ _ _ _ first (c.format.ensures.any_moment tells) (λ file none. none ∙ sym (short_nothing _ short))
+    joins g.D.Disk.left_since g.D.Disk.may_leave _ _ _ _ _ first (c.format.ensures.any_moment tells)
+    (λ file none. none ∙ sym (short_nothing _ short))
 
 pub read_areas-requires-clause-whole : goal.read_areas-requires-clause-whole
-read_areas-requires-clause-whole g c = λ tells. omega (arith, c.in_ok-len.ensures.len tells, ap length (c.synced_len.ensures.seen tells))
+read_areas-requires-clause-whole g c =
+    λ tells. omega (arith, c.in_ok-len.ensures.len tells, ap length (c.synced_len.ensures.seen tells))
 
 pub returns-in_err-read_areas-clause-any_moment : goal.returns-in_err-read_areas-clause-any_moment
 returns-in_err-read_areas-clause-any_moment g c = λ tells only.
-    let first = weakens g.D.Disk.left_since g.D.Disk.may_leave _ _ _ _ (c.synced_len.ensures.any_moment tells only) (λ (file : List ℕ) (same : file ≡ g.D.Disk.seen c.args.disk.now). ap recovered same) in
-    joins g.D.Disk.left_since g.D.Disk.may_leave _ _ _ _ _ first (c.read_areas.ensures.any_moment tells) (λ file same. ap recovered (same ∙ c.synced_len.ensures.seen tells))
+    let first = weakens g.D.Disk.left_since g.D.Disk.may_leave _ _ _ _ (c.synced_len.ensures.any_moment tells only)
+    (λ (file : List ℕ) (same : file ≡ g.D.Disk.seen c.args.disk.now). ap recovered same) in
+    joins g.D.Disk.left_since g.D.Disk.may_leave _ _ _ _ _ first (c.read_areas.ensures.any_moment tells)
+    (λ file same. ap recovered (same ∙ c.synced_len.ensures.seen tells))
 
 pub returns-clause-any_moment : goal.returns-clause-any_moment
 returns-clause-any_moment g c = λ tells only.
-    let first = weakens g.D.Disk.left_since g.D.Disk.may_leave _ _ _ _ (c.synced_len.ensures.any_moment tells only) (λ (file : List ℕ) (same : file ≡ g.D.Disk.seen c.args.disk.now). ap recovered same) in
-    joins g.D.Disk.left_since g.D.Disk.may_leave _ _ _ _ _ first (c.read_areas.ensures.any_moment tells) (λ file same. ap recovered (same ∙ c.synced_len.ensures.seen tells))
+    let first = weakens g.D.Disk.left_since g.D.Disk.may_leave _ _ _ _ (c.synced_len.ensures.any_moment tells only)
+    (λ (file : List ℕ) (same : file ≡ g.D.Disk.seen c.args.disk.now). ap recovered same) in
+    joins g.D.Disk.left_since g.D.Disk.may_leave _ _ _ _ _ first (c.read_areas.ensures.any_moment tells)
+    (λ file same. ap recovered (same ∙ c.synced_len.ensures.seen tells))
 
 pub returns-clause-found : goal.returns-clause-found
 returns-clause-found g c = λ tells. (
@@ -49,4 +60,5 @@ returns-clause-found g c = λ tells. (
 )
 
 pub returns-then-len-2-clause-found : goal.returns-then-len-2-clause-found
-returns-then-len-2-clause-found g c = λ tells. (omega (arith, c.in_ok-len.ensures.len tells), c.in_ok-format.ensures.empty tells)
+returns-then-len-2-clause-found g c =
+    λ tells. (omega (arith, c.in_ok-len.ensures.len tells), c.in_ok-format.ensures.empty tells)

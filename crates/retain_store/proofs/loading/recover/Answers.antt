@@ -12,28 +12,42 @@ use Rattle.retain_store.proofs.loading.recover.Goals as goal
 
 pub returns-in-Ok-Formatted-clause-found : goal.returns-in-Ok-Formatted-clause-found
 returns-in-Ok-Formatted-clause-found g c = λ tells.
-    let short = (subst (λ (l : Loaded). IsLoaded l c.load.new.file (g.D.Disk.seen c.args.disk.now) (g.D.Disk.seen c.load.new.disk)) c.in-Ok-Formatted.field-0-is (c.in-Ok-Formatted.ensures.found tells)).0 in
+    let short = (subst (λ (l : Loaded). IsLoaded l c.load.new.file (g.D.Disk.seen c.args.disk.now)
+    (g.D.Disk.seen c.load.new.disk)) c.in-Ok-Formatted.field-0-is (c.in-Ok-Formatted.ensures.found tells)).0 in
     rw c.closed.ensures (sym (short_nothing _ short))
 
 pub returns-in-Ok-Formatted-clause-settled : goal.returns-in-Ok-Formatted-clause-settled
 returns-in-Ok-Formatted-clause-settled g c = λ tells.
-    let empty = (subst (λ (l : Loaded). IsLoaded l c.load.new.file (g.D.Disk.seen c.args.disk.now) (g.D.Disk.seen c.load.new.disk)) c.in-Ok-Formatted.field-0-is (c.in-Ok-Formatted.ensures.found tells)).1 in
-    rw c.closed.ensures (record { synced = c.in-Ok-Formatted.ensures.synced tells; surveyed = surveyed_closed _ empty.size (shut_area 0 _ empty.first) (shut_area AREA_BYTES _ empty.second) })
+    let empty = (subst (λ (l : Loaded). IsLoaded l c.load.new.file (g.D.Disk.seen c.args.disk.now)
+    (g.D.Disk.seen c.load.new.disk)) c.in-Ok-Formatted.field-0-is (c.in-Ok-Formatted.ensures.found tells)).1 in
+    rw c.closed.ensures (record {
+      synced = c.in-Ok-Formatted.ensures.synced tells;
+      surveyed =
+          surveyed_closed _ empty.size (shut_area 0 _ empty.first) (shut_area AREA_BYTES _ empty.second);
+    })
 
 pub returns-in-Some-clause-found : goal.returns-in-Some-clause-found
 returns-in-Some-clause-found g c = λ tells.
-    let whole = subst (λ (l : Loaded). IsLoaded l c.load.new.file (g.D.Disk.seen c.args.disk.now) (g.D.Disk.seen c.load.new.disk)) c.in-Ok-Whole.field-0-is (c.in-Ok-Whole.ensures.found tells) in
+    let whole = subst
+    (λ (l : Loaded). IsLoaded l c.load.new.file (g.D.Disk.seen c.args.disk.now) (g.D.Disk.seen c.load.new.disk))
+    c.in-Ok-Whole.field-0-is (c.in-Ok-Whole.ensures.found tells) in
     sym c.in-Some.ensures.surveyed.last_is ∙ ap recovered whole.1
 
 pub returns-in-Some-clause-settled : goal.returns-in-Some-clause-settled
 returns-in-Some-clause-settled g c = λ tells.
-    let whole = subst (λ (l : Loaded). IsLoaded l c.load.new.file (g.D.Disk.seen c.args.disk.now) (g.D.Disk.seen c.load.new.disk)) c.in-Ok-Whole.field-0-is (c.in-Ok-Whole.ensures.found tells) in
+    let whole = subst
+    (λ (l : Loaded). IsLoaded l c.load.new.file (g.D.Disk.seen c.args.disk.now) (g.D.Disk.seen c.load.new.disk))
+    c.in-Ok-Whole.field-0-is (c.in-Ok-Whole.ensures.found tells) in
     record {
       synced = c.in-Ok-Whole.ensures.synced tells;
-      surveyed = subst (λ (f : List ℕ). IsSurveyed f c.in-Some.areas (held c.in-Some.areas.generation c.survey.new.last)) (whole.1 ∙ sym whole.2) c.in-Some.ensures.surveyed;
+      surveyed =
+          subst (λ (f : List ℕ). IsSurveyed f c.in-Some.areas (held c.in-Some.areas.generation c.survey.new.last))
+          (whole.1 ∙ sym whole.2) c.in-Some.ensures.surveyed;
     }
 
 pub returns-in-None-clause-refused : goal.returns-in-None-clause-refused
 returns-in-None-clause-refused g c = λ tells.
-    let whole = subst (λ (l : Loaded). IsLoaded l c.load.new.file (g.D.Disk.seen c.args.disk.now) (g.D.Disk.seen c.load.new.disk)) c.in-Ok-Whole.field-0-is (c.in-Ok-Whole.ensures.found tells) in
+    let whole = subst
+    (λ (l : Loaded). IsLoaded l c.load.new.file (g.D.Disk.seen c.args.disk.now) (g.D.Disk.seen c.load.new.disk))
+    c.in-Ok-Whole.field-0-is (c.in-Ok-Whole.ensures.found tells) in
     ap recovered (sym whole.1) ∙ c.in-None.ensures.damaged

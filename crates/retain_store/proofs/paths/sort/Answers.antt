@@ -8,4 +8,6 @@ use Rattle.retain_store.specs.Reading.{path_from}
 use Rattle.retain_store.proofs.paths.sort.Goals as goal
 
 pub returns-clause-sorted : goal.returns-clause-sorted
-returns-clause-sorted c = c.sort_unstable_by.ensures.sorted (λ x y. is_lt (slice_cmp nat_cmp (path_from c.args.text.now x) (path_from c.args.text.now y))) (ranks_by nat_list_cmp_total (path_from c.args.text.now)) (always_returns_same _ _ _ (λ a r f' called. search rules))
+returns-clause-sorted c = c.sort_unstable_by.ensures.sorted
+    (λ x y. is_lt (slice_cmp nat_cmp (path_from c.args.text.now x) (path_from c.args.text.now y))) (ranks_by
+    nat_list_cmp_total (path_from c.args.text.now)) (always_returns_same _ _ _ (λ a r f' called. search rules))

@@ -4,4 +4,5 @@ use Rattle.slot_run.specs.Cells.{cut}
 use Rattle.serial_core.proofs.cells.stand.Given as goal
 
 abbrev pub invariant-loop-cell : goal.invariant-loop-cell
-invariant-loop-cell l = agrees (l.values ++ l.image) (map cut l.cells) ≡ agrees (l.values ++ l.image) (map cut (drop l.cell-index l.cells))
+invariant-loop-cell l =
+    agrees (l.values ++ l.image) (map cut l.cells) ≡ agrees (l.values ++ l.image) (map cut (drop l.cell-index l.cells))

@@ -16,4 +16,6 @@ new-requires c =
     let runs = rw code_is at c.in_ok-outcome.ensures.runs in
     let variables = rw code_is at c.in_ok-outcome.ensures.variables in
     let targets = rw code_is at c.in_ok-outcome.ensures.targets in
-    rw c.lasting_writes-writes.ensures (run_is_true code s.slots.items s.moment s.budget reads (map cut c.run_all.new.writes.items) c.in_ok-outcome.outcome all agreed runs variables targets reads_once c.in_ok-outcome.ensures.once)
+    rw c.lasting_writes-writes.ensures
+    (run_is_true code s.slots.items s.moment s.budget reads (map cut c.run_all.new.writes.items)
+    c.in_ok-outcome.outcome all agreed runs variables targets reads_once c.in_ok-outcome.ensures.once)

@@ -14,8 +14,11 @@ returns-then-left-eq0-clause-runs c =
     let x = c.statement-item.result in
     let slots = c.loop-statement.slots.items in
     let writes = map cut c.loop-statement.writes.items in
-    let r = at_statement (code_view code) c.args.slots.items body c.deref-statement-items.result.now i x c.args.budget c.loop-statement.left slots writes (search rules) (omega arith) c.statement-item.is c.loop-statement.invariant in
-    ends_by_budget (code_view code) c.args.slots.items (stmt_view x) (map stmt_view (drop (i + 1) body)) c.args.budget c.loop-statement.left slots writes c.if-left-eq0.true r
+    let r = at_statement (code_view code) c.args.slots.items body c.deref-statement-items.result.now i x c.args.budget
+    c.loop-statement.left slots writes (search rules) (omega arith) c.statement-item.is c.loop-statement.invariant
+    in
+    ends_by_budget (code_view code) c.args.slots.items (stmt_view x) (map stmt_view (drop (i + 1) body)) c.args.budget
+    c.loop-statement.left slots writes c.if-left-eq0.true r
 
 pub returns-in-Err-clause-runs : goal.returns-in-Err-clause-runs
 returns-in-Err-clause-runs c =
@@ -25,9 +28,13 @@ returns-in-Err-clause-runs c =
     let x = c.statement-item.result in
     let slots = c.loop-statement.slots.items in
     let writes = map cut c.loop-statement.writes.items in
-    let r = at_statement (code_view code) c.args.slots.items body c.deref-statement-items.result.now i x c.args.budget c.loop-statement.left slots writes (search rules) (omega arith) c.statement-item.is c.loop-statement.invariant in
-    let steps : Steps (code_view code) (stmt_view x) slots (Err c.in-Err.fault) = rw c.deref-in-loop-statement.ensures.value at c.in-Err.ensures.steps in
-    ends_by_fault (code_view code) c.args.slots.items (stmt_view x) (map stmt_view (drop (i + 1) body)) c.args.budget c.loop-statement.left (c.loop-statement.left - 1) slots writes c.in-Err.fault (omega arith) r steps
+    let r = at_statement (code_view code) c.args.slots.items body c.deref-statement-items.result.now i x c.args.budget
+    c.loop-statement.left slots writes (search rules) (omega arith) c.statement-item.is c.loop-statement.invariant
+    in
+    let steps : Steps (code_view code) (stmt_view x) slots (Err c.in-Err.fault) =
+    rw c.deref-in-loop-statement.ensures.value at c.in-Err.ensures.steps in
+    ends_by_fault (code_view code) c.args.slots.items (stmt_view x) (map stmt_view (drop (i + 1) body)) c.args.budget
+    c.loop-statement.left (c.loop-statement.left - 1) slots writes c.in-Err.fault (omega arith) r steps
 
 pub loop-statement-preserved : goal.loop-statement-preserved
 loop-statement-preserved c =
@@ -37,7 +44,12 @@ loop-statement-preserved c =
     let x = c.statement-item.result in
     let slots = c.loop-statement.slots.items in
     let writes = map cut c.loop-statement.writes.items in
-    let r = at_statement (code_view code) c.args.slots.items body c.deref-statement-items.result.now i x c.args.budget c.loop-statement.left slots writes (search rules) (omega arith) c.statement-item.is c.loop-statement.invariant in
-    let steps : Steps (code_view code) (stmt_view x) slots (Ok (cut c.in-Ok.cell)) = rw c.deref-in-loop-statement.ensures.value at c.in-Ok.ensures.steps in
-    let next = reached_next (code_view code) c.args.slots.items (stmt_view x) (map stmt_view (drop (i + 1) body)) c.args.budget c.loop-statement.left (c.loop-statement.left - 1) slots writes (cut c.in-Ok.cell) (omega arith) r steps c.in-Ok.ensures.variable c.in-Ok.ensures.target in
+    let r = at_statement (code_view code) c.args.slots.items body c.deref-statement-items.result.now i x c.args.budget
+    c.loop-statement.left slots writes (search rules) (omega arith) c.statement-item.is c.loop-statement.invariant
+    in
+    let steps : Steps (code_view code) (stmt_view x) slots (Ok (cut c.in-Ok.cell)) =
+    rw c.deref-in-loop-statement.ensures.value at c.in-Ok.ensures.steps in
+    let next = reached_next (code_view code) c.args.slots.items (stmt_view x) (map stmt_view (drop (i + 1) body))
+    c.args.budget c.loop-statement.left (c.loop-statement.left - 1) slots writes (cut c.in-Ok.cell) (omega arith) r
+    steps c.in-Ok.ensures.variable c.in-Ok.ensures.target in
     rw c.in_ok-write.ensures next

@@ -7,4 +7,5 @@ use Rattle.slot_run.proofs.runner.run_all.Given as goal
 
 abbrev pub invariant-loop-statement : goal.invariant-loop-statement
 invariant-loop-statement l =
-    Reached (code_view l.code) l.fn.slots.items (map stmt_view (drop l.statement-index l.code.unit.value.body.items)) l.budget l.left l.slots.items (map cut l.writes.items)
+    Reached (code_view l.code) l.fn.slots.items (map stmt_view (drop l.statement-index l.code.unit.value.body.items))
+    l.budget l.left l.slots.items (map cut l.writes.items)

@@ -4,4 +4,5 @@ use Rattle.st_build.specs.Addresses.{addresses_in}
 use Rattle.st_build.proofs.addresses.addresses_in.Given as goal
 
 abbrev pub invariant-loop-block : goal.invariant-loop-block
-invariant-loop-block l = l.addresses.items ++ addresses_in (map global_block_view (drop l.block-index l.blocks)) ≡ addresses_in (map global_block_view l.blocks)
+invariant-loop-block l = l.addresses.items ++ addresses_in (map global_block_view (drop l.block-index l.blocks))
+    ≡ addresses_in (map global_block_view l.blocks)

@@ -5,5 +5,6 @@ use Rattle.st_build.proofs.addresses.push_addresses.Given as goal
 
 abbrev pub invariant-loop-declaration : goal.invariant-loop-declaration
 invariant-loop-declaration l =
-    l.addresses.items ++ flat_map (λ d. address_in d.names) (map global_declaration_view (drop l.declaration-index l.declarations))
+    l.addresses.items
+    ++ flat_map (λ d. address_in d.names) (map global_declaration_view (drop l.declaration-index l.declarations))
     ≡ l.initial.addresses.items ++ flat_map (λ d. address_in d.names) (map global_declaration_view l.declarations)

@@ -5,4 +5,5 @@ use Rattle.st_build.proofs.inputs.inputs_in.Given as goal
 
 abbrev pub invariant-loop-block : goal.invariant-loop-block
 invariant-loop-block l =
-    map Some l.inputs.items ++ inputs_in (map global_block_view (drop l.block-index l.blocks)) ≡ inputs_in (map global_block_view l.blocks)
+    map Some l.inputs.items
+    ++ inputs_in (map global_block_view (drop l.block-index l.blocks)) ≡ inputs_in (map global_block_view l.blocks)

@@ -14,10 +14,12 @@ returns-in_err-variables-clause-refused c =
 pub returns-in_err-inputs-clause-refused : goal.returns-in_err-inputs-clause-refused
 returns-in_err-inputs-clause-refused c =
     let configuration = configuration_view c.args.configuration.now in
-    lacking (LacksGlobals configuration) c.inputs_in.result c.in_err-inputs.field-0.0 c.from_residual-in_err-inputs.result
+    lacking (LacksGlobals configuration) c.inputs_in.result c.in_err-inputs.field-0.0
+    c.from_residual-in_err-inputs.result
     c.in_err-inputs.was (search rules) (search rules) (λ is. no_inputs configuration (search rules))
 
 pub returns-clause-short : goal.returns-clause-short
 returns-clause-short c =
-    short_record (configuration_view c.args.configuration.now) c.in_ok-variables.variables.items c.in_ok-inputs.inputs.items
+    short_record (configuration_view c.args.configuration.now) c.in_ok-variables.variables.items
+    c.in_ok-inputs.inputs.items
     record { variables_are = search rules; inputs_are = search rules } (search rules)

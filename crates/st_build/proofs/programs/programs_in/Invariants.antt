@@ -6,5 +6,6 @@ use Rattle.st_build.proofs.programs.programs_in.Given as goal
 
 abbrev pub invariant-loop-number : goal.invariant-loop-number
 invariant-loop-number l =
-    map Some l.programs.items ++ programs_in (map unit_view l.units) l.number (map resource_view (drop l.number l.resources))
+    map Some l.programs.items
+    ++ programs_in (map unit_view l.units) l.number (map resource_view (drop l.number l.resources))
     ≡ programs_in (map unit_view l.units) 0 (map resource_view l.resources)

@@ -10,17 +10,21 @@ use Rattle.st_build.proofs.source_plan.plan_of.Goals as goal
 
 pub returns-clause-plan : goal.returns-clause-plan
 returns-clause-plan c =
-    plan_of_text (source_view c.args.source) (map unit_view c.in_ok-units.units.items) (configuration_view c.in_ok-units.configuration) c.args.budget (plan_view c.in_ok-plan.plan)
+    plan_of_text (source_view c.args.source) (map unit_view c.in_ok-units.units.items)
+    (configuration_view c.in_ok-units.configuration) c.args.budget (plan_view c.in_ok-plan.plan)
     (search rules) (search rules) (search rules) (c.in_ok-broken.ensures.clean (search rules)) (search rules)
 
 pub returns-then-has_types-clause-refused : goal.returns-then-has_types-clause-refused
 returns-then-has_types-clause-refused c =
-    beyond_types (source_view c.args.source) (map unit_view c.in_ok-units.units.items) (configuration_view c.in_ok-units.configuration) c.args.budget (plan_view c.in_ok-plan.plan)
+    beyond_types (source_view c.args.source) (map unit_view c.in_ok-units.units.items)
+    (configuration_view c.in_ok-units.configuration) c.args.budget (plan_view c.in_ok-plan.plan)
     (search rules) (search rules) (c.in_ok-broken.ensures.clean (search rules)) (search rules) (search rules)
 
 pub returns-in_err-plan-clause-refused : goal.returns-in_err-plan-clause-refused
 returns-in_err-plan-clause-refused c =
     let source = source_view c.args.source in
-    handed_on (λ e. Applies source c.args.budget e) c.in_err-plan.field-0.0 c.from_residual-in_err-plan.result (search rules)
-    (breaks_text source (map unit_view c.in_ok-units.units.items) (configuration_view c.in_ok-units.configuration) c.args.budget c.in_err-plan.field-0.0
+    handed_on (λ e. Applies source c.args.budget e) c.in_err-plan.field-0.0 c.from_residual-in_err-plan.result
+    (search rules)
+    (breaks_text source (map unit_view c.in_ok-units.units.items) (configuration_view c.in_ok-units.configuration)
+    c.args.budget c.in_err-plan.field-0.0
     (search rules) (search rules) (c.in_ok-broken.ensures.clean (search rules)) (search rules))

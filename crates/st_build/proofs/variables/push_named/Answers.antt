@@ -6,4 +6,5 @@ use Rattle.st_build.proofs.variables.push_named.Goals as goal
 
 pub returns-in_err-variable_of-clause-none : goal.returns-in_err-variable_of-clause-none
 returns-in_err-variable_of-clause-none c = λ is.
-    missing_at (variable_of c.args.qualifier (global_declaration_view c.args.declaration.now)) c.args.names.now c.loop-name.name-index c.name-item.result (omega arith) (search rules)
+    missing_at (variable_of c.args.qualifier (global_declaration_view c.args.declaration.now)) c.args.names.now
+    c.loop-name.name-index c.name-item.result (omega arith) (search rules)

@@ -7,5 +7,6 @@ use Rattle.st_parse.proofs.block.function_blocks.Goals as goal
 pub returns : goal.returns
 unfolding many
 returns c =
-    let read = c.several.ensures starts_function_section (function_block_at MAX_DEPTH) (λ ts r e. search rules) (λ ts r e. search rules) in
+    let read = c.several.ensures starts_function_section (function_block_at MAX_DEPTH) (λ ts r e. search rules)
+    (λ ts r e. search rules) in
     search rules

@@ -7,5 +7,6 @@ use Rattle.st_parse.proofs.block.program_blocks.Goals as goal
 pub returns : goal.returns
 unfolding many
 returns c =
-    let read = c.several.ensures starts_program_section (program_block_at MAX_DEPTH) (λ ts r e. search rules) (λ ts r e. search rules) in
+    let read = c.several.ensures starts_program_section (program_block_at MAX_DEPTH) (λ ts r e. search rules)
+    (λ ts r e. search rules) in
     search rules

@@ -9,5 +9,6 @@ use Rattle.st_parse.proofs.configuration.global_blocks.Goals as goal
 pub returns : goal.returns
 unfolding many
 returns c =
-    let read = c.several.ensures (is_keyword w.VarGlobal) (global_block_at MAX_DEPTH) (λ ts r e. search rules) (λ ts r e. search rules) in
+    let read = c.several.ensures (is_keyword w.VarGlobal) (global_block_at MAX_DEPTH) (λ ts r e. search rules)
+    (λ ts r e. search rules) in
     search rules

@@ -8,5 +8,6 @@ use Rattle.st_parse.proofs.configuration.resources.Goals as goal
 pub returns : goal.returns
 unfolding at_least_one
 returns c =
-    let read = c.several.ensures (is_keyword w.Resource) resource_at (λ ts r e. search rules) (λ ts r e. search rules) in
+    let read =
+    c.several.ensures (is_keyword w.Resource) resource_at (λ ts r e. search rules) (λ ts r e. search rules) in
     search rules

@@ -9,5 +9,6 @@ use Rattle.st_parse.proofs.data_type.type_declarations.Goals as goal
 pub returns : goal.returns
 unfolding type_declarations_at at_least_one
 returns c =
-    let read = c.several.ensures is_name (type_declaration_at MAX_DEPTH) (λ ts r e. search rules) (λ ts r e. search rules) in
+    let read =
+    c.several.ensures is_name (type_declaration_at MAX_DEPTH) (λ ts r e. search rules) (λ ts r e. search rules) in
     search rules

@@ -7,5 +7,6 @@ use Rattle.st_parse.proofs.names.names_behind.Goals as goal
 
 pub returns : goal.returns
 returns c =
-    let read = c.several.ensures (is_mark Comma) (after_comma (one name)) (λ ts r e. search rules) (λ ts r e. search rules) in
+    let read =
+    c.several.ensures (is_mark Comma) (after_comma (one name)) (λ ts r e. search rules) (λ ts r e. search rules) in
     search (rules, plainly)

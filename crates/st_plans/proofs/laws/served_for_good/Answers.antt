@@ -1,4 +1,5 @@
-use Rattle.st_plans.proofs.DueLemmas.{served_by_done, served_stays, served_waits_no_more, served_within_first, served_within_done, served_within_row}
+use Rattle.st_plans.proofs.DueLemmas.{served_by_done, served_stays, served_waits_no_more, served_within_first}
+use Rattle.st_plans.proofs.DueLemmas.{served_within_done, served_within_row}
 use Rattle.st_plans.proofs.laws.served_for_good.Goals as goal
 
 pub returns-clause-by_its_done : goal.returns-clause-by_its_done

@@ -8,5 +8,6 @@ loop-step-preserved g c =
     let (text, wrote, so_far) = c.loop-step.invariant in (
       text ++ step_text c.step-item.result,
       appends_both _ _ _ _ _ wrote (search rules),
-      text_more steps_text step_text (λ x xs. refl) _ c.loop-step.step-index c.step-item.result text (search rules) (search rules) so_far,
+      text_more steps_text step_text (λ x xs. refl) _ c.loop-step.step-index c.step-item.result text (search rules)
+          (search rules) so_far,
     )

@@ -6,4 +6,5 @@ use Rattle.st_rules.specs.Scopes.{names_in}
 use Rattle.st_rules.proofs.declarations.repeat_in_resources.Given as goal
 
 abbrev pub invariant-loop-resource : goal.invariant-loop-resource
-invariant-loop-resource l = first (flat_map repeats (map names_in (map resource_view l.resources))) ≡ first (flat_map repeats (map names_in (map resource_view (drop l.resource-index l.resources))))
+invariant-loop-resource l = first (flat_map repeats (map names_in (map resource_view l.resources)))
+    ≡ first (flat_map repeats (map names_in (map resource_view (drop l.resource-index l.resources))))

@@ -6,4 +6,6 @@ use Rattle.st_rules.specs.Scopes.{fields_of}
 use Rattle.st_rules.proofs.declarations.repeat_in_types.Given as goal
 
 abbrev pub invariant-loop-declaration : goal.invariant-loop-declaration
-invariant-loop-declaration l = first (flat_map repeats (map (λ t. fields_of t.definition) (map type_declaration_view l.types))) ≡ first (flat_map repeats (map (λ t. fields_of t.definition) (map type_declaration_view (drop l.declaration-index l.types))))
+invariant-loop-declaration l =
+    first (flat_map repeats (map (λ t. fields_of t.definition) (map type_declaration_view l.types))) ≡ first (flat_map
+    repeats (map (λ t. fields_of t.definition) (map type_declaration_view (drop l.declaration-index l.types))))

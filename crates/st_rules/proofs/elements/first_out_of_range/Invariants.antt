@@ -7,4 +7,5 @@ use Rattle.st_types.specs.NameTypes.{Declared}
 use Rattle.st_rules.proofs.elements.first_out_of_range.Given as goal
 
 abbrev pub invariant-loop-element : goal.invariant-loop-element
-invariant-loop-element l = (text : Declared) → first (flat_map (out_of_range_in text) (map element_view l.elements)) ≡ first (flat_map (out_of_range_in text) (map element_view (drop l.element-index l.elements)))
+invariant-loop-element l = (text : Declared) → first (flat_map (out_of_range_in text) (map element_view l.elements))
+    ≡ first (flat_map (out_of_range_in text) (map element_view (drop l.element-index l.elements)))

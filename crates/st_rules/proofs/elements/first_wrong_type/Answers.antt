@@ -6,11 +6,16 @@ use Rattle.st_rules.proofs.elements.first_wrong_type.Goals as goal
 
 pub returns-in-Some : goal.returns-in-Some
 returns-in-Some c text =
-    found_here (wrong_types_in text) element_view c.args.elements.now c.loop-element.element-index c.element-item.result c.in-Some.place (c.loop-element.invariant text) c.loop-element-test.true c.element-item.is (sym (c.wrong_type_in.ensures text) ∙ c.in-Some.is)
+    found_here (wrong_types_in text) element_view c.args.elements.now c.loop-element.element-index c.element-item.result
+    c.in-Some.place (c.loop-element.invariant text) c.loop-element-test.true c.element-item.is
+    (sym (c.wrong_type_in.ensures text) ∙ c.in-Some.is)
 
 pub loop-element-preserved : goal.loop-element-preserved
 loop-element-preserved c text =
-    passed_here (wrong_types_in text) element_view c.args.elements.now c.loop-element.element-index c.element-item.result (c.loop-element.invariant text) c.loop-element-test.true c.element-item.is (sym (c.wrong_type_in.ensures text) ∙ c.in_default.is)
+    passed_here (wrong_types_in text) element_view c.args.elements.now c.loop-element.element-index
+    c.element-item.result (c.loop-element.invariant text) c.loop-element-test.true c.element-item.is
+    (sym (c.wrong_type_in.ensures text) ∙ c.in_default.is)
 
 pub returns : goal.returns
-returns c text = none_left (wrong_types_in text) element_view c.args.elements.now c.loop-element.element-index (c.loop-element.invariant text) c.loop-element-test.false
+returns c text = none_left (wrong_types_in text) element_view c.args.elements.now c.loop-element.element-index
+    (c.loop-element.invariant text) c.loop-element-test.false

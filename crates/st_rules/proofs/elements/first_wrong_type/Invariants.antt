@@ -7,4 +7,5 @@ use Rattle.st_types.specs.NameTypes.{Declared}
 use Rattle.st_rules.proofs.elements.first_wrong_type.Given as goal
 
 abbrev pub invariant-loop-element : goal.invariant-loop-element
-invariant-loop-element l = (text : Declared) → first (flat_map (wrong_types_in text) (map element_view l.elements)) ≡ first (flat_map (wrong_types_in text) (map element_view (drop l.element-index l.elements)))
+invariant-loop-element l = (text : Declared) → first (flat_map (wrong_types_in text) (map element_view l.elements))
+    ≡ first (flat_map (wrong_types_in text) (map element_view (drop l.element-index l.elements)))

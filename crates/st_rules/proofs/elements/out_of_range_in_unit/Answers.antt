@@ -14,4 +14,6 @@ returns c text =
     let u = c.args.unit.now in
     let initials = rw c.deref.ensures.value at c.variables_against.ensures in
     let body = rw c.deref-2.ensures.value at (c.out_of_range_in_body.ensures text) in
-    or_step c.variables_against.result c.out_of_range_in_body.result c.or_place.result (flat_map (variables_against OutOfRange) (map variable_block_view u.blocks.items)) (flat_map (out_of_range_of text (unit_view u)) (map stmt_view u.body.items)) initials body c.or_place.ensures
+    or_step c.variables_against.result c.out_of_range_in_body.result c.or_place.result
+    (flat_map (variables_against OutOfRange) (map variable_block_view u.blocks.items))
+    (flat_map (out_of_range_of text (unit_view u)) (map stmt_view u.body.items)) initials body c.or_place.ensures

@@ -7,4 +7,7 @@ use Rattle.st_types.specs.NameTypes.{kind_of_type}
 use Rattle.st_rules.proofs.initials.global_declarations_against.Given as goal
 
 abbrev pub invariant-loop-declaration : goal.invariant-loop-declaration
-invariant-loop-declaration l = first (flat_map (λ d. initial_against l.rule (kind_of_type d.declared) d.initial) (map global_declaration_view l.declarations)) ≡ first (flat_map (λ d. initial_against l.rule (kind_of_type d.declared) d.initial) (map global_declaration_view (drop l.declaration-index l.declarations)))
+invariant-loop-declaration l = first (flat_map (λ d. initial_against l.rule (kind_of_type d.declared) d.initial)
+    (map global_declaration_view l.declarations))
+    ≡ first (flat_map (λ d. initial_against l.rule (kind_of_type d.declared) d.initial)
+    (map global_declaration_view (drop l.declaration-index l.declarations)))

@@ -7,4 +7,6 @@ use Rattle.st_rules.proofs.initials.globals_against.Goals as goal
 pub returns-in-Some : goal.returns-in-Some
 returns-in-Some c =
     let found = rw c.deref.ensures.value at c.global_declarations_against.ensures in
-    found_here (globals_against c.args.rule) global_block_view c.args.blocks.now c.loop-block.block-index c.block-item.result c.in-Some.place c.loop-block.invariant c.loop-block-test.true c.block-item.is (sym found ∙ c.in-Some.is)
+    found_here (globals_against c.args.rule) global_block_view c.args.blocks.now c.loop-block.block-index
+    c.block-item.result c.in-Some.place c.loop-block.invariant c.loop-block-test.true c.block-item.is
+    (sym found ∙ c.in-Some.is)

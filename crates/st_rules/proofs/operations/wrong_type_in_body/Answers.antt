@@ -7,11 +7,16 @@ use Rattle.st_rules.proofs.operations.wrong_type_in_body.Goals as goal
 
 pub returns-in-Some : goal.returns-in-Some
 returns-in-Some c text =
-    found_here (wrong_types_of text (unit_view c.args.unit.now)) stmt_view c.args.body.now c.loop-statement.statement-index c.statement-item.result c.in-Some.place (c.loop-statement.invariant text) c.loop-statement-test.true c.statement-item.is (sym (c.wrong_type_in_statement.ensures text) ∙ c.in-Some.is)
+    found_here (wrong_types_of text (unit_view c.args.unit.now)) stmt_view c.args.body.now
+    c.loop-statement.statement-index c.statement-item.result c.in-Some.place (c.loop-statement.invariant text)
+    c.loop-statement-test.true c.statement-item.is (sym (c.wrong_type_in_statement.ensures text) ∙ c.in-Some.is)
 
 pub loop-statement-preserved : goal.loop-statement-preserved
 loop-statement-preserved c text =
-    passed_here (wrong_types_of text (unit_view c.args.unit.now)) stmt_view c.args.body.now c.loop-statement.statement-index c.statement-item.result (c.loop-statement.invariant text) c.loop-statement-test.true c.statement-item.is (sym (c.wrong_type_in_statement.ensures text) ∙ c.in_default.is)
+    passed_here (wrong_types_of text (unit_view c.args.unit.now)) stmt_view c.args.body.now
+    c.loop-statement.statement-index c.statement-item.result (c.loop-statement.invariant text)
+    c.loop-statement-test.true c.statement-item.is (sym (c.wrong_type_in_statement.ensures text) ∙ c.in_default.is)
 
 pub returns : goal.returns
-returns c text = none_left (wrong_types_of text (unit_view c.args.unit.now)) stmt_view c.args.body.now c.loop-statement.statement-index (c.loop-statement.invariant text) c.loop-statement-test.false
+returns c text = none_left (wrong_types_of text (unit_view c.args.unit.now)) stmt_view c.args.body.now
+    c.loop-statement.statement-index (c.loop-statement.invariant text) c.loop-statement-test.false

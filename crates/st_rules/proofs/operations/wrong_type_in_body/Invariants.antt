@@ -8,4 +8,6 @@ use Rattle.st_types.specs.NameTypes.{Declared}
 use Rattle.st_rules.proofs.operations.wrong_type_in_body.Given as goal
 
 abbrev pub invariant-loop-statement : goal.invariant-loop-statement
-invariant-loop-statement l = (text : Declared) → first (flat_map (wrong_types_of text (unit_view l.unit)) (map stmt_view l.body)) ≡ first (flat_map (wrong_types_of text (unit_view l.unit)) (map stmt_view (drop l.statement-index l.body)))
+invariant-loop-statement l = (text : Declared)
+    → first (flat_map (wrong_types_of text (unit_view l.unit)) (map stmt_view l.body))
+    ≡ first (flat_map (wrong_types_of text (unit_view l.unit)) (map stmt_view (drop l.statement-index l.body)))

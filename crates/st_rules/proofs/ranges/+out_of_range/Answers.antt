@@ -9,8 +9,12 @@ use Rattle.st_rules.proofs.ranges.+out_of_range.Goals as goal
 pub returns-in-Binary : goal.returns-in-Binary
 returns-in-Binary t c text =
     let is = c.in-Binary.is in
-    let seen : expr_view c.args.expression.now ≡ binary c.in-Binary.operator (expr_view c.in-Binary.left.value) (expr_view c.in-Binary.right.value) = rw is (search (rules, code_expr.the_lemmas)) in
+    let seen : expr_view c.args.expression.now ≡ binary c.in-Binary.operator (expr_view c.in-Binary.left.value)
+    (expr_view c.in-Binary.right.value) = rw is (search (rules, code_expr.the_lemmas)) in
     let kind = rw (c.deref-in-Binary.ensures, c.deref-in-Binary-2.ensures) at (c.operand_kind-operand.ensures text) in
     let left = rw c.deref-in-Binary-3.ensures at (c.out_of_range-in-Binary.ensures text) in
     let right = rw c.deref-in-Binary-4.ensures at (c.out_of_range-in-Binary-2.ensures text) in
-    range_step text (unit_view c.args.unit.now) c.args.expected c.in-Binary.operator (expr_view c.args.expression.now) (expr_view c.in-Binary.left.value) (expr_view c.in-Binary.right.value) c.operand_kind-operand.result c.out_of_range-in-Binary.result c.out_of_range-in-Binary-2.result c.or_place.result seen kind left right c.or_place.ensures
+    range_step text (unit_view c.args.unit.now) c.args.expected c.in-Binary.operator (expr_view c.args.expression.now)
+    (expr_view c.in-Binary.left.value) (expr_view c.in-Binary.right.value) c.operand_kind-operand.result
+    c.out_of_range-in-Binary.result c.out_of_range-in-Binary-2.result c.or_place.result seen kind left right
+    c.or_place.ensures

@@ -5,4 +5,6 @@ use Rattle.st_rules.specs.Scopes.{listed_names}
 use Rattle.st_rules.proofs.scopes.push_globals.Given as goal
 
 abbrev pub invariant-loop-declaration : goal.invariant-loop-declaration
-invariant-loop-declaration l = map (λ x. x.now) l.scope.items ++ flat_map (λ d. listed_names d.names) (map global_declaration_view (drop l.declaration-index l.declarations)) ≡ map (λ x. x.now) l.initial.scope.items ++ flat_map (λ d. listed_names d.names) (map global_declaration_view l.declarations)
+invariant-loop-declaration l = map (λ x. x.now) l.scope.items ++ flat_map (λ d. listed_names d.names)
+    (map global_declaration_view (drop l.declaration-index l.declarations)) ≡ map (λ x. x.now) l.initial.scope.items
+    ++ flat_map (λ d. listed_names d.names) (map global_declaration_view l.declarations)

@@ -5,4 +5,6 @@ use Rattle.st_rules.specs.Scopes.{variables_of_block}
 use Rattle.st_rules.proofs.scopes.push_variables.Given as goal
 
 abbrev pub invariant-loop-block : goal.invariant-loop-block
-invariant-loop-block l = map (λ x. x.now) l.scope.items ++ flat_map variables_of_block (map variable_block_view (drop l.block-index l.blocks)) ≡ map (λ x. x.now) l.initial.scope.items ++ flat_map variables_of_block (map variable_block_view l.blocks)
+invariant-loop-block l = map (λ x. x.now) l.scope.items
+    ++ flat_map variables_of_block (map variable_block_view (drop l.block-index l.blocks))
+    ≡ map (λ x. x.now) l.initial.scope.items ++ flat_map variables_of_block (map variable_block_view l.blocks)

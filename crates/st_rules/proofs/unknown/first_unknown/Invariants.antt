@@ -6,4 +6,5 @@ use Rattle.st_rules.specs.Rules.{unknown_names_in}
 use Rattle.st_rules.proofs.unknown.first_unknown.Given as goal
 
 abbrev pub invariant-loop-element : goal.invariant-loop-element
-invariant-loop-element l = first (flat_map unknown_names_in (map element_view l.elements)) ≡ first (flat_map unknown_names_in (map element_view (drop l.element-index l.elements)))
+invariant-loop-element l = first (flat_map unknown_names_in (map element_view l.elements))
+    ≡ first (flat_map unknown_names_in (map element_view (drop l.element-index l.elements)))

@@ -15,23 +15,31 @@ loop-turn-init c = first_of (search rules, grind (arith, common_steps))
 pub returns-then-not-begins : goal.returns-then-not-begins
 unfolding loops
 returns-then-not-begins c =
-    let e = one_more (λ n. loops (is_mark m.Comma) (gather (after_comma (argument_at c.args.below))) n (map argument_view c.loop-turn.found.items) c.loop-turn.tokens.now) _ c.loop-turn._turn c.loop-turn-test.true c.loop-turn.invariant in
+    let e = one_more (λ n. loops (is_mark m.Comma) (gather (after_comma (argument_at c.args.below))) n
+    (map argument_view c.loop-turn.found.items) c.loop-turn.tokens.now) _ c.loop-turn._turn c.loop-turn-test.true
+    c.loop-turn.invariant in
     first_of (search rules, grind (arith, common_steps))
 
 pub returns-in_err-next : goal.returns-in_err-next
 unfolding loops
 returns-in_err-next c =
-    let e = one_more (λ n. loops (is_mark m.Comma) (gather (after_comma (argument_at c.args.below))) n (map argument_view c.loop-turn.found.items) c.loop-turn.tokens.now) _ c.loop-turn._turn c.loop-turn-test.true c.loop-turn.invariant in
+    let e = one_more (λ n. loops (is_mark m.Comma) (gather (after_comma (argument_at c.args.below))) n
+    (map argument_view c.loop-turn.found.items) c.loop-turn.tokens.now) _ c.loop-turn._turn c.loop-turn-test.true
+    c.loop-turn.invariant in
     first_of (search rules, grind (arith, common_steps))
 
 pub loop-turn-preserved : goal.loop-turn-preserved
 unfolding loops
 loop-turn-preserved c =
-    let e = one_more (λ n. loops (is_mark m.Comma) (gather (after_comma (argument_at c.args.below))) n (map argument_view c.loop-turn.found.items) c.loop-turn.tokens.now) _ c.loop-turn._turn c.loop-turn-test.true c.loop-turn.invariant in
+    let e = one_more (λ n. loops (is_mark m.Comma) (gather (after_comma (argument_at c.args.below))) n
+    (map argument_view c.loop-turn.found.items) c.loop-turn.tokens.now) _ c.loop-turn._turn c.loop-turn-test.true
+    c.loop-turn.invariant in
     first_of (search rules, grind (arith, common_steps))
 
 pub returns : goal.returns
 unfolding loops
 returns c =
-    let e = no_more (λ n. loops (is_mark m.Comma) (gather (after_comma (argument_at c.args.below))) n (map argument_view c.loop-turn.found.items) c.loop-turn.tokens.now) _ c.loop-turn._turn c.loop-turn-test.false c.loop-turn.invariant in
+    let e = no_more (λ n. loops (is_mark m.Comma) (gather (after_comma (argument_at c.args.below))) n
+    (map argument_view c.loop-turn.found.items) c.loop-turn.tokens.now) _ c.loop-turn._turn c.loop-turn-test.false
+    c.loop-turn.invariant in
     first_of (search rules, grind (arith, common_steps))

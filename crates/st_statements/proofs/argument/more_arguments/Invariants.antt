@@ -7,4 +7,6 @@ use Rattle.st_statements.specs.StatementReading.{argument_at}
 use Rattle.st_statements.proofs.argument.more_arguments.Given as goal
 
 abbrev pub invariant-loop-turn : goal.invariant-loop-turn
-invariant-loop-turn l = several (is_mark m.Comma) (after_comma (argument_at l.below)) (map argument_view l.fn.found.items) l.fn.tokens ≡ loops (is_mark m.Comma) (gather (after_comma (argument_at l.below))) (l._turn-end - l._turn) (map argument_view l.found.items) l.tokens
+invariant-loop-turn l = several (is_mark m.Comma) (after_comma (argument_at l.below))
+    (map argument_view l.fn.found.items) l.fn.tokens ≡ loops (is_mark m.Comma)
+    (gather (after_comma (argument_at l.below))) (l._turn-end - l._turn) (map argument_view l.found.items) l.tokens

@@ -16,31 +16,41 @@ operations-loop-turn-init t c = first_of (search rules, grind (arith, common_ste
 pub operations-returns-then-not-goes_on : goal.operations-returns-then-not-goes_on
 unfolding loops
 operations-returns-then-not-goes_on t c =
-    let e = one_more (λ n. loops (goes_on c.args.least) (operation_within (expr_at c.args.below) c.args.below) n (expr_view c.loop-turn.left) c.loop-turn.tokens.now) _ c.loop-turn._turn c.loop-turn-test.true c.loop-turn.invariant in
+    let e = one_more (λ n. loops (goes_on c.args.least) (operation_within (expr_at c.args.below) c.args.below) n
+    (expr_view c.loop-turn.left) c.loop-turn.tokens.now) _ c.loop-turn._turn c.loop-turn-test.true
+    c.loop-turn.invariant in
     first_of (search rules, grind (arith, common_steps))
 
 pub operations-returns-then-is_deeper : goal.operations-returns-then-is_deeper
 unfolding loops
 operations-returns-then-is_deeper t c =
-    let e = one_more (λ n. loops (goes_on c.args.least) (operation_within (expr_at c.args.below) c.args.below) n (expr_view c.loop-turn.left) c.loop-turn.tokens.now) _ c.loop-turn._turn c.loop-turn-test.true c.loop-turn.invariant in
+    let e = one_more (λ n. loops (goes_on c.args.least) (operation_within (expr_at c.args.below) c.args.below) n
+    (expr_view c.loop-turn.left) c.loop-turn.tokens.now) _ c.loop-turn._turn c.loop-turn-test.true
+    c.loop-turn.invariant in
     first_of (search rules, grind (arith, common_steps))
 
 pub operations-returns-in_err-next : goal.operations-returns-in_err-next
 unfolding loops
 operations-returns-in_err-next t c =
-    let e = one_more (λ n. loops (goes_on c.args.least) (operation_within (expr_at c.args.below) c.args.below) n (expr_view c.loop-turn.left) c.loop-turn.tokens.now) _ c.loop-turn._turn c.loop-turn-test.true c.loop-turn.invariant in
+    let e = one_more (λ n. loops (goes_on c.args.least) (operation_within (expr_at c.args.below) c.args.below) n
+    (expr_view c.loop-turn.left) c.loop-turn.tokens.now) _ c.loop-turn._turn c.loop-turn-test.true
+    c.loop-turn.invariant in
     first_of (search rules, grind (arith, common_steps))
 
 pub operations-loop-turn-preserved : goal.operations-loop-turn-preserved
 unfolding loops
 operations-loop-turn-preserved t c =
-    let e = one_more (λ n. loops (goes_on c.args.least) (operation_within (expr_at c.args.below) c.args.below) n (expr_view c.loop-turn.left) c.loop-turn.tokens.now) _ c.loop-turn._turn c.loop-turn-test.true c.loop-turn.invariant in
+    let e = one_more (λ n. loops (goes_on c.args.least) (operation_within (expr_at c.args.below) c.args.below) n
+    (expr_view c.loop-turn.left) c.loop-turn.tokens.now) _ c.loop-turn._turn c.loop-turn-test.true
+    c.loop-turn.invariant in
     first_of (search rules, grind (arith, common_steps))
 
 pub operations-returns : goal.operations-returns
 unfolding loops
 operations-returns t c =
-    let e = no_more (λ n. loops (goes_on c.args.least) (operation_within (expr_at c.args.below) c.args.below) n (expr_view c.loop-turn.left) c.loop-turn.tokens.now) _ c.loop-turn._turn c.loop-turn-test.false c.loop-turn.invariant in
+    let e = no_more (λ n. loops (goes_on c.args.least) (operation_within (expr_at c.args.below) c.args.below) n
+    (expr_view c.loop-turn.left) c.loop-turn.tokens.now) _ c.loop-turn._turn c.loop-turn-test.false
+    c.loop-turn.invariant in
     first_of (search rules, grind (arith, common_steps))
 
 pub selectors-loop-turn-init : goal.selectors-loop-turn-init
@@ -50,25 +60,33 @@ selectors-loop-turn-init t c = first_of (search rules, grind (arith, common_step
 pub selectors-returns-then-not-starts_selector : goal.selectors-returns-then-not-starts_selector
 unfolding loops
 selectors-returns-then-not-starts_selector t c =
-    let e = one_more (λ n. loops starts_selector (gather (selector_at (expr_at c.args.below))) n (map selector_view c.loop-turn.found.items) c.loop-turn.tokens.now) _ c.loop-turn._turn c.loop-turn-test.true c.loop-turn.invariant in
+    let e = one_more (λ n. loops starts_selector (gather (selector_at (expr_at c.args.below))) n
+    (map selector_view c.loop-turn.found.items) c.loop-turn.tokens.now) _ c.loop-turn._turn c.loop-turn-test.true
+    c.loop-turn.invariant in
     first_of (search rules, grind (arith, common_steps))
 
 pub selectors-returns-in_err-next : goal.selectors-returns-in_err-next
 unfolding loops
 selectors-returns-in_err-next t c =
-    let e = one_more (λ n. loops starts_selector (gather (selector_at (expr_at c.args.below))) n (map selector_view c.loop-turn.found.items) c.loop-turn.tokens.now) _ c.loop-turn._turn c.loop-turn-test.true c.loop-turn.invariant in
+    let e = one_more (λ n. loops starts_selector (gather (selector_at (expr_at c.args.below))) n
+    (map selector_view c.loop-turn.found.items) c.loop-turn.tokens.now) _ c.loop-turn._turn c.loop-turn-test.true
+    c.loop-turn.invariant in
     first_of (search rules, grind (arith, common_steps))
 
 pub selectors-loop-turn-preserved : goal.selectors-loop-turn-preserved
 unfolding loops
 selectors-loop-turn-preserved t c =
-    let e = one_more (λ n. loops starts_selector (gather (selector_at (expr_at c.args.below))) n (map selector_view c.loop-turn.found.items) c.loop-turn.tokens.now) _ c.loop-turn._turn c.loop-turn-test.true c.loop-turn.invariant in
+    let e = one_more (λ n. loops starts_selector (gather (selector_at (expr_at c.args.below))) n
+    (map selector_view c.loop-turn.found.items) c.loop-turn.tokens.now) _ c.loop-turn._turn c.loop-turn-test.true
+    c.loop-turn.invariant in
     first_of (search rules, grind (arith, common_steps))
 
 pub selectors-returns : goal.selectors-returns
 unfolding loops
 selectors-returns t c =
-    let e = no_more (λ n. loops starts_selector (gather (selector_at (expr_at c.args.below))) n (map selector_view c.loop-turn.found.items) c.loop-turn.tokens.now) _ c.loop-turn._turn c.loop-turn-test.false c.loop-turn.invariant in
+    let e = no_more (λ n. loops starts_selector (gather (selector_at (expr_at c.args.below))) n
+    (map selector_view c.loop-turn.found.items) c.loop-turn.tokens.now) _ c.loop-turn._turn c.loop-turn-test.false
+    c.loop-turn.invariant in
     first_of (search rules, grind (arith, common_steps))
 
 pub more_arguments-loop-turn-init : goal.more_arguments-loop-turn-init
@@ -78,23 +96,31 @@ more_arguments-loop-turn-init t c = first_of (search rules, grind (arith, common
 pub more_arguments-returns-then-not-begins : goal.more_arguments-returns-then-not-begins
 unfolding loops
 more_arguments-returns-then-not-begins t c =
-    let e = one_more (λ n. loops (is_mark m.Comma) (gather (after_comma (expr_at c.args.below 1))) n (map expr_view c.loop-turn.found.items) c.loop-turn.tokens.now) _ c.loop-turn._turn c.loop-turn-test.true c.loop-turn.invariant in
+    let e = one_more (λ n. loops (is_mark m.Comma) (gather (after_comma (expr_at c.args.below 1))) n
+    (map expr_view c.loop-turn.found.items) c.loop-turn.tokens.now) _ c.loop-turn._turn c.loop-turn-test.true
+    c.loop-turn.invariant in
     first_of (search rules, grind (arith, common_steps))
 
 pub more_arguments-returns-in_err-next : goal.more_arguments-returns-in_err-next
 unfolding loops
 more_arguments-returns-in_err-next t c =
-    let e = one_more (λ n. loops (is_mark m.Comma) (gather (after_comma (expr_at c.args.below 1))) n (map expr_view c.loop-turn.found.items) c.loop-turn.tokens.now) _ c.loop-turn._turn c.loop-turn-test.true c.loop-turn.invariant in
+    let e = one_more (λ n. loops (is_mark m.Comma) (gather (after_comma (expr_at c.args.below 1))) n
+    (map expr_view c.loop-turn.found.items) c.loop-turn.tokens.now) _ c.loop-turn._turn c.loop-turn-test.true
+    c.loop-turn.invariant in
     first_of (search rules, grind (arith, common_steps))
 
 pub more_arguments-loop-turn-preserved : goal.more_arguments-loop-turn-preserved
 unfolding loops
 more_arguments-loop-turn-preserved t c =
-    let e = one_more (λ n. loops (is_mark m.Comma) (gather (after_comma (expr_at c.args.below 1))) n (map expr_view c.loop-turn.found.items) c.loop-turn.tokens.now) _ c.loop-turn._turn c.loop-turn-test.true c.loop-turn.invariant in
+    let e = one_more (λ n. loops (is_mark m.Comma) (gather (after_comma (expr_at c.args.below 1))) n
+    (map expr_view c.loop-turn.found.items) c.loop-turn.tokens.now) _ c.loop-turn._turn c.loop-turn-test.true
+    c.loop-turn.invariant in
     first_of (search rules, grind (arith, common_steps))
 
 pub more_arguments-returns : goal.more_arguments-returns
 unfolding loops
 more_arguments-returns t c =
-    let e = no_more (λ n. loops (is_mark m.Comma) (gather (after_comma (expr_at c.args.below 1))) n (map expr_view c.loop-turn.found.items) c.loop-turn.tokens.now) _ c.loop-turn._turn c.loop-turn-test.false c.loop-turn.invariant in
+    let e = no_more (λ n. loops (is_mark m.Comma) (gather (after_comma (expr_at c.args.below 1))) n
+    (map expr_view c.loop-turn.found.items) c.loop-turn.tokens.now) _ c.loop-turn._turn c.loop-turn-test.false
+    c.loop-turn.invariant in
     first_of (search rules, grind (arith, common_steps))

@@ -4,7 +4,8 @@ use Rattle.st_trees.specs.ExpressionViews.{expr_view, selector_view}
 use Rattle.st_statements.specs.Tokens.{is_mark}
 use Rattle.st_statements.specs.Operators.{goes_on}
 use Rattle.st_statements.specs.Parsers.{loops, gather, several, after_comma}
-use Rattle.st_statements.specs.ExpressionReading.{expr_at, starts_selector, selector_at, selectors_at, operation_within, operations_of}
+use Rattle.st_statements.specs.ExpressionReading.{expr_at, starts_selector, selector_at, selectors_at, operation_within}
+use Rattle.st_statements.specs.ExpressionReading.{operations_of}
 use Rattle.st_statements.proofs.expression.+expr.Given as goal
 
 abbrev pub decreases-expr : goal.decreases-expr
@@ -59,10 +60,15 @@ abbrev pub decreases-operation : goal.decreases-operation
 decreases-operation l = 12 * l.below + 2
 
 abbrev pub invariant-operations-loop-turn : goal.invariant-operations-loop-turn
-invariant-operations-loop-turn l = operations_of (expr_at l.below) l.below l.least (expr_view l.fn.left) l.fn.tokens ≡ loops (goes_on l.least) (operation_within (expr_at l.below) l.below) (l._turn-end - l._turn) (expr_view l.left) l.tokens
+invariant-operations-loop-turn l =
+    operations_of (expr_at l.below) l.below l.least (expr_view l.fn.left) l.fn.tokens ≡ loops (goes_on l.least)
+    (operation_within (expr_at l.below) l.below) (l._turn-end - l._turn) (expr_view l.left) l.tokens
 
 abbrev pub invariant-selectors-loop-turn : goal.invariant-selectors-loop-turn
-invariant-selectors-loop-turn l = selectors_at (expr_at l.below) l.fn.tokens ≡ loops starts_selector (gather (selector_at (expr_at l.below))) (l._turn-end - l._turn) (map selector_view l.found.items) l.tokens
+invariant-selectors-loop-turn l = selectors_at (expr_at l.below) l.fn.tokens ≡ loops starts_selector
+    (gather (selector_at (expr_at l.below))) (l._turn-end - l._turn) (map selector_view l.found.items) l.tokens
 
 abbrev pub invariant-more_arguments-loop-turn : goal.invariant-more_arguments-loop-turn
-invariant-more_arguments-loop-turn l = several (is_mark m.Comma) (after_comma (expr_at l.below 1)) (map expr_view l.fn.found.items) l.fn.tokens ≡ loops (is_mark m.Comma) (gather (after_comma (expr_at l.below 1))) (l._turn-end - l._turn) (map expr_view l.found.items) l.tokens
+invariant-more_arguments-loop-turn l = several (is_mark m.Comma) (after_comma (expr_at l.below 1))
+    (map expr_view l.fn.found.items) l.fn.tokens ≡ loops (is_mark m.Comma) (gather (after_comma (expr_at l.below 1)))
+    (l._turn-end - l._turn) (map expr_view l.found.items) l.tokens

@@ -15,25 +15,37 @@ more_elements-loop-turn-init t c = first_of (search rules, grind (arith, common_
 pub more_elements-returns-then-not-begins : goal.more_elements-returns-then-not-begins
 unfolding loops
 more_elements-returns-then-not-begins t c =
-    let e = one_more (λ n. loops (is_mark m.Comma) (gather (after_comma (element_at (initial_at c.args.depth) c.args.depth))) n (map element_view c.loop-turn.found.items) c.loop-turn.tokens.now) _ c.loop-turn._turn c.loop-turn-test.true c.loop-turn.invariant in
+    let e = one_more
+    (λ n. loops (is_mark m.Comma) (gather (after_comma (element_at (initial_at c.args.depth) c.args.depth))) n
+    (map element_view c.loop-turn.found.items) c.loop-turn.tokens.now) _ c.loop-turn._turn c.loop-turn-test.true
+    c.loop-turn.invariant in
     first_of (search rules, grind (arith, common_steps))
 
 pub more_elements-returns-in_err-next : goal.more_elements-returns-in_err-next
 unfolding loops
 more_elements-returns-in_err-next t c =
-    let e = one_more (λ n. loops (is_mark m.Comma) (gather (after_comma (element_at (initial_at c.args.depth) c.args.depth))) n (map element_view c.loop-turn.found.items) c.loop-turn.tokens.now) _ c.loop-turn._turn c.loop-turn-test.true c.loop-turn.invariant in
+    let e = one_more
+    (λ n. loops (is_mark m.Comma) (gather (after_comma (element_at (initial_at c.args.depth) c.args.depth))) n
+    (map element_view c.loop-turn.found.items) c.loop-turn.tokens.now) _ c.loop-turn._turn c.loop-turn-test.true
+    c.loop-turn.invariant in
     first_of (search rules, grind (arith, common_steps))
 
 pub more_elements-loop-turn-preserved : goal.more_elements-loop-turn-preserved
 unfolding loops
 more_elements-loop-turn-preserved t c =
-    let e = one_more (λ n. loops (is_mark m.Comma) (gather (after_comma (element_at (initial_at c.args.depth) c.args.depth))) n (map element_view c.loop-turn.found.items) c.loop-turn.tokens.now) _ c.loop-turn._turn c.loop-turn-test.true c.loop-turn.invariant in
+    let e = one_more
+    (λ n. loops (is_mark m.Comma) (gather (after_comma (element_at (initial_at c.args.depth) c.args.depth))) n
+    (map element_view c.loop-turn.found.items) c.loop-turn.tokens.now) _ c.loop-turn._turn c.loop-turn-test.true
+    c.loop-turn.invariant in
     first_of (search rules, grind (arith, common_steps))
 
 pub more_elements-returns : goal.more_elements-returns
 unfolding loops
 more_elements-returns t c =
-    let e = no_more (λ n. loops (is_mark m.Comma) (gather (after_comma (element_at (initial_at c.args.depth) c.args.depth))) n (map element_view c.loop-turn.found.items) c.loop-turn.tokens.now) _ c.loop-turn._turn c.loop-turn-test.false c.loop-turn.invariant in
+    let e =
+    no_more (λ n. loops (is_mark m.Comma) (gather (after_comma (element_at (initial_at c.args.depth) c.args.depth)))
+    n (map element_view c.loop-turn.found.items) c.loop-turn.tokens.now) _ c.loop-turn._turn c.loop-turn-test.false
+    c.loop-turn.invariant in
     first_of (search rules, grind (arith, common_steps))
 
 pub more_members-loop-turn-init : goal.more_members-loop-turn-init
@@ -43,23 +55,31 @@ more_members-loop-turn-init t c = first_of (search rules, grind (arith, common_s
 pub more_members-returns-then-not-begins : goal.more_members-returns-then-not-begins
 unfolding loops
 more_members-returns-then-not-begins t c =
-    let e = one_more (λ n. loops (is_mark m.Comma) (gather (after_comma (member_at (initial_at c.args.depth)))) n (map member_view c.loop-turn.found.items) c.loop-turn.tokens.now) _ c.loop-turn._turn c.loop-turn-test.true c.loop-turn.invariant in
+    let e = one_more (λ n. loops (is_mark m.Comma) (gather (after_comma (member_at (initial_at c.args.depth)))) n
+    (map member_view c.loop-turn.found.items) c.loop-turn.tokens.now) _ c.loop-turn._turn c.loop-turn-test.true
+    c.loop-turn.invariant in
     first_of (search rules, grind (arith, common_steps))
 
 pub more_members-returns-in_err-next : goal.more_members-returns-in_err-next
 unfolding loops
 more_members-returns-in_err-next t c =
-    let e = one_more (λ n. loops (is_mark m.Comma) (gather (after_comma (member_at (initial_at c.args.depth)))) n (map member_view c.loop-turn.found.items) c.loop-turn.tokens.now) _ c.loop-turn._turn c.loop-turn-test.true c.loop-turn.invariant in
+    let e = one_more (λ n. loops (is_mark m.Comma) (gather (after_comma (member_at (initial_at c.args.depth)))) n
+    (map member_view c.loop-turn.found.items) c.loop-turn.tokens.now) _ c.loop-turn._turn c.loop-turn-test.true
+    c.loop-turn.invariant in
     first_of (search rules, grind (arith, common_steps))
 
 pub more_members-loop-turn-preserved : goal.more_members-loop-turn-preserved
 unfolding loops
 more_members-loop-turn-preserved t c =
-    let e = one_more (λ n. loops (is_mark m.Comma) (gather (after_comma (member_at (initial_at c.args.depth)))) n (map member_view c.loop-turn.found.items) c.loop-turn.tokens.now) _ c.loop-turn._turn c.loop-turn-test.true c.loop-turn.invariant in
+    let e = one_more (λ n. loops (is_mark m.Comma) (gather (after_comma (member_at (initial_at c.args.depth)))) n
+    (map member_view c.loop-turn.found.items) c.loop-turn.tokens.now) _ c.loop-turn._turn c.loop-turn-test.true
+    c.loop-turn.invariant in
     first_of (search rules, grind (arith, common_steps))
 
 pub more_members-returns : goal.more_members-returns
 unfolding loops
 more_members-returns t c =
-    let e = no_more (λ n. loops (is_mark m.Comma) (gather (after_comma (member_at (initial_at c.args.depth)))) n (map member_view c.loop-turn.found.items) c.loop-turn.tokens.now) _ c.loop-turn._turn c.loop-turn-test.false c.loop-turn.invariant in
+    let e = no_more (λ n. loops (is_mark m.Comma) (gather (after_comma (member_at (initial_at c.args.depth)))) n
+    (map member_view c.loop-turn.found.items) c.loop-turn.tokens.now) _ c.loop-turn._turn c.loop-turn-test.false
+    c.loop-turn.invariant in
     first_of (search rules, grind (arith, common_steps))

@@ -40,7 +40,13 @@ abbrev pub decreases-member : goal.decreases-member
 decreases-member l = 12 * l.depth + 8
 
 abbrev pub invariant-more_elements-loop-turn : goal.invariant-more_elements-loop-turn
-invariant-more_elements-loop-turn l = several (is_mark m.Comma) (after_comma (element_at (initial_at l.depth) l.depth)) (map element_view l.fn.found.items) l.fn.tokens ≡ loops (is_mark m.Comma) (gather (after_comma (element_at (initial_at l.depth) l.depth))) (l._turn-end - l._turn) (map element_view l.found.items) l.tokens
+invariant-more_elements-loop-turn l = several (is_mark m.Comma) (after_comma (element_at (initial_at l.depth) l.depth))
+    (map element_view l.fn.found.items) l.fn.tokens
+    ≡ loops (is_mark m.Comma) (gather (after_comma (element_at (initial_at l.depth) l.depth))) (l._turn-end - l._turn)
+    (map element_view l.found.items) l.tokens
 
 abbrev pub invariant-more_members-loop-turn : goal.invariant-more_members-loop-turn
-invariant-more_members-loop-turn l = several (is_mark m.Comma) (after_comma (member_at (initial_at l.depth))) (map member_view l.fn.found.items) l.fn.tokens ≡ loops (is_mark m.Comma) (gather (after_comma (member_at (initial_at l.depth)))) (l._turn-end - l._turn) (map member_view l.found.items) l.tokens
+invariant-more_members-loop-turn l =
+    several (is_mark m.Comma) (after_comma (member_at (initial_at l.depth))) (map member_view l.fn.found.items)
+    l.fn.tokens ≡ loops (is_mark m.Comma) (gather (after_comma (member_at (initial_at l.depth))))
+    (l._turn-end - l._turn) (map member_view l.found.items) l.tokens

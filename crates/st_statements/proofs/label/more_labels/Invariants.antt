@@ -6,4 +6,5 @@ use Rattle.st_statements.specs.StatementReading.{label_at}
 use Rattle.st_statements.proofs.label.more_labels.Given as goal
 
 abbrev pub invariant-loop-turn : goal.invariant-loop-turn
-invariant-loop-turn l = several (is_mark m.Comma) (after_comma label_at) l.fn.found.items l.fn.tokens ≡ loops (is_mark m.Comma) (gather (after_comma label_at)) (l._turn-end - l._turn) l.found.items l.tokens
+invariant-loop-turn l = several (is_mark m.Comma) (after_comma label_at) l.fn.found.items l.fn.tokens
+    ≡ loops (is_mark m.Comma) (gather (after_comma label_at)) (l._turn-end - l._turn) l.found.items l.tokens

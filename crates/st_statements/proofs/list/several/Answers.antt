@@ -11,14 +11,16 @@ loop-turn-init g c = λ f p b i. first_of (search rules, grind (arith, common_st
 pub returns-then-not-begins : goal.returns-then-not-begins
 unfolding loops
 returns-then-not-begins g c = λ f p b i.
-    let e = one_more (λ n. loops f (gather p) n (map g.T.Tree.view c.loop-turn.found.items) c.loop-turn.tokens.now) _ c.loop-turn._turn c.loop-turn-test.true (c.loop-turn.invariant f p b i) in
+    let e = one_more (λ n. loops f (gather p) n (map g.T.Tree.view c.loop-turn.found.items) c.loop-turn.tokens.now) _
+    c.loop-turn._turn c.loop-turn-test.true (c.loop-turn.invariant f p b i) in
     let no = b c.loop-turn.tokens false c.if-not-begins.ensures in
     first_of (search rules, grind (arith, common_steps))
 
 pub returns-in_err-next : goal.returns-in_err-next
 unfolding loops
 returns-in_err-next g c = λ f p b i.
-    let e = one_more (λ n. loops f (gather p) n (map g.T.Tree.view c.loop-turn.found.items) c.loop-turn.tokens.now) _ c.loop-turn._turn c.loop-turn-test.true (c.loop-turn.invariant f p b i) in
+    let e = one_more (λ n. loops f (gather p) n (map g.T.Tree.view c.loop-turn.found.items) c.loop-turn.tokens.now) _
+    c.loop-turn._turn c.loop-turn-test.true (c.loop-turn.invariant f p b i) in
     let yes = b c.loop-turn.tokens true c.if-not-begins.ensures in
     let step = i c.loop-turn.tokens c.item.result c.item.ensures in
     first_of (search rules, grind (arith, common_steps))
@@ -26,7 +28,8 @@ returns-in_err-next g c = λ f p b i.
 pub loop-turn-preserved : goal.loop-turn-preserved
 unfolding loops
 loop-turn-preserved g c = λ f p b i.
-    let e = one_more (λ n. loops f (gather p) n (map g.T.Tree.view c.loop-turn.found.items) c.loop-turn.tokens.now) _ c.loop-turn._turn c.loop-turn-test.true (c.loop-turn.invariant f p b i) in
+    let e = one_more (λ n. loops f (gather p) n (map g.T.Tree.view c.loop-turn.found.items) c.loop-turn.tokens.now) _
+    c.loop-turn._turn c.loop-turn-test.true (c.loop-turn.invariant f p b i) in
     let yes = b c.loop-turn.tokens true c.if-not-begins.ensures in
     let step = i c.loop-turn.tokens c.item.result c.item.ensures in
     first_of (search rules, grind (arith, common_steps))
@@ -34,5 +37,6 @@ loop-turn-preserved g c = λ f p b i.
 pub returns : goal.returns
 unfolding loops
 returns g c = λ f p b i.
-    let e = no_more (λ n. loops f (gather p) n (map g.T.Tree.view c.loop-turn.found.items) c.loop-turn.tokens.now) _ c.loop-turn._turn c.loop-turn-test.false (c.loop-turn.invariant f p b i) in
+    let e = no_more (λ n. loops f (gather p) n (map g.T.Tree.view c.loop-turn.found.items) c.loop-turn.tokens.now) _
+    c.loop-turn._turn c.loop-turn-test.false (c.loop-turn.invariant f p b i) in
     first_of (search rules, grind (arith, common_steps))

@@ -4,10 +4,13 @@ use Rattle.st_statements.proofs.Wholes.{statements_found, statements_refused, st
 use Rattle.st_statements.proofs.reader.read_statements.Goals as goal
 
 pub returns-clause-found : goal.returns-clause-found
-returns-clause-found c = statements_found (λ x. (map stmt_view x.0.items, x.1.now)) c.args.tokens.now c.stmts.result c.stmts.ensures
+returns-clause-found c =
+    statements_found (λ x. (map stmt_view x.0.items, x.1.now)) c.args.tokens.now c.stmts.result c.stmts.ensures
 
 pub returns-clause-refused : goal.returns-clause-refused
-returns-clause-refused c = statements_refused (λ x. (map stmt_view x.0.items, x.1.now)) c.args.tokens.now c.stmts.result c.stmts.ensures
+returns-clause-refused c =
+    statements_refused (λ x. (map stmt_view x.0.items, x.1.now)) c.args.tokens.now c.stmts.result c.stmts.ensures
 
 pub returns-clause-only : goal.returns-clause-only
-returns-clause-only c = statements_only (λ x. (map stmt_view x.0.items, x.1.now)) c.args.tokens.now c.stmts.result c.stmts.ensures
+returns-clause-only c =
+    statements_only (λ x. (map stmt_view x.0.items, x.1.now)) c.args.tokens.now c.stmts.result c.stmts.ensures

@@ -12,7 +12,8 @@ returns-in_err-body g c =
     let inner = stmts_at c.args.below in
     let read = c.block.ensures inner c.requires.reads in
     let at = c.in_ok-condition in
-    let same = made_between w.Do w.EndWhile inner (λ xs. s.WHILE (expr_view at.condition) (s.stmts_of xs)) at.rest.now in
+    let same =
+    made_between w.Do w.EndWhile inner (λ xs. s.WHILE (expr_view at.condition) (s.stmts_of xs)) at.rest.now in
     search rules
 
 pub returns : goal.returns
@@ -21,5 +22,6 @@ returns g c =
     let inner = stmts_at c.args.below in
     let read = c.block.ensures inner c.requires.reads in
     let at = c.in_ok-condition in
-    let same = made_between w.Do w.EndWhile inner (λ xs. s.WHILE (expr_view at.condition) (s.stmts_of xs)) at.rest.now in
+    let same =
+    made_between w.Do w.EndWhile inner (λ xs. s.WHILE (expr_view at.condition) (s.stmts_of xs)) at.rest.now in
     search rules

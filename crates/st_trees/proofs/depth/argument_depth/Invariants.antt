@@ -6,4 +6,5 @@ use Rattle.st_trees.proofs.depth.argument_depth.Given as goal
 -- the deepest of all is the deeper of what was seen and what is left
 abbrev pub invariant-loop-argument : goal.invariant-loop-argument
 invariant-loop-argument l =
-    (l.depth ≤ 2 ^ 64 - 1) × (min (deepest_argument (map argument_view l.arguments)) (2 ^ 64 - 1) ≡ min (max l.depth (deepest_argument (map argument_view (drop l.argument-index l.arguments)))) (2 ^ 64 - 1))
+    (l.depth ≤ 2 ^ 64 - 1) × (min (deepest_argument (map argument_view l.arguments)) (2 ^ 64 - 1)
+    ≡ min (max l.depth (deepest_argument (map argument_view (drop l.argument-index l.arguments)))) (2 ^ 64 - 1))

@@ -16,10 +16,15 @@ returns-in-Cold-clause-any_moment g c = λ tells only.
     let room = c.args.log_room in
     rw c.in-Cold.is
     (match_both c.cold.result _ _ _ _
-    (λ core save. joins g.D.Disk.left_since g.D.Disk.may_leave _ _ _ _ _ (weakens g.D.Disk.left_since g.D.Disk.may_leave _ _ _ _ opened (λ file. inl)) save (λ file. left_cold plan room c.in-Ok.parts.serial before c.in-Ok-open.store.last (recovered file) _ c.in-Ok.ensures.serial found))
-    (λ e save. joins g.D.Disk.left_since g.D.Disk.may_leave _ _ _ _ _ (weakens g.D.Disk.left_since g.D.Disk.may_leave _ _ _ _ opened (λ file. inl)) save (λ file. left_cold plan room c.in-Ok.parts.serial before c.in-Ok-open.store.last (recovered file) _ c.in-Ok.ensures.serial found))
+    (λ core save. joins g.D.Disk.left_since g.D.Disk.may_leave _ _ _ _ _
+    (weakens g.D.Disk.left_since g.D.Disk.may_leave _ _ _ _ opened (λ file. inl)) save (λ file. left_cold plan room
+    c.in-Ok.parts.serial before c.in-Ok-open.store.last (recovered file) _ c.in-Ok.ensures.serial found))
+    (λ e save. joins g.D.Disk.left_since g.D.Disk.may_leave _ _ _ _ _
+    (weakens g.D.Disk.left_since g.D.Disk.may_leave _ _ _ _ opened (λ file. inl)) save (λ file. left_cold plan room
+    c.in-Ok.parts.serial before c.in-Ok-open.store.last (recovered file) _ c.in-Ok.ensures.serial found))
     (c.cold.ensures.any_moment tells))
 
 pub returns-in-Cold-clause-saved : goal.returns-in-Cold-clause-saved
 returns-in-Cold-clause-saved g c = λ mode.
-    subst (λ (s : State). IfOk c.cold.result (λ core. core.store.last ≡ Found core.store.generation (record_now s))) c.in-Ok.ensures.serial c.cold.ensures.saved
+    subst (λ (s : State). IfOk c.cold.result (λ core. core.store.last ≡ Found core.store.generation (record_now s)))
+    c.in-Ok.ensures.serial c.cold.ensures.saved

@@ -5,5 +5,6 @@ use Rattle.disk.proofs.medium.Medium.sync.Goals as goal
 pub returns : goal.returns
 returns c = rw (← c.self.view_is) (
     settled _ c.self.inside.bytes.items _ c.self.inside.len _ _ _ refl
-    (same_items_of c.self.inside.touched.items c.clear.new.touched c.self.inside.touched.len (omega arith) (omega arith) ∙ c.clear.ensures)
+    (same_items_of c.self.inside.touched.items c.clear.new.touched c.self.inside.touched.len (omega arith) (omega arith)
+    ∙ c.clear.ensures)
     (omega arith) (omega arith) (omega arith) refl)

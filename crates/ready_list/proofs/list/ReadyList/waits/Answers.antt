@@ -6,5 +6,7 @@ use Rattle.ready_list.proofs.list.ReadyList.waits.Goals as goal
 
 pub returns : goal.returns
 returns c =
-    subst (λ (r : Ready). (h : History) → IsReadyOf h r → IsTrue c.is_listed.result ↔ Waits r.schedules h c.args.a) c.self.view_is
-    (λ h is. listed-iff-waits is c.args.a c.deref.result.now c.deref.ensures.value c.self.invariant.0 c.is_listed.result c.is_listed.ensures)
+    subst (λ (r : Ready). (h : History) → IsReadyOf h r → IsTrue c.is_listed.result ↔ Waits r.schedules h c.args.a)
+    c.self.view_is
+    (λ h is. listed-iff-waits is c.args.a c.deref.result.now c.deref.ensures.value c.self.invariant.0 c.is_listed.result
+    c.is_listed.ensures)

@@ -8,24 +8,30 @@ use Rattle.retain_store.proofs.Keeps.{kept_opened}
 use Rattle.retain_store.proofs.store.Store.open.Goals as goal
 
 pub recover-requires-clause-zeros : goal.recover-requires-clause-zeros
-recover-requires-clause-zeros g c = subst (λ (l : List ℕ). IsZeros (take (FILE_BYTES - 1) l)) (sym c.deref_mut.ensures.value) c.in-Ok.ensures.zeros
+recover-requires-clause-zeros g c =
+    subst (λ (l : List ℕ). IsZeros (take (FILE_BYTES - 1) l)) (sym c.deref_mut.ensures.value) c.in-Ok.ensures.zeros
 
 pub returns-in-Err-clause-any_moment : goal.returns-in-Err-clause-any_moment
 returns-in-Err-clause-any_moment g c = λ tells only.
-    at_rest g.D.Disk.left_since g.D.Disk.may_leave _ (g.D.Disk.seen c.args.disk) (λ file. recovered file ≡ recovered (g.D.Disk.seen c.args.disk)) (λ file left. g.met.D.Disk.only_now c.args.disk file tells left) only refl
+    at_rest g.D.Disk.left_since g.D.Disk.may_leave _ (g.D.Disk.seen c.args.disk)
+    (λ file. recovered file ≡ recovered (g.D.Disk.seen c.args.disk))
+    (λ file left. g.met.D.Disk.only_now c.args.disk file tells left) only refl
 
 pub invariant_of-result : goal.invariant_of-result
 invariant_of-result g c = (
-  kept_opened g.D.Disk.tells _ _ c.in-Ok-recover.areas _ _ (omega (arith, c.in-Ok.ensures.frame)) (omega (arith, c.in-Ok.ensures.frame, c.requires.room)) c.in-Ok-recover.ensures.settled,
+  kept_opened g.D.Disk.tells _ _ c.in-Ok-recover.areas _ _ (omega (arith, c.in-Ok.ensures.frame))
+      (omega (arith, c.in-Ok.ensures.frame, c.requires.room)) c.in-Ok-recover.ensures.settled,
   c.in-Ok-recover.ensures.sound,
 )
 
 pub returns-in-Ok-recover-clause-settled : goal.returns-in-Ok-recover-clause-settled
 returns-in-Ok-recover-clause-settled g c = λ tells file may.
-    let settled = c.in-Ok-recover.ensures.settled tells in ap recovered (settled.synced file may) ∙ settled.surveyed.last_is
+    let settled = c.in-Ok-recover.ensures.settled tells in
+    ap recovered (settled.synced file may) ∙ settled.surveyed.last_is
 
 pub returns-clause-memory : goal.returns-clause-memory
 returns-clause-memory g c = λ is. absurd (subst IsOfFile is c.in-Err-recover.ensures.faults)
 
 pub returns-clause-faults : goal.returns-clause-faults
-returns-clause-faults g c = (λ is. subst IsOfFile is c.in-Err-recover.ensures.faults, λ is. subst IsOfFile is c.in-Err-recover.ensures.faults)
+returns-clause-faults g c =
+    (λ is. subst IsOfFile is c.in-Err-recover.ensures.faults, λ is. subst IsOfFile is c.in-Err-recover.ensures.faults)

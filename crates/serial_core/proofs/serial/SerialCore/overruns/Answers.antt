@@ -14,13 +14,20 @@ use Rattle.serial_core.specs.Steps.{State, made, store_in}
 use Rattle.serial_core.specs.Kept.{SerialInvariant}
 use Rattle.serial_core.proofs.serial.SerialCore.overruns.Goals as goal
 
-overruns_told : {plan : Plan} {start values : List Datum} {before : Option ℕ} {samples : List Bool} {log : List Entry} {outcomes : List (Option Outcome)} {rows : List ℕ} {last : Option ℕ} {ready : Ready} → SerialInvariant plan start before values samples log outcomes rows last ready
-    → (p n : ℕ) → ((h : History) → IsReadyOf h ready → p < length ready.schedules → HasOverruns ready.schedules h p n) → p < length plan.programs.items → HasOverruns (schedules_of (plan_view plan)) (past_of (plan_view plan) (store_in plan start) log).history p n
+overruns_told : {plan : Plan} {start values : List Datum} {before : Option ℕ} {samples : List Bool} {log : List Entry}
+    {outcomes : List (Option Outcome)} {rows : List ℕ} {last : Option ℕ} {ready : Ready}
+    → SerialInvariant plan start before values samples log outcomes rows last ready
+    → (p n : ℕ) → ((h : History) → IsReadyOf h ready → p < length ready.schedules → HasOverruns ready.schedules h p n)
+    → p < length plan.programs.items
+    → HasOverruns (schedules_of (plan_view plan)) (past_of (plan_view plan) (store_in plan start) log).history p n
 overruns_told {plan = plan} {start = start} {log = log} {ready = ready} kept p n tells l =
-    let long : length ready.schedules ≡ length plan.programs.items = ap (λ (ps : List Schedule). length ps) kept.schedules ∙ length-map _ _ ∙ length-map _ _ in
-    subst (λ ps. HasOverruns ps (past_of (plan_view plan) (store_in plan start) log).history p n) kept.schedules (tells _ kept.of_past.ready_is (omega arith))
+    let long : length ready.schedules ≡ length plan.programs.items =
+    ap (λ (ps : List Schedule). length ps) kept.schedules ∙ length-map _ _ ∙ length-map _ _ in
+    subst (λ ps. HasOverruns ps (past_of (plan_view plan) (store_in plan start) log).history p n) kept.schedules
+    (tells _ kept.of_past.ready_is (omega arith))
 
 pub returns-clause-overruns : goal.returns-clause-overruns
 returns-clause-overruns c =
-    subst (λ (st : State). c.args.program < length st.plan.programs.items → HasOverruns (schedules_of (plan_view st.plan)) (made st).history c.args.program c.overruns.result) c.self.view_is
+    subst (λ (st : State). c.args.program < length st.plan.programs.items → HasOverruns
+    (schedules_of (plan_view st.plan)) (made st).history c.args.program c.overruns.result) c.self.view_is
     (overruns_told c.self.invariant.0 c.args.program c.overruns.result c.overruns.ensures.overruns)

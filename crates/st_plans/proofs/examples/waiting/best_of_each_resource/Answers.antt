@@ -3,4 +3,13 @@ use Rattle.st_plans.specs.Examples.{of}
 use Rattle.st_plans.proofs.examples.waiting.best_of_each_resource.Goals as goal
 
 pub returns : goal.returns
-returns c = (search rules, search rules, search rules, search rules, search rules, search rules, λ none. none (of 1 0) (search rules) refl, search rules)
+returns c = (
+  search rules,
+  search rules,
+  search rules,
+  search rules,
+  search rules,
+  search rules,
+  λ none. none (of 1 0) (search rules) refl,
+  search rules,
+)

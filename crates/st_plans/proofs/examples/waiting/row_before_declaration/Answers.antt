@@ -3,4 +3,5 @@ use Rattle.st_plans.specs.Examples.{of}
 use Rattle.st_plans.proofs.examples.waiting.row_before_declaration.Goals as goal
 
 pub returns : goal.returns
-returns c = (search rules, λ best. let e : true ≡ false = best.best (of 1 0) (search rules) refl in absurd (cc), search rules)
+returns c =
+    (search rules, λ best. let e : true ≡ false = best.best (of 1 0) (search rules) refl in absurd (cc), search rules)
