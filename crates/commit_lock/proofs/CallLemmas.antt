@@ -27,13 +27,9 @@ latches_longer old row (Err NoMemory) new h = absurd h
 
 pub commits_longer : (old : State) (effect : Effect) (r : Result Answer Refusal) (new : State)
     → Commits old effect r new → IsLonger old new
-commits_longer old effect (Ok (Committed n)) new h = inr (Done effect.activation, h.4)
-commits_longer old effect (Ok Stale) new h = inl h.4
-commits_longer old effect (Err Full) new h = inl h.1
-commits_longer old effect (Err NotWaiting) new h = inl h.2
-commits_longer old effect (Err Foreign) new h = inl h.3
-commits_longer old effect (Err NotLater) new h = absurd h
-commits_longer old effect (Err NoMemory) new h = absurd h
+commits_longer old effect (Ok (Committed n)) new h = inr (Done effect.activation, h.1)
+commits_longer old effect (Ok Stale) new h = inl h.1
+commits_longer old effect (Err refusal) new h = inl h.1
 
 pub here_longer : (old : State) (resource : ℕ) (r : Result (Option ℕ) Refusal) (new : State)
     → CommitsHere old resource r new → IsLonger old new

@@ -14,7 +14,6 @@ use crate::core_state::Core;
 use crate::event::{Event, Reply};
 use crate::refusal::Refusal;
 use disk::Disk;
-use serial_core::push_within;
 use slot_run::{Snapshot, run};
 use std::alloc::{AllocError, Global};
 
@@ -62,11 +61,11 @@ fn take_to_hold<D: Disk>(
     match core.take(alloc, resource) {
         Ok(taken) => {
             let reply = Reply::Taken(taken.is_some());
-            push_within(held, taken);
+            held.push_reserved(taken);
             reply
         }
         Err(refusal) => {
-            push_within(held, None);
+            held.push_reserved(None);
             Reply::Refused(refusal)
         }
     }
@@ -132,7 +131,7 @@ pub fn drive<D: Disk>(
     let mut replies = Vec::with_capacity(alloc, events.len())?;
     for event in events {
         let reply = step(core, alloc, &mut held, event);
-        push_within(&mut replies, reply);
+        replies.push_reserved(reply);
     }
     Ok(replies)
 }

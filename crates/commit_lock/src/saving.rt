@@ -37,7 +37,7 @@ pub(crate) fn save_record<D: Disk>(
     ensures any_moment { D.tells → store.old.failed ≡ false
         → LeavesOnly D.left_since D.may_leave store.old.disk store.new.disk
         (λ file. IsEither store.old.last (Found (store.old.generation + 1) (record_now serial.now)) (recovered file)) }
-    ensures settled { D.tells → OnOk result ((file : List ℕ) → D.may_leave store.new.disk file
+    ensures at_rest { D.tells → OnOk result ((file : List ℕ) → D.may_leave store.new.disk file
         → recovered file ≡ Found (store.old.generation + 1) (record_now serial.now)) }
     ensures device { MatchResult result
         (λ _. D.failure_count store.new.disk ≡ D.failure_count store.old.disk)

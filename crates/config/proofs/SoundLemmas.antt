@@ -17,7 +17,7 @@ use Rattle.st_plans.specs.Plans as plans
 use Rattle.st_types.specs.Scopes.{Name, contains_name}
 use Rattle.st_plans.specs.Layouts.{layout_of, path_text, record_length}
 use Rattle.config.specs.declared.task.Task.{Task}
-use Rattle.config.specs.declared.task.Program.{Program}
+use Rattle.config.specs.declared.task.ProgramInstance.{ProgramInstance}
 use Rattle.config.specs.declared.thin_program.ThinProgram.{ThinProgram}
 use Rattle.config.specs.GlobalSlots.{HaveSlots}
 use Rattle.config.specs.Sound.{are_different, is_spelled, is_sound_trigger, is_of_resource, tasks_of, IsWithinLimits}
@@ -123,7 +123,7 @@ first_same x y xs ys h = cc
 rest_same : {A : Type 0} (x y : A) (xs ys : List A) → x ∷ xs ≡ y ∷ ys → xs ≡ ys
 rest_same x y xs ys h = cc
 
-place_here : (us : List OrganisationUnit) (j : ℕ) (q : ThinProgram) (c p : Program)
+place_here : (us : List OrganisationUnit) (j : ℕ) (q : ThinProgram) (c p : ProgramInstance)
     → program_view c ≡ program_from us j q → c ≡ p → (p.task ≡ j + 0) × ((q.resource == p.resource) ≡ true)
 place_here us j q c p v e =
     let t : c.task ≡ j = ap (λ x. x.task) v in
@@ -131,8 +131,8 @@ place_here us j q c p v e =
     let s : p.task ≡ j = sym (ap (λ x. x.task) e) ∙ t in
     (s ∙ omega arith, ap (λ n. q.resource == n) (sym (ap (λ x. x.resource) e) ∙ r) ∙ same_number q.resource)
 
-program_place : (us : List OrganisationUnit) (j : ℕ) (ps : List ThinProgram) (codes : List Program) (k : ℕ)
-    (p : Program) → map program_view codes ≡ programs_from us j ps → slice_get codes k ≡ Some p
+program_place : (us : List OrganisationUnit) (j : ℕ) (ps : List ThinProgram) (codes : List ProgramInstance) (k : ℕ)
+    (p : ProgramInstance) → map program_view codes ≡ programs_from us j ps → slice_get codes k ≡ Some p
     → (p.task ≡ j + k) × (is_of_resource p.resource (slice_get (map task_in ps) k) ≡ true)
 program_place us j ps [] k p h at = absurd (cc)
 program_place us j [] (c ∷ cs) k p h at = absurd (cc)
@@ -172,7 +172,7 @@ programs_counted : (us : List OrganisationUnit) (j : ℕ) (ps : List ThinProgram
 programs_counted us j [] = refl
 programs_counted us j (p ∷ ps) = ap suc (programs_counted us (j + 1) ps)
 
-code_fits : (vs : List PlanVariable) (is : List PlanInput) (codes : List Program) (k : ℕ) (p : Program)
+code_fits : (vs : List PlanVariable) (is : List PlanInput) (codes : List ProgramInstance) (k : ℕ) (p : ProgramInstance)
     → All (λ q. HaveSlots (layout_of vs is) q.code.value.globals.items) codes → slice_get codes k ≡ Some p
     → HaveSlots (layout_of vs is) p.code.value.globals.items
 code_fits vs is codes k p all at =
@@ -200,7 +200,7 @@ limits vs is ps n budget codes thin h same =
     }
 
 pub sound : (units us : List OrganisationUnit) (vs : List PlanVariable) (is : List PlanInput) (ps : List ThinProgram)
-    (budget : ℕ) (codes : List Program)
+    (budget : ℕ) (codes : List ProgramInstance)
     → is_thin units vs is ps budget ≡ true → map program_view codes ≡ programs_from us 0 ps
     → All (λ p. HaveSlots (layout_of vs is) p.code.value.globals.items) codes
     → PlanInvariant vs is (resources_of ps) (map task_in ps) codes budget
@@ -229,13 +229,14 @@ tasks_viewed : (vs : List PlanVariable) (ps : List ThinProgram) → map (task_vi
 tasks_viewed vs [] = refl
 tasks_viewed vs (p ∷ ps) = ap (λ ts. task_of p ∷ ts) (tasks_viewed vs ps)
 
-abbrev plan_with : List PlanVariable → List PlanInput → ℕ → List plans.Task → List plans.Program → ℕ → plans.Plan
+abbrev plan_with : List PlanVariable → List PlanInput → ℕ → List plans.Task → List plans.ProgramInstance → ℕ
+    → plans.Plan
 plan_with vs is resources tasks programs budget =
     record { variables = vs; inputs = is; resources = resources; tasks = tasks; programs = programs; budget = budget }
 
 -- the plan that these parts make
 pub plan_is : (units : List OrganisationUnit) (vs : List PlanVariable) (is : List PlanInput) (ps : List ThinProgram)
-    (budget resources : ℕ) (tasks : List Task) (codes : List Program) (made : List ThinUnit)
+    (budget resources : ℕ) (tasks : List Task) (codes : List ProgramInstance) (made : List ThinUnit)
     → resources ≡ resources_of ps → tasks ≡ map task_in ps
     → ((text : Declared) → units_in made ≡ map (resolved text) units)
     → map program_view codes ≡ programs_from (units_in made) 0 ps
@@ -249,7 +250,7 @@ plan_is units vs is ps budget resources tasks codes made r t us views =
     (views ∙ ap (λ rs. programs_from rs 0 ps) (us (record { types = []; units = units })))
 
 pub sound_parts : (units us : List OrganisationUnit) (vs : List PlanVariable) (is : List PlanInput)
-    (ps : List ThinProgram) (budget resources : ℕ) (tasks : List Task) (codes : List Program)
+    (ps : List ThinProgram) (budget resources : ℕ) (tasks : List Task) (codes : List ProgramInstance)
     → is_thin units vs is ps budget ≡ true → resources ≡ resources_of ps → tasks ≡ map task_in ps
     → map program_view codes ≡ programs_from us 0 ps
     → All (λ p. HaveSlots (layout_of vs is) p.code.value.globals.items) codes

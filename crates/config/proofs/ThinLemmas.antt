@@ -29,7 +29,7 @@ use Rattle.slot_code.specs.declared.global.GlobalSlot.{GlobalSlot}
 use Rattle.slot_code.specs.Globals.{IsPlain, global_named, are_plain}
 use Rattle.config.specs.declared.thin_program.ThinProgram.{ThinProgram}
 use Rattle.config.specs.Thin.{is_program, is_short, is_thin_block, is_variable_of, is_thin_unit}
-use Rattle.config.specs.declared.task.Program.{Program}
+use Rattle.config.specs.declared.task.ProgramInstance.{ProgramInstance}
 use Rattle.config.specs.PlanViews.{program_view}
 use Rattle.st_types.specs.Slots.{IsLayout}
 use Rattle.st_plans.specs.Layouts.{layout_of}
@@ -120,7 +120,7 @@ unit_there n (p ∷ ps) (suc i) d h lt =
     unit_there n ps i d (and_parts (is_thin_program n p) (list_all (is_thin_program n) ps) h).1 (omega arith)
 
 pub programs_step : (us : List OrganisationUnit) (ps : List ThinProgram) (k : ℕ) (d : ThinProgram)
-    (done all : List Program) (p : Program) (whole : List plans.Program)
+    (done all : List ProgramInstance) (p : ProgramInstance) (whole : List plans.ProgramInstance)
     → map program_view done ++ programs_from us k (drop k ps) ≡ whole → k < length ps
     → program_view p ≡ program_from us k (get_or ps k d) → all ≡ done ++ p ∷ []
     → map program_view all ++ programs_from us (k + 1) (drop (k + 1) ps) ≡ whole
@@ -132,7 +132,7 @@ programs_step us ps k d done all p whole h lt is pushed =
     ∙ ap (λ x. map program_view done ++ programs_from us k x) (sym (program_at ps k d lt))
     ∙ h
 
-pub code_places_step : (layout : List Slot) (done all : List Program) (p : Program)
+pub code_places_step : (layout : List Slot) (done all : List ProgramInstance) (p : ProgramInstance)
     → All (λ v. HaveSlots layout v.code.value.globals.items) done → HaveSlots layout p.code.value.globals.items
     → all ≡ done ++ p ∷ []
     → All (λ v. HaveSlots layout v.code.value.globals.items) all

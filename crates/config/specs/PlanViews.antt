@@ -7,7 +7,7 @@ use Rattle.slot_code.specs.Codes.{code_view, program_of}
 use Rattle.config.specs.declared.task.Trigger.{Trigger}
 use Rattle.config.specs.declared.task.Trigger.TheVariants.{Absent, Input, Variable}
 use Rattle.config.specs.declared.task.Task.{Task}
-use Rattle.config.specs.declared.task.Program.{Program}
+use Rattle.config.specs.declared.task.ProgramInstance.{ProgramInstance}
 use Rattle.config.specs.declared.plan.Plan.{Plan}
 
 abbrev pub single_of : Option PlanVariable → plans.Trigger
@@ -23,7 +23,7 @@ abbrev pub task_view : List PlanVariable → Task → plans.Task
 task_view variables t =
     record { single = trigger_view variables t.single; interval = t.interval; priority = t.priority }
 
-abbrev pub program_view : Program → plans.Program
+abbrev pub program_view : ProgramInstance → plans.ProgramInstance
 program_view p = record { resource = p.resource; task = p.task; code = program_of (code_view p.code.value) }
 
 abbrev pub plan_view : Plan → plans.Plan

@@ -15,7 +15,7 @@ use Rattle.slot_code.specs.Globals.{Fits}
 use Rattle.config.specs.declared.task.Trigger.{Trigger}
 use Rattle.config.specs.declared.task.Trigger.TheVariants.{Absent, Input, Variable}
 use Rattle.config.specs.declared.task.Task.{Task}
-use Rattle.config.specs.declared.task.Program.{Program}
+use Rattle.config.specs.declared.task.ProgramInstance.{ProgramInstance}
 use Rattle.config.specs.GlobalSlots.{HaveSlots}
 
 -- each name stands once
@@ -63,14 +63,14 @@ pub record IsWithinLimits (variables : List PlanVariable) (inputs : List PlanInp
 -- Each path has one slot, and the code of each program the slots of the globals that it names; each program runs in a
 -- task of its resource; each path can be spelled in a record, and no two are spelled alike.
 pub record PlanInvariant (variables : List PlanVariable) (inputs : List PlanInput) (resources : ℕ) (tasks : List Task)
-    (programs : List Program) (budget : ℕ) : Type 0 where
+    (programs : List ProgramInstance) (budget : ℕ) : Type 0 where
   pub layout : IsLayout (layout_of variables inputs)
-  pub codes : (k : ℕ) (p : Program) → slice_get programs k ≡ Some p
+  pub codes : (k : ℕ) (p : ProgramInstance) → slice_get programs k ≡ Some p
       → Fits (layout_of variables inputs) p.code.value.globals.items
-  pub placed : (k : ℕ) (p : Program) → slice_get programs k ≡ Some p
+  pub placed : (k : ℕ) (p : ProgramInstance) → slice_get programs k ≡ Some p
       → HaveSlots (layout_of variables inputs) p.code.value.globals.items
   pub resources_are : (k : ℕ) (t : Task) → slice_get tasks k ≡ Some t → t.resource < resources
-  pub places : (k : ℕ) (p : Program) → slice_get programs k ≡ Some p
+  pub places : (k : ℕ) (p : ProgramInstance) → slice_get programs k ≡ Some p
       → is_of_resource p.resource (slice_get tasks p.task) ≡ true
   pub singles : list_all (λ t. is_sound_trigger variables inputs t.single) tasks ≡ true
   pub spelled : list_all (λ v. is_spelled (path_text v.path)) variables ≡ true

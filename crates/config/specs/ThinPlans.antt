@@ -98,7 +98,7 @@ task_of p = record { single = no_single; interval = p.interval; priority = 0 }
 abbrev pub no_unit : OrganisationUnit
 no_unit = record { sort = ProgramSort; name = record { name = []; place = 0 }; blocks = []; body = [] }
 
-abbrev pub program_from : List OrganisationUnit → ℕ → ThinProgram → plans.Program
+abbrev pub program_from : List OrganisationUnit → ℕ → ThinProgram → plans.ProgramInstance
 program_from units k p = record {
   resource = p.resource;
   task = k;
@@ -107,7 +107,7 @@ program_from units k p = record {
 }
 
 -- the programs of resolved units, of which the first is of this number
-abbrev pub programs_from : List OrganisationUnit → ℕ → List ThinProgram → List plans.Program
+abbrev pub programs_from : List OrganisationUnit → ℕ → List ThinProgram → List plans.ProgramInstance
 programs_from units k [] = []
 programs_from units k (p ∷ ps) = program_from units k p ∷ programs_from units (k + 1) ps
 

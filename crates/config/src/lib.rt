@@ -23,5 +23,5 @@ mod unit_check;
 pub use path_text::push_path;
 pub use plan::Plan;
 pub use plan_check::has_long_record;
-pub use task::{Program, Task, Trigger};
+pub use task::{ProgramInstance, Task, Trigger};
 pub use thin_program::ThinProgram;

@@ -3,7 +3,7 @@
 ghost use Rattle.std.specs.Prelude.{◌≡◌, length, filter};
 ghost use Rattle.config.specs.Sound.{PlanInvariant};
 
-use crate::task::{Program, Task};
+use crate::task::{ProgramInstance, Task};
 use st_plans::{PlanInput, PlanVariable};
 
 /// What the runtime needs of a text: its variables, inputs, tasks and programs. It keeps the limits of the language.
@@ -15,7 +15,7 @@ pub struct Plan {
     pub inputs: Vec<PlanInput>,
     pub resources: usize,
     pub tasks: Vec<Task>,
-    pub programs: Vec<Program>,
+    pub programs: Vec<ProgramInstance>,
     /// How many ticks an execution may take: 1 to 1,000,000.
     pub budget: u32,
     ghost sound: { PlanInvariant variables.items inputs.items resources tasks.items programs.items budget },

@@ -26,7 +26,7 @@ pub struct Task {
 
 /// An instance of a program.
 #[derive(Drop)]
-pub struct Program {
+pub struct ProgramInstance {
     pub resource: usize,
     /// The number of its task in declaration order, from 0.
     pub task: usize,

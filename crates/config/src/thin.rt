@@ -20,7 +20,7 @@ use crate::instance_name::owner_of;
 use crate::plan::Plan;
 use crate::plan_check::is_thin;
 use crate::resolve::resolve;
-use crate::task::{Program, Task, Trigger};
+use crate::task::{ProgramInstance, Task, Trigger};
 use crate::thin_program::ThinProgram;
 use crate::thin_unit::ThinUnit;
 use slot_code::{Code, copied_globals};
@@ -107,7 +107,7 @@ fn program_of(
     units: &[ThinUnit],
     number: usize,
     program: ThinProgram,
-) -> Result<Program, AllocError>
+) -> Result<ProgramInstance, AllocError>
     requires there { program.unit < length units.now }
     ensures view { IfOk result (λ p. program_view p ≡ program_from (units_in units.now) number program) }
     ensures slots { (layout : List Slot) → All (λ u. HaveSlots layout u.globals.items) units.now
@@ -119,7 +119,7 @@ fn program_of(
         unit: Arc::clone(&unit.unit)?,
         globals: copied_globals(alloc, &unit.globals)?,
     };
-    Ok(Program {
+    Ok(ProgramInstance {
         resource: program.resource,
         task: number,
         code: Arc::new(alloc, code)?,
@@ -132,7 +132,7 @@ fn programs_of(
     alloc: Global,
     units: &[ThinUnit],
     programs: &[ThinProgram],
-) -> Result<Vec<Program>, AllocError>
+) -> Result<Vec<ProgramInstance>, AllocError>
     requires there { list_all (is_thin_program (length units.now)) programs.now ≡ true }
     ensures views { IfOk result (λ ps. map program_view ps.items ≡ programs_from (units_in units.now) 0 programs.now) }
     ensures slots { (layout : List Slot) → All (λ u. HaveSlots layout u.globals.items) units.now

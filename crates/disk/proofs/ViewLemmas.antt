@@ -19,12 +19,12 @@ same_view : (file file' : List ℕ) (written written' : List Bool) (appended app
 same_view file file' written written' appended appended' room room' f w a r = rw (f, w, a, r) refl
 
 -- a medium of which nothing counts as written
-pub settled : (file bytes : List ℕ) (touched : List Bool) (len synced n room : ℕ) → take len bytes ≡ file
+pub at_rest : (file bytes : List ℕ) (touched : List Bool) (len synced n room : ℕ) → take len bytes ≡ file
     → touched ≡ replicate n false → synced ≡ len → len ≤ length bytes → len ≤ n → length bytes ≡ room
     → ◌≡◌ {A = MediumView}
     (record { file = take len bytes; written = take len touched; appended = len - synced; room = length bytes })
     (all_synced file room)
-settled file bytes touched len synced n room is flags all within small roomy =
+at_rest file bytes touched len synced n room is flags all within small roomy =
     same_view _ _ _ _ _ _ _ _ is
     (ap (take len) flags ∙ take-replicate len n false small
     ∙ ap (λ (k : ℕ). replicate k false) (sym (length-take-le len bytes within) ∙ ap length is))

@@ -47,12 +47,12 @@ goes_by_row s t row same = record {
 
 -- an execution is committed, or is stale
 pub goes_by_commit : (s t : State) (effect : Effect) (answer : Answer) → Commits s effect (Ok answer) t → GoesOn s t []
-goes_by_commit s t effect Stale h = goes_nowhere s t h.4
+goes_by_commit s t effect Stale h = goes_nowhere s t h.1
 goes_by_commit s t effect (Committed n) h = record {
-  plan_is = ap (λ (x : State). x.plan) h.4;
-  start_is = ap (λ (x : State). x.start) h.4;
-  before_is = ap (λ (x : State). x.before) h.4;
-  rows_are = ap (λ (x : State). (made x).rows) h.4
+  plan_is = ap (λ (x : State). x.plan) h.1;
+  start_is = ap (λ (x : State). x.start) h.1;
+  before_is = ap (λ (x : State). x.before) h.1;
+  rows_are = ap (λ (x : State). (made x).rows) h.1
       ∙ ap (λ p. p.rows) (past_of-add (plan_view s.plan) s.start s.log (Done effect.activation))
       ∙ sym (append-nil (made s).rows);
 }

@@ -3,7 +3,7 @@ use Rattle.std.proofs.Common.{◌≡◌, ℕ, zero, suc, List, [], ◌∷◌, ma
 use Rattle.st_plans.specs.declared.plan.PlanVariable.{PlanVariable}
 use Rattle.st_plans.specs.Plans.{task_at, schedule_of}
 use Rattle.config.specs.declared.task.Task.{Task}
-use Rattle.config.specs.declared.task.Program.{Program}
+use Rattle.config.specs.declared.task.ProgramInstance.{ProgramInstance}
 use Rattle.config.specs.PlanViews.{task_view, program_view}
 use Rattle.ready_list.specs.Schedules.{code_task_at, code_schedule}
 
@@ -19,7 +19,7 @@ priority-same variables [] t = refl
 priority-same variables (x ∷ tasks) zero = refl
 priority-same variables (x ∷ tasks) (suc t) = priority-same variables tasks t
 
-pub schedules-same : (variables : List PlanVariable) (tasks : List Task) (programs : List Program) → map
+pub schedules-same : (variables : List PlanVariable) (tasks : List Task) (programs : List ProgramInstance) → map
     (code_schedule tasks) programs ≡ map (schedule_of (map (task_view variables) tasks)) (map program_view programs)
 schedules-same variables tasks [] = refl
 schedules-same variables tasks (p ∷ programs) = rw (

@@ -3,13 +3,13 @@ use Rattle.std.specs.Prelude.{ℕ, List, slice_index_or}
 use Rattle.st_plans.specs.declared.plan.Schedule.{Schedule}
 use Rattle.config.specs.declared.task.Trigger.TheVariants.{Absent}
 use Rattle.config.specs.declared.task.Task.{Task}
-use Rattle.config.specs.declared.task.Program.{Program}
+use Rattle.config.specs.declared.task.ProgramInstance.{ProgramInstance}
 
 abbrev pub code_task_at : List Task → ℕ → Task
 code_task_at tasks t = slice_index_or tasks t record { resource = 0; single = Absent; interval = 0; priority = 0 }
 
 -- where and how often a program runs, its task's interval and priority 0 where the task isn't there
-abbrev pub code_schedule : List Task → Program → Schedule
+abbrev pub code_schedule : List Task → ProgramInstance → Schedule
 code_schedule tasks p = record {
   resource = p.resource;
   task = p.task;

@@ -3,12 +3,12 @@
 ghost use Rattle.std.specs.Prelude.{◌≡◌, map, IfOk};
 ghost use Rattle.ready_list.specs.Schedules.{code_schedule};
 
-use config::{Program, Task};
+use config::{ProgramInstance, Task};
 use st_plans::Schedule;
 use std::alloc::{AllocError, Global};
 
 /// Where and how often a program runs.
-fn schedule_of(tasks: &[Task], program: &Program) -> Schedule
+fn schedule_of(tasks: &[Task], program: &ProgramInstance) -> Schedule
     ensures { result ≡ code_schedule tasks.now program.now }
 {
     match tasks.get(program.task) {
@@ -31,7 +31,7 @@ fn schedule_of(tasks: &[Task], program: &Program) -> Schedule
 pub fn schedules_of(
     alloc: Global,
     tasks: &[Task],
-    programs: &[Program],
+    programs: &[ProgramInstance],
 ) -> Result<Vec<Schedule>, AllocError>
     ensures { IfOk result (λ schedules. schedules.items ≡ map (code_schedule tasks.now) programs.now) }
 {

@@ -16,7 +16,7 @@ use Rattle.retain_store.specs.Recovered.{Recovered, Open, Nothing, Found, area, 
 use Rattle.retain_store.specs.Areas.{alone, at_of, other_of, IsOlder, IsOpen, GateIs, IsReady, IsEither, IsSaved}
 use Rattle.retain_store.specs.Areas.{IsSurveyed, areas_after_save}
 use Rattle.retain_store.specs.Surveys.{held}
-use Rattle.retain_store.specs.Opening.{IsSettled}
+use Rattle.retain_store.specs.Opening.{IsAtRest}
 use Rattle.retain_store.specs.Kept.{StoreInvariant, IsLast}
 use Rattle.retain_store.proofs.Surveys.{twice, is_half, held_some}
 
@@ -73,19 +73,19 @@ surveyed_next first file areas last content surveyed saved =
 -- after a save that succeeded
 pub kept_ok : (tells : Type 0) (first file : List ℕ) (files files' : List ℕ → Type 0) (areas : Areas) (met : Saves)
     (last : Recovered) (content : Content) (size : ℕ) → HEADER_BYTES ≤ size → size ≤ (AREA_BYTES - 1)
-    → (tells → IsSettled first files areas last)
+    → (tells → IsAtRest first files areas last)
     → (tells → IsSaved (areas.generation + 1) (at_of areas.target) content first file) → (tells → Only file files')
     → StoreInvariant tells file files' (areas_after_save areas) met (held (areas.generation + 1) content)
     (held (areas.generation + 1) content) size
-kept_ok tells first file files files' areas met last content size least greatest settled saved synced =
+kept_ok tells first file files files' areas met last content size least greatest at_rest saved synced =
     let is : held (areas.generation + 1) content ≡ Found (areas.generation + 1) content =
     held_some (areas.generation + 1) content (let some : 0 < areas.generation + 1 = omega arith in some) in
     record {
       left = λ t c may. inl (ap recovered (synced t c may) ∙ (saved t).found ∙ sym is);
-      settled = λ t ok. record {
+      at_rest = λ t ok. record {
         synced = synced t;
         surveyed = subst (IsSurveyed file (areas_after_save areas)) (sym is)
-            (surveyed_next first file areas last content (settled t).surveyed (saved t));
+            (surveyed_next first file areas last content (at_rest t).surveyed (saved t));
       };
       least = least;
       greatest = greatest;
@@ -98,18 +98,18 @@ pub kept_err : (tells : Type 0) (file : List ℕ) (files : List ℕ → Type 0) 
     → StoreInvariant tells file files areas saves.Broken last tried size
 kept_err tells file files areas last tried size least greatest left = record {
   left = left;
-  settled = λ t ok. cc;
+  at_rest = λ t ok. cc;
   least = least;
   greatest = greatest;
 }
 
 -- after the file was opened
 pub kept_opened : (tells : Type 0) (file : List ℕ) (files : List ℕ → Type 0) (areas : Areas) (last : Recovered)
-    (size : ℕ) → HEADER_BYTES ≤ size → size ≤ (AREA_BYTES - 1) → (tells → IsSettled file files areas last)
+    (size : ℕ) → HEADER_BYTES ≤ size → size ≤ (AREA_BYTES - 1) → (tells → IsAtRest file files areas last)
     → StoreInvariant tells file files areas saves.Working last last size
-kept_opened tells file files areas last size least greatest settled = record {
-  left = λ t c may. inl (ap recovered ((settled t).synced c may) ∙ (settled t).surveyed.last_is);
-  settled = λ t ok. settled t;
+kept_opened tells file files areas last size least greatest at_rest = record {
+  left = λ t c may. inl (ap recovered ((at_rest t).synced c may) ∙ (at_rest t).surveyed.last_is);
+  at_rest = λ t ok. at_rest t;
   least = least;
   greatest = greatest;
 }
@@ -120,7 +120,7 @@ pub kept_used_up : (tells : Type 0) (file : List ℕ) (files : List ℕ → Type
     → StoreInvariant tells file files areas saves.UsedUp last tried size
 kept_used_up tells file files areas last tried size kept = record {
   left = kept.left;
-  settled = λ t ok. cc;
+  at_rest = λ t ok. cc;
   least = kept.least;
   greatest = kept.greatest;
 }

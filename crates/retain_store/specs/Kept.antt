@@ -11,7 +11,7 @@ use Rattle.retain_store.specs.Records.{Content}
 use Rattle.retain_store.specs.Recovered.{Recovered, Nothing, Found, recovered}
 use Rattle.retain_store.specs.Areas.{IsEither}
 use Rattle.retain_store.specs.Surveys.{held}
-use Rattle.retain_store.specs.Opening.{IsSettled}
+use Rattle.retain_store.specs.Opening.{IsAtRest}
 
 -- what callers see of a store: its disk, the generation of the last record (0 for none), the last record, the record
 -- that a failed save tried (else the last), whether a save has failed since it was opened, and the greatest body in
@@ -64,6 +64,6 @@ IsTriedAfter other content old new = ⊥
 pub record StoreInvariant (tells : Type 0) (file : List ℕ) (files : List ℕ → Type 0) (areas : Areas) (met : Saves)
     (last tried : Recovered) (size : ℕ) : Type 0 where
   pub left : tells → (c : List ℕ) → files c → IsEither last tried (recovered c)
-  pub settled : tells → met ≡ saves.Working → IsSettled file files areas last
+  pub at_rest : tells → met ≡ saves.Working → IsAtRest file files areas last
   pub least : HEADER_BYTES ≤ size
   pub greatest : size ≤ AREA_BYTES - 1

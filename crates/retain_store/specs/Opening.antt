@@ -37,6 +37,6 @@ IsLoaded loads.Formatted bytes old new = (length old < FILE_BYTES) × IsEmpty ne
 IsLoaded loads.Whole bytes old new = (length old ≡ FILE_BYTES) × (bytes ≡ old) × (new ≡ old)
 
 -- the file is synced and ready for the next record
-pub record IsSettled (file : List ℕ) (files : List ℕ → Type 0) (areas : Areas) (last : Recovered) : Type 0 where
+pub record IsAtRest (file : List ℕ) (files : List ℕ → Type 0) (areas : Areas) (last : Recovered) : Type 0 where
   pub synced : Only file files
   pub surveyed : IsSurveyed file areas last

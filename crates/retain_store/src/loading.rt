@@ -6,7 +6,7 @@ ghost use Rattle.disk.specs.Runs.{LeavesOnly};
 ghost use Rattle.retain_store.specs.Recovered.{recovered};
 ghost use Rattle.retain_store.specs.Areas.{IsZeros};
 ghost use Rattle.retain_store.specs.Surveys.{held, IsRecordableAt};
-ghost use Rattle.retain_store.specs.Opening.{IsSettled, IsLoaded, IsOfFile, RefusesFor, CountsFault};
+ghost use Rattle.retain_store.specs.Opening.{IsAtRest, IsLoaded, IsOfFile, RefusesFor, CountsFault};
 
 use crate::area::{Areas, format};
 use crate::fault::StoreFault;
@@ -105,8 +105,8 @@ pub(crate) fn recover<D: Disk>(
 
     ensures found { D.tells → IfOk result (λ areas. held areas.generation last.new ≡ recovered (D.seen disk.old)) }
     ensures sound { IfOk result (λ areas. IsRecordableAt areas.generation last.new) }
-    ensures settled { D.tells → IfOk result (λ areas.
-        IsSettled (D.seen disk.new) (D.may_leave disk.new) areas (held areas.generation last.new)) }
+    ensures at_rest { D.tells → IfOk result (λ areas.
+        IsAtRest (D.seen disk.new) (D.may_leave disk.new) areas (held areas.generation last.new)) }
     ensures faults { IfErr result IsOfFile }
     ensures refused { D.tells → IfErr result (λ fault. RefusesFor fault (recovered (D.seen disk.old))) }
 

@@ -125,7 +125,7 @@ impl<D: Disk> Store<D> {
         ensures room { IfOk result (λ store. store.room ≡ room) }
 
         // After Ok a stop leaves the last record.
-        ensures settled { D.tells → IfOk result (λ store. (file : List ℕ) → D.may_leave store.disk file
+        ensures at_rest { D.tells → IfOk result (λ store. (file : List ℕ) → D.may_leave store.disk file
             → recovered file ≡ store.last) }
 
         // S3 exactly where a call of the disk failed, and then one did.
@@ -205,7 +205,7 @@ impl<D: Disk> Store<D> {
             (Found (self.old.generation + 1) (content_of moment layout.now values.now)) (recovered file)) }
 
         // After Ok a stop leaves the new one.
-        ensures settled { D.tells → OnOk result ((file : List ℕ) → D.may_leave self.new.disk file
+        ensures at_rest { D.tells → OnOk result ((file : List ℕ) → D.may_leave self.new.disk file
             → recovered file ≡ Found (self.old.generation + 1) (content_of moment layout.now values.now)) }
 
         // S3 exactly where a call of the disk failed, and then one did.

@@ -29,7 +29,7 @@ use Rattle.slot_code.specs.Codes.{CodeView, code_view, program_of}
 use Rattle.slot_run.specs.Effects.{Effect, IsTrueOf}
 use Rattle.slot_run.proofs.CellLemmas.{length_written}
 use Rattle.config.specs.declared.plan.Plan.{Plan}
-use Rattle.config.specs.declared.task.Program.{Program}
+use Rattle.config.specs.declared.task.ProgramInstance.{ProgramInstance}
 use Rattle.config.specs.PlanViews.{plan_view, program_view}
 use Rattle.ready_list.specs.Ready.{Ready, IsReadyOf, Removes}
 use Rattle.serial_core.specs.Steps.{store_in, code_at, IsOwnOf}
@@ -49,7 +49,7 @@ same_run X f t t' b b' s s' i i' m m' et eb es ei em =
 
 -- an activation's own program
 pub record IsProgram (plan : Plan) (p : ℕ) (code : Code) : Type 0 where
-  pub program : Program
+  pub program : ProgramInstance
   pub at : slice_get plan.programs.items p ≡ Some program
   pub text : code_view program.code.value ≡ code_view code
 
@@ -57,10 +57,11 @@ own_program : (plan : Plan) (row : Latch) (effect : Effect) → IsOwnOf plan row
     → IsProgram plan effect.activation.program effect.code
 own_program plan row effect own =
     let f = found Code CodeView code_view (code_at plan effect.activation.program) (code_view effect.code) own.text in
-    let g = found Program Code (λ q. q.code.value) (slice_get plan.programs.items effect.activation.program) f.0 f.1 in
+    let g = found ProgramInstance Code (λ q. q.code.value) (slice_get plan.programs.items effect.activation.program) f.0
+    f.1 in
     record { program = g.0; at = g.1; text = ap code_view g.2 ∙ f.2 }
 
-program_found : (plan : Plan) (p : ℕ) (q : Program) → slice_get plan.programs.items p ≡ Some q
+program_found : (plan : Plan) (p : ℕ) (q : ProgramInstance) → slice_get plan.programs.items p ≡ Some q
     → program_at (plan_view plan) p ≡ Some (program_view q)
 program_found plan p q at = slice_get-map program_view plan.programs.items p ∙ ap (option_map program_view) at
 
@@ -77,7 +78,8 @@ pub record Ran (plan : Plan) (values : List Datum) (row : Latch) (store : Store)
   pub outcome : (past : Past) → past.store ≡ store → row_at past.rows effect.activation.row ≡ row
       → outcome_at (plan_view plan) past (Done effect.activation) ≡ Some effect.outcome
 
-ran_outcome : (plan : plans.Plan) (past : Past) (row : Latch) (store : Store) (a : Activation) (q : plans.Program)
+ran_outcome :
+    (plan : plans.Plan) (past : Past) (row : Latch) (store : Store) (a : Activation) (q : plans.ProgramInstance)
     (o : Outcome) → program_at plan a.program ≡ Some q → row_at past.rows a.row ≡ row → past.store ≡ store
     → outcome_of q.code plan.budget store (image_of plan.inputs row.image) row.moment ≡ o
     → outcome_at plan past (Done a) ≡ Some o
@@ -119,7 +121,7 @@ ran plan values row store effect sized imaged is own true_of stands =
     }
 
 -- a run changes no variable's type
-run_shape : (plan : plans.Plan) (o : Option plans.Program) (s : Store) (row : Latch)
+run_shape : (plan : plans.Plan) (o : Option plans.ProgramInstance) (s : Store) (row : Latch)
     → shape_of (after_run plan o s row) ≡ shape_of s
 run_shape plan None s row = refl
 run_shape plan (Some p) s row = store_after_shape p.code plan.budget s (image_of plan.inputs row.image) row.moment
@@ -197,49 +199,21 @@ module _ {plan : Plan} {start values : List Datum} {before : Option ℕ} {sample
             };
       }
 
+  pub waits_told : (a : Activation) (t : Bool)
+      → ((h : History) → IsReadyOf h ready → IsTrue t ↔ Waits ready.schedules h a) → IsTrue t
+      ↔ Waits (schedules_of (plan_view plan)) (past_of (plan_view plan) (store_in plan start) log).history a
+  waits_told a t tells =
+      subst (λ ps. IsTrue t ↔ Waits ps (past_of (plan_view plan) (store_in plan start) log).history a) kept.schedules
+      (tells _ kept.of_past.ready_is)
+
+  -- the entry of an activation's row
+  pub row_found : (a : Activation)
+      → Waits (schedules_of (plan_view plan)) (past_of (plan_view plan) (store_in plan start) log).history a
+      → slice_get log (slice_index rows a.row)
+      ≡ Some (Row (row_at (past_of (plan_view plan) (store_in plan start) log).rows a.row))
+  row_found a w = row-there kept a (waits-row kept a w)
+
   module _ (effect : Effect) (b : Activation) (same : b ≡ effect.activation) where
-    pub waits_told : (t : Bool) → ((h : History) → IsReadyOf h ready → IsTrue t ↔ Waits ready.schedules h b) → IsTrue t
-        ↔ Waits (schedules_of (plan_view plan)) (past_of (plan_view plan) (store_in plan start) log).history
-        effect.activation
-    waits_told t tells = subst (λ x. IsTrue t
-        ↔ Waits (schedules_of (plan_view plan)) (past_of (plan_view plan) (store_in plan start) log).history x) same
-        (subst (λ ps. IsTrue t ↔ Waits ps (past_of (plan_view plan) (store_in plan start) log).history b) kept.schedules
-        (tells _ kept.of_past.ready_is))
-
-    pub row_found : (log' : List Entry) (rows' : List ℕ) → log' ≡ log → rows' ≡ rows → Waits
-        (schedules_of (plan_view plan)) (past_of (plan_view plan) (store_in plan start) log).history effect.activation
-        → slice_get log' (slice_index rows' b.row)
-        ≡ Some (Row (row_at (past_of (plan_view plan) (store_in plan start) log).rows effect.activation.row))
-    row_found log' rows' l r w = ap (λ x. slice_get x (slice_index rows' b.row)) l
-        ∙ ap (λ x. slice_get log (slice_index x b.row)) r
-        ∙ ap (λ (x : Activation). slice_get log (slice_index rows x.row)) same
-        ∙ row-there kept effect.activation (waits-row kept effect.activation w)
-
-    pub own_told : (log' : List Entry) (rows' : List ℕ) (plan' : Plan) (r : Latch) (t : Bool) → log' ≡ log
-        → rows' ≡ rows → plan' ≡ plan → Waits (schedules_of (plan_view plan))
-        (past_of (plan_view plan) (store_in plan start) log).history effect.activation
-        → slice_get log' (slice_index rows' b.row) ≡ Some (Row r) → IsTrue t ↔ IsOwnOf plan' r effect → IsTrue t
-        ↔ IsOwnOf plan (row_at (past_of (plan_view plan) (store_in plan start) log).rows effect.activation.row)
-        effect
-    own_told log' rows' plan' r t l rs p w got tells =
-        subst (λ x. IsTrue t ↔ IsOwnOf plan x effect) (same_row r _ (sym got ∙ row_found log' rows' l rs w))
-        (subst (λ x. IsTrue t ↔ IsOwnOf x r effect) p tells)
-
-    pub stands_told : (log' : List Entry) (rows' : List ℕ) (r : Latch) (values' image : List Datum)
-        (reads : List slots.Cell) (t : Bool) → log' ≡ log → rows' ≡ rows → values' ≡ values → image ≡ r.image
-        → reads ≡ effect.reads
-        → Waits (schedules_of (plan_view plan)) (past_of (plan_view plan) (store_in plan start) log).history
-        effect.activation
-        → slice_get log' (slice_index rows' b.row) ≡ Some (Row r) → t ≡ agrees (values' ++ image) reads
-        → t ≡ agrees (map (λ e. e.1) (past_of (plan_view plan) (store_in plan start) log).store
-        ++ (row_at (past_of (plan_view plan) (store_in plan start) log).rows effect.activation.row).image)
-        effect.reads
-    stands_told log' rows' r values' image reads t l rs v im rd w got says =
-        says ∙ ap (agrees (values' ++ image)) rd
-        ∙ ap (λ vs. agrees (vs ++ image) effect.reads) (v ∙ values_are kept)
-        ∙ ap (λ i. agrees (map (λ e. e.1) (past_of (plan_view plan) (store_in plan start) log).store ++ i) effect.reads)
-        (im ∙ ap (λ (x : Latch). x.image) (same_row r _ (sym got ∙ row_found log' rows' l rs w)))
-
     -- with an execution that stands
     pub SerialInvariant-commit : (ready' : Ready) (values' : List Datum) (writes : List slots.Cell) (log' : List Entry)
         (outcomes' : List (Option Outcome)) (o : Outcome) (t : Bool)

@@ -21,7 +21,7 @@ use Rattle.slot_code.specs.declared.code.Code.{Code}
 use Rattle.slot_code.specs.declared.global.GlobalSlot.{GlobalSlot}
 use Rattle.slot_run.specs.declared.snapshot.Snapshot.{Snapshot}
 use Rattle.config.specs.declared.plan.Plan.{Plan}
-use Rattle.config.specs.declared.task.Program.{Program}
+use Rattle.config.specs.declared.task.ProgramInstance.{ProgramInstance}
 use Rattle.config.specs.GlobalSlots.{HaveSlots}
 use Rattle.config.specs.PlanViews.{plan_view}
 use Rattle.ready_list.specs.Ready.{Ready, IsReadyOf}
@@ -133,10 +133,11 @@ pub found : (A B : Type 0) (f : A → B) (o : Option A) (b : B) → option_map f
 found A B f None b e = absurd (let y : ◌≡◌ {A = Option B} None (Some b) = e in cc)
 found A B f (Some a) b e = (a, refl, let y : ◌≡◌ {A = Option B} (Some (f a)) (Some b) = e in cc)
 
-pub placed_at : (plan : Plan) (p : ℕ) (code : Code) → ((k : ℕ) (q : Program) → slice_get plan.programs.items k ≡ Some q
+pub placed_at : (plan : Plan) (p : ℕ) (code : Code)
+    → ((k : ℕ) (q : ProgramInstance) → slice_get plan.programs.items k ≡ Some q
     → HaveSlots (layout_of plan.variables.items plan.inputs.items) q.code.value.globals.items)
     → code_at plan p ≡ Some code → HaveSlots (layout_of plan.variables.items plan.inputs.items) code.globals.items
 placed_at plan p code placed e =
-    let f = found Program Code (λ q. q.code.value) (slice_get plan.programs.items p) code e in
+    let f = found ProgramInstance Code (λ q. q.code.value) (slice_get plan.programs.items p) code e in
     subst (λ (x : Code). HaveSlots (layout_of plan.variables.items plan.inputs.items) x.globals.items) f.2
     (placed p f.0 f.1)

@@ -108,19 +108,24 @@ stands state effect = agrees (slots_for state effect.activation) effect.reads
 abbrev pub waits_in : State → Activation → Type 0
 waits_in state a = Waits (schedules_of (plan_view state.plan)) (made state).history a
 
+-- Whether an execution can be committed now: it is refused, or what it read stands or doesn't. Each case carries that
+-- those before it do not apply.
+abbrev pub Judges : State → Effect → Result Bool Refusal → Type 0
+Judges state effect (Err Full) = state.room ≤ length state.log
+Judges state effect (Err NotWaiting) = (length state.log < state.room) × (waits_in state effect.activation → ⊥)
+Judges state effect (Err Foreign) =
+    (length state.log < state.room) × waits_in state effect.activation × (IsOwn state effect → ⊥)
+Judges state effect (Ok stand) = (length state.log < state.room) × waits_in state effect.activation
+    × IsOwn state effect × (stands state effect ≡ stand)
+Judges state effect (Err NotLater) = ⊥
+Judges state effect (Err NoMemory) = ⊥
+
 -- what a commit is answered, and the core after it
 abbrev pub Commits : State → Effect → Result Answer Refusal → State → Type 0
-Commits old effect (Err Full) new = (old.room ≤ length old.log) × (new ≡ old)
-Commits old effect (Err NotWaiting) new =
-    (length old.log < old.room) × (waits_in old effect.activation → ⊥) × (new ≡ old)
-Commits old effect (Err Foreign) new =
-    (length old.log < old.room) × waits_in old effect.activation × (IsOwn old effect → ⊥) × (new ≡ old)
-Commits old effect (Ok Stale) new = (length old.log < old.room) × waits_in old effect.activation × IsOwn old effect
-    × (stands old effect ≡ false) × (new ≡ old)
-Commits old effect (Ok (Committed n)) new = (length old.log < old.room) × waits_in old effect.activation
-    × IsOwn old effect × (stands old effect ≡ true) × (new ≡ grown old (Done effect.activation)) × (n ≡ length new.log)
-Commits old effect (Err NotLater) new = ⊥
-Commits old effect (Err NoMemory) new = ⊥
+Commits old effect (Err refusal) new = Judges old effect (Err refusal) × (new ≡ old)
+Commits old effect (Ok Stale) new = Judges old effect (Ok false) × (new ≡ old)
+Commits old effect (Ok (Committed n)) new =
+    Judges old effect (Ok true) × (new ≡ grown old (Done effect.activation)) × (n ≡ length new.log)
 
 -- the values of the inputs at the last row, or 0 and FALSE before the first
 abbrev pub first_image : List PlanInput → List Datum

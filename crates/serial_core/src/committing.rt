@@ -3,12 +3,13 @@
 ghost use Rattle.std.specs.Prelude.{◌≡◌, ◌<◌, ◌↔◌, IsTrue, length};
 ghost use Rattle.st_plans.specs.Due.{History};
 ghost use Rattle.ready_list.specs.Ready.{IsReadyOf, Removes};
-ghost use Rattle.serial_core.specs.Steps.{Commits, IsOwnOf};
+ghost use Rattle.st_plans.specs.Logs.{row_at};
+ghost use Rattle.serial_core.specs.Steps.{Commits, Judges, IsOwn, IsOwnOf, made, stands, waits_in};
 
 use crate::cells::{stand, write_all};
 use crate::refusal::{Answer, Refusal};
 use crate::rows::row_of;
-use crate::serial::{SerialCore, push_within};
+use crate::serial::SerialCore;
 use config::Plan;
 use ready_list::ReadyList;
 use slot_run::Execution;
@@ -26,7 +27,7 @@ fn is_own(plan: &Plan, row: &Row, execution: &Execution) -> bool
 }
 
 /// Takes an activation that is done off the list of those that wait.
-fn settle(ready: &mut ReadyList, activation: Activation) -> bool
+fn take_off(ready: &mut ReadyList, activation: Activation) -> bool
     ensures schedules { ready.new.schedules ≡ ready.old.schedules }
     ensures number { length ready.new.samples ≡ length ready.old.samples }
     ensures last { ready.new.last ≡ ready.old.last }
@@ -37,6 +38,54 @@ fn settle(ready: &mut ReadyList, activation: Activation) -> bool
 }
 
 impl SerialCore {
+    /// Whether the activation waits.
+    fn waits(&self, activation: Activation) -> bool
+        ensures { IsTrue result ↔ waits_in self.now activation }
+    {
+        self.ready.waits(activation)
+    }
+
+    /// The row of an activation that waits.
+    fn row_for(&self, activation: Activation) -> &Row
+        requires waits { waits_in self.now activation }
+        ensures { result.now ≡ row_at (made self.now).rows activation.row }
+    {
+        row_of(&self.log, &self.rows, activation.row as usize)
+    }
+
+    /// Whether the execution is of its activation's own program and row here.
+    fn owns(&self, execution: &Execution) -> bool
+        requires waits { waits_in self.now execution.now.activation }
+        ensures { IsTrue result ↔ IsOwn self.now execution.now }
+    {
+        is_own(&self.plan, self.row_for(execution.activation()), execution)
+    }
+
+    /// Whether all that the execution read has its value still.
+    fn stands(&self, execution: &Execution) -> bool
+        requires waits { waits_in self.now execution.now.activation }
+        ensures { result ≡ stands self.now execution.now }
+    {
+        let row = self.row_for(execution.activation());
+        stand(&self.values, row.image(), execution.reads())
+    }
+
+    /// Whether what the execution read stands; or why it can't be committed, whatever it read.
+    fn judge(&self, execution: &Execution) -> Result<bool, Refusal>
+        ensures { Judges self.now execution.now result }
+    {
+        if self.log.len() >= self.room {
+            return Err(Refusal::Full);
+        }
+        if !self.waits(execution.activation()) {
+            return Err(Refusal::NotWaiting);
+        }
+        if !self.owns(execution) {
+            return Err(Refusal::Foreign);
+        }
+        Ok(self.stands(execution))
+    }
+
     /// Appends the execution's Done and applies its writes, if all that it read has its value still. It takes no
     /// memory.
     ///
@@ -45,25 +94,14 @@ impl SerialCore {
     pub fn commit(&mut self, execution: Execution) -> Result<Answer, Refusal>
         ensures { Commits self.old execution result self.new }
     {
-        if self.log.len() >= self.room {
-            return Err(Refusal::Full);
-        }
-        let activation = execution.activation();
-        if !self.ready.waits(activation) {
-            return Err(Refusal::NotWaiting);
-        }
-        let plan: &Plan = &self.plan;
-        let row = row_of(&self.log, &self.rows, activation.row as usize);
-        if !is_own(plan, row, &execution) {
-            return Err(Refusal::Foreign);
-        }
-        if !stand(&self.values, row.image(), execution.reads()) {
+        if !self.judge(&execution)? {
             return Ok(Answer::Stale);
         }
+        let activation = execution.activation();
         write_all(&mut self.values, execution.writes());
-        push_within(&mut self.outcomes, Some(execution.outcome()));
-        push_within(&mut self.log, Entry::Done(activation));
-        let _ = settle(&mut self.ready, activation);
+        self.outcomes.push_reserved(Some(execution.outcome()));
+        self.log.push_reserved(Entry::Done(activation));
+        let _ = take_off(&mut self.ready, activation);
         Ok(Answer::Committed(self.log.len()))
     }
 }

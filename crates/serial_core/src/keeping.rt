@@ -12,7 +12,7 @@ ghost use Rattle.config.specs.PlanViews.{plan_view};
 ghost use Rattle.serial_core.specs.Steps.{made};
 ghost use Rattle.serial_core.specs.Retained.{retained_values, retained_kinds, retained_paths, paired};
 
-use crate::serial::{SerialCore, push_within};
+use crate::serial::SerialCore;
 use config::Plan;
 use st_plans::PlanVariable;
 use st_words::Value;
@@ -36,7 +36,7 @@ fn retain_one(kept: &mut Vec<Value>, variable: &PlanVariable, value: Value)
     ensures capacity { vec_capacity kept.old ≤ vec_capacity kept.new }
 {
     if variable.retained {
-        push_within(kept, held(value));
+        kept.push_reserved(held(value));
     }
 }
 

@@ -6,7 +6,7 @@ ghost use Rattle.serial_core.specs.Steps.{Latches};
 use crate::refusal::Refusal;
 use crate::rows::{fits, is_later};
 use crate::sampling::sample_all;
-use crate::serial::{SerialCore, push_within};
+use crate::serial::SerialCore;
 use config::Plan;
 use st_plans::{Entry, Row};
 
@@ -31,9 +31,9 @@ impl SerialCore {
         let number = self.rows.len();
         sample_all(&plan.tasks, &self.values, row.image(), &mut self.samples);
         self.ready.due(moment, &self.samples);
-        push_within(&mut self.rows, self.log.len());
-        push_within(&mut self.outcomes, None);
-        push_within(&mut self.log, Entry::Row(row));
+        self.rows.push_reserved(self.log.len());
+        self.outcomes.push_reserved(None);
+        self.log.push_reserved(Entry::Row(row));
         self.last = Some(moment);
         Ok(number)
     }

@@ -20,4 +20,4 @@ mod starting;
 mod taking;
 
 pub use refusal::{Answer, Refusal};
-pub use serial::{SerialCore, push_within};
+pub use serial::SerialCore;

@@ -1,7 +1,5 @@
 //! The core: a log, and the variables that it makes.
 
-ghost use Rattle.std.specs.Prelude.{◌≡◌, ◌<◌, ◌≤◌, ◌++◌, ◌∷◌, [], vec_len, vec_capacity};
-
 use config::Plan;
 use ready_list::ReadyList;
 use st_plans::Entry;
@@ -64,16 +62,4 @@ impl Model for SerialCore {
         × (x.room ≤ vec_capacity x.log)
         × (x.room ≤ vec_capacity x.outcomes)
         × (x.room ≤ vec_capacity x.rows) };
-}
-
-/// Appends to a vector that has room. It takes no memory.
-pub fn push_within<T: Drop>(items: &mut Vec<T>, item: T)
-    requires room { vec_len items.old < vec_capacity items.old }
-    ensures items { items.new.items ≡ items.old.items ++ item ∷ [] }
-    ensures capacity { vec_capacity items.old ≤ vec_capacity items.new }
-{
-    match items.push(item) {
-        Ok(()) => {}
-        Err(_) => unreachable!(),
-    }
 }

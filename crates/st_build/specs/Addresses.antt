@@ -4,6 +4,7 @@ use Rattle.std.specs.Prelude.{None}
 use Rattle.std.specs.List.{list_all, list_any}
 use Rattle.st_words.specs.declared.kind.Kind.{Kind}
 use Rattle.st_words.specs.declared.kind.Kind.TheVariants.{Int, Uint, Word, Bool as Boolean}
+use Rattle.st_words.specs.declared.limits.TheConstants.{BIT_ADDRESSES, WORD_ADDRESSES}
 use Rattle.st_words.specs.Kinds.{same_kind}
 use Rattle.st_trees.specs.declared.configuration.Address.{Address}
 use Rattle.st_trees.specs.declared.configuration.AddressWidth.{AddressWidth}
@@ -26,8 +27,8 @@ has_width widths.Bit k = same_kind k Boolean
 has_width widths.Word k = same_kind k Int || (same_kind k Uint || same_kind k Word)
 
 abbrev pub is_below_limit : AddressWidth → Address → Bool
-is_below_limit widths.Bit a = nat_lt a.number 1024
-is_below_limit widths.Word a = nat_lt a.number 256
+is_below_limit widths.Bit a = nat_lt a.number BIT_ADDRESSES
+is_below_limit widths.Word a = nat_lt a.number WORD_ADDRESSES
 
 -- an address holds an elementary type of its width, and no other type
 abbrev pub holds_kind : Address → Option Kind → Bool

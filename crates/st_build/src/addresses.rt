@@ -14,6 +14,7 @@ use st_trees::{
 };
 use st_types::lookup::kind_of_type;
 use st_words::Kind;
+use st_words::limits::{BIT_ADDRESSES, WORD_ADDRESSES};
 use std::alloc::{AllocError, Global};
 
 /// Whether an address is that of an input.
@@ -37,8 +38,8 @@ fn is_below_limit(address: Address) -> bool
     ensures { result ≡ is_below_limit address.width address }
 {
     match address.width {
-        AddressWidth::Bit => address.number < 1024,
-        AddressWidth::Word => address.number < 256,
+        AddressWidth::Bit => address.number < BIT_ADDRESSES,
+        AddressWidth::Word => address.number < WORD_ADDRESSES,
     }
 }
 

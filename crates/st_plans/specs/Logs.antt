@@ -7,7 +7,7 @@ use Rattle.st_plans.specs.Rows.{Latch}
 use Rattle.st_types.specs.Stores.{Store}
 use Rattle.st_types.specs.declared.outcome.Outcome.{Outcome}
 use Rattle.st_types.specs.Runs.{outcome_of}
-use Rattle.st_plans.specs.Plans.{Plan, Program, schedules_of, samples_of, image_of, fits, program_at, after_run}
+use Rattle.st_plans.specs.Plans.{Plan, ProgramInstance, schedules_of, samples_of, image_of, fits, program_at, after_run}
 use Rattle.st_plans.specs.Due.{History, no_history, with_row, with_run, Waits}
 
 abbrev pub Log : Type 0
@@ -36,7 +36,7 @@ with_entry plan past (Done a) = record {
 }
 
 -- how the execution of an entry ends on the past before it; a row has none
-abbrev pub ended_by : Plan → Past → Latch → Program → Outcome
+abbrev pub ended_by : Plan → Past → Latch → ProgramInstance → Outcome
 ended_by plan past row p = outcome_of p.code plan.budget past.store (image_of plan.inputs row.image) row.moment
 
 abbrev pub outcome_at : Plan → Past → Entry → Option Outcome

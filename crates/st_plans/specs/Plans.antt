@@ -30,7 +30,7 @@ pub record Task : Type 0 where
   pub priority : ℕ
 
 -- an instance of a program: where it runs, and what
-pub record Program : Type 0 where
+pub record ProgramInstance : Type 0 where
   pub resource : ℕ
   pub task : ℕ
   pub code : runs.Program
@@ -40,7 +40,7 @@ pub record Plan : Type 0 where
   pub inputs : List PlanInput
   pub resources : ℕ
   pub tasks : List Task
-  pub programs : List Program
+  pub programs : List ProgramInstance
   pub budget : ℕ
 
 -- the value that a variable starts with: its declared one, else 0, FALSE or T#0s
@@ -67,10 +67,6 @@ initial_store plan = map (λ v. (v.path, v.initial)) plan.variables
 abbrev pub is_retained : Plan → Path → Bool
 is_retained plan p = list_any (λ v. same_path p v.path && v.retained) plan.variables
 
--- the inputs of the plant before a life's first row
-abbrev pub initial_image : Plan → Store
-initial_image plan = map (λ i. (i.path, initial_value i.kind None)) plan.inputs
-
 -- the inputs of the plant at a row
 abbrev pub image_of : List PlanInput → List Datum → Store
 image_of [] vs = []
@@ -91,7 +87,7 @@ fits plan row = holds_each plan.inputs row.image && nat_lt row.moment MOMENT_LIM
 abbrev pub task_at : List Task → ℕ → Task
 task_at tasks t = slice_index_or tasks t record { single = no_single; interval = 0; priority = 0 }
 
-abbrev pub schedule_of : List Task → Program → Schedule
+abbrev pub schedule_of : List Task → ProgramInstance → Schedule
 schedule_of tasks p = record {
   resource = p.resource;
   task = p.task;
@@ -116,9 +112,9 @@ abbrev pub samples_of : Plan → Store → List Datum → List Bool
 samples_of plan s image = map (λ t. sample_of s image t.single) plan.tasks
 
 -- the variables after a program ran on a row; one that is not there does nothing
-abbrev pub after_run : Plan → Option Program → Store → Latch → Store
+abbrev pub after_run : Plan → Option ProgramInstance → Store → Latch → Store
 after_run plan None s row = s
 after_run plan (Some p) s row = store_after p.code plan.budget s (image_of plan.inputs row.image) row.moment
 
-abbrev pub program_at : Plan → ℕ → Option Program
+abbrev pub program_at : Plan → ℕ → Option ProgramInstance
 program_at plan n = slice_get plan.programs n

@@ -2,6 +2,7 @@
 use Rattle.std.specs.Prelude.{ℕ, List, [], Option, Some, None, nat_le}
 use Rattle.std.specs.List.{flat_map}
 use Rattle.st_words.specs.declared.kind.Kind.{Kind}
+use Rattle.st_words.specs.declared.limits.TheConstants.{MAX_PRIORITY}
 use Rattle.st_words.specs.declared.literal.Literal.{Literal}
 use Rattle.st_words.specs.Kinds.{same_kind}
 use Rattle.st_trees.specs.declared.configuration.Task.{Task}
@@ -39,9 +40,9 @@ variables_against rule b = flat_map (λ d. initial_against rule (kind_of_type d.
 abbrev pub globals_against : Rule → GlobalBlock → List ℕ
 globals_against rule b = flat_map (λ d. initial_against rule (kind_of_type d.declared) d.initial) b.declarations
 
--- PRIORITY is 0 to 65535
+-- a PRIORITY over the greatest
 abbrev pub priority_out_of_range : Task → List ℕ
-priority_out_of_range t = unless (nat_le t.priority.number 65535) t.priority.place
+priority_out_of_range t = unless (nat_le t.priority.number MAX_PRIORITY) t.priority.place
 
 abbrev pub priorities_out_of_range : Resource → List ℕ
 priorities_out_of_range r = flat_map priority_out_of_range r.tasks

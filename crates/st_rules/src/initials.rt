@@ -17,6 +17,7 @@ use st_trees::{
     Declaration, GlobalBlock, GlobalDeclaration, Initial, Resource, Task, VariableBlock,
 };
 use st_types::lookup::kind_of_type;
+use st_words::limits::MAX_PRIORITY;
 use st_words::{Kind, Literal};
 
 /// The place of a literal of another type than the variable.
@@ -106,11 +107,11 @@ pub fn globals_against(rule: Rule, blocks: &[GlobalBlock]) -> Option<usize>
     None
 }
 
-/// The place of a PRIORITY over 65535.
+/// The place of a PRIORITY that is too great.
 fn priority_out_of_range(task: &Task) -> Option<usize>
     ensures { result ≡ first (priority_out_of_range task.now) }
 {
-    if task.priority.number <= 65535 {
+    if task.priority.number <= MAX_PRIORITY {
         None
     } else {
         Some(task.priority.place)
@@ -129,7 +130,7 @@ fn tasks_out_of_range(tasks: &[Task]) -> Option<usize>
     None
 }
 
-/// The place of a PRIORITY over 65535.
+/// The place of a PRIORITY that is too great.
 #[tactic(auto, using(crate::proofs::PlaceLemmas::first_front, crate::proofs::PlaceLemmas::first_behind))]
 pub fn priorities_out_of_range(resources: &[Resource]) -> Option<usize>
     ensures { result ≡ first (flat_map priorities_out_of_range (map resource_view resources.now)) }

@@ -15,6 +15,15 @@ pub const MAX_RESOURCES: usize = 8;
 /// The most tasks of one resource.
 pub const MAX_TASKS: usize = 32;
 
+/// The greatest number of a PRIORITY, which runs last. The least is 0.
+pub const MAX_PRIORITY: u64 = 65_535;
+
+/// How many single bits are addressed as inputs, and as outputs: `%IX0` to `%IX1023`.
+pub const BIT_ADDRESSES: u64 = 1_024;
+
+/// How many words are addressed as inputs, and as outputs: `%IW0` to `%IW255`.
+pub const WORD_ADDRESSES: u64 = 256;
+
 /// The most program instances of a configuration.
 pub const MAX_PROGRAMS: usize = 64;
 

@@ -12,17 +12,17 @@ loop-event-preserved g c =
           c.step-reply.new.core c.loop-event.held.items c.step-reply.new.held.items
           c.into_iter-event-iterator.result.rest.items c.next.new.self.rest.items c.loop-event.event-iterator.rest.items
           c.in-Some.event
-          c.loop-event.replies.items c.push_within.new.items.items c.step-reply.result
+          c.loop-event.replies.items c.push_reserved.new.self.items c.step-reply.result
           c.loop-event.invariant.0 more c.step-reply.ensures.step c.step-reply.ensures.outlives
-          c.push_within.ensures.items,
+          c.push_reserved.ensures.items,
       omega (arith, fewer, c.loop-event.invariant.1, c.step-reply.ensures.len, c.step-reply.ensures.capacity),
       omega (
         arith,
         fewer,
         c.loop-event.invariant.2,
-        c.push_within.ensures.capacity,
-        ap length c.push_within.ensures.items,
-        c.push_within.new.items.ok.0,
+        c.push_reserved.ensures.capacity,
+        ap length c.push_reserved.ensures.items,
+        c.push_reserved.new.self.ok.0,
         c.loop-event.replies.ok.0,
         length-append c.loop-event.replies.items (c.step-reply.result ∷ []),
       ),

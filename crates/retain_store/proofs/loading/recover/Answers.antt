@@ -16,8 +16,8 @@ returns-in-Ok-Formatted-clause-found g c = λ tells.
     (g.D.Disk.seen c.load.new.disk)) c.in-Ok-Formatted.field-0-is (c.in-Ok-Formatted.ensures.found tells)).0 in
     rw c.closed.ensures (sym (short_nothing _ short))
 
-pub returns-in-Ok-Formatted-clause-settled : goal.returns-in-Ok-Formatted-clause-settled
-returns-in-Ok-Formatted-clause-settled g c = λ tells.
+pub returns-in-Ok-Formatted-clause-at_rest : goal.returns-in-Ok-Formatted-clause-at_rest
+returns-in-Ok-Formatted-clause-at_rest g c = λ tells.
     let empty = (subst (λ (l : Loaded). IsLoaded l c.load.new.file (g.D.Disk.seen c.args.disk.now)
     (g.D.Disk.seen c.load.new.disk)) c.in-Ok-Formatted.field-0-is (c.in-Ok-Formatted.ensures.found tells)).1 in
     rw c.closed.ensures (record {
@@ -33,8 +33,8 @@ returns-in-Some-clause-found g c = λ tells.
     c.in-Ok-Whole.field-0-is (c.in-Ok-Whole.ensures.found tells) in
     sym c.in-Some.ensures.surveyed.last_is ∙ ap recovered whole.1
 
-pub returns-in-Some-clause-settled : goal.returns-in-Some-clause-settled
-returns-in-Some-clause-settled g c = λ tells.
+pub returns-in-Some-clause-at_rest : goal.returns-in-Some-clause-at_rest
+returns-in-Some-clause-at_rest g c = λ tells.
     let whole = subst
     (λ (l : Loaded). IsLoaded l c.load.new.file (g.D.Disk.seen c.args.disk.now) (g.D.Disk.seen c.load.new.disk))
     c.in-Ok-Whole.field-0-is (c.in-Ok-Whole.ensures.found tells) in

@@ -20,14 +20,14 @@ returns-in-Err-clause-any_moment g c = λ tells only.
 pub invariant_of-result : goal.invariant_of-result
 invariant_of-result g c = (
   kept_opened g.D.Disk.tells _ _ c.in-Ok-recover.areas _ _ (omega (arith, c.in-Ok.ensures.frame))
-      (omega (arith, c.in-Ok.ensures.frame, c.requires.room)) c.in-Ok-recover.ensures.settled,
+      (omega (arith, c.in-Ok.ensures.frame, c.requires.room)) c.in-Ok-recover.ensures.at_rest,
   c.in-Ok-recover.ensures.sound,
 )
 
-pub returns-in-Ok-recover-clause-settled : goal.returns-in-Ok-recover-clause-settled
-returns-in-Ok-recover-clause-settled g c = λ tells file may.
-    let settled = c.in-Ok-recover.ensures.settled tells in
-    ap recovered (settled.synced file may) ∙ settled.surveyed.last_is
+pub returns-in-Ok-recover-clause-at_rest : goal.returns-in-Ok-recover-clause-at_rest
+returns-in-Ok-recover-clause-at_rest g c = λ tells file may.
+    let at_rest = c.in-Ok-recover.ensures.at_rest tells in
+    ap recovered (at_rest.synced file may) ∙ at_rest.surveyed.last_is
 
 pub returns-clause-memory : goal.returns-clause-memory
 returns-clause-memory g c = λ is. absurd (subst IsOfFile is c.in-Err-recover.ensures.faults)

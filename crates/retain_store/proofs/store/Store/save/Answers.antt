@@ -14,14 +14,14 @@ use Rattle.retain_store.proofs.store.Store.save.Goals as goal
 
 pub write_frame-requires-clause-ready : goal.write_frame-requires-clause-ready
 write_frame-requires-clause-ready g c =
-    λ tells. rw c.at-target.ensures.at (c.self.invariant.0.settled tells c.in-Working.is).surveyed.ready
+    λ tells. rw c.at-target.ensures.at (c.self.invariant.0.at_rest tells c.in-Working.is).surveyed.ready
 
 pub write_frame-requires-clause-gate : goal.write_frame-requires-clause-gate
 write_frame-requires-clause-gate g c =
-    λ tells. rw c.at-target.ensures.at (c.self.invariant.0.settled tells c.in-Working.is).surveyed.gate
+    λ tells. rw c.at-target.ensures.at (c.self.invariant.0.at_rest tells c.in-Working.is).surveyed.gate
 
 pub write_frame-requires-clause-synced : goal.write_frame-requires-clause-synced
-write_frame-requires-clause-synced g c = λ tells. (c.self.invariant.0.settled tells c.in-Working.is).synced
+write_frame-requires-clause-synced g c = λ tells. (c.self.invariant.0.at_rest tells c.in-Working.is).synced
 
 pub write_frame-requires-clause-frame : goal.write_frame-requires-clause-frame
 write_frame-requires-clause-frame g c =
@@ -50,7 +50,7 @@ returns-in-Ok-clause-any_moment g c = λ tells ok.
     (λ (l : List ℕ). drop HEADER_BYTES (take c.put_frame-size.result l)) slice ∙ c.put_frame-size.ensures.body) in
     rw (← c.self.view_is)
     (weakens g.D.Disk.left_since g.D.Disk.may_leave _ _ _ _ (c.write_frame.ensures.any_moment tells content spells)
-    (λ file. ⊎_elim (λ before. inl (before ∙ (c.self.invariant.0.settled tells c.in-Working.is).surveyed.last_is)) inr))
+    (λ file. ⊎_elim (λ before. inl (before ∙ (c.self.invariant.0.at_rest tells c.in-Working.is).surveyed.last_is)) inr))
 
 pub returns-in-Err-clause-any_moment : goal.returns-in-Err-clause-any_moment
 returns-in-Err-clause-any_moment g c = λ tells ok.
@@ -69,10 +69,10 @@ returns-in-Err-clause-any_moment g c = λ tells ok.
     (λ (l : List ℕ). drop HEADER_BYTES (take c.put_frame-size.result l)) slice ∙ c.put_frame-size.ensures.body) in
     rw (← c.self.view_is)
     (weakens g.D.Disk.left_since g.D.Disk.may_leave _ _ _ _ (c.write_frame.ensures.any_moment tells content spells)
-    (λ file. ⊎_elim (λ before. inl (before ∙ (c.self.invariant.0.settled tells c.in-Working.is).surveyed.last_is)) inr))
+    (λ file. ⊎_elim (λ before. inl (before ∙ (c.self.invariant.0.at_rest tells c.in-Working.is).surveyed.last_is)) inr))
 
-pub returns-in-Ok-clause-settled : goal.returns-in-Ok-clause-settled
-returns-in-Ok-clause-settled g c = λ tells file may.
+pub returns-in-Ok-clause-at_rest : goal.returns-in-Ok-clause-at_rest
+returns-in-Ok-clause-at_rest g c = λ tells file may.
     let buffer = c.put_frame-size.new.frame in
     let size : length buffer ≡ c.self.inside.frame.len =
     omega (arith, c.put_frame-size.ensures.room, c.deref_mut.ensures.len) in
@@ -123,7 +123,7 @@ invariant_of-self-in-Ok g c =
     rw (c.after_save-self-inside.ensures, c.in-Working.is, c.swap.ensures.x_after, c.set.ensures, items) (
       kept_ok g.D.Disk.tells (g.D.Disk.seen c.self.inside.disk) _ (g.D.Disk.may_leave c.self.inside.disk) _
           c.self.inside.areas _ _ content (length buffer) least greatest
-          (λ tells. c.self.invariant.0.settled tells c.in-Working.is)
+          (λ tells. c.self.invariant.0.at_rest tells c.in-Working.is)
           (λ tells. rw (← c.at-target.ensures.at) (c.in-Ok.ensures.saved tells content spells))
           (λ tells. c.in-Ok.ensures.synced tells),
       λ some. c.requires.sound,
@@ -149,7 +149,7 @@ invariant_of-self-in-Err g c =
     rw (c.set.ensures, items) (
       kept_err g.D.Disk.tells _ _ c.self.inside.areas _ _ (length buffer) least greatest
           (λ tells file may.
-          ⊎_elim (λ before. inl (before ∙ (c.self.invariant.0.settled tells c.in-Working.is).surveyed.last_is)) inr
+          ⊎_elim (λ before. inl (before ∙ (c.self.invariant.0.at_rest tells c.in-Working.is).surveyed.last_is)) inr
           ((c.write_frame.ensures.any_moment tells content spells).now file may)),
       c.self.invariant.1,
     )

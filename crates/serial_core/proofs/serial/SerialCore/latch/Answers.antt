@@ -12,11 +12,9 @@ use Rattle.serial_core.proofs.LatchLemmas.{kept_latch}
 use Rattle.serial_core.proofs.OutcomeLemmas.{outcomes_kept}
 use Rattle.serial_core.proofs.serial.SerialCore.latch.Goals as goal
 
-pub push_within-requires-2 : goal.push_within-requires-2
-push_within-requires-2 c = record {
-  room =
-      omega (arith, c.self.inside.outcomes.ok.0, c.self.inside.log.ok.0, outcomes_kept c.self.invariant.0);
-}
+pub push_reserved-requires-2 : goal.push_reserved-requires-2
+push_reserved-requires-2 c =
+    omega (arith, c.self.inside.outcomes.ok.0, c.self.inside.log.ok.0, outcomes_kept c.self.invariant.0)
 
 pub invariant_of-self : goal.invariant_of-self
 invariant_of-self c =
@@ -29,15 +27,16 @@ invariant_of-self c =
     ∙ ap (map (sample_task c.self.inside.values.items c.image.result.now))
     (c.deref.ensures.value ∙ ap (λ p. p.tasks.items) plan_is) in (
       kept_latch k c.args.row c.moment-moment.result c.len-2.result c.image.result.now c.sample_all.new.samples.items
-          c.push_within-3.new.items.items c.push_within-2.new.items.items c.push_within.new.items.items c.due.new.self
-          c.moment-moment.ensures (c.len-2.ensures ∙ c.self.inside.log.ok.0) c.push_within-3.ensures.items
-          c.push_within-2.ensures.items c.push_within.ensures.items fit later
+          c.push_reserved-3.new.self.items c.push_reserved-2.new.self.items c.push_reserved.new.self.items
+          c.due.new.self
+          c.moment-moment.ensures (c.len-2.ensures ∙ c.self.inside.log.ok.0) c.push_reserved-3.ensures.items
+          c.push_reserved-2.ensures.items c.push_reserved.ensures.items fit later
           c.image.ensures sampled c.due.ensures.schedules c.due.ensures.number c.due.ensures.last
           (subst (λ ss. (h : History) → IsReadyOf h c.self.inside.ready → IsReadyOf
           (with_row h c.moment-moment.result ss) c.due.new.self) c.deref-3.ensures.value c.due.ensures.due),
       omega (
         arith,
-        ap (λ (l : List Entry). length l) c.push_within-3.ensures.items,
+        ap (λ (l : List Entry). length l) c.push_reserved-3.ensures.items,
         length-append c.self.inside.log.items (Row c.args.row ∷ []),
         c.self.inside.log.ok.0,
       ),
@@ -60,12 +59,12 @@ returns c =
     } in
     subst (λ (st : State). (length st.log < st.room) × (fits (plan_view st.plan) c.args.row ≡ true)
     × (comes_later st c.args.row ≡ true) × (c.len-number.result ≡ length (made st).rows)
-    × (seen c.push_within-3.new.items.items ≡ grown st (Row c.args.row))) c.self.view_is (
+    × (seen c.push_reserved-3.new.self.items ≡ grown st (Row c.args.row))) c.self.view_is (
       omega (arith, c.self.inside.log.ok.0),
       ap (λ p. fits (plan_view p) c.args.row) (sym c.deref-plan.ensures) ∙ sym c.fits.ensures ∙ c.if-not-fits.false,
       ap (λ o. is_later o c.args.row.moment) (sym k.of_past.last_is)
           ∙ ap (is_later c.self.inside.last) (sym c.moment-moment.ensures) ∙ sym c.is_later.ensures
           ∙ c.if-not-is_later.false,
       c.len-number.ensures ∙ c.self.inside.rows.ok.0 ∙ k.of_past.row_count,
-      ap seen c.push_within-3.ensures.items,
+      ap seen c.push_reserved-3.ensures.items,
     )
