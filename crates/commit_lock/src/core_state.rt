@@ -12,9 +12,9 @@ use std::marker::Model;
 
 /// A core over a disk. Contracts see its plan, start and log, how many entries are acknowledged, and its store.
 ///
-/// Its log is legal, its variables are what the executions of the log give, one after another, and every file that a
-/// stop now may leave survives: a warm restart gives what a prefix of the log leaves, which holds all that is
-/// acknowledged.
+/// Its log is legal, its variables are what the executions of the log give, one after another, and on a disk that
+/// tells every file that a stop now may leave survives: a warm restart gives what a prefix of the log leaves, which
+/// holds all that is acknowledged.
 #[derive(Drop)]
 pub struct Core<D: Disk> {
     pub(crate) serial: SerialCore,

@@ -17,7 +17,7 @@ use disk::Disk;
 use slot_run::{Snapshot, run};
 use std::alloc::{AllocError, Global};
 
-/// What is held at a place, which is empty from then on.
+/// The snapshot that is held under a number, which holds none from then on.
 fn take_held(held: &mut Vec<Option<Snapshot>>, i: usize) -> Option<Snapshot>
     ensures value { result ≡ held_at held.old.items i }
     ensures rest { held.new.items ≡ slice_set held.old.items i None }
@@ -71,7 +71,7 @@ fn take_to_hold<D: Disk>(
     }
 }
 
-/// One event.
+/// Answers one event, and appends what it takes to what is held.
 fn step<D: Disk>(
     core: &mut Core<D>,
     alloc: Global,

@@ -4,6 +4,7 @@ use Rattle.std.proofs.Common.{◌≡◌, ℕ, ◌+◌, ◌<◌, ◌≤◌, List,
 use Rattle.std.proofs.Common.{◌&&◌, ◌==◌, Option, Some, None, refl, ap, ◌∙◌, arith}
 use Rattle.std.proofs.Math.Seq.{drop-cons}
 use Rattle.std.proofs.Math.Numerals.{suc-eq-add-one}
+use Rattle.st_words.specs.declared.limits.TheConstants.{MAX_NAME_LENGTH}
 use Rattle.st_words.specs.declared.kind.Kind.{Kind}
 use Rattle.st_words.specs.declared.kind.Kind.TheVariants.{Sint, Int, Dint, Lint, Usint, Uint, Udint, Ulint, Byte, Word}
 use Rattle.st_words.specs.declared.kind.Kind.TheVariants.{Dword, Lword, Time, Bool as Boolean}
@@ -74,14 +75,15 @@ path_is p h =
     let b = both (is_name p.name) (length p.steps == 0) a.1 in
     rw (owner_none p.owner a.0, steps_none p.steps b.1) (append-nil p.name)
 
-pub name_short : (v : PlanVariable) → is_thin_variable v ≡ true → length v.path.name ≤ 64
+pub name_short : (v : PlanVariable) → is_thin_variable v ≡ true → length v.path.name ≤ MAX_NAME_LENGTH
 name_short v h =
     let a = both (is_global v.path) (is_thin_kind v.initial.kind) h in
     let b = both (is_nobody v.path.owner) (is_name v.path.name && (length v.path.steps == 0)) a.0 in
     let c = both (is_name v.path.name) (length v.path.steps == 0) b.1 in
-    let d = both (not (length v.path.name == 0)) (nat_le (length v.path.name) 64 && list_all is_word_byte v.path.name)
+    let d = both (not (length v.path.name == 0))
+    (nat_le (length v.path.name) MAX_NAME_LENGTH && list_all is_word_byte v.path.name)
     c.0 in
-    let e = both (nat_le (length v.path.name) 64) (list_all is_word_byte v.path.name) d.1 in
+    let e = both (nat_le (length v.path.name) MAX_NAME_LENGTH) (list_all is_word_byte v.path.name) d.1 in
     let f = e.0 in
     grind (arith, nat_tests)
 

@@ -1,10 +1,11 @@
 -- In a thin unit the type of an assigned variable is what each untyped literal takes.
 use Rattle.std.proofs.Common.{◌≡◌, Bool, true, false, ◌&&◌, if◌then◌else◌, List, [], ◌∷◌, map, Option, Some, None}
-use Rattle.std.proofs.Common.{option_map, nat_lt, refl, ap, sym, ◌∙◌}
+use Rattle.std.proofs.Common.{option_map, nat_le, refl, ap, sym, ◌∙◌}
 use Rattle.std.specs.Prelude.{option_and_then}
 use Rattle.std.specs.List.{list_all}
 use Rattle.std.proofs.lemmas.Bool.{and_parts}
 use Rattle.std.proofs.lemmas.Slice.Eq.{bytes_eq-Decides}
+use Rattle.st_words.specs.declared.limits.TheConstants.{MAX_DEPTH}
 use Rattle.st_words.specs.declared.identifier.Identifier.{Identifier}
 use Rattle.st_words.specs.declared.kind.Kind.{Kind}
 use Rattle.st_words.specs.declared.literal.Literal.TheVariants as literals
@@ -209,7 +210,7 @@ unit_resolved text u variables inputs body h e =
     let thin = list_all (is_thin_block variables inputs) u.blocks in
     let other = is_undeclared (type_in_blocks u.blocks u.name.name) in
     let typed = list_all (is_typed_stmt variables u.blocks) u.body in
-    let low = list_all (λ x. nat_lt (depth_of_stmt x) 65) u.body in
+    let low = list_all (λ x. nat_le (depth_of_stmt x) MAX_DEPTH) u.body in
     let p = and_parts (is_program u.sort && is_short u.name.name) (thin && (other && (typed && low))) h in
     let q = and_parts thin (other && (typed && low)) p.1 in
     let r = and_parts other (typed && low) q.1 in

@@ -9,6 +9,7 @@ use Rattle.std.proofs.lemmas.Bool.Decides.{nat_tests}
 use Rattle.std.proofs.lemmas.List.{length-map}
 use Rattle.std.proofs.lemmas.List.Folds.{list_any-append}
 use Rattle.std.proofs.lemmas.Option.{slice_get_within, get_or_from_slice_get}
+use Rattle.st_words.specs.declared.limits.TheConstants.{MAX_NAME_LENGTH, MAX_RESOURCES, MAX_TASKS, MAX_PROGRAMS}
 use Rattle.st_words.specs.declared.limits.TheConstants.{MAX_BUDGET, MAX_PATHS, MAX_RECORD_BODY}
 use Rattle.st_trees.specs.Units.{OrganisationUnit}
 use Rattle.st_plans.specs.declared.plan.PlanVariable.{PlanVariable}
@@ -51,8 +52,8 @@ bytes_spelled (b ∷ bs) h = let p = and_parts (is_word_byte b) (list_all is_wor
 
 name_spelled : (x : Name) → is_name x ≡ true → is_spelled x ≡ true
 name_spelled x h =
-    let p = and_parts (not (length x == 0)) (nat_le (length x) 64 && list_all is_word_byte x) h in
-    let q = and_parts (nat_le (length x) 64) (list_all is_word_byte x) p.1 in
+    let p = and_parts (not (length x == 0)) (nat_le (length x) MAX_NAME_LENGTH && list_all is_word_byte x) h in
+    let q = and_parts (nat_le (length x) MAX_NAME_LENGTH) (list_all is_word_byte x) p.1 in
     rw (p.0, bytes_spelled x q.1) refl
 
 variable_spelled : (v : PlanVariable) → is_thin_variable v ≡ true → is_spelled (path_text v.path) ≡ true
@@ -101,13 +102,14 @@ resource_below (p ∷ ps) zero t h = let e : task_in p ≡ t = cc in
     let f : p.resource ≡ t.resource = ap (λ x. x.resource) e in omega arith
 resource_below (p ∷ ps) (suc k) t h = let r = resource_below ps k t h in omega arith
 
-few_resources : (n : ℕ) (ps : List ThinProgram) → list_all (is_thin_program n) ps ≡ true → resources_of ps ≤ 8
+few_resources : (n : ℕ) (ps : List ThinProgram) → list_all (is_thin_program n) ps ≡ true
+    → resources_of ps ≤ MAX_RESOURCES
 few_resources n [] h = omega arith
 few_resources n (p ∷ ps) h =
     let a = and_parts (is_thin_program n p) (list_all (is_thin_program n) ps) h in
-    let b = (and_parts (nat_lt p.resource 8) (nat_lt p.unit n && nat_lt p.interval (2 ^ 63)) a.0).0 in
+    let b = (and_parts (nat_lt p.resource MAX_RESOURCES) (nat_lt p.unit n && nat_lt p.interval (2 ^ 63)) a.0).0 in
     let r = few_resources n ps a.1 in
-    let lt : p.resource < 8 = grind (arith, nat_tests) in
+    let lt : p.resource < MAX_RESOURCES = grind (arith, nat_tests) in
     omega arith
 
 -- each program is of its own task's resource
@@ -159,13 +161,13 @@ tasks_counted r [] = refl
 tasks_counted r (p ∷ ps) = counted_by (p.resource == r) p (filter (λ t. t.resource == r) (map task_in ps))
     (filter (λ q. q.resource == r) ps) (tasks_counted r ps)
 
-few_tasks : (all ps : List ThinProgram) → list_all (λ p. nat_le (programs_on p.resource all) 32) ps ≡ true
-    → list_all (λ t. nat_le (tasks_of t.resource (map task_in all)) 32) (map task_in ps) ≡ true
+few_tasks : (all ps : List ThinProgram) → list_all (λ p. nat_le (programs_on p.resource all) MAX_TASKS) ps ≡ true
+    → list_all (λ t. nat_le (tasks_of t.resource (map task_in all)) MAX_TASKS) (map task_in ps) ≡ true
 few_tasks all [] h = refl
 few_tasks all (p ∷ ps) h =
-    let a = and_parts (nat_le (programs_on p.resource all) 32)
-    (list_all (λ q. nat_le (programs_on q.resource all) 32) ps) h in
-    rw (ap (λ n. nat_le n 32) (tasks_counted p.resource all) ∙ a.0, few_tasks all ps a.1) refl
+    let a = and_parts (nat_le (programs_on p.resource all) MAX_TASKS)
+    (list_all (λ q. nat_le (programs_on q.resource all) MAX_TASKS) ps) h in
+    rw (ap (λ n. nat_le n MAX_TASKS) (tasks_counted p.resource all) ∙ a.0, few_tasks all ps a.1) refl
 
 programs_counted : (us : List OrganisationUnit) (j : ℕ) (ps : List ThinProgram)
     → length (programs_from us j ps) ≡ length ps
@@ -184,8 +186,8 @@ limits : (vs : List PlanVariable) (is : List PlanInput) (ps : List ThinProgram) 
     → IsWithinLimits vs is (resources_of ps) (map task_in ps) codes budget
 limits vs is ps n budget codes thin h same =
     let a = and_parts (nat_le (length vs + length is) MAX_PATHS) _ h in
-    let b = and_parts (nat_le (length ps) 64) _ a.1 in
-    let c = and_parts (list_all (λ p. nat_le (programs_on p.resource ps) 32) ps) _ b.1 in
+    let b = and_parts (nat_le (length ps) MAX_PROGRAMS) _ a.1 in
+    let c = and_parts (list_all (λ p. nat_le (programs_on p.resource ps) MAX_TASKS) ps) _ b.1 in
     let d = and_parts (nat_le 1 budget) _ c.1 in
     let e = and_parts (nat_le budget MAX_BUDGET) (nat_le (record_length vs) MAX_RECORD_BODY) d.1 in
     let a0 = a.0 in let b0 = b.0 in let d0 = d.0 in let e0 = e.0 in let e1 = e.1 in

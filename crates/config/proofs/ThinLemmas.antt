@@ -5,6 +5,7 @@ use Rattle.std.specs.Prelude.{max, All}
 use Rattle.std.proofs.Common.{◌++◌, subst, rules, append_assoc}
 use Rattle.std.proofs.lemmas.List.{map-append, length-map}
 use Rattle.std.proofs.lemmas.List.Elements.{All-append}
+use Rattle.st_words.specs.declared.limits.TheConstants.{MAX_RESOURCES}
 use Rattle.st_types.specs.Slots.{Slot}
 use Rattle.config.specs.declared.thin_unit.ThinUnit.{ThinUnit}
 use Rattle.config.specs.GlobalSlots.{is_named_in, HaveSlots}
@@ -113,7 +114,7 @@ pub unit_there : (n : ℕ) (ps : List ThinProgram) (i : ℕ) (d : ThinProgram) �
 unit_there n [] i d h lt = absurd (omega arith)
 unit_there n (p ∷ ps) zero d h lt =
     let a = and_parts (is_thin_program n p) (list_all (is_thin_program n) ps) h in
-    let b = and_parts (nat_lt p.resource 8) (nat_lt p.unit n && nat_lt p.interval (2 ^ 63)) a.0 in
+    let b = and_parts (nat_lt p.resource MAX_RESOURCES) (nat_lt p.unit n && nat_lt p.interval (2 ^ 63)) a.0 in
     let c = (and_parts (nat_lt p.unit n) (nat_lt p.interval (2 ^ 63)) b.1).0 in
     grind (arith, nat_tests)
 unit_there n (p ∷ ps) (suc i) d h lt =
@@ -172,12 +173,12 @@ thin_programs_are units vs is ps budget h =
     (and_parts (list_all (is_thin_program (length units)) ps) (is_within vs is ps budget) d.1).0
 
 pub programs_are_few : (n : ℕ) (ps : List ThinProgram) → list_all (is_thin_program n) ps ≡ true
-    → All (λ p. p.resource < 8) ps
+    → All (λ p. p.resource < MAX_RESOURCES) ps
 programs_are_few n [] h = search rules
 programs_are_few n (p ∷ ps) h =
     let a = and_parts (is_thin_program n p) (list_all (is_thin_program n) ps) h in
-    let b = (and_parts (nat_lt p.resource 8) (nat_lt p.unit n && nat_lt p.interval (2 ^ 63)) a.0).0 in
-    let lt : p.resource < 8 = grind (arith, nat_tests) in
+    let b = (and_parts (nat_lt p.resource MAX_RESOURCES) (nat_lt p.unit n && nat_lt p.interval (2 ^ 63)) a.0).0 in
+    let lt : p.resource < MAX_RESOURCES = grind (arith, nat_tests) in
     let rest = programs_are_few n ps a.1 in
     search rules
 

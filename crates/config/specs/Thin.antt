@@ -1,6 +1,7 @@
 -- What a unit of a thin plan may be: a program that assigns whole numbers, names and their sums to its externals.
-use Rattle.std.specs.Prelude.{nat_lt, length, List, Bool, true, false, ◌&&◌, ◌||◌, Option, Some, None, option_and_then}
+use Rattle.std.specs.Prelude.{nat_le, length, List, Bool, true, false, ◌&&◌, ◌||◌, Option, Some, None, option_and_then}
 use Rattle.std.specs.List.{list_all, list_any}
+use Rattle.st_words.specs.declared.limits.TheConstants.{MAX_DEPTH, MAX_NAME_LENGTH}
 use Rattle.st_words.specs.declared.identifier.Identifier.{Identifier}
 use Rattle.st_words.specs.declared.kind.Kind.{Kind}
 use Rattle.st_words.specs.declared.kind.Kind.TheVariants.{Int, Dint}
@@ -102,7 +103,7 @@ is_program _ = false
 
 -- a name of at most 64 characters
 abbrev pub is_short : Name → Bool
-is_short x = nat_lt (length x) 65
+is_short x = nat_le (length x) MAX_NAME_LENGTH
 
 -- a program whose externals are there, none of them of its own name, and whose body is of assignments, each at most 64
 -- deep
@@ -112,4 +113,4 @@ is_thin_unit variables inputs u =
     && (list_all (is_thin_block variables inputs) u.blocks
     && (is_undeclared (type_in_blocks u.blocks u.name.name)
     && (list_all (is_typed_stmt variables u.blocks) u.body
-    && list_all (λ x. nat_lt (depth_of_stmt x) 65) u.body)))
+    && list_all (λ x. nat_le (depth_of_stmt x) MAX_DEPTH) u.body)))

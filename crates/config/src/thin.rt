@@ -1,7 +1,8 @@
-//! Plans without a text: programs that assign sums to INT and DINT globals.
+//! Thin plans: programs that assign sums to INT and DINT globals.
 
 ghost use Rattle.std.specs.Prelude.{◌≡◌, ◌<◌, ◌≤◌, List, map, length, true, All, IfOk};
 ghost use Rattle.std.specs.List.{list_all};
+ghost use Rattle.st_words.specs.declared.limits.TheConstants.{MAX_RESOURCES};
 ghost use Rattle.st_trees.specs.Units.{OrganisationUnit};
 ghost use Rattle.st_trees.specs.UnitViews.{unit_view};
 ghost use Rattle.st_types.specs.NameTypes.{Declared};
@@ -30,7 +31,6 @@ use std::alloc::{AllocError, Global};
 use std::sync::Arc;
 
 /// A unit with its untyped literals resolved, and with its globals.
-
 fn thin_unit(
     alloc: Global,
     mut unit: Unit,
@@ -70,7 +70,7 @@ fn tasks_of(alloc: Global, programs: &[ThinProgram]) -> Result<Vec<Task>, AllocE
 /// One more than the greatest number of a resource.
 #[tactic(auto, using(crate::proofs::ThinLemmas::resources_step, crate::proofs::ThinLemmas::resources_none))]
 fn resources_of(programs: &[ThinProgram]) -> usize
-    requires few { All (λ p. p.resource < 8) programs.now }
+    requires few { All (λ p. p.resource < MAX_RESOURCES) programs.now }
     ensures { result ≡ resources_of programs.now }
 {
     let mut resources = 0;

@@ -1,7 +1,8 @@
 //! Whether a unit is one that this version runs.
 
-ghost use Rattle.std.specs.Prelude.{◌≡◌, nat_lt, Some, map, option_map};
+ghost use Rattle.std.specs.Prelude.{◌≡◌, nat_le, Some, map, option_map};
 ghost use Rattle.std.specs.List.{list_all, list_any};
+ghost use Rattle.st_words.specs.declared.limits.TheConstants.{MAX_DEPTH};
 ghost use Rattle.st_trees.specs.ExpressionViews.{expr_view};
 ghost use Rattle.st_trees.specs.StatementViews.{stmt_view};
 ghost use Rattle.st_trees.specs.DeclarationViews.{declaration_view, variable_block_view};
@@ -20,6 +21,7 @@ use st_trees::{
 };
 use st_types::lookup::{kind_of_type, type_in_blocks};
 use st_types::number_of;
+use st_words::limits::{MAX_DEPTH, MAX_NAME_LENGTH};
 use st_words::{BinaryOperator, Identifier, Kind, Literal, Name, Number};
 
 /// Whether a variable of this version may be of the type.
@@ -192,13 +194,13 @@ fn are_typed(variables: &[PlanVariable], blocks: &[VariableBlock], statements: &
 
 /// Whether the statement is within the limit of depth.
 fn is_low(statement: &Stmt) -> bool
-    ensures { result ≡ nat_lt (depth_of_stmt (stmt_view statement.now)) 65 }
+    ensures { result ≡ nat_le (depth_of_stmt (stmt_view statement.now)) MAX_DEPTH }
 {
-    statement.depth() < 65
+    statement.depth() <= MAX_DEPTH
 }
 
 fn are_low(statements: &[Stmt]) -> bool
-    ensures { result ≡ list_all (λ x. nat_lt (depth_of_stmt (stmt_view x)) 65) statements.now }
+    ensures { result ≡ list_all (λ x. nat_le (depth_of_stmt (stmt_view x)) MAX_DEPTH) statements.now }
 {
     statements.iter().all(|x| is_low(x))
 }
@@ -207,7 +209,7 @@ fn are_low(statements: &[Stmt]) -> bool
 fn is_short(name: &Name) -> bool
     ensures { result ≡ is_short name.now }
 {
-    name.as_slice().len() < 65
+    name.as_slice().len() <= MAX_NAME_LENGTH
 }
 
 /// Whether the unit is a program of this version, whose externals are there.

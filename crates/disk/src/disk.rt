@@ -1,4 +1,4 @@
-// A disk: what a read gives, what a stop now may leave, and what a stop since an earlier moment might have left.
+//! A disk: what a read gives, what a stop now may leave, and what a stop since an earlier moment might have left.
 ghost use Rattle.std.specs.Prelude.{◌≡◌, ◌≤◌, ◌+◌, List, ℕ, length, take, drop, IfOk, OnOk, OnErr};
 ghost use Rattle.disk.specs.Disk.{overwritten, Torn, Follows, Admits, Within, WidensOrKeeps, Only, NothingElse, Counts};
 
@@ -29,7 +29,8 @@ pub trait Disk {
     /// The files that a stop now may leave.
     ghost may_leave: { Self → List ℕ → Type 0 };
 
-    /// The files that a stop at some moment from the first state on might have left, up to the second.
+    /// The files that a stop at some moment from the first state on might have left, up to the second. It is bounded
+    /// from above alone: `NothingElse` says what it has not.
     ghost left_since: { Self → Self → List ℕ → Type 0 };
 
     /// How often it has failed, which every disk tells.

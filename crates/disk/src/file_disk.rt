@@ -1,4 +1,4 @@
-// A disk that is a real file. It tells nothing, since no contract can say what a file holds.
+//! A disk that is a real file. It tells nothing, since no contract can say what a file holds.
 ghost use Rattle.std.specs.Prelude.{◌≡◌, ◌+◌, ◌%◌, ◌^◌, IfOk, MatchResult, OnOk, OnErr};
 
 use crate::disk::{Disk, DiskError};

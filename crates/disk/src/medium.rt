@@ -1,4 +1,4 @@
-// What is on a simulated disk, and which of its bytes a stop may still change.
+//! What is on a simulated disk, and which of its bytes a stop may still change.
 ghost use Rattle.std.specs.Prelude.{◌≡◌, ◌≤◌, ◌<◌, ◌+◌, ◌-◌, ◌++◌, ℕ, length, take, drop, replicate, slice_index};
 ghost use Rattle.std.specs.Prelude.{slice_index_or, count_by, true, false, IfOk};
 ghost use Rattle.disk.specs.Medium.{all_synced, synced_len, with_write, IsLeft, IsWritten, torn_byte};
@@ -10,7 +10,7 @@ use std::marker::Model;
 #[derive(Drop)]
 pub struct Medium {
     bytes: Vec<u8>,
-    /// Of each place, whether it was written since the last sync.
+    /// Of each byte, whether it was written since the last sync.
     touched: Vec<bool>,
     len: usize,
     synced_len: usize,

@@ -1,4 +1,4 @@
-// A disk in memory that fails or stops where it is told to. It tells what it does.
+//! A disk in memory that fails or stops where it is told to. It tells what it does.
 ghost use Rattle.std.specs.Prelude.{◌≡◌, ◌≤◌, ◌+◌, ℕ, true, is_ok, MatchOption, length, take, drop, IfOk, nat_le};
 ghost use Rattle.std.specs.Prelude.{if◌then◌else◌};
 ghost use Rattle.disk.specs.Disk.{Only};

@@ -1,7 +1,7 @@
 //! Recorded plants: the rows of a CSV text.
 //!
-//! A row that is given has a value of its type for each input of the plan, and a moment that is later than the row's
-//! before. A plant is read whole or refused.
+//! A row that is given has a value of its type for each input of the plan, and a moment that is later than that of
+//! the row before. A plant is read whole or refused.
 #![tactic(auto)]
 
 mod header;

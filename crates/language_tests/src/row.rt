@@ -6,7 +6,7 @@
 //! |---|---|
 //! | `lexer` | what the tokens of the text are, or where they stand |
 //! | `source` | how many elements the text has, or its refusal |
-//! | `fronts` | how many of its fronts are sources with a configuration |
+//! | `prefixes` | how many of its prefixes are sources with a configuration |
 //! | `declarations` | its declarations with their places |
 //! | `expression`, `initial`, `number`, `statements` | what the text begins with, and the place where it goes on |
 //! | `tokens`, `next`, `refused` | what is read of single tokens |
@@ -17,7 +17,7 @@
 
 use crate::lexed::lexed;
 use crate::parts::{shown_expression, shown_initial, shown_number, shown_statements};
-use crate::sources::{fronts, shown_source};
+use crate::sources::{prefixes, shown_source};
 use crate::terminals::{shown_each, shown_fault, shown_next, shown_refused};
 use crate::trees::{depth, sameness};
 use scene_tables::spelled;
@@ -43,8 +43,8 @@ fn part(out: &mut String, alloc: Global, word: &str, tokens: &[Token]) -> Result
 
 /// What is answered of a text.
 fn told(out: &mut String, alloc: Global, word: &str, text: &[u8]) -> Result<(), AllocError> {
-    if word == "fronts" {
-        return fronts(out, alloc, text);
+    if word == "prefixes" {
+        return prefixes(out, alloc, text);
     }
     match lex(alloc, text) {
         Ok(tokens) => part(out, alloc, word, &tokens),

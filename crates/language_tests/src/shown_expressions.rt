@@ -94,7 +94,7 @@ pub fn variable(out: &mut String, shown: &Variable) -> Result<(), AllocError> {
     Ok(())
 }
 
-/// Writes an expression behind this text.
+/// Writes an expression after this text.
 pub fn expression_behind(out: &mut String, before: &str, shown: &Expr) -> Result<(), AllocError> {
     out.push_str(before)?;
     expression(out, shown)

@@ -128,7 +128,7 @@ fn case_arms(out: &mut String, shown: &[CaseArm]) -> Result<(), AllocError> {
     Ok(())
 }
 
-/// Writes statements behind this text.
+/// Writes statements after this text.
 #[cycle(shown)]
 pub fn block(out: &mut String, before: &str, shown: &[Stmt]) -> Result<(), AllocError> {
     out.push_str(before)?;

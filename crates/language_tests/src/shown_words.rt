@@ -10,13 +10,13 @@ pub fn name(out: &mut String, shown: &Identifier) -> Result<(), AllocError> {
     write!(out, "{word}@{}", shown.place)
 }
 
-/// Writes a name behind this text.
+/// Writes a name after this text.
 pub fn name_behind(out: &mut String, before: &str, shown: &Identifier) -> Result<(), AllocError> {
     out.push_str(before)?;
     name(out, shown)
 }
 
-/// Writes names, each with a space behind it.
+/// Writes names, each with a space after it.
 pub fn names(out: &mut String, shown: &[Identifier]) -> Result<(), AllocError> {
     for found in shown {
         name(out, found)?;

@@ -69,7 +69,7 @@ fn outcome_of(alloc: Global, text: &[u8]) -> Outcome {
 
 /// Of the prefixes of the text, itself included: how many are read as a source with a configuration, and how many are
 /// refused otherwise than a text that ends too early.
-pub fn fronts(out: &mut String, alloc: Global, text: &[u8]) -> Result<(), AllocError> {
+pub fn prefixes(out: &mut String, alloc: Global, text: &[u8]) -> Result<(), AllocError> {
     let mut configured: u64 = 0;
     let mut refused: u64 = 0;
     for end in 0..=text.len() {

@@ -32,7 +32,7 @@ fn read_given(tokens: &[Token]) -> Result<Given, ReadError> {
     })
 }
 
-/// The place of the keyword TASK, a name and what is given behind it.
+/// The place of the keyword TASK, a name and what is given after it.
 fn read_each(alloc: Global, tokens: &[Token]) -> Result<(usize, Identifier, Given), ReadError> {
     let (first, rest) = keyword(Keyword::Task, tokens)?;
     let (found, rest) = name(alloc, rest)?;

@@ -1,7 +1,7 @@
 //! What the program `plant` does, over any files and outputs.
 //!
-//! It owns the order of work and the exit statuses. A report is printed after a run that ended well, and never beside a
-//! refusal.
+//! It owns the order of work and the exit statuses. A report is printed after a run that ended well, and none beside a
+//! refusal, but where the standard output fails half way.
 #![tactic(auto)]
 
 mod built_in;

@@ -66,8 +66,8 @@ fn round<D: Disk>(alloc: Global, core: &mut Core<D>, resources: usize) -> Result
 
 /// Runs and commits until nothing waits, and acknowledges it all.
 ///
-/// The first commit of a round is never stale. So each round but the last has one entry more in the log, which is full
-/// after `log_room` of them.
+/// The first commit of a round is never stale. So each round but the last has at least one entry more in the log, which
+/// is full after `log_room` of them.
 pub fn settle<D: Disk>(
     alloc: Global,
     core: &mut Core<D>,

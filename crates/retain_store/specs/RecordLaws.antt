@@ -1,5 +1,5 @@
--- A body that is decoded is the record that it spells, and a record is decoded: one spelling a value, and one value a
--- spelling.
+-- A body that is decoded is the record that it spells, and a record is decoded: one spelling a content, and one
+-- content a spelling.
 use Rattle.std.proofs.Common.{◌≡◌, ℕ, ◌+◌, ◌^◌, ◌<◌, ◌≤◌, true, false, cond, not, List, [], ◌∷◌, ◌++◌, length, map}
 use Rattle.std.proofs.Common.{take, drop, Option, Some, None, refl, sym, ap, subst, ◌∙◌, append_assoc, arith, inl, inr}
 use Rattle.std.specs.Prelude.{◌==◌, ◌&&◌, IfSome, bytes_eq, nat_le}

@@ -55,7 +55,7 @@ fn read_header(bytes: &[u8]) -> Header
     Header { generation, size }
 }
 
-/// Looks after an open gate. The record is read where there is one.
+/// Looks at what stands after an open gate. The record is read where there is one.
 fn look_behind(behind: &[u8], into: &mut Record, lines: &mut LineRoom) -> Look
     requires { length behind.now ≡ AREA_BYTES - 1 }
     ensures shown { opened behind.now ≡ shown result into.new }

@@ -70,7 +70,7 @@ impl SerialCore {
         self.last
     }
 
-    /// Puts the values of the retained variables, in order, in@schedule@of what is there. It takes no memory.
+    /// Puts the values of the retained variables, in order, in place of what is there. It takes no memory.
     pub fn retain(&self, values: &mut Vec<Value>)
         requires room { length self.now.plan.variables.items ≤ vec_capacity values.old }
         ensures values { values.new.items ≡ map (λ e. e.1) (kept (plan_view self.now.plan) (made self.now).store) }

@@ -52,7 +52,7 @@ pub fn copied_globals(alloc: Global, globals: &[GlobalSlot]) -> Result<Vec<Globa
     Ok(copied)
 }
 
-/// The global of a name, by its place in the list.
+/// The first global of a name.
 #[tactic(auto, using(crate::proofs::GlobalLemmas::here_at, crate::proofs::GlobalLemmas::behind_at))]
 pub fn global_named<'a>(globals: &'a [GlobalSlot], name: &Name) -> Option<&'a GlobalSlot>
     ensures { option_map (λ g. g.now) result ≡ global_named globals.now name.now }

@@ -3,6 +3,7 @@ use Rattle.std.proofs.Common.{◌≡◌, ◌∙◌, ◌<◌, ◌≤◌, ap, sym,
 use Rattle.std.proofs.Common.{false, ◌&&◌, Some, Ok, Err, Result, IfOk, IfErr, rules, arith}
 use Rattle.std.specs.Prelude.{nat_le}
 use Rattle.std.specs.Global.{Vec}
+use Rattle.st_words.specs.declared.limits.TheConstants.{MAX_TASKS, MAX_PROGRAMS}
 use Rattle.st_trees.specs.declared.source.Source.{Source as Tree}
 use Rattle.std.specs.List.{list_all}
 use Rattle.std.proofs.lemmas.Bool.{and_parts}
@@ -56,8 +57,8 @@ limits_of units vs is ps budget h =
     let d = and_parts (list_all (is_thin_unit vs is) units) _ c.1 in
     let e = and_parts (list_all (is_thin_program (length units)) ps) (is_within vs is ps budget) d.1 in
     let f = and_parts (nat_le (length vs + length is) MAX_PATHS) _ e.1 in
-    let g = and_parts (nat_le (length ps) 64) _ f.1 in
-    let i = and_parts (list_all (λ p. nat_le (programs_on p.resource ps) 32) ps) _ g.1 in
+    let g = and_parts (nat_le (length ps) MAX_PROGRAMS) _ f.1 in
+    let i = and_parts (list_all (λ p. nat_le (programs_on p.resource ps) MAX_TASKS) ps) _ g.1 in
     let j = and_parts (nat_le 1 budget) _ i.1 in
     let k = and_parts (nat_le budget MAX_BUDGET) (nat_le (record_length vs) MAX_RECORD_BODY) j.1 in
     record { paths = f.0; least = j.0; most = k.0; long = k.1 }

@@ -91,7 +91,7 @@ abbrev pub is_known_resource : List OrganisationUnit → List GlobalBlock → Re
 is_known_resource units blocks r =
     list_all (is_known_instance units r.tasks) r.instances && list_all (λ t. is_known_single blocks t.single) r.tasks
 
--- Tasks, programs, globals and SINGLEs are known, and externals are of the types of their globals.
+-- Tasks, programs, globals and SINGLEs are known, and externals have no other elementary types than their globals.
 abbrev pub are_known : List OrganisationUnit → Configuration → Bool
 are_known units c =
     list_all (has_known_externals c.globals) units && list_all (is_known_resource units c.globals) c.resources

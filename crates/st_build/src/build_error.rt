@@ -27,8 +27,8 @@ pub enum BuildError {
     /// There is no CONFIGURATION, or a second one.
     #[error("G2")]
     NoConfiguration,
-    /// A task, the type of a program or a global is unknown; or a VAR_EXTERNAL has another type than its global, or
-    /// isn't CONSTANT just where the global is CONSTANT or an input; or a SINGLE isn't a BOOL global.
+    /// A task, the type of a program or a global is unknown; or a VAR_EXTERNAL has another elementary type than its
+    /// global, or isn't CONSTANT just where the global is CONSTANT or an input; or a SINGLE isn't a BOOL global.
     #[error("G3")]
     Unknown,
     /// An address is doubled, out of range or of another width; or an input has an initial value; or AT stands with

@@ -290,7 +290,8 @@ fn are_known_resources(units: &[Unit], blocks: &[GlobalBlock], resources: &[Reso
     have_known_parts(units, blocks, resources)
 }
 
-/// Whether tasks, programs, globals and SINGLEs are known, and externals are of the types of their globals.
+/// Whether tasks, programs, globals and SINGLEs are known, and externals have no other elementary types than their
+/// globals.
 pub fn are_known(units: &[Unit], configuration: &Configuration) -> bool
     ensures { result ≡ are_known (map unit_view units.now) (configuration_view configuration.now) }
 {

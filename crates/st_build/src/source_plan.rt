@@ -43,7 +43,7 @@ fn plan_of(alloc: Global, source: Source, budget: u32) -> Result<Plan, BuildErro
 /// This version runs programs that assign whole-number literals, names and their sums to VAR_EXTERNAL globals of INT
 /// and DINT, and inputs of the plant, each program in a task of its own with an INTERVAL and PRIORITY 0. G7 comes
 /// first, then the lexer's and the parser's refusals, then the others, of which any that applies may come. X2 is for
-/// what this version can't run, where no other number applies.
+/// what this version can't run, where no other number applies but M1 or G6.
 pub fn build(alloc: Global, text: &[u8], budget: u32) -> Result<Plan, BuildError>
     // The budget is judged before all else.
     ensures budget { (budget ≡ 0) ⊎ (MAX_BUDGET < budget) → IsErrOf result BuildError.Budget }

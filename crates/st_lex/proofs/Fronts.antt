@@ -1,4 +1,4 @@
--- The run of prefixes.
+-- One text has one list of tokens, or one first fault.
 use Rattle.std.proofs.Common.{◌≡◌, ℕ, ◌+◌, ◌≤◌, List, [], ◌∷◌, ◌++◌, length, take, drop, refl, sym, ap, ◌∙◌}
 use Rattle.std.proofs.Common.{append_assoc, arith, ◌-◌, length-drop}
 use Rattle.std.proofs.lemmas.List.{drop-drop, append-nil, take_all}

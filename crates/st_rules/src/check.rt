@@ -42,7 +42,7 @@ fn broken_against(alloc: Global, rule: Rule, source: &Source) -> Result<Option<B
 ///
 /// It looks into all declarations of names, into initial values that are constants, into PRIORITY, and into the
 /// assignments at the top level of bodies; of their types, where the target is the name of an elementary variable and
-/// the expression has neither calls nor members nor subscripts.
+/// the expression is of literals, names of elementary variables, parentheses and operators.
 pub fn broken_rule(alloc: Global, source: &Source) -> Result<Option<Broken>, AllocError>
     ensures applies { IfOk result (λ broken. IfSome broken (Breaks (source_view source.now))) }
     ensures once { IfOk result

@@ -67,7 +67,7 @@ pub struct Priority {
     pub number: u64,
 }
 
-/// A task.
+/// A task of a resource, by which program instances become due.
 #[derive(Drop)]
 pub struct Task {
     pub name: Identifier,
@@ -97,7 +97,7 @@ pub struct Resource {
     pub instances: Vec<Instance>,
 }
 
-/// A configuration.
+/// A configuration: its globals, and its resources with their tasks and program instances.
 #[derive(Drop)]
 pub struct Configuration {
     pub name: Identifier,

@@ -8,7 +8,7 @@ ghost use Rattle.st_trees.specs.ExpressionViews.{expr_view, variable_view, selec
 use st_words::{BinaryOperator, Identifier, Literal, Tree, UnaryOperator};
 use std::alloc::{AllocError, Global};
 
-/// An expression.
+/// An expression: a literal, a variable, a call of a function, or an operator over expressions.
 #[derive(Drop)]
 #[cycle(expression)]
 pub enum Expr {

@@ -7,7 +7,7 @@ ghost use Rattle.st_trees.specs.InitialViews.{initial_view, element_view, member
 
 use st_words::{Identifier, Literal, Number, Tree};
 
-/// An initial value.
+/// An initial value: a constant, the elements of an array, or the members of a structure.
 #[derive(Drop)]
 #[cycle(initial)]
 pub enum Initial {

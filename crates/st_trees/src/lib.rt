@@ -1,4 +1,4 @@
-//! The trees of a text, and their pure mirror, of which all definitions speak.
+//! The trees of a text, and their pure mirror, of which grammar, rules and meaning speak.
 //!
 //! Two trees are equal exactly where their mirrors are. Nothing here judges a tree.
 #![tactic(auto)]

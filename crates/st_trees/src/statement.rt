@@ -9,7 +9,7 @@ ghost use Rattle.st_trees.specs.StatementViews.{argument_view, arm_view, case_ar
 use crate::expression::{Expr, Variable};
 use st_words::{Identifier, Number, Tree, same_option, same_trees};
 
-/// A statement.
+/// A statement of a body, without its semicolon.
 #[derive(Drop)]
 #[cycle(statement)]
 pub enum Stmt {

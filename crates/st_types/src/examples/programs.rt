@@ -70,7 +70,7 @@ pub fn loops_with_a_variable()
         ≡ Ok (goes_on (variables ((I, int (pos 3)) ∷ (K, int (pos 2)) ∷ [])), 0) }
 {}
 
-/// Standard functions.
+/// What standard functions give at the ends of types, and what they refuse.
 pub fn standard_functions()
     ensures abs_of_the_least { standard_value ABS (datum Sint (negsuc 127) ∷ []) ≡ Err Range }
     ensures int_to_usint { standard_value (CONVERT Int Usint) (int (pos 256) ∷ []) ≡ Err Conversion }
@@ -105,7 +105,7 @@ pub fn timers()
     ensures tp_of_0 { timed TP (pos 0) ((0, true) ∷ []) ≡ q_et false 0 ∷ [] }
 {}
 
-/// Edges and counters.
+/// What edges see at their first calls, and where counters stop.
 pub fn edges_and_counters()
     // F_TRIG twice with CLK FALSE
     ensures f_trig { outputs_of F_TRIG 1 1 ((0, bool false ∷ []) ∷ (10, bool false ∷ []) ∷ []) (fresh_members F_TRIG)

@@ -13,7 +13,8 @@ row_of-requires c =
       there = rw c.deref-2.ensures.value (waits-row c.self.invariant.0 c.args.activation w);
       row = (
         row_at (past_of (plan_view c.self.inside.plan.value)
-            (store_in c.self.inside.plan.value c.self.inside.start.items) c.self.inside.log.items).rows c.args.activation.row,
+            (store_in c.self.inside.plan.value c.self.inside.start.items) c.self.inside.log.items).rows
+            c.args.activation.row,
         rw (c.deref.ensures.value, c.deref-2.ensures.value) (row_found c.self.invariant.0 c.args.activation w),
       );
     }
