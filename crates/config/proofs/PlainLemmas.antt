@@ -1,8 +1,9 @@
 -- The resolved body of a thin unit is of plain assignments to the unit's globals.
 use Rattle.std.proofs.Common.{◌≡◌, Bool, true, false, ◌&&◌, List, [], ◌∷◌, map, Option, Some, None, refl, ap, ◌∙◌}
-use Rattle.std.specs.Prelude.{bytes_eq, nat_lt, option_and_then}
+use Rattle.std.specs.Prelude.{bytes_eq, nat_le, option_and_then}
 use Rattle.std.proofs.Common.{◌||◌, if◌then◌else◌, arith}
 use Rattle.std.proofs.lemmas.Bool.Decides.{nat_tests}
+use Rattle.st_words.specs.declared.limits.TheConstants.{MAX_DEPTH}
 use Rattle.st_words.specs.Kinds.{same_kind}
 use Rattle.std.specs.List.{list_all}
 use Rattle.std.proofs.lemmas.Bool.{and_parts}
@@ -130,7 +131,7 @@ unit_plain text u variables inputs globals h names out =
     let thin = list_all (is_thin_block variables inputs) u.blocks in
     let other = is_undeclared (type_in_blocks u.blocks u.name.name) in
     let typed = list_all (is_typed_stmt variables u.blocks) u.body in
-    let low = list_all (λ x. nat_lt (depth_of_stmt x) 65) u.body in
+    let low = list_all (λ x. nat_le (depth_of_stmt x) MAX_DEPTH) u.body in
     let p = and_parts (is_program u.sort && is_short u.name.name) (thin && (other && (typed && low))) h in
     let q = and_parts thin (other && (typed && low)) p.1 in
     let r = and_parts other (typed && low) q.1 in
