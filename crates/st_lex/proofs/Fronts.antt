@@ -1,4 +1,4 @@
--- The run of prefixes.
+-- What stands in front, and then the rest: a text is read in one way.
 use Rattle.std.proofs.Common.{◌≡◌, ℕ, ◌+◌, ◌≤◌, List, [], ◌∷◌, ◌++◌, length, take, drop, refl, sym, ap, ◌∙◌}
 use Rattle.std.proofs.Common.{append_assoc, arith, ◌-◌, length-drop}
 use Rattle.std.proofs.lemmas.List.{drop-drop, append-nil, take_all}

@@ -19,6 +19,7 @@ type Block<'a> = Result<(VariableBlock, &'a [Token]), ReadError>;
 
 type Blocks<'a> = Result<(Vec<VariableBlock>, &'a [Token]), ReadError>;
 
+/// `function_block = function_section, declarations, "END_VAR" .`
 #[tactic(auto, unfolding(crate::specs::UnitReading::function_block_at, crate::specs::UnitReading::block_at))]
 fn function_block(alloc: Global, tokens: &[Token]) -> Block<'_>
     ensures { Gives (λ x. (variable_block_view x.0, x.1.now)) result (reading.function_block_at MAX_DEPTH tokens.now) }
@@ -33,6 +34,7 @@ fn function_block(alloc: Global, tokens: &[Token]) -> Block<'_>
     Ok((block, rest))
 }
 
+/// `external_block = external_section, externals, "END_VAR" .`
 #[tactic(auto, unfolding(crate::specs::UnitReading::external_block_at, crate::specs::UnitReading::block_at))]
 fn external_block(alloc: Global, tokens: &[Token]) -> Block<'_>
     ensures { Gives (λ x. (variable_block_view x.0, x.1.now)) result (reading.external_block_at tokens.now) }
@@ -47,6 +49,7 @@ fn external_block(alloc: Global, tokens: &[Token]) -> Block<'_>
     Ok((block, rest))
 }
 
+/// `program_block = external_block | own_section, declarations, "END_VAR" .`
 #[tactic(auto, unfolding(crate::specs::UnitReading::program_block_at, crate::specs::UnitReading::block_at))]
 fn program_block(alloc: Global, tokens: &[Token]) -> Block<'_>
     ensures { Gives (λ x. (variable_block_view x.0, x.1.now)) result (reading.program_block_at MAX_DEPTH tokens.now) }
@@ -64,6 +67,7 @@ fn program_block(alloc: Global, tokens: &[Token]) -> Block<'_>
     Ok((block, rest))
 }
 
+/// `variable_block = external_block | block_section, declarations, "END_VAR" .`
 #[tactic(auto, unfolding(crate::specs::UnitReading::variable_block_at, crate::specs::UnitReading::block_at))]
 fn variable_block(alloc: Global, tokens: &[Token]) -> Block<'_>
     ensures { Gives (λ x. (variable_block_view x.0, x.1.now)) result (reading.variable_block_at MAX_DEPTH tokens.now) }
@@ -101,6 +105,7 @@ fn begins_in_block(tokens: &[Token]) -> bool
         || begins_in_program(tokens)
 }
 
+/// `function_blocks = { function_block } .`
 /// The blocks of a function.
 #[tactic(auto, unfolding(crate::specs::Reading::many))]
 pub fn function_blocks(alloc: Global, tokens: &[Token]) -> Blocks<'_>
@@ -115,6 +120,7 @@ pub fn function_blocks(alloc: Global, tokens: &[Token]) -> Blocks<'_>
     )
 }
 
+/// `program_blocks = { program_block } .`
 /// The blocks of a program.
 #[tactic(auto, unfolding(crate::specs::Reading::many))]
 pub fn program_blocks(alloc: Global, tokens: &[Token]) -> Blocks<'_>
@@ -129,6 +135,7 @@ pub fn program_blocks(alloc: Global, tokens: &[Token]) -> Blocks<'_>
     )
 }
 
+/// `variable_blocks = { variable_block } .`
 /// The blocks of a function block.
 #[tactic(auto, unfolding(crate::specs::Reading::many))]
 pub fn variable_blocks(alloc: Global, tokens: &[Token]) -> Blocks<'_>

@@ -16,6 +16,7 @@ use st_statements::{ReadError, keyword, leads, name, several};
 use st_trees::{Configuration, GlobalBlock, Resource};
 use std::alloc::Global;
 
+/// `global_blocks = { global_block } .`
 #[tactic(auto, unfolding(crate::specs::Reading::many))]
 fn global_blocks(alloc: Global, tokens: &[Token]) -> Result<(Vec<GlobalBlock>, &[Token]), ReadError>
     ensures { Gives (λ x. (map global_block_view x.0.items, x.1.now)) result
@@ -29,6 +30,7 @@ fn global_blocks(alloc: Global, tokens: &[Token]) -> Result<(Vec<GlobalBlock>, &
     )
 }
 
+/// `resources = resource, { resource } .`
 #[tactic(auto, unfolding(crate::specs::Reading::at_least_one))]
 fn resources(alloc: Global, tokens: &[Token]) -> Result<(Vec<Resource>, &[Token]), ReadError>
     ensures { Gives (λ x. (map resource_view x.0.items, x.1.now)) result
@@ -45,6 +47,7 @@ fn resources(alloc: Global, tokens: &[Token]) -> Result<(Vec<Resource>, &[Token]
     )
 }
 
+/// `configuration = "CONFIGURATION", name, global_blocks, resources, "END_CONFIGURATION" .`
 /// A configuration, from CONFIGURATION to END_CONFIGURATION.
 #[tactic(auto, unfolding(crate::specs::ConfigurationReading::configuration_at))]
 pub fn configuration(

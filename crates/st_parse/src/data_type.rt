@@ -20,6 +20,7 @@ use st_trees::{
 use st_words::Identifier;
 use std::alloc::Global;
 
+/// `simple = Elementary | Name .`
 /// A type that is named by one word.
 fn simple(alloc: Global, tokens: &[Token]) -> Result<(SimpleType, &[Token]), ReadError>
     ensures { Gives (λ x. (x.0, x.1.now)) result (one specs.simple tokens.now) }
@@ -40,6 +41,7 @@ fn simple(alloc: Global, tokens: &[Token]) -> Result<(SimpleType, &[Token]), Rea
     }
 }
 
+/// `array = "ARRAY", "[", number, "..", number, "]", "OF", simple .`
 #[tactic(auto, unfolding(crate::specs::TypeReading::array_at))]
 fn array(alloc: Global, tokens: &[Token]) -> Result<(ArrayType, &[Token]), ReadError>
     ensures { Gives (λ x. (x.0, x.1.now)) result (reading.array_at tokens.now) }
@@ -61,6 +63,7 @@ fn array(alloc: Global, tokens: &[Token]) -> Result<(ArrayType, &[Token]), ReadE
     Ok((array, rest))
 }
 
+/// `type = array | simple .`
 /// The type of a variable or a field, and the tokens after it.
 #[tactic(auto, unfolding(crate::specs::TypeReading::type_at, crate::specs::TypeReading::array_type_at, crate::specs::TypeReading::simple_type_at))]
 pub fn variable_type(alloc: Global, tokens: &[Token]) -> Result<(VariableType, &[Token]), ReadError>
@@ -74,6 +77,7 @@ pub fn variable_type(alloc: Global, tokens: &[Token]) -> Result<(VariableType, &
     Ok((VariableType::Simple(found), rest))
 }
 
+/// `given = ":=", initial .`
 #[tactic(auto, unfolding(crate::specs::TypeReading::given_at))]
 fn given(alloc: Global, tokens: &[Token]) -> Result<(Initial, &[Token]), ReadError>
     ensures { Gives (λ x. (initial_view x.0, x.1.now)) result (reading.given_at MAX_DEPTH tokens.now) }
@@ -82,6 +86,7 @@ fn given(alloc: Global, tokens: &[Token]) -> Result<(Initial, &[Token]), ReadErr
     read_initial(alloc, rest)
 }
 
+/// `given_or_not = [ given ] .`
 /// An initial value after `:=`, if there is one, and the tokens after it.
 #[tactic(auto, unfolding(crate::specs::TypeReading::given_or_not, crate::specs::Reading::optional))]
 pub fn given_or_not(
@@ -97,6 +102,7 @@ pub fn given_or_not(
     Ok((Some(value), rest))
 }
 
+/// `field = name, ":", type, given_or_not, ";" .`
 #[tactic(auto, unfolding(crate::specs::TypeReading::field_at))]
 fn field(alloc: Global, tokens: &[Token]) -> Result<(Field, &[Token]), ReadError>
     ensures { Gives (λ x. (field_view x.0, x.1.now)) result (reading.field_at MAX_DEPTH tokens.now) }
@@ -114,6 +120,7 @@ fn field(alloc: Global, tokens: &[Token]) -> Result<(Field, &[Token]), ReadError
     Ok((field, rest))
 }
 
+/// `fields = field, { field } .`
 #[tactic(auto, unfolding(crate::specs::TypeReading::fields_at, crate::specs::Reading::at_least_one))]
 fn fields(alloc: Global, tokens: &[Token]) -> Result<(Vec<Field>, &[Token]), ReadError>
     ensures { Gives (λ x. (map field_view x.0.items, x.1.now)) result (reading.fields_at MAX_DEPTH tokens.now) }
@@ -129,6 +136,7 @@ fn fields(alloc: Global, tokens: &[Token]) -> Result<(Vec<Field>, &[Token]), Rea
     )
 }
 
+/// `definition = array | "STRUCT", fields, "END_STRUCT" .`
 #[tactic(auto, unfolding(crate::specs::TypeReading::definition_at, crate::specs::TypeReading::array_definition_at, crate::specs::TypeReading::structure_at))]
 fn definition(alloc: Global, tokens: &[Token]) -> Result<(TypeDefinition, &[Token]), ReadError>
     ensures { Gives (λ x. (type_definition_view x.0, x.1.now)) result (reading.definition_at MAX_DEPTH tokens.now) }
@@ -143,6 +151,7 @@ fn definition(alloc: Global, tokens: &[Token]) -> Result<(TypeDefinition, &[Toke
     Ok((TypeDefinition::Structure(fields), rest))
 }
 
+/// `type_declaration = name, ":", definition, ";" .`
 #[tactic(auto, unfolding(crate::specs::TypeReading::type_declaration_at))]
 fn type_declaration(
     alloc: Global,
@@ -158,6 +167,7 @@ fn type_declaration(
     Ok((TypeDeclaration { name, definition }, rest))
 }
 
+/// `type_declarations = type_declaration, { type_declaration } .`
 #[tactic(auto, unfolding(crate::specs::TypeReading::type_declarations_at, crate::specs::Reading::at_least_one))]
 fn type_declarations(
     alloc: Global,
@@ -177,6 +187,7 @@ fn type_declarations(
     )
 }
 
+/// `types = "TYPE", type_declarations, "END_TYPE" .`
 /// A block from TYPE to END_TYPE, and the tokens after it.
 #[tactic(auto, unfolding(crate::specs::TypeReading::types_at))]
 pub fn types(alloc: Global, tokens: &[Token]) -> Result<(Vec<TypeDeclaration>, &[Token]), ReadError>

@@ -17,6 +17,7 @@ use std::alloc::Global;
 
 type Declarations<'a> = Result<(Vec<Declaration>, &'a [Token]), ReadError>;
 
+/// `declaration = names, ":", type, given_or_not, ";" .`
 /// Names of one type, with an initial value or without.
 #[tactic(auto, unfolding(crate::specs::UnitReading::declaration_at))]
 fn declaration(alloc: Global, tokens: &[Token]) -> Result<(Declaration, &[Token]), ReadError>
@@ -35,6 +36,7 @@ fn declaration(alloc: Global, tokens: &[Token]) -> Result<(Declaration, &[Token]
     Ok((declaration, rest))
 }
 
+/// `external = names, ":", type, ";" .`
 /// Names of one type, without an initial value.
 #[tactic(auto, unfolding(crate::specs::UnitReading::external_at))]
 fn external(alloc: Global, tokens: &[Token]) -> Result<(Declaration, &[Token]), ReadError>
@@ -52,6 +54,7 @@ fn external(alloc: Global, tokens: &[Token]) -> Result<(Declaration, &[Token]), 
     Ok((declaration, rest))
 }
 
+/// `declarations = { declaration } .`
 /// Any number of declarations.
 #[tactic(auto, unfolding(crate::specs::Reading::many))]
 pub fn declarations(alloc: Global, tokens: &[Token]) -> Declarations<'_>
@@ -66,6 +69,7 @@ pub fn declarations(alloc: Global, tokens: &[Token]) -> Declarations<'_>
     )
 }
 
+/// `externals = { external } .`
 /// Any number of declarations of externals.
 #[tactic(auto, unfolding(crate::specs::Reading::many))]
 pub fn externals(alloc: Global, tokens: &[Token]) -> Declarations<'_>

@@ -19,6 +19,7 @@ use std::alloc::Global;
 
 type Names<'a> = Result<(GlobalNames, &'a [Token]), ReadError>;
 
+/// `address = Address .`
 /// A direct address.
 fn address(tokens: &[Token]) -> Result<(Address, &[Token]), ReadError>
     ensures { Gives (λ x. (x.0, x.1.now)) result (one specs.address tokens.now) }
@@ -32,6 +33,7 @@ fn address(tokens: &[Token]) -> Result<(Address, &[Token]), ReadError>
     }
 }
 
+/// `located_of = "AT", address .`
 #[tactic(auto, unfolding(crate::specs::ConfigurationReading::located_of))]
 fn located_of<'a>(name: Identifier, tokens: &'a [Token]) -> Names<'a>
     ensures { Gives (λ x. (global_names_view x.0, x.1.now)) result (reading.located_of name tokens.now) }
@@ -41,6 +43,7 @@ fn located_of<'a>(name: Identifier, tokens: &'a [Token]) -> Names<'a>
     Ok((GlobalNames::Located(name, address), rest))
 }
 
+/// `listed_of = names_behind .`
 #[tactic(auto, unfolding(crate::specs::ConfigurationReading::listed_of))]
 fn listed_of<'a>(alloc: Global, first: Identifier, tokens: &'a [Token]) -> Names<'a>
     ensures { Gives (λ x. (global_names_view x.0, x.1.now)) result (reading.listed_of first tokens.now) }
@@ -49,7 +52,7 @@ fn listed_of<'a>(alloc: Global, first: Identifier, tokens: &'a [Token]) -> Names
     Ok((GlobalNames::Listed(names), rest))
 }
 
-/// A name at an address, or names with commas between them.
+/// `global_names = name, ( located_of | listed_of ) .`
 #[tactic(auto, unfolding(crate::specs::ConfigurationReading::global_names_at))]
 fn global_names(alloc: Global, tokens: &[Token]) -> Names<'_>
     ensures { Gives (λ x. (global_names_view x.0, x.1.now)) result (reading.global_names_at tokens.now) }
@@ -61,6 +64,7 @@ fn global_names(alloc: Global, tokens: &[Token]) -> Names<'_>
     listed_of(alloc, first, rest)
 }
 
+/// `global = global_names, ":", type, given_or_not, ";" .`
 #[tactic(auto, unfolding(crate::specs::ConfigurationReading::global_at))]
 fn global(alloc: Global, tokens: &[Token]) -> Result<(GlobalDeclaration, &[Token]), ReadError>
     ensures { Gives (λ x. (global_declaration_view x.0, x.1.now)) result (reading.global_at MAX_DEPTH tokens.now) }
@@ -78,6 +82,7 @@ fn global(alloc: Global, tokens: &[Token]) -> Result<(GlobalDeclaration, &[Token
     Ok((declaration, rest))
 }
 
+/// `globals = { global } .`
 #[tactic(auto, unfolding(crate::specs::Reading::many))]
 fn globals(alloc: Global, tokens: &[Token]) -> Result<(Vec<GlobalDeclaration>, &[Token]), ReadError>
     ensures { Gives (λ x. (map global_declaration_view x.0.items, x.1.now)) result
@@ -91,7 +96,7 @@ fn globals(alloc: Global, tokens: &[Token]) -> Result<(Vec<GlobalDeclaration>, &
     )
 }
 
-/// CONSTANT or RETAIN.
+/// `qualifier = "CONSTANT" | "RETAIN" .`
 fn qualifier(tokens: &[Token]) -> Result<(GlobalQualifier, &[Token]), ReadError>
     ensures { Gives (λ x. (x.0, x.1.now)) result (one specs.qualifier tokens.now) }
 {
@@ -111,6 +116,7 @@ fn begins_qualifier(tokens: &[Token]) -> bool
     leads(Keyword::Constant, tokens) || leads(Keyword::Retain, tokens)
 }
 
+/// `qualifier_or_not = [ qualifier ] .`
 #[tactic(auto, unfolding(crate::specs::Reading::optional))]
 fn qualifier_or_not(tokens: &[Token]) -> Result<(Option<GlobalQualifier>, &[Token]), ReadError>
     ensures { Gives (λ x. (x.0, x.1.now)) result (optional reading.is_qualifier (one specs.qualifier) tokens.now) }
@@ -122,6 +128,7 @@ fn qualifier_or_not(tokens: &[Token]) -> Result<(Option<GlobalQualifier>, &[Toke
     Ok((Some(found), rest))
 }
 
+/// `global_block = "VAR_GLOBAL", qualifier_or_not, globals, "END_VAR" .`
 /// A block of global variables, from VAR_GLOBAL to END_VAR.
 #[tactic(auto, unfolding(crate::specs::ConfigurationReading::global_block_at))]
 pub fn global_block(alloc: Global, tokens: &[Token]) -> Result<(GlobalBlock, &[Token]), ReadError>

@@ -15,6 +15,7 @@ use std::alloc::Global;
 /// Names, and the tokens after them.
 pub type Names<'a> = Result<(Vec<Identifier>, &'a [Token]), ReadError>;
 
+/// `next_name = ",", name .`
 #[tactic(auto, unfolding(st_statements::specs::Parsers::after_comma))]
 fn next_name(alloc: Global, tokens: &[Token]) -> Result<(Identifier, &[Token]), ReadError>
     ensures { Gives (λ x. (x.0, x.1.now)) result (parsers.after_comma (one tokens_of.name) tokens.now) }
@@ -23,6 +24,7 @@ fn next_name(alloc: Global, tokens: &[Token]) -> Result<(Identifier, &[Token]), 
     name(alloc, rest)
 }
 
+/// `names_behind = { next_name } .`
 /// Names after a first one.
 pub fn names_behind<'a>(alloc: Global, first: Identifier, tokens: &'a [Token]) -> Names<'a>
     ensures { Gives (λ x. (x.0.items, x.1.now)) result
@@ -38,7 +40,7 @@ pub fn names_behind<'a>(alloc: Global, first: Identifier, tokens: &'a [Token]) -
     )
 }
 
-/// Names with commas between them.
+/// `names = name, names_behind .`
 #[tactic(auto, unfolding(crate::specs::UnitReading::names_at, st_statements::specs::Parsers::listed))]
 pub fn names(alloc: Global, tokens: &[Token]) -> Names<'_>
     ensures { Gives (λ x. (x.0.items, x.1.now)) result (reading.names_at tokens.now) }

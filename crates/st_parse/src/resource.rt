@@ -15,6 +15,7 @@ use st_trees::{Instance, Priority, Resource, Task};
 use st_words::Identifier;
 use std::alloc::Global;
 
+/// `duration = Duration .`
 /// A duration in milliseconds.
 fn duration(tokens: &[Token]) -> Result<(u64, &[Token]), ReadError>
     ensures { Gives (λ x. (x.0, x.1.now)) result (one specs.duration tokens.now) }
@@ -28,6 +29,7 @@ fn duration(tokens: &[Token]) -> Result<(u64, &[Token]), ReadError>
     }
 }
 
+/// `decimal = Number .`
 /// A number that is written as decimal digits alone.
 fn decimal(tokens: &[Token]) -> Result<(Priority, &[Token]), ReadError>
     ensures { Gives (λ x. (x.0, x.1.now)) result (one specs.decimal tokens.now) }
@@ -47,6 +49,7 @@ fn decimal(tokens: &[Token]) -> Result<(Priority, &[Token]), ReadError>
     }
 }
 
+/// `single = "SINGLE", ":=", name, "," .`
 #[tactic(auto, unfolding(crate::specs::ConfigurationReading::single_at))]
 fn single(alloc: Global, tokens: &[Token]) -> Result<(Identifier, &[Token]), ReadError>
     ensures { Gives (λ x. (x.0, x.1.now)) result (reading.single_at tokens.now) }
@@ -58,6 +61,7 @@ fn single(alloc: Global, tokens: &[Token]) -> Result<(Identifier, &[Token]), Rea
     Ok((found, rest))
 }
 
+/// `single_or_not = [ single ] .`
 #[tactic(auto, unfolding(crate::specs::Reading::optional))]
 fn single_or_not(
     alloc: Global,
@@ -72,6 +76,7 @@ fn single_or_not(
     Ok((Some(found), rest))
 }
 
+/// `interval = "INTERVAL", ":=", duration, "," .`
 #[tactic(auto, unfolding(crate::specs::ConfigurationReading::interval_at))]
 fn interval(tokens: &[Token]) -> Result<(u64, &[Token]), ReadError>
     ensures { Gives (λ x. (x.0, x.1.now)) result (reading.interval_at tokens.now) }
@@ -83,6 +88,7 @@ fn interval(tokens: &[Token]) -> Result<(u64, &[Token]), ReadError>
     Ok((found, rest))
 }
 
+/// `interval_or_not = [ interval ] .`
 #[tactic(auto, unfolding(crate::specs::Reading::optional))]
 fn interval_or_not(tokens: &[Token]) -> Result<(Option<u64>, &[Token]), ReadError>
     ensures { Gives (λ x. (x.0, x.1.now)) result
@@ -95,6 +101,7 @@ fn interval_or_not(tokens: &[Token]) -> Result<(Option<u64>, &[Token]), ReadErro
     Ok((Some(found), rest))
 }
 
+/// `task = "TASK", name, "(", single_or_not, interval_or_not, "PRIORITY", ":=", decimal, ")", ";" .`
 /// A task, with its semicolon.
 #[tactic(auto, unfolding(crate::specs::ConfigurationReading::task_at))]
 fn task(alloc: Global, tokens: &[Token]) -> Result<(Task, &[Token]), ReadError>
@@ -119,6 +126,7 @@ fn task(alloc: Global, tokens: &[Token]) -> Result<(Task, &[Token]), ReadError>
     Ok((task, rest))
 }
 
+/// `tasks = { task } .`
 #[tactic(auto, unfolding(crate::specs::Reading::many))]
 fn tasks(alloc: Global, tokens: &[Token]) -> Result<(Vec<Task>, &[Token]), ReadError>
     ensures { Gives (λ x. (x.0.items, x.1.now)) result (many (is_keyword keywords.Task) reading.task_at tokens.now) }
@@ -131,6 +139,7 @@ fn tasks(alloc: Global, tokens: &[Token]) -> Result<(Vec<Task>, &[Token]), ReadE
     )
 }
 
+/// `with = "WITH", name .`
 #[tactic(auto, unfolding(crate::specs::ConfigurationReading::with_at))]
 fn with(alloc: Global, tokens: &[Token]) -> Result<(Identifier, &[Token]), ReadError>
     ensures { Gives (λ x. (x.0, x.1.now)) result (reading.with_at tokens.now) }
@@ -140,6 +149,7 @@ fn with(alloc: Global, tokens: &[Token]) -> Result<(Identifier, &[Token]), ReadE
     Ok((found, rest))
 }
 
+/// `with_or_not = [ with ] .`
 #[tactic(auto, unfolding(crate::specs::Reading::optional))]
 fn with_or_not(alloc: Global, tokens: &[Token]) -> Result<(Option<Identifier>, &[Token]), ReadError>
     ensures { Gives (λ x. (x.0, x.1.now)) result (optional (is_keyword keywords.With) reading.with_at tokens.now) }
@@ -151,6 +161,7 @@ fn with_or_not(alloc: Global, tokens: &[Token]) -> Result<(Option<Identifier>, &
     Ok((Some(found), rest))
 }
 
+/// `instance = "PROGRAM", name, with_or_not, ":", name, ";" .`
 /// An instance of a program, with its semicolon.
 #[tactic(auto, unfolding(crate::specs::ConfigurationReading::instance_at))]
 fn instance(alloc: Global, tokens: &[Token]) -> Result<(Instance, &[Token]), ReadError>
@@ -170,6 +181,7 @@ fn instance(alloc: Global, tokens: &[Token]) -> Result<(Instance, &[Token]), Rea
     Ok((instance, rest))
 }
 
+/// `instances = instance, { instance } .`
 #[tactic(auto, unfolding(crate::specs::Reading::at_least_one))]
 fn instances(alloc: Global, tokens: &[Token]) -> Result<(Vec<Instance>, &[Token]), ReadError>
     ensures { Gives (λ x. (x.0.items, x.1.now)) result
@@ -186,6 +198,7 @@ fn instances(alloc: Global, tokens: &[Token]) -> Result<(Vec<Instance>, &[Token]
     )
 }
 
+/// `resource = "RESOURCE", name, "ON", name, tasks, instances, "END_RESOURCE" .`
 /// A resource, from RESOURCE to END_RESOURCE.
 #[tactic(auto, unfolding(crate::specs::ConfigurationReading::resource_at))]
 pub fn resource(alloc: Global, tokens: &[Token]) -> Result<(Resource, &[Token]), ReadError>

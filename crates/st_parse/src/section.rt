@@ -14,7 +14,7 @@ use st_trees::{Retention, Section};
 /// A section, and the tokens after it.
 type Found<'a> = Result<(Section, &'a [Token]), ReadError>;
 
-/// RETAIN or NON_RETAIN.
+/// `retention = "RETAIN" | "NON_RETAIN" .`
 fn retention(tokens: &[Token]) -> Result<(Retention, &[Token]), ReadError>
     ensures { Gives (λ x. (x.0, x.1.now)) result (one specs.retention tokens.now) }
 {
@@ -35,6 +35,7 @@ fn begins_retention(tokens: &[Token]) -> bool
     leads(Keyword::Retain, tokens) || leads(Keyword::NonRetain, tokens)
 }
 
+/// `retention_or_not = [ retention ] .`
 #[tactic(auto, unfolding(crate::specs::UnitReading::retention_or_not, crate::specs::Reading::optional))]
 fn retention_or_not(tokens: &[Token]) -> Result<(Option<Retention>, &[Token]), ReadError>
     ensures { Gives (λ x. (x.0, x.1.now)) result (reading.retention_or_not tokens.now) }
@@ -46,6 +47,7 @@ fn retention_or_not(tokens: &[Token]) -> Result<(Option<Retention>, &[Token]), R
     Ok((Some(found), rest))
 }
 
+/// `constant_of = "CONSTANT" .`
 /// The section, after CONSTANT.
 #[tactic(auto, unfolding(crate::specs::UnitReading::constant_of))]
 fn constant_of(section: Section, tokens: &[Token]) -> Found<'_>
@@ -55,6 +57,7 @@ fn constant_of(section: Section, tokens: &[Token]) -> Found<'_>
     Ok((section, rest))
 }
 
+/// `function_section = "VAR_INPUT" | "VAR", [ constant_of ] .`
 /// In a function.
 #[tactic(auto, unfolding(crate::specs::UnitReading::function_section_at, crate::specs::UnitReading::function_input_at, crate::specs::UnitReading::function_own_at))]
 pub fn function_section(tokens: &[Token]) -> Found<'_>
@@ -71,6 +74,7 @@ pub fn function_section(tokens: &[Token]) -> Found<'_>
     Ok((Section::Local(None), rest))
 }
 
+/// `own_section = "VAR", ( constant_of | retention_or_not ) .`
 /// A unit's own variables, in a program or a function block.
 #[tactic(auto, unfolding(crate::specs::UnitReading::own_section_at, crate::specs::UnitReading::local_at))]
 pub fn own_section(tokens: &[Token]) -> Found<'_>
@@ -84,6 +88,7 @@ pub fn own_section(tokens: &[Token]) -> Found<'_>
     Ok((Section::Local(retention), rest))
 }
 
+/// `block_section = ( "VAR_INPUT" | "VAR_OUTPUT" ), retention_or_not | own_section .`
 /// In a function block.
 #[tactic(auto, unfolding(crate::specs::UnitReading::block_section_at, crate::specs::UnitReading::input_section_at, crate::specs::UnitReading::output_section_at))]
 pub fn block_section(tokens: &[Token]) -> Found<'_>
@@ -102,6 +107,7 @@ pub fn block_section(tokens: &[Token]) -> Found<'_>
     own_section(tokens)
 }
 
+/// `external_section = "VAR_EXTERNAL", [ constant_of ] .`
 /// Globals that a unit names.
 #[tactic(auto, unfolding(crate::specs::UnitReading::external_section_at))]
 pub fn external_section(tokens: &[Token]) -> Found<'_>

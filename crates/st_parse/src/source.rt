@@ -17,6 +17,7 @@ use std::alloc::Global;
 /// A part of a text, and the tokens after it.
 type Found<'a> = Result<(LibraryElement, &'a [Token]), ReadError>;
 
+/// `types_element = types .`
 #[tactic(auto, unfolding(crate::specs::SourceReading::types_element_at))]
 fn types_element(alloc: Global, tokens: &[Token]) -> Found<'_>
     ensures { Gives (λ x. (element_view x.0, x.1.now)) result (reading.types_element_at MAX_DEPTH tokens.now) }
@@ -25,6 +26,7 @@ fn types_element(alloc: Global, tokens: &[Token]) -> Found<'_>
     Ok((LibraryElement::Types(found), rest))
 }
 
+/// `function_element = function .`
 #[tactic(auto, unfolding(crate::specs::SourceReading::function_element_at))]
 fn function_element(alloc: Global, tokens: &[Token]) -> Found<'_>
     ensures { Gives (λ x. (element_view x.0, x.1.now)) result (reading.function_element_at MAX_DEPTH tokens.now) }
@@ -33,6 +35,7 @@ fn function_element(alloc: Global, tokens: &[Token]) -> Found<'_>
     Ok((LibraryElement::Unit(found), rest))
 }
 
+/// `block_element = function_block .`
 #[tactic(auto, unfolding(crate::specs::SourceReading::block_element_at))]
 fn block_element(alloc: Global, tokens: &[Token]) -> Found<'_>
     ensures { Gives (λ x. (element_view x.0, x.1.now)) result (reading.block_element_at MAX_DEPTH tokens.now) }
@@ -41,6 +44,7 @@ fn block_element(alloc: Global, tokens: &[Token]) -> Found<'_>
     Ok((LibraryElement::Unit(found), rest))
 }
 
+/// `program_element = program .`
 #[tactic(auto, unfolding(crate::specs::SourceReading::program_element_at))]
 fn program_element(alloc: Global, tokens: &[Token]) -> Found<'_>
     ensures { Gives (λ x. (element_view x.0, x.1.now)) result (reading.program_element_at MAX_DEPTH tokens.now) }
@@ -49,6 +53,7 @@ fn program_element(alloc: Global, tokens: &[Token]) -> Found<'_>
     Ok((LibraryElement::Unit(found), rest))
 }
 
+/// `configuration_element = configuration .`
 #[tactic(auto, unfolding(crate::specs::SourceReading::configuration_element_at))]
 fn configuration_element(alloc: Global, tokens: &[Token]) -> Found<'_>
     ensures { Gives (λ x. (element_view x.0, x.1.now)) result (reading.configuration_element_at MAX_DEPTH tokens.now) }
@@ -57,7 +62,7 @@ fn configuration_element(alloc: Global, tokens: &[Token]) -> Found<'_>
     Ok((LibraryElement::Configuration(found), rest))
 }
 
-/// Types, a unit or a configuration.
+/// `element = types_element | function_element | block_element | program_element | configuration_element .`
 #[tactic(auto, unfolding(crate::specs::SourceReading::element_at))]
 fn element(alloc: Global, tokens: &[Token]) -> Found<'_>
     ensures { Gives (λ x. (element_view x.0, x.1.now)) result (reading.element_at MAX_DEPTH tokens.now) }
@@ -75,6 +80,7 @@ fn element(alloc: Global, tokens: &[Token]) -> Found<'_>
     }
 }
 
+/// `source = { element } .`
 /// All elements up to the last token.
 #[tactic(auto, unfolding(crate::specs::SourceReading::source_at, crate::specs::Reading::many))]
 pub fn elements(

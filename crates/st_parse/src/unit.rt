@@ -17,6 +17,7 @@ use std::alloc::Global;
 /// A unit, and the tokens after it.
 type Found<'a> = Result<(Unit, &'a [Token]), ReadError>;
 
+/// `elementary = Elementary .`
 /// An elementary type, at its place.
 fn elementary(tokens: &[Token]) -> Result<((Kind, usize), &[Token]), ReadError>
     ensures { Gives (λ x. ((x.0.0, x.0.1), x.1.now)) result (one specs.elementary tokens.now) }
@@ -30,6 +31,7 @@ fn elementary(tokens: &[Token]) -> Result<((Kind, usize), &[Token]), ReadError>
     }
 }
 
+/// `function = "FUNCTION", name, ":", elementary, function_blocks, stmts, "END_FUNCTION" .`
 /// A function.
 #[tactic(auto, unfolding(crate::specs::UnitReading::function_at))]
 pub fn function(alloc: Global, tokens: &[Token]) -> Found<'_>
@@ -51,6 +53,7 @@ pub fn function(alloc: Global, tokens: &[Token]) -> Found<'_>
     Ok((unit, rest))
 }
 
+/// `function_block = "FUNCTION_BLOCK", name, variable_blocks, stmts, "END_FUNCTION_BLOCK" .`
 /// A function block.
 #[tactic(auto, unfolding(crate::specs::UnitReading::function_block_unit_at))]
 pub fn function_block(alloc: Global, tokens: &[Token]) -> Found<'_>
@@ -70,6 +73,7 @@ pub fn function_block(alloc: Global, tokens: &[Token]) -> Found<'_>
     Ok((unit, rest))
 }
 
+/// `program = "PROGRAM", name, program_blocks, stmts, "END_PROGRAM" .`
 /// A program.
 #[tactic(auto, unfolding(crate::specs::UnitReading::program_at))]
 pub fn program(alloc: Global, tokens: &[Token]) -> Found<'_>

@@ -20,6 +20,7 @@ use std::alloc::Global;
 /// An argument and the tokens after it.
 type Found<'a> = Result<(Argument, &'a [Token]), ReadError>;
 
+/// `argument = name, ( ":=", expr | "=>", variable ) .`
 #[tactic(auto, unfolding(crate::specs::StatementReading::argument_at, crate::specs::StatementReading::given_of, crate::specs::StatementReading::copied_of))]
 fn argument(alloc: Global, below: usize, tokens: &[Token]) -> Found<'_>
     requires { below < MAX_DEPTH }
@@ -36,6 +37,7 @@ fn argument(alloc: Global, below: usize, tokens: &[Token]) -> Found<'_>
     Ok((Argument::output(found, target), rest))
 }
 
+/// `next_argument = ",", argument .`
 #[tactic(auto, unfolding(crate::specs::Parsers::after_comma))]
 fn next_argument(alloc: Global, below: usize, tokens: &[Token]) -> Found<'_>
     requires { below < MAX_DEPTH }
@@ -46,6 +48,7 @@ fn next_argument(alloc: Global, below: usize, tokens: &[Token]) -> Found<'_>
     argument(alloc, below, rest)
 }
 
+/// `more_arguments = { next_argument } .`
 fn more_arguments<'a>(
     alloc: Global,
     below: usize,
@@ -67,6 +70,7 @@ fn more_arguments<'a>(
     Ok((found, tokens))
 }
 
+/// `arguments = [ argument, more_arguments ] .`
 /// The arguments in the parentheses of a block call.
 #[tactic(auto, unfolding(crate::specs::StatementReading::arguments_at, crate::specs::Parsers::listed))]
 pub fn arguments(

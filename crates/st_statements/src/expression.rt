@@ -67,6 +67,7 @@ fn is_deeper(expression: &Expr, below: usize) -> bool
     expression.depth() > below
 }
 
+/// `parenthesis = "(", expr, ")" .`
 #[cycle(expr)]
 #[tactic(auto, unfolding(crate::specs::ExpressionReading::parenthesis_at))]
 fn parenthesis(alloc: Global, below: usize, tokens: &[Token]) -> Found<'_>
@@ -79,6 +80,7 @@ fn parenthesis(alloc: Global, below: usize, tokens: &[Token]) -> Found<'_>
     Ok((Expr::parenthesis(alloc, place, inner)?, rest))
 }
 
+/// `selector = ".", name | "[", expr, "]" .`
 #[cycle(expr)]
 #[tactic(auto, unfolding(crate::specs::ExpressionReading::selector_at, crate::specs::ExpressionReading::member_at, crate::specs::ExpressionReading::subscript_at))]
 fn selector(
@@ -101,6 +103,7 @@ fn selector(
     Ok((Selector::subscript(found), rest))
 }
 
+/// `selectors = { selector } .`
 #[cycle(expr)]
 fn selectors<'a>(
     alloc: Global,
@@ -123,6 +126,7 @@ fn selectors<'a>(
     Ok((found, tokens))
 }
 
+/// `variable_of = selectors .`
 /// What is selected of a variable of this name, of subscripts one level down.
 #[cycle(expr)]
 #[tactic(auto, unfolding(crate::specs::ExpressionReading::variable_of))]
@@ -140,6 +144,7 @@ pub fn variable_of<'a>(
     Ok((Variable::new(name, found), rest))
 }
 
+/// `next_argument = ",", expr .`
 #[cycle(expr)]
 #[tactic(auto, unfolding(crate::specs::Parsers::after_comma))]
 fn after_comma(alloc: Global, below: usize, tokens: &[Token]) -> Found<'_>
@@ -150,6 +155,7 @@ fn after_comma(alloc: Global, below: usize, tokens: &[Token]) -> Found<'_>
     expr(alloc, below, 1, rest)
 }
 
+/// `more_arguments = { next_argument } .`
 #[cycle(expr)]
 fn more_arguments<'a>(
     alloc: Global,
@@ -172,6 +178,7 @@ fn more_arguments<'a>(
     Ok((found, tokens))
 }
 
+/// `arguments = [ expr, more_arguments ] .`
 #[cycle(expr)]
 #[tactic(auto, unfolding(crate::specs::ExpressionReading::arguments_at, crate::specs::Parsers::listed))]
 fn arguments(
@@ -192,6 +199,7 @@ fn arguments(
     more_arguments(alloc, below, found, rest)
 }
 
+/// `call_of = "(", arguments, ")" .`
 #[cycle(expr)]
 #[tactic(auto, unfolding(crate::specs::ExpressionReading::call_of))]
 fn call_of<'a>(alloc: Global, below: usize, function: Identifier, tokens: &'a [Token]) -> Found<'a>
@@ -205,6 +213,7 @@ fn call_of<'a>(alloc: Global, below: usize, function: Identifier, tokens: &'a [T
     Ok((Expr::call(function, found), rest))
 }
 
+/// `named = name, ( call_of | variable_of ) .`
 #[cycle(expr)]
 #[tactic(auto, unfolding(crate::specs::ExpressionReading::named_at, crate::specs::ExpressionReading::read_of))]
 fn named(alloc: Global, below: usize, tokens: &[Token]) -> Found<'_>
@@ -219,6 +228,7 @@ fn named(alloc: Global, below: usize, tokens: &[Token]) -> Found<'_>
     Ok((Expr::variable(variable), rest))
 }
 
+/// `operand = literal | named | parenthesis .`
 #[cycle(expr)]
 #[tactic(auto, unfolding(crate::specs::ExpressionReading::operand_at, crate::specs::ExpressionReading::literal_at))]
 fn operand(alloc: Global, below: usize, tokens: &[Token]) -> Found<'_>
@@ -239,6 +249,7 @@ fn operand(alloc: Global, below: usize, tokens: &[Token]) -> Found<'_>
     }
 }
 
+/// `minus = "-", ( whole | expr(9) ) .`
 #[cycle(expr)]
 #[tactic(auto, unfolding(crate::specs::ExpressionReading::minus_at, crate::specs::ExpressionReading::negative_of, crate::specs::ExpressionReading::negated_of))]
 fn minus(alloc: Global, below: usize, tokens: &[Token]) -> Found<'_>
@@ -260,6 +271,7 @@ fn minus(alloc: Global, below: usize, tokens: &[Token]) -> Found<'_>
     ))
 }
 
+/// `inverted = "NOT", expr(9) .`
 #[cycle(expr)]
 #[tactic(auto, unfolding(crate::specs::ExpressionReading::not_at))]
 fn inverted(alloc: Global, below: usize, tokens: &[Token]) -> Found<'_>
@@ -274,6 +286,7 @@ fn inverted(alloc: Global, below: usize, tokens: &[Token]) -> Found<'_>
     ))
 }
 
+/// `unary = minus | inverted | operand .`
 #[cycle(expr)]
 #[tactic(auto, unfolding(crate::specs::ExpressionReading::unary_at))]
 fn unary(alloc: Global, below: usize, tokens: &[Token]) -> Found<'_>
@@ -289,6 +302,7 @@ fn unary(alloc: Global, below: usize, tokens: &[Token]) -> Found<'_>
     operand(alloc, below, tokens)
 }
 
+/// `operation(k) = operator(k), expr(k + 1) .`
 #[cycle(expr)]
 #[tactic(auto, unfolding(crate::specs::ExpressionReading::operation_of))]
 fn operation<'a>(alloc: Global, below: usize, left: Expr, tokens: &'a [Token]) -> Found<'a>
@@ -301,6 +315,7 @@ fn operation<'a>(alloc: Global, below: usize, left: Expr, tokens: &'a [Token]) -
     Ok((Expr::binary(alloc, op, left, right)?, rest))
 }
 
+/// `operations(k) = { operation(k) | .. | operation(7) } .`
 #[cycle(expr)]
 fn operations<'a>(
     alloc: Global,
@@ -327,6 +342,7 @@ fn operations<'a>(
     Ok((left, tokens))
 }
 
+/// `operators(k) = unary, operations(k) .`
 #[cycle(expr)]
 #[tactic(auto, unfolding(crate::specs::ExpressionReading::operators_at))]
 fn operators(alloc: Global, below: usize, least: usize, tokens: &[Token]) -> Found<'_>
@@ -338,6 +354,9 @@ fn operators(alloc: Global, below: usize, least: usize, tokens: &[Token]) -> Fou
     operations(alloc, below, least, first, rest)
 }
 
+/// `expr = expr(1) .`
+/// `expr(k) = operators(k) .`
+/// `expr(9) = operand .`
 /// An expression of at most a depth, of operators that bind at least so.
 #[cycle(expr)]
 #[tactic(auto, unfolding(crate::specs::ExpressionReading::expr_at))]
@@ -354,6 +373,7 @@ pub fn expr(alloc: Global, depth: usize, least: usize, tokens: &[Token]) -> Foun
     operators(alloc, depth - 1, least, tokens)
 }
 
+/// `variable = name, variable_of .`
 /// A variable of at most a depth.
 #[tactic(auto, unfolding(crate::specs::ExpressionReading::variable_at))]
 pub fn variable(

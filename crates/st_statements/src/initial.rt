@@ -51,6 +51,7 @@ fn starts_initial(tokens: &[Token]) -> bool
     }
 }
 
+/// `member = name, ":=", initial .`
 #[cycle(initial)]
 #[tactic(auto, unfolding(crate::specs::InitialReading::member_at))]
 fn member(alloc: Global, depth: usize, tokens: &[Token]) -> FoundMember<'_>
@@ -63,6 +64,7 @@ fn member(alloc: Global, depth: usize, tokens: &[Token]) -> FoundMember<'_>
     Ok((InitialMember { name, value }, rest))
 }
 
+/// `next_member = ",", member .`
 #[cycle(initial)]
 #[tactic(auto, unfolding(crate::specs::Parsers::after_comma))]
 fn next_member(alloc: Global, depth: usize, tokens: &[Token]) -> FoundMember<'_>
@@ -74,6 +76,7 @@ fn next_member(alloc: Global, depth: usize, tokens: &[Token]) -> FoundMember<'_>
     member(alloc, depth, rest)
 }
 
+/// `more_members = { next_member } .`
 #[cycle(initial)]
 fn more_members<'a>(
     alloc: Global,
@@ -97,6 +100,7 @@ fn more_members<'a>(
     Ok((found, tokens))
 }
 
+/// `structure = "(", member, more_members, ")" .`
 #[cycle(initial)]
 #[tactic(auto, unfolding(crate::specs::InitialReading::structure_at, crate::specs::Parsers::listed))]
 fn structure(alloc: Global, below: usize, tokens: &[Token]) -> Found<'_>
@@ -113,6 +117,7 @@ fn structure(alloc: Global, below: usize, tokens: &[Token]) -> Found<'_>
     Ok((Initial::structure(place, members), rest))
 }
 
+/// `repetition_of = "(", [ initial ], ")" .`
 #[cycle(initial)]
 #[tactic(auto, unfolding(crate::specs::InitialReading::repetition_of, crate::specs::InitialReading::defaults_of, crate::specs::InitialReading::repeated_of))]
 fn repetition_of(alloc: Global, depth: usize, count: Number, tokens: &[Token]) -> FoundElement<'_>
@@ -130,6 +135,7 @@ fn repetition_of(alloc: Global, depth: usize, count: Number, tokens: &[Token]) -
     Ok((InitialElement::repeated(count, value), rest))
 }
 
+/// `counted = whole, [ repetition_of ] .`
 #[cycle(initial)]
 #[tactic(auto, unfolding(crate::specs::InitialReading::counted_at))]
 fn counted(alloc: Global, depth: usize, tokens: &[Token]) -> FoundElement<'_>
@@ -145,6 +151,7 @@ fn counted(alloc: Global, depth: usize, tokens: &[Token]) -> FoundElement<'_>
     Ok((InitialElement::single(constant), rest))
 }
 
+/// `element = counted | initial .`
 #[cycle(initial)]
 #[tactic(auto, unfolding(crate::specs::InitialReading::element_at, crate::specs::InitialReading::single_at))]
 fn element(alloc: Global, depth: usize, tokens: &[Token]) -> FoundElement<'_>
@@ -162,6 +169,7 @@ fn element(alloc: Global, depth: usize, tokens: &[Token]) -> FoundElement<'_>
     Ok((InitialElement::single(value), rest))
 }
 
+/// `next_element = ",", element .`
 #[cycle(initial)]
 #[tactic(auto, unfolding(crate::specs::Parsers::after_comma))]
 fn next_element(alloc: Global, depth: usize, tokens: &[Token]) -> FoundElement<'_>
@@ -173,6 +181,7 @@ fn next_element(alloc: Global, depth: usize, tokens: &[Token]) -> FoundElement<'
     element(alloc, depth, rest)
 }
 
+/// `more_elements = { next_element } .`
 #[cycle(initial)]
 fn more_elements<'a>(
     alloc: Global,
@@ -196,6 +205,7 @@ fn more_elements<'a>(
     Ok((found, tokens))
 }
 
+/// `list = "[", element, more_elements, "]" .`
 #[cycle(initial)]
 #[tactic(auto, unfolding(crate::specs::InitialReading::list_at, crate::specs::Parsers::listed))]
 fn list(alloc: Global, below: usize, tokens: &[Token]) -> Found<'_>
@@ -212,6 +222,7 @@ fn list(alloc: Global, below: usize, tokens: &[Token]) -> Found<'_>
     Ok((Initial::list(place, elements), rest))
 }
 
+/// `initial = list | structure | negative_number | literal .`
 /// An initial value of at most a depth.
 #[cycle(initial)]
 #[tactic(auto, unfolding(crate::specs::InitialReading::initial_at, crate::specs::InitialReading::negative_constant_at, crate::specs::InitialReading::literal_constant_at))]

@@ -15,6 +15,7 @@ use st_lex::{Mark, Token};
 use st_trees::Label;
 use std::alloc::Global;
 
+/// `label = number, [ "..", number ] .`
 #[tactic(auto, unfolding(crate::specs::StatementReading::label_at, crate::specs::StatementReading::range_of))]
 fn label(tokens: &[Token]) -> Result<(Label, &[Token]), ReadError>
     ensures { Gives (λ x. (x.0, x.1.now)) result (reading.label_at tokens.now) }
@@ -28,6 +29,7 @@ fn label(tokens: &[Token]) -> Result<(Label, &[Token]), ReadError>
     Ok((Label::Single(number), rest))
 }
 
+/// `next_label = ",", label .`
 #[tactic(auto, unfolding(crate::specs::Parsers::after_comma))]
 fn next_label(tokens: &[Token]) -> Result<(Label, &[Token]), ReadError>
     ensures { Gives (λ x. (x.0, x.1.now)) result (parsers.after_comma reading.label_at tokens.now) }
@@ -36,6 +38,7 @@ fn next_label(tokens: &[Token]) -> Result<(Label, &[Token]), ReadError>
     label(rest)
 }
 
+/// `more_labels = { next_label } .`
 fn more_labels<'a>(
     mut found: Vec<Label>,
     mut tokens: &'a [Token],
@@ -54,7 +57,7 @@ fn more_labels<'a>(
     Ok((found, tokens))
 }
 
-/// Labels with commas between them.
+/// `labels = label, more_labels .`
 #[tactic(auto, unfolding(crate::specs::Parsers::listed))]
 pub fn labels(alloc: Global, tokens: &[Token]) -> Result<(Vec<Label>, &[Token]), ReadError>
     ensures { Gives (λ x. (x.0.items, x.1.now)) result (parsers.listed reading.label_at tokens.now) }

@@ -11,6 +11,7 @@ use st_lex::Token;
 use st_words::Tree;
 use std::alloc::Global;
 
+/// `several(item) = { item } .`
 /// Parts after those that were found, as long as what is left begins so.
 pub fn several<
     'a,

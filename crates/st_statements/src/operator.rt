@@ -63,6 +63,13 @@ pub fn goes_on(least: usize, tokens: &[Token]) -> bool
     }
 }
 
+/// `operator(1) = "OR" .`
+/// `operator(2) = "XOR" .`
+/// `operator(3) = "AND" .`
+/// `operator(4) = "=" | "<>" .`
+/// `operator(5) = "<" | ">" | "<=" | ">=" .`
+/// `operator(6) = "+" | "-" .`
+/// `operator(7) = "*" | "/" | "MOD" .`
 /// An operator, and the tokens after it.
 pub fn operator(tokens: &[Token]) -> Result<(BinaryOperator, &[Token]), ReadError>
     ensures { Gives (λ x. (x.0, x.1.now)) result (one specs.operator tokens.now) }

@@ -1,5 +1,5 @@
-//! The parts of a text that declarations and units are made of. Each call reads what stands in prefix of the tokens,
-//! and gives it with the tokens after it.
+//! The parts of a text that declarations and units are made of. Each call reads what stands at the front of the
+//! tokens, and gives it with the tokens after it.
 //!
 //! Each has four clauses on the grammar: what is read is of the grammar; what is of the grammar is read; where a token
 //! is unexpected it is the first after which no text begins so, however deep; and what is too deep is so in each text

@@ -9,6 +9,7 @@ use crate::terminal::{mark, negative_at, whole};
 use st_lex::{Mark, Token};
 use st_words::Number;
 
+/// `negative_number = "-", whole .`
 #[tactic(auto, unfolding(crate::specs::Parsers::negative_number_at))]
 pub fn negative_number(tokens: &[Token]) -> Result<(Number, &[Token]), ReadError>
     ensures { Gives (λ x. (x.0, x.1.now)) result (negative_number_at tokens.now) }
@@ -18,6 +19,7 @@ pub fn negative_number(tokens: &[Token]) -> Result<(Number, &[Token]), ReadError
     Ok((negative_at(place, number), rest))
 }
 
+/// `number = negative_number | whole .`
 #[tactic(auto, unfolding(crate::specs::Parsers::number_at))]
 pub fn signed_number(tokens: &[Token]) -> Result<(Number, &[Token]), ReadError>
     ensures { Gives (λ x. (x.0, x.1.now)) result (number_at tokens.now) }

@@ -68,6 +68,7 @@ fn starts_stmt(tokens: &[Token]) -> bool
     }
 }
 
+/// `exit_stmt = "EXIT" .`
 #[tactic(auto, unfolding(crate::specs::StatementReading::exit_at))]
 fn exit_stmt(tokens: &[Token]) -> Found<'_>
     ensures { Gives (λ x. (stmt_view x.0, x.1.now)) result (reading.exit_at tokens.now) }
@@ -76,6 +77,7 @@ fn exit_stmt(tokens: &[Token]) -> Found<'_>
     Ok((Stmt::exit(place), rest))
 }
 
+/// `return_stmt = "RETURN" .`
 #[tactic(auto, unfolding(crate::specs::StatementReading::return_at))]
 fn return_stmt(tokens: &[Token]) -> Found<'_>
     ensures { Gives (λ x. (stmt_view x.0, x.1.now)) result (reading.return_at tokens.now) }
@@ -84,6 +86,7 @@ fn return_stmt(tokens: &[Token]) -> Found<'_>
     Ok((Stmt::leave(), rest))
 }
 
+/// `assign_of = variable_of, ":=", expr .`
 #[tactic(auto, unfolding(crate::specs::StatementReading::assign_of))]
 fn assign_of<'a>(alloc: Global, below: usize, target: Identifier, tokens: &'a [Token]) -> Found<'a>
     requires { below < MAX_DEPTH }
@@ -95,6 +98,7 @@ fn assign_of<'a>(alloc: Global, below: usize, target: Identifier, tokens: &'a [T
     Ok((Stmt::assign(variable, value), rest))
 }
 
+/// `invoke_of = "(", arguments, ")" .`
 #[tactic(auto, unfolding(crate::specs::StatementReading::invoke_of))]
 fn invoke_of<'a>(
     alloc: Global,
@@ -111,6 +115,7 @@ fn invoke_of<'a>(
     Ok((Stmt::invoke(instance, found), rest))
 }
 
+/// `named = name, ( invoke_of | assign_of ) .`
 #[tactic(auto, unfolding(crate::specs::StatementReading::named_at))]
 fn named(alloc: Global, below: usize, tokens: &[Token]) -> Found<'_>
     requires { below < MAX_DEPTH }
@@ -123,6 +128,7 @@ fn named(alloc: Global, below: usize, tokens: &[Token]) -> Found<'_>
     assign_of(alloc, below, found, rest)
 }
 
+/// `step = [ "BY", expr ] .`
 #[tactic(auto, unfolding(crate::specs::StatementReading::step_at, crate::specs::StatementReading::by_at))]
 fn step(
     alloc: Global,
@@ -140,7 +146,7 @@ fn step(
     Ok((None, tokens))
 }
 
-/// Statements between two keywords.
+/// `block(first, last) = first, stmts, last .`
 #[tactic(auto, unfolding(crate::specs::Parsers::between))]
 fn block<'a, I: Fn(&[Token]) -> Block<'_>>(
     first: Keyword,
@@ -158,6 +164,7 @@ fn block<'a, I: Fn(&[Token]) -> Block<'_>>(
     Ok((body, rest))
 }
 
+/// `arm = expr, "THEN", stmts .`
 #[tactic(auto, unfolding(crate::specs::StatementReading::arm_at))]
 fn arm<'a, I: Fn(&[Token]) -> Block<'_>>(
     alloc: Global,
@@ -176,6 +183,7 @@ fn arm<'a, I: Fn(&[Token]) -> Block<'_>>(
     Ok((Arm { condition, body }, rest))
 }
 
+/// `elsif = "ELSIF", arm .`
 #[tactic(auto, unfolding(crate::specs::StatementReading::elsif_at))]
 fn elsif<'a, I: Fn(&[Token]) -> Block<'_>>(
     alloc: Global,
@@ -192,6 +200,7 @@ fn elsif<'a, I: Fn(&[Token]) -> Block<'_>>(
     arm(alloc, below, rest, inner)
 }
 
+/// `more_arms = { elsif } .`
 /// Arms behind a first one.
 fn arms_behind<'a, I: Fn(&[Token]) -> Block<'_>>(
     alloc: Global,
@@ -217,6 +226,7 @@ fn arms_behind<'a, I: Fn(&[Token]) -> Block<'_>>(
     )
 }
 
+/// `else = [ "ELSE", stmts ] .`
 #[tactic(auto, unfolding(crate::specs::StatementReading::else_at, crate::specs::StatementReading::otherwise_at))]
 fn else_part<'a, I: Fn(&[Token]) -> Block<'_>>(
     alloc: Global,
@@ -237,6 +247,7 @@ fn else_part<'a, I: Fn(&[Token]) -> Block<'_>>(
     Ok((Vec::new(alloc), tokens))
 }
 
+/// `if_stmt = "IF", arm, more_arms, else, "END_IF" .`
 #[tactic(auto, unfolding(crate::specs::StatementReading::if_at))]
 fn if_stmt<'a, I: Fn(&[Token]) -> Block<'_>>(
     alloc: Global,
@@ -257,6 +268,7 @@ fn if_stmt<'a, I: Fn(&[Token]) -> Block<'_>>(
     Ok((Stmt::choose(arms, other), rest))
 }
 
+/// `case_arm = labels, ":", stmts .`
 #[tactic(auto, unfolding(crate::specs::StatementReading::case_arm_at))]
 fn case_arm<'a, I: Fn(&[Token]) -> Block<'_>>(
     alloc: Global,
@@ -276,6 +288,7 @@ fn case_arm<'a, I: Fn(&[Token]) -> Block<'_>>(
     Ok((CaseArm { labels, body }, rest))
 }
 
+/// `case_arms = { case_arm } .`
 fn case_arms<'a, I: Fn(&[Token]) -> Block<'_>>(
     alloc: Global,
     below: usize,
@@ -296,6 +309,7 @@ fn case_arms<'a, I: Fn(&[Token]) -> Block<'_>>(
     )
 }
 
+/// `case_stmt = "CASE", expr, "OF", case_arms, else, "END_CASE" .`
 #[tactic(auto, unfolding(crate::specs::StatementReading::case_at))]
 fn case_stmt<'a, I: Fn(&[Token]) -> Block<'_>>(
     alloc: Global,
@@ -317,6 +331,7 @@ fn case_stmt<'a, I: Fn(&[Token]) -> Block<'_>>(
     Ok((Stmt::select(selector, arms, other), rest))
 }
 
+/// `for_stmt = "FOR", name, ":=", expr, "TO", expr, step, block("DO", "END_FOR") .`
 #[tactic(auto, unfolding(crate::specs::StatementReading::for_at))]
 fn for_stmt<'a, I: Fn(&[Token]) -> Block<'_>>(
     alloc: Global,
@@ -340,6 +355,7 @@ fn for_stmt<'a, I: Fn(&[Token]) -> Block<'_>>(
     Ok((Stmt::count(control, start, limit, by, body), rest))
 }
 
+/// `while_stmt = "WHILE", expr, block("DO", "END_WHILE") .`
 #[tactic(auto, unfolding(crate::specs::StatementReading::while_at))]
 fn while_stmt<'a, I: Fn(&[Token]) -> Block<'_>>(
     alloc: Global,
@@ -359,6 +375,7 @@ fn while_stmt<'a, I: Fn(&[Token]) -> Block<'_>>(
     Ok((Stmt::repeat_while(condition, body), rest))
 }
 
+/// `repeat_stmt = "REPEAT", stmts, "UNTIL", expr, "END_REPEAT" .`
 #[tactic(auto, unfolding(crate::specs::StatementReading::repeat_at))]
 fn repeat_stmt<'a, I: Fn(&[Token]) -> Block<'_>>(
     alloc: Global,
@@ -380,6 +397,7 @@ fn repeat_stmt<'a, I: Fn(&[Token]) -> Block<'_>>(
     Ok((Stmt::repeat_until(body, condition), rest))
 }
 
+/// `stmt = [ named | if_stmt | case_stmt | for_stmt | while_stmt | repeat_stmt | exit_stmt | return_stmt ] .`
 #[tactic(auto, unfolding(crate::specs::StatementReading::stmt_at))]
 fn stmt<'a, I: Fn(&[Token]) -> Block<'_>>(
     alloc: Global,
@@ -409,6 +427,7 @@ fn stmt<'a, I: Fn(&[Token]) -> Block<'_>>(
     }
 }
 
+/// `line = stmt, ";" .`
 /// A statement of at most a depth, with its semicolon.
 #[cycle(line)]
 #[tactic(auto, unfolding(crate::specs::StatementReading::line_at))]
@@ -433,6 +452,7 @@ fn line(alloc: Global, depth: usize, tokens: &[Token]) -> Found<'_>
     Ok((found, rest))
 }
 
+/// `stmts = { line } .`
 /// Statements of at most a depth.
 #[cycle(line)]
 pub fn stmts(alloc: Global, depth: usize, tokens: &[Token]) -> Block<'_>

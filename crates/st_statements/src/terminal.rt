@@ -10,6 +10,7 @@ use st_lex::{Keyword, Mark, Token, TokenKind, WholeNumber};
 use st_words::{Identifier, Literal, Number};
 use std::alloc::Global;
 
+/// `mark(m) = m .`
 /// A mark, at its place, and the tokens after it.
 pub fn mark(mark: Mark, tokens: &[Token]) -> Result<(usize, &[Token]), ReadError>
     ensures { Gives (λ x. (x.0, x.1.now)) result (one (specs.mark mark) tokens.now) }
@@ -20,6 +21,7 @@ pub fn mark(mark: Mark, tokens: &[Token]) -> Result<(usize, &[Token]), ReadError
     }
 }
 
+/// `keyword(w) = w .`
 /// A keyword, at its place, and the tokens after it.
 pub fn keyword(keyword: Keyword, tokens: &[Token]) -> Result<(usize, &[Token]), ReadError>
     ensures { Gives (λ x. (x.0, x.1.now)) result (one (specs.keyword keyword) tokens.now) }
@@ -30,6 +32,7 @@ pub fn keyword(keyword: Keyword, tokens: &[Token]) -> Result<(usize, &[Token]), 
     }
 }
 
+/// `name = Name .`
 /// A name, and the tokens after it.
 pub fn name(alloc: Global, tokens: &[Token]) -> Result<(Identifier, &[Token]), ReadError>
     ensures { Gives (λ x. (x.0, x.1.now)) result (one specs.name tokens.now) }
@@ -76,6 +79,7 @@ pub fn negative_at(place: usize, number: Number) -> Number
     }
 }
 
+/// `whole = Number .`
 /// A whole number or bit string without a sign, and the tokens after it.
 pub fn whole(tokens: &[Token]) -> Result<(Number, &[Token]), ReadError>
     ensures { Gives (λ x. (x.0, x.1.now)) result (one specs.whole tokens.now) }
@@ -89,6 +93,7 @@ pub fn whole(tokens: &[Token]) -> Result<(Number, &[Token]), ReadError>
     }
 }
 
+/// `literal = Number | Truth | Duration .`
 /// A literal without a sign, and the tokens after it.
 pub fn literal(tokens: &[Token]) -> Result<(Literal, &[Token]), ReadError>
     ensures { Gives (λ x. (x.0, x.1.now)) result (one specs.literal tokens.now) }
