@@ -1,10 +1,10 @@
 //! Declarations of variables.
 
-ghost use Rattle.std.specs.Prelude.{◌≡◌, [], map};
+ghost use Rattle.std.specs.Prelude.{◌≡◌, []};
 ghost use Rattle.st_words.specs.declared.limits.TheConstants.{MAX_DEPTH};
 ghost use Rattle.st_trees.specs.DeclarationViews.{declaration_view};
 ghost use Rattle.st_statements.specs.Tokens.{is_name};
-ghost use Rattle.st_statements.specs.Parsers.{Gives};
+ghost use Rattle.st_statements.specs.Parsers.{Reads, each};
 ghost use Rattle.st_parse.specs.Reading.{many};
 ghost use Rattle.st_parse.specs.UnitReading as reading;
 
@@ -21,7 +21,7 @@ type Declarations<'a> = Result<(Vec<Declaration>, &'a [Token]), ReadError>;
 /// Names of one type, with an initial value or without.
 #[tactic(auto, unfolding(crate::specs::UnitReading::declaration_at))]
 fn declaration(alloc: Global, tokens: &[Token]) -> Result<(Declaration, &[Token]), ReadError>
-    ensures { Gives (λ x. (declaration_view x.0, x.1.now)) result (reading.declaration_at MAX_DEPTH tokens.now) }
+    ensures { Reads declaration_view result (reading.declaration_at MAX_DEPTH tokens.now) }
 {
     let (names, rest) = names(alloc, tokens)?;
     let (_, rest) = mark(Mark::Colon, rest)?;
@@ -40,7 +40,7 @@ fn declaration(alloc: Global, tokens: &[Token]) -> Result<(Declaration, &[Token]
 /// Names of one type, without an initial value.
 #[tactic(auto, unfolding(crate::specs::UnitReading::external_at))]
 fn external(alloc: Global, tokens: &[Token]) -> Result<(Declaration, &[Token]), ReadError>
-    ensures { Gives (λ x. (declaration_view x.0, x.1.now)) result (reading.external_at tokens.now) }
+    ensures { Reads declaration_view result (reading.external_at tokens.now) }
 {
     let (names, rest) = names(alloc, tokens)?;
     let (_, rest) = mark(Mark::Colon, rest)?;
@@ -58,8 +58,7 @@ fn external(alloc: Global, tokens: &[Token]) -> Result<(Declaration, &[Token]), 
 /// Any number of declarations.
 #[tactic(auto, unfolding(crate::specs::Reading::many))]
 pub fn declarations(alloc: Global, tokens: &[Token]) -> Declarations<'_>
-    ensures { Gives (λ x. (map declaration_view x.0.items, x.1.now)) result
-        (many is_name (reading.declaration_at MAX_DEPTH) tokens.now) }
+    ensures { Reads (each declaration_view) result (many is_name (reading.declaration_at MAX_DEPTH) tokens.now) }
 {
     several(
         Vec::new(alloc),
@@ -73,8 +72,7 @@ pub fn declarations(alloc: Global, tokens: &[Token]) -> Declarations<'_>
 /// Any number of declarations of externals.
 #[tactic(auto, unfolding(crate::specs::Reading::many))]
 pub fn externals(alloc: Global, tokens: &[Token]) -> Declarations<'_>
-    ensures { Gives (λ x. (map declaration_view x.0.items, x.1.now)) result
-        (many is_name reading.external_at tokens.now) }
+    ensures { Reads (each declaration_view) result (many is_name reading.external_at tokens.now) }
 {
     several(
         Vec::new(alloc),

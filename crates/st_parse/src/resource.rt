@@ -1,10 +1,11 @@
 //! Resources, with their tasks and their instances of programs.
 
-ghost use Rattle.std.specs.Prelude.{◌≡◌, ◌∷◌, [], map};
+ghost use Rattle.std.specs.Prelude.{◌≡◌, ◌∷◌, []};
+ghost use Rattle.std.specs.Vec.{vec_items};
 ghost use Rattle.st_lex.specs.declared.keyword.Keyword.TheVariants as keywords;
 ghost use Rattle.st_trees.specs.ConfigurationViews.{resource_view};
 ghost use Rattle.st_statements.specs.Tokens.{is_keyword};
-ghost use Rattle.st_statements.specs.Parsers.{Gives, one};
+ghost use Rattle.st_statements.specs.Parsers.{Reads, as_is, one};
 ghost use Rattle.st_parse.specs.Reading.{many, at_least_one, optional};
 ghost use Rattle.st_parse.specs.Configurations as specs;
 ghost use Rattle.st_parse.specs.ConfigurationReading as reading;
@@ -18,7 +19,7 @@ use std::alloc::Global;
 /// `duration = Duration .`
 /// A duration in milliseconds.
 fn duration(tokens: &[Token]) -> Result<(u64, &[Token]), ReadError>
-    ensures { Gives (λ x. (x.0, x.1.now)) result (one specs.duration tokens.now) }
+    ensures { Reads as_is result (one specs.duration tokens.now) }
 {
     let [t, rest @ ..] = tokens else {
         return Err(refused(tokens));
@@ -32,7 +33,7 @@ fn duration(tokens: &[Token]) -> Result<(u64, &[Token]), ReadError>
 /// `decimal = Number .`
 /// A number that is written as decimal digits alone.
 fn decimal(tokens: &[Token]) -> Result<(Priority, &[Token]), ReadError>
-    ensures { Gives (λ x. (x.0, x.1.now)) result (one specs.decimal tokens.now) }
+    ensures { Reads as_is result (one specs.decimal tokens.now) }
 {
     let [t, rest @ ..] = tokens else {
         return Err(refused(tokens));
@@ -52,7 +53,7 @@ fn decimal(tokens: &[Token]) -> Result<(Priority, &[Token]), ReadError>
 /// `single = "SINGLE", ":=", name, "," .`
 #[tactic(auto, unfolding(crate::specs::ConfigurationReading::single_at))]
 fn single(alloc: Global, tokens: &[Token]) -> Result<(Identifier, &[Token]), ReadError>
-    ensures { Gives (λ x. (x.0, x.1.now)) result (reading.single_at tokens.now) }
+    ensures { Reads as_is result (reading.single_at tokens.now) }
 {
     let (_, rest) = keyword(Keyword::Single, tokens)?;
     let (_, rest) = mark(Mark::Assign, rest)?;
@@ -67,7 +68,7 @@ fn single_or_not(
     alloc: Global,
     tokens: &[Token],
 ) -> Result<(Option<Identifier>, &[Token]), ReadError>
-    ensures { Gives (λ x. (x.0, x.1.now)) result (optional (is_keyword keywords.Single) reading.single_at tokens.now) }
+    ensures { Reads as_is result (optional (is_keyword keywords.Single) reading.single_at tokens.now) }
 {
     if !leads(Keyword::Single, tokens) {
         return Ok((None, tokens));
@@ -79,7 +80,7 @@ fn single_or_not(
 /// `interval = "INTERVAL", ":=", duration, "," .`
 #[tactic(auto, unfolding(crate::specs::ConfigurationReading::interval_at))]
 fn interval(tokens: &[Token]) -> Result<(u64, &[Token]), ReadError>
-    ensures { Gives (λ x. (x.0, x.1.now)) result (reading.interval_at tokens.now) }
+    ensures { Reads as_is result (reading.interval_at tokens.now) }
 {
     let (_, rest) = keyword(Keyword::Interval, tokens)?;
     let (_, rest) = mark(Mark::Assign, rest)?;
@@ -91,8 +92,7 @@ fn interval(tokens: &[Token]) -> Result<(u64, &[Token]), ReadError>
 /// `interval_or_not = [ interval ] .`
 #[tactic(auto, unfolding(crate::specs::Reading::optional))]
 fn interval_or_not(tokens: &[Token]) -> Result<(Option<u64>, &[Token]), ReadError>
-    ensures { Gives (λ x. (x.0, x.1.now)) result
-        (optional (is_keyword keywords.Interval) reading.interval_at tokens.now) }
+    ensures { Reads as_is result (optional (is_keyword keywords.Interval) reading.interval_at tokens.now) }
 {
     if !leads(Keyword::Interval, tokens) {
         return Ok((None, tokens));
@@ -105,7 +105,7 @@ fn interval_or_not(tokens: &[Token]) -> Result<(Option<u64>, &[Token]), ReadErro
 /// A task, with its semicolon.
 #[tactic(auto, unfolding(crate::specs::ConfigurationReading::task_at))]
 fn task(alloc: Global, tokens: &[Token]) -> Result<(Task, &[Token]), ReadError>
-    ensures { Gives (λ x. (x.0, x.1.now)) result (reading.task_at tokens.now) }
+    ensures { Reads as_is result (reading.task_at tokens.now) }
 {
     let (_, rest) = keyword(Keyword::Task, tokens)?;
     let (name, rest) = name(alloc, rest)?;
@@ -129,7 +129,7 @@ fn task(alloc: Global, tokens: &[Token]) -> Result<(Task, &[Token]), ReadError>
 /// `tasks = { task } .`
 #[tactic(auto, unfolding(crate::specs::Reading::many))]
 fn tasks(alloc: Global, tokens: &[Token]) -> Result<(Vec<Task>, &[Token]), ReadError>
-    ensures { Gives (λ x. (x.0.items, x.1.now)) result (many (is_keyword keywords.Task) reading.task_at tokens.now) }
+    ensures { Reads vec_items result (many (is_keyword keywords.Task) reading.task_at tokens.now) }
 {
     several(
         Vec::new(alloc),
@@ -142,7 +142,7 @@ fn tasks(alloc: Global, tokens: &[Token]) -> Result<(Vec<Task>, &[Token]), ReadE
 /// `with = "WITH", name .`
 #[tactic(auto, unfolding(crate::specs::ConfigurationReading::with_at))]
 fn with(alloc: Global, tokens: &[Token]) -> Result<(Identifier, &[Token]), ReadError>
-    ensures { Gives (λ x. (x.0, x.1.now)) result (reading.with_at tokens.now) }
+    ensures { Reads as_is result (reading.with_at tokens.now) }
 {
     let (_, rest) = keyword(Keyword::With, tokens)?;
     let (found, rest) = name(alloc, rest)?;
@@ -152,7 +152,7 @@ fn with(alloc: Global, tokens: &[Token]) -> Result<(Identifier, &[Token]), ReadE
 /// `with_or_not = [ with ] .`
 #[tactic(auto, unfolding(crate::specs::Reading::optional))]
 fn with_or_not(alloc: Global, tokens: &[Token]) -> Result<(Option<Identifier>, &[Token]), ReadError>
-    ensures { Gives (λ x. (x.0, x.1.now)) result (optional (is_keyword keywords.With) reading.with_at tokens.now) }
+    ensures { Reads as_is result (optional (is_keyword keywords.With) reading.with_at tokens.now) }
 {
     if !leads(Keyword::With, tokens) {
         return Ok((None, tokens));
@@ -165,7 +165,7 @@ fn with_or_not(alloc: Global, tokens: &[Token]) -> Result<(Option<Identifier>, &
 /// An instance of a program, with its semicolon.
 #[tactic(auto, unfolding(crate::specs::ConfigurationReading::instance_at))]
 fn instance(alloc: Global, tokens: &[Token]) -> Result<(Instance, &[Token]), ReadError>
-    ensures { Gives (λ x. (x.0, x.1.now)) result (reading.instance_at tokens.now) }
+    ensures { Reads as_is result (reading.instance_at tokens.now) }
 {
     let (_, rest) = keyword(Keyword::Program, tokens)?;
     let (instance, rest) = name(alloc, rest)?;
@@ -184,8 +184,7 @@ fn instance(alloc: Global, tokens: &[Token]) -> Result<(Instance, &[Token]), Rea
 /// `instances = instance, { instance } .`
 #[tactic(auto, unfolding(crate::specs::Reading::at_least_one))]
 fn instances(alloc: Global, tokens: &[Token]) -> Result<(Vec<Instance>, &[Token]), ReadError>
-    ensures { Gives (λ x. (x.0.items, x.1.now)) result
-        (at_least_one (is_keyword keywords.Program) reading.instance_at tokens.now) }
+    ensures { Reads vec_items result (at_least_one (is_keyword keywords.Program) reading.instance_at tokens.now) }
 {
     let (first, rest) = instance(alloc, tokens)?;
     let mut found = Vec::new(alloc);
@@ -202,7 +201,7 @@ fn instances(alloc: Global, tokens: &[Token]) -> Result<(Vec<Instance>, &[Token]
 /// A resource, from RESOURCE to END_RESOURCE.
 #[tactic(auto, unfolding(crate::specs::ConfigurationReading::resource_at))]
 pub fn resource(alloc: Global, tokens: &[Token]) -> Result<(Resource, &[Token]), ReadError>
-    ensures { Gives (λ x. (resource_view x.0, x.1.now)) result (reading.resource_at tokens.now) }
+    ensures { Reads resource_view result (reading.resource_at tokens.now) }
 {
     let (_, rest) = keyword(Keyword::Resource, tokens)?;
     let (resource, rest) = name(alloc, rest)?;

@@ -3,7 +3,7 @@
 ghost use Rattle.std.specs.Prelude.{◌≡◌};
 ghost use Rattle.st_lex.specs.declared.keyword.Keyword.TheVariants as keywords;
 ghost use Rattle.st_statements.specs.Tokens.{next};
-ghost use Rattle.st_statements.specs.Parsers.{Gives, one};
+ghost use Rattle.st_statements.specs.Parsers.{Reads, as_is, one};
 ghost use Rattle.st_parse.specs.Units as specs;
 ghost use Rattle.st_parse.specs.UnitReading as reading;
 
@@ -16,7 +16,7 @@ type Found<'a> = Result<(Section, &'a [Token]), ReadError>;
 
 /// `retention = "RETAIN" | "NON_RETAIN" .`
 fn retention(tokens: &[Token]) -> Result<(Retention, &[Token]), ReadError>
-    ensures { Gives (λ x. (x.0, x.1.now)) result (one specs.retention tokens.now) }
+    ensures { Reads as_is result (one specs.retention tokens.now) }
 {
     let [t, rest @ ..] = tokens else {
         return Err(refused(tokens));
@@ -38,7 +38,7 @@ fn begins_retention(tokens: &[Token]) -> bool
 /// `retention_or_not = [ retention ] .`
 #[tactic(auto, unfolding(crate::specs::UnitReading::retention_or_not, crate::specs::Reading::optional))]
 fn retention_or_not(tokens: &[Token]) -> Result<(Option<Retention>, &[Token]), ReadError>
-    ensures { Gives (λ x. (x.0, x.1.now)) result (reading.retention_or_not tokens.now) }
+    ensures { Reads as_is result (reading.retention_or_not tokens.now) }
 {
     if !begins_retention(tokens) {
         return Ok((None, tokens));
@@ -51,7 +51,7 @@ fn retention_or_not(tokens: &[Token]) -> Result<(Option<Retention>, &[Token]), R
 /// The section, after CONSTANT.
 #[tactic(auto, unfolding(crate::specs::UnitReading::constant_of))]
 fn constant_of(section: Section, tokens: &[Token]) -> Found<'_>
-    ensures { Gives (λ x. (x.0, x.1.now)) result (reading.constant_of section tokens.now) }
+    ensures { Reads as_is result (reading.constant_of section tokens.now) }
 {
     let (_, rest) = keyword(Keyword::Constant, tokens)?;
     Ok((section, rest))
@@ -61,7 +61,7 @@ fn constant_of(section: Section, tokens: &[Token]) -> Found<'_>
 /// In a function.
 #[tactic(auto, unfolding(crate::specs::UnitReading::function_section_at, crate::specs::UnitReading::function_input_at, crate::specs::UnitReading::function_own_at))]
 pub fn function_section(tokens: &[Token]) -> Found<'_>
-    ensures { Gives (λ x. (x.0, x.1.now)) result (reading.function_section_at tokens.now) }
+    ensures { Reads as_is result (reading.function_section_at tokens.now) }
 {
     if leads(Keyword::VarInput, tokens) {
         let (_, rest) = keyword(Keyword::VarInput, tokens)?;
@@ -78,7 +78,7 @@ pub fn function_section(tokens: &[Token]) -> Found<'_>
 /// A unit's own variables, in a program or a function block.
 #[tactic(auto, unfolding(crate::specs::UnitReading::own_section_at, crate::specs::UnitReading::local_at))]
 pub fn own_section(tokens: &[Token]) -> Found<'_>
-    ensures { Gives (λ x. (x.0, x.1.now)) result (reading.own_section_at tokens.now) }
+    ensures { Reads as_is result (reading.own_section_at tokens.now) }
 {
     let (_, rest) = keyword(Keyword::Var, tokens)?;
     if leads(Keyword::Constant, rest) {
@@ -92,7 +92,7 @@ pub fn own_section(tokens: &[Token]) -> Found<'_>
 /// In a function block.
 #[tactic(auto, unfolding(crate::specs::UnitReading::block_section_at, crate::specs::UnitReading::input_section_at, crate::specs::UnitReading::output_section_at))]
 pub fn block_section(tokens: &[Token]) -> Found<'_>
-    ensures { Gives (λ x. (x.0, x.1.now)) result (reading.block_section_at tokens.now) }
+    ensures { Reads as_is result (reading.block_section_at tokens.now) }
 {
     if leads(Keyword::VarInput, tokens) {
         let (_, rest) = keyword(Keyword::VarInput, tokens)?;
@@ -111,7 +111,7 @@ pub fn block_section(tokens: &[Token]) -> Found<'_>
 /// Globals that a unit names.
 #[tactic(auto, unfolding(crate::specs::UnitReading::external_section_at))]
 pub fn external_section(tokens: &[Token]) -> Found<'_>
-    ensures { Gives (λ x. (x.0, x.1.now)) result (reading.external_section_at tokens.now) }
+    ensures { Reads as_is result (reading.external_section_at tokens.now) }
 {
     let (_, rest) = keyword(Keyword::VarExternal, tokens)?;
     if leads(Keyword::Constant, rest) {

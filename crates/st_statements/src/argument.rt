@@ -6,7 +6,7 @@ ghost use Rattle.st_lex.specs.declared.mark.Mark.TheVariants as marks;
 ghost use Rattle.st_trees.specs.StatementViews.{argument_view};
 ghost use Rattle.st_statements.specs.Tokens.{is_mark};
 ghost use Rattle.st_statements.specs.Parsers as parsers;
-ghost use Rattle.st_statements.specs.Parsers.{Gives, several};
+ghost use Rattle.st_statements.specs.Parsers.{Reads, each, several};
 ghost use Rattle.st_statements.specs.StatementReading as reading;
 
 use crate::expression::{expr, variable};
@@ -24,7 +24,7 @@ type Found<'a> = Result<(Argument, &'a [Token]), ReadError>;
 #[tactic(auto, unfolding(crate::specs::StatementReading::argument_at, crate::specs::StatementReading::given_of, crate::specs::StatementReading::copied_of))]
 fn argument(alloc: Global, below: usize, tokens: &[Token]) -> Found<'_>
     requires { below < MAX_DEPTH }
-    ensures { Gives (λ x. (argument_view x.0, x.1.now)) result (reading.argument_at below tokens.now) }
+    ensures { Reads argument_view result (reading.argument_at below tokens.now) }
 {
     let (found, rest) = name(alloc, tokens)?;
     if begins(Mark::Assign, rest) {
@@ -41,8 +41,7 @@ fn argument(alloc: Global, below: usize, tokens: &[Token]) -> Found<'_>
 #[tactic(auto, unfolding(crate::specs::Parsers::after_comma))]
 fn next_argument(alloc: Global, below: usize, tokens: &[Token]) -> Found<'_>
     requires { below < MAX_DEPTH }
-    ensures { Gives (λ x. (argument_view x.0, x.1.now)) result
-        (parsers.after_comma (reading.argument_at below) tokens.now) }
+    ensures { Reads argument_view result (parsers.after_comma (reading.argument_at below) tokens.now) }
 {
     let (_, rest) = mark(Mark::Comma, tokens)?;
     argument(alloc, below, rest)
@@ -56,7 +55,7 @@ fn more_arguments<'a>(
     mut tokens: &'a [Token],
 ) -> Result<(Vec<Argument>, &'a [Token]), ReadError>
     requires { below < MAX_DEPTH }
-    ensures { Gives (λ x. (map argument_view x.0.items, x.1.now)) result (several (is_mark marks.Comma)
+    ensures { Reads (each argument_view) result (several (is_mark marks.Comma)
         (parsers.after_comma (reading.argument_at below)) (map argument_view found.items) tokens.entry.now) }
 {
     for _turn in 0..tokens.len() {
@@ -79,7 +78,7 @@ pub fn arguments(
     tokens: &[Token],
 ) -> Result<(Vec<Argument>, &[Token]), ReadError>
     requires { below < MAX_DEPTH }
-    ensures { Gives (λ x. (map argument_view x.0.items, x.1.now)) result (reading.arguments_at below tokens.now) }
+    ensures { Reads (each argument_view) result (reading.arguments_at below tokens.now) }
 {
     let mut found = Vec::new(alloc);
     if begins(Mark::Close, tokens) {

@@ -6,7 +6,7 @@ ghost use Rattle.st_trees.specs.ExpressionViews.{expr_view, variable_view, selec
 ghost use Rattle.st_trees.specs.Depths.{depth_of};
 ghost use Rattle.st_statements.specs.Tokens.{next, is_mark, is_name};
 ghost use Rattle.st_statements.specs.Parsers as parsers;
-ghost use Rattle.st_statements.specs.Parsers.{Gives, several};
+ghost use Rattle.st_statements.specs.Parsers.{Reads, each, several};
 ghost use Rattle.st_lex.specs.declared.mark.Mark.TheVariants as marks;
 ghost use Rattle.st_statements.specs.ExpressionReading as reading;
 
@@ -72,7 +72,7 @@ fn is_deeper(expression: &Expr, below: usize) -> bool
 #[tactic(auto, unfolding(crate::specs::ExpressionReading::parenthesis_at))]
 fn parenthesis(alloc: Global, below: usize, tokens: &[Token]) -> Found<'_>
     requires { below < MAX_DEPTH }
-    ensures { Gives (λ x. (expr_view x.0, x.1.now)) result (reading.parenthesis_at (reading.expr_at below) tokens.now) }
+    ensures { Reads expr_view result (reading.parenthesis_at (reading.expr_at below) tokens.now) }
 {
     let (place, rest) = mark(Mark::Open, tokens)?;
     let (inner, rest) = expr(alloc, below, 1, rest)?;
@@ -89,8 +89,7 @@ fn selector(
     tokens: &[Token],
 ) -> Result<(Selector, &[Token]), ReadError>
     requires { below < MAX_DEPTH }
-    ensures { Gives (λ x. (selector_view x.0, x.1.now)) result
-        (reading.selector_at (reading.expr_at below) tokens.now) }
+    ensures { Reads selector_view result (reading.selector_at (reading.expr_at below) tokens.now) }
 {
     if begins(Mark::Dot, tokens) {
         let (_, rest) = mark(Mark::Dot, tokens)?;
@@ -111,8 +110,7 @@ fn selectors<'a>(
     mut tokens: &'a [Token],
 ) -> Result<(Vec<Selector>, &'a [Token]), ReadError>
     requires { below < MAX_DEPTH }
-    ensures { Gives (λ x. (map selector_view x.0.items, x.1.now)) result
-        (reading.selectors_at (reading.expr_at below) tokens.entry.now) }
+    ensures { Reads (each selector_view) result (reading.selectors_at (reading.expr_at below) tokens.entry.now) }
 {
     let mut found = Vec::new(alloc);
     for _turn in 0..tokens.len() {
@@ -137,8 +135,7 @@ pub fn variable_of<'a>(
     tokens: &'a [Token],
 ) -> Result<(Variable, &'a [Token]), ReadError>
     requires { below < MAX_DEPTH }
-    ensures { Gives (λ x. (variable_view x.0, x.1.now)) result
-        (reading.variable_of (reading.expr_at below) name tokens.now) }
+    ensures { Reads variable_view result (reading.variable_of (reading.expr_at below) name tokens.now) }
 {
     let (found, rest) = selectors(alloc, below, tokens)?;
     Ok((Variable::new(name, found), rest))
@@ -149,7 +146,7 @@ pub fn variable_of<'a>(
 #[tactic(auto, unfolding(crate::specs::Parsers::after_comma))]
 fn after_comma(alloc: Global, below: usize, tokens: &[Token]) -> Found<'_>
     requires { below < MAX_DEPTH }
-    ensures { Gives (λ x. (expr_view x.0, x.1.now)) result (parsers.after_comma (reading.expr_at below 1) tokens.now) }
+    ensures { Reads expr_view result (parsers.after_comma (reading.expr_at below 1) tokens.now) }
 {
     let (_, rest) = mark(Mark::Comma, tokens)?;
     expr(alloc, below, 1, rest)
@@ -164,7 +161,7 @@ fn more_arguments<'a>(
     mut tokens: &'a [Token],
 ) -> Result<(Vec<Expr>, &'a [Token]), ReadError>
     requires { below < MAX_DEPTH }
-    ensures { Gives (λ x. (map expr_view x.0.items, x.1.now)) result (several (is_mark marks.Comma)
+    ensures { Reads (each expr_view) result (several (is_mark marks.Comma)
         (parsers.after_comma (reading.expr_at below 1)) (map expr_view found.items) tokens.entry.now) }
 {
     for _turn in 0..tokens.len() {
@@ -187,8 +184,7 @@ fn arguments(
     tokens: &[Token],
 ) -> Result<(Vec<Expr>, &[Token]), ReadError>
     requires { below < MAX_DEPTH }
-    ensures { Gives (λ x. (map expr_view x.0.items, x.1.now)) result
-        (reading.arguments_at (reading.expr_at below) tokens.now) }
+    ensures { Reads (each expr_view) result (reading.arguments_at (reading.expr_at below) tokens.now) }
 {
     let mut found = Vec::new(alloc);
     if begins(Mark::Close, tokens) {
@@ -204,8 +200,7 @@ fn arguments(
 #[tactic(auto, unfolding(crate::specs::ExpressionReading::call_of))]
 fn call_of<'a>(alloc: Global, below: usize, function: Identifier, tokens: &'a [Token]) -> Found<'a>
     requires { below < MAX_DEPTH }
-    ensures { Gives (λ x. (expr_view x.0, x.1.now)) result
-        (reading.call_of (reading.expr_at below) function tokens.now) }
+    ensures { Reads expr_view result (reading.call_of (reading.expr_at below) function tokens.now) }
 {
     let (_, rest) = mark(Mark::Open, tokens)?;
     let (found, rest) = arguments(alloc, below, rest)?;
@@ -218,7 +213,7 @@ fn call_of<'a>(alloc: Global, below: usize, function: Identifier, tokens: &'a [T
 #[tactic(auto, unfolding(crate::specs::ExpressionReading::named_at, crate::specs::ExpressionReading::read_of))]
 fn named(alloc: Global, below: usize, tokens: &[Token]) -> Found<'_>
     requires { below < MAX_DEPTH }
-    ensures { Gives (λ x. (expr_view x.0, x.1.now)) result (reading.named_at (reading.expr_at below) tokens.now) }
+    ensures { Reads expr_view result (reading.named_at (reading.expr_at below) tokens.now) }
 {
     let (found, rest) = name(alloc, tokens)?;
     if begins(Mark::Open, rest) {
@@ -233,7 +228,7 @@ fn named(alloc: Global, below: usize, tokens: &[Token]) -> Found<'_>
 #[tactic(auto, unfolding(crate::specs::ExpressionReading::operand_at, crate::specs::ExpressionReading::literal_at))]
 fn operand(alloc: Global, below: usize, tokens: &[Token]) -> Found<'_>
     requires { below < MAX_DEPTH }
-    ensures { Gives (λ x. (expr_view x.0, x.1.now)) result (reading.operand_at (reading.expr_at below) tokens.now) }
+    ensures { Reads expr_view result (reading.operand_at (reading.expr_at below) tokens.now) }
 {
     let [t, ..] = tokens else {
         return Err(refused(tokens));
@@ -254,7 +249,7 @@ fn operand(alloc: Global, below: usize, tokens: &[Token]) -> Found<'_>
 #[tactic(auto, unfolding(crate::specs::ExpressionReading::minus_at, crate::specs::ExpressionReading::negative_of, crate::specs::ExpressionReading::negated_of))]
 fn minus(alloc: Global, below: usize, tokens: &[Token]) -> Found<'_>
     requires { below < MAX_DEPTH }
-    ensures { Gives (λ x. (expr_view x.0, x.1.now)) result (reading.minus_at (reading.expr_at below) tokens.now) }
+    ensures { Reads expr_view result (reading.minus_at (reading.expr_at below) tokens.now) }
 {
     let (place, rest) = mark(Mark::Minus, tokens)?;
     if begins_number(rest) {
@@ -276,7 +271,7 @@ fn minus(alloc: Global, below: usize, tokens: &[Token]) -> Found<'_>
 #[tactic(auto, unfolding(crate::specs::ExpressionReading::not_at))]
 fn inverted(alloc: Global, below: usize, tokens: &[Token]) -> Found<'_>
     requires { below < MAX_DEPTH }
-    ensures { Gives (λ x. (expr_view x.0, x.1.now)) result (reading.not_at (reading.expr_at below) tokens.now) }
+    ensures { Reads expr_view result (reading.not_at (reading.expr_at below) tokens.now) }
 {
     let (place, rest) = keyword(Keyword::Not, tokens)?;
     let (operand, rest) = expr(alloc, below, OPERAND, rest)?;
@@ -291,7 +286,7 @@ fn inverted(alloc: Global, below: usize, tokens: &[Token]) -> Found<'_>
 #[tactic(auto, unfolding(crate::specs::ExpressionReading::unary_at))]
 fn unary(alloc: Global, below: usize, tokens: &[Token]) -> Found<'_>
     requires { below < MAX_DEPTH }
-    ensures { Gives (λ x. (expr_view x.0, x.1.now)) result (reading.unary_at (reading.expr_at below) tokens.now) }
+    ensures { Reads expr_view result (reading.unary_at (reading.expr_at below) tokens.now) }
 {
     if begins(Mark::Minus, tokens) {
         return minus(alloc, below, tokens);
@@ -307,8 +302,7 @@ fn unary(alloc: Global, below: usize, tokens: &[Token]) -> Found<'_>
 #[tactic(auto, unfolding(crate::specs::ExpressionReading::operation_of))]
 fn operation<'a>(alloc: Global, below: usize, left: Expr, tokens: &'a [Token]) -> Found<'a>
     requires { below < MAX_DEPTH }
-    ensures { Gives (λ x. (expr_view x.0, x.1.now)) result
-        (reading.operation_of (reading.expr_at below) (expr_view left) tokens.now) }
+    ensures { Reads expr_view result (reading.operation_of (reading.expr_at below) (expr_view left) tokens.now) }
 {
     let (op, rest) = operator(tokens)?;
     let (right, rest) = expr(alloc, below, binds(op) + 1, rest)?;
@@ -325,7 +319,7 @@ fn operations<'a>(
     mut tokens: &'a [Token],
 ) -> Found<'a>
     requires { below < MAX_DEPTH }
-    ensures { Gives (λ x. (expr_view x.0, x.1.now)) result
+    ensures { Reads expr_view result
         (reading.operations_of (reading.expr_at below) below least (expr_view left) tokens.entry.now) }
 {
     for _turn in 0..tokens.len() {
@@ -347,8 +341,7 @@ fn operations<'a>(
 #[tactic(auto, unfolding(crate::specs::ExpressionReading::operators_at))]
 fn operators(alloc: Global, below: usize, least: usize, tokens: &[Token]) -> Found<'_>
     requires { below < MAX_DEPTH }
-    ensures { Gives (λ x. (expr_view x.0, x.1.now)) result
-        (reading.operators_at (reading.expr_at below) below least tokens.now) }
+    ensures { Reads expr_view result (reading.operators_at (reading.expr_at below) below least tokens.now) }
 {
     let (first, rest) = unary(alloc, below, tokens)?;
     operations(alloc, below, least, first, rest)
@@ -362,7 +355,7 @@ fn operators(alloc: Global, below: usize, least: usize, tokens: &[Token]) -> Fou
 #[tactic(auto, unfolding(crate::specs::ExpressionReading::expr_at))]
 pub fn expr(alloc: Global, depth: usize, least: usize, tokens: &[Token]) -> Found<'_>
     requires { depth ≤ MAX_DEPTH }
-    ensures { Gives (λ x. (expr_view x.0, x.1.now)) result (reading.expr_at depth least tokens.now) }
+    ensures { Reads expr_view result (reading.expr_at depth least tokens.now) }
 {
     if depth == 0 {
         return Err(sunk(starts_expr(least, tokens), tokens));
@@ -382,7 +375,7 @@ pub fn variable(
     tokens: &[Token],
 ) -> Result<(Variable, &[Token]), ReadError>
     requires { depth ≤ MAX_DEPTH }
-    ensures { Gives (λ x. (variable_view x.0, x.1.now)) result (reading.variable_at depth tokens.now) }
+    ensures { Reads variable_view result (reading.variable_at depth tokens.now) }
 {
     if depth == 0 {
         return Err(sunk(begins_name(tokens), tokens));

@@ -2,7 +2,7 @@
 
 ghost use Rattle.std.specs.Prelude.{◌≡◌, ◌≤◌};
 ghost use Rattle.st_statements.specs.Tokens.{next};
-ghost use Rattle.st_statements.specs.Parsers.{Gives, one};
+ghost use Rattle.st_statements.specs.Parsers.{Reads, as_is, one};
 ghost use Rattle.st_statements.specs.Operators as specs;
 
 use crate::fault::ReadError;
@@ -72,7 +72,7 @@ pub fn goes_on(least: usize, tokens: &[Token]) -> bool
 /// `operator(7) = "*" | "/" | "MOD" .`
 /// An operator, and the tokens after it.
 pub fn operator(tokens: &[Token]) -> Result<(BinaryOperator, &[Token]), ReadError>
-    ensures { Gives (λ x. (x.0, x.1.now)) result (one specs.operator tokens.now) }
+    ensures { Reads as_is result (one specs.operator tokens.now) }
 {
     let [t, rest @ ..] = tokens else {
         return Err(refused(tokens));

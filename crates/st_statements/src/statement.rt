@@ -1,15 +1,15 @@
 //! Statements.
 
-ghost use Rattle.std.specs.Prelude.{◌≡◌, ◌≤◌, ◌<◌, [], ◌∷◌, List, map, option_map};
+ghost use Rattle.std.specs.Prelude.{◌≡◌, ◌≤◌, ◌<◌, [], ◌∷◌, List, option_map};
 ghost use Rattle.st_words.specs.declared.limits.TheConstants.{MAX_DEPTH};
 ghost use Rattle.st_lex.specs.declared.keyword.Keyword.TheVariants as words;
 ghost use Rattle.st_trees.specs.ExpressionViews.{expr_view};
 ghost use Rattle.st_trees.specs.Statements as statements;
 ghost use Rattle.st_trees.specs.StatementViews.{stmt_view, arm_view, case_arm_view};
 ghost use Rattle.st_statements.specs.Tokens.{next, is_keyword};
-ghost use Rattle.st_statements.specs.Parsers.{Parser, Gives, between};
+ghost use Rattle.st_statements.specs.Parsers.{Reads, each, Parser, between};
 ghost use Rattle.st_statements.specs.Parsers as parsers;
-ghost use Rattle.st_statements.specs.Calls.{Reads};
+ghost use Rattle.st_statements.specs.Calls.{CallsRead};
 ghost use Rattle.st_statements.specs.StatementReading as reading;
 
 use crate::argument::arguments;
@@ -71,7 +71,7 @@ fn starts_stmt(tokens: &[Token]) -> bool
 /// `exit_stmt = "EXIT" .`
 #[tactic(auto, unfolding(crate::specs::StatementReading::exit_at))]
 fn exit_stmt(tokens: &[Token]) -> Found<'_>
-    ensures { Gives (λ x. (stmt_view x.0, x.1.now)) result (reading.exit_at tokens.now) }
+    ensures { Reads stmt_view result (reading.exit_at tokens.now) }
 {
     let (place, rest) = keyword(Keyword::Exit, tokens)?;
     Ok((Stmt::exit(place), rest))
@@ -80,7 +80,7 @@ fn exit_stmt(tokens: &[Token]) -> Found<'_>
 /// `return_stmt = "RETURN" .`
 #[tactic(auto, unfolding(crate::specs::StatementReading::return_at))]
 fn return_stmt(tokens: &[Token]) -> Found<'_>
-    ensures { Gives (λ x. (stmt_view x.0, x.1.now)) result (reading.return_at tokens.now) }
+    ensures { Reads stmt_view result (reading.return_at tokens.now) }
 {
     let (_, rest) = keyword(Keyword::Return, tokens)?;
     Ok((Stmt::leave(), rest))
@@ -90,7 +90,7 @@ fn return_stmt(tokens: &[Token]) -> Found<'_>
 #[tactic(auto, unfolding(crate::specs::StatementReading::assign_of))]
 fn assign_of<'a>(alloc: Global, below: usize, target: Identifier, tokens: &'a [Token]) -> Found<'a>
     requires { below < MAX_DEPTH }
-    ensures { Gives (λ x. (stmt_view x.0, x.1.now)) result (reading.assign_of below target tokens.now) }
+    ensures { Reads stmt_view result (reading.assign_of below target tokens.now) }
 {
     let (variable, rest) = variable_of(alloc, below.saturating_sub(1), target, tokens)?;
     let (_, rest) = mark(Mark::Assign, rest)?;
@@ -107,7 +107,7 @@ fn invoke_of<'a>(
     tokens: &'a [Token],
 ) -> Found<'a>
     requires { below < MAX_DEPTH }
-    ensures { Gives (λ x. (stmt_view x.0, x.1.now)) result (reading.invoke_of below instance tokens.now) }
+    ensures { Reads stmt_view result (reading.invoke_of below instance tokens.now) }
 {
     let (_, rest) = mark(Mark::Open, tokens)?;
     let (found, rest) = arguments(alloc, below, rest)?;
@@ -119,7 +119,7 @@ fn invoke_of<'a>(
 #[tactic(auto, unfolding(crate::specs::StatementReading::named_at))]
 fn named(alloc: Global, below: usize, tokens: &[Token]) -> Found<'_>
     requires { below < MAX_DEPTH }
-    ensures { Gives (λ x. (stmt_view x.0, x.1.now)) result (reading.named_at below tokens.now) }
+    ensures { Reads stmt_view result (reading.named_at below tokens.now) }
 {
     let (found, rest) = name(alloc, tokens)?;
     if begins(Mark::Open, rest) {
@@ -136,7 +136,7 @@ fn step(
     tokens: &[Token],
 ) -> Result<(Option<Expr>, &[Token]), ReadError>
     requires { below < MAX_DEPTH }
-    ensures { Gives (λ x. (option_map expr_view x.0, x.1.now)) result (reading.step_at below tokens.now) }
+    ensures { Reads (option_map expr_view) result (reading.step_at below tokens.now) }
 {
     if leads(Keyword::By, tokens) {
         let (_, rest) = keyword(Keyword::By, tokens)?;
@@ -155,8 +155,8 @@ fn block<'a, I: Fn(&[Token]) -> Block<'_>>(
     inner: &I,
 ) -> Block<'a>
     requires inner { I.IsAlwaysCallable inner.now }
-    ensures { (p : Parser (List statements.Stmt)) → Reads (λ xs. map stmt_view xs.items) (I.post inner.now) p
-        → Gives (λ x. (map stmt_view x.0.items, x.1.now)) result (between first last p tokens.now) }
+    ensures { (p : Parser (List statements.Stmt)) → CallsRead (each stmt_view) (I.post inner.now) p
+        → Reads (each stmt_view) result (between first last p tokens.now) }
 {
     let (_, rest) = keyword(first, tokens)?;
     let (body, rest) = inner(rest)?;
@@ -174,8 +174,8 @@ fn arm<'a, I: Fn(&[Token]) -> Block<'_>>(
 ) -> FoundArm<'a>
     requires below { below < MAX_DEPTH }
     requires inner { I.IsAlwaysCallable inner.now }
-    requires reads { Reads (λ xs. map stmt_view xs.items) (I.post inner.now) (reading.stmts_at below) }
-    ensures { Gives (λ x. (arm_view x.0, x.1.now)) result (reading.arm_at below (reading.stmts_at below) tokens.now) }
+    requires reads { CallsRead (each stmt_view) (I.post inner.now) (reading.stmts_at below) }
+    ensures { Reads arm_view result (reading.arm_at below (reading.stmts_at below) tokens.now) }
 {
     let (condition, rest) = expr(alloc, below, 1, tokens)?;
     let (_, rest) = keyword(Keyword::Then, rest)?;
@@ -193,8 +193,8 @@ fn elsif<'a, I: Fn(&[Token]) -> Block<'_>>(
 ) -> FoundArm<'a>
     requires below { below < MAX_DEPTH }
     requires inner { I.IsAlwaysCallable inner.now }
-    requires reads { Reads (λ xs. map stmt_view xs.items) (I.post inner.now) (reading.stmts_at below) }
-    ensures { Gives (λ x. (arm_view x.0, x.1.now)) result (reading.elsif_at below (reading.stmts_at below) tokens.now) }
+    requires reads { CallsRead (each stmt_view) (I.post inner.now) (reading.stmts_at below) }
+    ensures { Reads arm_view result (reading.elsif_at below (reading.stmts_at below) tokens.now) }
 {
     let (_, rest) = keyword(Keyword::Elsif, tokens)?;
     arm(alloc, below, rest, inner)
@@ -211,8 +211,8 @@ fn arms_behind<'a, I: Fn(&[Token]) -> Block<'_>>(
 ) -> Result<(Vec<Arm>, &'a [Token]), ReadError>
     requires below { below < MAX_DEPTH }
     requires inner { I.IsAlwaysCallable inner.now }
-    requires reads { Reads (λ xs. map stmt_view xs.items) (I.post inner.now) (reading.stmts_at below) }
-    ensures { Gives (λ x. (map arm_view x.0.items, x.1.now)) result
+    requires reads { CallsRead (each stmt_view) (I.post inner.now) (reading.stmts_at below) }
+    ensures { Reads (each arm_view) result
         (parsers.several (is_keyword words.Elsif) (reading.elsif_at below (reading.stmts_at below))
         (arm_view first ∷ []) tokens.now) }
 {
@@ -236,9 +236,8 @@ fn else_part<'a, I: Fn(&[Token]) -> Block<'_>>(
 ) -> Block<'a>
     requires below { below < MAX_DEPTH }
     requires inner { I.IsAlwaysCallable inner.now }
-    requires reads { Reads (λ xs. map stmt_view xs.items) (I.post inner.now) (reading.stmts_at below) }
-    ensures { Gives (λ x. (map stmt_view x.0.items, x.1.now)) result
-        (reading.else_at below (reading.stmts_at below) tokens.now) }
+    requires reads { CallsRead (each stmt_view) (I.post inner.now) (reading.stmts_at below) }
+    ensures { Reads (each stmt_view) result (reading.else_at below (reading.stmts_at below) tokens.now) }
 {
     if leads(Keyword::Else, tokens) {
         let (_, rest) = keyword(Keyword::Else, tokens)?;
@@ -257,8 +256,8 @@ fn if_stmt<'a, I: Fn(&[Token]) -> Block<'_>>(
 ) -> Found<'a>
     requires below { below < MAX_DEPTH }
     requires inner { I.IsAlwaysCallable inner.now }
-    requires reads { Reads (λ xs. map stmt_view xs.items) (I.post inner.now) (reading.stmts_at below) }
-    ensures { Gives (λ x. (stmt_view x.0, x.1.now)) result (reading.if_at below (reading.stmts_at below) tokens.now) }
+    requires reads { CallsRead (each stmt_view) (I.post inner.now) (reading.stmts_at below) }
+    ensures { Reads stmt_view result (reading.if_at below (reading.stmts_at below) tokens.now) }
 {
     let (_, rest) = keyword(Keyword::If, tokens)?;
     let (first, rest) = arm(alloc, below, rest, inner)?;
@@ -278,9 +277,8 @@ fn case_arm<'a, I: Fn(&[Token]) -> Block<'_>>(
 ) -> FoundCaseArm<'a>
     requires below { below < MAX_DEPTH }
     requires inner { I.IsAlwaysCallable inner.now }
-    requires reads { Reads (λ xs. map stmt_view xs.items) (I.post inner.now) (reading.stmts_at below) }
-    ensures { Gives (λ x. (case_arm_view x.0, x.1.now)) result
-        (reading.case_arm_at below (reading.stmts_at below) tokens.now) }
+    requires reads { CallsRead (each stmt_view) (I.post inner.now) (reading.stmts_at below) }
+    ensures { Reads case_arm_view result (reading.case_arm_at below (reading.stmts_at below) tokens.now) }
 {
     let (labels, rest) = labels(alloc, tokens)?;
     let (_, rest) = mark(Mark::Colon, rest)?;
@@ -297,8 +295,8 @@ fn case_arms<'a, I: Fn(&[Token]) -> Block<'_>>(
 ) -> Result<(Vec<CaseArm>, &'a [Token]), ReadError>
     requires below { below < MAX_DEPTH }
     requires inner { I.IsAlwaysCallable inner.now }
-    requires reads { Reads (λ xs. map stmt_view xs.items) (I.post inner.now) (reading.stmts_at below) }
-    ensures { Gives (λ x. (map case_arm_view x.0.items, x.1.now)) result
+    requires reads { CallsRead (each stmt_view) (I.post inner.now) (reading.stmts_at below) }
+    ensures { Reads (each case_arm_view) result
         (parsers.several reading.starts_number (reading.case_arm_at below (reading.stmts_at below)) [] tokens.now) }
 {
     several(
@@ -319,8 +317,8 @@ fn case_stmt<'a, I: Fn(&[Token]) -> Block<'_>>(
 ) -> Found<'a>
     requires below { below < MAX_DEPTH }
     requires inner { I.IsAlwaysCallable inner.now }
-    requires reads { Reads (λ xs. map stmt_view xs.items) (I.post inner.now) (reading.stmts_at below) }
-    ensures { Gives (λ x. (stmt_view x.0, x.1.now)) result (reading.case_at below (reading.stmts_at below) tokens.now) }
+    requires reads { CallsRead (each stmt_view) (I.post inner.now) (reading.stmts_at below) }
+    ensures { Reads stmt_view result (reading.case_at below (reading.stmts_at below) tokens.now) }
 {
     let (_, rest) = keyword(Keyword::Case, tokens)?;
     let (selector, rest) = expr(alloc, below, 1, rest)?;
@@ -341,8 +339,8 @@ fn for_stmt<'a, I: Fn(&[Token]) -> Block<'_>>(
 ) -> Found<'a>
     requires below { below < MAX_DEPTH }
     requires inner { I.IsAlwaysCallable inner.now }
-    requires reads { Reads (λ xs. map stmt_view xs.items) (I.post inner.now) (reading.stmts_at below) }
-    ensures { Gives (λ x. (stmt_view x.0, x.1.now)) result (reading.for_at below (reading.stmts_at below) tokens.now) }
+    requires reads { CallsRead (each stmt_view) (I.post inner.now) (reading.stmts_at below) }
+    ensures { Reads stmt_view result (reading.for_at below (reading.stmts_at below) tokens.now) }
 {
     let (_, rest) = keyword(Keyword::For, tokens)?;
     let (control, rest) = name(alloc, rest)?;
@@ -365,9 +363,8 @@ fn while_stmt<'a, I: Fn(&[Token]) -> Block<'_>>(
 ) -> Found<'a>
     requires below { below < MAX_DEPTH }
     requires inner { I.IsAlwaysCallable inner.now }
-    requires reads { Reads (λ xs. map stmt_view xs.items) (I.post inner.now) (reading.stmts_at below) }
-    ensures { Gives (λ x. (stmt_view x.0, x.1.now)) result
-        (reading.while_at below (reading.stmts_at below) tokens.now) }
+    requires reads { CallsRead (each stmt_view) (I.post inner.now) (reading.stmts_at below) }
+    ensures { Reads stmt_view result (reading.while_at below (reading.stmts_at below) tokens.now) }
 {
     let (_, rest) = keyword(Keyword::While, tokens)?;
     let (condition, rest) = expr(alloc, below, 1, rest)?;
@@ -385,9 +382,8 @@ fn repeat_stmt<'a, I: Fn(&[Token]) -> Block<'_>>(
 ) -> Found<'a>
     requires below { below < MAX_DEPTH }
     requires inner { I.IsAlwaysCallable inner.now }
-    requires reads { Reads (λ xs. map stmt_view xs.items) (I.post inner.now) (reading.stmts_at below) }
-    ensures { Gives (λ x. (stmt_view x.0, x.1.now)) result
-        (reading.repeat_at below (reading.stmts_at below) tokens.now) }
+    requires reads { CallsRead (each stmt_view) (I.post inner.now) (reading.stmts_at below) }
+    ensures { Reads stmt_view result (reading.repeat_at below (reading.stmts_at below) tokens.now) }
 {
     let (_, rest) = keyword(Keyword::Repeat, tokens)?;
     let (body, rest) = inner(rest)?;
@@ -407,8 +403,8 @@ fn stmt<'a, I: Fn(&[Token]) -> Block<'_>>(
 ) -> Found<'a>
     requires below { below < MAX_DEPTH }
     requires inner { I.IsAlwaysCallable inner.now }
-    requires reads { Reads (λ xs. map stmt_view xs.items) (I.post inner.now) (reading.stmts_at below) }
-    ensures { Gives (λ x. (stmt_view x.0, x.1.now)) result (reading.stmt_at below (reading.stmts_at below) tokens.now) }
+    requires reads { CallsRead (each stmt_view) (I.post inner.now) (reading.stmts_at below) }
+    ensures { Reads stmt_view result (reading.stmt_at below (reading.stmts_at below) tokens.now) }
 {
     let [t, ..] = tokens else {
         return Err(refused(tokens));
@@ -433,7 +429,7 @@ fn stmt<'a, I: Fn(&[Token]) -> Block<'_>>(
 #[tactic(auto, unfolding(crate::specs::StatementReading::line_at))]
 fn line(alloc: Global, depth: usize, tokens: &[Token]) -> Found<'_>
     requires { depth ≤ MAX_DEPTH }
-    ensures { Gives (λ x. (stmt_view x.0, x.1.now)) result (reading.line_at depth tokens.now) }
+    ensures { Reads stmt_view result (reading.line_at depth tokens.now) }
 {
     if depth == 0 {
         return Err(sunk(starts_stmt(tokens), tokens));
@@ -445,7 +441,7 @@ fn line(alloc: Global, depth: usize, tokens: &[Token]) -> Found<'_>
         tokens,
         &|tokens: &[Token]| -> Block<'_>
             requires { below < MAX_DEPTH }
-            ensures { Gives (λ x. (map stmt_view x.0.items, x.1.now)) result (reading.stmts_at below tokens.now) }
+            ensures { Reads (each stmt_view) result (reading.stmts_at below tokens.now) }
         { stmts(alloc, below, tokens) },
     )?;
     let (_, rest) = mark(Mark::Semicolon, rest)?;
@@ -457,7 +453,7 @@ fn line(alloc: Global, depth: usize, tokens: &[Token]) -> Found<'_>
 #[cycle(line)]
 pub fn stmts(alloc: Global, depth: usize, tokens: &[Token]) -> Block<'_>
     requires { depth ≤ MAX_DEPTH }
-    ensures { Gives (λ x. (map stmt_view x.0.items, x.1.now)) result (reading.stmts_at depth tokens.now) }
+    ensures { Reads (each stmt_view) result (reading.stmts_at depth tokens.now) }
 {
     several(
         Vec::new(alloc),
@@ -465,7 +461,7 @@ pub fn stmts(alloc: Global, depth: usize, tokens: &[Token]) -> Block<'_>
         starts_stmt,
         |tokens: &[Token]| -> Found<'_>
             requires { depth ≤ MAX_DEPTH }
-            ensures { Gives (λ x. (stmt_view x.0, x.1.now)) result (reading.line_at depth tokens.now) }
+            ensures { Reads stmt_view result (reading.line_at depth tokens.now) }
         { line(alloc, depth, tokens) },
     )
 }
