@@ -11,8 +11,7 @@ ghost use Rattle.st_statements.specs.StatementReading as reading;
 
 use crate::expression::{expr, variable};
 use crate::fault::ReadError;
-use crate::next::begins;
-use crate::terminal::{mark, name};
+use crate::tokens::{begins, mark, name};
 use st_lex::{Mark, Token};
 use st_trees::Argument;
 use std::alloc::Global;

@@ -11,9 +11,10 @@ ghost use Rattle.st_lex.specs.declared.mark.Mark.TheVariants as marks;
 ghost use Rattle.st_statements.specs.ExpressionReading as reading;
 
 use crate::fault::{ReadError, Refusal};
-use crate::next::{begins, begins_name, begins_number, is_keyword, is_mark, leads, refused, sunk};
-use crate::operator::{binds, goes_on, operator};
-use crate::terminal::{keyword, literal, mark, name, negative_at, whole};
+use crate::tokens::{
+    begins, begins_name, begins_number, binds, goes_on, is_keyword, is_mark, keyword, leads,
+    literal, mark, name, negative_at, operator, refused, sunk, whole,
+};
 use st_lex::{Keyword, Mark, Token, TokenKind};
 use st_trees::{Expr, Selector, Variable};
 use st_words::{Identifier, Literal, UnaryOperator};

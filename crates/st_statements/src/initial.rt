@@ -11,9 +11,9 @@ ghost use Rattle.st_statements.specs.ExpressionReading.{starts_literal};
 ghost use Rattle.st_statements.specs.InitialReading as reading;
 
 use crate::fault::ReadError;
-use crate::next::{begins, begins_number, is_mark, sunk};
-use crate::sign::negative_number;
-use crate::terminal::{literal, mark, name, whole};
+use crate::tokens::{
+    begins, begins_number, is_mark, literal, mark, name, negative_number, sunk, whole,
+};
 use st_lex::{Mark, Token, TokenKind};
 use st_trees::{Initial, InitialElement, InitialMember};
 use st_words::{Literal, Number};

@@ -9,9 +9,7 @@ ghost use Rattle.st_statements.specs.Parsers.{Reads, as_is, several};
 ghost use Rattle.st_statements.specs.StatementReading as reading;
 
 use crate::fault::ReadError;
-use crate::next::begins;
-use crate::sign::signed_number;
-use crate::terminal::mark;
+use crate::tokens::{begins, mark, signed_number};
 use st_lex::{Mark, Token};
 use st_trees::Label;
 use std::alloc::Global;

@@ -5,7 +5,7 @@ ghost use Rattle.st_statements.specs.Tokens as specs;
 ghost use Rattle.st_statements.specs.Parsers.{Reads, as_is, one};
 
 use crate::fault::ReadError;
-use crate::next::{is_keyword, is_mark, refused};
+use crate::tokens::{is_keyword, is_mark, refused};
 use st_lex::{Keyword, Mark, Token, TokenKind, WholeNumber};
 use st_words::{Identifier, Literal, Number};
 use std::alloc::Global;

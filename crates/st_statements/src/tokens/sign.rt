@@ -4,8 +4,7 @@ ghost use Rattle.std.specs.Prelude.{◌≡◌};
 ghost use Rattle.st_statements.specs.Parsers.{Reads, as_is, number_at, negative_number_at};
 
 use crate::fault::ReadError;
-use crate::next::begins;
-use crate::terminal::{mark, negative_at, whole};
+use crate::tokens::{begins, mark, negative_at, whole};
 use st_lex::{Mark, Token};
 use st_words::Number;
 

@@ -6,7 +6,7 @@ ghost use Rattle.st_statements.specs.Parsers.{Reads, as_is, one};
 ghost use Rattle.st_statements.specs.Operators as specs;
 
 use crate::fault::ReadError;
-use crate::next::refused;
+use crate::tokens::refused;
 use st_lex::{Keyword, Mark, Token, TokenKind};
 use st_words::BinaryOperator;
 
