@@ -14,7 +14,7 @@ use Rattle.st_trees.specs.Sources.{LibraryElement}
 use Rattle.st_statements.specs.Tokens.{Tokens, name}
 use Rattle.st_statements.proofs.ExpressionFacts.{is_less}
 use Rattle.st_statements.proofs.StatementFacts.{number_less, stmts_less}
-use Rattle.st_statements.proofs.ToldInitials.{initial_less}
+use Rattle.st_statements.proofs.SoundInitials.{initial_less}
 use Rattle.st_parse.specs.Types.{IsArray, IsType, plain, IsGiven, given, IsField, field, IsDefinition, structure}
 use Rattle.st_parse.specs.Types.{IsTypeDeclaration, declared, IsTypes, block as types_block}
 use Rattle.st_parse.specs.Types as t
@@ -26,7 +26,7 @@ use Rattle.st_parse.specs.Configurations.{IsGlobalNames, IsGlobal, IsGlobalBlock
 use Rattle.st_parse.specs.Configurations.{IsInstance, IsResource, IsConfiguration}
 use Rattle.st_parse.specs.Sources as s
 use Rattle.st_parse.specs.Sources.{IsElement}
-use Rattle.st_parse.proofs.Parts.{many_less, several_less, listed_less, optional_less, token_less}
+use Rattle.st_parse.proofs.SoundParts.{many_less, several_less, listed_less, optional_less, token_less}
 
 pub array_less : {ts us : Tokens} {a : ArrayType} → IsArray ts a us → length us < length ts
 array_less (t.array at l h x i b n r m e o p eq) =

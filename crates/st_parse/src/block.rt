@@ -1,10 +1,10 @@
 //! Blocks of variables, from their first word to END_VAR.
 
-ghost use Rattle.std.specs.Prelude.{◌≡◌, [], map};
+ghost use Rattle.std.specs.Prelude.{◌≡◌, []};
 ghost use Rattle.st_words.specs.declared.limits.TheConstants.{MAX_DEPTH};
 ghost use Rattle.st_trees.specs.DeclarationViews.{variable_block_view};
 ghost use Rattle.st_statements.specs.Tokens.{next};
-ghost use Rattle.st_statements.specs.Parsers.{Gives};
+ghost use Rattle.st_statements.specs.Parsers.{Reads, each};
 ghost use Rattle.st_parse.specs.Reading.{many};
 ghost use Rattle.st_parse.specs.UnitReading as reading;
 
@@ -19,9 +19,10 @@ type Block<'a> = Result<(VariableBlock, &'a [Token]), ReadError>;
 
 type Blocks<'a> = Result<(Vec<VariableBlock>, &'a [Token]), ReadError>;
 
+/// `function_block = function_section, declarations, "END_VAR" .`
 #[tactic(auto, unfolding(crate::specs::UnitReading::function_block_at, crate::specs::UnitReading::block_at))]
 fn function_block(alloc: Global, tokens: &[Token]) -> Block<'_>
-    ensures { Gives (λ x. (variable_block_view x.0, x.1.now)) result (reading.function_block_at MAX_DEPTH tokens.now) }
+    ensures { Reads variable_block_view result (reading.function_block_at MAX_DEPTH tokens.now) }
 {
     let (section, rest) = function_section(tokens)?;
     let (declarations, rest) = declarations(alloc, rest)?;
@@ -33,9 +34,10 @@ fn function_block(alloc: Global, tokens: &[Token]) -> Block<'_>
     Ok((block, rest))
 }
 
+/// `external_block = external_section, externals, "END_VAR" .`
 #[tactic(auto, unfolding(crate::specs::UnitReading::external_block_at, crate::specs::UnitReading::block_at))]
 fn external_block(alloc: Global, tokens: &[Token]) -> Block<'_>
-    ensures { Gives (λ x. (variable_block_view x.0, x.1.now)) result (reading.external_block_at tokens.now) }
+    ensures { Reads variable_block_view result (reading.external_block_at tokens.now) }
 {
     let (section, rest) = external_section(tokens)?;
     let (declarations, rest) = externals(alloc, rest)?;
@@ -47,9 +49,10 @@ fn external_block(alloc: Global, tokens: &[Token]) -> Block<'_>
     Ok((block, rest))
 }
 
+/// `program_block = external_block | own_section, declarations, "END_VAR" .`
 #[tactic(auto, unfolding(crate::specs::UnitReading::program_block_at, crate::specs::UnitReading::block_at))]
 fn program_block(alloc: Global, tokens: &[Token]) -> Block<'_>
-    ensures { Gives (λ x. (variable_block_view x.0, x.1.now)) result (reading.program_block_at MAX_DEPTH tokens.now) }
+    ensures { Reads variable_block_view result (reading.program_block_at MAX_DEPTH tokens.now) }
 {
     if leads(Keyword::VarExternal, tokens) {
         return external_block(alloc, tokens);
@@ -64,9 +67,10 @@ fn program_block(alloc: Global, tokens: &[Token]) -> Block<'_>
     Ok((block, rest))
 }
 
+/// `variable_block = external_block | block_section, declarations, "END_VAR" .`
 #[tactic(auto, unfolding(crate::specs::UnitReading::variable_block_at, crate::specs::UnitReading::block_at))]
 fn variable_block(alloc: Global, tokens: &[Token]) -> Block<'_>
-    ensures { Gives (λ x. (variable_block_view x.0, x.1.now)) result (reading.variable_block_at MAX_DEPTH tokens.now) }
+    ensures { Reads variable_block_view result (reading.variable_block_at MAX_DEPTH tokens.now) }
 {
     if leads(Keyword::VarExternal, tokens) {
         return external_block(alloc, tokens);
@@ -101,10 +105,11 @@ fn begins_in_block(tokens: &[Token]) -> bool
         || begins_in_program(tokens)
 }
 
+/// `function_blocks = { function_block } .`
 /// The blocks of a function.
 #[tactic(auto, unfolding(crate::specs::Reading::many))]
 pub fn function_blocks(alloc: Global, tokens: &[Token]) -> Blocks<'_>
-    ensures { Gives (λ x. (map variable_block_view x.0.items, x.1.now)) result
+    ensures { Reads (each variable_block_view) result
         (many reading.starts_function_section (reading.function_block_at MAX_DEPTH) tokens.now) }
 {
     several(
@@ -115,10 +120,11 @@ pub fn function_blocks(alloc: Global, tokens: &[Token]) -> Blocks<'_>
     )
 }
 
+/// `program_blocks = { program_block } .`
 /// The blocks of a program.
 #[tactic(auto, unfolding(crate::specs::Reading::many))]
 pub fn program_blocks(alloc: Global, tokens: &[Token]) -> Blocks<'_>
-    ensures { Gives (λ x. (map variable_block_view x.0.items, x.1.now)) result
+    ensures { Reads (each variable_block_view) result
         (many reading.starts_program_section (reading.program_block_at MAX_DEPTH) tokens.now) }
 {
     several(
@@ -129,10 +135,11 @@ pub fn program_blocks(alloc: Global, tokens: &[Token]) -> Blocks<'_>
     )
 }
 
+/// `variable_blocks = { variable_block } .`
 /// The blocks of a function block.
 #[tactic(auto, unfolding(crate::specs::Reading::many))]
 pub fn variable_blocks(alloc: Global, tokens: &[Token]) -> Blocks<'_>
-    ensures { Gives (λ x. (map variable_block_view x.0.items, x.1.now)) result
+    ensures { Reads (each variable_block_view) result
         (many reading.starts_block_section (reading.variable_block_at MAX_DEPTH) tokens.now) }
 {
     several(

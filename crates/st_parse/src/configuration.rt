@@ -1,11 +1,11 @@
 //! Configurations.
 
-ghost use Rattle.std.specs.Prelude.{◌≡◌, ◌∷◌, [], map};
+ghost use Rattle.std.specs.Prelude.{◌≡◌, ◌∷◌, []};
 ghost use Rattle.st_words.specs.declared.limits.TheConstants.{MAX_DEPTH};
 ghost use Rattle.st_lex.specs.declared.keyword.Keyword.TheVariants as keywords;
 ghost use Rattle.st_trees.specs.ConfigurationViews.{global_block_view, resource_view, configuration_view};
 ghost use Rattle.st_statements.specs.Tokens.{is_keyword};
-ghost use Rattle.st_statements.specs.Parsers.{Gives};
+ghost use Rattle.st_statements.specs.Parsers.{Reads, each};
 ghost use Rattle.st_parse.specs.Reading.{many, at_least_one};
 ghost use Rattle.st_parse.specs.ConfigurationReading as reading;
 
@@ -16,9 +16,10 @@ use st_statements::{ReadError, keyword, leads, name, several};
 use st_trees::{Configuration, GlobalBlock, Resource};
 use std::alloc::Global;
 
+/// `global_blocks = { global_block } .`
 #[tactic(auto, unfolding(crate::specs::Reading::many))]
 fn global_blocks(alloc: Global, tokens: &[Token]) -> Result<(Vec<GlobalBlock>, &[Token]), ReadError>
-    ensures { Gives (λ x. (map global_block_view x.0.items, x.1.now)) result
+    ensures { Reads (each global_block_view) result
         (many (is_keyword keywords.VarGlobal) (reading.global_block_at MAX_DEPTH) tokens.now) }
 {
     several(
@@ -29,9 +30,10 @@ fn global_blocks(alloc: Global, tokens: &[Token]) -> Result<(Vec<GlobalBlock>, &
     )
 }
 
+/// `resources = resource, { resource } .`
 #[tactic(auto, unfolding(crate::specs::Reading::at_least_one))]
 fn resources(alloc: Global, tokens: &[Token]) -> Result<(Vec<Resource>, &[Token]), ReadError>
-    ensures { Gives (λ x. (map resource_view x.0.items, x.1.now)) result
+    ensures { Reads (each resource_view) result
         (at_least_one (is_keyword keywords.Resource) reading.resource_at tokens.now) }
 {
     let (first, rest) = resource(alloc, tokens)?;
@@ -45,13 +47,14 @@ fn resources(alloc: Global, tokens: &[Token]) -> Result<(Vec<Resource>, &[Token]
     )
 }
 
+/// `configuration = "CONFIGURATION", name, global_blocks, resources, "END_CONFIGURATION" .`
 /// A configuration, from CONFIGURATION to END_CONFIGURATION.
 #[tactic(auto, unfolding(crate::specs::ConfigurationReading::configuration_at))]
 pub fn configuration(
     alloc: Global,
     tokens: &[Token],
 ) -> Result<(Configuration, &[Token]), ReadError>
-    ensures { Gives (λ x. (configuration_view x.0, x.1.now)) result (reading.configuration_at MAX_DEPTH tokens.now) }
+    ensures { Reads configuration_view result (reading.configuration_at MAX_DEPTH tokens.now) }
 {
     let (_, rest) = keyword(Keyword::Configuration, tokens)?;
     let (configuration, rest) = name(alloc, rest)?;

@@ -1,11 +1,11 @@
 //! Types.
 
-ghost use Rattle.std.specs.Prelude.{◌≡◌, ◌∷◌, [], map, option_map};
+ghost use Rattle.std.specs.Prelude.{◌≡◌, ◌∷◌, [], option_map};
 ghost use Rattle.st_words.specs.declared.limits.TheConstants.{MAX_DEPTH};
 ghost use Rattle.st_trees.specs.InitialViews.{initial_view};
 ghost use Rattle.st_trees.specs.DeclarationViews.{field_view, type_definition_view, type_declaration_view};
 ghost use Rattle.st_statements.specs.Tokens.{is_name};
-ghost use Rattle.st_statements.specs.Parsers.{Gives, one};
+ghost use Rattle.st_statements.specs.Parsers.{Reads, as_is, each, one};
 ghost use Rattle.st_parse.specs.Types as specs;
 ghost use Rattle.st_parse.specs.TypeReading as reading;
 
@@ -20,9 +20,10 @@ use st_trees::{
 use st_words::Identifier;
 use std::alloc::Global;
 
+/// `simple = Elementary | Name .`
 /// A type that is named by one word.
 fn simple(alloc: Global, tokens: &[Token]) -> Result<(SimpleType, &[Token]), ReadError>
-    ensures { Gives (λ x. (x.0, x.1.now)) result (one specs.simple tokens.now) }
+    ensures { Reads as_is result (one specs.simple tokens.now) }
 {
     let [t, rest @ ..] = tokens else {
         return Err(refused(tokens));
@@ -40,9 +41,10 @@ fn simple(alloc: Global, tokens: &[Token]) -> Result<(SimpleType, &[Token]), Rea
     }
 }
 
+/// `array = "ARRAY", "[", number, "..", number, "]", "OF", simple .`
 #[tactic(auto, unfolding(crate::specs::TypeReading::array_at))]
 fn array(alloc: Global, tokens: &[Token]) -> Result<(ArrayType, &[Token]), ReadError>
-    ensures { Gives (λ x. (x.0, x.1.now)) result (reading.array_at tokens.now) }
+    ensures { Reads as_is result (reading.array_at tokens.now) }
 {
     let (place, rest) = keyword(Keyword::Array, tokens)?;
     let (_, rest) = mark(Mark::OpenBracket, rest)?;
@@ -61,10 +63,11 @@ fn array(alloc: Global, tokens: &[Token]) -> Result<(ArrayType, &[Token]), ReadE
     Ok((array, rest))
 }
 
+/// `type = array | simple .`
 /// The type of a variable or a field, and the tokens after it.
 #[tactic(auto, unfolding(crate::specs::TypeReading::type_at, crate::specs::TypeReading::array_type_at, crate::specs::TypeReading::simple_type_at))]
 pub fn variable_type(alloc: Global, tokens: &[Token]) -> Result<(VariableType, &[Token]), ReadError>
-    ensures { Gives (λ x. (x.0, x.1.now)) result (reading.type_at tokens.now) }
+    ensures { Reads as_is result (reading.type_at tokens.now) }
 {
     if leads(Keyword::Array, tokens) {
         let (found, rest) = array(alloc, tokens)?;
@@ -74,21 +77,23 @@ pub fn variable_type(alloc: Global, tokens: &[Token]) -> Result<(VariableType, &
     Ok((VariableType::Simple(found), rest))
 }
 
+/// `given = ":=", initial .`
 #[tactic(auto, unfolding(crate::specs::TypeReading::given_at))]
 fn given(alloc: Global, tokens: &[Token]) -> Result<(Initial, &[Token]), ReadError>
-    ensures { Gives (λ x. (initial_view x.0, x.1.now)) result (reading.given_at MAX_DEPTH tokens.now) }
+    ensures { Reads initial_view result (reading.given_at MAX_DEPTH tokens.now) }
 {
     let (_, rest) = mark(Mark::Assign, tokens)?;
     read_initial(alloc, rest)
 }
 
+/// `given_or_not = [ given ] .`
 /// An initial value after `:=`, if there is one, and the tokens after it.
 #[tactic(auto, unfolding(crate::specs::TypeReading::given_or_not, crate::specs::Reading::optional))]
 pub fn given_or_not(
     alloc: Global,
     tokens: &[Token],
 ) -> Result<(Option<Initial>, &[Token]), ReadError>
-    ensures { Gives (λ x. (option_map initial_view x.0, x.1.now)) result (reading.given_or_not MAX_DEPTH tokens.now) }
+    ensures { Reads (option_map initial_view) result (reading.given_or_not MAX_DEPTH tokens.now) }
 {
     if !begins(Mark::Assign, tokens) {
         return Ok((None, tokens));
@@ -97,9 +102,10 @@ pub fn given_or_not(
     Ok((Some(value), rest))
 }
 
+/// `field = name, ":", type, given_or_not, ";" .`
 #[tactic(auto, unfolding(crate::specs::TypeReading::field_at))]
 fn field(alloc: Global, tokens: &[Token]) -> Result<(Field, &[Token]), ReadError>
-    ensures { Gives (λ x. (field_view x.0, x.1.now)) result (reading.field_at MAX_DEPTH tokens.now) }
+    ensures { Reads field_view result (reading.field_at MAX_DEPTH tokens.now) }
 {
     let (name, rest) = name(alloc, tokens)?;
     let (_, rest) = mark(Mark::Colon, rest)?;
@@ -114,9 +120,10 @@ fn field(alloc: Global, tokens: &[Token]) -> Result<(Field, &[Token]), ReadError
     Ok((field, rest))
 }
 
+/// `fields = field, { field } .`
 #[tactic(auto, unfolding(crate::specs::TypeReading::fields_at, crate::specs::Reading::at_least_one))]
 fn fields(alloc: Global, tokens: &[Token]) -> Result<(Vec<Field>, &[Token]), ReadError>
-    ensures { Gives (λ x. (map field_view x.0.items, x.1.now)) result (reading.fields_at MAX_DEPTH tokens.now) }
+    ensures { Reads (each field_view) result (reading.fields_at MAX_DEPTH tokens.now) }
 {
     let (first, rest) = field(alloc, tokens)?;
     let mut found = Vec::new(alloc);
@@ -129,9 +136,10 @@ fn fields(alloc: Global, tokens: &[Token]) -> Result<(Vec<Field>, &[Token]), Rea
     )
 }
 
+/// `definition = array | "STRUCT", fields, "END_STRUCT" .`
 #[tactic(auto, unfolding(crate::specs::TypeReading::definition_at, crate::specs::TypeReading::array_definition_at, crate::specs::TypeReading::structure_at))]
 fn definition(alloc: Global, tokens: &[Token]) -> Result<(TypeDefinition, &[Token]), ReadError>
-    ensures { Gives (λ x. (type_definition_view x.0, x.1.now)) result (reading.definition_at MAX_DEPTH tokens.now) }
+    ensures { Reads type_definition_view result (reading.definition_at MAX_DEPTH tokens.now) }
 {
     if leads(Keyword::Array, tokens) {
         let (found, rest) = array(alloc, tokens)?;
@@ -143,13 +151,13 @@ fn definition(alloc: Global, tokens: &[Token]) -> Result<(TypeDefinition, &[Toke
     Ok((TypeDefinition::Structure(fields), rest))
 }
 
+/// `type_declaration = name, ":", definition, ";" .`
 #[tactic(auto, unfolding(crate::specs::TypeReading::type_declaration_at))]
 fn type_declaration(
     alloc: Global,
     tokens: &[Token],
 ) -> Result<(TypeDeclaration, &[Token]), ReadError>
-    ensures { Gives (λ x. (type_declaration_view x.0, x.1.now)) result
-        (reading.type_declaration_at MAX_DEPTH tokens.now) }
+    ensures { Reads type_declaration_view result (reading.type_declaration_at MAX_DEPTH tokens.now) }
 {
     let (name, rest) = name(alloc, tokens)?;
     let (_, rest) = mark(Mark::Colon, rest)?;
@@ -158,13 +166,13 @@ fn type_declaration(
     Ok((TypeDeclaration { name, definition }, rest))
 }
 
+/// `type_declarations = type_declaration, { type_declaration } .`
 #[tactic(auto, unfolding(crate::specs::TypeReading::type_declarations_at, crate::specs::Reading::at_least_one))]
 fn type_declarations(
     alloc: Global,
     tokens: &[Token],
 ) -> Result<(Vec<TypeDeclaration>, &[Token]), ReadError>
-    ensures { Gives (λ x. (map type_declaration_view x.0.items, x.1.now)) result
-        (reading.type_declarations_at MAX_DEPTH tokens.now) }
+    ensures { Reads (each type_declaration_view) result (reading.type_declarations_at MAX_DEPTH tokens.now) }
 {
     let (first, rest) = type_declaration(alloc, tokens)?;
     let mut found = Vec::new(alloc);
@@ -177,11 +185,11 @@ fn type_declarations(
     )
 }
 
+/// `types = "TYPE", type_declarations, "END_TYPE" .`
 /// A block from TYPE to END_TYPE, and the tokens after it.
 #[tactic(auto, unfolding(crate::specs::TypeReading::types_at))]
 pub fn types(alloc: Global, tokens: &[Token]) -> Result<(Vec<TypeDeclaration>, &[Token]), ReadError>
-    ensures { Gives (λ x. (map type_declaration_view x.0.items, x.1.now)) result
-        (reading.types_at MAX_DEPTH tokens.now) }
+    ensures { Reads (each type_declaration_view) result (reading.types_at MAX_DEPTH tokens.now) }
 {
     let (_, rest) = keyword(Keyword::Type, tokens)?;
     let (found, rest) = type_declarations(alloc, rest)?;

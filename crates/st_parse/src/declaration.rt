@@ -1,10 +1,10 @@
 //! Declarations of variables.
 
-ghost use Rattle.std.specs.Prelude.{◌≡◌, [], map};
+ghost use Rattle.std.specs.Prelude.{◌≡◌, []};
 ghost use Rattle.st_words.specs.declared.limits.TheConstants.{MAX_DEPTH};
 ghost use Rattle.st_trees.specs.DeclarationViews.{declaration_view};
 ghost use Rattle.st_statements.specs.Tokens.{is_name};
-ghost use Rattle.st_statements.specs.Parsers.{Gives};
+ghost use Rattle.st_statements.specs.Parsers.{Reads, each};
 ghost use Rattle.st_parse.specs.Reading.{many};
 ghost use Rattle.st_parse.specs.UnitReading as reading;
 
@@ -17,10 +17,11 @@ use std::alloc::Global;
 
 type Declarations<'a> = Result<(Vec<Declaration>, &'a [Token]), ReadError>;
 
+/// `declaration = names, ":", type, given_or_not, ";" .`
 /// Names of one type, with an initial value or without.
 #[tactic(auto, unfolding(crate::specs::UnitReading::declaration_at))]
 fn declaration(alloc: Global, tokens: &[Token]) -> Result<(Declaration, &[Token]), ReadError>
-    ensures { Gives (λ x. (declaration_view x.0, x.1.now)) result (reading.declaration_at MAX_DEPTH tokens.now) }
+    ensures { Reads declaration_view result (reading.declaration_at MAX_DEPTH tokens.now) }
 {
     let (names, rest) = names(alloc, tokens)?;
     let (_, rest) = mark(Mark::Colon, rest)?;
@@ -35,10 +36,11 @@ fn declaration(alloc: Global, tokens: &[Token]) -> Result<(Declaration, &[Token]
     Ok((declaration, rest))
 }
 
+/// `external = names, ":", type, ";" .`
 /// Names of one type, without an initial value.
 #[tactic(auto, unfolding(crate::specs::UnitReading::external_at))]
 fn external(alloc: Global, tokens: &[Token]) -> Result<(Declaration, &[Token]), ReadError>
-    ensures { Gives (λ x. (declaration_view x.0, x.1.now)) result (reading.external_at tokens.now) }
+    ensures { Reads declaration_view result (reading.external_at tokens.now) }
 {
     let (names, rest) = names(alloc, tokens)?;
     let (_, rest) = mark(Mark::Colon, rest)?;
@@ -52,11 +54,11 @@ fn external(alloc: Global, tokens: &[Token]) -> Result<(Declaration, &[Token]), 
     Ok((declaration, rest))
 }
 
+/// `declarations = { declaration } .`
 /// Any number of declarations.
 #[tactic(auto, unfolding(crate::specs::Reading::many))]
 pub fn declarations(alloc: Global, tokens: &[Token]) -> Declarations<'_>
-    ensures { Gives (λ x. (map declaration_view x.0.items, x.1.now)) result
-        (many is_name (reading.declaration_at MAX_DEPTH) tokens.now) }
+    ensures { Reads (each declaration_view) result (many is_name (reading.declaration_at MAX_DEPTH) tokens.now) }
 {
     several(
         Vec::new(alloc),
@@ -66,11 +68,11 @@ pub fn declarations(alloc: Global, tokens: &[Token]) -> Declarations<'_>
     )
 }
 
+/// `externals = { external } .`
 /// Any number of declarations of externals.
 #[tactic(auto, unfolding(crate::specs::Reading::many))]
 pub fn externals(alloc: Global, tokens: &[Token]) -> Declarations<'_>
-    ensures { Gives (λ x. (map declaration_view x.0.items, x.1.now)) result
-        (many is_name reading.external_at tokens.now) }
+    ensures { Reads (each declaration_view) result (many is_name reading.external_at tokens.now) }
 {
     several(
         Vec::new(alloc),

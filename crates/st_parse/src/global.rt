@@ -1,10 +1,10 @@
 //! Global variables.
 
-ghost use Rattle.std.specs.Prelude.{◌≡◌, [], map};
+ghost use Rattle.std.specs.Prelude.{◌≡◌, []};
 ghost use Rattle.st_words.specs.declared.limits.TheConstants.{MAX_DEPTH};
 ghost use Rattle.st_trees.specs.ConfigurationViews.{global_names_view, global_declaration_view, global_block_view};
 ghost use Rattle.st_statements.specs.Tokens.{is_name, next};
-ghost use Rattle.st_statements.specs.Parsers.{Gives, one};
+ghost use Rattle.st_statements.specs.Parsers.{Reads, as_is, each, one};
 ghost use Rattle.st_parse.specs.Reading.{many, optional};
 ghost use Rattle.st_parse.specs.Configurations as specs;
 ghost use Rattle.st_parse.specs.ConfigurationReading as reading;
@@ -19,9 +19,10 @@ use std::alloc::Global;
 
 type Names<'a> = Result<(GlobalNames, &'a [Token]), ReadError>;
 
+/// `address = Address .`
 /// A direct address.
 fn address(tokens: &[Token]) -> Result<(Address, &[Token]), ReadError>
-    ensures { Gives (λ x. (x.0, x.1.now)) result (one specs.address tokens.now) }
+    ensures { Reads as_is result (one specs.address tokens.now) }
 {
     let [t, rest @ ..] = tokens else {
         return Err(refused(tokens));
@@ -32,27 +33,29 @@ fn address(tokens: &[Token]) -> Result<(Address, &[Token]), ReadError>
     }
 }
 
+/// `located_of = "AT", address .`
 #[tactic(auto, unfolding(crate::specs::ConfigurationReading::located_of))]
 fn located_of<'a>(name: Identifier, tokens: &'a [Token]) -> Names<'a>
-    ensures { Gives (λ x. (global_names_view x.0, x.1.now)) result (reading.located_of name tokens.now) }
+    ensures { Reads global_names_view result (reading.located_of name tokens.now) }
 {
     let (_, rest) = keyword(Keyword::At, tokens)?;
     let (address, rest) = address(rest)?;
     Ok((GlobalNames::Located(name, address), rest))
 }
 
+/// `listed_of = names_behind .`
 #[tactic(auto, unfolding(crate::specs::ConfigurationReading::listed_of))]
 fn listed_of<'a>(alloc: Global, first: Identifier, tokens: &'a [Token]) -> Names<'a>
-    ensures { Gives (λ x. (global_names_view x.0, x.1.now)) result (reading.listed_of first tokens.now) }
+    ensures { Reads global_names_view result (reading.listed_of first tokens.now) }
 {
     let (names, rest) = names_behind(alloc, first, tokens)?;
     Ok((GlobalNames::Listed(names), rest))
 }
 
-/// A name at an address, or names with commas between them.
+/// `global_names = name, ( located_of | listed_of ) .`
 #[tactic(auto, unfolding(crate::specs::ConfigurationReading::global_names_at))]
 fn global_names(alloc: Global, tokens: &[Token]) -> Names<'_>
-    ensures { Gives (λ x. (global_names_view x.0, x.1.now)) result (reading.global_names_at tokens.now) }
+    ensures { Reads global_names_view result (reading.global_names_at tokens.now) }
 {
     let (first, rest) = name(alloc, tokens)?;
     if leads(Keyword::At, rest) {
@@ -61,9 +64,10 @@ fn global_names(alloc: Global, tokens: &[Token]) -> Names<'_>
     listed_of(alloc, first, rest)
 }
 
+/// `global = global_names, ":", type, given_or_not, ";" .`
 #[tactic(auto, unfolding(crate::specs::ConfigurationReading::global_at))]
 fn global(alloc: Global, tokens: &[Token]) -> Result<(GlobalDeclaration, &[Token]), ReadError>
-    ensures { Gives (λ x. (global_declaration_view x.0, x.1.now)) result (reading.global_at MAX_DEPTH tokens.now) }
+    ensures { Reads global_declaration_view result (reading.global_at MAX_DEPTH tokens.now) }
 {
     let (names, rest) = global_names(alloc, tokens)?;
     let (_, rest) = mark(Mark::Colon, rest)?;
@@ -78,10 +82,10 @@ fn global(alloc: Global, tokens: &[Token]) -> Result<(GlobalDeclaration, &[Token
     Ok((declaration, rest))
 }
 
+/// `globals = { global } .`
 #[tactic(auto, unfolding(crate::specs::Reading::many))]
 fn globals(alloc: Global, tokens: &[Token]) -> Result<(Vec<GlobalDeclaration>, &[Token]), ReadError>
-    ensures { Gives (λ x. (map global_declaration_view x.0.items, x.1.now)) result
-        (many is_name (reading.global_at MAX_DEPTH) tokens.now) }
+    ensures { Reads (each global_declaration_view) result (many is_name (reading.global_at MAX_DEPTH) tokens.now) }
 {
     several(
         Vec::new(alloc),
@@ -91,9 +95,9 @@ fn globals(alloc: Global, tokens: &[Token]) -> Result<(Vec<GlobalDeclaration>, &
     )
 }
 
-/// CONSTANT or RETAIN.
+/// `qualifier = "CONSTANT" | "RETAIN" .`
 fn qualifier(tokens: &[Token]) -> Result<(GlobalQualifier, &[Token]), ReadError>
-    ensures { Gives (λ x. (x.0, x.1.now)) result (one specs.qualifier tokens.now) }
+    ensures { Reads as_is result (one specs.qualifier tokens.now) }
 {
     let [t, rest @ ..] = tokens else {
         return Err(refused(tokens));
@@ -111,9 +115,10 @@ fn begins_qualifier(tokens: &[Token]) -> bool
     leads(Keyword::Constant, tokens) || leads(Keyword::Retain, tokens)
 }
 
+/// `qualifier_or_not = [ qualifier ] .`
 #[tactic(auto, unfolding(crate::specs::Reading::optional))]
 fn qualifier_or_not(tokens: &[Token]) -> Result<(Option<GlobalQualifier>, &[Token]), ReadError>
-    ensures { Gives (λ x. (x.0, x.1.now)) result (optional reading.is_qualifier (one specs.qualifier) tokens.now) }
+    ensures { Reads as_is result (optional reading.is_qualifier (one specs.qualifier) tokens.now) }
 {
     if !begins_qualifier(tokens) {
         return Ok((None, tokens));
@@ -122,10 +127,11 @@ fn qualifier_or_not(tokens: &[Token]) -> Result<(Option<GlobalQualifier>, &[Toke
     Ok((Some(found), rest))
 }
 
+/// `global_block = "VAR_GLOBAL", qualifier_or_not, globals, "END_VAR" .`
 /// A block of global variables, from VAR_GLOBAL to END_VAR.
 #[tactic(auto, unfolding(crate::specs::ConfigurationReading::global_block_at))]
 pub fn global_block(alloc: Global, tokens: &[Token]) -> Result<(GlobalBlock, &[Token]), ReadError>
-    ensures { Gives (λ x. (global_block_view x.0, x.1.now)) result (reading.global_block_at MAX_DEPTH tokens.now) }
+    ensures { Reads global_block_view result (reading.global_block_at MAX_DEPTH tokens.now) }
 {
     let (_, rest) = keyword(Keyword::VarGlobal, tokens)?;
     let (qualifier, rest) = qualifier_or_not(rest)?;

@@ -1,10 +1,11 @@
 //! Lists of names.
 
 ghost use Rattle.std.specs.Prelude.{◌≡◌, ◌∷◌, []};
+ghost use Rattle.std.specs.Vec.{vec_items};
 ghost use Rattle.st_lex.specs.declared.mark.Mark.TheVariants.{Comma};
 ghost use Rattle.st_statements.specs.Tokens as tokens_of;
 ghost use Rattle.st_statements.specs.Parsers as parsers;
-ghost use Rattle.st_statements.specs.Parsers.{Gives, one};
+ghost use Rattle.st_statements.specs.Parsers.{Reads, as_is, one};
 ghost use Rattle.st_parse.specs.UnitReading as reading;
 
 use st_lex::{Mark, Token};
@@ -15,17 +16,19 @@ use std::alloc::Global;
 /// Names, and the tokens after them.
 pub type Names<'a> = Result<(Vec<Identifier>, &'a [Token]), ReadError>;
 
+/// `next_name = ",", name .`
 #[tactic(auto, unfolding(st_statements::specs::Parsers::after_comma))]
 fn next_name(alloc: Global, tokens: &[Token]) -> Result<(Identifier, &[Token]), ReadError>
-    ensures { Gives (λ x. (x.0, x.1.now)) result (parsers.after_comma (one tokens_of.name) tokens.now) }
+    ensures { Reads as_is result (parsers.after_comma (one tokens_of.name) tokens.now) }
 {
     let (_, rest) = mark(Mark::Comma, tokens)?;
     name(alloc, rest)
 }
 
+/// `names_behind = { next_name } .`
 /// Names after a first one.
 pub fn names_behind<'a>(alloc: Global, first: Identifier, tokens: &'a [Token]) -> Names<'a>
-    ensures { Gives (λ x. (x.0.items, x.1.now)) result
+    ensures { Reads vec_items result
         (parsers.several (tokens_of.is_mark Comma) (parsers.after_comma (one tokens_of.name)) (first ∷ []) tokens.now) }
 {
     let mut found = Vec::new(alloc);
@@ -38,10 +41,10 @@ pub fn names_behind<'a>(alloc: Global, first: Identifier, tokens: &'a [Token]) -
     )
 }
 
-/// Names with commas between them.
+/// `names = name, names_behind .`
 #[tactic(auto, unfolding(crate::specs::UnitReading::names_at, st_statements::specs::Parsers::listed))]
 pub fn names(alloc: Global, tokens: &[Token]) -> Names<'_>
-    ensures { Gives (λ x. (x.0.items, x.1.now)) result (reading.names_at tokens.now) }
+    ensures { Reads vec_items result (reading.names_at tokens.now) }
 {
     let (first, rest) = name(alloc, tokens)?;
     names_behind(alloc, first, rest)

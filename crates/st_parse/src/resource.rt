@@ -1,10 +1,11 @@
 //! Resources, with their tasks and their instances of programs.
 
-ghost use Rattle.std.specs.Prelude.{◌≡◌, ◌∷◌, [], map};
+ghost use Rattle.std.specs.Prelude.{◌≡◌, ◌∷◌, []};
+ghost use Rattle.std.specs.Vec.{vec_items};
 ghost use Rattle.st_lex.specs.declared.keyword.Keyword.TheVariants as keywords;
 ghost use Rattle.st_trees.specs.ConfigurationViews.{resource_view};
 ghost use Rattle.st_statements.specs.Tokens.{is_keyword};
-ghost use Rattle.st_statements.specs.Parsers.{Gives, one};
+ghost use Rattle.st_statements.specs.Parsers.{Reads, as_is, one};
 ghost use Rattle.st_parse.specs.Reading.{many, at_least_one, optional};
 ghost use Rattle.st_parse.specs.Configurations as specs;
 ghost use Rattle.st_parse.specs.ConfigurationReading as reading;
@@ -15,9 +16,10 @@ use st_trees::{Instance, Priority, Resource, Task};
 use st_words::Identifier;
 use std::alloc::Global;
 
+/// `duration = Duration .`
 /// A duration in milliseconds.
 fn duration(tokens: &[Token]) -> Result<(u64, &[Token]), ReadError>
-    ensures { Gives (λ x. (x.0, x.1.now)) result (one specs.duration tokens.now) }
+    ensures { Reads as_is result (one specs.duration tokens.now) }
 {
     let [t, rest @ ..] = tokens else {
         return Err(refused(tokens));
@@ -28,9 +30,10 @@ fn duration(tokens: &[Token]) -> Result<(u64, &[Token]), ReadError>
     }
 }
 
+/// `decimal = Number .`
 /// A number that is written as decimal digits alone.
 fn decimal(tokens: &[Token]) -> Result<(Priority, &[Token]), ReadError>
-    ensures { Gives (λ x. (x.0, x.1.now)) result (one specs.decimal tokens.now) }
+    ensures { Reads as_is result (one specs.decimal tokens.now) }
 {
     let [t, rest @ ..] = tokens else {
         return Err(refused(tokens));
@@ -47,9 +50,10 @@ fn decimal(tokens: &[Token]) -> Result<(Priority, &[Token]), ReadError>
     }
 }
 
+/// `single = "SINGLE", ":=", name, "," .`
 #[tactic(auto, unfolding(crate::specs::ConfigurationReading::single_at))]
 fn single(alloc: Global, tokens: &[Token]) -> Result<(Identifier, &[Token]), ReadError>
-    ensures { Gives (λ x. (x.0, x.1.now)) result (reading.single_at tokens.now) }
+    ensures { Reads as_is result (reading.single_at tokens.now) }
 {
     let (_, rest) = keyword(Keyword::Single, tokens)?;
     let (_, rest) = mark(Mark::Assign, rest)?;
@@ -58,12 +62,13 @@ fn single(alloc: Global, tokens: &[Token]) -> Result<(Identifier, &[Token]), Rea
     Ok((found, rest))
 }
 
+/// `single_or_not = [ single ] .`
 #[tactic(auto, unfolding(crate::specs::Reading::optional))]
 fn single_or_not(
     alloc: Global,
     tokens: &[Token],
 ) -> Result<(Option<Identifier>, &[Token]), ReadError>
-    ensures { Gives (λ x. (x.0, x.1.now)) result (optional (is_keyword keywords.Single) reading.single_at tokens.now) }
+    ensures { Reads as_is result (optional (is_keyword keywords.Single) reading.single_at tokens.now) }
 {
     if !leads(Keyword::Single, tokens) {
         return Ok((None, tokens));
@@ -72,9 +77,10 @@ fn single_or_not(
     Ok((Some(found), rest))
 }
 
+/// `interval = "INTERVAL", ":=", duration, "," .`
 #[tactic(auto, unfolding(crate::specs::ConfigurationReading::interval_at))]
 fn interval(tokens: &[Token]) -> Result<(u64, &[Token]), ReadError>
-    ensures { Gives (λ x. (x.0, x.1.now)) result (reading.interval_at tokens.now) }
+    ensures { Reads as_is result (reading.interval_at tokens.now) }
 {
     let (_, rest) = keyword(Keyword::Interval, tokens)?;
     let (_, rest) = mark(Mark::Assign, rest)?;
@@ -83,10 +89,10 @@ fn interval(tokens: &[Token]) -> Result<(u64, &[Token]), ReadError>
     Ok((found, rest))
 }
 
+/// `interval_or_not = [ interval ] .`
 #[tactic(auto, unfolding(crate::specs::Reading::optional))]
 fn interval_or_not(tokens: &[Token]) -> Result<(Option<u64>, &[Token]), ReadError>
-    ensures { Gives (λ x. (x.0, x.1.now)) result
-        (optional (is_keyword keywords.Interval) reading.interval_at tokens.now) }
+    ensures { Reads as_is result (optional (is_keyword keywords.Interval) reading.interval_at tokens.now) }
 {
     if !leads(Keyword::Interval, tokens) {
         return Ok((None, tokens));
@@ -95,10 +101,11 @@ fn interval_or_not(tokens: &[Token]) -> Result<(Option<u64>, &[Token]), ReadErro
     Ok((Some(found), rest))
 }
 
+/// `task = "TASK", name, "(", single_or_not, interval_or_not, "PRIORITY", ":=", decimal, ")", ";" .`
 /// A task, with its semicolon.
 #[tactic(auto, unfolding(crate::specs::ConfigurationReading::task_at))]
 fn task(alloc: Global, tokens: &[Token]) -> Result<(Task, &[Token]), ReadError>
-    ensures { Gives (λ x. (x.0, x.1.now)) result (reading.task_at tokens.now) }
+    ensures { Reads as_is result (reading.task_at tokens.now) }
 {
     let (_, rest) = keyword(Keyword::Task, tokens)?;
     let (name, rest) = name(alloc, rest)?;
@@ -119,9 +126,10 @@ fn task(alloc: Global, tokens: &[Token]) -> Result<(Task, &[Token]), ReadError>
     Ok((task, rest))
 }
 
+/// `tasks = { task } .`
 #[tactic(auto, unfolding(crate::specs::Reading::many))]
 fn tasks(alloc: Global, tokens: &[Token]) -> Result<(Vec<Task>, &[Token]), ReadError>
-    ensures { Gives (λ x. (x.0.items, x.1.now)) result (many (is_keyword keywords.Task) reading.task_at tokens.now) }
+    ensures { Reads vec_items result (many (is_keyword keywords.Task) reading.task_at tokens.now) }
 {
     several(
         Vec::new(alloc),
@@ -131,18 +139,20 @@ fn tasks(alloc: Global, tokens: &[Token]) -> Result<(Vec<Task>, &[Token]), ReadE
     )
 }
 
+/// `with = "WITH", name .`
 #[tactic(auto, unfolding(crate::specs::ConfigurationReading::with_at))]
 fn with(alloc: Global, tokens: &[Token]) -> Result<(Identifier, &[Token]), ReadError>
-    ensures { Gives (λ x. (x.0, x.1.now)) result (reading.with_at tokens.now) }
+    ensures { Reads as_is result (reading.with_at tokens.now) }
 {
     let (_, rest) = keyword(Keyword::With, tokens)?;
     let (found, rest) = name(alloc, rest)?;
     Ok((found, rest))
 }
 
+/// `with_or_not = [ with ] .`
 #[tactic(auto, unfolding(crate::specs::Reading::optional))]
 fn with_or_not(alloc: Global, tokens: &[Token]) -> Result<(Option<Identifier>, &[Token]), ReadError>
-    ensures { Gives (λ x. (x.0, x.1.now)) result (optional (is_keyword keywords.With) reading.with_at tokens.now) }
+    ensures { Reads as_is result (optional (is_keyword keywords.With) reading.with_at tokens.now) }
 {
     if !leads(Keyword::With, tokens) {
         return Ok((None, tokens));
@@ -151,10 +161,11 @@ fn with_or_not(alloc: Global, tokens: &[Token]) -> Result<(Option<Identifier>, &
     Ok((Some(found), rest))
 }
 
+/// `instance = "PROGRAM", name, with_or_not, ":", name, ";" .`
 /// An instance of a program, with its semicolon.
 #[tactic(auto, unfolding(crate::specs::ConfigurationReading::instance_at))]
 fn instance(alloc: Global, tokens: &[Token]) -> Result<(Instance, &[Token]), ReadError>
-    ensures { Gives (λ x. (x.0, x.1.now)) result (reading.instance_at tokens.now) }
+    ensures { Reads as_is result (reading.instance_at tokens.now) }
 {
     let (_, rest) = keyword(Keyword::Program, tokens)?;
     let (instance, rest) = name(alloc, rest)?;
@@ -170,10 +181,10 @@ fn instance(alloc: Global, tokens: &[Token]) -> Result<(Instance, &[Token]), Rea
     Ok((instance, rest))
 }
 
+/// `instances = instance, { instance } .`
 #[tactic(auto, unfolding(crate::specs::Reading::at_least_one))]
 fn instances(alloc: Global, tokens: &[Token]) -> Result<(Vec<Instance>, &[Token]), ReadError>
-    ensures { Gives (λ x. (x.0.items, x.1.now)) result
-        (at_least_one (is_keyword keywords.Program) reading.instance_at tokens.now) }
+    ensures { Reads vec_items result (at_least_one (is_keyword keywords.Program) reading.instance_at tokens.now) }
 {
     let (first, rest) = instance(alloc, tokens)?;
     let mut found = Vec::new(alloc);
@@ -186,10 +197,11 @@ fn instances(alloc: Global, tokens: &[Token]) -> Result<(Vec<Instance>, &[Token]
     )
 }
 
+/// `resource = "RESOURCE", name, "ON", name, tasks, instances, "END_RESOURCE" .`
 /// A resource, from RESOURCE to END_RESOURCE.
 #[tactic(auto, unfolding(crate::specs::ConfigurationReading::resource_at))]
 pub fn resource(alloc: Global, tokens: &[Token]) -> Result<(Resource, &[Token]), ReadError>
-    ensures { Gives (λ x. (resource_view x.0, x.1.now)) result (reading.resource_at tokens.now) }
+    ensures { Reads resource_view result (reading.resource_at tokens.now) }
 {
     let (_, rest) = keyword(Keyword::Resource, tokens)?;
     let (resource, rest) = name(alloc, rest)?;

@@ -3,7 +3,7 @@
 ghost use Rattle.std.specs.Prelude.{◌≡◌};
 ghost use Rattle.st_lex.specs.declared.keyword.Keyword.TheVariants as keywords;
 ghost use Rattle.st_statements.specs.Tokens.{next};
-ghost use Rattle.st_statements.specs.Parsers.{Gives, one};
+ghost use Rattle.st_statements.specs.Parsers.{Reads, as_is, one};
 ghost use Rattle.st_parse.specs.Units as specs;
 ghost use Rattle.st_parse.specs.UnitReading as reading;
 
@@ -14,9 +14,9 @@ use st_trees::{Retention, Section};
 /// A section, and the tokens after it.
 type Found<'a> = Result<(Section, &'a [Token]), ReadError>;
 
-/// RETAIN or NON_RETAIN.
+/// `retention = "RETAIN" | "NON_RETAIN" .`
 fn retention(tokens: &[Token]) -> Result<(Retention, &[Token]), ReadError>
-    ensures { Gives (λ x. (x.0, x.1.now)) result (one specs.retention tokens.now) }
+    ensures { Reads as_is result (one specs.retention tokens.now) }
 {
     let [t, rest @ ..] = tokens else {
         return Err(refused(tokens));
@@ -35,9 +35,10 @@ fn begins_retention(tokens: &[Token]) -> bool
     leads(Keyword::Retain, tokens) || leads(Keyword::NonRetain, tokens)
 }
 
+/// `retention_or_not = [ retention ] .`
 #[tactic(auto, unfolding(crate::specs::UnitReading::retention_or_not, crate::specs::Reading::optional))]
 fn retention_or_not(tokens: &[Token]) -> Result<(Option<Retention>, &[Token]), ReadError>
-    ensures { Gives (λ x. (x.0, x.1.now)) result (reading.retention_or_not tokens.now) }
+    ensures { Reads as_is result (reading.retention_or_not tokens.now) }
 {
     if !begins_retention(tokens) {
         return Ok((None, tokens));
@@ -46,19 +47,21 @@ fn retention_or_not(tokens: &[Token]) -> Result<(Option<Retention>, &[Token]), R
     Ok((Some(found), rest))
 }
 
+/// `constant_of = "CONSTANT" .`
 /// The section, after CONSTANT.
 #[tactic(auto, unfolding(crate::specs::UnitReading::constant_of))]
 fn constant_of(section: Section, tokens: &[Token]) -> Found<'_>
-    ensures { Gives (λ x. (x.0, x.1.now)) result (reading.constant_of section tokens.now) }
+    ensures { Reads as_is result (reading.constant_of section tokens.now) }
 {
     let (_, rest) = keyword(Keyword::Constant, tokens)?;
     Ok((section, rest))
 }
 
+/// `function_section = "VAR_INPUT" | "VAR", [ constant_of ] .`
 /// In a function.
 #[tactic(auto, unfolding(crate::specs::UnitReading::function_section_at, crate::specs::UnitReading::function_input_at, crate::specs::UnitReading::function_own_at))]
 pub fn function_section(tokens: &[Token]) -> Found<'_>
-    ensures { Gives (λ x. (x.0, x.1.now)) result (reading.function_section_at tokens.now) }
+    ensures { Reads as_is result (reading.function_section_at tokens.now) }
 {
     if leads(Keyword::VarInput, tokens) {
         let (_, rest) = keyword(Keyword::VarInput, tokens)?;
@@ -71,10 +74,11 @@ pub fn function_section(tokens: &[Token]) -> Found<'_>
     Ok((Section::Local(None), rest))
 }
 
+/// `own_section = "VAR", ( constant_of | retention_or_not ) .`
 /// A unit's own variables, in a program or a function block.
 #[tactic(auto, unfolding(crate::specs::UnitReading::own_section_at, crate::specs::UnitReading::local_at))]
 pub fn own_section(tokens: &[Token]) -> Found<'_>
-    ensures { Gives (λ x. (x.0, x.1.now)) result (reading.own_section_at tokens.now) }
+    ensures { Reads as_is result (reading.own_section_at tokens.now) }
 {
     let (_, rest) = keyword(Keyword::Var, tokens)?;
     if leads(Keyword::Constant, rest) {
@@ -84,10 +88,11 @@ pub fn own_section(tokens: &[Token]) -> Found<'_>
     Ok((Section::Local(retention), rest))
 }
 
+/// `block_section = ( "VAR_INPUT" | "VAR_OUTPUT" ), retention_or_not | own_section .`
 /// In a function block.
 #[tactic(auto, unfolding(crate::specs::UnitReading::block_section_at, crate::specs::UnitReading::input_section_at, crate::specs::UnitReading::output_section_at))]
 pub fn block_section(tokens: &[Token]) -> Found<'_>
-    ensures { Gives (λ x. (x.0, x.1.now)) result (reading.block_section_at tokens.now) }
+    ensures { Reads as_is result (reading.block_section_at tokens.now) }
 {
     if leads(Keyword::VarInput, tokens) {
         let (_, rest) = keyword(Keyword::VarInput, tokens)?;
@@ -102,10 +107,11 @@ pub fn block_section(tokens: &[Token]) -> Found<'_>
     own_section(tokens)
 }
 
+/// `external_section = "VAR_EXTERNAL", [ constant_of ] .`
 /// Globals that a unit names.
 #[tactic(auto, unfolding(crate::specs::UnitReading::external_section_at))]
 pub fn external_section(tokens: &[Token]) -> Found<'_>
-    ensures { Gives (λ x. (x.0, x.1.now)) result (reading.external_section_at tokens.now) }
+    ensures { Reads as_is result (reading.external_section_at tokens.now) }
 {
     let (_, rest) = keyword(Keyword::VarExternal, tokens)?;
     if leads(Keyword::Constant, rest) {

@@ -1,9 +1,9 @@
 //! Whole texts.
 
-ghost use Rattle.std.specs.Prelude.{◌≡◌, [], map};
+ghost use Rattle.std.specs.Prelude.{◌≡◌, []};
 ghost use Rattle.st_words.specs.declared.limits.TheConstants.{MAX_DEPTH};
 ghost use Rattle.st_trees.specs.SourceViews.{element_view, source_view};
-ghost use Rattle.st_statements.specs.Parsers.{Gives};
+ghost use Rattle.st_statements.specs.Parsers.{Reads, each};
 ghost use Rattle.st_parse.specs.SourceReading as reading;
 
 use crate::configuration::configuration;
@@ -17,50 +17,55 @@ use std::alloc::Global;
 /// A part of a text, and the tokens after it.
 type Found<'a> = Result<(LibraryElement, &'a [Token]), ReadError>;
 
+/// `types_element = types .`
 #[tactic(auto, unfolding(crate::specs::SourceReading::types_element_at))]
 fn types_element(alloc: Global, tokens: &[Token]) -> Found<'_>
-    ensures { Gives (λ x. (element_view x.0, x.1.now)) result (reading.types_element_at MAX_DEPTH tokens.now) }
+    ensures { Reads element_view result (reading.types_element_at MAX_DEPTH tokens.now) }
 {
     let (found, rest) = types(alloc, tokens)?;
     Ok((LibraryElement::Types(found), rest))
 }
 
+/// `function_element = function .`
 #[tactic(auto, unfolding(crate::specs::SourceReading::function_element_at))]
 fn function_element(alloc: Global, tokens: &[Token]) -> Found<'_>
-    ensures { Gives (λ x. (element_view x.0, x.1.now)) result (reading.function_element_at MAX_DEPTH tokens.now) }
+    ensures { Reads element_view result (reading.function_element_at MAX_DEPTH tokens.now) }
 {
     let (found, rest) = function(alloc, tokens)?;
     Ok((LibraryElement::Unit(found), rest))
 }
 
+/// `block_element = function_block .`
 #[tactic(auto, unfolding(crate::specs::SourceReading::block_element_at))]
 fn block_element(alloc: Global, tokens: &[Token]) -> Found<'_>
-    ensures { Gives (λ x. (element_view x.0, x.1.now)) result (reading.block_element_at MAX_DEPTH tokens.now) }
+    ensures { Reads element_view result (reading.block_element_at MAX_DEPTH tokens.now) }
 {
     let (found, rest) = function_block(alloc, tokens)?;
     Ok((LibraryElement::Unit(found), rest))
 }
 
+/// `program_element = program .`
 #[tactic(auto, unfolding(crate::specs::SourceReading::program_element_at))]
 fn program_element(alloc: Global, tokens: &[Token]) -> Found<'_>
-    ensures { Gives (λ x. (element_view x.0, x.1.now)) result (reading.program_element_at MAX_DEPTH tokens.now) }
+    ensures { Reads element_view result (reading.program_element_at MAX_DEPTH tokens.now) }
 {
     let (found, rest) = program(alloc, tokens)?;
     Ok((LibraryElement::Unit(found), rest))
 }
 
+/// `configuration_element = configuration .`
 #[tactic(auto, unfolding(crate::specs::SourceReading::configuration_element_at))]
 fn configuration_element(alloc: Global, tokens: &[Token]) -> Found<'_>
-    ensures { Gives (λ x. (element_view x.0, x.1.now)) result (reading.configuration_element_at MAX_DEPTH tokens.now) }
+    ensures { Reads element_view result (reading.configuration_element_at MAX_DEPTH tokens.now) }
 {
     let (found, rest) = configuration(alloc, tokens)?;
     Ok((LibraryElement::Configuration(found), rest))
 }
 
-/// Types, a unit or a configuration.
+/// `element = types_element | function_element | block_element | program_element | configuration_element .`
 #[tactic(auto, unfolding(crate::specs::SourceReading::element_at))]
 fn element(alloc: Global, tokens: &[Token]) -> Found<'_>
-    ensures { Gives (λ x. (element_view x.0, x.1.now)) result (reading.element_at MAX_DEPTH tokens.now) }
+    ensures { Reads element_view result (reading.element_at MAX_DEPTH tokens.now) }
 {
     let [t, ..] = tokens else {
         return Err(refused(tokens));
@@ -75,13 +80,14 @@ fn element(alloc: Global, tokens: &[Token]) -> Found<'_>
     }
 }
 
+/// `source = { element } .`
 /// All elements up to the last token.
 #[tactic(auto, unfolding(crate::specs::SourceReading::source_at, crate::specs::Reading::many))]
 pub fn elements(
     alloc: Global,
     tokens: &[Token],
 ) -> Result<(Vec<LibraryElement>, &[Token]), ReadError>
-    ensures { Gives (λ x. (map element_view x.0.items, x.1.now)) result (reading.source_at MAX_DEPTH tokens.now) }
+    ensures { Reads (each element_view) result (reading.source_at MAX_DEPTH tokens.now) }
 {
     several(
         Vec::new(alloc),

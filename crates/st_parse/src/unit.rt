@@ -3,7 +3,7 @@
 ghost use Rattle.std.specs.Prelude.{◌≡◌};
 ghost use Rattle.st_words.specs.declared.limits.TheConstants.{MAX_DEPTH};
 ghost use Rattle.st_trees.specs.UnitViews.{unit_view};
-ghost use Rattle.st_statements.specs.Parsers.{Gives, one};
+ghost use Rattle.st_statements.specs.Parsers.{Reads, as_is, one};
 ghost use Rattle.st_parse.specs.Units as specs;
 ghost use Rattle.st_parse.specs.UnitReading as reading;
 
@@ -17,9 +17,10 @@ use std::alloc::Global;
 /// A unit, and the tokens after it.
 type Found<'a> = Result<(Unit, &'a [Token]), ReadError>;
 
+/// `elementary = Elementary .`
 /// An elementary type, at its place.
 fn elementary(tokens: &[Token]) -> Result<((Kind, usize), &[Token]), ReadError>
-    ensures { Gives (λ x. ((x.0.0, x.0.1), x.1.now)) result (one specs.elementary tokens.now) }
+    ensures { Reads as_is result (one specs.elementary tokens.now) }
 {
     let [t, rest @ ..] = tokens else {
         return Err(refused(tokens));
@@ -30,10 +31,11 @@ fn elementary(tokens: &[Token]) -> Result<((Kind, usize), &[Token]), ReadError>
     }
 }
 
+/// `function = "FUNCTION", name, ":", elementary, function_blocks, stmts, "END_FUNCTION" .`
 /// A function.
 #[tactic(auto, unfolding(crate::specs::UnitReading::function_at))]
 pub fn function(alloc: Global, tokens: &[Token]) -> Found<'_>
-    ensures { Gives (λ x. (unit_view x.0, x.1.now)) result (reading.function_at MAX_DEPTH tokens.now) }
+    ensures { Reads unit_view result (reading.function_at MAX_DEPTH tokens.now) }
 {
     let (_, rest) = keyword(Keyword::Function, tokens)?;
     let (name, rest) = name(alloc, rest)?;
@@ -51,10 +53,11 @@ pub fn function(alloc: Global, tokens: &[Token]) -> Found<'_>
     Ok((unit, rest))
 }
 
+/// `function_block = "FUNCTION_BLOCK", name, variable_blocks, stmts, "END_FUNCTION_BLOCK" .`
 /// A function block.
 #[tactic(auto, unfolding(crate::specs::UnitReading::function_block_unit_at))]
 pub fn function_block(alloc: Global, tokens: &[Token]) -> Found<'_>
-    ensures { Gives (λ x. (unit_view x.0, x.1.now)) result (reading.function_block_unit_at MAX_DEPTH tokens.now) }
+    ensures { Reads unit_view result (reading.function_block_unit_at MAX_DEPTH tokens.now) }
 {
     let (_, rest) = keyword(Keyword::FunctionBlock, tokens)?;
     let (name, rest) = name(alloc, rest)?;
@@ -70,10 +73,11 @@ pub fn function_block(alloc: Global, tokens: &[Token]) -> Found<'_>
     Ok((unit, rest))
 }
 
+/// `program = "PROGRAM", name, program_blocks, stmts, "END_PROGRAM" .`
 /// A program.
 #[tactic(auto, unfolding(crate::specs::UnitReading::program_at))]
 pub fn program(alloc: Global, tokens: &[Token]) -> Found<'_>
-    ensures { Gives (λ x. (unit_view x.0, x.1.now)) result (reading.program_at MAX_DEPTH tokens.now) }
+    ensures { Reads unit_view result (reading.program_at MAX_DEPTH tokens.now) }
 {
     let (_, rest) = keyword(Keyword::Program, tokens)?;
     let (name, rest) = name(alloc, rest)?;

@@ -15,8 +15,8 @@ use Rattle.st_statements.specs.Expressions.{IsExpr, literal, variable, call, par
 use Rattle.st_statements.specs.Expressions.{binary, IsVariable, selected, IsSelectors, no_selector, selector}
 use Rattle.st_statements.specs.Expressions.{IsSelector, member, subscript, IsArguments, no_argument, argument}
 use Rattle.st_statements.specs.Expressions.{IsMoreArguments, no_more_arguments, next_argument}
-use Rattle.st_statements.proofs.Readings.{an_identifier, token_of}
-use Rattle.st_statements.proofs.Lists.{Each}
+use Rattle.st_statements.proofs.SoundReadings.{an_identifier, token_of}
+use Rattle.st_statements.proofs.SoundLists.{Each}
 
 pub is_less : {A : Type 0} {of : Token → Option A} {ts us : Tokens} {x : A} → Is of ts x us → length us < length ts
 is_less (is eq) = omega arith

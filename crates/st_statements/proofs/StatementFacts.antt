@@ -17,8 +17,8 @@ use Rattle.st_statements.specs.Statements.{exit, leave, IsStmts, no_stmt, stmt, 
 use Rattle.st_statements.specs.Statements.{IsMoreArms, no_more_arms, elsif, IsCaseArm, case_arm, IsCaseArms}
 use Rattle.st_statements.specs.Statements.{no_case_arm, next_case_arm}
 use Rattle.st_statements.specs.Laws.{Grammar}
-use Rattle.st_statements.proofs.Told.{Seq, Made, made}
-use Rattle.st_statements.proofs.Lists.{Each}
+use Rattle.st_statements.proofs.Sound.{Seq, Made, made}
+use Rattle.st_statements.proofs.SoundLists.{Each}
 use Rattle.st_statements.proofs.ExpressionFacts.{is_less, expr_less, variable_less}
 
 pub number_less : {ts us : Tokens} {n : NumberLeaf} → IsNumber ts n us → length us < length ts

@@ -1,5 +1,6 @@
 -- What the answers of a reading say of the grammar.
 use Rattle.std.specs.Prelude.{◌≡◌, ℕ, [], ◌∷◌, ◌++◌, length, Result, Ok, Err}
+use denote.Bor.{Bor}
 use Rattle.st_statements.specs.declared.fault.Refusal.TheVariants.{Unexpected, Deep}
 use Rattle.st_statements.specs.declared.fault.ReadError.{ReadError}
 use Rattle.st_statements.specs.declared.fault.ReadError.TheVariants as errors
@@ -59,6 +60,10 @@ abbrev pub Answers : {X A : Type 0} → (X → A × Tokens) → Result X ReadErr
 Answers view (Ok found) x us = view found ≡ (x, us)
 Answers view (Err errors.Memory) x us = Unit {0}
 Answers view (Err (errors.Refused f)) x us = ⊥
+
+-- the same, where the tokens after it come with it
+abbrev pub Finds : {X A : Type 0} → (X → A) → Result (X × Bor Tokens) ReadError → A → Tokens → Type 0
+Finds view result x us = Answers (λ r. (view r.0, r.1.now)) result x us
 
 -- it may end after whatever comes
 abbrev pub Anywhere : Tokens → Type 0

@@ -1,6 +1,8 @@
 -- Reading from left to right, with the first fault that is met.
 use Rattle.std.specs.Prelude.{◌≡◌, ℕ, zero, suc, Bool, List, [], ◌∷◌, ◌++◌, length, Option, Some, None, Result, Ok, Err}
-use Rattle.std.specs.Prelude.{if◌then◌else◌}
+use Rattle.std.specs.Prelude.{if◌then◌else◌, map}
+use Rattle.std.specs.Global.{Vec}
+use denote.Bor.{Bor}
 use Rattle.st_words.specs.declared.literal.Number.{Number as NumberLeaf}
 use Rattle.st_lex.specs.declared.token.Token.{Token}
 use Rattle.st_lex.specs.declared.token.TokenKind.{TokenKind}
@@ -46,6 +48,17 @@ Fails (errors.Refused f) read = read ≡ Err f
 abbrev pub Gives : {X Y : Type 0} → (X → Y) → Result X ReadError → Result Y Refusal → Type 0
 Gives view (Ok x) read = read ≡ Ok (view x)
 Gives view (Err x) read = Fails x read
+
+-- the same with the tokens after it
+abbrev pub Reads : {X A : Type 0} → (X → A) → Result (X × Bor Tokens) ReadError → Outcome A → Type 0
+Reads view result read = Gives (λ x. (view x.0, x.1.now)) result read
+
+-- a view of what is its own mirror, and of a list by one of its items
+abbrev pub as_is : {A : Type 0} → A → A
+as_is x = x
+
+abbrev pub each : {X A : Type 0} → (X → A) → Vec X → List A
+each view xs = map view xs.items
 
 abbrev pub taken : {A : Type 0} → Option A → Token → Parser A
 taken None t = λ ts. Err (Unexpected (length (t ∷ ts)))

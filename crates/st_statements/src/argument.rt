@@ -6,13 +6,12 @@ ghost use Rattle.st_lex.specs.declared.mark.Mark.TheVariants as marks;
 ghost use Rattle.st_trees.specs.StatementViews.{argument_view};
 ghost use Rattle.st_statements.specs.Tokens.{is_mark};
 ghost use Rattle.st_statements.specs.Parsers as parsers;
-ghost use Rattle.st_statements.specs.Parsers.{Gives, several};
+ghost use Rattle.st_statements.specs.Parsers.{Reads, each, several};
 ghost use Rattle.st_statements.specs.StatementReading as reading;
 
 use crate::expression::{expr, variable};
 use crate::fault::ReadError;
-use crate::next::begins;
-use crate::terminal::{mark, name};
+use crate::tokens::{begins, mark, name};
 use st_lex::{Mark, Token};
 use st_trees::Argument;
 use std::alloc::Global;
@@ -20,10 +19,11 @@ use std::alloc::Global;
 /// An argument and the tokens after it.
 type Found<'a> = Result<(Argument, &'a [Token]), ReadError>;
 
+/// `argument = name, ( ":=", expr | "=>", variable ) .`
 #[tactic(auto, unfolding(crate::specs::StatementReading::argument_at, crate::specs::StatementReading::given_of, crate::specs::StatementReading::copied_of))]
 fn argument(alloc: Global, below: usize, tokens: &[Token]) -> Found<'_>
     requires { below < MAX_DEPTH }
-    ensures { Gives (λ x. (argument_view x.0, x.1.now)) result (reading.argument_at below tokens.now) }
+    ensures { Reads argument_view result (reading.argument_at below tokens.now) }
 {
     let (found, rest) = name(alloc, tokens)?;
     if begins(Mark::Assign, rest) {
@@ -36,16 +36,17 @@ fn argument(alloc: Global, below: usize, tokens: &[Token]) -> Found<'_>
     Ok((Argument::output(found, target), rest))
 }
 
+/// `next_argument = ",", argument .`
 #[tactic(auto, unfolding(crate::specs::Parsers::after_comma))]
 fn next_argument(alloc: Global, below: usize, tokens: &[Token]) -> Found<'_>
     requires { below < MAX_DEPTH }
-    ensures { Gives (λ x. (argument_view x.0, x.1.now)) result
-        (parsers.after_comma (reading.argument_at below) tokens.now) }
+    ensures { Reads argument_view result (parsers.after_comma (reading.argument_at below) tokens.now) }
 {
     let (_, rest) = mark(Mark::Comma, tokens)?;
     argument(alloc, below, rest)
 }
 
+/// `more_arguments = { next_argument } .`
 fn more_arguments<'a>(
     alloc: Global,
     below: usize,
@@ -53,7 +54,7 @@ fn more_arguments<'a>(
     mut tokens: &'a [Token],
 ) -> Result<(Vec<Argument>, &'a [Token]), ReadError>
     requires { below < MAX_DEPTH }
-    ensures { Gives (λ x. (map argument_view x.0.items, x.1.now)) result (several (is_mark marks.Comma)
+    ensures { Reads (each argument_view) result (several (is_mark marks.Comma)
         (parsers.after_comma (reading.argument_at below)) (map argument_view found.items) tokens.entry.now) }
 {
     for _turn in 0..tokens.len() {
@@ -67,6 +68,7 @@ fn more_arguments<'a>(
     Ok((found, tokens))
 }
 
+/// `arguments = [ argument, more_arguments ] .`
 /// The arguments in the parentheses of a block call.
 #[tactic(auto, unfolding(crate::specs::StatementReading::arguments_at, crate::specs::Parsers::listed))]
 pub fn arguments(
@@ -75,7 +77,7 @@ pub fn arguments(
     tokens: &[Token],
 ) -> Result<(Vec<Argument>, &[Token]), ReadError>
     requires { below < MAX_DEPTH }
-    ensures { Gives (λ x. (map argument_view x.0.items, x.1.now)) result (reading.arguments_at below tokens.now) }
+    ensures { Reads (each argument_view) result (reading.arguments_at below tokens.now) }
 {
     let mut found = Vec::new(alloc);
     if begins(Mark::Close, tokens) {

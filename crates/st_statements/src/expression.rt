@@ -6,14 +6,15 @@ ghost use Rattle.st_trees.specs.ExpressionViews.{expr_view, variable_view, selec
 ghost use Rattle.st_trees.specs.Depths.{depth_of};
 ghost use Rattle.st_statements.specs.Tokens.{next, is_mark, is_name};
 ghost use Rattle.st_statements.specs.Parsers as parsers;
-ghost use Rattle.st_statements.specs.Parsers.{Gives, several};
+ghost use Rattle.st_statements.specs.Parsers.{Reads, each, several};
 ghost use Rattle.st_lex.specs.declared.mark.Mark.TheVariants as marks;
 ghost use Rattle.st_statements.specs.ExpressionReading as reading;
 
 use crate::fault::{ReadError, Refusal};
-use crate::next::{begins, begins_name, begins_number, is_keyword, is_mark, leads, refused, sunk};
-use crate::operator::{binds, goes_on, operator};
-use crate::terminal::{keyword, literal, mark, name, negative_at, whole};
+use crate::tokens::{
+    begins, begins_name, begins_number, binds, goes_on, is_keyword, is_mark, keyword, leads,
+    literal, mark, name, negative_at, operator, refused, sunk, whole,
+};
 use st_lex::{Keyword, Mark, Token, TokenKind};
 use st_trees::{Expr, Selector, Variable};
 use st_words::{Identifier, Literal, UnaryOperator};
@@ -67,11 +68,12 @@ fn is_deeper(expression: &Expr, below: usize) -> bool
     expression.depth() > below
 }
 
+/// `parenthesis = "(", expr, ")" .`
 #[cycle(expr)]
 #[tactic(auto, unfolding(crate::specs::ExpressionReading::parenthesis_at))]
 fn parenthesis(alloc: Global, below: usize, tokens: &[Token]) -> Found<'_>
     requires { below < MAX_DEPTH }
-    ensures { Gives (λ x. (expr_view x.0, x.1.now)) result (reading.parenthesis_at (reading.expr_at below) tokens.now) }
+    ensures { Reads expr_view result (reading.parenthesis_at (reading.expr_at below) tokens.now) }
 {
     let (place, rest) = mark(Mark::Open, tokens)?;
     let (inner, rest) = expr(alloc, below, 1, rest)?;
@@ -79,6 +81,7 @@ fn parenthesis(alloc: Global, below: usize, tokens: &[Token]) -> Found<'_>
     Ok((Expr::parenthesis(alloc, place, inner)?, rest))
 }
 
+/// `selector = ".", name | "[", expr, "]" .`
 #[cycle(expr)]
 #[tactic(auto, unfolding(crate::specs::ExpressionReading::selector_at, crate::specs::ExpressionReading::member_at, crate::specs::ExpressionReading::subscript_at))]
 fn selector(
@@ -87,8 +90,7 @@ fn selector(
     tokens: &[Token],
 ) -> Result<(Selector, &[Token]), ReadError>
     requires { below < MAX_DEPTH }
-    ensures { Gives (λ x. (selector_view x.0, x.1.now)) result
-        (reading.selector_at (reading.expr_at below) tokens.now) }
+    ensures { Reads selector_view result (reading.selector_at (reading.expr_at below) tokens.now) }
 {
     if begins(Mark::Dot, tokens) {
         let (_, rest) = mark(Mark::Dot, tokens)?;
@@ -101,6 +103,7 @@ fn selector(
     Ok((Selector::subscript(found), rest))
 }
 
+/// `selectors = { selector } .`
 #[cycle(expr)]
 fn selectors<'a>(
     alloc: Global,
@@ -108,8 +111,7 @@ fn selectors<'a>(
     mut tokens: &'a [Token],
 ) -> Result<(Vec<Selector>, &'a [Token]), ReadError>
     requires { below < MAX_DEPTH }
-    ensures { Gives (λ x. (map selector_view x.0.items, x.1.now)) result
-        (reading.selectors_at (reading.expr_at below) tokens.entry.now) }
+    ensures { Reads (each selector_view) result (reading.selectors_at (reading.expr_at below) tokens.entry.now) }
 {
     let mut found = Vec::new(alloc);
     for _turn in 0..tokens.len() {
@@ -123,6 +125,7 @@ fn selectors<'a>(
     Ok((found, tokens))
 }
 
+/// `variable_of = selectors .`
 /// What is selected of a variable of this name, of subscripts one level down.
 #[cycle(expr)]
 #[tactic(auto, unfolding(crate::specs::ExpressionReading::variable_of))]
@@ -133,23 +136,24 @@ pub fn variable_of<'a>(
     tokens: &'a [Token],
 ) -> Result<(Variable, &'a [Token]), ReadError>
     requires { below < MAX_DEPTH }
-    ensures { Gives (λ x. (variable_view x.0, x.1.now)) result
-        (reading.variable_of (reading.expr_at below) name tokens.now) }
+    ensures { Reads variable_view result (reading.variable_of (reading.expr_at below) name tokens.now) }
 {
     let (found, rest) = selectors(alloc, below, tokens)?;
     Ok((Variable::new(name, found), rest))
 }
 
+/// `next_argument = ",", expr .`
 #[cycle(expr)]
 #[tactic(auto, unfolding(crate::specs::Parsers::after_comma))]
 fn after_comma(alloc: Global, below: usize, tokens: &[Token]) -> Found<'_>
     requires { below < MAX_DEPTH }
-    ensures { Gives (λ x. (expr_view x.0, x.1.now)) result (parsers.after_comma (reading.expr_at below 1) tokens.now) }
+    ensures { Reads expr_view result (parsers.after_comma (reading.expr_at below 1) tokens.now) }
 {
     let (_, rest) = mark(Mark::Comma, tokens)?;
     expr(alloc, below, 1, rest)
 }
 
+/// `more_arguments = { next_argument } .`
 #[cycle(expr)]
 fn more_arguments<'a>(
     alloc: Global,
@@ -158,7 +162,7 @@ fn more_arguments<'a>(
     mut tokens: &'a [Token],
 ) -> Result<(Vec<Expr>, &'a [Token]), ReadError>
     requires { below < MAX_DEPTH }
-    ensures { Gives (λ x. (map expr_view x.0.items, x.1.now)) result (several (is_mark marks.Comma)
+    ensures { Reads (each expr_view) result (several (is_mark marks.Comma)
         (parsers.after_comma (reading.expr_at below 1)) (map expr_view found.items) tokens.entry.now) }
 {
     for _turn in 0..tokens.len() {
@@ -172,6 +176,7 @@ fn more_arguments<'a>(
     Ok((found, tokens))
 }
 
+/// `arguments = [ expr, more_arguments ] .`
 #[cycle(expr)]
 #[tactic(auto, unfolding(crate::specs::ExpressionReading::arguments_at, crate::specs::Parsers::listed))]
 fn arguments(
@@ -180,8 +185,7 @@ fn arguments(
     tokens: &[Token],
 ) -> Result<(Vec<Expr>, &[Token]), ReadError>
     requires { below < MAX_DEPTH }
-    ensures { Gives (λ x. (map expr_view x.0.items, x.1.now)) result
-        (reading.arguments_at (reading.expr_at below) tokens.now) }
+    ensures { Reads (each expr_view) result (reading.arguments_at (reading.expr_at below) tokens.now) }
 {
     let mut found = Vec::new(alloc);
     if begins(Mark::Close, tokens) {
@@ -192,12 +196,12 @@ fn arguments(
     more_arguments(alloc, below, found, rest)
 }
 
+/// `call_of = "(", arguments, ")" .`
 #[cycle(expr)]
 #[tactic(auto, unfolding(crate::specs::ExpressionReading::call_of))]
 fn call_of<'a>(alloc: Global, below: usize, function: Identifier, tokens: &'a [Token]) -> Found<'a>
     requires { below < MAX_DEPTH }
-    ensures { Gives (λ x. (expr_view x.0, x.1.now)) result
-        (reading.call_of (reading.expr_at below) function tokens.now) }
+    ensures { Reads expr_view result (reading.call_of (reading.expr_at below) function tokens.now) }
 {
     let (_, rest) = mark(Mark::Open, tokens)?;
     let (found, rest) = arguments(alloc, below, rest)?;
@@ -205,11 +209,12 @@ fn call_of<'a>(alloc: Global, below: usize, function: Identifier, tokens: &'a [T
     Ok((Expr::call(function, found), rest))
 }
 
+/// `named = name, ( call_of | variable_of ) .`
 #[cycle(expr)]
 #[tactic(auto, unfolding(crate::specs::ExpressionReading::named_at, crate::specs::ExpressionReading::read_of))]
 fn named(alloc: Global, below: usize, tokens: &[Token]) -> Found<'_>
     requires { below < MAX_DEPTH }
-    ensures { Gives (λ x. (expr_view x.0, x.1.now)) result (reading.named_at (reading.expr_at below) tokens.now) }
+    ensures { Reads expr_view result (reading.named_at (reading.expr_at below) tokens.now) }
 {
     let (found, rest) = name(alloc, tokens)?;
     if begins(Mark::Open, rest) {
@@ -219,11 +224,12 @@ fn named(alloc: Global, below: usize, tokens: &[Token]) -> Found<'_>
     Ok((Expr::variable(variable), rest))
 }
 
+/// `operand = literal | named | parenthesis .`
 #[cycle(expr)]
 #[tactic(auto, unfolding(crate::specs::ExpressionReading::operand_at, crate::specs::ExpressionReading::literal_at))]
 fn operand(alloc: Global, below: usize, tokens: &[Token]) -> Found<'_>
     requires { below < MAX_DEPTH }
-    ensures { Gives (λ x. (expr_view x.0, x.1.now)) result (reading.operand_at (reading.expr_at below) tokens.now) }
+    ensures { Reads expr_view result (reading.operand_at (reading.expr_at below) tokens.now) }
 {
     let [t, ..] = tokens else {
         return Err(refused(tokens));
@@ -239,11 +245,12 @@ fn operand(alloc: Global, below: usize, tokens: &[Token]) -> Found<'_>
     }
 }
 
+/// `minus = "-", ( whole | expr(9) ) .`
 #[cycle(expr)]
 #[tactic(auto, unfolding(crate::specs::ExpressionReading::minus_at, crate::specs::ExpressionReading::negative_of, crate::specs::ExpressionReading::negated_of))]
 fn minus(alloc: Global, below: usize, tokens: &[Token]) -> Found<'_>
     requires { below < MAX_DEPTH }
-    ensures { Gives (λ x. (expr_view x.0, x.1.now)) result (reading.minus_at (reading.expr_at below) tokens.now) }
+    ensures { Reads expr_view result (reading.minus_at (reading.expr_at below) tokens.now) }
 {
     let (place, rest) = mark(Mark::Minus, tokens)?;
     if begins_number(rest) {
@@ -260,11 +267,12 @@ fn minus(alloc: Global, below: usize, tokens: &[Token]) -> Found<'_>
     ))
 }
 
+/// `inverted = "NOT", expr(9) .`
 #[cycle(expr)]
 #[tactic(auto, unfolding(crate::specs::ExpressionReading::not_at))]
 fn inverted(alloc: Global, below: usize, tokens: &[Token]) -> Found<'_>
     requires { below < MAX_DEPTH }
-    ensures { Gives (λ x. (expr_view x.0, x.1.now)) result (reading.not_at (reading.expr_at below) tokens.now) }
+    ensures { Reads expr_view result (reading.not_at (reading.expr_at below) tokens.now) }
 {
     let (place, rest) = keyword(Keyword::Not, tokens)?;
     let (operand, rest) = expr(alloc, below, OPERAND, rest)?;
@@ -274,11 +282,12 @@ fn inverted(alloc: Global, below: usize, tokens: &[Token]) -> Found<'_>
     ))
 }
 
+/// `unary = minus | inverted | operand .`
 #[cycle(expr)]
 #[tactic(auto, unfolding(crate::specs::ExpressionReading::unary_at))]
 fn unary(alloc: Global, below: usize, tokens: &[Token]) -> Found<'_>
     requires { below < MAX_DEPTH }
-    ensures { Gives (λ x. (expr_view x.0, x.1.now)) result (reading.unary_at (reading.expr_at below) tokens.now) }
+    ensures { Reads expr_view result (reading.unary_at (reading.expr_at below) tokens.now) }
 {
     if begins(Mark::Minus, tokens) {
         return minus(alloc, below, tokens);
@@ -289,18 +298,19 @@ fn unary(alloc: Global, below: usize, tokens: &[Token]) -> Found<'_>
     operand(alloc, below, tokens)
 }
 
+/// `operation(k) = operator(k), expr(k + 1) .`
 #[cycle(expr)]
 #[tactic(auto, unfolding(crate::specs::ExpressionReading::operation_of))]
 fn operation<'a>(alloc: Global, below: usize, left: Expr, tokens: &'a [Token]) -> Found<'a>
     requires { below < MAX_DEPTH }
-    ensures { Gives (λ x. (expr_view x.0, x.1.now)) result
-        (reading.operation_of (reading.expr_at below) (expr_view left) tokens.now) }
+    ensures { Reads expr_view result (reading.operation_of (reading.expr_at below) (expr_view left) tokens.now) }
 {
     let (op, rest) = operator(tokens)?;
     let (right, rest) = expr(alloc, below, binds(op) + 1, rest)?;
     Ok((Expr::binary(alloc, op, left, right)?, rest))
 }
 
+/// `operations(k) = { operation(k) | .. | operation(7) } .`
 #[cycle(expr)]
 fn operations<'a>(
     alloc: Global,
@@ -310,7 +320,7 @@ fn operations<'a>(
     mut tokens: &'a [Token],
 ) -> Found<'a>
     requires { below < MAX_DEPTH }
-    ensures { Gives (λ x. (expr_view x.0, x.1.now)) result
+    ensures { Reads expr_view result
         (reading.operations_of (reading.expr_at below) below least (expr_view left) tokens.entry.now) }
 {
     for _turn in 0..tokens.len() {
@@ -327,23 +337,26 @@ fn operations<'a>(
     Ok((left, tokens))
 }
 
+/// `operators(k) = unary, operations(k) .`
 #[cycle(expr)]
 #[tactic(auto, unfolding(crate::specs::ExpressionReading::operators_at))]
 fn operators(alloc: Global, below: usize, least: usize, tokens: &[Token]) -> Found<'_>
     requires { below < MAX_DEPTH }
-    ensures { Gives (λ x. (expr_view x.0, x.1.now)) result
-        (reading.operators_at (reading.expr_at below) below least tokens.now) }
+    ensures { Reads expr_view result (reading.operators_at (reading.expr_at below) below least tokens.now) }
 {
     let (first, rest) = unary(alloc, below, tokens)?;
     operations(alloc, below, least, first, rest)
 }
 
+/// `expr = expr(1) .`
+/// `expr(k) = operators(k) .`
+/// `expr(9) = operand .`
 /// An expression of at most a depth, of operators that bind at least so.
 #[cycle(expr)]
 #[tactic(auto, unfolding(crate::specs::ExpressionReading::expr_at))]
 pub fn expr(alloc: Global, depth: usize, least: usize, tokens: &[Token]) -> Found<'_>
     requires { depth ≤ MAX_DEPTH }
-    ensures { Gives (λ x. (expr_view x.0, x.1.now)) result (reading.expr_at depth least tokens.now) }
+    ensures { Reads expr_view result (reading.expr_at depth least tokens.now) }
 {
     if depth == 0 {
         return Err(sunk(starts_expr(least, tokens), tokens));
@@ -354,6 +367,7 @@ pub fn expr(alloc: Global, depth: usize, least: usize, tokens: &[Token]) -> Foun
     operators(alloc, depth - 1, least, tokens)
 }
 
+/// `variable = name, variable_of .`
 /// A variable of at most a depth.
 #[tactic(auto, unfolding(crate::specs::ExpressionReading::variable_at))]
 pub fn variable(
@@ -362,7 +376,7 @@ pub fn variable(
     tokens: &[Token],
 ) -> Result<(Variable, &[Token]), ReadError>
     requires { depth ≤ MAX_DEPTH }
-    ensures { Gives (λ x. (variable_view x.0, x.1.now)) result (reading.variable_at depth tokens.now) }
+    ensures { Reads variable_view result (reading.variable_at depth tokens.now) }
 {
     if depth == 0 {
         return Err(sunk(begins_name(tokens), tokens));

@@ -6,14 +6,14 @@ ghost use Rattle.st_lex.specs.declared.mark.Mark.TheVariants as marks;
 ghost use Rattle.st_trees.specs.InitialViews.{initial_view, element_view, member_view};
 ghost use Rattle.st_statements.specs.Tokens.{next, is_mark};
 ghost use Rattle.st_statements.specs.Parsers as parsers;
-ghost use Rattle.st_statements.specs.Parsers.{Gives, several};
+ghost use Rattle.st_statements.specs.Parsers.{Reads, each, several};
 ghost use Rattle.st_statements.specs.ExpressionReading.{starts_literal};
 ghost use Rattle.st_statements.specs.InitialReading as reading;
 
 use crate::fault::ReadError;
-use crate::next::{begins, begins_number, is_mark, sunk};
-use crate::sign::negative_number;
-use crate::terminal::{literal, mark, name, whole};
+use crate::tokens::{
+    begins, begins_number, is_mark, literal, mark, name, negative_number, sunk, whole,
+};
 use st_lex::{Mark, Token, TokenKind};
 use st_trees::{Initial, InitialElement, InitialMember};
 use st_words::{Literal, Number};
@@ -51,11 +51,12 @@ fn starts_initial(tokens: &[Token]) -> bool
     }
 }
 
+/// `member = name, ":=", initial .`
 #[cycle(initial)]
 #[tactic(auto, unfolding(crate::specs::InitialReading::member_at))]
 fn member(alloc: Global, depth: usize, tokens: &[Token]) -> FoundMember<'_>
     requires { depth ≤ MAX_DEPTH }
-    ensures { Gives (λ x. (member_view x.0, x.1.now)) result (reading.member_at (reading.initial_at depth) tokens.now) }
+    ensures { Reads member_view result (reading.member_at (reading.initial_at depth) tokens.now) }
 {
     let (name, rest) = name(alloc, tokens)?;
     let (_, rest) = mark(Mark::Assign, rest)?;
@@ -63,17 +64,18 @@ fn member(alloc: Global, depth: usize, tokens: &[Token]) -> FoundMember<'_>
     Ok((InitialMember { name, value }, rest))
 }
 
+/// `next_member = ",", member .`
 #[cycle(initial)]
 #[tactic(auto, unfolding(crate::specs::Parsers::after_comma))]
 fn next_member(alloc: Global, depth: usize, tokens: &[Token]) -> FoundMember<'_>
     requires { depth ≤ MAX_DEPTH }
-    ensures { Gives (λ x. (member_view x.0, x.1.now)) result
-        (parsers.after_comma (reading.member_at (reading.initial_at depth)) tokens.now) }
+    ensures { Reads member_view result (parsers.after_comma (reading.member_at (reading.initial_at depth)) tokens.now) }
 {
     let (_, rest) = mark(Mark::Comma, tokens)?;
     member(alloc, depth, rest)
 }
 
+/// `more_members = { next_member } .`
 #[cycle(initial)]
 fn more_members<'a>(
     alloc: Global,
@@ -82,7 +84,7 @@ fn more_members<'a>(
     mut tokens: &'a [Token],
 ) -> Result<(Vec<InitialMember>, &'a [Token]), ReadError>
     requires { depth ≤ MAX_DEPTH }
-    ensures { Gives (λ x. (map member_view x.0.items, x.1.now)) result
+    ensures { Reads (each member_view) result
         (several (is_mark marks.Comma) (parsers.after_comma (reading.member_at (reading.initial_at depth)))
         (map member_view found.items) tokens.entry.now) }
 {
@@ -97,12 +99,12 @@ fn more_members<'a>(
     Ok((found, tokens))
 }
 
+/// `structure = "(", member, more_members, ")" .`
 #[cycle(initial)]
 #[tactic(auto, unfolding(crate::specs::InitialReading::structure_at, crate::specs::Parsers::listed))]
 fn structure(alloc: Global, below: usize, tokens: &[Token]) -> Found<'_>
     requires { below < MAX_DEPTH }
-    ensures { Gives (λ x. (initial_view x.0, x.1.now)) result
-        (reading.structure_at (reading.initial_at below) tokens.now) }
+    ensures { Reads initial_view result (reading.structure_at (reading.initial_at below) tokens.now) }
 {
     let (place, rest) = mark(Mark::Open, tokens)?;
     let (first, rest) = member(alloc, below, rest)?;
@@ -113,12 +115,12 @@ fn structure(alloc: Global, below: usize, tokens: &[Token]) -> Found<'_>
     Ok((Initial::structure(place, members), rest))
 }
 
+/// `repetition_of = "(", [ initial ], ")" .`
 #[cycle(initial)]
 #[tactic(auto, unfolding(crate::specs::InitialReading::repetition_of, crate::specs::InitialReading::defaults_of, crate::specs::InitialReading::repeated_of))]
 fn repetition_of(alloc: Global, depth: usize, count: Number, tokens: &[Token]) -> FoundElement<'_>
     requires { depth ≤ MAX_DEPTH }
-    ensures { Gives (λ x. (element_view x.0, x.1.now)) result
-        (reading.repetition_of (reading.initial_at depth) count tokens.now) }
+    ensures { Reads element_view result (reading.repetition_of (reading.initial_at depth) count tokens.now) }
 {
     let (_, rest) = mark(Mark::Open, tokens)?;
     if begins(Mark::Close, rest) {
@@ -130,12 +132,12 @@ fn repetition_of(alloc: Global, depth: usize, count: Number, tokens: &[Token]) -
     Ok((InitialElement::repeated(count, value), rest))
 }
 
+/// `counted = whole, [ repetition_of ] .`
 #[cycle(initial)]
 #[tactic(auto, unfolding(crate::specs::InitialReading::counted_at))]
 fn counted(alloc: Global, depth: usize, tokens: &[Token]) -> FoundElement<'_>
     requires { depth ≤ MAX_DEPTH }
-    ensures { Gives (λ x. (element_view x.0, x.1.now)) result
-        (reading.counted_at (reading.initial_at depth) tokens.now) }
+    ensures { Reads element_view result (reading.counted_at (reading.initial_at depth) tokens.now) }
 {
     let (number, rest) = whole(tokens)?;
     if begins(Mark::Open, rest) {
@@ -145,12 +147,12 @@ fn counted(alloc: Global, depth: usize, tokens: &[Token]) -> FoundElement<'_>
     Ok((InitialElement::single(constant), rest))
 }
 
+/// `element = counted | initial .`
 #[cycle(initial)]
 #[tactic(auto, unfolding(crate::specs::InitialReading::element_at, crate::specs::InitialReading::single_at))]
 fn element(alloc: Global, depth: usize, tokens: &[Token]) -> FoundElement<'_>
     requires { depth ≤ MAX_DEPTH }
-    ensures { Gives (λ x. (element_view x.0, x.1.now)) result
-        (reading.element_at (reading.initial_at depth) depth tokens.now) }
+    ensures { Reads element_view result (reading.element_at (reading.initial_at depth) depth tokens.now) }
 {
     if depth == 0 {
         return Err(sunk(starts_initial(tokens), tokens));
@@ -162,17 +164,19 @@ fn element(alloc: Global, depth: usize, tokens: &[Token]) -> FoundElement<'_>
     Ok((InitialElement::single(value), rest))
 }
 
+/// `next_element = ",", element .`
 #[cycle(initial)]
 #[tactic(auto, unfolding(crate::specs::Parsers::after_comma))]
 fn next_element(alloc: Global, depth: usize, tokens: &[Token]) -> FoundElement<'_>
     requires { depth ≤ MAX_DEPTH }
-    ensures { Gives (λ x. (element_view x.0, x.1.now)) result
+    ensures { Reads element_view result
         (parsers.after_comma (reading.element_at (reading.initial_at depth) depth) tokens.now) }
 {
     let (_, rest) = mark(Mark::Comma, tokens)?;
     element(alloc, depth, rest)
 }
 
+/// `more_elements = { next_element } .`
 #[cycle(initial)]
 fn more_elements<'a>(
     alloc: Global,
@@ -181,7 +185,7 @@ fn more_elements<'a>(
     mut tokens: &'a [Token],
 ) -> Result<(Vec<InitialElement>, &'a [Token]), ReadError>
     requires { depth ≤ MAX_DEPTH }
-    ensures { Gives (λ x. (map element_view x.0.items, x.1.now)) result
+    ensures { Reads (each element_view) result
         (several (is_mark marks.Comma) (parsers.after_comma (reading.element_at (reading.initial_at depth) depth))
         (map element_view found.items) tokens.entry.now) }
 {
@@ -196,11 +200,12 @@ fn more_elements<'a>(
     Ok((found, tokens))
 }
 
+/// `list = "[", element, more_elements, "]" .`
 #[cycle(initial)]
 #[tactic(auto, unfolding(crate::specs::InitialReading::list_at, crate::specs::Parsers::listed))]
 fn list(alloc: Global, below: usize, tokens: &[Token]) -> Found<'_>
     requires { below < MAX_DEPTH }
-    ensures { Gives (λ x. (initial_view x.0, x.1.now)) result
+    ensures { Reads initial_view result
         (reading.list_at (reading.element_at (reading.initial_at below) below) tokens.now) }
 {
     let (place, rest) = mark(Mark::OpenBracket, tokens)?;
@@ -212,12 +217,13 @@ fn list(alloc: Global, below: usize, tokens: &[Token]) -> Found<'_>
     Ok((Initial::list(place, elements), rest))
 }
 
+/// `initial = list | structure | negative_number | literal .`
 /// An initial value of at most a depth.
 #[cycle(initial)]
 #[tactic(auto, unfolding(crate::specs::InitialReading::initial_at, crate::specs::InitialReading::negative_constant_at, crate::specs::InitialReading::literal_constant_at))]
 pub fn initial(alloc: Global, depth: usize, tokens: &[Token]) -> Found<'_>
     requires { depth ≤ MAX_DEPTH }
-    ensures { Gives (λ x. (initial_view x.0, x.1.now)) result (reading.initial_at depth tokens.now) }
+    ensures { Reads initial_view result (reading.initial_at depth tokens.now) }
 {
     if depth == 0 {
         return Err(sunk(starts_initial(tokens), tokens));

@@ -3,14 +3,15 @@
 ghost use Rattle.std.specs.Prelude.{◌≡◌, map, Bool};
 ghost use Rattle.st_lex.specs.declared.token.TokenKind.{TokenKind};
 ghost use Rattle.st_statements.specs.Parsers as parsers;
-ghost use Rattle.st_statements.specs.Parsers.{Parser, Gives};
-ghost use Rattle.st_statements.specs.Calls.{Tests, Reads};
+ghost use Rattle.st_statements.specs.Parsers.{Reads, each, Parser};
+ghost use Rattle.st_statements.specs.Calls.{CallsRead, Tests};
 
 use crate::fault::ReadError;
 use st_lex::Token;
 use st_words::Tree;
 use std::alloc::Global;
 
+/// `several(item) = { item } .`
 /// Parts after those that were found, as long as what is left begins so.
 pub fn several<
     'a,
@@ -25,9 +26,8 @@ pub fn several<
 ) -> Result<(Vec<T>, &'a [Token]), ReadError>
     requires begins { B.IsAlwaysCallable begins }
     requires item { I.IsAlwaysCallable item }
-    ensures { (f : TokenKind → Bool) (p : Parser T.Mirror) → Tests (B.post begins) f → Reads T.view (I.post item) p
-        → Gives (λ x. (map T.view x.0.items, x.1.now)) result
-        (parsers.several f p (map T.view found.items) tokens.entry.now) }
+    ensures { (f : TokenKind → Bool) (p : Parser T.Mirror) → Tests (B.post begins) f → CallsRead T.view (I.post item) p
+        → Reads (each T.view) result (parsers.several f p (map T.view found.items) tokens.entry.now) }
 {
     for _turn in 0..tokens.len() {
         if !begins(tokens) {

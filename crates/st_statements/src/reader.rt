@@ -1,5 +1,5 @@
-//! The parts of a text that declarations and units are made of. Each call reads what stands in prefix of the tokens,
-//! and gives it with the tokens after it.
+//! The parts of a text that declarations and units are made of. Each call reads what stands at the front of the
+//! tokens, and gives it with the tokens after it.
 //!
 //! Each has four clauses on the grammar: what is read is of the grammar; what is of the grammar is read; where a token
 //! is unexpected it is the first after which no text begins so, however deep; and what is too deep is so in each text
@@ -14,8 +14,8 @@ ghost use Rattle.st_trees.specs.InitialViews.{initial_view};
 ghost use Rattle.st_trees.specs.Statements as statements;
 ghost use Rattle.st_trees.specs.StatementViews.{stmt_view};
 ghost use Rattle.st_statements.specs.Tokens.{Tokens, IsNumber};
-ghost use Rattle.st_statements.specs.Parsers.{Gives, number_at};
-ghost use Rattle.st_statements.specs.Laws.{IsRead, Applies, Answers, Anywhere};
+ghost use Rattle.st_statements.specs.Parsers.{Reads, as_is, each, number_at};
+ghost use Rattle.st_statements.specs.Laws.{Anywhere, Applies, Finds, IsRead};
 ghost use Rattle.st_statements.specs.Expressions.{IsExpr};
 ghost use Rattle.st_statements.specs.Initials.{IsInitial};
 ghost use Rattle.st_statements.specs.Statements.{IsStmts};
@@ -28,8 +28,8 @@ ghost use Rattle.st_statements.specs.Limits.{EndsStatements};
 use crate::expression::expr;
 use crate::fault::ReadError;
 use crate::initial::initial;
-use crate::sign::signed_number;
 use crate::statement::stmts;
+use crate::tokens::signed_number;
 use st_lex::Token;
 use st_trees::{Expr, Initial, Stmt};
 use st_words::Number;
@@ -38,7 +38,7 @@ use std::alloc::Global;
 
 /// An expression, which is as long as it can be, to a depth of 64.
 pub fn read_expression(alloc: Global, tokens: &[Token]) -> Result<(Expr, &[Token]), ReadError>
-    ensures value { Gives (λ x. (expr_view x.0, x.1.now)) result (expr_at MAX_DEPTH 1 tokens.now) }
+    ensures value { Reads expr_view result (expr_at MAX_DEPTH 1 tokens.now) }
     // What is read is of the grammar.
     ensures found { IfOk result
         (λ x. IsRead (IsExpr 1) EndsExpression tokens.now (expr_view x.0) x.1.now × IsShallow (expr_view x.0)) }
@@ -46,14 +46,14 @@ pub fn read_expression(alloc: Global, tokens: &[Token]) -> Result<(Expr, &[Token
     ensures refused { IfErr result (λ e. Applies (IsExpr 1) EndsExpression IsShallow tokens.now e) }
     // What is of the grammar is read, unless memory runs out.
     ensures only { (x : expressions.Expr) (us : Tokens) → IsExpr 1 tokens.now x us → EndsExpression us → IsShallow x
-        → Answers (λ x. (expr_view x.0, x.1.now)) result x us }
+        → Finds expr_view result x us }
 {
     expr(alloc, MAX_DEPTH, 1, tokens)
 }
 
 /// An initial value, to a depth of 64.
 pub fn read_initial(alloc: Global, tokens: &[Token]) -> Result<(Initial, &[Token]), ReadError>
-    ensures value { Gives (λ x. (initial_view x.0, x.1.now)) result (initial_at MAX_DEPTH tokens.now) }
+    ensures value { Reads initial_view result (initial_at MAX_DEPTH tokens.now) }
     // What is read is of the grammar.
     ensures found { IfOk result
         (λ x. IsRead IsInitial Anywhere tokens.now (initial_view x.0) x.1.now × IsShallowInitial (initial_view x.0)) }
@@ -61,14 +61,14 @@ pub fn read_initial(alloc: Global, tokens: &[Token]) -> Result<(Initial, &[Token
     ensures refused { IfErr result (λ e. Applies IsInitial Anywhere IsShallowInitial tokens.now e) }
     // What is of the grammar is read, unless memory runs out.
     ensures only { (x : initials.Initial) (us : Tokens) → IsInitial tokens.now x us → IsShallowInitial x
-        → Answers (λ x. (initial_view x.0, x.1.now)) result x us }
+        → Finds initial_view result x us }
 {
     initial(alloc, MAX_DEPTH, tokens)
 }
 
 /// Statements, as many as there are, each with its semicolon, to a depth of 64.
 pub fn read_statements(alloc: Global, tokens: &[Token]) -> Result<(Vec<Stmt>, &[Token]), ReadError>
-    ensures value { Gives (λ x. (map stmt_view x.0.items, x.1.now)) result (stmts_at MAX_DEPTH tokens.now) }
+    ensures value { Reads (each stmt_view) result (stmts_at MAX_DEPTH tokens.now) }
     // What is read is of the grammar.
     ensures found { IfOk result (λ x. IsRead IsStmts EndsStatements tokens.now (map stmt_view x.0.items) x.1.now
         × AreShallow (map stmt_view x.0.items)) }
@@ -76,21 +76,20 @@ pub fn read_statements(alloc: Global, tokens: &[Token]) -> Result<(Vec<Stmt>, &[
     ensures refused { IfErr result (λ e. Applies IsStmts EndsStatements AreShallow tokens.now e) }
     // What is of the grammar is read, unless memory runs out.
     ensures only { (xs : List statements.Stmt) (us : Tokens) → IsStmts tokens.now xs us → EndsStatements us
-        → AreShallow xs → Answers (λ x. (map stmt_view x.0.items, x.1.now)) result xs us }
+        → AreShallow xs → Finds (each stmt_view) result xs us }
 {
     stmts(alloc, MAX_DEPTH, tokens)
 }
 
 /// A whole number or bit string, with a `-` directly before it or not.
 pub fn read_number(tokens: &[Token]) -> Result<(Number, &[Token]), ReadError>
-    ensures value { Gives (λ x. (x.0, x.1.now)) result (number_at tokens.now) }
+    ensures value { Reads as_is result (number_at tokens.now) }
     // What is read is of the grammar.
     ensures found { IfOk result (λ x. IsRead IsNumber Anywhere tokens.now x.0 x.1.now × HasDepthOne x.0) }
     // A refusal applies.
     ensures refused { IfErr result (λ e. Applies IsNumber Anywhere HasDepthOne tokens.now e) }
     // What is of the grammar is read.
-    ensures only { (x : NumberLeaf) (us : Tokens) → IsNumber tokens.now x us
-        → Answers (λ x. (x.0, x.1.now)) result x us }
+    ensures only { (x : NumberLeaf) (us : Tokens) → IsNumber tokens.now x us → Finds as_is result x us }
 {
     signed_number(tokens)
 }

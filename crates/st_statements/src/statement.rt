@@ -1,15 +1,15 @@
 //! Statements.
 
-ghost use Rattle.std.specs.Prelude.{◌≡◌, ◌≤◌, ◌<◌, [], ◌∷◌, List, map, option_map};
+ghost use Rattle.std.specs.Prelude.{◌≡◌, ◌≤◌, ◌<◌, [], ◌∷◌, List, option_map};
 ghost use Rattle.st_words.specs.declared.limits.TheConstants.{MAX_DEPTH};
 ghost use Rattle.st_lex.specs.declared.keyword.Keyword.TheVariants as words;
 ghost use Rattle.st_trees.specs.ExpressionViews.{expr_view};
 ghost use Rattle.st_trees.specs.Statements as statements;
 ghost use Rattle.st_trees.specs.StatementViews.{stmt_view, arm_view, case_arm_view};
 ghost use Rattle.st_statements.specs.Tokens.{next, is_keyword};
-ghost use Rattle.st_statements.specs.Parsers.{Parser, Gives, between};
+ghost use Rattle.st_statements.specs.Parsers.{Reads, each, Parser, between};
 ghost use Rattle.st_statements.specs.Parsers as parsers;
-ghost use Rattle.st_statements.specs.Calls.{Reads};
+ghost use Rattle.st_statements.specs.Calls.{CallsRead};
 ghost use Rattle.st_statements.specs.StatementReading as reading;
 
 use crate::argument::arguments;
@@ -17,8 +17,7 @@ use crate::expression::{expr, variable_of};
 use crate::fault::ReadError;
 use crate::label::labels;
 use crate::list::several;
-use crate::next::{begins, is_mark, leads, refused, sunk};
-use crate::terminal::{keyword, mark, name};
+use crate::tokens::{begins, is_mark, keyword, leads, mark, name, refused, sunk};
 use st_lex::{Keyword, Mark, Token, TokenKind};
 use st_trees::{Arm, CaseArm, Expr, Stmt};
 use st_words::Identifier;
@@ -68,26 +67,29 @@ fn starts_stmt(tokens: &[Token]) -> bool
     }
 }
 
+/// `exit_stmt = "EXIT" .`
 #[tactic(auto, unfolding(crate::specs::StatementReading::exit_at))]
 fn exit_stmt(tokens: &[Token]) -> Found<'_>
-    ensures { Gives (λ x. (stmt_view x.0, x.1.now)) result (reading.exit_at tokens.now) }
+    ensures { Reads stmt_view result (reading.exit_at tokens.now) }
 {
     let (place, rest) = keyword(Keyword::Exit, tokens)?;
     Ok((Stmt::exit(place), rest))
 }
 
+/// `return_stmt = "RETURN" .`
 #[tactic(auto, unfolding(crate::specs::StatementReading::return_at))]
 fn return_stmt(tokens: &[Token]) -> Found<'_>
-    ensures { Gives (λ x. (stmt_view x.0, x.1.now)) result (reading.return_at tokens.now) }
+    ensures { Reads stmt_view result (reading.return_at tokens.now) }
 {
     let (_, rest) = keyword(Keyword::Return, tokens)?;
     Ok((Stmt::leave(), rest))
 }
 
+/// `assign_of = variable_of, ":=", expr .`
 #[tactic(auto, unfolding(crate::specs::StatementReading::assign_of))]
 fn assign_of<'a>(alloc: Global, below: usize, target: Identifier, tokens: &'a [Token]) -> Found<'a>
     requires { below < MAX_DEPTH }
-    ensures { Gives (λ x. (stmt_view x.0, x.1.now)) result (reading.assign_of below target tokens.now) }
+    ensures { Reads stmt_view result (reading.assign_of below target tokens.now) }
 {
     let (variable, rest) = variable_of(alloc, below.saturating_sub(1), target, tokens)?;
     let (_, rest) = mark(Mark::Assign, rest)?;
@@ -95,6 +97,7 @@ fn assign_of<'a>(alloc: Global, below: usize, target: Identifier, tokens: &'a [T
     Ok((Stmt::assign(variable, value), rest))
 }
 
+/// `invoke_of = "(", arguments, ")" .`
 #[tactic(auto, unfolding(crate::specs::StatementReading::invoke_of))]
 fn invoke_of<'a>(
     alloc: Global,
@@ -103,7 +106,7 @@ fn invoke_of<'a>(
     tokens: &'a [Token],
 ) -> Found<'a>
     requires { below < MAX_DEPTH }
-    ensures { Gives (λ x. (stmt_view x.0, x.1.now)) result (reading.invoke_of below instance tokens.now) }
+    ensures { Reads stmt_view result (reading.invoke_of below instance tokens.now) }
 {
     let (_, rest) = mark(Mark::Open, tokens)?;
     let (found, rest) = arguments(alloc, below, rest)?;
@@ -111,10 +114,11 @@ fn invoke_of<'a>(
     Ok((Stmt::invoke(instance, found), rest))
 }
 
+/// `named = name, ( invoke_of | assign_of ) .`
 #[tactic(auto, unfolding(crate::specs::StatementReading::named_at))]
 fn named(alloc: Global, below: usize, tokens: &[Token]) -> Found<'_>
     requires { below < MAX_DEPTH }
-    ensures { Gives (λ x. (stmt_view x.0, x.1.now)) result (reading.named_at below tokens.now) }
+    ensures { Reads stmt_view result (reading.named_at below tokens.now) }
 {
     let (found, rest) = name(alloc, tokens)?;
     if begins(Mark::Open, rest) {
@@ -123,6 +127,7 @@ fn named(alloc: Global, below: usize, tokens: &[Token]) -> Found<'_>
     assign_of(alloc, below, found, rest)
 }
 
+/// `step = [ "BY", expr ] .`
 #[tactic(auto, unfolding(crate::specs::StatementReading::step_at, crate::specs::StatementReading::by_at))]
 fn step(
     alloc: Global,
@@ -130,7 +135,7 @@ fn step(
     tokens: &[Token],
 ) -> Result<(Option<Expr>, &[Token]), ReadError>
     requires { below < MAX_DEPTH }
-    ensures { Gives (λ x. (option_map expr_view x.0, x.1.now)) result (reading.step_at below tokens.now) }
+    ensures { Reads (option_map expr_view) result (reading.step_at below tokens.now) }
 {
     if leads(Keyword::By, tokens) {
         let (_, rest) = keyword(Keyword::By, tokens)?;
@@ -140,7 +145,7 @@ fn step(
     Ok((None, tokens))
 }
 
-/// Statements between two keywords.
+/// `block(first, last) = first, stmts, last .`
 #[tactic(auto, unfolding(crate::specs::Parsers::between))]
 fn block<'a, I: Fn(&[Token]) -> Block<'_>>(
     first: Keyword,
@@ -149,8 +154,8 @@ fn block<'a, I: Fn(&[Token]) -> Block<'_>>(
     inner: &I,
 ) -> Block<'a>
     requires inner { I.IsAlwaysCallable inner.now }
-    ensures { (p : Parser (List statements.Stmt)) → Reads (λ xs. map stmt_view xs.items) (I.post inner.now) p
-        → Gives (λ x. (map stmt_view x.0.items, x.1.now)) result (between first last p tokens.now) }
+    ensures { (p : Parser (List statements.Stmt)) → CallsRead (each stmt_view) (I.post inner.now) p
+        → Reads (each stmt_view) result (between first last p tokens.now) }
 {
     let (_, rest) = keyword(first, tokens)?;
     let (body, rest) = inner(rest)?;
@@ -158,6 +163,7 @@ fn block<'a, I: Fn(&[Token]) -> Block<'_>>(
     Ok((body, rest))
 }
 
+/// `arm = expr, "THEN", stmts .`
 #[tactic(auto, unfolding(crate::specs::StatementReading::arm_at))]
 fn arm<'a, I: Fn(&[Token]) -> Block<'_>>(
     alloc: Global,
@@ -167,8 +173,8 @@ fn arm<'a, I: Fn(&[Token]) -> Block<'_>>(
 ) -> FoundArm<'a>
     requires below { below < MAX_DEPTH }
     requires inner { I.IsAlwaysCallable inner.now }
-    requires reads { Reads (λ xs. map stmt_view xs.items) (I.post inner.now) (reading.stmts_at below) }
-    ensures { Gives (λ x. (arm_view x.0, x.1.now)) result (reading.arm_at below (reading.stmts_at below) tokens.now) }
+    requires reads { CallsRead (each stmt_view) (I.post inner.now) (reading.stmts_at below) }
+    ensures { Reads arm_view result (reading.arm_at below (reading.stmts_at below) tokens.now) }
 {
     let (condition, rest) = expr(alloc, below, 1, tokens)?;
     let (_, rest) = keyword(Keyword::Then, rest)?;
@@ -176,6 +182,7 @@ fn arm<'a, I: Fn(&[Token]) -> Block<'_>>(
     Ok((Arm { condition, body }, rest))
 }
 
+/// `elsif = "ELSIF", arm .`
 #[tactic(auto, unfolding(crate::specs::StatementReading::elsif_at))]
 fn elsif<'a, I: Fn(&[Token]) -> Block<'_>>(
     alloc: Global,
@@ -185,13 +192,14 @@ fn elsif<'a, I: Fn(&[Token]) -> Block<'_>>(
 ) -> FoundArm<'a>
     requires below { below < MAX_DEPTH }
     requires inner { I.IsAlwaysCallable inner.now }
-    requires reads { Reads (λ xs. map stmt_view xs.items) (I.post inner.now) (reading.stmts_at below) }
-    ensures { Gives (λ x. (arm_view x.0, x.1.now)) result (reading.elsif_at below (reading.stmts_at below) tokens.now) }
+    requires reads { CallsRead (each stmt_view) (I.post inner.now) (reading.stmts_at below) }
+    ensures { Reads arm_view result (reading.elsif_at below (reading.stmts_at below) tokens.now) }
 {
     let (_, rest) = keyword(Keyword::Elsif, tokens)?;
     arm(alloc, below, rest, inner)
 }
 
+/// `more_arms = { elsif } .`
 /// Arms behind a first one.
 fn arms_behind<'a, I: Fn(&[Token]) -> Block<'_>>(
     alloc: Global,
@@ -202,8 +210,8 @@ fn arms_behind<'a, I: Fn(&[Token]) -> Block<'_>>(
 ) -> Result<(Vec<Arm>, &'a [Token]), ReadError>
     requires below { below < MAX_DEPTH }
     requires inner { I.IsAlwaysCallable inner.now }
-    requires reads { Reads (λ xs. map stmt_view xs.items) (I.post inner.now) (reading.stmts_at below) }
-    ensures { Gives (λ x. (map arm_view x.0.items, x.1.now)) result
+    requires reads { CallsRead (each stmt_view) (I.post inner.now) (reading.stmts_at below) }
+    ensures { Reads (each arm_view) result
         (parsers.several (is_keyword words.Elsif) (reading.elsif_at below (reading.stmts_at below))
         (arm_view first ∷ []) tokens.now) }
 {
@@ -217,6 +225,7 @@ fn arms_behind<'a, I: Fn(&[Token]) -> Block<'_>>(
     )
 }
 
+/// `else = [ "ELSE", stmts ] .`
 #[tactic(auto, unfolding(crate::specs::StatementReading::else_at, crate::specs::StatementReading::otherwise_at))]
 fn else_part<'a, I: Fn(&[Token]) -> Block<'_>>(
     alloc: Global,
@@ -226,9 +235,8 @@ fn else_part<'a, I: Fn(&[Token]) -> Block<'_>>(
 ) -> Block<'a>
     requires below { below < MAX_DEPTH }
     requires inner { I.IsAlwaysCallable inner.now }
-    requires reads { Reads (λ xs. map stmt_view xs.items) (I.post inner.now) (reading.stmts_at below) }
-    ensures { Gives (λ x. (map stmt_view x.0.items, x.1.now)) result
-        (reading.else_at below (reading.stmts_at below) tokens.now) }
+    requires reads { CallsRead (each stmt_view) (I.post inner.now) (reading.stmts_at below) }
+    ensures { Reads (each stmt_view) result (reading.else_at below (reading.stmts_at below) tokens.now) }
 {
     if leads(Keyword::Else, tokens) {
         let (_, rest) = keyword(Keyword::Else, tokens)?;
@@ -237,6 +245,7 @@ fn else_part<'a, I: Fn(&[Token]) -> Block<'_>>(
     Ok((Vec::new(alloc), tokens))
 }
 
+/// `if_stmt = "IF", arm, more_arms, else, "END_IF" .`
 #[tactic(auto, unfolding(crate::specs::StatementReading::if_at))]
 fn if_stmt<'a, I: Fn(&[Token]) -> Block<'_>>(
     alloc: Global,
@@ -246,8 +255,8 @@ fn if_stmt<'a, I: Fn(&[Token]) -> Block<'_>>(
 ) -> Found<'a>
     requires below { below < MAX_DEPTH }
     requires inner { I.IsAlwaysCallable inner.now }
-    requires reads { Reads (λ xs. map stmt_view xs.items) (I.post inner.now) (reading.stmts_at below) }
-    ensures { Gives (λ x. (stmt_view x.0, x.1.now)) result (reading.if_at below (reading.stmts_at below) tokens.now) }
+    requires reads { CallsRead (each stmt_view) (I.post inner.now) (reading.stmts_at below) }
+    ensures { Reads stmt_view result (reading.if_at below (reading.stmts_at below) tokens.now) }
 {
     let (_, rest) = keyword(Keyword::If, tokens)?;
     let (first, rest) = arm(alloc, below, rest, inner)?;
@@ -257,6 +266,7 @@ fn if_stmt<'a, I: Fn(&[Token]) -> Block<'_>>(
     Ok((Stmt::choose(arms, other), rest))
 }
 
+/// `case_arm = labels, ":", stmts .`
 #[tactic(auto, unfolding(crate::specs::StatementReading::case_arm_at))]
 fn case_arm<'a, I: Fn(&[Token]) -> Block<'_>>(
     alloc: Global,
@@ -266,9 +276,8 @@ fn case_arm<'a, I: Fn(&[Token]) -> Block<'_>>(
 ) -> FoundCaseArm<'a>
     requires below { below < MAX_DEPTH }
     requires inner { I.IsAlwaysCallable inner.now }
-    requires reads { Reads (λ xs. map stmt_view xs.items) (I.post inner.now) (reading.stmts_at below) }
-    ensures { Gives (λ x. (case_arm_view x.0, x.1.now)) result
-        (reading.case_arm_at below (reading.stmts_at below) tokens.now) }
+    requires reads { CallsRead (each stmt_view) (I.post inner.now) (reading.stmts_at below) }
+    ensures { Reads case_arm_view result (reading.case_arm_at below (reading.stmts_at below) tokens.now) }
 {
     let (labels, rest) = labels(alloc, tokens)?;
     let (_, rest) = mark(Mark::Colon, rest)?;
@@ -276,6 +285,7 @@ fn case_arm<'a, I: Fn(&[Token]) -> Block<'_>>(
     Ok((CaseArm { labels, body }, rest))
 }
 
+/// `case_arms = { case_arm } .`
 fn case_arms<'a, I: Fn(&[Token]) -> Block<'_>>(
     alloc: Global,
     below: usize,
@@ -284,8 +294,8 @@ fn case_arms<'a, I: Fn(&[Token]) -> Block<'_>>(
 ) -> Result<(Vec<CaseArm>, &'a [Token]), ReadError>
     requires below { below < MAX_DEPTH }
     requires inner { I.IsAlwaysCallable inner.now }
-    requires reads { Reads (λ xs. map stmt_view xs.items) (I.post inner.now) (reading.stmts_at below) }
-    ensures { Gives (λ x. (map case_arm_view x.0.items, x.1.now)) result
+    requires reads { CallsRead (each stmt_view) (I.post inner.now) (reading.stmts_at below) }
+    ensures { Reads (each case_arm_view) result
         (parsers.several reading.starts_number (reading.case_arm_at below (reading.stmts_at below)) [] tokens.now) }
 {
     several(
@@ -296,6 +306,7 @@ fn case_arms<'a, I: Fn(&[Token]) -> Block<'_>>(
     )
 }
 
+/// `case_stmt = "CASE", expr, "OF", case_arms, else, "END_CASE" .`
 #[tactic(auto, unfolding(crate::specs::StatementReading::case_at))]
 fn case_stmt<'a, I: Fn(&[Token]) -> Block<'_>>(
     alloc: Global,
@@ -305,8 +316,8 @@ fn case_stmt<'a, I: Fn(&[Token]) -> Block<'_>>(
 ) -> Found<'a>
     requires below { below < MAX_DEPTH }
     requires inner { I.IsAlwaysCallable inner.now }
-    requires reads { Reads (λ xs. map stmt_view xs.items) (I.post inner.now) (reading.stmts_at below) }
-    ensures { Gives (λ x. (stmt_view x.0, x.1.now)) result (reading.case_at below (reading.stmts_at below) tokens.now) }
+    requires reads { CallsRead (each stmt_view) (I.post inner.now) (reading.stmts_at below) }
+    ensures { Reads stmt_view result (reading.case_at below (reading.stmts_at below) tokens.now) }
 {
     let (_, rest) = keyword(Keyword::Case, tokens)?;
     let (selector, rest) = expr(alloc, below, 1, rest)?;
@@ -317,6 +328,7 @@ fn case_stmt<'a, I: Fn(&[Token]) -> Block<'_>>(
     Ok((Stmt::select(selector, arms, other), rest))
 }
 
+/// `for_stmt = "FOR", name, ":=", expr, "TO", expr, step, block("DO", "END_FOR") .`
 #[tactic(auto, unfolding(crate::specs::StatementReading::for_at))]
 fn for_stmt<'a, I: Fn(&[Token]) -> Block<'_>>(
     alloc: Global,
@@ -326,8 +338,8 @@ fn for_stmt<'a, I: Fn(&[Token]) -> Block<'_>>(
 ) -> Found<'a>
     requires below { below < MAX_DEPTH }
     requires inner { I.IsAlwaysCallable inner.now }
-    requires reads { Reads (λ xs. map stmt_view xs.items) (I.post inner.now) (reading.stmts_at below) }
-    ensures { Gives (λ x. (stmt_view x.0, x.1.now)) result (reading.for_at below (reading.stmts_at below) tokens.now) }
+    requires reads { CallsRead (each stmt_view) (I.post inner.now) (reading.stmts_at below) }
+    ensures { Reads stmt_view result (reading.for_at below (reading.stmts_at below) tokens.now) }
 {
     let (_, rest) = keyword(Keyword::For, tokens)?;
     let (control, rest) = name(alloc, rest)?;
@@ -340,6 +352,7 @@ fn for_stmt<'a, I: Fn(&[Token]) -> Block<'_>>(
     Ok((Stmt::count(control, start, limit, by, body), rest))
 }
 
+/// `while_stmt = "WHILE", expr, block("DO", "END_WHILE") .`
 #[tactic(auto, unfolding(crate::specs::StatementReading::while_at))]
 fn while_stmt<'a, I: Fn(&[Token]) -> Block<'_>>(
     alloc: Global,
@@ -349,9 +362,8 @@ fn while_stmt<'a, I: Fn(&[Token]) -> Block<'_>>(
 ) -> Found<'a>
     requires below { below < MAX_DEPTH }
     requires inner { I.IsAlwaysCallable inner.now }
-    requires reads { Reads (λ xs. map stmt_view xs.items) (I.post inner.now) (reading.stmts_at below) }
-    ensures { Gives (λ x. (stmt_view x.0, x.1.now)) result
-        (reading.while_at below (reading.stmts_at below) tokens.now) }
+    requires reads { CallsRead (each stmt_view) (I.post inner.now) (reading.stmts_at below) }
+    ensures { Reads stmt_view result (reading.while_at below (reading.stmts_at below) tokens.now) }
 {
     let (_, rest) = keyword(Keyword::While, tokens)?;
     let (condition, rest) = expr(alloc, below, 1, rest)?;
@@ -359,6 +371,7 @@ fn while_stmt<'a, I: Fn(&[Token]) -> Block<'_>>(
     Ok((Stmt::repeat_while(condition, body), rest))
 }
 
+/// `repeat_stmt = "REPEAT", stmts, "UNTIL", expr, "END_REPEAT" .`
 #[tactic(auto, unfolding(crate::specs::StatementReading::repeat_at))]
 fn repeat_stmt<'a, I: Fn(&[Token]) -> Block<'_>>(
     alloc: Global,
@@ -368,9 +381,8 @@ fn repeat_stmt<'a, I: Fn(&[Token]) -> Block<'_>>(
 ) -> Found<'a>
     requires below { below < MAX_DEPTH }
     requires inner { I.IsAlwaysCallable inner.now }
-    requires reads { Reads (λ xs. map stmt_view xs.items) (I.post inner.now) (reading.stmts_at below) }
-    ensures { Gives (λ x. (stmt_view x.0, x.1.now)) result
-        (reading.repeat_at below (reading.stmts_at below) tokens.now) }
+    requires reads { CallsRead (each stmt_view) (I.post inner.now) (reading.stmts_at below) }
+    ensures { Reads stmt_view result (reading.repeat_at below (reading.stmts_at below) tokens.now) }
 {
     let (_, rest) = keyword(Keyword::Repeat, tokens)?;
     let (body, rest) = inner(rest)?;
@@ -380,6 +392,7 @@ fn repeat_stmt<'a, I: Fn(&[Token]) -> Block<'_>>(
     Ok((Stmt::repeat_until(body, condition), rest))
 }
 
+/// `stmt = [ named | if_stmt | case_stmt | for_stmt | while_stmt | repeat_stmt | exit_stmt | return_stmt ] .`
 #[tactic(auto, unfolding(crate::specs::StatementReading::stmt_at))]
 fn stmt<'a, I: Fn(&[Token]) -> Block<'_>>(
     alloc: Global,
@@ -389,8 +402,8 @@ fn stmt<'a, I: Fn(&[Token]) -> Block<'_>>(
 ) -> Found<'a>
     requires below { below < MAX_DEPTH }
     requires inner { I.IsAlwaysCallable inner.now }
-    requires reads { Reads (λ xs. map stmt_view xs.items) (I.post inner.now) (reading.stmts_at below) }
-    ensures { Gives (λ x. (stmt_view x.0, x.1.now)) result (reading.stmt_at below (reading.stmts_at below) tokens.now) }
+    requires reads { CallsRead (each stmt_view) (I.post inner.now) (reading.stmts_at below) }
+    ensures { Reads stmt_view result (reading.stmt_at below (reading.stmts_at below) tokens.now) }
 {
     let [t, ..] = tokens else {
         return Err(refused(tokens));
@@ -409,12 +422,13 @@ fn stmt<'a, I: Fn(&[Token]) -> Block<'_>>(
     }
 }
 
+/// `line = stmt, ";" .`
 /// A statement of at most a depth, with its semicolon.
 #[cycle(line)]
 #[tactic(auto, unfolding(crate::specs::StatementReading::line_at))]
 fn line(alloc: Global, depth: usize, tokens: &[Token]) -> Found<'_>
     requires { depth ≤ MAX_DEPTH }
-    ensures { Gives (λ x. (stmt_view x.0, x.1.now)) result (reading.line_at depth tokens.now) }
+    ensures { Reads stmt_view result (reading.line_at depth tokens.now) }
 {
     if depth == 0 {
         return Err(sunk(starts_stmt(tokens), tokens));
@@ -426,18 +440,19 @@ fn line(alloc: Global, depth: usize, tokens: &[Token]) -> Found<'_>
         tokens,
         &|tokens: &[Token]| -> Block<'_>
             requires { below < MAX_DEPTH }
-            ensures { Gives (λ x. (map stmt_view x.0.items, x.1.now)) result (reading.stmts_at below tokens.now) }
+            ensures { Reads (each stmt_view) result (reading.stmts_at below tokens.now) }
         { stmts(alloc, below, tokens) },
     )?;
     let (_, rest) = mark(Mark::Semicolon, rest)?;
     Ok((found, rest))
 }
 
+/// `stmts = { line } .`
 /// Statements of at most a depth.
 #[cycle(line)]
 pub fn stmts(alloc: Global, depth: usize, tokens: &[Token]) -> Block<'_>
     requires { depth ≤ MAX_DEPTH }
-    ensures { Gives (λ x. (map stmt_view x.0.items, x.1.now)) result (reading.stmts_at depth tokens.now) }
+    ensures { Reads (each stmt_view) result (reading.stmts_at depth tokens.now) }
 {
     several(
         Vec::new(alloc),
@@ -445,7 +460,7 @@ pub fn stmts(alloc: Global, depth: usize, tokens: &[Token]) -> Block<'_>
         starts_stmt,
         |tokens: &[Token]| -> Found<'_>
             requires { depth ≤ MAX_DEPTH }
-            ensures { Gives (λ x. (stmt_view x.0, x.1.now)) result (reading.line_at depth tokens.now) }
+            ensures { Reads stmt_view result (reading.line_at depth tokens.now) }
         { line(alloc, depth, tokens) },
     )
 }

@@ -1,8 +1,7 @@
 use Rattle.std.proofs.Common.{rules}
 use Rattle.st_words.specs.declared.limits.TheConstants.{MAX_DEPTH}
 use Rattle.st_statements.specs.Tokens.{is_name}
-use Rattle.st_parse.specs.TypeReading.{field_at}
-use Rattle.st_parse.specs.TypeReading.{fields_at}
+use Rattle.st_parse.specs.TypeReading.{field_at, fields_at}
 use Rattle.st_parse.specs.Reading.{at_least_one}
 use Rattle.st_parse.proofs.data_type.fields.Goals as goal
 

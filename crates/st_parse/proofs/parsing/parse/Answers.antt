@@ -1,4 +1,4 @@
-use Rattle.st_parse.proofs.AnswerLemmas.{found_source, only_ok, error_told, error_only}
+use Rattle.st_parse.proofs.PrefixSources.{found_source, only_ok, error_told, error_only}
 use Rattle.st_parse.proofs.parsing.parse.Goals as goal
 
 pub returns-in-Ok-clause-found : goal.returns-in-Ok-clause-found

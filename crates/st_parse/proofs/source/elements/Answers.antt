@@ -1,7 +1,6 @@
 use Rattle.std.proofs.Common.{rules}
 use Rattle.st_words.specs.declared.limits.TheConstants.{MAX_DEPTH}
-use Rattle.st_parse.specs.SourceReading.{is_token, element_at}
-use Rattle.st_parse.specs.SourceReading.{source_at}
+use Rattle.st_parse.specs.SourceReading.{is_token, element_at, source_at}
 use Rattle.st_parse.specs.Reading.{many}
 use Rattle.st_parse.proofs.source.elements.Goals as goal
 

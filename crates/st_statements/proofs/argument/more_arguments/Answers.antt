@@ -5,7 +5,7 @@ use Rattle.st_trees.specs.StatementViews.{argument_view}
 use Rattle.st_statements.specs.Tokens.{is_mark}
 use Rattle.st_statements.specs.Parsers.{loops, turns, gather, after_comma}
 use Rattle.st_statements.specs.StatementReading.{argument_at}
-use Rattle.st_statements.proofs.Turns.{one_more, no_more}
+use Rattle.st_statements.proofs.CountedLoops.{one_more, no_more}
 use Rattle.st_statements.proofs.argument.more_arguments.Goals as goal
 
 pub loop-turn-init : goal.loop-turn-init

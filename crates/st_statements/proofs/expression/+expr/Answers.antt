@@ -6,7 +6,7 @@ use Rattle.st_statements.specs.Tokens.{is_mark}
 use Rattle.st_statements.specs.Operators.{goes_on}
 use Rattle.st_statements.specs.Parsers.{loops, turns, gather, after_comma}
 use Rattle.st_statements.specs.ExpressionReading.{expr_at, starts_selector, selector_at, selectors_at, operation_within}
-use Rattle.st_statements.proofs.Turns.{one_more, no_more}
+use Rattle.st_statements.proofs.CountedLoops.{one_more, no_more}
 use Rattle.st_statements.proofs.expression.+expr.Goals as goal
 
 pub operations-loop-turn-init : goal.operations-loop-turn-init

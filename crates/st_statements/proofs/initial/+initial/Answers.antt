@@ -5,7 +5,7 @@ use Rattle.st_trees.specs.InitialViews.{element_view, member_view}
 use Rattle.st_statements.specs.Tokens.{is_mark}
 use Rattle.st_statements.specs.Parsers.{loops, turns, gather, after_comma}
 use Rattle.st_statements.specs.InitialReading.{initial_at, element_at, member_at}
-use Rattle.st_statements.proofs.Turns.{one_more, no_more}
+use Rattle.st_statements.proofs.CountedLoops.{one_more, no_more}
 use Rattle.st_statements.proofs.initial.+initial.Goals as goal
 
 pub more_elements-loop-turn-init : goal.more_elements-loop-turn-init

@@ -4,7 +4,7 @@ use Rattle.st_lex.specs.declared.mark.Mark.TheVariants as m
 use Rattle.st_statements.specs.Tokens.{is_mark}
 use Rattle.st_statements.specs.Parsers.{loops, turns, gather, after_comma}
 use Rattle.st_statements.specs.StatementReading.{label_at}
-use Rattle.st_statements.proofs.Turns.{one_more, no_more}
+use Rattle.st_statements.proofs.CountedLoops.{one_more, no_more}
 use Rattle.st_statements.proofs.label.more_labels.Goals as goal
 
 pub loop-turn-init : goal.loop-turn-init

@@ -1,7 +1,7 @@
 use Rattle.std.proofs.Common.{rules, arith, map, true, false}
 use Rattle.std.proofs.lemmas.Grind.{common_steps}
 use Rattle.st_statements.specs.Parsers.{loops, turns, gather}
-use Rattle.st_statements.proofs.Turns.{one_more, no_more}
+use Rattle.st_statements.proofs.CountedLoops.{one_more, no_more}
 use Rattle.st_statements.proofs.list.several.Goals as goal
 
 pub loop-turn-init : goal.loop-turn-init

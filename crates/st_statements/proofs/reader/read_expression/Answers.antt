@@ -1,5 +1,5 @@
 use Rattle.st_trees.specs.ExpressionViews.{expr_view}
-use Rattle.st_statements.proofs.Wholes.{expression_found, expression_refused, expression_only}
+use Rattle.st_statements.proofs.Clauses.{expression_found, expression_refused, expression_only}
 use Rattle.st_statements.proofs.reader.read_expression.Goals as goal
 
 pub returns-clause-found : goal.returns-clause-found

@@ -1,5 +1,5 @@
 use Rattle.st_trees.specs.InitialViews.{initial_view}
-use Rattle.st_statements.proofs.Wholes.{initial_found, initial_refused, initial_only}
+use Rattle.st_statements.proofs.Clauses.{initial_found, initial_refused, initial_only}
 use Rattle.st_statements.proofs.reader.read_initial.Goals as goal
 
 pub returns-clause-found : goal.returns-clause-found

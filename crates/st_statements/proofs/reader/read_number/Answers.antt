@@ -1,4 +1,4 @@
-use Rattle.st_statements.proofs.Wholes.{number_found, number_refused, number_only}
+use Rattle.st_statements.proofs.Clauses.{number_found, number_refused, number_only}
 use Rattle.st_statements.proofs.reader.read_number.Goals as goal
 
 pub returns-clause-found : goal.returns-clause-found

@@ -1,6 +1,6 @@
 use Rattle.std.proofs.Common.{map}
 use Rattle.st_trees.specs.StatementViews.{stmt_view}
-use Rattle.st_statements.proofs.Wholes.{statements_found, statements_refused, statements_only}
+use Rattle.st_statements.proofs.Clauses.{statements_found, statements_refused, statements_only}
 use Rattle.st_statements.proofs.reader.read_statements.Goals as goal
 
 pub returns-clause-found : goal.returns-clause-found

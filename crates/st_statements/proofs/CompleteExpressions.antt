@@ -1,4 +1,4 @@
--- Expressions of the grammar are read.
+-- What is an expression is read.
 use Rattle.std.proofs.Common.{◌≡◌, ℕ, zero, suc, ◌+◌, ◌<◌, ◌≤◌, ltb, cond, Bool, true, false, ◌||◌, List, [], ◌∷◌}
 use Rattle.std.proofs.Common.{length, Option, Some, None, Ok, Err, refl, ap, subst, ◌∙◌, arith, inl, inr}
 use Rattle.std.proofs.lemmas.Bool.{cases_Bool, ltb-false, ltb-true, leb-false, le-ltb, lt-leb, le-leb}
@@ -31,13 +31,13 @@ use Rattle.st_statements.specs.Expressions.{IsExpr, literal, variable, call, par
 use Rattle.st_statements.specs.Expressions.{binary, IsVariable, selected, IsSelectors, no_selector, selector}
 use Rattle.st_statements.specs.Expressions.{IsSelector, member, subscript, IsArguments, no_argument, argument}
 use Rattle.st_statements.specs.Expressions.{IsMoreArguments, no_more_arguments, next_argument}
-use Rattle.st_statements.proofs.Readings.{mark_is}
-use Rattle.st_statements.proofs.ToldTurns.{halts, turn_is}
+use Rattle.st_statements.proofs.SoundReadings.{mark_is}
+use Rattle.st_statements.proofs.SoundTurns.{halts, turn_is}
 use Rattle.st_statements.proofs.ExpressionFacts.{is_less, expr_less, selector_less, depth_some, binds_small, or_false}
-use Rattle.st_statements.proofs.ToldExpressions.{operand_at_refuses, none_binds}
-use Rattle.st_statements.proofs.Again.{one_again, mark_head, keyword_head, name_head, name_in_is, whole_head, Repeats}
-use Rattle.st_statements.proofs.Again.{repeats_halt, repeats_step, several_again, after_comma_again, comma_next}
-use Rattle.st_statements.proofs.Again.{listed_again}
+use Rattle.st_statements.proofs.SoundExpressions.{operand_at_refuses, none_binds}
+use Rattle.st_statements.proofs.Complete.{one_complete, mark_head, keyword_head, name_head, name_in_is, whole_head}
+use Rattle.st_statements.proofs.Complete.{Repeats, repeats_halt, repeats_step, several_complete, after_comma_complete}
+use Rattle.st_statements.proofs.Complete.{comma_next, listed_complete}
 
 -- ---- what stands after
 
@@ -117,10 +117,10 @@ literal_by expr at (Truth b) l ts eq = refl
 literal_by expr at (Duration d) l ts eq = refl
 literal_by expr at _ l ts eq = absurd cc
 
-literal_again : (expr : ℕ → Parser Expr) {ts us : Tokens} {l : Literal} → Is literal_of ts l us
+literal_complete : (expr : ℕ → Parser Expr) {ts us : Tokens} {l : Literal} → Is literal_of ts l us
     → operand_at expr ts ≡ Ok (e.literal l, us)
 unfolding operand_at literal_at
-literal_again expr {us = us} {l = l} (is {t} eq) = literal_by expr t.start t.kind l (t ∷ us) eq ∙ rw eq refl
+literal_complete expr {us = us} {l = l} (is {t} eq) = literal_by expr t.start t.kind l (t ∷ us) eq ∙ rw eq refl
 
 named_by : (expr : ℕ → Parser Expr) {ts us : Tokens} {x : Identifier} → Is name ts x us
     → operand_at expr ts ≡ named_at expr ts
@@ -165,40 +165,41 @@ operand_unary expr ts us x eq = elim (cases_Bool (next starts_operand ts)) [
   | inr miss ↦ absurd (no_answer (length ts) x us (operand_at expr ts) (operand_at_refuses expr ts miss) eq)
 ]
 
-variable_again : (expr : ℕ → Parser Expr) {ts us vs : Tokens} {x : Identifier} {xs : List Selector} → Is name ts x us
+variable_complete : (expr : ℕ → Parser Expr) {ts us vs : Tokens} {x : Identifier} {xs : List Selector} → Is name ts x us
     → next (is_mark m.Open) us ≡ false → selectors_at expr us ≡ Ok (xs, vs)
     → operand_at expr ts ≡ Ok (e.read (e.variable x (selectors_of xs)), vs)
 unfolding named_at read_of variable_of
-variable_again expr n plain eq = named_by expr n ∙ rw (one_again n, plain, eq) refl
+variable_complete expr n plain eq = named_by expr n ∙ rw (one_complete n, plain, eq) refl
 
-call_again : (expr : ℕ → Parser Expr) {ts us vs ws zs : Tokens} {f : Identifier} {es : List Expr} → Is name ts f us
+call_complete : (expr : ℕ → Parser Expr) {ts us vs ws zs : Tokens} {f : Identifier} {es : List Expr} → Is name ts f us
     → Passes (mark m.Open) us vs → arguments_at expr vs ≡ Ok (es, ws) → Passes (mark m.Close) ws zs
     → operand_at expr ts ≡ Ok (e.call f (exprs_of es), zs)
 unfolding named_at call_of same_mark
-call_again expr n o eq c = let h = mark_head m.Open (is_mark m.Open) o.1 in
-    named_by expr n ∙ rw (one_again n, h, one_again o.1, eq, one_again c.1) refl
+call_complete expr n o eq c = let h = mark_head m.Open (is_mark m.Open) o.1 in
+    named_by expr n ∙ rw (one_complete n, h, one_complete o.1, eq, one_complete c.1) refl
 
-parenthesis_again : (expr : ℕ → Parser Expr) {ts us vs ws : Tokens} {at : ℕ} {x : Expr} → Is (mark m.Open) ts at us
+parenthesis_complete : (expr : ℕ → Parser Expr) {ts us vs ws : Tokens} {at : ℕ} {x : Expr} → Is (mark m.Open) ts at us
     → expr 1 us ≡ Ok (x, vs) → Passes (mark m.Close) vs ws → operand_at expr ts ≡ Ok (e.parenthesis at x, ws)
 unfolding parenthesis_at
-parenthesis_again expr o eq c = parenthesis_by expr o ∙ rw (one_again o, eq, one_again c.1) refl
+parenthesis_complete expr o eq c = parenthesis_by expr o ∙ rw (one_complete o, eq, one_complete c.1) refl
 
-negative_again : (expr : ℕ → Parser Expr) {ts us vs : Tokens} {at : ℕ} {n : NumberLeaf} → Is (mark m.Minus) ts at us
+negative_complete : (expr : ℕ → Parser Expr) {ts us vs : Tokens} {at : ℕ} {n : NumberLeaf} → Is (mark m.Minus) ts at us
     → Is whole us n vs → unary_at expr ts ≡ Ok (e.literal (literals.Number (negative_at at n)), vs)
 unfolding unary_at minus_at negative_of same_mark
-negative_again expr s i = let h = mark_head m.Minus (is_mark m.Minus) s in
-    rw (h, one_again s, whole_head i, one_again i) refl
+negative_complete expr s i = let h = mark_head m.Minus (is_mark m.Minus) s in
+    rw (h, one_complete s, whole_head i, one_complete i) refl
 
-negated_again : (expr : ℕ → Parser Expr) {ts us vs : Tokens} {at : ℕ} {x : Expr} → Is (mark m.Minus) ts at us
+negated_complete : (expr : ℕ → Parser Expr) {ts us vs : Tokens} {at : ℕ} {x : Expr} → Is (mark m.Minus) ts at us
     → next is_number us ≡ false → expr operand_level us ≡ Ok (x, vs) → unary_at expr ts ≡ Ok (e.unary Negate at x, vs)
 unfolding unary_at minus_at negated_of same_mark
-negated_again expr s other eq = let h = mark_head m.Minus (is_mark m.Minus) s in rw (h, one_again s, other, eq) refl
+negated_complete expr s other eq =
+    let h = mark_head m.Minus (is_mark m.Minus) s in rw (h, one_complete s, other, eq) refl
 
-inverted_again : (expr : ℕ → Parser Expr) {ts us vs : Tokens} {at : ℕ} {x : Expr} → Is (keyword w.Not) ts at us
+inverted_complete : (expr : ℕ → Parser Expr) {ts us vs : Tokens} {at : ℕ} {x : Expr} → Is (keyword w.Not) ts at us
     → expr operand_level us ≡ Ok (x, vs) → unary_at expr ts ≡ Ok (e.unary Not at x, vs)
 unfolding unary_at not_at same_keyword
-inverted_again expr s eq = let h = keyword_head w.Not (is_keyword w.Not) s in
-    let g = keyword_head w.Not (is_mark m.Minus) s in rw (g, h, one_again s, eq) refl
+inverted_complete expr s eq = let h = keyword_head w.Not (is_keyword w.Not) s in
+    let g = keyword_head w.Not (is_mark m.Minus) s in rw (g, h, one_complete s, eq) refl
 
 -- ---- operators
 
@@ -207,11 +208,11 @@ abbrev pub TurnsTo : ℕ → ℕ → Expr → Tokens → Expr → Tokens → Typ
 TurnsTo below least a us y ws = (n : ℕ) → length us ≤ n
     → loops (goes_on least) (operation_within (expr_at below) below) n a us ≡ Ok (y, ws)
 
-operation_again : (below least : ℕ) {us vs ws : Tokens} {op : BinaryOperator} {a b : Expr} → depth_of a ≤ below
+operation_complete : (below least : ℕ) {us vs ws : Tokens} {op : BinaryOperator} {a b : Expr} → depth_of a ≤ below
     → Is operator us op vs → expr_at below (binds_of op + 1) vs ≡ Ok (b, ws)
     → operation_within (expr_at below) below a us ≡ Ok (e.binary op a b, ws)
 unfolding operation_of
-operation_again below least low o eq = let fits = le-ltb _ _ low in rw (fits, one_again o, eq) refl
+operation_complete below least low o eq = let fits = le-ltb _ _ low in rw (fits, one_complete o, eq) refl
 
 turns_on : (below least : ℕ) (us vs ws zs : Tokens) (op : BinaryOperator) (a b y : Expr) → least ≤ binds_of op
     → depth_of a ≤ below → Is operator us op vs → length ws < length us
@@ -221,12 +222,13 @@ turns_on below least us vs ws zs op a b y le low o less eq t zero long = absurd 
 turns_on below least us vs ws zs op a b y le low o less eq t (suc n) long =
     turn_is (goes_on least) (operation_within (expr_at below) below) n a us (operator_next least o le)
     ∙ (ap (λ (r : Outcome Expr). and_then r (loops (goes_on least) (operation_within (expr_at below) below) n))
-    (operation_again below least low o eq) ∙ t n (omega arith))
+    (operation_complete below least low o eq) ∙ t n (omega arith))
 
-first_again : (below least : ℕ) (ts us : Tokens) (x y : Expr) (ws : Tokens) → unary_at (expr_at below) ts ≡ Ok (x, us)
+first_complete : (below least : ℕ) (ts us : Tokens) (x y : Expr) (ws : Tokens)
+    → unary_at (expr_at below) ts ≡ Ok (x, us)
     → TurnsTo below least x us y ws → operators_at (expr_at below) below least ts ≡ Ok (y, ws)
 unfolding operators_at turns
-first_again below least ts us x y ws eq t = rw eq (t (length us) (omega arith))
+first_complete below least ts us x y ws eq t = rw eq (t (length us) (omega arith))
 
 -- ---- all
 
@@ -241,25 +243,25 @@ read_operand : (k : ℕ) (ts us : Tokens) (x : Expr)
 read_operand k ts us x p = record {
   alone = λ below low strong shut. p below low shut;
   first = λ below least low le small shut stop y ws t.
-      first_again below least ts us x y ws (operand_unary (expr_at below) ts us x (p below low shut)) t;
+      first_complete below least ts us x y ws (operand_unary (expr_at below) ts us x (p below low shut)) t;
 }
 
 read_signed : (k : ℕ) (ts us : Tokens) (x : Expr) → k ≤ 8
     → ((below : ℕ) → depth_of x ≤ below + 1 → Closed us → unary_at (expr_at below) ts ≡ Ok (x, us)) → Read k ts x us
 read_signed k ts us x le p = record {
   alone = λ below low strong shut. absurd (omega arith);
-  first = λ below least low le small shut stop y ws t. first_again below least ts us x y ws (p below low shut) t;
+  first = λ below least low le small shut stop y ws t. first_complete below least ts us x y ws (p below low shut) t;
 }
 
 as_read : {y : Expr} (x : Expr) (k : ℕ) (ts us : Tokens) → x ≡ y → Read k ts y us → Read k ts x us
 as_read x k ts us p r = rw p r
 
 -- an expression with nothing that continues it
-pub whole_again : (depth least k : ℕ) (ts us : Tokens) (x : Expr) → Read k ts x us → depth_of x ≤ depth → least ≤ k
+pub whole_complete : (depth least k : ℕ) (ts us : Tokens) (x : Expr) → Read k ts x us → depth_of x ≤ depth → least ≤ k
     → least ≤ 9 → Closed us → next (goes_on least) us ≡ false → expr_at depth least ts ≡ Ok (x, us)
 unfolding expr_at
-whole_again zero least k ts us x read low le small shut stop = let some = depth_some x in absurd (omega arith)
-whole_again (suc below) least k ts us x read low le small shut stop = elim (cases_Bool (ltb 8 least)) [
+whole_complete zero least k ts us x read low le small shut stop = let some = depth_some x in absurd (omega arith)
+whole_complete (suc below) least k ts us x read low le small shut stop = elim (cases_Bool (ltb 8 least)) [
   | inl hit ↦ let h = ltb-true _ _ hit in rw hit (read.alone below (omega arith) (omega arith) shut)
   | inr miss ↦
       let h = ltb-false _ _ miss in
@@ -289,10 +291,10 @@ not_close (negated at inner l s p i q) = mark_head m.Minus (is_mark m.Close) s
 not_close (inverted at inner l s i q) = keyword_head w.Not (is_mark m.Close) s
 not_close (binary op a b l s o t q) = not_close s
 
-member_again : {ts us vs : Tokens} {x : Identifier} → Passes (mark m.Dot) ts us → Is name us x vs
+member_complete : {ts us vs : Tokens} {x : Identifier} → Passes (mark m.Dot) ts us → Is name us x vs
     → member_at ts ≡ Ok (e.member x, vs)
 unfolding member_at
-member_again d n = rw (one_again d.1, one_again n) refl
+member_complete d n = rw (one_complete d.1, one_complete n) refl
 
 dot_selector : (expr : ℕ → Parser Expr) {ts us : Tokens} → Passes (mark m.Dot) ts us
     → selector_at expr ts ≡ member_at ts
@@ -304,31 +306,31 @@ bracket_selector : (expr : ℕ → Parser Expr) {ts us : Tokens} → Passes (mar
 unfolding selector_at same_mark
 bracket_selector expr o = let h = mark_head m.OpenBracket (is_mark m.Dot) o.1 in rw h refl
 
-subscript_again : (expr : ℕ → Parser Expr) {ts us vs ws : Tokens} {x : Expr} → Passes (mark m.OpenBracket) ts us
+subscript_complete : (expr : ℕ → Parser Expr) {ts us vs ws : Tokens} {x : Expr} → Passes (mark m.OpenBracket) ts us
     → expr 1 us ≡ Ok (x, vs) → Passes (mark m.CloseBracket) vs ws → subscript_at expr ts ≡ Ok (e.subscript x, ws)
 unfolding subscript_at
-subscript_again expr o eq c = rw (one_again o.1, eq, one_again c.1) refl
+subscript_complete expr o eq c = rw (one_complete o.1, eq, one_complete c.1) refl
 
 selector_next : {ts us : Tokens} {s : Selector} → IsSelector ts s us → next starts_selector ts ≡ true
 unfolding same_mark
 selector_next (member x d n q) = mark_head m.Dot starts_selector d.1
 selector_next (subscript x o i c q) = mark_head m.OpenBracket starts_selector o.1
 
-no_arguments_again : (expr : ℕ → Parser Expr) {ts us : Tokens} → Passes (mark m.Close) ts us
+no_arguments_complete : (expr : ℕ → Parser Expr) {ts us : Tokens} → Passes (mark m.Close) ts us
     → arguments_at expr ts ≡ Ok ([], ts)
 unfolding arguments_at same_mark
-no_arguments_again expr c = let h = mark_head m.Close (is_mark m.Close) c.1 in rw h refl
+no_arguments_complete expr c = let h = mark_head m.Close (is_mark m.Close) c.1 in rw h refl
 
-arguments_again : (expr : ℕ → Parser Expr) {ts us vs : Tokens} {x : Expr} {xs : List Expr}
+arguments_complete : (expr : ℕ → Parser Expr) {ts us vs : Tokens} {x : Expr} {xs : List Expr}
     → next (is_mark m.Close) ts ≡ false → expr 1 ts ≡ Ok (x, us)
     → Repeats (is_mark m.Comma) (after_comma (expr 1)) us xs vs → arguments_at expr ts ≡ Ok (x ∷ xs, vs)
 unfolding arguments_at
-arguments_again expr other eq r = rw other (listed_again (expr 1) eq r)
+arguments_complete expr other eq r = rw other (listed_complete (expr 1) eq r)
 
 selectors_are : (expr : ℕ → Parser Expr) (ts us : Tokens) (xs : List Selector)
     → Repeats starts_selector (selector_at expr) ts xs us → selectors_at expr ts ≡ Ok (xs, us)
 unfolding selectors_at
-selectors_are expr ts us xs r = several_again starts_selector (selector_at expr) ts us [] xs r
+selectors_are expr ts us xs r = several_complete starts_selector (selector_at expr) ts us [] xs r
 
 close_no_comma : {ts us : Tokens} → Passes (mark m.Close) ts us → next (is_mark m.Comma) ts ≡ false
 unfolding same_mark
@@ -338,35 +340,35 @@ selector_is : (p q : Selector) (r : Outcome Selector) (us : Tokens) → p ≡ q 
 selector_is p q r us eq same = rw eq same
 
 mutual
-  pub read_again : {k : ℕ} {ts us : Tokens} {x : Expr} → IsExpr k ts x us → Read k ts x us
-  read_again (literal {k} {ts} {us} {x} l i q) =
-      as_read x k ts us q (read_operand k ts us (e.literal l) (λ below low shut. literal_again (expr_at below) i))
-  read_again (variable {k} {ts} {us} {x} v i q) =
+  pub read_complete : {k : ℕ} {ts us : Tokens} {x : Expr} → IsExpr k ts x us → Read k ts x us
+  read_complete (literal {k} {ts} {us} {x} l i q) =
+      as_read x k ts us q (read_operand k ts us (e.literal l) (λ below low shut. literal_complete (expr_at below) i))
+  read_complete (variable {k} {ts} {us} {x} v i q) =
       as_read x k ts us q (read_operand k ts us (e.read v) (λ below low shut. operand_variable i below low shut))
-  read_again (call {k} {ts} {us} {vs} {ws} {zs} {x} f es n o s c q) =
+  read_complete (call {k} {ts} {us} {vs} {ws} {zs} {x} f es n o s c q) =
       as_read x k ts zs q (read_operand k ts zs (e.call f (exprs_of es)) (λ below low shut.
-      call_again (expr_at below) n o (all_arguments_again s c below (omega arith)) c))
-  read_again (parenthesis {k} {ts} {us} {vs} {ws} {x} at inner o s c q) =
-      let deeper = read_again s in
+      call_complete (expr_at below) n o (all_arguments_complete s c below (omega arith)) c))
+  read_complete (parenthesis {k} {ts} {us} {vs} {ws} {x} at inner o s c q) =
+      let deeper = read_complete s in
       as_read x k ts ws q (read_operand k ts ws (e.parenthesis at inner) (λ below low shut.
       let stop = stops_all vs (close_stops c) in
-      parenthesis_again (expr_at below) o
-      (whole_again below 1 1 us vs inner deeper (omega arith) (omega arith) (omega arith) stop.1 stop.0) c))
-  read_again (negative {k} {ts} {us} {vs} {x} at n l s i q) = as_read x k ts vs q (read_signed k ts vs
-      (e.literal (literals.Number (negative_at at n))) l (λ below low shut. negative_again (expr_at below) s i))
-  read_again (negated {k} {ts} {us} {vs} {x} at inner l s p i q) =
-      let deeper = read_again i in
+      parenthesis_complete (expr_at below) o
+      (whole_complete below 1 1 us vs inner deeper (omega arith) (omega arith) (omega arith) stop.1 stop.0) c))
+  read_complete (negative {k} {ts} {us} {vs} {x} at n l s i q) = as_read x k ts vs q (read_signed k ts vs
+      (e.literal (literals.Number (negative_at at n))) l (λ below low shut. negative_complete (expr_at below) s i))
+  read_complete (negated {k} {ts} {us} {vs} {x} at inner l s p i q) =
+      let deeper = read_complete i in
       as_read x k ts vs q (read_signed k ts vs (e.unary Negate at inner) l (λ below low shut.
-      negated_again (expr_at below) s p
-      (whole_again below 9 9 us vs inner deeper (omega arith) (omega arith) (omega arith) shut (none_binds vs))))
-  read_again (inverted {k} {ts} {us} {vs} {x} at inner l s i q) =
-      let deeper = read_again i in
+      negated_complete (expr_at below) s p
+      (whole_complete below 9 9 us vs inner deeper (omega arith) (omega arith) (omega arith) shut (none_binds vs))))
+  read_complete (inverted {k} {ts} {us} {vs} {x} at inner l s i q) =
+      let deeper = read_complete i in
       as_read x k ts vs q (read_signed k ts vs (e.unary Not at inner) l (λ below low shut.
-      inverted_again (expr_at below) s
-      (whole_again below 9 9 us vs inner deeper (omega arith) (omega arith) (omega arith) shut (none_binds vs))))
-  read_again (binary {k} {ts} {us} {vs} {ws} {x} op a b l s o t q) =
-      let left = read_again s in
-      let right = read_again t in
+      inverted_complete (expr_at below) s
+      (whole_complete below 9 9 us vs inner deeper (omega arith) (omega arith) (omega arith) shut (none_binds vs))))
+  read_complete (binary {k} {ts} {us} {vs} {ws} {x} op a b l s o t q) =
+      let left = read_complete s in
+      let right = read_complete t in
       let small = binds_small op in
       let less = is_less o in
       let less' = expr_less t in
@@ -376,7 +378,7 @@ mutual
             left.first below least (omega arith) (omega arith) fits (operator_closes o)
             (operator_passes (binds_of op + 1) o (omega arith)) y zs
             (turns_on below least us vs ws zs op a b y (omega arith) (omega arith) o (omega arith)
-            (whole_again below (binds_of op + 1) (binds_of op + 1) vs ws b right (omega arith) (omega arith)
+            (whole_complete below (binds_of op + 1) (binds_of op + 1) vs ws b right (omega arith) (omega arith)
             (omega arith) shut (stops_later (k + 1) (binds_of op + 1) ws (omega arith) stop)) turn);
       })
 
@@ -385,59 +387,60 @@ mutual
   operand_variable (selected {ts} {us} {vs} {v} x xs n s q) below low shut =
       let low' : depth_of_variable (e.variable x (selectors_of xs)) ≤ below + 1 =
       subst (λ (z : Variable). depth_of_variable z ≤ below + 1) q low in
-      rw q (variable_again (expr_at below) n (open_first s shut.1)
-      (selectors_are (expr_at below) us vs xs (selectors_again s below (omega arith) shut.0)))
+      rw q (variable_complete (expr_at below) n (open_first s shut.1)
+      (selectors_are (expr_at below) us vs xs (selectors_complete s below (omega arith) shut.0)))
 
-  pub selectors_again : {ts us : Tokens} {xs : List Selector} → IsSelectors ts xs us → (below : ℕ)
+  pub selectors_complete : {ts us : Tokens} {xs : List Selector} → IsSelectors ts xs us → (below : ℕ)
       → deepest_subscript (selectors_of xs) ≤ below → next starts_selector us ≡ false
       → Repeats starts_selector (selector_at (expr_at below)) ts xs us
-  selectors_again (no_selector {ts}) below low stop = repeats_halt starts_selector (selector_at (expr_at below)) ts stop
-  selectors_again (selector {ts} {us} {vs} {x} {xs} i r) below low stop =
+  selectors_complete (no_selector {ts}) below low stop =
+      repeats_halt starts_selector (selector_at (expr_at below)) ts stop
+  selectors_complete (selector {ts} {us} {vs} {x} {xs} i r) below low stop =
       let less = selector_less i in
       repeats_step starts_selector (selector_at (expr_at below)) ts us vs x xs (selector_next i)
-      (selector_again i below (omega arith)) less (selectors_again r below (omega arith) stop)
+      (selector_complete i below (omega arith)) less (selectors_complete r below (omega arith) stop)
 
-  selector_again : {ts us : Tokens} {s : Selector} → IsSelector ts s us → (below : ℕ) → depth_of_subscript s ≤ below
+  selector_complete : {ts us : Tokens} {s : Selector} → IsSelector ts s us → (below : ℕ) → depth_of_subscript s ≤ below
       → selector_at (expr_at below) ts ≡ Ok (s, us)
-  selector_again (member {ts} {us} {vs} {s} x d n q) below low =
-      rw q (dot_selector (expr_at below) d ∙ member_again d n)
-  selector_again (subscript {ts} {us} {vs} {ws} {s} x o i c q) below low =
+  selector_complete (member {ts} {us} {vs} {s} x d n q) below low =
+      rw q (dot_selector (expr_at below) d ∙ member_complete d n)
+  selector_complete (subscript {ts} {us} {vs} {ws} {s} x o i c q) below low =
       let low' : depth_of_subscript (e.subscript x) ≤ below =
       subst (λ (z : Selector). depth_of_subscript z ≤ below) q low in
       let stop = stops_all vs (bracket_stops c) in
-      rw q (bracket_selector (expr_at below) o ∙ subscript_again (expr_at below) o
-      (whole_again below 1 1 us vs x (read_again i) low' (omega arith) (omega arith) stop.1 stop.0) c)
+      rw q (bracket_selector (expr_at below) o ∙ subscript_complete (expr_at below) o
+      (whole_complete below 1 1 us vs x (read_complete i) low' (omega arith) (omega arith) stop.1 stop.0) c)
 
-  all_arguments_again : {ts us vs : Tokens} {xs : List Expr} → IsArguments ts xs us → Passes (mark m.Close) us vs
+  all_arguments_complete : {ts us vs : Tokens} {xs : List Expr} → IsArguments ts xs us → Passes (mark m.Close) us vs
       → (below : ℕ) → deepest (exprs_of xs) ≤ below → arguments_at (expr_at below) ts ≡ Ok (xs, us)
-  all_arguments_again (no_argument {ts}) c below low = no_arguments_again (expr_at below) c
-  all_arguments_again (argument {ts} {us} {vs} {x} {xs} i r) c below low =
+  all_arguments_complete (no_argument {ts}) c below low = no_arguments_complete (expr_at below) c
+  all_arguments_complete (argument {ts} {us} {vs} {x} {xs} i r) c below low =
       let stop = stops_all us (rest_stops r c) in
-      arguments_again (expr_at below) (not_close i) (whole_again below 1 1 ts us x (read_again i) (omega arith)
-      (omega arith) (omega arith) stop.1 stop.0) (rest_again r c below (omega arith))
+      arguments_complete (expr_at below) (not_close i) (whole_complete below 1 1 ts us x (read_complete i) (omega arith)
+      (omega arith) (omega arith) stop.1 stop.0) (rest_complete r c below (omega arith))
 
-  rest_again : {ts us vs : Tokens} {xs : List Expr} → IsMoreArguments ts xs us → Passes (mark m.Close) us vs
+  rest_complete : {ts us vs : Tokens} {xs : List Expr} → IsMoreArguments ts xs us → Passes (mark m.Close) us vs
       → (below : ℕ) → deepest (exprs_of xs) ≤ below → Repeats (is_mark m.Comma) (after_comma (expr_at below 1)) ts xs us
-  rest_again (no_more_arguments {ts}) c below low =
+  rest_complete (no_more_arguments {ts}) c below low =
       repeats_halt (is_mark m.Comma) (after_comma (expr_at below 1)) ts (close_no_comma c)
-  rest_again (next_argument {ts} {us} {vs} {ws} {x} {xs} p i r) c below low =
+  rest_complete (next_argument {ts} {us} {vs} {ws} {x} {xs} p i r) c below low =
       let stop = stops_all vs (rest_stops r c) in
       let less = is_less p.1 in
       let less' = expr_less i in
       repeats_step (is_mark m.Comma) (after_comma (expr_at below 1)) ts vs ws x xs (comma_next p)
-      (after_comma_again (expr_at below 1) p (whole_again below 1 1 us vs x (read_again i) (omega arith)
-      (omega arith) (omega arith) stop.1 stop.0)) (omega arith) (rest_again r c below (omega arith))
+      (after_comma_complete (expr_at below 1) p (whole_complete below 1 1 us vs x (read_complete i) (omega arith)
+      (omega arith) (omega arith) stop.1 stop.0)) (omega arith) (rest_complete r c below (omega arith))
 
 -- ---- for those above
 
-pub expr_again : (depth : ℕ) {ts us : Tokens} {x : Expr} → IsExpr 1 ts x us → depth_of x ≤ depth → Stops us
+pub expr_complete : (depth : ℕ) {ts us : Tokens} {x : Expr} → IsExpr 1 ts x us → depth_of x ≤ depth → Stops us
     → expr_at depth 1 ts ≡ Ok (x, us)
-expr_again depth {ts = ts} {us = us} {x = x} i low stop = let s = stops_all us stop in
-    whole_again depth 1 1 ts us x (read_again i) low (omega arith) (omega arith) s.1 s.0
+expr_complete depth {ts = ts} {us = us} {x = x} i low stop = let s = stops_all us stop in
+    whole_complete depth 1 1 ts us x (read_complete i) low (omega arith) (omega arith) s.1 s.0
 
-pub variable_of_again : (depth : ℕ) (us vs : Tokens) (x : Identifier) (xs : List Selector) → IsSelectors us xs vs
+pub variable_of_complete : (depth : ℕ) (us vs : Tokens) (x : Identifier) (xs : List Selector) → IsSelectors us xs vs
     → deepest_subscript (selectors_of xs) ≤ depth → next starts_selector vs ≡ false
     → variable_of (expr_at depth) x us ≡ Ok (e.variable x (selectors_of xs), vs)
 unfolding variable_of
-variable_of_again depth us vs x xs s low stop =
-    rw (selectors_are (expr_at depth) us vs xs (selectors_again s depth low stop)) refl
+variable_of_complete depth us vs x xs s low stop =
+    rw (selectors_are (expr_at depth) us vs xs (selectors_complete s depth low stop)) refl

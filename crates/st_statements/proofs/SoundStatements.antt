@@ -1,4 +1,4 @@
--- What reading tells of statements.
+-- What is read as statements is some, and what stands before a refusal begins some.
 use Rattle.std.proofs.Common.{◌≡◌, ℕ, zero, suc, ◌+◌, ◌-◌, ◌<◌, ◌≤◌, max, true, false, List, [], ◌∷◌, ◌++◌, length}
 use Rattle.std.proofs.Common.{Option, Some, None, Err, refl, sym, ap, subst, ◌∙◌, arith, append_assoc}
 use Rattle.st_words.specs.declared.identifier.Identifier.{Identifier}
@@ -36,15 +36,15 @@ use Rattle.st_statements.specs.Statements.{empty, assign, invoke, choose, select
 use Rattle.st_statements.specs.Statements.{exit, leave, IsStmts, no_stmt, IsElse, no_else, otherwise, IsArm, arm}
 use Rattle.st_statements.specs.Statements.{IsMoreArms, no_more_arms, elsif, IsCaseArm, case_arm, IsCaseArms}
 use Rattle.st_statements.specs.Statements.{no_case_arm, next_case_arm}
-use Rattle.st_statements.proofs.Told.{Family, Told, Tells, Any, Seq, Made, made, told_agree, told_refuse, told_by_kind}
-use Rattle.st_statements.proofs.Told.{told_too_deep, told_shift}
-use Rattle.st_statements.proofs.Readings.{Reads, told_by, reads_then, reads_pure, reads_as, reads_if, reads_mark}
-use Rattle.st_statements.proofs.Readings.{reads_keyword, reads_name, reads_number, token_of, an_identifier, mark_at}
-use Rattle.st_statements.proofs.Readings.{keyword_at}
-use Rattle.st_statements.proofs.Lists.{reads_several, reads_listed}
+use Rattle.st_statements.proofs.Sound.{Family, Told, Tells, Any, Seq, Made, made, told_agree, told_refuse, told_by_kind}
+use Rattle.st_statements.proofs.Sound.{told_too_deep, told_shift}
+use Rattle.st_statements.proofs.SoundReadings.{Sound, told_by, sound_then, sound_pure, sound_as, sound_if, sound_mark}
+use Rattle.st_statements.proofs.SoundReadings.{sound_keyword, sound_name, sound_number, token_of, an_identifier}
+use Rattle.st_statements.proofs.SoundReadings.{mark_at, keyword_at}
+use Rattle.st_statements.proofs.SoundLists.{sound_several, sound_listed}
 use Rattle.st_statements.proofs.ExpressionFacts.{depth_some, expr_begins, a_name, name_is}
-use Rattle.st_statements.proofs.ToldExpressions.{LowExpr, LowVariable, Selected, selected_is, reads_selected, told_expr}
-use Rattle.st_statements.proofs.ToldExpressions.{told_variable, variable_begins}
+use Rattle.st_statements.proofs.SoundExpressions.{LowExpr, LowVariable, Selected, selected_is, sound_selected}
+use Rattle.st_statements.proofs.SoundExpressions.{told_expr, told_variable, variable_begins}
 use Rattle.st_statements.proofs.StatementFacts.{IsLine, line_less, line_then, argument_less, label_less, arm_less}
 use Rattle.st_statements.proofs.StatementFacts.{case_arm_less, each_stmt, each_argument, each_arm, each_case_arm}
 
@@ -76,21 +76,21 @@ is_single_label : (n : NumberLeaf) (us : Tokens) (l : Label) (vs : Tokens) → M
     → AfterNumber n us l vs
 is_single_label n us l vs (made eq) ts j = single n j eq
 
-reads_range_of : {C : Type 0} (n : NumberLeaf) → Reads C (λ e. range_of n) (AfterNumber n) Any
+sound_range_of : {C : Type 0} (n : NumberLeaf) → Sound C (λ e. range_of n) (AfterNumber n) Any
 unfolding range_of
-reads_range_of n = reads_as (is_range n) (λ x us d. d) (reads_then (reads_mark m.Range)
-    (λ at. reads_then reads_number (λ k. reads_pure (label_forms.Range n k) Any (λ c us. tt))))
+sound_range_of n = sound_as (is_range n) (λ x us d. d) (sound_then (sound_mark m.Range)
+    (λ at. sound_then sound_number (λ k. sound_pure (label_forms.Range n k) Any (λ c us. tt))))
 
-reads_label : {C : Type 0} → Reads C (λ e. label_at) IsLabel Any
+sound_label : {C : Type 0} → Sound C (λ e. label_at) IsLabel Any
 unfolding label_at
-reads_label = reads_as (λ ts l us p. p.3 ts p.2) (λ x us d. d)
-    (reads_then reads_number (λ n. reads_if (is_mark m.Range) (reads_range_of n)
-    (reads_as (is_single_label n) (λ x us d. d) (reads_pure (label_forms.Single n) Any (λ c us. tt)))))
+sound_label = sound_as (λ ts l us p. p.3 ts p.2) (λ x us d. d)
+    (sound_then sound_number (λ n. sound_if (is_mark m.Range) (sound_range_of n)
+    (sound_as (is_single_label n) (λ x us d. d) (sound_pure (label_forms.Single n) Any (λ c us. tt)))))
 
-reads_labels : {C : Type 0} → Reads C (λ e. listed label_at) IsLabels Any
-reads_labels = reads_as (λ ts x us p. p) (λ x us d. tt)
-    (reads_listed (λ e. label_at) IsLabel IsMoreLabels IsLabels (λ l. Unit {0}) (λ ts. no_more_labels) (λ ts us x vs xs
-    ws c o r. next_label c o r) (λ ts x us o. label_less o) (λ ts x us xs vs o r. labels o r) reads_label)
+sound_labels : {C : Type 0} → Sound C (λ e. listed label_at) IsLabels Any
+sound_labels = sound_as (λ ts x us p. p) (λ x us d. tt)
+    (sound_listed (λ e. label_at) IsLabel IsMoreLabels IsLabels (λ l. Unit {0}) (λ ts. no_more_labels) (λ ts us x vs xs
+    ws c o r. next_label c o r) (λ ts x us o. label_less o) (λ ts x us xs vs o r. labels o r) sound_label)
 
 -- ---- leaves
 
@@ -98,19 +98,19 @@ is_exit : (ts : Tokens) (x : Stmt) (us : Tokens) → Seq (Is (keyword w.Exit)) (
     → IsStmt ts x us
 is_exit ts x us (at, vs, o, made eq) = exit at o eq
 
-reads_exit : {C : Type 0} (n : ℕ) → Reads C (λ e. exit_at) IsStmt (LowStmt (n + 1))
+sound_exit : {C : Type 0} (n : ℕ) → Sound C (λ e. exit_at) IsStmt (LowStmt (n + 1))
 unfolding exit_at
-reads_exit n = reads_as is_exit (λ x us d. d)
-    (reads_then (reads_keyword w.Exit) (λ at. reads_pure (s.EXIT at) (LowStmt (n + 1)) (λ c us. omega arith)))
+sound_exit n = sound_as is_exit (λ x us d. d)
+    (sound_then (sound_keyword w.Exit) (λ at. sound_pure (s.EXIT at) (LowStmt (n + 1)) (λ c us. omega arith)))
 
 is_return : (ts : Tokens) (x : Stmt) (us : Tokens) → Seq (Is (keyword w.Return)) (λ at. Made s.RETURN) ts x us
     → IsStmt ts x us
 is_return ts x us (at, vs, o, made eq) = leave (at, o) eq
 
-reads_return : {C : Type 0} (n : ℕ) → Reads C (λ e. return_at) IsStmt (LowStmt (n + 1))
+sound_return : {C : Type 0} (n : ℕ) → Sound C (λ e. return_at) IsStmt (LowStmt (n + 1))
 unfolding return_at
-reads_return n = reads_as is_return (λ x us d. d)
-    (reads_then (reads_keyword w.Return) (λ at. reads_pure s.RETURN (LowStmt (n + 1)) (λ c us. omega arith)))
+sound_return n = sound_as is_return (λ x us d. d)
+    (sound_then (sound_keyword w.Return) (λ at. sound_pure s.RETURN (LowStmt (n + 1)) (λ c us. omega arith)))
 
 -- ---- expressions one level down
 
@@ -152,11 +152,11 @@ abbrev pub LowStep : ℕ → Option Expr → Tokens → Type 0
 LowStep depth o us = depth_of_step o ≤ depth
 
 module _ (below : ℕ) where
-  pub reads_expr : {C : Type 0} → Reads C (λ n. expr_at (below + n) 1) (IsExpr 1) (LowExpr below 1)
-  reads_expr = record { begins = expr_begins 1; tells = λ c. told_expr below 1 (omega arith) }
+  pub sound_expr : {C : Type 0} → Sound C (λ n. expr_at (below + n) 1) (IsExpr 1) (LowExpr below 1)
+  sound_expr = record { begins = expr_begins 1; tells = λ c. told_expr below 1 (omega arith) }
 
-  reads_variable : {C : Type 0} → Reads C (λ n. variable_at (below + n)) IsVariable (LowVariable below)
-  reads_variable = record { begins = variable_begins; tells = λ c. told_variable below }
+  sound_variable : {C : Type 0} → Sound C (λ n. variable_at (below + n)) IsVariable (LowVariable below)
+  sound_variable = record { begins = variable_begins; tells = λ c. told_variable below }
 
   abbrev Target : Identifier → Family Variable
   Target x n = variable_of (expr_at ((below + n) - 1)) x
@@ -176,70 +176,70 @@ module _ (below : ℕ) where
       rw k (told_agree (λ n. variable_of (expr_at ((below - 1) + shifted n)) x) (Target x) (Selected x) (LowVariable
       ((below - 1) + 1)) ts (variable_of (expr_at ((below - 1) + 0)) x ts) (λ n more same. target_is x n more)
       (told_shift (λ n. variable_of (expr_at ((below - 1) + n)) x) shifted (Selected x) (LowVariable ((below - 1) + 1))
-      h ts (variable_of (expr_at ((below - 1) + 0)) x ts) (told_by (reads_selected (below - 1) x) ts)))
+      h ts (variable_of (expr_at ((below - 1) + 0)) x ts) (told_by (sound_selected (below - 1) x) ts)))
 
-  reads_target : {C : Type 0} (x : Identifier) → Reads C (Target x) (Selected x) (LowVariable ((below - 1) + 1))
-  reads_target x = record { begins = (reads_selected {C = Unit {0}} (below - 1) x).begins; tells = λ c. told_target x }
+  sound_target : {C : Type 0} (x : Identifier) → Sound C (Target x) (Selected x) (LowVariable ((below - 1) + 1))
+  sound_target x = record { begins = (sound_selected {C = Unit {0}} (below - 1) x).begins; tells = λ c. told_target x }
 
   assign_low : (d v x : ℕ) → v ≤ (d - 1) + 1 → x ≤ d → 1 ≤ x → max v x + 1 ≤ d + 1
   assign_low d v x a b c = omega arith
 
-  reads_assign_of : {C : Type 0} (x : Identifier)
-      → Reads C (λ n. assign_of (below + n) x) (AfterName x) (LowStmt (below + 1))
+  sound_assign_of : {C : Type 0} (x : Identifier)
+      → Sound C (λ n. assign_of (below + n) x) (AfterName x) (LowStmt (below + 1))
   unfolding assign_of
-  reads_assign_of x = reads_as (is_assign x) (λ y us d. d)
-      (reads_then (reads_target x) (λ v. reads_then (reads_mark m.Assign) (λ at. reads_then reads_expr (λ value.
-      reads_pure (s.assign v value) (LowStmt (below + 1))
+  sound_assign_of x = sound_as (is_assign x) (λ y us d. d)
+      (sound_then (sound_target x) (λ v. sound_then (sound_mark m.Assign) (λ at. sound_then sound_expr (λ value.
+      sound_pure (s.assign v value) (LowStmt (below + 1))
       (λ c us. assign_low below (depth_of_variable v) (depth_of value) c.0.0.1.1 c.1.1.0 (depth_some value))))))
 
-  reads_given_of : {C : Type 0} (x : Identifier)
-      → Reads C (λ n. given_of (below + n) x) (AfterParameter x) (LowArgument below)
+  sound_given_of : {C : Type 0} (x : Identifier)
+      → Sound C (λ n. given_of (below + n) x) (AfterParameter x) (LowArgument below)
   unfolding given_of
-  reads_given_of x = reads_as (is_given x) (λ y us d. d) (reads_then (reads_mark m.Assign)
-      (λ at. reads_then reads_expr (λ v. reads_pure (s.given x v) (LowArgument below) (λ c us. c.1.1.0))))
+  sound_given_of x = sound_as (is_given x) (λ y us d. d) (sound_then (sound_mark m.Assign)
+      (λ at. sound_then sound_expr (λ v. sound_pure (s.given x v) (LowArgument below) (λ c us. c.1.1.0))))
 
-  reads_copied_of : {C : Type 0} (x : Identifier)
-      → Reads C (λ n. copied_of (below + n) x) (AfterParameter x) (LowArgument below)
+  sound_copied_of : {C : Type 0} (x : Identifier)
+      → Sound C (λ n. copied_of (below + n) x) (AfterParameter x) (LowArgument below)
   unfolding copied_of
-  reads_copied_of x = reads_as (is_copied x) (λ y us d. d) (reads_then (reads_mark m.Arrow)
-      (λ at. reads_then reads_variable (λ v. reads_pure (s.copied x v) (LowArgument below) (λ c us. c.1.1))))
+  sound_copied_of x = sound_as (is_copied x) (λ y us d. d) (sound_then (sound_mark m.Arrow)
+      (λ at. sound_then sound_variable (λ v. sound_pure (s.copied x v) (LowArgument below) (λ c us. c.1.1))))
 
-  reads_argument : {C : Type 0} → Reads C (λ n. argument_at (below + n)) IsArgument (LowArgument below)
+  sound_argument : {C : Type 0} → Sound C (λ n. argument_at (below + n)) IsArgument (LowArgument below)
   unfolding argument_at
-  reads_argument = reads_as (λ ts y us p. p.3 ts p.2) (λ y us d. d)
-      (reads_then reads_name (λ x. reads_if (is_mark m.Assign) (reads_given_of x) (reads_copied_of x)))
+  sound_argument = sound_as (λ ts y us p. p.3 ts p.2) (λ y us d. d)
+      (sound_then sound_name (λ x. sound_if (is_mark m.Assign) (sound_given_of x) (sound_copied_of x)))
 
-  reads_arguments : {C : Type 0}
-      → Reads C (λ n. arguments_at (below + n)) IsArguments (λ xs us. deepest_argument xs ≤ below)
+  sound_arguments : {C : Type 0}
+      → Sound C (λ n. arguments_at (below + n)) IsArguments (λ xs us. deepest_argument xs ≤ below)
   unfolding arguments_at
-  reads_arguments = reads_if (is_mark m.Close)
-      (reads_as no_arguments (λ x us d. d) (reads_pure [] (λ xs us. deepest_argument xs ≤ below) (λ c us. omega arith)))
-      (reads_as (λ ts xs us p. p) (λ xs us d. each_argument below xs d.0)
-      (reads_listed (λ n. argument_at (below + n)) IsArgument IsMoreArguments IsArguments
+  sound_arguments = sound_if (is_mark m.Close)
+      (sound_as no_arguments (λ x us d. d) (sound_pure [] (λ xs us. deepest_argument xs ≤ below) (λ c us. omega arith)))
+      (sound_as (λ ts xs us p. p) (λ xs us d. each_argument below xs d.0)
+      (sound_listed (λ n. argument_at (below + n)) IsArgument IsMoreArguments IsArguments
       (λ x. depth_of_argument x ≤ below) (λ ts. no_more_arguments) (λ ts us x vs xs ws c o r. next_argument c o r)
-      (λ ts x us o. argument_less o) (λ ts x us xs vs o r. argument o r) reads_argument))
+      (λ ts x us o. argument_less o) (λ ts x us xs vs o r. argument o r) sound_argument))
 
-  reads_invoke_of : {C : Type 0} (f : Identifier)
-      → Reads C (λ n. invoke_of (below + n) f) (AfterName f) (LowStmt (below + 1))
+  sound_invoke_of : {C : Type 0} (f : Identifier)
+      → Sound C (λ n. invoke_of (below + n) f) (AfterName f) (LowStmt (below + 1))
   unfolding invoke_of
-  reads_invoke_of f = reads_as (is_invoke f) (λ y us d. d)
-      (reads_then (reads_mark m.Open) (λ at. reads_then reads_arguments (λ xs. reads_then (reads_mark m.Close) (λ end.
-      reads_pure (s.invoke f xs) (LowStmt (below + 1)) (λ c us. let l = c.0.1.1 in omega arith)))))
+  sound_invoke_of f = sound_as (is_invoke f) (λ y us d. d)
+      (sound_then (sound_mark m.Open) (λ at. sound_then sound_arguments (λ xs. sound_then (sound_mark m.Close) (λ end.
+      sound_pure (s.invoke f xs) (LowStmt (below + 1)) (λ c us. let l = c.0.1.1 in omega arith)))))
 
-  reads_named : {C : Type 0} → Reads C (λ n. named_at (below + n)) IsStmt (LowStmt (below + 1))
+  sound_named : {C : Type 0} → Sound C (λ n. named_at (below + n)) IsStmt (LowStmt (below + 1))
   unfolding named_at
-  reads_named = reads_as (λ ts y us p. p.3 ts p.2) (λ y us d. d)
-      (reads_then reads_name (λ x. reads_if (is_mark m.Open) (reads_invoke_of x) (reads_assign_of x)))
+  sound_named = sound_as (λ ts y us p. p.3 ts p.2) (λ y us d. d)
+      (sound_then sound_name (λ x. sound_if (is_mark m.Open) (sound_invoke_of x) (sound_assign_of x)))
 
-  reads_by : {C : Type 0} → Reads C (λ n. by_at (below + n)) IsStep (LowStep below)
+  sound_by : {C : Type 0} → Sound C (λ n. by_at (below + n)) IsStep (LowStep below)
   unfolding by_at
-  reads_by = reads_as is_by (λ x us d. d) (reads_then (reads_keyword w.By)
-      (λ at. reads_then reads_expr (λ x. reads_pure (Some x) (LowStep below) (λ c us. c.1.1.0))))
+  sound_by = sound_as is_by (λ x us d. d) (sound_then (sound_keyword w.By)
+      (λ at. sound_then sound_expr (λ x. sound_pure (Some x) (LowStep below) (λ c us. c.1.1.0))))
 
-  reads_step : {C : Type 0} → Reads C (λ n. step_at (below + n)) IsStep (LowStep below)
+  sound_step : {C : Type 0} → Sound C (λ n. step_at (below + n)) IsStep (LowStep below)
   unfolding step_at
-  reads_step = reads_if (is_keyword w.By) reads_by
-      (reads_as no_by (λ x us d. d) (reads_pure None (LowStep below) (λ c us. omega arith)))
+  sound_step = sound_if (is_keyword w.By) sound_by
+      (sound_as no_by (λ x us d. d) (sound_pure None (LowStep below) (λ c us. omega arith)))
 
 -- ---- statements one level down
 
@@ -334,119 +334,119 @@ pub stmts_begins : Begins IsStmts []
 stmts_begins = record { more = []; tree = []; whole = λ after. no_stmt }
 
 module _ (below : ℕ) (stmts : ℕ → Parser (List Stmt)) (tells : Tells stmts IsStmts (LowStmts below)) where
-  reads_stmts : {C : Type 0} → Reads C stmts IsStmts (LowStmts below)
-  reads_stmts = record { begins = stmts_begins; tells = λ c. tells }
+  sound_stmts : {C : Type 0} → Sound C stmts IsStmts (LowStmts below)
+  sound_stmts = record { begins = stmts_begins; tells = λ c. tells }
 
-  reads_arm : {C : Type 0} → Reads C (λ n. arm_at (below + n) (stmts n)) IsArm (LowArm below)
+  sound_arm : {C : Type 0} → Sound C (λ n. arm_at (below + n) (stmts n)) IsArm (LowArm below)
   unfolding arm_at
-  reads_arm = reads_as is_arm (λ x us d. d)
-      (reads_then (reads_expr below) (λ x. reads_then (reads_keyword w.Then) (λ at. reads_then reads_stmts (λ body.
-      reads_pure (x, stmts_of body) (LowArm below) (λ c us. let a = c.0.0.1.1.0 in let b = c.1.1 in omega arith)))))
+  sound_arm = sound_as is_arm (λ x us d. d)
+      (sound_then (sound_expr below) (λ x. sound_then (sound_keyword w.Then) (λ at. sound_then sound_stmts (λ body.
+      sound_pure (x, stmts_of body) (LowArm below) (λ c us. let a = c.0.0.1.1.0 in let b = c.1.1 in omega arith)))))
 
-  reads_elsif : {C : Type 0} → Reads C (λ n. elsif_at (below + n) (stmts n)) Elsif (LowArm below)
+  sound_elsif : {C : Type 0} → Sound C (λ n. elsif_at (below + n) (stmts n)) Elsif (LowArm below)
   unfolding elsif_at
-  reads_elsif = reads_then (reads_keyword w.Elsif) (λ at. reads_arm)
+  sound_elsif = sound_then (sound_keyword w.Elsif) (λ at. sound_arm)
 
-  reads_otherwise : {C : Type 0} → Reads C (λ n. otherwise_at (below + n) (stmts n)) IsElse (LowStmts below)
+  sound_otherwise : {C : Type 0} → Sound C (λ n. otherwise_at (below + n) (stmts n)) IsElse (LowStmts below)
   unfolding otherwise_at
-  reads_otherwise = reads_as is_otherwise (λ x us d. d) (reads_then (reads_keyword w.Else) (λ at. reads_stmts))
+  sound_otherwise = sound_as is_otherwise (λ x us d. d) (sound_then (sound_keyword w.Else) (λ at. sound_stmts))
 
-  reads_else : {C : Type 0} → Reads C (λ n. else_at (below + n) (stmts n)) IsElse (LowStmts below)
+  sound_else : {C : Type 0} → Sound C (λ n. else_at (below + n) (stmts n)) IsElse (LowStmts below)
   unfolding else_at
-  reads_else = reads_if (is_keyword w.Else) reads_otherwise
-      (reads_as is_no_else (λ x us d. d) (reads_pure [] (LowStmts below) (λ c us. omega arith)))
+  sound_else = sound_if (is_keyword w.Else) sound_otherwise
+      (sound_as is_no_else (λ x us d. d) (sound_pure [] (LowStmts below) (λ c us. omega arith)))
 
-  reads_arms : {C : Type 0} (a : Arm) → (C → max (depth_of a.0) (deepest_stmt a.1) ≤ below)
-      → Reads C (λ n. several (is_keyword w.Elsif) (elsif_at (below + n) (stmts n)) (a ∷ [])) (Arms a)
+  sound_arms : {C : Type 0} (a : Arm) → (C → max (depth_of a.0) (deepest_stmt a.1) ≤ below)
+      → Sound C (λ n. several (is_keyword w.Elsif) (elsif_at (below + n) (stmts n)) (a ∷ [])) (Arms a)
       (λ xs us. deepest_arm (arms_of xs) ≤ below)
-  reads_arms a low = reads_as (λ ts xs us p. p) (λ xs us d. each_arm below xs d.0)
-      (reads_several (is_keyword w.Elsif) (λ n. elsif_at (below + n) (stmts n)) Elsif IsMoreArms
+  sound_arms a low = sound_as (λ ts xs us p. p) (λ xs us d. each_arm below xs d.0)
+      (sound_several (is_keyword w.Elsif) (λ n. elsif_at (below + n) (stmts n)) Elsif IsMoreArms
       (λ a. max (depth_of a.0) (deepest_stmt a.1) ≤ below) (λ ts. no_more_arms)
-      (λ ts x us xs vs o r. elsif (o.0, o.2) o.3 r) elsif_less (a ∷ []) (λ c. (low c, tt)) reads_elsif)
+      (λ ts x us xs vs o r. elsif (o.0, o.2) o.3 r) elsif_less (a ∷ []) (λ c. (low c, tt)) sound_elsif)
 
-  reads_if_stmt : {C : Type 0} → Reads C (λ n. if_at (below + n) (stmts n)) IsStmt (LowStmt (below + 1))
+  sound_if_stmt : {C : Type 0} → Sound C (λ n. if_at (below + n) (stmts n)) IsStmt (LowStmt (below + 1))
   unfolding if_at
-  reads_if_stmt =
-      reads_as is_if (λ x us d. d) (reads_then (reads_keyword w.If) (λ at. reads_then reads_arm (λ a. reads_then
-      (reads_arms a (λ c. c.1.1)) (λ arms. reads_then reads_else (λ other. reads_then (reads_keyword w.EndIf) (λ end.
-      reads_pure (s.IF (arms_of arms) (stmts_of other)) (LowStmt (below + 1))
+  sound_if_stmt =
+      sound_as is_if (λ x us d. d) (sound_then (sound_keyword w.If) (λ at. sound_then sound_arm (λ a. sound_then
+      (sound_arms a (λ c. c.1.1)) (λ arms. sound_then sound_else (λ other. sound_then (sound_keyword w.EndIf) (λ end.
+      sound_pure (s.IF (arms_of arms) (stmts_of other)) (LowStmt (below + 1))
       (λ c us. let a' = c.0.0.1.1 in let b' = c.0.1.1 in omega arith)))))))
 
-  reads_case_arm : {C : Type 0} → Reads C (λ n. case_arm_at (below + n) (stmts n)) IsCaseArm (LowCaseArm below)
+  sound_case_arm : {C : Type 0} → Sound C (λ n. case_arm_at (below + n) (stmts n)) IsCaseArm (LowCaseArm below)
   unfolding case_arm_at
-  reads_case_arm = reads_as is_case_arm (λ x us d. d) (reads_then reads_labels (λ ls. reads_then (reads_mark m.Colon)
-      (λ at. reads_then reads_stmts (λ body. reads_pure (ls, stmts_of body) (LowCaseArm below) (λ c us. c.1.1)))))
+  sound_case_arm = sound_as is_case_arm (λ x us d. d) (sound_then sound_labels (λ ls. sound_then (sound_mark m.Colon)
+      (λ at. sound_then sound_stmts (λ body. sound_pure (ls, stmts_of body) (LowCaseArm below) (λ c us. c.1.1)))))
 
-  reads_case_arms : {C : Type 0} → Reads C (λ n. several starts_number (case_arm_at (below + n) (stmts n)) []) CaseArms
+  sound_case_arms : {C : Type 0} → Sound C (λ n. several starts_number (case_arm_at (below + n) (stmts n)) []) CaseArms
       (λ xs us. deepest_case_arm (case_arms_of xs) ≤ below)
-  reads_case_arms = reads_as (λ ts xs us p. p) (λ xs us d. each_case_arm below xs d.0)
-      (reads_several starts_number (λ n. case_arm_at (below + n) (stmts n)) IsCaseArm IsCaseArms
+  sound_case_arms = sound_as (λ ts xs us p. p) (λ xs us d. each_case_arm below xs d.0)
+      (sound_several starts_number (λ n. case_arm_at (below + n) (stmts n)) IsCaseArm IsCaseArms
       (λ a. deepest_stmt a.1 ≤ below) (λ ts. no_case_arm) (λ ts x us xs vs o r. next_case_arm o r)
-      (λ ts x us o. case_arm_less o) [] (λ c. tt) reads_case_arm)
+      (λ ts x us o. case_arm_less o) [] (λ c. tt) sound_case_arm)
 
-  reads_case : {C : Type 0} → Reads C (λ n. case_at (below + n) (stmts n)) IsStmt (LowStmt (below + 1))
+  sound_case : {C : Type 0} → Sound C (λ n. case_at (below + n) (stmts n)) IsStmt (LowStmt (below + 1))
   unfolding case_at
-  reads_case = reads_as is_case (λ x us d. d) (reads_then (reads_keyword w.Case)
-      (λ at. reads_then (reads_expr below) (λ x. reads_then (reads_keyword w.Of) (λ of.
-      reads_then reads_case_arms (λ arms. reads_then reads_else (λ other. reads_then (reads_keyword w.EndCase) (λ end.
-      reads_pure (s.CASE x (case_arms_of arms) (stmts_of other)) (LowStmt (below + 1))
+  sound_case = sound_as is_case (λ x us d. d) (sound_then (sound_keyword w.Case)
+      (λ at. sound_then (sound_expr below) (λ x. sound_then (sound_keyword w.Of) (λ of.
+      sound_then sound_case_arms (λ arms. sound_then sound_else (λ other. sound_then (sound_keyword w.EndCase) (λ end.
+      sound_pure (s.CASE x (case_arms_of arms) (stmts_of other)) (LowStmt (below + 1))
       (λ c us. let a' = c.0.0.1.1 in let b' = c.0.1.1 in let d' = c.0.0.0.0.1.1.0 in omega arith))))))))
 
-  reads_for : {C : Type 0} → Reads C (λ n. for_at (below + n) (stmts n)) IsStmt (LowStmt (below + 1))
+  sound_for : {C : Type 0} → Sound C (λ n. for_at (below + n) (stmts n)) IsStmt (LowStmt (below + 1))
   unfolding for_at
-  reads_for = reads_as is_for (λ x us d. d) (reads_then (reads_keyword w.For)
-      (λ at. reads_then reads_name (λ x. reads_then (reads_mark m.Assign) (λ a1. reads_then (reads_expr below)
-      (λ start. reads_then (reads_keyword w.To) (λ a2. reads_then (reads_expr below) (λ limit.
-      reads_then (reads_step below) (λ by. reads_then (reads_keyword w.Do)
-      (λ a3. reads_then reads_stmts (λ body. reads_then (reads_keyword w.EndFor) (λ a4.
-      reads_pure (s.FOR x start limit by (stmts_of body)) (LowStmt (below + 1)) (λ c us. let a' = c.0.1.1 in
+  sound_for = sound_as is_for (λ x us d. d) (sound_then (sound_keyword w.For)
+      (λ at. sound_then sound_name (λ x. sound_then (sound_mark m.Assign) (λ a1. sound_then (sound_expr below)
+      (λ start. sound_then (sound_keyword w.To) (λ a2. sound_then (sound_expr below) (λ limit.
+      sound_then (sound_step below) (λ by. sound_then (sound_keyword w.Do)
+      (λ a3. sound_then sound_stmts (λ body. sound_then (sound_keyword w.EndFor) (λ a4.
+      sound_pure (s.FOR x start limit by (stmts_of body)) (LowStmt (below + 1)) (λ c us. let a' = c.0.1.1 in
       let b' = c.0.0.0.1.1 in let d' = c.0.0.0.0.1.1.0 in let e' = c.0.0.0.0.0.0.1.1.0 in omega arith))))))))))))
 
-  reads_while : {C : Type 0} → Reads C (λ n. while_at (below + n) (stmts n)) IsStmt (LowStmt (below + 1))
+  sound_while : {C : Type 0} → Sound C (λ n. while_at (below + n) (stmts n)) IsStmt (LowStmt (below + 1))
   unfolding while_at
-  reads_while = reads_as is_while (λ x us d. d)
-      (reads_then (reads_keyword w.While) (λ at. reads_then (reads_expr below) (λ x. reads_then (reads_keyword w.Do)
-      (λ a1. reads_then reads_stmts (λ body. reads_then (reads_keyword w.EndWhile) (λ a2.
-      reads_pure (s.WHILE x (stmts_of body)) (LowStmt (below + 1))
+  sound_while = sound_as is_while (λ x us d. d)
+      (sound_then (sound_keyword w.While) (λ at. sound_then (sound_expr below) (λ x. sound_then (sound_keyword w.Do)
+      (λ a1. sound_then sound_stmts (λ body. sound_then (sound_keyword w.EndWhile) (λ a2.
+      sound_pure (s.WHILE x (stmts_of body)) (LowStmt (below + 1))
       (λ c us. let a' = c.0.1.1 in let b' = c.0.0.0.1.1.0 in omega arith)))))))
 
-  reads_repeat : {C : Type 0} → Reads C (λ n. repeat_at (below + n) (stmts n)) IsStmt (LowStmt (below + 1))
+  sound_repeat : {C : Type 0} → Sound C (λ n. repeat_at (below + n) (stmts n)) IsStmt (LowStmt (below + 1))
   unfolding repeat_at
-  reads_repeat = reads_as is_repeat (λ x us d. d)
-      (reads_then (reads_keyword w.Repeat) (λ at. reads_then reads_stmts (λ body. reads_then (reads_keyword w.Until)
-      (λ a1. reads_then (reads_expr below) (λ x. reads_then (reads_keyword w.EndRepeat) (λ a2.
-      reads_pure (s.REPEAT (stmts_of body) x) (LowStmt (below + 1))
+  sound_repeat = sound_as is_repeat (λ x us d. d)
+      (sound_then (sound_keyword w.Repeat) (λ at. sound_then sound_stmts (λ body. sound_then (sound_keyword w.Until)
+      (λ a1. sound_then (sound_expr below) (λ x. sound_then (sound_keyword w.EndRepeat) (λ a2.
+      sound_pure (s.REPEAT (stmts_of body) x) (LowStmt (below + 1))
       (λ c us. let a' = c.0.1.1.0 in let b' = c.0.0.0.1.1 in omega arith)))))))
 
-  reads_empty : {C : Type 0} → Reads C (λ n. pure s.empty) IsStmt (LowStmt (below + 1))
-  reads_empty = reads_as is_empty (λ x us d. d) (reads_pure s.empty (LowStmt (below + 1)) (λ c us. omega arith))
+  sound_empty : {C : Type 0} → Sound C (λ n. pure s.empty) IsStmt (LowStmt (below + 1))
+  sound_empty = sound_as is_empty (λ x us d. d) (sound_pure s.empty (LowStmt (below + 1)) (λ c us. omega arith))
 
   told_stmt_by : (k : TokenKind) (t : Token) (ts : Tokens) → Told (λ n. stmt_by (below + n) (stmts n) k) IsStmt
       (LowStmt (below + 1)) (t ∷ ts) (stmt_by (below + 0) (stmts 0) k (t ∷ ts))
-  told_stmt_by (Name x) t ts = told_by (reads_named below) (t ∷ ts)
-  told_stmt_by (Mark m.Semicolon) t ts = told_by reads_empty (t ∷ ts)
-  told_stmt_by (Keyword w.If) t ts = told_by reads_if_stmt (t ∷ ts)
-  told_stmt_by (Keyword w.Case) t ts = told_by reads_case (t ∷ ts)
-  told_stmt_by (Keyword w.For) t ts = told_by reads_for (t ∷ ts)
-  told_stmt_by (Keyword w.While) t ts = told_by reads_while (t ∷ ts)
-  told_stmt_by (Keyword w.Repeat) t ts = told_by reads_repeat (t ∷ ts)
-  told_stmt_by (Keyword w.Exit) t ts = told_by (reads_exit below) (t ∷ ts)
-  told_stmt_by (Keyword w.Return) t ts = told_by (reads_return below) (t ∷ ts)
+  told_stmt_by (Name x) t ts = told_by (sound_named below) (t ∷ ts)
+  told_stmt_by (Mark m.Semicolon) t ts = told_by sound_empty (t ∷ ts)
+  told_stmt_by (Keyword w.If) t ts = told_by sound_if_stmt (t ∷ ts)
+  told_stmt_by (Keyword w.Case) t ts = told_by sound_case (t ∷ ts)
+  told_stmt_by (Keyword w.For) t ts = told_by sound_for (t ∷ ts)
+  told_stmt_by (Keyword w.While) t ts = told_by sound_while (t ∷ ts)
+  told_stmt_by (Keyword w.Repeat) t ts = told_by sound_repeat (t ∷ ts)
+  told_stmt_by (Keyword w.Exit) t ts = told_by (sound_exit below) (t ∷ ts)
+  told_stmt_by (Keyword w.Return) t ts = told_by (sound_return below) (t ∷ ts)
   told_stmt_by _ t ts =
       told_refuse (λ n. refuse) IsStmt (LowStmt (below + 1)) (t ∷ ts) stmt_begins (λ n more same. refl)
 
-  reads_stmt : {C : Type 0} → Reads C (λ n. stmt_at (below + n) (stmts n)) IsStmt (LowStmt (below + 1))
+  sound_stmt : {C : Type 0} → Sound C (λ n. stmt_at (below + n) (stmts n)) IsStmt (LowStmt (below + 1))
   unfolding stmt_at
-  reads_stmt = record {
+  sound_stmt = record {
     begins = stmt_begins;
     tells = λ c. told_by_kind (λ n. stmt_by (below + n) (stmts n)) IsStmt
         (LowStmt (below + 1)) stmt_begins (λ t ts. told_stmt_by t.kind t ts);
   }
 
-  pub reads_line : {C : Type 0} → Reads C
+  pub sound_line : {C : Type 0} → Sound C
       (λ n. stmt_at (below + n) (stmts n) >>= (λ x. one (mark m.Semicolon) >> pure x)) IsLine (LowStmt (below + 1))
-  reads_line = reads_then reads_stmt
-      (λ x. reads_then (reads_mark m.Semicolon) (λ at. reads_pure x (LowStmt (below + 1)) (λ c us. c.0.1.1)))
+  sound_line = sound_then sound_stmt
+      (λ x. sound_then (sound_mark m.Semicolon) (λ at. sound_pure x (LowStmt (below + 1)) (λ c us. c.0.1.1)))
 
 -- ---- where no depth is left
 
@@ -559,12 +559,12 @@ line_begins = record {
 abbrev ToldLine : ℕ → Type 0
 ToldLine depth = Tells (λ n. line_at (depth + n)) IsLine (LowStmt depth)
 
-pub reads_lines : {C : Type 0} (depth : ℕ) → ToldLine depth
-    → Reads C (λ n. lines (line_at (depth + n))) IsStmts (λ xs us. LowStmts depth xs us × (next starts_stmt us ≡ false))
+pub sound_lines : {C : Type 0} (depth : ℕ) → ToldLine depth
+    → Sound C (λ n. lines (line_at (depth + n))) IsStmts (λ xs us. LowStmts depth xs us × (next starts_stmt us ≡ false))
 unfolding lines
-reads_lines depth tells = reads_as (λ ts ys us p. subst (λ (zs : List Stmt). IsStmts ts zs us) (sym p.2) p.1)
+sound_lines depth tells = sound_as (λ ts ys us p. subst (λ (zs : List Stmt). IsStmts ts zs us) (sym p.2) p.1)
     (λ xs us d. (each_stmt depth xs d.0, d.1))
-    (reads_several starts_stmt (λ n. line_at (depth + n)) IsLine IsStmts (λ x. depth_of_stmt x ≤ depth) (λ ts. no_stmt)
+    (sound_several starts_stmt (λ n. line_at (depth + n)) IsLine IsStmts (λ x. depth_of_stmt x ≤ depth) (λ ts. no_stmt)
     line_then line_less [] (λ c. tt) (record { begins = line_begins; tells = λ c. tells }))
 
 line_none : (ts : Tokens) → line_at (0 + 0) ts ≡ too_deep starts_stmt ts
@@ -583,9 +583,9 @@ told_line zero ts = told_too_deep starts_stmt (λ n. line_at (zero + n)) IsLine 
     (λ t eq. line_begun t t.kind refl eq) line_none (λ n us eq. line_refuses (0 + n) us eq) ts
 told_line (suc below) ts = rw (line_deeper below 0 ts) (told_agree (Deeper below) (λ n. line_at (suc below + n)) IsLine
     (LowStmt (suc below)) ts (Deeper below 0 ts) (λ n more same. line_deeper below n more)
-    (told_by (reads_as (λ ts x us p. p) (λ x us d. let l = d in omega arith) (reads_line below (λ n. lines (line_at
-    (below + n))) (told_by (reads_as (λ ts x us p. p) (λ x us d. d.0) (reads_lines below (told_line below)))))) ts))
+    (told_by (sound_as (λ ts x us p. p) (λ x us d. let l = d in omega arith) (sound_line below (λ n. lines (line_at
+    (below + n))) (told_by (sound_as (λ ts x us p. p) (λ x us d. d.0) (sound_lines below (told_line below)))))) ts))
 
 pub told_stmts : (depth : ℕ)
     → Tells (λ n. stmts_at (depth + n)) IsStmts (λ xs us. LowStmts depth xs us × (next starts_stmt us ≡ false))
-told_stmts depth = told_by (reads_lines depth (told_line depth))
+told_stmts depth = told_by (sound_lines depth (told_line depth))

@@ -1,4 +1,5 @@
--- What reading tells of the grammar, whatever it answers: each way of putting readings together is proved once.
+-- The judgement of a reading, whatever it answers: what is read is of the grammar, and what stands before a refusal
+-- begins some text of it. Each way of putting readings together is proved once.
 use Rattle.std.proofs.Common.{◌≡◌, ℕ, ◌<◌, Bool, true, false, [], ◌∷◌, ◌++◌, length, Option, Some, None, Ok, Err, refl}
 use Rattle.std.proofs.Common.{sym, ap, subst, ◌∙◌, arith, inl, inr, append_assoc}
 use Rattle.std.proofs.lemmas.Bool.{cases_Bool}

@@ -1,4 +1,4 @@
--- Lists that are read item by item.
+-- Lists that are read item by item are sound.
 use Rattle.std.proofs.Common.{◌≡◌, ℕ, ◌<◌, Bool, true, false, List, [], ◌∷◌, ◌++◌, length, refl, sym, ap, subst, ◌∙◌}
 use Rattle.std.proofs.Common.{arith, append_assoc}
 use Rattle.std.proofs.lemmas.List.{append-nil}
@@ -7,9 +7,9 @@ use Rattle.st_lex.specs.declared.mark.Mark.TheVariants as m
 use Rattle.st_statements.specs.Tokens.{Tokens, next, Is, is, mark, is_mark, Passes}
 use Rattle.st_statements.specs.Parsers.{pure, gather, several, after_comma, listed}
 use Rattle.st_statements.specs.Laws.{Grammar, Begins}
-use Rattle.st_statements.proofs.Told.{Family, Told, Tells, Seq, Made, made, made_begins, then_at, told_pure}
-use Rattle.st_statements.proofs.ToldTurns.{told_turns}
-use Rattle.st_statements.proofs.Readings.{Reads, reads_then, reads_as, reads_under, reads_mark}
+use Rattle.st_statements.proofs.Sound.{Family, Told, Tells, Seq, Made, made, made_begins, then_at, told_pure}
+use Rattle.st_statements.proofs.SoundTurns.{told_turns}
+use Rattle.st_statements.proofs.SoundReadings.{Sound, sound_then, sound_as, sound_under, sound_mark}
 
 -- each of the list is so
 abbrev pub Each : {A : Type 0} → (A → Type 0) → List A → Type 0
@@ -63,9 +63,9 @@ module _ {A : Type 0} (f : TokenKind → Bool) (P : Family A) (One : Grammar A) 
   pub more_begins : (found : List A) → Begins (More found) []
   more_begins found = record { more = []; tree = found ++ []; whole = λ after. ([], nil after, refl) }
 
-  pub reads_several : {C : Type 0} (found : List A) → (C → Each L found) → Reads C P One (λ x us. L x)
-      → Reads C (λ e. several f (P e) found) (More found) (λ xs us. Each L xs × (next f us ≡ false))
-  reads_several found all p =
+  pub sound_several : {C : Type 0} (found : List A) → (C → Each L found) → Sound C P One (λ x us. L x)
+      → Sound C (λ e. several f (P e) found) (More found) (λ xs us. Each L xs × (next f us ≡ false))
+  sound_several found all p =
       record { begins = more_begins found; tells = λ c. told_several found (all c) (λ ts hit. p.tells c ts) }
 
 -- ---- with commas
@@ -80,9 +80,9 @@ module _ {A : Type 0} (P : Family A) (One : Grammar A) (Rest List1 : Grammar (Li
   abbrev Comma : Grammar A
   Comma = Seq (Is (mark m.Comma)) (λ at. One)
 
-  reads_after_comma : {C : Type 0} → Reads C P One (λ x us. L x) → Reads C (λ e. after_comma (P e)) Comma (λ x us. L x)
+  sound_after_comma : {C : Type 0} → Sound C P One (λ x us. L x) → Sound C (λ e. after_comma (P e)) Comma (λ x us. L x)
   unfolding after_comma
-  reads_after_comma p = reads_then (reads_mark m.Comma) (λ at. reads_under (λ c. c.0) p)
+  sound_after_comma p = sound_then (sound_mark m.Comma) (λ at. sound_under (λ c. c.0) p)
 
   comma_less : (ts : Tokens) (at : ℕ) (us : Tokens) (x : A) (vs : Tokens) → Is (mark m.Comma) ts at us → One us x vs
       → length vs < length ts
@@ -99,10 +99,10 @@ module _ {A : Type 0} (P : Family A) (One : Grammar A) (Rest List1 : Grammar (Li
   all_listed : (ts : Tokens) (ys : List A) (vs : Tokens) → Seq One (λ x. Others (x ∷ [])) ts ys vs → List1 ts ys vs
   all_listed ts ys vs s = subst (λ (zs : List A). List1 ts zs vs) (sym s.3.2) (make ts s.0 s.1 s.3.0 vs s.2 s.3.1)
 
-  pub reads_listed : {C : Type 0} → Reads C P One (λ x us. L x)
-      → Reads C (λ e. listed (P e)) List1 (λ xs us. Each L xs × (next (is_mark m.Comma) us ≡ false))
+  pub sound_listed : {C : Type 0} → Sound C P One (λ x us. L x)
+      → Sound C (λ e. listed (P e)) List1 (λ xs us. Each L xs × (next (is_mark m.Comma) us ≡ false))
   unfolding listed
-  reads_listed p = reads_as all_listed (λ x us d. d) (reads_then p (λ x.
-      reads_several (is_mark m.Comma) (λ e. after_comma (P e)) Comma Rest L nil rest_cons
+  sound_listed p = sound_as all_listed (λ x us d. d) (sound_then p (λ x.
+      sound_several (is_mark m.Comma) (λ e. after_comma (P e)) Comma Rest L nil rest_cons
       (λ ts x us c. comma_less ts c.0 c.1 x us c.2 c.3) (x ∷ []) (λ c. (c.1.1, tt))
-      (reads_after_comma (reads_under (λ c. c.0) p))))
+      (sound_after_comma (sound_under (λ c. c.0) p))))

@@ -1,4 +1,4 @@
--- The four laws of expressions, initial values, statements and numbers.
+-- The clauses of expressions, initial values, statements and numbers.
 use Rattle.std.proofs.Common.{◌+◌, List, Result, arith}
 use Rattle.std.specs.Prelude.{IfOk, IfErr}
 use Rattle.st_words.specs.declared.limits.TheConstants.{MAX_DEPTH}
@@ -19,16 +19,16 @@ use Rattle.st_statements.specs.Initials.{IsInitial}
 use Rattle.st_statements.specs.Statements.{IsStmts}
 use Rattle.st_statements.specs.Limits.{IsShallow, IsShallowInitial, AreShallow, HasDepthOne, EndsExpression}
 use Rattle.st_statements.specs.Limits.{EndsStatements}
-use Rattle.st_statements.proofs.Told.{Told, Any, told_as}
-use Rattle.st_statements.proofs.Readings.{told_by, reads_number}
-use Rattle.st_statements.proofs.ToldExpressions.{LowExpr, Low, told_expr}
-use Rattle.st_statements.proofs.ToldInitials.{LowInitial, told_initial}
-use Rattle.st_statements.proofs.ToldStatements.{LowStmts, told_stmts}
-use Rattle.st_statements.proofs.Again.{number_again}
-use Rattle.st_statements.proofs.AgainExpressions.{expr_again}
-use Rattle.st_statements.proofs.AgainInitials.{initial_again}
-use Rattle.st_statements.proofs.AgainStatements.{all_again}
-use Rattle.st_statements.proofs.Answered.{found_is, refused_is, only_is}
+use Rattle.st_statements.proofs.Sound.{Told, Any, told_as}
+use Rattle.st_statements.proofs.SoundReadings.{told_by, sound_number}
+use Rattle.st_statements.proofs.SoundExpressions.{LowExpr, Low, told_expr}
+use Rattle.st_statements.proofs.SoundInitials.{LowInitial, told_initial}
+use Rattle.st_statements.proofs.SoundStatements.{LowStmts, told_stmts}
+use Rattle.st_statements.proofs.Complete.{number_complete}
+use Rattle.st_statements.proofs.CompleteExpressions.{expr_complete}
+use Rattle.st_statements.proofs.CompleteInitials.{initial_complete}
+use Rattle.st_statements.proofs.CompleteStatements.{all_complete}
+use Rattle.st_statements.proofs.Prefix.{found_is, refused_is, only_is}
 
 module _ {X : Type 0} where
   module _ (view : X → Expr × Tokens) (ts : Tokens) (result : Result X ReadError)
@@ -42,35 +42,37 @@ module _ {X : Type 0} where
         IfOk result (λ x. IsRead (IsExpr 1) EndsExpression ts (view x).0 (view x).1 × IsShallow (view x).0)
     expression_found =
         found_is (λ n. expr_at (MAX_DEPTH + n) 1) (IsExpr 1) EndsExpression (Low MAX_DEPTH) IsShallow depth_of
-        (λ n ts x us i ends low. expr_again (MAX_DEPTH + n) i low ends) (λ x l. l) view ts result expression_told given
+        (λ n ts x us i ends low. expr_complete (MAX_DEPTH + n) i low ends) (λ x l. l) view
+        ts result expression_told given
 
     pub expression_refused : IfErr result (λ e. Applies (IsExpr 1) EndsExpression IsShallow ts e)
     expression_refused =
         refused_is (λ n. expr_at (MAX_DEPTH + n) 1) (IsExpr 1) EndsExpression (Low MAX_DEPTH) IsShallow depth_of
-        (λ n ts x us i ends low. expr_again (MAX_DEPTH + n) i low ends) (λ x l. l) view ts result expression_told given
+        (λ n ts x us i ends low. expr_complete (MAX_DEPTH + n) i low ends) (λ x l. l) view
+        ts result expression_told given
 
     pub expression_only : (x : Expr) (us : Tokens) → IsExpr 1 ts x us → EndsExpression us → IsShallow x
         → Answers view result x us
     expression_only = only_is (λ n. expr_at (MAX_DEPTH + n) 1) (IsExpr 1) EndsExpression (Low MAX_DEPTH) IsShallow
-        depth_of (λ n ts x us i ends low. expr_again (MAX_DEPTH + n) i low ends) (λ x l. l) view ts result given
+        depth_of (λ n ts x us i ends low. expr_complete (MAX_DEPTH + n) i low ends) (λ x l. l) view ts result given
 
   module _ (view : X → Initial × Tokens) (ts : Tokens) (result : Result X ReadError)
       (given : Gives view result (initial_at MAX_DEPTH ts)) where
     pub initial_found :
         IfOk result (λ x. IsRead IsInitial Anywhere ts (view x).0 (view x).1 × IsShallowInitial (view x).0)
     initial_found = found_is (λ n. initial_at (MAX_DEPTH + n)) IsInitial Anywhere (LowInitial MAX_DEPTH)
-        IsShallowInitial depth_of_initial (λ n ts x us i ends low. initial_again i (MAX_DEPTH + n) low) (λ x l. l) view
-        ts result (told_initial MAX_DEPTH ts) given
+        IsShallowInitial depth_of_initial (λ n ts x us i ends low. initial_complete i (MAX_DEPTH + n) low) (λ x l. l)
+        view ts result (told_initial MAX_DEPTH ts) given
 
     pub initial_refused : IfErr result (λ e. Applies IsInitial Anywhere IsShallowInitial ts e)
     initial_refused = refused_is (λ n. initial_at (MAX_DEPTH + n)) IsInitial Anywhere (LowInitial MAX_DEPTH)
-        IsShallowInitial depth_of_initial (λ n ts x us i ends low. initial_again i (MAX_DEPTH + n) low) (λ x l. l) view
-        ts result (told_initial MAX_DEPTH ts) given
+        IsShallowInitial depth_of_initial (λ n ts x us i ends low. initial_complete i (MAX_DEPTH + n) low) (λ x l. l)
+        view ts result (told_initial MAX_DEPTH ts) given
 
     pub initial_only : (x : Initial) (us : Tokens) → IsInitial ts x us → IsShallowInitial x → Answers view result x us
     initial_only x us i low = only_is (λ n. initial_at (MAX_DEPTH + n)) IsInitial Anywhere (LowInitial MAX_DEPTH)
-        IsShallowInitial depth_of_initial (λ n ts x us i ends low. initial_again i (MAX_DEPTH + n) low) (λ x l. l) view
-        ts result given x us i tt low
+        IsShallowInitial depth_of_initial (λ n ts x us i ends low. initial_complete i (MAX_DEPTH + n) low) (λ x l. l)
+        view ts result given x us i tt low
 
   module _ (view : X → List Stmt × Tokens) (ts : Tokens) (result : Result X ReadError)
       (given : Gives view result (stmts_at MAX_DEPTH ts)) where
@@ -81,30 +83,30 @@ module _ {X : Type 0} where
     pub statements_found :
         IfOk result (λ x. IsRead IsStmts EndsStatements ts (view x).0 (view x).1 × AreShallow (view x).0)
     statements_found = found_is (λ n. stmts_at (MAX_DEPTH + n)) IsStmts EndsStatements (LowStmts MAX_DEPTH) AreShallow
-        (λ xs. deepest_stmt (stmts_of xs)) (λ n ts x us i ends low. all_again (MAX_DEPTH + n) i low ends) (λ x l. l)
+        (λ xs. deepest_stmt (stmts_of xs)) (λ n ts x us i ends low. all_complete (MAX_DEPTH + n) i low ends) (λ x l. l)
         view ts result statements_told given
 
     pub statements_refused : IfErr result (λ e. Applies IsStmts EndsStatements AreShallow ts e)
     statements_refused = refused_is (λ n. stmts_at (MAX_DEPTH + n)) IsStmts EndsStatements (LowStmts MAX_DEPTH)
-        AreShallow (λ xs. deepest_stmt (stmts_of xs)) (λ n ts x us i ends low. all_again (MAX_DEPTH + n) i low ends)
+        AreShallow (λ xs. deepest_stmt (stmts_of xs)) (λ n ts x us i ends low. all_complete (MAX_DEPTH + n) i low ends)
         (λ x l. l) view ts result statements_told given
 
     pub statements_only : (xs : List Stmt) (us : Tokens) → IsStmts ts xs us → EndsStatements us → AreShallow xs
         → Answers view result xs us
     statements_only = only_is (λ n. stmts_at (MAX_DEPTH + n)) IsStmts EndsStatements (LowStmts MAX_DEPTH) AreShallow
-        (λ xs. deepest_stmt (stmts_of xs)) (λ n ts x us i ends low. all_again (MAX_DEPTH + n) i low ends) (λ x l. l)
+        (λ xs. deepest_stmt (stmts_of xs)) (λ n ts x us i ends low. all_complete (MAX_DEPTH + n) i low ends) (λ x l. l)
         view ts result given
 
   module _ (view : X → NumberLeaf × Tokens) (ts : Tokens) (result : Result X ReadError)
       (given : Gives view result (number_at ts)) where
     pub number_found : IfOk result (λ x. IsRead IsNumber Anywhere ts (view x).0 (view x).1 × Unit {0})
     number_found = found_is (λ n. number_at) IsNumber Anywhere Any HasDepthOne (λ x. 0)
-        (λ n ts x us i ends low. number_again i) (λ x l. omega arith) view ts result (told_by reads_number ts) given
+        (λ n ts x us i ends low. number_complete i) (λ x l. omega arith) view ts result (told_by sound_number ts) given
 
     pub number_refused : IfErr result (λ e. Applies IsNumber Anywhere HasDepthOne ts e)
     number_refused = refused_is (λ n. number_at) IsNumber Anywhere Any HasDepthOne (λ x. 0)
-        (λ n ts x us i ends low. number_again i) (λ x l. omega arith) view ts result (told_by reads_number ts) given
+        (λ n ts x us i ends low. number_complete i) (λ x l. omega arith) view ts result (told_by sound_number ts) given
 
     pub number_only : (x : NumberLeaf) (us : Tokens) → IsNumber ts x us → Answers view result x us
     number_only x us i = only_is (λ n. number_at) IsNumber Anywhere Any HasDepthOne (λ x. 0)
-        (λ n ts x us i ends low. number_again i) (λ x l. omega arith) view ts result given x us i tt tt
+        (λ n ts x us i ends low. number_complete i) (λ x l. omega arith) view ts result given x us i tt tt

@@ -1,4 +1,5 @@
--- What a reading tells, as the clauses of the public calls say it.
+-- Where a reading is refused no text begins so, and where it is not nothing else is read: what is sound, and complete
+-- at each depth, has the clauses of the public calls.
 use Rattle.std.proofs.Common.{◌≡◌, ℕ, ◌+◌, ◌≤◌, ◌++◌, length, Result, Ok, Err, sym, ap, subst, ◌∙◌, arith}
 use Rattle.std.specs.Prelude.{IfOk, IfErr}
 use Rattle.st_words.specs.declared.limits.TheConstants.{MAX_DEPTH}
@@ -9,7 +10,7 @@ use Rattle.st_statements.specs.declared.fault.ReadError.TheVariants as errors
 use Rattle.st_statements.specs.Tokens.{Tokens}
 use Rattle.st_statements.specs.Parsers.{Outcome, Gives}
 use Rattle.st_statements.specs.Laws.{Grammar, IsRead, IsUnexpected, IsTooDeep, Applies, Answers}
-use Rattle.st_statements.proofs.Told.{Family, Kept, Lost, Sunk, Told}
+use Rattle.st_statements.proofs.Sound.{Family, Kept, Lost, Sunk, Told}
 
 abbrev answer : {A : Type 0} → A → Tokens → Outcome A
 answer x us = Ok (x, us)

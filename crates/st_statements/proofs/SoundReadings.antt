@@ -1,4 +1,4 @@
--- A reading, what it tells of the grammar, and that some text of the grammar exists: together, and put together.
+-- Sound readings, each with some text of its grammar, put together; single tokens and numbers.
 use Rattle.std.proofs.Common.{◌≡◌, ℕ, Bool, true, false, [], Option, Some, None, refl, ap}
 use denote.Enum.Bare.{same_true, true_same}
 use Rattle.std.proofs.Common.{rules}
@@ -19,11 +19,11 @@ use Rattle.st_statements.specs.Tokens.{negative_at, is_mark, is_keyword, same_ma
 use Rattle.st_statements.specs.Tokens.{negative}
 use Rattle.st_statements.specs.Parsers.{◌>>=◌, pure, one, if_next, number_at, negative_number_at}
 use Rattle.st_statements.specs.Laws.{Grammar, Begins}
-use Rattle.st_statements.proofs.Told.{Family, Tells, Any, Seq, Made, made, made_begins, seq_begins, begins_as}
-use Rattle.st_statements.proofs.Told.{one_begins, told_as, then_at, told_pure, told_one, told_if}
+use Rattle.st_statements.proofs.Sound.{Family, Tells, Any, Seq, Made, made, made_begins, seq_begins, begins_as}
+use Rattle.st_statements.proofs.Sound.{one_begins, told_as, then_at, told_pure, told_one, told_if}
 
 -- under a condition
-pub record Reads {A : Type 0} (C : Type 0) (P : Family A) (R : Grammar A) (D : A → Tokens → Type 0) : Type 0 where
+pub record Sound {A : Type 0} (C : Type 0) (P : Family A) (R : Grammar A) (D : A → Tokens → Type 0) : Type 0 where
   pub begins : Begins R []
   pub tells : C → Tells P R D
 
@@ -31,36 +31,36 @@ pub record Reads {A : Type 0} (C : Type 0) (P : Family A) (R : Grammar A) (D : A
 abbrev pub With : {A : Type 0} → Type 0 → (A → Tokens → Type 0) → A → Type 0
 With C D x = C × ((us : Tokens) × D x us)
 
-pub told_by : {A : Type 0} {P : Family A} {R : Grammar A} {D : A → Tokens → Type 0} → Reads (Unit {0}) P R D
+pub told_by : {A : Type 0} {P : Family A} {R : Grammar A} {D : A → Tokens → Type 0} → Sound (Unit {0}) P R D
     → Tells P R D
 told_by p = p.tells tt
 
-pub reads_then : {A B : Type 0} {C : Type 0} {P : Family A} {Q : A → Family B} {R : Grammar A} {S : A → Grammar B}
+pub sound_then : {A B : Type 0} {C : Type 0} {P : Family A} {Q : A → Family B} {R : Grammar A} {S : A → Grammar B}
     {D : A → Tokens → Type 0} {E : B → Tokens → Type 0}
-    → Reads C P R D → ((x : A) → Reads (With C D x) (Q x) (S x) E) → Reads C (λ e. P e >>= (λ x. Q x e)) (Seq R S) E
-reads_then {P = P} {Q = Q} {R = R} {S = S} {D = D} {E = E} p q = record {
+    → Sound C P R D → ((x : A) → Sound (With C D x) (Q x) (S x) E) → Sound C (λ e. P e >>= (λ x. Q x e)) (Seq R S) E
+sound_then {P = P} {Q = Q} {R = R} {S = S} {D = D} {E = E} p q = record {
   begins = seq_begins R S [] p.begins (λ x. (q x).begins);
   tells = λ c ts.
       then_at P Q R S D E (λ x. (q x).begins) ts (P 0 ts) (p.tells c ts) (λ x us eq k. (q x).tells (c, (us, k.low)) us);
 }
 
-pub reads_pure : {A : Type 0} {C : Type 0} (y : A) (D : A → Tokens → Type 0) → (C → (us : Tokens) → D y us)
-    → Reads C (λ e. pure y) (Made y) D
-reads_pure y D low = record { begins = made_begins y; tells = λ c ts. told_pure y D ts (low c ts) }
+pub sound_pure : {A : Type 0} {C : Type 0} (y : A) (D : A → Tokens → Type 0) → (C → (us : Tokens) → D y us)
+    → Sound C (λ e. pure y) (Made y) D
+sound_pure y D low = record { begins = made_begins y; tells = λ c ts. told_pure y D ts (low c ts) }
 
-pub reads_as : {A : Type 0} {C : Type 0} {P : Family A} {R R' : Grammar A} {D D' : A → Tokens → Type 0}
+pub sound_as : {A : Type 0} {C : Type 0} {P : Family A} {R R' : Grammar A} {D D' : A → Tokens → Type 0}
     → ((ts : Tokens) (x : A) (us : Tokens) → R ts x us → R' ts x us) → ((x : A) (us : Tokens) → D x us → D' x us)
-    → Reads C P R D → Reads C P R' D'
-reads_as {P = P} {R = R} {R' = R'} {D = D} {D' = D'} f g p =
+    → Sound C P R D → Sound C P R' D'
+sound_as {P = P} {R = R} {R' = R'} {D = D} {D' = D'} f g p =
     record { begins = begins_as R R' f [] p.begins; tells = λ c ts. told_as P R R' D D' f g ts (P 0 ts) (p.tells c ts) }
 
-pub reads_under : {A : Type 0} {C C' : Type 0} {P : Family A} {R : Grammar A} {D : A → Tokens → Type 0} → (C' → C)
-    → Reads C P R D → Reads C' P R D
-reads_under f p = record { begins = p.begins; tells = λ c. p.tells (f c) }
+pub sound_under : {A : Type 0} {C C' : Type 0} {P : Family A} {R : Grammar A} {D : A → Tokens → Type 0} → (C' → C)
+    → Sound C P R D → Sound C' P R D
+sound_under f p = record { begins = p.begins; tells = λ c. p.tells (f c) }
 
-pub reads_if : {A : Type 0} {C : Type 0} {P Q : Family A} {R : Grammar A} {D : A → Tokens → Type 0}
-    (f : TokenKind → Bool) → Reads C P R D → Reads C Q R D → Reads C (λ e. if_next f (P e) (Q e)) R D
-reads_if {P = P} {Q = Q} {R = R} {D = D} f p q =
+pub sound_if : {A : Type 0} {C : Type 0} {P Q : Family A} {R : Grammar A} {D : A → Tokens → Type 0}
+    (f : TokenKind → Bool) → Sound C P R D → Sound C Q R D → Sound C (λ e. if_next f (P e) (Q e)) R D
+sound_if {P = P} {Q = Q} {R = R} {D = D} f p q =
     record { begins = p.begins; tells = λ c ts. told_if f P Q R D ts (λ _. p.tells c ts) (λ _. q.tells c ts) }
 
 -- ---- single tokens
@@ -99,21 +99,21 @@ mark_stands x = rw (mark_same x) refl
 keyword_stands : (x : KeywordType) → keyword x (token_of (Keyword x)) ≡ Some 0
 keyword_stands x = rw (keyword_same x) refl
 
-pub reads_one : {A : Type 0} {C : Type 0} (of : Token → Option A) (t : Token) (x : A) → of t ≡ Some x
-    → Reads C (λ e. one of) (Is of) Any
-reads_one of t x eq = record { begins = one_begins of t x eq; tells = λ c. told_one of (one_begins of t x eq) }
+pub sound_one : {A : Type 0} {C : Type 0} (of : Token → Option A) (t : Token) (x : A) → of t ≡ Some x
+    → Sound C (λ e. one of) (Is of) Any
+sound_one of t x eq = record { begins = one_begins of t x eq; tells = λ c. told_one of (one_begins of t x eq) }
 
-pub reads_mark : {C : Type 0} (x : MarkType) → Reads C (λ e. one (mark x)) (Is (mark x)) Any
-reads_mark x = reads_one (mark x) (token_of (Mark x)) 0 (mark_stands x)
+pub sound_mark : {C : Type 0} (x : MarkType) → Sound C (λ e. one (mark x)) (Is (mark x)) Any
+sound_mark x = sound_one (mark x) (token_of (Mark x)) 0 (mark_stands x)
 
-pub reads_keyword : {C : Type 0} (x : KeywordType) → Reads C (λ e. one (keyword x)) (Is (keyword x)) Any
-reads_keyword x = reads_one (keyword x) (token_of (Keyword x)) 0 (keyword_stands x)
+pub sound_keyword : {C : Type 0} (x : KeywordType) → Sound C (λ e. one (keyword x)) (Is (keyword x)) Any
+sound_keyword x = sound_one (keyword x) (token_of (Keyword x)) 0 (keyword_stands x)
 
 abbrev pub an_identifier : Identifier
 an_identifier = record { name = []; place = 0 }
 
-pub reads_name : {C : Type 0} → Reads C (λ e. one name) (Is name) Any
-reads_name = reads_one name (token_of (Name [])) an_identifier refl
+pub sound_name : {C : Type 0} → Sound C (λ e. one name) (Is name) Any
+sound_name = sound_one name (token_of (Name [])) an_identifier refl
 
 abbrev pub a_number : NumberLeaf
 a_number = record { place = 0; is_negative = false; magnitude = 0; written = None; is_decimal = true; taken = None }
@@ -121,8 +121,8 @@ a_number = record { place = 0; is_negative = false; magnitude = 0; written = Non
 abbrev pub number_token : Token
 number_token = token_of (Number (record { written = None; magnitude = 0; is_decimal = true }))
 
-pub reads_whole : {C : Type 0} → Reads C (λ e. one whole) (Is whole) Any
-reads_whole = reads_one whole number_token a_number refl
+pub sound_whole : {C : Type 0} → Sound C (λ e. one whole) (Is whole) Any
+sound_whole = sound_one whole number_token a_number refl
 
 -- ---- numbers
 
@@ -136,15 +136,15 @@ IsNegative = Seq (Is (mark m.Minus)) (λ at. Seq (Is whole) (λ n. Made (negativ
 is_negative_number : (ts : Tokens) (x : NumberLeaf) (us : Tokens) → IsNegative ts x us → IsNumber ts x us
 is_negative_number ts x us (at, vs, s, (n, ws, w, made eq)) = negative at n s w eq
 
-pub reads_negative : {C : Type 0} → Reads C (λ e. negative_number_at) IsNegative Any
+pub sound_negative : {C : Type 0} → Sound C (λ e. negative_number_at) IsNegative Any
 unfolding negative_number_at
-reads_negative =
-    reads_then (reads_mark m.Minus) (λ at. reads_then reads_whole (λ n. reads_pure (negative_at at n) Any (λ c us. tt)))
+sound_negative =
+    sound_then (sound_mark m.Minus) (λ at. sound_then sound_whole (λ n. sound_pure (negative_at at n) Any (λ c us. tt)))
 
-pub reads_number : {C : Type 0} → Reads C (λ e. number_at) IsNumber Any
+pub sound_number : {C : Type 0} → Sound C (λ e. number_at) IsNumber Any
 unfolding number_at
-reads_number = reads_if (is_mark m.Minus) (reads_as is_negative_number (λ x us d. d) reads_negative)
-    (reads_as (λ ts x us w. plain w) (λ x us d. d) reads_whole)
+sound_number = sound_if (is_mark m.Minus) (sound_as is_negative_number (λ x us d. d) sound_negative)
+    (sound_as (λ ts x us w. plain w) (λ x us d. d) sound_whole)
 
 -- a token that stands for a number is a literal
 pub whole_literal : (t : Token) (n : NumberLeaf) → whole t ≡ Some n → literal t ≡ Some (literals.Number n)

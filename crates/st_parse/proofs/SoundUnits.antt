@@ -1,4 +1,4 @@
--- What reading tells of functions, function blocks and programs.
+-- What is read as a function, a function block or a program is one, and what stands before a refusal begins one.
 use Rattle.std.proofs.Common.{ℕ, ◌+◌, ◌<◌, ◌≤◌, length, None, refl}
 use Rattle.st_words.specs.declared.kind.Kind.TheVariants.{Int}
 use Rattle.st_lex.specs.declared.token.TokenKind.TheVariants.{Elementary, Keyword}
@@ -16,10 +16,10 @@ use Rattle.st_statements.specs.Tokens.{Tokens, Is, mark, keyword, name, is_keywo
 use Rattle.st_statements.specs.Parsers.{Parser, one}
 use Rattle.st_statements.specs.Statements.{IsStmts}
 use Rattle.st_statements.specs.StatementReading.{stmts_at}
-use Rattle.st_statements.proofs.Told.{Family, Any, Seq, Made, made}
-use Rattle.st_statements.proofs.Readings.{Reads, reads_then, reads_pure, reads_as, reads_under, reads_if, reads_one}
-use Rattle.st_statements.proofs.Readings.{reads_mark, reads_keyword, reads_name, token_of}
-use Rattle.st_statements.proofs.ToldStatements.{told_stmts, stmts_begins}
+use Rattle.st_statements.proofs.Sound.{Family, Any, Seq, Made, made}
+use Rattle.st_statements.proofs.SoundReadings.{Sound, sound_then, sound_pure, sound_as, sound_under, sound_if}
+use Rattle.st_statements.proofs.SoundReadings.{sound_one, sound_mark, sound_keyword, sound_name, token_of}
+use Rattle.st_statements.proofs.SoundStatements.{told_stmts, stmts_begins}
 use Rattle.st_parse.specs.Lists.{Many, Listed, Optional}
 use Rattle.st_parse.specs.Types.{IsType, IsGiven}
 use Rattle.st_parse.specs.Units.{retention, elementary, IsDeclaration, IsExternal, IsFunctionSection, IsOwnSection}
@@ -34,25 +34,25 @@ use Rattle.st_parse.specs.UnitReading.{external_section_at, block_at, function_b
 use Rattle.st_parse.specs.UnitReading.{program_block_at, variable_block_at, starts_function_section}
 use Rattle.st_parse.specs.UnitReading.{starts_program_section, starts_block_section, function_at}
 use Rattle.st_parse.specs.UnitReading.{function_block_unit_at, program_at}
-use Rattle.st_parse.proofs.Parts.{reads_many, reads_optional, reads_names}
+use Rattle.st_parse.proofs.SoundParts.{sound_many, sound_optional, sound_names}
 use Rattle.st_parse.proofs.Shorter.{declaration_less, external_less, function_block_less, program_block_less}
 use Rattle.st_parse.proofs.Shorter.{variable_block_less}
-use Rattle.st_parse.proofs.TypeReads.{reads_type, reads_given_or_not}
+use Rattle.st_parse.proofs.SoundTypes.{sound_type, sound_given_or_not}
 
 -- ---- words of a block
 
-reads_retention_or_not : {C : Type 0} → Reads C (λ e. retention_or_not) (Optional (Is retention)) Any
+sound_retention_or_not : {C : Type 0} → Sound C (λ e. retention_or_not) (Optional (Is retention)) Any
 unfolding retention_or_not
-reads_retention_or_not = reads_as (λ ts x us r. r) (λ x us d. tt)
-    (reads_optional is_retention (λ e. one retention) (Is retention) (λ x. Unit {0})
-    (reads_as (λ ts x us i. i) (λ x us d. tt) (reads_one retention (token_of (Keyword w.Retain)) Retain refl)))
+sound_retention_or_not = sound_as (λ ts x us r. r) (λ x us d. tt)
+    (sound_optional is_retention (λ e. one retention) (Is retention) (λ x. Unit {0})
+    (sound_as (λ ts x us i. i) (λ x us d. tt) (sound_one retention (token_of (Keyword w.Retain)) Retain refl)))
 
 abbrev Behind : Section → Tokens → Section → Tokens → Type 0
 Behind s = Seq (Is (keyword w.Constant)) (λ at. Made s)
 
-reads_constant : {C : Type 0} (s : Section) → Reads C (λ e. constant_of s) (Behind s) Any
+sound_constant : {C : Type 0} (s : Section) → Sound C (λ e. constant_of s) (Behind s) Any
 unfolding constant_of
-reads_constant s = reads_then (reads_keyword w.Constant) (λ at. reads_pure s Any (λ c us. tt))
+sound_constant s = sound_then (sound_keyword w.Constant) (λ at. sound_pure s Any (λ c us. tt))
 
 -- a section after its first word
 abbrev AfterWord : (Tokens → Section → Tokens → Type 0) → (ℕ → Tokens → Tokens → Type 0) → Tokens → Section → Tokens
@@ -77,13 +77,13 @@ is_input_function : (ts : Tokens) (s : Section) (us : Tokens)
     → Seq (Is (keyword w.VarInput)) (λ at. Made (sections.Input None)) ts s us → IsFunctionSection ts s us
 is_input_function ts s us (at, vs, i, made eq) = u.input (at, i) eq
 
-reads_function_section : {C : Type 0} → Reads C (λ e. function_section_at) IsFunctionSection Any
+sound_function_section : {C : Type 0} → Sound C (λ e. function_section_at) IsFunctionSection Any
 unfolding function_section_at function_input_at function_own_at
-reads_function_section = reads_if (is_keyword w.VarInput) (reads_as is_input_function (λ x us d. d)
-    (reads_then (reads_keyword w.VarInput) (λ at. reads_pure (sections.Input None) Any (λ c us. tt))))
-    (reads_as (λ ts s us p. p.3 p.0 ts p.2) (λ x us d. d) (reads_then (reads_keyword w.Var) (λ at. reads_if
-    (is_keyword w.Constant) (reads_as is_constant_function (λ x us d. d) (reads_constant sections.Constant))
-    (reads_as is_local_function (λ x us d. d) (reads_pure (sections.Local None) Any (λ c us. tt))))))
+sound_function_section = sound_if (is_keyword w.VarInput) (sound_as is_input_function (λ x us d. d)
+    (sound_then (sound_keyword w.VarInput) (λ at. sound_pure (sections.Input None) Any (λ c us. tt))))
+    (sound_as (λ ts s us p. p.3 p.0 ts p.2) (λ x us d. d) (sound_then (sound_keyword w.Var) (λ at. sound_if
+    (is_keyword w.Constant) (sound_as is_constant_function (λ x us d. d) (sound_constant sections.Constant))
+    (sound_as is_local_function (λ x us d. d) (sound_pure (sections.Local None) Any (λ c us. tt))))))
 
 is_constant_own : (us : Tokens) (s : Section) (vs : Tokens) → Behind sections.Constant us s vs
     → AfterWord IsOwnSection Word us s vs
@@ -93,12 +93,12 @@ is_local_own : (us : Tokens) (s : Section) (vs : Tokens)
     → Seq (Optional (Is retention)) (λ o. Made (sections.Local o)) us s vs → AfterWord IsOwnSection Word us s vs
 is_local_own us s vs (o, ws, k, made eq) a ts i = u.own o (a, i) k eq
 
-reads_own_section : {C : Type 0} → Reads C (λ e. own_section_at) IsOwnSection Any
+sound_own_section : {C : Type 0} → Sound C (λ e. own_section_at) IsOwnSection Any
 unfolding own_section_at local_at
-reads_own_section = reads_as (λ ts s us p. p.3 p.0 ts p.2) (λ x us d. d) (reads_then (reads_keyword w.Var)
-    (λ at. reads_if (is_keyword w.Constant) (reads_as is_constant_own (λ x us d. d) (reads_constant sections.Constant))
-    (reads_as is_local_own (λ x us d. d)
-    (reads_then reads_retention_or_not (λ o. reads_pure (sections.Local o) Any (λ c us. tt))))))
+sound_own_section = sound_as (λ ts s us p. p.3 p.0 ts p.2) (λ x us d. d) (sound_then (sound_keyword w.Var)
+    (λ at. sound_if (is_keyword w.Constant) (sound_as is_constant_own (λ x us d. d) (sound_constant sections.Constant))
+    (sound_as is_local_own (λ x us d. d)
+    (sound_then sound_retention_or_not (λ o. sound_pure (sections.Local o) Any (λ c us. tt))))))
 
 is_input_block : (ts : Tokens) (s : Section) (us : Tokens)
     → Seq (Is (keyword w.VarInput)) (λ at. Seq (Optional (Is retention)) (λ o. Made (sections.Input o))) ts s us
@@ -110,14 +110,14 @@ is_output_block : (ts : Tokens) (s : Section) (us : Tokens)
     → IsBlockSection ts s us
 is_output_block ts s us (at, vs, i, (o, ws, k, made eq)) = u.output o (at, i) k eq
 
-reads_block_section : {C : Type 0} → Reads C (λ e. block_section_at) IsBlockSection Any
+sound_block_section : {C : Type 0} → Sound C (λ e. block_section_at) IsBlockSection Any
 unfolding block_section_at input_section_at output_section_at
-reads_block_section =
-    reads_if (is_keyword w.VarInput) (reads_as is_input_block (λ x us d. d) (reads_then (reads_keyword w.VarInput)
-    (λ at. reads_then reads_retention_or_not (λ o. reads_pure (sections.Input o) Any (λ c us. tt)))))
-    (reads_if (is_keyword w.VarOutput) (reads_as is_output_block (λ x us d. d) (reads_then (reads_keyword w.VarOutput)
-    (λ at. reads_then reads_retention_or_not (λ o. reads_pure (sections.Output o) Any (λ c us. tt)))))
-    (reads_as (λ ts s us i. u.own i) (λ x us d. d) reads_own_section))
+sound_block_section =
+    sound_if (is_keyword w.VarInput) (sound_as is_input_block (λ x us d. d) (sound_then (sound_keyword w.VarInput)
+    (λ at. sound_then sound_retention_or_not (λ o. sound_pure (sections.Input o) Any (λ c us. tt)))))
+    (sound_if (is_keyword w.VarOutput) (sound_as is_output_block (λ x us d. d) (sound_then (sound_keyword w.VarOutput)
+    (λ at. sound_then sound_retention_or_not (λ o. sound_pure (sections.Output o) Any (λ c us. tt)))))
+    (sound_as (λ ts s us i. u.own i) (λ x us d. d) sound_own_section))
 
 is_constant_external : (us : Tokens) (s : Section) (vs : Tokens) → Behind sections.ConstantExternal us s vs
     → AfterWord IsExternalSection External us s vs
@@ -127,12 +127,12 @@ is_variable_external : (us : Tokens) (s : Section) (vs : Tokens) → Made sectio
     → AfterWord IsExternalSection External us s vs
 is_variable_external us s vs (made eq) a ts i = u.variable (a, i) eq
 
-reads_external_section : {C : Type 0} → Reads C (λ e. external_section_at) IsExternalSection Any
+sound_external_section : {C : Type 0} → Sound C (λ e. external_section_at) IsExternalSection Any
 unfolding external_section_at
-reads_external_section =
-    reads_as (λ ts s us p. p.3 p.0 ts p.2) (λ x us d. d) (reads_then (reads_keyword w.VarExternal) (λ at. reads_if
-    (is_keyword w.Constant) (reads_as is_constant_external (λ x us d. d) (reads_constant sections.ConstantExternal))
-    (reads_as is_variable_external (λ x us d. d) (reads_pure sections.External Any (λ c us. tt)))))
+sound_external_section =
+    sound_as (λ ts s us p. p.3 p.0 ts p.2) (λ x us d. d) (sound_then (sound_keyword w.VarExternal) (λ at. sound_if
+    (is_keyword w.Constant) (sound_as is_constant_external (λ x us d. d) (sound_constant sections.ConstantExternal))
+    (sound_as is_variable_external (λ x us d. d) (sound_pure sections.External Any (λ c us. tt)))))
 
 -- ---- declarations
 
@@ -149,25 +149,25 @@ is_external : (ts : Tokens) (d : Declaration) (us : Tokens)
     → IsExternal ts d us
 is_external ts d us (xs, t1, n, (c, t2, i, (t, t3, j, (s, t5, k, made eq)))) = u.external xs t n (c, i) j (s, k) eq
 
-reads_names_at : {C : Type 0} → Reads C (λ e. names_at) (Listed (Is name)) Any
+sound_names_at : {C : Type 0} → Sound C (λ e. names_at) (Listed (Is name)) Any
 unfolding names_at
-reads_names_at = reads_as (λ ts x us r. r) (λ x us d. tt) reads_names
+sound_names_at = sound_as (λ ts x us r. r) (λ x us d. tt) sound_names
 
 module _ (depth : ℕ) where
-  reads_declaration : {C : Type 0}
-      → Reads C (λ n. declaration_at (depth + n)) IsDeclaration (λ d us. DeclarationWithin depth d)
+  sound_declaration : {C : Type 0}
+      → Sound C (λ n. declaration_at (depth + n)) IsDeclaration (λ d us. DeclarationWithin depth d)
   unfolding declaration_at
-  reads_declaration =
-      reads_as is_declaration (λ x us d. d) (reads_then reads_names_at (λ xs. reads_then (reads_mark m.Colon) (λ c.
-      reads_then reads_type (λ t. reads_then (reads_given_or_not depth) (λ v. reads_then (reads_mark m.Semicolon) (λ s.
-      reads_pure (record { names = xs; declared = t; initial = v }) (λ d us. DeclarationWithin depth d)
+  sound_declaration =
+      sound_as is_declaration (λ x us d. d) (sound_then sound_names_at (λ xs. sound_then (sound_mark m.Colon) (λ c.
+      sound_then sound_type (λ t. sound_then (sound_given_or_not depth) (λ v. sound_then (sound_mark m.Semicolon) (λ s.
+      sound_pure (record { names = xs; declared = t; initial = v }) (λ d us. DeclarationWithin depth d)
       (λ c us. c.0.1.1)))))))
 
-  reads_external : {C : Type 0} → Reads C (λ n. external_at) IsExternal (λ d us. DeclarationWithin depth d)
+  sound_external : {C : Type 0} → Sound C (λ n. external_at) IsExternal (λ d us. DeclarationWithin depth d)
   unfolding external_at
-  reads_external = reads_as is_external (λ x us d. d) (reads_then reads_names_at
-      (λ xs. reads_then (reads_mark m.Colon) (λ c. reads_then reads_type (λ t. reads_then (reads_mark m.Semicolon) (λ s.
-      reads_pure (record { names = xs; declared = t; initial = None }) (λ d us. DeclarationWithin depth d)
+  sound_external = sound_as is_external (λ x us d. d) (sound_then sound_names_at
+      (λ xs. sound_then (sound_mark m.Colon) (λ c. sound_then sound_type (λ t. sound_then (sound_mark m.Semicolon) (λ s.
+      sound_pure (record { names = xs; declared = t; initial = None }) (λ d us. DeclarationWithin depth d)
       (λ c us. tt))))))
 
   -- ---- blocks
@@ -179,48 +179,48 @@ module _ (depth : ℕ) where
         → IsBlock IsSection IsOne ts b us
     is_block ts b us (s, t1, i, (ds, t2, j, (e, t3, k, made eq))) = u.block s ds i j (e, k) eq
 
-    reads_block : {C : Type 0} → Reads C (λ e. section) IsSection Any
+    sound_block : {C : Type 0} → Sound C (λ e. section) IsSection Any
         → ((ts : Tokens) (d : Declaration) (us : Tokens) → IsOne ts d us → length us < length ts)
-        → Reads (Unit {0}) item IsOne (λ d us. DeclarationWithin depth d)
-        → Reads C (λ n. block_at section (item n)) (IsBlock IsSection IsOne) (λ b us. BlockWithin depth b)
+        → Sound (Unit {0}) item IsOne (λ d us. DeclarationWithin depth d)
+        → Sound C (λ n. block_at section (item n)) (IsBlock IsSection IsOne) (λ b us. BlockWithin depth b)
     unfolding block_at
-    reads_block p less q = reads_as is_block (λ x us d. d) (reads_then p (λ s. reads_then (reads_many is_name item IsOne
-        (DeclarationWithin depth) less (reads_under (λ c. tt) q)) (λ ds. reads_then (reads_keyword w.EndVar) (λ e.
-        reads_pure (record { section = s; declarations = ds }) (λ b us. BlockWithin depth b) (λ c us. c.0.1.1.0)))))
+    sound_block p less q = sound_as is_block (λ x us d. d) (sound_then p (λ s. sound_then (sound_many is_name item IsOne
+        (DeclarationWithin depth) less (sound_under (λ c. tt) q)) (λ ds. sound_then (sound_keyword w.EndVar) (λ e.
+        sound_pure (record { section = s; declarations = ds }) (λ b us. BlockWithin depth b) (λ c us. c.0.1.1.0)))))
 
-  reads_function_block : {C : Type 0} → Reads C (λ n. function_block_at (depth + n))
+  sound_function_block : {C : Type 0} → Sound C (λ n. function_block_at (depth + n))
       (IsBlock IsFunctionSection IsDeclaration) (λ b us. BlockWithin depth b)
   unfolding function_block_at
-  reads_function_block = reads_block function_section_at (λ n. declaration_at (depth + n)) IsFunctionSection
-      IsDeclaration reads_function_section declaration_less reads_declaration
+  sound_function_block = sound_block function_section_at (λ n. declaration_at (depth + n)) IsFunctionSection
+      IsDeclaration sound_function_section declaration_less sound_declaration
 
-  reads_external_block : {C : Type 0}
-      → Reads C (λ n. external_block_at) (IsBlock IsExternalSection IsExternal) (λ b us. BlockWithin depth b)
+  sound_external_block : {C : Type 0}
+      → Sound C (λ n. external_block_at) (IsBlock IsExternalSection IsExternal) (λ b us. BlockWithin depth b)
   unfolding external_block_at
-  reads_external_block = reads_block external_section_at (λ n. external_at) IsExternalSection IsExternal
-      reads_external_section external_less reads_external
+  sound_external_block = sound_block external_section_at (λ n. external_at) IsExternalSection IsExternal
+      sound_external_section external_less sound_external
 
-  reads_program_block : {C : Type 0}
-      → Reads C (λ n. program_block_at (depth + n)) IsProgramBlock (λ b us. BlockWithin depth b)
+  sound_program_block : {C : Type 0}
+      → Sound C (λ n. program_block_at (depth + n)) IsProgramBlock (λ b us. BlockWithin depth b)
   unfolding program_block_at
-  reads_program_block =
-      reads_if (is_keyword w.VarExternal) (reads_as (λ ts b us i. u.external i) (λ x us d. d) reads_external_block)
-      (reads_as (λ ts b us i. u.own i) (λ x us d. d) (reads_block own_section_at (λ n. declaration_at (depth + n))
-      IsOwnSection IsDeclaration reads_own_section declaration_less reads_declaration))
+  sound_program_block =
+      sound_if (is_keyword w.VarExternal) (sound_as (λ ts b us i. u.external i) (λ x us d. d) sound_external_block)
+      (sound_as (λ ts b us i. u.own i) (λ x us d. d) (sound_block own_section_at (λ n. declaration_at (depth + n))
+      IsOwnSection IsDeclaration sound_own_section declaration_less sound_declaration))
 
-  reads_variable_block : {C : Type 0}
-      → Reads C (λ n. variable_block_at (depth + n)) IsFunctionBlockBlock (λ b us. BlockWithin depth b)
+  sound_variable_block : {C : Type 0}
+      → Sound C (λ n. variable_block_at (depth + n)) IsFunctionBlockBlock (λ b us. BlockWithin depth b)
   unfolding variable_block_at
-  reads_variable_block =
-      reads_if (is_keyword w.VarExternal) (reads_as (λ ts b us i. u.external i) (λ x us d. d) reads_external_block)
-      (reads_as (λ ts b us i. u.own i) (λ x us d. d) (reads_block block_section_at (λ n. declaration_at (depth + n))
-      IsBlockSection IsDeclaration reads_block_section declaration_less reads_declaration))
+  sound_variable_block =
+      sound_if (is_keyword w.VarExternal) (sound_as (λ ts b us i. u.external i) (λ x us d. d) sound_external_block)
+      (sound_as (λ ts b us i. u.own i) (λ x us d. d) (sound_block block_section_at (λ n. declaration_at (depth + n))
+      IsBlockSection IsDeclaration sound_block_section declaration_less sound_declaration))
 
   -- ---- units
 
-  reads_stmts : {C : Type 0} → Reads C (λ n. stmts_at (depth + n)) IsStmts (λ xs us. deepest_stmt (stmts_of xs) ≤ depth)
-  reads_stmts =
-      reads_as (λ ts x us r. r) (λ x us d. d.0) (record { begins = stmts_begins; tells = λ c. told_stmts depth })
+  sound_stmts : {C : Type 0} → Sound C (λ n. stmts_at (depth + n)) IsStmts (λ xs us. deepest_stmt (stmts_of xs) ≤ depth)
+  sound_stmts =
+      sound_as (λ ts x us r. r) (λ x us d. d.0) (record { begins = stmts_begins; tells = λ c. told_stmts depth })
 
   is_function : (ts : Tokens) (x : OrganisationUnit) (us : Tokens)
       → Seq (Is (keyword w.Function))
@@ -237,15 +237,15 @@ module _ (depth : ℕ) where
   is_function ts z us (k, t1, i, (x, t2, n, (c, t3, j, (r, t4, o, (bs, t5, b, (body, t6, l, (e, t7, f, made eq))))))) =
       u.function x r bs body (k, i) n (c, j) o b l (e, f) eq
 
-  pub reads_function : {C : Type 0} → Reads C (λ n. function_at (depth + n)) IsUnit (λ x us. UnitWithin depth x)
+  pub sound_function : {C : Type 0} → Sound C (λ n. function_at (depth + n)) IsUnit (λ x us. UnitWithin depth x)
   unfolding function_at
-  reads_function = reads_as is_function (λ x us d. d)
-      (reads_then (reads_keyword w.Function) (λ k. reads_then reads_name (λ x. reads_then (reads_mark m.Colon)
-      (λ c. reads_then (reads_one elementary (token_of (Elementary Int)) (Int, 0) refl) (λ r.
-      reads_then (reads_many starts_function_section (λ n. function_block_at (depth + n))
-      (IsBlock IsFunctionSection IsDeclaration) (BlockWithin depth) function_block_less reads_function_block)
-      (λ bs. reads_then reads_stmts (λ body. reads_then (reads_keyword w.EndFunction) (λ e.
-      reads_pure (record { sort = sorts.Function r.0 r.1; name = x; blocks = bs; body = body })
+  sound_function = sound_as is_function (λ x us d. d)
+      (sound_then (sound_keyword w.Function) (λ k. sound_then sound_name (λ x. sound_then (sound_mark m.Colon)
+      (λ c. sound_then (sound_one elementary (token_of (Elementary Int)) (Int, 0) refl) (λ r.
+      sound_then (sound_many starts_function_section (λ n. function_block_at (depth + n))
+      (IsBlock IsFunctionSection IsDeclaration) (BlockWithin depth) function_block_less sound_function_block)
+      (λ bs. sound_then sound_stmts (λ body. sound_then (sound_keyword w.EndFunction) (λ e.
+      sound_pure (record { sort = sorts.Function r.0 r.1; name = x; blocks = bs; body = body })
       (λ x us. UnitWithin depth x) (λ c us. (c.0.0.1.1.0, c.0.1.1))))))))))
 
   is_block_unit : (ts : Tokens) (x : OrganisationUnit) (us : Tokens)
@@ -255,15 +255,15 @@ module _ (depth : ℕ) where
   is_block_unit ts z us (k, t1, i, (x, t2, n, (bs, t5, b, (body, t6, l, (e, t7, f, made eq))))) =
       u.function_block x bs body (k, i) n b l (e, f) eq
 
-  pub reads_block_unit : {C : Type 0}
-      → Reads C (λ n. function_block_unit_at (depth + n)) IsUnit (λ x us. UnitWithin depth x)
+  pub sound_block_unit : {C : Type 0}
+      → Sound C (λ n. function_block_unit_at (depth + n)) IsUnit (λ x us. UnitWithin depth x)
   unfolding function_block_unit_at
-  reads_block_unit =
-      reads_as is_block_unit (λ x us d. d) (reads_then (reads_keyword w.FunctionBlock) (λ k. reads_then reads_name (λ x.
-      reads_then (reads_many starts_block_section (λ n. variable_block_at (depth + n)) IsFunctionBlockBlock
-      (BlockWithin depth) variable_block_less reads_variable_block)
-      (λ bs. reads_then reads_stmts (λ body. reads_then (reads_keyword w.EndFunctionBlock) (λ e.
-      reads_pure (record { sort = sorts.FunctionBlock; name = x; blocks = bs; body = body })
+  sound_block_unit =
+      sound_as is_block_unit (λ x us d. d) (sound_then (sound_keyword w.FunctionBlock) (λ k. sound_then sound_name (λ x.
+      sound_then (sound_many starts_block_section (λ n. variable_block_at (depth + n)) IsFunctionBlockBlock
+      (BlockWithin depth) variable_block_less sound_variable_block)
+      (λ bs. sound_then sound_stmts (λ body. sound_then (sound_keyword w.EndFunctionBlock) (λ e.
+      sound_pure (record { sort = sorts.FunctionBlock; name = x; blocks = bs; body = body })
       (λ x us. UnitWithin depth x) (λ c us. (c.0.0.1.1.0, c.0.1.1))))))))
 
   is_program : (ts : Tokens) (x : OrganisationUnit) (us : Tokens)
@@ -273,12 +273,12 @@ module _ (depth : ℕ) where
   is_program ts z us (k, t1, i, (x, t2, n, (bs, t5, b, (body, t6, l, (e, t7, f, made eq))))) =
       u.program x bs body (k, i) n b l (e, f) eq
 
-  pub reads_program : {C : Type 0} → Reads C (λ n. program_at (depth + n)) IsUnit (λ x us. UnitWithin depth x)
+  pub sound_program : {C : Type 0} → Sound C (λ n. program_at (depth + n)) IsUnit (λ x us. UnitWithin depth x)
   unfolding program_at
-  reads_program =
-      reads_as is_program (λ x us d. d) (reads_then (reads_keyword w.Program) (λ k. reads_then reads_name (λ x.
-      reads_then (reads_many starts_program_section (λ n. program_block_at (depth + n)) IsProgramBlock
-      (BlockWithin depth) program_block_less reads_program_block)
-      (λ bs. reads_then reads_stmts (λ body. reads_then (reads_keyword w.EndProgram) (λ e.
-      reads_pure (record { sort = sorts.Program; name = x; blocks = bs; body = body }) (λ x us. UnitWithin depth x)
+  sound_program =
+      sound_as is_program (λ x us d. d) (sound_then (sound_keyword w.Program) (λ k. sound_then sound_name (λ x.
+      sound_then (sound_many starts_program_section (λ n. program_block_at (depth + n)) IsProgramBlock
+      (BlockWithin depth) program_block_less sound_program_block)
+      (λ bs. sound_then sound_stmts (λ body. sound_then (sound_keyword w.EndProgram) (λ e.
+      sound_pure (record { sort = sorts.Program; name = x; blocks = bs; body = body }) (λ x us. UnitWithin depth x)
       (λ c us. (c.0.0.1.1.0, c.0.1.1))))))))

@@ -1,4 +1,4 @@
--- What reading tells of expressions.
+-- What is read as an expression is one, and what stands before a refusal begins one.
 use Rattle.std.proofs.Common.{◌≡◌, ℕ, zero, suc, ◌+◌, ◌<◌, ◌≤◌, ltb, leb, cond, Bool, true, false, ◌||◌, ◌&&◌, List, []}
 use Rattle.std.proofs.Common.{◌∷◌, length, Option, Some, None, Ok, Err, refl, sym, ap, subst, ◌∙◌, ◌⊎◌, arith, inl, inr}
 use Rattle.std.proofs.lemmas.Bool.{cases_Bool, ltb-false, ltb-true, leb-true, leb-false, le-ltb, lt-leb, le-leb}
@@ -33,15 +33,15 @@ use Rattle.st_statements.specs.Expressions.{IsExpr, literal, variable, call, par
 use Rattle.st_statements.specs.Expressions.{binary, IsVariable, selected, IsSelectors, no_selector, selector}
 use Rattle.st_statements.specs.Expressions.{IsSelector, member, subscript, IsArguments, no_argument, argument}
 use Rattle.st_statements.specs.Expressions.{IsMoreArguments, no_more_arguments, next_argument}
-use Rattle.st_statements.proofs.Told.{Family, Told, Tells, Any, Seq, Made, made, made_begins, seq_begins, begins_as}
-use Rattle.st_statements.proofs.Told.{then_at, told_as, told_agree, told_pure, told_refuse, told_if, told_by_kind}
-use Rattle.st_statements.proofs.Told.{told_too_deep, told_guard, Unless, told_unless}
-use Rattle.st_statements.proofs.ToldTurns.{told_turns}
-use Rattle.st_statements.proofs.Readings.{Reads, told_by, reads_then, reads_pure, reads_as, reads_if, reads_one}
-use Rattle.st_statements.proofs.Readings.{reads_mark, reads_keyword, reads_name, reads_whole, token_of, a_number}
-use Rattle.st_statements.proofs.Readings.{number_token, an_identifier, mark_same, mark_is, keyword_is, mark_at}
-use Rattle.st_statements.proofs.Readings.{keyword_at}
-use Rattle.st_statements.proofs.Lists.{reads_several, reads_listed}
+use Rattle.st_statements.proofs.Sound.{Family, Told, Tells, Any, Seq, Made, made, made_begins, seq_begins, begins_as}
+use Rattle.st_statements.proofs.Sound.{then_at, told_as, told_agree, told_pure, told_refuse, told_if, told_by_kind}
+use Rattle.st_statements.proofs.Sound.{told_too_deep, told_guard, Unless, told_unless}
+use Rattle.st_statements.proofs.SoundTurns.{told_turns}
+use Rattle.st_statements.proofs.SoundReadings.{Sound, told_by, sound_then, sound_pure, sound_as, sound_if, sound_one}
+use Rattle.st_statements.proofs.SoundReadings.{sound_mark, sound_keyword, sound_name, sound_whole, token_of, a_number}
+use Rattle.st_statements.proofs.SoundReadings.{number_token, an_identifier, mark_same, mark_is, keyword_is, mark_at}
+use Rattle.st_statements.proofs.SoundReadings.{keyword_at}
+use Rattle.st_statements.proofs.SoundLists.{sound_several, sound_listed}
 use Rattle.st_statements.proofs.ExpressionFacts.{is_less, expr_less, selector_less, weaken, each_depth, each_subscript}
 use Rattle.st_statements.proofs.ExpressionFacts.{binds_small, strength, a_name, name_is, expr_begins, a_variable_is}
 use Rattle.st_statements.proofs.ExpressionFacts.{or_false, or_true}
@@ -79,20 +79,20 @@ is_literal_operand : (ts : Tokens) (x : Expr) (us : Tokens) → Seq (Is literal_
     → IsOperand ts x us
 is_literal_operand ts x us (l, vs, i, made eq) = record { any = λ k. literal l i eq; plain = ap strength eq }
 
-reads_literal : {C : Type 0} (n : ℕ) → Reads C (λ e. literal_at) IsOperand (Low (n + 1))
+sound_literal : {C : Type 0} (n : ℕ) → Sound C (λ e. literal_at) IsOperand (Low (n + 1))
 unfolding literal_at
-reads_literal n = reads_as is_literal_operand (λ x us d. d) (reads_then (reads_one literal_of number_token
-    (literals.Number a_number) refl) (λ l. reads_pure (e.literal l) (Low (n + 1)) (λ c us. omega arith)))
+sound_literal n = sound_as is_literal_operand (λ x us d. d) (sound_then (sound_one literal_of number_token
+    (literals.Number a_number) refl) (λ l. sound_pure (e.literal l) (Low (n + 1)) (λ c us. omega arith)))
 
 is_negative : (at : ℕ) (ts : Tokens) (x : Expr) (us : Tokens)
     → Seq (Is whole) (λ n. Made (e.literal (literals.Number (negative_at at n)))) ts x us → AfterMinus at ts x us
 is_negative at ts x us (n, vs, i, made eq) =
     record { low = λ k rs le s. negative at n le s i eq; plain = ap strength eq }
 
-reads_negative : {C : Type 0} (n at : ℕ) → Reads C (λ e. negative_of at) (AfterMinus at) (Low (n + 1))
+sound_negative : {C : Type 0} (n at : ℕ) → Sound C (λ e. negative_of at) (AfterMinus at) (Low (n + 1))
 unfolding negative_of
-reads_negative n at = reads_as (is_negative at) (λ x us d. d) (reads_then reads_whole
-    (λ l. reads_pure (e.literal (literals.Number (negative_at at l))) (Low (n + 1)) (λ c us. omega arith)))
+sound_negative n at = sound_as (is_negative at) (λ x us d. d) (sound_then sound_whole
+    (λ l. sound_pure (e.literal (literals.Number (negative_at at l))) (Low (n + 1)) (λ c us. omega arith)))
 
 abbrev pub LowSelector : ℕ → Selector → Tokens → Type 0
 LowSelector depth s us = depth_of_subscript s ≤ depth
@@ -101,10 +101,10 @@ is_member : (ts : Tokens) (s : Selector) (us : Tokens)
     → Seq (Is (mark m.Dot)) (λ at. Seq (Is name) (λ x. Made (e.member x))) ts s us → IsSelector ts s us
 is_member ts s us (at, vs, d, (x, ws, n, made eq)) = member x (at, d) n eq
 
-reads_member : {C : Type 0} (n : ℕ) → Reads C (λ e. member_at) IsSelector (LowSelector n)
+sound_member : {C : Type 0} (n : ℕ) → Sound C (λ e. member_at) IsSelector (LowSelector n)
 unfolding member_at
-reads_member n = reads_as is_member (λ x us d. d) (reads_then (reads_mark m.Dot)
-    (λ at. reads_then reads_name (λ x. reads_pure (e.member x) (LowSelector n) (λ c us. omega arith))))
+sound_member n = sound_as is_member (λ x us d. d) (sound_then (sound_mark m.Dot)
+    (λ at. sound_then sound_name (λ x. sound_pure (e.member x) (LowSelector n) (λ c us. omega arith))))
 
 -- ---- what takes expressions one level down
 
@@ -186,69 +186,69 @@ LowEach depth xs us = deepest (exprs_of xs) ≤ depth
 
 module _ (below : ℕ) (expr : ℕ → ℕ → Parser Expr)
     (tells : (least : ℕ) → least ≤ 9 → Tells (λ e. expr e least) (IsExpr least) (LowExpr below least)) where
-  reads_expr : {C : Type 0} (least : ℕ) → least ≤ 9 → Reads C (λ e. expr e least) (IsExpr least) (LowExpr below least)
-  reads_expr least le = record { begins = expr_begins least; tells = λ c. tells least le }
+  sound_expr : {C : Type 0} (least : ℕ) → least ≤ 9 → Sound C (λ e. expr e least) (IsExpr least) (LowExpr below least)
+  sound_expr least le = record { begins = expr_begins least; tells = λ c. tells least le }
 
-  reads_subscript : {C : Type 0} → Reads C (λ e. subscript_at (expr e)) IsSelector (LowSelector below)
+  sound_subscript : {C : Type 0} → Sound C (λ e. subscript_at (expr e)) IsSelector (LowSelector below)
   unfolding subscript_at
-  reads_subscript = reads_as is_subscript (λ x us d. d) (reads_then (reads_mark m.OpenBracket)
-      (λ at. reads_then (reads_expr 1 (omega arith)) (λ x. reads_then (reads_mark m.CloseBracket) (λ end.
-      reads_pure (e.subscript x) (LowSelector below) (λ c us. c.0.1.1.0)))))
+  sound_subscript = sound_as is_subscript (λ x us d. d) (sound_then (sound_mark m.OpenBracket)
+      (λ at. sound_then (sound_expr 1 (omega arith)) (λ x. sound_then (sound_mark m.CloseBracket) (λ end.
+      sound_pure (e.subscript x) (LowSelector below) (λ c us. c.0.1.1.0)))))
 
-  reads_selector : {C : Type 0} → Reads C (λ e. selector_at (expr e)) IsSelector (LowSelector below)
+  sound_selector : {C : Type 0} → Sound C (λ e. selector_at (expr e)) IsSelector (LowSelector below)
   unfolding selector_at
-  reads_selector = reads_if (is_mark m.Dot) (reads_member below) reads_subscript
+  sound_selector = sound_if (is_mark m.Dot) (sound_member below) sound_subscript
 
-  reads_selectors : {C : Type 0}
-      → Reads C (λ e. selectors_at (expr e)) IsSelectors (λ xs us. deepest_subscript (selectors_of xs) ≤ below)
+  sound_selectors : {C : Type 0}
+      → Sound C (λ e. selectors_at (expr e)) IsSelectors (λ xs us. deepest_subscript (selectors_of xs) ≤ below)
   unfolding selectors_at
-  reads_selectors = reads_as (λ ts ys us s. subst (λ (zs : List Selector). IsSelectors ts zs us) (sym s.2) s.1)
+  sound_selectors = sound_as (λ ts ys us s. subst (λ (zs : List Selector). IsSelectors ts zs us) (sym s.2) s.1)
       (λ xs us d. each_subscript below xs d.0)
-      (reads_several starts_selector (λ e. selector_at (expr e)) IsSelector IsSelectors
+      (sound_several starts_selector (λ e. selector_at (expr e)) IsSelector IsSelectors
       (λ x. depth_of_subscript x ≤ below) (λ ts. no_selector) (λ ts x us xs vs o r. selector o r)
-      (λ ts x us o. selector_less o) [] (λ c. tt) reads_selector)
+      (λ ts x us o. selector_less o) [] (λ c. tt) sound_selector)
 
-  pub reads_variable_of : {C : Type 0} (x : Identifier)
-      → Reads C (λ e. variable_of (expr e) x) (Selected x) (LowVariable (below + 1))
+  pub sound_variable_of : {C : Type 0} (x : Identifier)
+      → Sound C (λ e. variable_of (expr e) x) (Selected x) (LowVariable (below + 1))
   unfolding variable_of
-  reads_variable_of x = reads_then reads_selectors (λ xs.
-      reads_pure (e.variable x (selectors_of xs)) (LowVariable (below + 1)) (λ c us. let l = c.1.1 in omega arith))
+  sound_variable_of x = sound_then sound_selectors (λ xs.
+      sound_pure (e.variable x (selectors_of xs)) (LowVariable (below + 1)) (λ c us. let l = c.1.1 in omega arith))
 
-  reads_read_of : {C : Type 0} (x : Identifier) → Reads C (λ e. read_of (expr e) x) (AfterName x) (Low (below + 1))
+  sound_read_of : {C : Type 0} (x : Identifier) → Sound C (λ e. read_of (expr e) x) (AfterName x) (Low (below + 1))
   unfolding read_of
-  reads_read_of x = reads_as (is_read x) (λ y us d. d)
-      (reads_then (reads_variable_of x) (λ v. reads_pure (e.read v) (Low (below + 1)) (λ c us. c.1.1)))
+  sound_read_of x = sound_as (is_read x) (λ y us d. d)
+      (sound_then (sound_variable_of x) (λ v. sound_pure (e.read v) (Low (below + 1)) (λ c us. c.1.1)))
 
-  reads_arguments : {C : Type 0} → Reads C (λ e. arguments_at (expr e)) IsArguments (LowEach below)
+  sound_arguments : {C : Type 0} → Sound C (λ e. arguments_at (expr e)) IsArguments (LowEach below)
   unfolding arguments_at
-  reads_arguments = reads_if (is_mark m.Close)
-      (reads_as (λ ts xs us s. no_arguments ts xs us s) (λ x us d. d)
-      (reads_pure [] (LowEach below) (λ c us. omega arith)))
-      (reads_as (λ ts xs us s. s) (λ xs us d. each_depth below xs d.0)
-      (reads_listed (λ e. expr e 1) (IsExpr 1) IsMoreArguments IsArguments (λ x. depth_of x ≤ below)
+  sound_arguments = sound_if (is_mark m.Close)
+      (sound_as (λ ts xs us s. no_arguments ts xs us s) (λ x us d. d)
+      (sound_pure [] (LowEach below) (λ c us. omega arith)))
+      (sound_as (λ ts xs us s. s) (λ xs us d. each_depth below xs d.0)
+      (sound_listed (λ e. expr e 1) (IsExpr 1) IsMoreArguments IsArguments (λ x. depth_of x ≤ below)
       (λ ts. no_more_arguments) (λ ts us x vs xs ws c o r. next_argument c o r) (λ ts x us o. expr_less o)
       (λ ts x us xs vs o r. argument o r)
-      (reads_as (λ ts x us i. i) (λ x us d. d.0) (reads_expr 1 (omega arith)))))
+      (sound_as (λ ts x us i. i) (λ x us d. d.0) (sound_expr 1 (omega arith)))))
     where
       no_arguments : (ts : Tokens) (xs : List Expr) (us : Tokens) → Made [] ts xs us → IsArguments ts xs us
       no_arguments ts xs us (made eq) = subst (λ (zs : List Expr). IsArguments ts zs ts) (sym eq) no_argument
 
-  reads_call_of : {C : Type 0} (f : Identifier) → Reads C (λ e. call_of (expr e) f) (AfterName f) (Low (below + 1))
+  sound_call_of : {C : Type 0} (f : Identifier) → Sound C (λ e. call_of (expr e) f) (AfterName f) (Low (below + 1))
   unfolding call_of
-  reads_call_of f = reads_as (is_call f) (λ y us d. d)
-      (reads_then (reads_mark m.Open) (λ at. reads_then reads_arguments (λ es. reads_then (reads_mark m.Close) (λ end.
-      reads_pure (e.call f (exprs_of es)) (Low (below + 1)) (λ c us. let l = c.0.1.1 in omega arith)))))
+  sound_call_of f = sound_as (is_call f) (λ y us d. d)
+      (sound_then (sound_mark m.Open) (λ at. sound_then sound_arguments (λ es. sound_then (sound_mark m.Close) (λ end.
+      sound_pure (e.call f (exprs_of es)) (Low (below + 1)) (λ c us. let l = c.0.1.1 in omega arith)))))
 
-  reads_named : {C : Type 0} → Reads C (λ e. named_at (expr e)) IsOperand (Low (below + 1))
+  sound_named : {C : Type 0} → Sound C (λ e. named_at (expr e)) IsOperand (Low (below + 1))
   unfolding named_at
-  reads_named = reads_as is_named (λ y us d. d)
-      (reads_then reads_name (λ x. reads_if (is_mark m.Open) (reads_call_of x) (reads_read_of x)))
+  sound_named = sound_as is_named (λ y us d. d)
+      (sound_then sound_name (λ x. sound_if (is_mark m.Open) (sound_call_of x) (sound_read_of x)))
 
-  reads_parenthesis : {C : Type 0} → Reads C (λ e. parenthesis_at (expr e)) IsOperand (Low (below + 1))
+  sound_parenthesis : {C : Type 0} → Sound C (λ e. parenthesis_at (expr e)) IsOperand (Low (below + 1))
   unfolding parenthesis_at
-  reads_parenthesis = reads_as is_parenthesis (λ x us d. d) (reads_then (reads_mark m.Open)
-      (λ at. reads_then (reads_expr 1 (omega arith)) (λ x. reads_then (reads_mark m.Close) (λ end.
-      reads_pure (e.parenthesis at x) (Low (below + 1)) (λ c us. let l = c.0.1.1.0 in omega arith)))))
+  sound_parenthesis = sound_as is_parenthesis (λ x us d. d) (sound_then (sound_mark m.Open)
+      (λ at. sound_then (sound_expr 1 (omega arith)) (λ x. sound_then (sound_mark m.Close) (λ end.
+      sound_pure (e.parenthesis at x) (Low (below + 1)) (λ c us. let l = c.0.1.1.0 in omega arith)))))
 
   operand_begins : Begins IsOperand []
   operand_begins = record {
@@ -260,61 +260,61 @@ module _ (below : ℕ) (expr : ℕ → ℕ → Parser Expr)
 
   told_operand_by : (k : TokenKind) (t : Token) (ts : Tokens)
       → Told (λ e. operand_by (expr e) k) IsOperand (Low (below + 1)) (t ∷ ts) (operand_by (expr 0) k (t ∷ ts))
-  told_operand_by (Number n) t ts = told_by (reads_literal below) (t ∷ ts)
-  told_operand_by (Truth n) t ts = told_by (reads_literal below) (t ∷ ts)
-  told_operand_by (Duration n) t ts = told_by (reads_literal below) (t ∷ ts)
-  told_operand_by (Name n) t ts = told_by reads_named (t ∷ ts)
-  told_operand_by (Mark m.Open) t ts = told_by reads_parenthesis (t ∷ ts)
+  told_operand_by (Number n) t ts = told_by (sound_literal below) (t ∷ ts)
+  told_operand_by (Truth n) t ts = told_by (sound_literal below) (t ∷ ts)
+  told_operand_by (Duration n) t ts = told_by (sound_literal below) (t ∷ ts)
+  told_operand_by (Name n) t ts = told_by sound_named (t ∷ ts)
+  told_operand_by (Mark m.Open) t ts = told_by sound_parenthesis (t ∷ ts)
   told_operand_by _ t ts =
       told_refuse (λ e. refuse) IsOperand (Low (below + 1)) (t ∷ ts) operand_begins (λ e more same. refl)
 
-  reads_operand : {C : Type 0} → Reads C (λ e. operand_at (expr e)) IsOperand (Low (below + 1))
+  sound_operand : {C : Type 0} → Sound C (λ e. operand_at (expr e)) IsOperand (Low (below + 1))
   unfolding operand_at
-  reads_operand = record {
+  sound_operand = record {
     begins = operand_begins;
     tells = λ c. told_by_kind (λ e. operand_by (expr e)) IsOperand
         (Low (below + 1)) operand_begins (λ t ts. told_operand_by t.kind t ts);
   }
 
-  reads_negated_of : {C : Type 0} (at : ℕ) → Reads C (λ e. negated_of (expr e) at)
+  sound_negated_of : {C : Type 0} (at : ℕ) → Sound C (λ e. negated_of (expr e) at)
       (Seq (IsExpr operand_level) (λ inner. Made (e.unary Negate at inner))) (Low (below + 1))
   unfolding negated_of
-  reads_negated_of at = reads_then (reads_expr 9 (omega arith))
-      (λ x. reads_pure (e.unary Negate at x) (Low (below + 1)) (λ c us. let l = c.1.1.0 in omega arith))
+  sound_negated_of at = sound_then (sound_expr 9 (omega arith))
+      (λ x. sound_pure (e.unary Negate at x) (Low (below + 1)) (λ c us. let l = c.1.1.0 in omega arith))
 
   after_minus_begins : (at : ℕ) → Begins (AfterMinus at) []
   after_minus_begins at =
       begins_as (Unless is_number (Seq (IsExpr operand_level) (λ inner. Made (e.unary Negate at inner))))
       (AfterMinus at) (is_negated at) [] (negated_begins at)
 
-  reads_after_minus : {C : Type 0} (at : ℕ)
-      → Reads C (λ e. if_next is_number (negative_of at) (negated_of (expr e) at)) (AfterMinus at) (Low (below + 1))
-  reads_after_minus at = record {
+  sound_after_minus : {C : Type 0} (at : ℕ)
+      → Sound C (λ e. if_next is_number (negative_of at) (negated_of (expr e) at)) (AfterMinus at) (Low (below + 1))
+  sound_after_minus at = record {
     begins = after_minus_begins at;
     tells = λ c ts.
         told_if is_number (λ e. negative_of at) (λ e. negated_of (expr e) at) (AfterMinus at) (Low (below + 1)) ts
-        (λ hit. told_by (reads_negative below at) ts)
+        (λ hit. told_by (sound_negative below at) ts)
         (λ miss. told_as (λ e. negated_of (expr e) at)
         (Unless is_number (Seq (IsExpr operand_level) (λ inner. Made (e.unary Negate at inner)))) (AfterMinus at)
         (Low (below + 1)) (Low (below + 1)) (is_negated at) (λ x us d. d) ts (negated_of (expr 0) at ts)
         (told_unless is_number (λ e. negated_of (expr e) at)
         (Seq (IsExpr operand_level) (λ inner. Made (e.unary Negate at inner))) (Low (below + 1)) (negated_begins at)
-        (negated_less at) ts (negated_of (expr 0) at ts) miss (told_by (reads_negated_of at) ts)));
+        (negated_less at) ts (negated_of (expr 0) at ts) miss (told_by (sound_negated_of at) ts)));
   }
 
-  reads_minus : {C : Type 0} → Reads C (λ e. minus_at (expr e)) IsSigned (Low (below + 1))
+  sound_minus : {C : Type 0} → Sound C (λ e. minus_at (expr e)) IsSigned (Low (below + 1))
   unfolding minus_at
-  reads_minus = reads_as is_minus (λ x us d. d) (reads_then (reads_mark m.Minus) (λ at. reads_after_minus at))
+  sound_minus = sound_as is_minus (λ x us d. d) (sound_then (sound_mark m.Minus) (λ at. sound_after_minus at))
 
-  reads_not : {C : Type 0} → Reads C (λ e. not_at (expr e)) IsSigned (Low (below + 1))
+  sound_not : {C : Type 0} → Sound C (λ e. not_at (expr e)) IsSigned (Low (below + 1))
   unfolding not_at
-  reads_not = reads_as is_inverted (λ x us d. d) (reads_then (reads_keyword w.Not) (λ at. reads_then (reads_expr 9
-      (omega arith)) (λ x. reads_pure (e.unary Not at x) (Low (below + 1)) (λ c us. let l = c.1.1.0 in omega arith))))
+  sound_not = sound_as is_inverted (λ x us d. d) (sound_then (sound_keyword w.Not) (λ at. sound_then (sound_expr 9
+      (omega arith)) (λ x. sound_pure (e.unary Not at x) (Low (below + 1)) (λ c us. let l = c.1.1.0 in omega arith))))
 
-  reads_unary : {C : Type 0} → Reads C (λ e. unary_at (expr e)) IsSigned (Low (below + 1))
+  sound_unary : {C : Type 0} → Sound C (λ e. unary_at (expr e)) IsSigned (Low (below + 1))
   unfolding unary_at
-  reads_unary = reads_if (is_mark m.Minus) reads_minus (reads_if (is_keyword w.Not) reads_not
-      (reads_as (λ ts x us o. record { low = λ k le. o.any k; plain = o.plain }) (λ x us d. d) reads_operand))
+  sound_unary = sound_if (is_mark m.Minus) sound_minus (sound_if (is_keyword w.Not) sound_not
+      (sound_as (λ ts x us o. record { low = λ k le. o.any k; plain = o.plain }) (λ x us d. d) sound_operand))
 
   -- ---- operators
 
@@ -474,7 +474,7 @@ module _ (below : ℕ) (expr : ℕ → ℕ → Parser Expr)
       (then_at (λ e. unary_at (expr e)) (λ a e. operations_of (expr e) (below + e) least a) IsSigned (Grown least)
       (Low (below + 1)) (Over least)
       (λ a. record { more = []; tree = a; whole = λ after. grown_stop least a after }) ts (unary_at (expr 0) ts)
-      (told_by reads_unary ts)
+      (told_by sound_unary ts)
       (λ a us eq k. let p = (k.is us).plain in told_operations least a us (k.low, rw p (none_past us))))
     where
       none_past : (us : Tokens) → next (goes_on (8 + 1)) us ≡ false
@@ -482,7 +482,7 @@ module _ (below : ℕ) (expr : ℕ → ℕ → Parser Expr)
 
   pub told_operand : Tells (λ e. operand_at (expr e)) (IsExpr 9) (LowExpr (below + 1) 9)
   told_operand ts = told_as (λ e. operand_at (expr e)) IsOperand (IsExpr 9) (Low (below + 1)) (LowExpr (below + 1) 9)
-      (λ ts x us o. o.any 9) (λ x us d. (d, none_binds us)) ts (operand_at (expr 0) ts) (told_by reads_operand ts)
+      (λ ts x us o. o.any 9) (λ x us d. (d, none_binds us)) ts (operand_at (expr 0) ts) (told_by sound_operand ts)
 
 -- ---- where no depth is left
 
@@ -703,9 +703,9 @@ variable_begun t _ eq named' = absurd cc
 is_selected : (ts : Tokens) (v : Variable) (us : Tokens) → Seq (Is name) Selected ts v us → IsVariable ts v us
 is_selected ts v us s = selected_is s.0 ts s.1 us v s.2 s.3
 
-pub reads_selected : {C : Type 0} (depth : ℕ) (x : Identifier)
-    → Reads C (λ n. variable_of (expr_at (depth + n)) x) (Selected x) (LowVariable (depth + 1))
-reads_selected depth x = reads_variable_of depth (λ n. expr_at (depth + n)) (told_expr depth) x
+pub sound_selected : {C : Type 0} (depth : ℕ) (x : Identifier)
+    → Sound C (λ n. variable_of (expr_at (depth + n)) x) (Selected x) (LowVariable (depth + 1))
+sound_selected depth x = sound_variable_of depth (λ n. expr_at (depth + n)) (told_expr depth) x
 
 pub told_variable : (depth : ℕ) → Tells (λ n. variable_at (depth + n)) IsVariable (LowVariable depth)
 told_variable zero ts = told_too_deep is_name (λ n. variable_at (zero + n)) IsVariable (LowVariable zero)
@@ -714,5 +714,5 @@ told_variable zero ts = told_too_deep is_name (λ n. variable_at (zero + n)) IsV
 told_variable (suc below) ts =
     rw (variable_deeper below 0 ts) (told_agree (VariableBelow below) (λ n. variable_at (suc below + n)) IsVariable
     (LowVariable (suc below)) ts (VariableBelow below 0 ts) (λ n more same. variable_deeper below n more)
-    (told_by (reads_as is_selected (λ v us d. let l = d in omega arith)
-    (reads_then reads_name (λ x. reads_selected below x))) ts))
+    (told_by (sound_as is_selected (λ v us d. let l = d in omega arith)
+    (sound_then sound_name (λ x. sound_selected below x))) ts))

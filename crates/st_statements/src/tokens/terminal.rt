@@ -2,17 +2,18 @@
 
 ghost use Rattle.std.specs.Prelude.{◌≡◌};
 ghost use Rattle.st_statements.specs.Tokens as specs;
-ghost use Rattle.st_statements.specs.Parsers.{Gives, one};
+ghost use Rattle.st_statements.specs.Parsers.{Reads, as_is, one};
 
 use crate::fault::ReadError;
-use crate::next::{is_keyword, is_mark, refused};
+use crate::tokens::{is_keyword, is_mark, refused};
 use st_lex::{Keyword, Mark, Token, TokenKind, WholeNumber};
 use st_words::{Identifier, Literal, Number};
 use std::alloc::Global;
 
+/// `mark(m) = m .`
 /// A mark, at its place, and the tokens after it.
 pub fn mark(mark: Mark, tokens: &[Token]) -> Result<(usize, &[Token]), ReadError>
-    ensures { Gives (λ x. (x.0, x.1.now)) result (one (specs.mark mark) tokens.now) }
+    ensures { Reads as_is result (one (specs.mark mark) tokens.now) }
 {
     match tokens {
         [t, rest @ ..] if is_mark(mark, &t.kind) => Ok((t.start, rest)),
@@ -20,9 +21,10 @@ pub fn mark(mark: Mark, tokens: &[Token]) -> Result<(usize, &[Token]), ReadError
     }
 }
 
+/// `keyword(w) = w .`
 /// A keyword, at its place, and the tokens after it.
 pub fn keyword(keyword: Keyword, tokens: &[Token]) -> Result<(usize, &[Token]), ReadError>
-    ensures { Gives (λ x. (x.0, x.1.now)) result (one (specs.keyword keyword) tokens.now) }
+    ensures { Reads as_is result (one (specs.keyword keyword) tokens.now) }
 {
     match tokens {
         [t, rest @ ..] if is_keyword(keyword, &t.kind) => Ok((t.start, rest)),
@@ -30,9 +32,10 @@ pub fn keyword(keyword: Keyword, tokens: &[Token]) -> Result<(usize, &[Token]), 
     }
 }
 
+/// `name = Name .`
 /// A name, and the tokens after it.
 pub fn name(alloc: Global, tokens: &[Token]) -> Result<(Identifier, &[Token]), ReadError>
-    ensures { Gives (λ x. (x.0, x.1.now)) result (one specs.name tokens.now) }
+    ensures { Reads as_is result (one specs.name tokens.now) }
 {
     let [t, rest @ ..] = tokens else {
         return Err(refused(tokens));
@@ -76,9 +79,10 @@ pub fn negative_at(place: usize, number: Number) -> Number
     }
 }
 
+/// `whole = Number .`
 /// A whole number or bit string without a sign, and the tokens after it.
 pub fn whole(tokens: &[Token]) -> Result<(Number, &[Token]), ReadError>
-    ensures { Gives (λ x. (x.0, x.1.now)) result (one specs.whole tokens.now) }
+    ensures { Reads as_is result (one specs.whole tokens.now) }
 {
     let [t, rest @ ..] = tokens else {
         return Err(refused(tokens));
@@ -89,9 +93,10 @@ pub fn whole(tokens: &[Token]) -> Result<(Number, &[Token]), ReadError>
     }
 }
 
+/// `literal = Number | Truth | Duration .`
 /// A literal without a sign, and the tokens after it.
 pub fn literal(tokens: &[Token]) -> Result<(Literal, &[Token]), ReadError>
-    ensures { Gives (λ x. (x.0, x.1.now)) result (one specs.literal tokens.now) }
+    ensures { Reads as_is result (one specs.literal tokens.now) }
 {
     let [t, rest @ ..] = tokens else {
         return Err(refused(tokens));

@@ -1,4 +1,4 @@
--- Initial values of the grammar are read.
+-- What is an initial value is read.
 use Rattle.std.proofs.Common.{◌≡◌, ℕ, zero, suc, ◌≤◌, true, false, List, [], ◌∷◌, Some, Ok, refl, sym, ap, subst, ◌∙◌}
 use Rattle.std.proofs.Common.{arith, inl, inr}
 use Rattle.std.proofs.lemmas.Bool.{cases_Bool}
@@ -26,9 +26,9 @@ use Rattle.st_statements.specs.Initials.{IsElements, elements, IsMoreElements, n
 use Rattle.st_statements.specs.Initials.{IsElement, single, repeated, defaults, IsMembers, members, IsMoreMembers}
 use Rattle.st_statements.specs.Initials.{no_more_members, next_member, IsMember, member}
 use Rattle.st_statements.proofs.ExpressionFacts.{is_less}
-use Rattle.st_statements.proofs.ToldInitials.{element_less, member_less, initial_some}
-use Rattle.st_statements.proofs.Again.{one_again, mark_head, whole_head, Repeats, repeats_halt, repeats_step}
-use Rattle.st_statements.proofs.Again.{after_comma_again, comma_next, listed_again}
+use Rattle.st_statements.proofs.SoundInitials.{element_less, member_less, initial_some}
+use Rattle.st_statements.proofs.Complete.{one_complete, mark_head, whole_head, Repeats, repeats_halt, repeats_step}
+use Rattle.st_statements.proofs.Complete.{after_comma_complete, comma_next, listed_complete}
 
 literal_plain : (x : MarkType) (at : ℕ) (k : TokenKind) (l : Literal) → literal_in at k ≡ Some l → is_mark x k ≡ false
 literal_plain x at (Mark y) l eq = absurd cc
@@ -39,32 +39,32 @@ literal_head x {l = l} (is {t} eq) = literal_plain x t.start t.kind l eq
 
 -- ---- constants
 
-constant_again : (below : ℕ) {ts us : Tokens} {l : Literal} → IsConstant ts l us
+constant_complete : (below : ℕ) {ts us : Tokens} {l : Literal} → IsConstant ts l us
     → initial_at (suc below) ts ≡ Ok (i.constant l, us)
 unfolding initial_at negative_constant_at literal_constant_at negative_number_at same_mark
-constant_again below (literal p) =
-    rw (literal_head m.OpenBracket p, literal_head m.Open p, literal_head m.Minus p, one_again p) refl
-constant_again below (negative at n p q eq) =
+constant_complete below (literal p) =
+    rw (literal_head m.OpenBracket p, literal_head m.Open p, literal_head m.Minus p, one_complete p) refl
+constant_complete below (negative at n p q eq) =
     let a = mark_head m.Minus (is_mark m.OpenBracket) p in
     let b = mark_head m.Minus (is_mark m.Open) p in
     let c = mark_head m.Minus (is_mark m.Minus) p in
-    rw (a, b, c, one_again p, one_again q, eq) refl
+    rw (a, b, c, one_complete p, one_complete q, eq) refl
 
-list_again : (below : ℕ) {ts us vs ws : Tokens} {at : ℕ} {xs : List Element} → Is (mark m.OpenBracket) ts at us
+list_complete : (below : ℕ) {ts us vs ws : Tokens} {at : ℕ} {xs : List Element} → Is (mark m.OpenBracket) ts at us
     → listed (element_at (initial_at below) below) us ≡ Ok (xs, vs) → Passes (mark m.CloseBracket) vs ws
     → initial_at (suc below) ts ≡ Ok (i.list at (elements_of xs), ws)
 unfolding initial_at list_at same_mark
-list_again below o eq c = let a = mark_head m.OpenBracket (is_mark m.OpenBracket) o in
-    rw (a, one_again o, eq, one_again c.1) refl
+list_complete below o eq c = let a = mark_head m.OpenBracket (is_mark m.OpenBracket) o in
+    rw (a, one_complete o, eq, one_complete c.1) refl
 
-structure_again : (below : ℕ) {ts us vs ws : Tokens} {at : ℕ} {xs : List Member} → Is (mark m.Open) ts at us
+structure_complete : (below : ℕ) {ts us vs ws : Tokens} {at : ℕ} {xs : List Member} → Is (mark m.Open) ts at us
     → listed (member_at (initial_at below)) us ≡ Ok (xs, vs) → Passes (mark m.Close) vs ws
     → initial_at (suc below) ts ≡ Ok (i.structure at (members_of xs), ws)
 unfolding initial_at structure_at same_mark
-structure_again below o eq c =
+structure_complete below o eq c =
     let a = mark_head m.Open (is_mark m.OpenBracket) o in
     let b = mark_head m.Open (is_mark m.Open) o in
-    rw (a, b, one_again o, eq, one_again c.1) refl
+    rw (a, b, one_complete o, eq, one_complete c.1) refl
 
 -- ---- elements
 
@@ -122,22 +122,22 @@ single_by below (t ∷ rest) us v eq plain = elim (cases_Bool (is_number t.kind)
   | inr miss ↦ single_other (initial_at (suc below)) below (t ∷ rest) us v eq miss
 ]
 
-repeated_again : (initial : Parser Initial) (below : ℕ) {ts us vs ws zs : Tokens} {n : NumberLeaf} {v : Initial}
+repeated_complete : (initial : Parser Initial) (below : ℕ) {ts us vs ws zs : Tokens} {n : NumberLeaf} {v : Initial}
     → Is whole ts n us → Passes (mark m.Open) us vs → next (is_mark m.Close) vs ≡ false → initial vs ≡ Ok (v, ws)
     → Passes (mark m.Close) ws zs
     → element_at initial (suc below) ts ≡ Ok (i.repeated n v, zs)
 unfolding element_at counted_at repetition_of repeated_of same_mark
-repeated_again initial below w o other eq c = let a = mark_head m.Open (is_mark m.Open) o.1 in
-    rw (whole_head w, one_again w, a, one_again o.1, other, eq, one_again c.1) refl
+repeated_complete initial below w o other eq c = let a = mark_head m.Open (is_mark m.Open) o.1 in
+    rw (whole_head w, one_complete w, a, one_complete o.1, other, eq, one_complete c.1) refl
 
-defaults_again : (initial : Parser Initial) (below : ℕ) {ts us vs ws : Tokens} {n : NumberLeaf} → Is whole ts n us
+defaults_complete : (initial : Parser Initial) (below : ℕ) {ts us vs ws : Tokens} {n : NumberLeaf} → Is whole ts n us
     → Passes (mark m.Open) us vs → Passes (mark m.Close) vs ws
     → element_at initial (suc below) ts ≡ Ok (i.defaults n, ws)
 unfolding element_at counted_at repetition_of defaults_of same_mark
-defaults_again initial below w o c =
+defaults_complete initial below w o c =
     let a = mark_head m.Open (is_mark m.Open) o.1 in
     let b = mark_head m.Close (is_mark m.Close) c.1 in
-    rw (whole_head w, one_again w, a, one_again o.1, b, one_again c.1) refl
+    rw (whole_head w, one_complete w, a, one_complete o.1, b, one_complete c.1) refl
 
 initial_open : {ts us : Tokens} {x : Initial} → IsInitial ts x us → next (is_mark m.Close) ts ≡ false
 unfolding same_mark
@@ -149,7 +149,7 @@ initial_open (structure at xs o p c q) = mark_head m.Open (is_mark m.Close) o
 member_is : (initial : Parser Initial) {ts us vs ws : Tokens} {x : Identifier} {v : Initial} → Is name ts x us
     → Passes (mark m.Assign) us vs → initial vs ≡ Ok (v, ws) → member_at initial ts ≡ Ok ((x, v), ws)
 unfolding member_at
-member_is initial n o eq = rw (one_again n, one_again o.1, eq) refl
+member_is initial n o eq = rw (one_complete n, one_complete o.1, eq) refl
 
 -- ---- what stands after an element
 
@@ -185,70 +185,71 @@ lower_member : (x y : Member) (n : ℕ) → x ≡ y → depth_of_initial x.1 ≤
 lower_member x y n eq low = subst (λ (z : Member). depth_of_initial z.1 ≤ n) eq low
 
 mutual
-  pub initial_again : {ts us : Tokens} {x : Initial} → IsInitial ts x us → (depth : ℕ) → depth_of_initial x ≤ depth
+  pub initial_complete : {ts us : Tokens} {x : Initial} → IsInitial ts x us → (depth : ℕ) → depth_of_initial x ≤ depth
       → initial_at depth ts ≡ Ok (x, us)
-  initial_again {x = x} p zero low = let some = initial_some x in absurd (omega arith)
-  initial_again (constant {ts} {us} {x} l p q) (suc below) low = rw q (constant_again below p)
-  initial_again (list {ts} {us} {vs} {ws} {x} at xs o p c q) (suc below) low =
+  initial_complete {x = x} p zero low = let some = initial_some x in absurd (omega arith)
+  initial_complete (constant {ts} {us} {x} l p q) (suc below) low = rw q (constant_complete below p)
+  initial_complete (list {ts} {us} {vs} {ws} {x} at xs o p c q) (suc below) low =
       let low' = lower x (i.list at (elements_of xs)) (suc below) q low in
-      rw q (list_again below o (elements_again p c below (omega arith)) c)
-  initial_again (structure {ts} {us} {vs} {ws} {x} at xs o p c q) (suc below) low =
+      rw q (list_complete below o (elements_complete p c below (omega arith)) c)
+  initial_complete (structure {ts} {us} {vs} {ws} {x} at xs o p c q) (suc below) low =
       let low' = lower x (i.structure at (members_of xs)) (suc below) q low in
-      rw q (structure_again below o (members_again p c below (omega arith)) c)
+      rw q (structure_complete below o (members_complete p c below (omega arith)) c)
 
-  elements_again : {ts us vs : Tokens} {xs : List Element} → IsElements ts xs us → Passes (mark m.CloseBracket) us vs
+  elements_complete : {ts us vs : Tokens} {xs : List Element} → IsElements ts xs us → Passes (mark m.CloseBracket) us vs
       → (depth : ℕ) → deepest_element (elements_of xs) ≤ depth → listed (ElementAt depth) ts ≡ Ok (xs, us)
-  elements_again (elements p r) c depth low = listed_again (ElementAt depth)
-      (element_again p depth (omega arith) (elements_plain r c)) (more_elements_again r c depth (omega arith))
+  elements_complete (elements p r) c depth low = listed_complete (ElementAt depth)
+      (element_complete p depth (omega arith) (elements_plain r c)) (more_elements_complete r c depth (omega arith))
 
-  more_elements_again : {ts us vs : Tokens} {xs : List Element} → IsMoreElements ts xs us
+  more_elements_complete : {ts us vs : Tokens} {xs : List Element} → IsMoreElements ts xs us
       → Passes (mark m.CloseBracket) us vs → (depth : ℕ) → deepest_element (elements_of xs) ≤ depth
       → Repeats (is_mark m.Comma) (after_comma (ElementAt depth)) ts xs us
-  more_elements_again (no_more_elements {ts}) c depth low =
+  more_elements_complete (no_more_elements {ts}) c depth low =
       repeats_halt (is_mark m.Comma) (after_comma (ElementAt depth)) ts (bracket_no_comma c)
-  more_elements_again (next_element {ts} {us} {vs} {ws} {x} {xs} p e r) c depth low =
+  more_elements_complete (next_element {ts} {us} {vs} {ws} {x} {xs} p e r) c depth low =
       let less = is_less p.1 in
       let less' = element_less e in
       repeats_step (is_mark m.Comma) (after_comma (ElementAt depth)) ts vs ws x xs (comma_next p)
-      (after_comma_again (ElementAt depth) p (element_again e depth (omega arith) (elements_plain r c)))
-      (omega arith) (more_elements_again r c depth (omega arith))
+      (after_comma_complete (ElementAt depth) p (element_complete e depth (omega arith) (elements_plain r c)))
+      (omega arith) (more_elements_complete r c depth (omega arith))
 
-  element_again : {ts us : Tokens} {x : Element} → IsElement ts x us → (depth : ℕ) → depth_of_element x ≤ depth
+  element_complete : {ts us : Tokens} {x : Element} → IsElement ts x us → (depth : ℕ) → depth_of_element x ≤ depth
       → next (is_mark m.Open) us ≡ false → ElementAt depth ts ≡ Ok (x, us)
-  element_again (single {ts} {us} {x} v p q) zero low plain = let low' = lower_element x (i.single v) zero q low in
+  element_complete (single {ts} {us} {x} v p q) zero low plain = let low' = lower_element x (i.single v) zero q low in
       let some = initial_some v in absurd (omega arith)
-  element_again (single {ts} {us} {x} v p q) (suc below) low plain = let low' =
+  element_complete (single {ts} {us} {x} v p q) (suc below) low plain = let low' =
       lower_element x (i.single v) (suc below) q low in
-      rw q (single_by below ts us v (initial_again p (suc below) low') plain)
-  element_again (repeated {ts} {us} {vs} {ws} {zs} {x} n v w o p c q) zero low plain = let low' =
+      rw q (single_by below ts us v (initial_complete p (suc below) low') plain)
+  element_complete (repeated {ts} {us} {vs} {ws} {zs} {x} n v w o p c q) zero low plain = let low' =
       lower_element x (i.repeated n v) zero q low in let some = initial_some v in absurd (omega arith)
-  element_again (repeated {ts} {us} {vs} {ws} {zs} {x} n v w o p c q) (suc below) low plain =
+  element_complete (repeated {ts} {us} {vs} {ws} {zs} {x} n v w o p c q) (suc below) low plain =
       let low' = lower_element x (i.repeated n v) (suc below) q low in
-      rw q (repeated_again (initial_at (suc below)) below w o (initial_open p) (initial_again p (suc below) low') c)
-  element_again (defaults {ts} {us} {vs} {ws} {x} n w o c q) zero low plain = let low' =
+      rw q (repeated_complete (initial_at (suc below)) below w o (initial_open p)
+      (initial_complete p (suc below) low') c)
+  element_complete (defaults {ts} {us} {vs} {ws} {x} n w o c q) zero low plain = let low' =
       lower_element x (i.defaults n) zero q low in absurd (omega arith)
-  element_again (defaults {ts} {us} {vs} {ws} {x} n w o c q) (suc below) low plain =
-      rw q (defaults_again (initial_at (suc below)) below w o c)
+  element_complete (defaults {ts} {us} {vs} {ws} {x} n w o c q) (suc below) low plain =
+      rw q (defaults_complete (initial_at (suc below)) below w o c)
 
-  members_again : {ts us vs : Tokens} {xs : List Member} → IsMembers ts xs us → Passes (mark m.Close) us vs
+  members_complete : {ts us vs : Tokens} {xs : List Member} → IsMembers ts xs us → Passes (mark m.Close) us vs
       → (depth : ℕ) → deepest_member (members_of xs) ≤ depth → listed (member_at (initial_at depth)) ts ≡ Ok (xs, us)
-  members_again (members p r) c depth low = listed_again (member_at (initial_at depth))
-      (member_again p depth (omega arith)) (more_members_again r c depth (omega arith))
+  members_complete (members p r) c depth low = listed_complete (member_at (initial_at depth))
+      (member_complete p depth (omega arith)) (more_members_complete r c depth (omega arith))
 
-  more_members_again : {ts us vs : Tokens} {xs : List Member} → IsMoreMembers ts xs us → Passes (mark m.Close) us vs
+  more_members_complete : {ts us vs : Tokens} {xs : List Member} → IsMoreMembers ts xs us → Passes (mark m.Close) us vs
       → (depth : ℕ) → deepest_member (members_of xs) ≤ depth
       → Repeats (is_mark m.Comma) (after_comma (member_at (initial_at depth))) ts xs us
-  more_members_again (no_more_members {ts}) c depth low =
+  more_members_complete (no_more_members {ts}) c depth low =
       repeats_halt (is_mark m.Comma) (after_comma (member_at (initial_at depth))) ts (close_no_comma c)
-  more_members_again (next_member {ts} {us} {vs} {ws} {x} {xs} p e r) c depth low =
+  more_members_complete (next_member {ts} {us} {vs} {ws} {x} {xs} p e r) c depth low =
       let less = is_less p.1 in
       let less' = member_less e in
       repeats_step (is_mark m.Comma) (after_comma (member_at (initial_at depth))) ts vs ws x xs (comma_next p)
-      (after_comma_again (member_at (initial_at depth)) p (member_again e depth (omega arith))) (omega arith)
-      (more_members_again r c depth (omega arith))
+      (after_comma_complete (member_at (initial_at depth)) p (member_complete e depth (omega arith))) (omega arith)
+      (more_members_complete r c depth (omega arith))
 
-  member_again : {ts us : Tokens} {x : Member} → IsMember ts x us → (depth : ℕ) → depth_of_initial x.1 ≤ depth
+  member_complete : {ts us : Tokens} {x : Member} → IsMember ts x us → (depth : ℕ) → depth_of_initial x.1 ≤ depth
       → member_at (initial_at depth) ts ≡ Ok (x, us)
-  member_again (member {ts} {us} {vs} {ws} {y} x v n o p q) depth low =
+  member_complete (member {ts} {us} {vs} {ws} {y} x v n o p q) depth low =
       let low' = lower_member y (x, v) depth q low in
-      rw q (member_is (initial_at depth) n o (initial_again p depth low'))
+      rw q (member_is (initial_at depth) n o (initial_complete p depth low'))

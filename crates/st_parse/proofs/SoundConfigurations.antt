@@ -1,4 +1,4 @@
--- What reading tells of configurations.
+-- What is read as a configuration is one, and what stands before a refusal begins one.
 use Rattle.std.proofs.Common.{ℕ, ◌+◌, true, None, refl, sym, subst}
 use Rattle.st_words.specs.declared.identifier.Identifier.{Identifier}
 use Rattle.st_lex.specs.declared.token.TokenKind.TheVariants.{Keyword, Number, Duration, Address}
@@ -14,9 +14,9 @@ use Rattle.st_trees.specs.Configurations.{GlobalNames, located, listed, GlobalDe
 use Rattle.st_trees.specs.Configurations.{Configuration}
 use Rattle.st_statements.specs.Tokens.{Tokens, Is, mark, keyword, name, is_keyword, is_name}
 use Rattle.st_statements.specs.Parsers.{one}
-use Rattle.st_statements.proofs.Told.{Any, Seq, Made, made}
-use Rattle.st_statements.proofs.Readings.{Reads, reads_then, reads_pure, reads_as, reads_if, reads_one, reads_mark}
-use Rattle.st_statements.proofs.Readings.{reads_keyword, reads_name, token_of}
+use Rattle.st_statements.proofs.Sound.{Any, Seq, Made, made}
+use Rattle.st_statements.proofs.SoundReadings.{Sound, sound_then, sound_pure, sound_as, sound_if, sound_one, sound_mark}
+use Rattle.st_statements.proofs.SoundReadings.{sound_keyword, sound_name, token_of}
 use Rattle.st_parse.specs.Lists.{Many, Several, Optional}
 use Rattle.st_parse.specs.Types.{IsType, IsGiven}
 use Rattle.st_parse.specs.Configurations.{qualifier, address, duration, decimal, IsGlobalNames, IsGlobal, IsGlobalBlock}
@@ -26,9 +26,9 @@ use Rattle.st_parse.specs.Depths.{GlobalWithin, GlobalBlockWithin, Configuration
 use Rattle.st_parse.specs.ConfigurationReading.{located_of, listed_of, global_names_at, global_at, is_qualifier}
 use Rattle.st_parse.specs.ConfigurationReading.{global_block_at, single_at, interval_at, task_at, with_at, instance_at}
 use Rattle.st_parse.specs.ConfigurationReading.{resource_at, configuration_at}
-use Rattle.st_parse.proofs.Parts.{reads_many, reads_at_least_one, reads_optional, reads_names_behind, ListedFrom}
+use Rattle.st_parse.proofs.SoundParts.{sound_many, sound_at_least_one, sound_optional, sound_names_behind, ListedFrom}
 use Rattle.st_parse.proofs.Shorter.{global_less, global_block_less, task_less, instance_less, resource_less}
-use Rattle.st_parse.proofs.TypeReads.{reads_type, reads_given_or_not}
+use Rattle.st_parse.proofs.SoundTypes.{sound_type, sound_given_or_not}
 
 -- ---- globals
 
@@ -46,14 +46,14 @@ is_listed x us n vs (xs, t1, k, made eq) ts s = c.listed xs (k ts s) eq
 an_address : AddressLeaf
 an_address = record { direction = Input; width = Bit; number = 0 }
 
-reads_global_names : {C : Type 0} → Reads C (λ e. global_names_at) IsGlobalNames Any
+sound_global_names : {C : Type 0} → Sound C (λ e. global_names_at) IsGlobalNames Any
 unfolding global_names_at located_of listed_of
-reads_global_names =
-    reads_as (λ ts n us p. p.3 ts p.2) (λ x us d. d) (reads_then reads_name (λ x. reads_if (is_keyword w.At)
-    (reads_as (is_located x) (λ x us d. d) (reads_then (reads_keyword w.At) (λ at. reads_then (reads_one address
-    (token_of (Address an_address)) an_address refl) (λ a. reads_pure (located x a) Any (λ c us. tt)))))
-    (reads_as (is_listed x) (λ x us d. d)
-    (reads_then (reads_names_behind x) (λ xs. reads_pure (listed xs) Any (λ c us. tt))))))
+sound_global_names =
+    sound_as (λ ts n us p. p.3 ts p.2) (λ x us d. d) (sound_then sound_name (λ x. sound_if (is_keyword w.At)
+    (sound_as (is_located x) (λ x us d. d) (sound_then (sound_keyword w.At) (λ at. sound_then (sound_one address
+    (token_of (Address an_address)) an_address refl) (λ a. sound_pure (located x a) Any (λ c us. tt)))))
+    (sound_as (is_listed x) (λ x us d. d)
+    (sound_then (sound_names_behind x) (λ xs. sound_pure (listed xs) Any (λ c us. tt))))))
 
 is_global : (ts : Tokens) (g : GlobalDeclaration) (us : Tokens)
     → Seq IsGlobalNames (λ ns. Seq (Is (mark m.Colon)) (λ c. Seq IsType (λ t. Seq (Optional IsGiven)
@@ -76,11 +76,11 @@ is_single : (ts : Tokens) (x : Identifier) (us : Tokens) → Seq (Is (keyword w.
 is_single ts y us (k, t1, i, (a, t2, j, (x, t3, n, (o, t4, d, made eq)))) =
     subst (λ (z : Identifier). IsSingle ts z us) (sym eq) (c.single (k, i) (a, j) n (o, d))
 
-reads_single : {C : Type 0} → Reads C (λ e. single_at) IsSingle (λ x us. Unit {0})
+sound_single : {C : Type 0} → Sound C (λ e. single_at) IsSingle (λ x us. Unit {0})
 unfolding single_at
-reads_single =
-    reads_as is_single (λ x us d. d) (reads_then (reads_keyword w.Single) (λ k. reads_then (reads_mark m.Assign) (λ a.
-    reads_then reads_name (λ x. reads_then (reads_mark m.Comma) (λ c. reads_pure x (λ x us. Unit {0}) (λ c us. tt))))))
+sound_single =
+    sound_as is_single (λ x us d. d) (sound_then (sound_keyword w.Single) (λ k. sound_then (sound_mark m.Assign) (λ a.
+    sound_then sound_name (λ x. sound_then (sound_mark m.Comma) (λ c. sound_pure x (λ x us. Unit {0}) (λ c us. tt))))))
 
 is_interval : (ts : Tokens) (d : ℕ) (us : Tokens) → Seq (Is (keyword w.Interval))
     (λ k. Seq (Is (mark m.Assign)) (λ a. Seq (Is duration) (λ d. Seq (Is (mark m.Comma)) (λ c. Made d)))) ts d us
@@ -88,11 +88,11 @@ is_interval : (ts : Tokens) (d : ℕ) (us : Tokens) → Seq (Is (keyword w.Inter
 is_interval ts y us (k, t1, i, (a, t2, j, (d, t3, n, (o, t4, e, made eq)))) =
     subst (λ (z : ℕ). IsInterval ts z us) (sym eq) (c.interval (k, i) (a, j) n (o, e))
 
-reads_interval : {C : Type 0} → Reads C (λ e. interval_at) IsInterval (λ x us. Unit {0})
+sound_interval : {C : Type 0} → Sound C (λ e. interval_at) IsInterval (λ x us. Unit {0})
 unfolding interval_at
-reads_interval = reads_as is_interval (λ x us d. d) (reads_then (reads_keyword w.Interval)
-    (λ k. reads_then (reads_mark m.Assign) (λ a. reads_then (reads_one duration (token_of (Duration 0)) 0 refl)
-    (λ d. reads_then (reads_mark m.Comma) (λ c. reads_pure d (λ x us. Unit {0}) (λ c us. tt))))))
+sound_interval = sound_as is_interval (λ x us d. d) (sound_then (sound_keyword w.Interval)
+    (λ k. sound_then (sound_mark m.Assign) (λ a. sound_then (sound_one duration (token_of (Duration 0)) 0 refl)
+    (λ d. sound_then (sound_mark m.Comma) (λ c. sound_pure d (λ x us. Unit {0}) (λ c us. tt))))))
 
 is_task : (ts : Tokens) (x : Task) (us : Tokens)
     → Seq (Is (keyword w.Task))
@@ -120,17 +120,17 @@ is_task ts y us (
 ) =
     c.task x s i p (k, k') n (o, o') s' i' (q, q') (a, a') p' (e, e') (z, z') eq
 
-reads_task : {C : Type 0} → Reads C (λ e. task_at) IsTask (λ x us. Unit {0})
+sound_task : {C : Type 0} → Sound C (λ e. task_at) IsTask (λ x us. Unit {0})
 unfolding task_at
-reads_task = reads_as is_task (λ x us d. d)
-    (reads_then (reads_keyword w.Task) (λ k. reads_then reads_name (λ x. reads_then (reads_mark m.Open) (λ o.
-    reads_then (reads_optional (is_keyword w.Single) (λ e. single_at) IsSingle (λ x. Unit {0}) reads_single)
-    (λ s. reads_then
-    (reads_optional (is_keyword w.Interval) (λ e. interval_at) IsInterval (λ x. Unit {0}) reads_interval) (λ i.
-    reads_then (reads_keyword w.Priority)
-    (λ q. reads_then (reads_mark m.Assign) (λ a. reads_then (reads_one decimal (token_of (Number
+sound_task = sound_as is_task (λ x us d. d)
+    (sound_then (sound_keyword w.Task) (λ k. sound_then sound_name (λ x. sound_then (sound_mark m.Open) (λ o.
+    sound_then (sound_optional (is_keyword w.Single) (λ e. single_at) IsSingle (λ x. Unit {0}) sound_single)
+    (λ s. sound_then
+    (sound_optional (is_keyword w.Interval) (λ e. interval_at) IsInterval (λ x. Unit {0}) sound_interval) (λ i.
+    sound_then (sound_keyword w.Priority)
+    (λ q. sound_then (sound_mark m.Assign) (λ a. sound_then (sound_one decimal (token_of (Number
     (record { written = None; magnitude = 0; is_decimal = true }))) (record { place = 0; number = 0 }) refl) (λ p.
-    reads_then (reads_mark m.Close) (λ e. reads_then (reads_mark m.Semicolon) (λ z. reads_pure
+    sound_then (sound_mark m.Close) (λ e. sound_then (sound_mark m.Semicolon) (λ z. sound_pure
     (record { name = x; single = s; interval = i; priority = p }) (λ x us. Unit {0}) (λ c us. tt))))))))))))
 
 is_with : (ts : Tokens) (x : Identifier) (us : Tokens)
@@ -138,10 +138,10 @@ is_with : (ts : Tokens) (x : Identifier) (us : Tokens)
 is_with ts y us (k, t1, i, (x, t2, n, made eq)) =
     subst (λ (z : Identifier). IsWith ts z us) (sym eq) (c.runs_with (k, i) n)
 
-reads_with : {C : Type 0} → Reads C (λ e. with_at) IsWith (λ x us. Unit {0})
+sound_with : {C : Type 0} → Sound C (λ e. with_at) IsWith (λ x us. Unit {0})
 unfolding with_at
-reads_with = reads_as is_with (λ x us d. d)
-    (reads_then (reads_keyword w.With) (λ k. reads_then reads_name (λ x. reads_pure x (λ x us. Unit {0}) (λ c us. tt))))
+sound_with = sound_as is_with (λ x us d. d)
+    (sound_then (sound_keyword w.With) (λ k. sound_then sound_name (λ x. sound_pure x (λ x us. Unit {0}) (λ c us. tt))))
 
 is_instance : (ts : Tokens) (x : Instance) (us : Tokens)
     → Seq (Is (keyword w.Program)) (λ k. Seq (Is name) (λ x. Seq (Optional IsWith) (λ t. Seq (Is (mark m.Colon)) (λ o.
@@ -150,13 +150,13 @@ is_instance : (ts : Tokens) (x : Instance) (us : Tokens)
 is_instance ts y us (k, t1, k', (x, t2, n, (t, t3, t', (o, t4, o', (p, t5, p', (s, t6, s', made eq)))))) =
     c.instance_of x t p (k, k') n t' (o, o') p' (s, s') eq
 
-reads_instance : {C : Type 0} → Reads C (λ e. instance_at) IsInstance (λ x us. Unit {0})
+sound_instance : {C : Type 0} → Sound C (λ e. instance_at) IsInstance (λ x us. Unit {0})
 unfolding instance_at
-reads_instance = reads_as is_instance (λ x us d. d)
-    (reads_then (reads_keyword w.Program) (λ k. reads_then reads_name (λ x. reads_then (reads_optional
-    (is_keyword w.With) (λ e. with_at) IsWith (λ x. Unit {0}) reads_with) (λ t. reads_then (reads_mark m.Colon) (λ o.
-    reads_then reads_name (λ p. reads_then (reads_mark m.Semicolon)
-    (λ s. reads_pure (record { name = x; task = t; program = p }) (λ x us. Unit {0}) (λ c us. tt))))))))
+sound_instance = sound_as is_instance (λ x us d. d)
+    (sound_then (sound_keyword w.Program) (λ k. sound_then sound_name (λ x. sound_then (sound_optional
+    (is_keyword w.With) (λ e. with_at) IsWith (λ x. Unit {0}) sound_with) (λ t. sound_then (sound_mark m.Colon) (λ o.
+    sound_then sound_name (λ p. sound_then (sound_mark m.Semicolon)
+    (λ s. sound_pure (record { name = x; task = t; program = p }) (λ x us. Unit {0}) (λ c us. tt))))))))
 
 -- ---- resources and configurations
 
@@ -167,14 +167,14 @@ is_resource : (ts : Tokens) (r : Resource) (us : Tokens)
 is_resource ts r us (k, t1, k', (x, t2, n, (o, t3, o', (p, t4, p', (xs, t5, m', (ys, t6, i', (e, t7, e', made eq)))))))
     = c.resource x p xs ys (k, k') n (o, o') p' m' i' (e, e') eq
 
-reads_resource : {C : Type 0} → Reads C (λ e. resource_at) IsResource (λ x us. Unit {0})
+sound_resource : {C : Type 0} → Sound C (λ e. resource_at) IsResource (λ x us. Unit {0})
 unfolding resource_at
-reads_resource = reads_as is_resource (λ x us d. d) (reads_then (reads_keyword w.Resource)
-    (λ k. reads_then reads_name (λ x. reads_then (reads_keyword w.On) (λ o. reads_then reads_name (λ p.
-    reads_then (reads_many (is_keyword w.Task) (λ e. task_at) IsTask (λ x. Unit {0}) task_less reads_task)
-    (λ xs. reads_then (reads_at_least_one (is_keyword w.Program) (λ e. instance_at) IsInstance (λ x. Unit {0})
-    instance_less reads_instance) (λ ys.
-    reads_then (reads_keyword w.EndResource) (λ e. reads_pure
+sound_resource = sound_as is_resource (λ x us d. d) (sound_then (sound_keyword w.Resource)
+    (λ k. sound_then sound_name (λ x. sound_then (sound_keyword w.On) (λ o. sound_then sound_name (λ p.
+    sound_then (sound_many (is_keyword w.Task) (λ e. task_at) IsTask (λ x. Unit {0}) task_less sound_task)
+    (λ xs. sound_then (sound_at_least_one (is_keyword w.Program) (λ e. instance_at) IsInstance (λ x. Unit {0})
+    instance_less sound_instance) (λ ys.
+    sound_then (sound_keyword w.EndResource) (λ e. sound_pure
     (record { name = x; processor = p; tasks = xs; instances = ys }) (λ x us. Unit {0}) (λ c us. tt)))))))))
 
 is_configuration : (ts : Tokens) (x : Configuration) (us : Tokens)
@@ -186,34 +186,34 @@ is_configuration ts y us (k, t1, k', (x, t2, n, (gs, t3, g', (rs, t4, r', (e, t5
     c.configuration x gs rs (k, k') n g' r' (e, e') eq
 
 module _ (depth : ℕ) where
-  reads_global : {C : Type 0} → Reads C (λ n. global_at (depth + n)) IsGlobal (λ g us. GlobalWithin depth g)
+  sound_global : {C : Type 0} → Sound C (λ n. global_at (depth + n)) IsGlobal (λ g us. GlobalWithin depth g)
   unfolding global_at
-  reads_global =
-      reads_as is_global (λ x us d. d) (reads_then reads_global_names (λ ns. reads_then (reads_mark m.Colon) (λ c.
-      reads_then reads_type (λ t. reads_then (reads_given_or_not depth) (λ v. reads_then (reads_mark m.Semicolon) (λ s.
-      reads_pure (record { names = ns; declared = t; initial = v }) (λ g us. GlobalWithin depth g)
+  sound_global =
+      sound_as is_global (λ x us d. d) (sound_then sound_global_names (λ ns. sound_then (sound_mark m.Colon) (λ c.
+      sound_then sound_type (λ t. sound_then (sound_given_or_not depth) (λ v. sound_then (sound_mark m.Semicolon) (λ s.
+      sound_pure (record { names = ns; declared = t; initial = v }) (λ g us. GlobalWithin depth g)
       (λ c us. c.0.1.1)))))))
 
-  reads_global_block : {C : Type 0}
-      → Reads C (λ n. global_block_at (depth + n)) IsGlobalBlock (λ b us. GlobalBlockWithin depth b)
+  sound_global_block : {C : Type 0}
+      → Sound C (λ n. global_block_at (depth + n)) IsGlobalBlock (λ b us. GlobalBlockWithin depth b)
   unfolding global_block_at
-  reads_global_block = reads_as is_global_block (λ x us d. d) (reads_then (reads_keyword w.VarGlobal) (λ k.
-      reads_then (reads_optional is_qualifier (λ e. one qualifier) (Is qualifier) (λ x. Unit {0}) (reads_as
-      (λ ts x us i. i) (λ x us d. tt) (reads_one qualifier (token_of (Keyword w.Retain)) qualifiers.Retain refl)))
+  sound_global_block = sound_as is_global_block (λ x us d. d) (sound_then (sound_keyword w.VarGlobal) (λ k.
+      sound_then (sound_optional is_qualifier (λ e. one qualifier) (Is qualifier) (λ x. Unit {0}) (sound_as
+      (λ ts x us i. i) (λ x us d. tt) (sound_one qualifier (token_of (Keyword w.Retain)) qualifiers.Retain refl)))
       (λ q.
-      reads_then (reads_many is_name (λ n. global_at (depth + n)) IsGlobal (GlobalWithin depth) global_less
-      reads_global) (λ ds. reads_then (reads_keyword w.EndVar) (λ e.
-      reads_pure (record { qualifier = q; declarations = ds }) (λ b us. GlobalBlockWithin depth b)
+      sound_then (sound_many is_name (λ n. global_at (depth + n)) IsGlobal (GlobalWithin depth) global_less
+      sound_global) (λ ds. sound_then (sound_keyword w.EndVar) (λ e.
+      sound_pure (record { qualifier = q; declarations = ds }) (λ b us. GlobalBlockWithin depth b)
       (λ c us. c.0.1.1.0))))))
 
-  pub reads_configuration : {C : Type 0}
-      → Reads C (λ n. configuration_at (depth + n)) IsConfiguration (λ x us. ConfigurationWithin depth x)
+  pub sound_configuration : {C : Type 0}
+      → Sound C (λ n. configuration_at (depth + n)) IsConfiguration (λ x us. ConfigurationWithin depth x)
   unfolding configuration_at
-  reads_configuration = reads_as is_configuration (λ x us d. d)
-      (reads_then (reads_keyword w.Configuration) (λ k. reads_then reads_name (λ x.
-      reads_then (reads_many (is_keyword w.VarGlobal) (λ n. global_block_at (depth + n)) IsGlobalBlock
-      (GlobalBlockWithin depth) global_block_less reads_global_block) (λ gs.
-      reads_then (reads_at_least_one (is_keyword w.Resource) (λ e. resource_at) IsResource (λ x. Unit {0}) resource_less
-      reads_resource) (λ rs. reads_then (reads_keyword w.EndConfiguration) (λ e.
-      reads_pure (record { name = x; globals = gs; resources = rs }) (λ x us. ConfigurationWithin depth x)
+  sound_configuration = sound_as is_configuration (λ x us d. d)
+      (sound_then (sound_keyword w.Configuration) (λ k. sound_then sound_name (λ x.
+      sound_then (sound_many (is_keyword w.VarGlobal) (λ n. global_block_at (depth + n)) IsGlobalBlock
+      (GlobalBlockWithin depth) global_block_less sound_global_block) (λ gs.
+      sound_then (sound_at_least_one (is_keyword w.Resource) (λ e. resource_at) IsResource (λ x. Unit {0}) resource_less
+      sound_resource) (λ rs. sound_then (sound_keyword w.EndConfiguration) (λ e.
+      sound_pure (record { name = x; globals = gs; resources = rs }) (λ x us. ConfigurationWithin depth x)
       (λ c us. c.0.0.1.1.0)))))))

@@ -1,4 +1,4 @@
--- From what reading tells to what parsing answers.
+-- Where a text is refused no text begins so: from sound and complete readings to what parsing answers.
 use Rattle.std.proofs.Common.{◌≡◌, ℕ, ◌+◌, ◌-◌, false, [], ◌∷◌, ◌++◌, length, drop, Ok, Err, refl, sym, ap, subst, ◌∙◌}
 use Rattle.std.proofs.Common.{arith}
 use Rattle.std.proofs.lemmas.List.{append-nil, length-append}
@@ -12,16 +12,16 @@ use Rattle.st_statements.specs.declared.fault.ReadError.{ReadError}
 use Rattle.st_statements.specs.declared.fault.ReadError.TheVariants as errors
 use Rattle.st_statements.specs.Parsers.{Outcome, Fails}
 use Rattle.st_statements.specs.Laws.{Begins}
-use Rattle.st_statements.proofs.Told.{Told, Kept, Lost, Sunk}
-use Rattle.st_statements.proofs.Readings.{told_by}
+use Rattle.st_statements.proofs.Sound.{Told, Kept, Lost, Sunk}
+use Rattle.st_statements.proofs.SoundReadings.{told_by}
 use Rattle.st_parse.specs.Lists.{Many}
 use Rattle.st_parse.specs.Sources.{IsElement, IsSource}
 use Rattle.st_parse.specs.Depths.{SourceWithin}
 use Rattle.st_statements.specs.Places.{end_of, start_of, place_left, parse_error}
 use Rattle.st_parse.specs.Answers.{place_behind, BeginsSource, IsUnexpectedAt, IsTooDeep, Refused, Answers}
 use Rattle.st_parse.specs.SourceReading.{is_token, source_at}
-use Rattle.st_parse.proofs.SourceReads.{reads_source}
-use Rattle.st_parse.proofs.AgainSources.{source_again}
+use Rattle.st_parse.proofs.SoundSources.{sound_source}
+use Rattle.st_parse.proofs.CompleteSources.{source_complete}
 use Rattle.st_parse.proofs.Bounds.{bounded_source}
 
 begun : (front : Tokens) → Begins (Many IsElement) front → BeginsSource front
@@ -29,7 +29,7 @@ begun front b = record { more = b.more ++ []; source = b.tree; whole = b.whole [
 
 told : (ts : Tokens) → Told (λ n. source_at (MAX_DEPTH + n)) (Many IsElement)
     (λ xs us. SourceWithin MAX_DEPTH xs × (next is_token us ≡ false)) ts (source_at (MAX_DEPTH + 0) ts)
-told = told_by (reads_source MAX_DEPTH)
+told = told_by (sound_source MAX_DEPTH)
 
 no_tokens : (us : Tokens) → next is_token us ≡ false → us ≡ []
 no_tokens [] eq = refl
@@ -58,7 +58,7 @@ lost_place ts n l = (
     none = λ more source same i.
         let b = bounded_source.bound source in
         let low = bounded_source.deeper b.0 (MAX_DEPTH + b.0) source (omega arith) b.1 in
-        let read = source_again (MAX_DEPTH + b.0) i low in
+        let read = source_complete (MAX_DEPTH + b.0) i low in
         let refused = l.again b.0 more same in
         absurd cc;
   },
@@ -70,7 +70,7 @@ sunk_deep ts l = record {
   rest = l.rest;
   parts = l.parts;
   begins = begun l.front l.begun;
-  none = λ more source i low. let read = source_again MAX_DEPTH i low in let refused = l.again more in absurd cc;
+  none = λ more source i low. let read = source_complete MAX_DEPTH i low in let refused = l.again more in absurd cc;
 }
 
 told_as : (ts : Tokens) (r : Outcome Source) → source_at MAX_DEPTH ts ≡ r → Told (λ n. source_at (MAX_DEPTH + n))
@@ -91,12 +91,13 @@ deep_source ts eq = sunk_deep ts (told_as ts (Err Deep) eq)
 
 pub only_ok : (ts us : Tokens) (x source : Source) → source_at MAX_DEPTH ts ≡ Ok (x, us) → IsSource ts source
     → SourceWithin MAX_DEPTH source → x ≡ source
-only_ok ts us x source eq i low = let read = source_again MAX_DEPTH i low in let both : (x, us) ≡ (source, []) = cc in
+only_ok ts us x source eq i low =
+    let read = source_complete MAX_DEPTH i low in let both : (x, us) ≡ (source, []) = cc in
     ap (λ (p : Source × Tokens). p.0) both
 
 pub never_refused : (ts : Tokens) (r : Refusal) (source : Source) → source_at MAX_DEPTH ts ≡ Err r → IsSource ts source
     → SourceWithin MAX_DEPTH source → ⊥
-never_refused ts r source eq i low = let read = source_again MAX_DEPTH i low in absurd cc
+never_refused ts r source eq i low = let read = source_complete MAX_DEPTH i low in absurd cc
 
 -- ---- places
 

@@ -1,4 +1,4 @@
--- What turns tell: as many as the tokens need.
+-- Turns are sound, as many as the tokens need.
 use Rattle.std.proofs.Common.{◌≡◌, ℕ, zero, suc, ◌<◌, ◌≤◌, Bool, true, false, [], ◌∷◌, ◌++◌, length, Ok, Err, refl, sym}
 use Rattle.std.proofs.Common.{ap, subst, ◌∙◌, arith, inl, inr, append_assoc}
 use Rattle.std.proofs.lemmas.Bool.{cases_Bool}
@@ -8,7 +8,7 @@ use Rattle.st_statements.specs.declared.fault.Refusal.TheVariants.{Unexpected, D
 use Rattle.st_statements.specs.Tokens.{Tokens, next}
 use Rattle.st_statements.specs.Parsers.{Outcome, Parser, and_then, loops, turns}
 use Rattle.st_statements.specs.Laws.{Grammar, SameHead, Begins}
-use Rattle.st_statements.proofs.Told.{Kept, Told, same_front, next_same}
+use Rattle.st_statements.proofs.Sound.{Kept, Told, same_front, next_same}
 
 pub halts : {S : Type 0} (f : TokenKind → Bool) (step : S → Parser S) (n : ℕ) (s : S) (ts : Tokens) → next f ts ≡ false
     → loops f step n s ts ≡ Ok (s, ts)

@@ -1,4 +1,4 @@
--- What is of the grammar is read: tokens, lists.
+-- What is of the grammar is read: tokens, lists, numbers.
 use Rattle.std.proofs.Common.{◌≡◌, ℕ, zero, suc, ◌<◌, ◌≤◌, Bool, true, false, cond, List, [], ◌∷◌, ◌++◌, length, Option}
 use Rattle.std.proofs.Common.{Some, None, Ok, refl, sym, ap, ◌∙◌, arith, append_assoc}
 use Rattle.std.proofs.lemmas.List.{append-nil}
@@ -14,11 +14,12 @@ use Rattle.st_statements.specs.Tokens.{Tokens, next, Is, is, Passes, mark, keywo
 use Rattle.st_statements.specs.Tokens.{is_mark, is_keyword, is_number, same_mark, IsNumber, plain, negative}
 use Rattle.st_statements.specs.Parsers.{Outcome, Parser, and_then, one, loops, turns, gather, several, after_comma}
 use Rattle.st_statements.specs.Parsers.{listed, number_at, negative_number_at}
-use Rattle.st_statements.proofs.Readings.{mark_is, keyword_is}
-use Rattle.st_statements.proofs.ToldTurns.{halts, turn_is}
+use Rattle.st_statements.proofs.SoundReadings.{mark_is, keyword_is}
+use Rattle.st_statements.proofs.SoundTurns.{halts, turn_is}
 
-pub one_again : {A : Type 0} {of : Token → Option A} {ts us : Tokens} {x : A} → Is of ts x us → one of ts ≡ Ok (x, us)
-one_again (is eq) = rw eq refl
+pub one_complete : {A : Type 0} {of : Token → Option A} {ts us : Tokens} {x : A} → Is of ts x us
+    → one of ts ≡ Ok (x, us)
+one_complete (is eq) = rw eq refl
 
 -- ---- what the next token is
 
@@ -83,30 +84,30 @@ module _ {A : Type 0} (f : TokenKind → Bool) (item : Parser A) where
       turn_is f (gather item) n found ts eq ∙ (ap (λ (r : Outcome (List A)). and_then r (loops f (gather item) n)) e
       ∙ rw (sym g) (others n (found ++ x ∷ []) (omega arith)))
 
-  pub several_again : (ts us : Tokens) (found xs : List A) → Repeats ts xs us
+  pub several_complete : (ts us : Tokens) (found xs : List A) → Repeats ts xs us
       → several f item found ts ≡ Ok (found ++ xs, us)
   unfolding turns
-  several_again ts us found xs r = r (length ts) found (omega arith)
+  several_complete ts us found xs r = r (length ts) found (omega arith)
 
-pub after_comma_again : {A : Type 0} (item : Parser A) {ts us vs : Tokens} {x : A} → Passes (mark m.Comma) ts us
+pub after_comma_complete : {A : Type 0} (item : Parser A) {ts us vs : Tokens} {x : A} → Passes (mark m.Comma) ts us
     → item us ≡ Ok (x, vs) → after_comma item ts ≡ Ok (x, vs)
 unfolding after_comma
-after_comma_again item c eq = rw (one_again c.1) eq
+after_comma_complete item c eq = rw (one_complete c.1) eq
 
 pub comma_next : {ts us : Tokens} → Passes (mark m.Comma) ts us → next (is_mark m.Comma) ts ≡ true
 unfolding same_mark
 comma_next c = mark_head m.Comma (is_mark m.Comma) c.1
 
-pub listed_again : {A : Type 0} (item : Parser A) {ts us vs : Tokens} {x : A} {xs : List A} → item ts ≡ Ok (x, us)
+pub listed_complete : {A : Type 0} (item : Parser A) {ts us vs : Tokens} {x : A} {xs : List A} → item ts ≡ Ok (x, us)
     → Repeats (is_mark m.Comma) (after_comma item) us xs vs → listed item ts ≡ Ok (x ∷ xs, vs)
 unfolding listed
-listed_again item {us = us} {vs = vs} {x = x} {xs = xs} eq r =
-    rw eq (several_again (is_mark m.Comma) (after_comma item) us vs (x ∷ []) xs r)
+listed_complete item {us = us} {vs = vs} {x = x} {xs = xs} eq r =
+    rw eq (several_complete (is_mark m.Comma) (after_comma item) us vs (x ∷ []) xs r)
 
 -- ---- numbers
 
-pub number_again : {ts us : Tokens} {n : NumberLeaf} → IsNumber ts n us → number_at ts ≡ Ok (n, us)
+pub number_complete : {ts us : Tokens} {n : NumberLeaf} → IsNumber ts n us → number_at ts ≡ Ok (n, us)
 unfolding number_at negative_number_at same_mark
-number_again (plain p) = rw (whole_plain p) (one_again p)
-number_again (negative at k p q eq) = let h = mark_head m.Minus (is_mark m.Minus) p in
-    rw (h, one_again p, one_again q, eq) refl
+number_complete (plain p) = rw (whole_plain p) (one_complete p)
+number_complete (negative at k p q eq) = let h = mark_head m.Minus (is_mark m.Minus) p in
+    rw (h, one_complete p, one_complete q, eq) refl

@@ -1,4 +1,4 @@
--- What reading tells of initial values.
+-- What is read as an initial value is one, and what stands before a refusal begins one.
 use Rattle.std.proofs.Common.{◌≡◌, ℕ, zero, suc, ◌+◌, ◌<◌, ◌≤◌, true, false, ◌||◌, List, [], ◌∷◌, length, None, Err}
 use Rattle.std.proofs.Common.{refl, ap, arith, inl, inr}
 use Rattle.st_words.specs.declared.literal.Number.{Number as NumberLeaf}
@@ -24,12 +24,12 @@ use Rattle.st_statements.specs.Initials.{IsConstant, literal, negative, IsInitia
 use Rattle.st_statements.specs.Initials.{IsElements, elements, IsMoreElements, no_more_elements, next_element}
 use Rattle.st_statements.specs.Initials.{IsElement, single, repeated, defaults, IsMembers, members, IsMoreMembers}
 use Rattle.st_statements.specs.Initials.{no_more_members, next_member, IsMember, member}
-use Rattle.st_statements.proofs.Told.{Family, Told, Tells, Seq, Made, made, told_agree, told_too_deep}
-use Rattle.st_statements.proofs.Readings.{Reads, told_by, reads_then, reads_pure, reads_as, reads_under, reads_if}
-use Rattle.st_statements.proofs.Readings.{reads_one, reads_mark, reads_name, reads_whole, IsNegative, reads_negative}
-use Rattle.st_statements.proofs.Readings.{token_of, a_number, number_token, an_identifier, mark_is, mark_at}
-use Rattle.st_statements.proofs.Readings.{whole_literal}
-use Rattle.st_statements.proofs.Lists.{Each, reads_listed}
+use Rattle.st_statements.proofs.Sound.{Family, Told, Tells, Seq, Made, made, told_agree, told_too_deep}
+use Rattle.st_statements.proofs.SoundReadings.{Sound, told_by, sound_then, sound_pure, sound_as, sound_under, sound_if}
+use Rattle.st_statements.proofs.SoundReadings.{sound_one, sound_mark, sound_name, sound_whole, IsNegative}
+use Rattle.st_statements.proofs.SoundReadings.{sound_negative, token_of, a_number, number_token, an_identifier, mark_is}
+use Rattle.st_statements.proofs.SoundReadings.{mark_at, whole_literal}
+use Rattle.st_statements.proofs.SoundLists.{Each, sound_listed}
 use Rattle.st_statements.proofs.ExpressionFacts.{is_less, or_false, or_true}
 
 abbrev pub LowInitial : ℕ → Initial → Tokens → Type 0
@@ -117,19 +117,19 @@ is_negative_constant : (ts : Tokens) (x : Initial) (us : Tokens)
 is_negative_constant ts x us (n, vs, (at, ws, s, (k, zs, w, made same)), made eq) =
     constant (literals.Number n) (negative at k s w (ap literals.Number same)) eq
 
-reads_negative_constant : {C : Type 0} (n : ℕ) → Reads C (λ e. negative_constant_at) IsInitial (LowInitial (n + 1))
+sound_negative_constant : {C : Type 0} (n : ℕ) → Sound C (λ e. negative_constant_at) IsInitial (LowInitial (n + 1))
 unfolding negative_constant_at
-reads_negative_constant n = reads_as is_negative_constant (λ x us d. d) (reads_then reads_negative
-    (λ k. reads_pure (i.constant (literals.Number k)) (LowInitial (n + 1)) (λ c us. omega arith)))
+sound_negative_constant n = sound_as is_negative_constant (λ x us d. d) (sound_then sound_negative
+    (λ k. sound_pure (i.constant (literals.Number k)) (LowInitial (n + 1)) (λ c us. omega arith)))
 
 is_literal_constant : (ts : Tokens) (x : Initial) (us : Tokens) → Seq (Is literal_of) (λ l. Made (i.constant l)) ts x us
     → IsInitial ts x us
 is_literal_constant ts x us (l, vs, s, made eq) = constant l (literal s) eq
 
-reads_literal_constant : {C : Type 0} (n : ℕ) → Reads C (λ e. literal_constant_at) IsInitial (LowInitial (n + 1))
+sound_literal_constant : {C : Type 0} (n : ℕ) → Sound C (λ e. literal_constant_at) IsInitial (LowInitial (n + 1))
 unfolding literal_constant_at
-reads_literal_constant n = reads_as is_literal_constant (λ x us d. d) (reads_then (reads_one literal_of number_token
-    (literals.Number a_number) refl) (λ l. reads_pure (i.constant l) (LowInitial (n + 1)) (λ c us. omega arith)))
+sound_literal_constant n = sound_as is_literal_constant (λ x us d. d) (sound_then (sound_one literal_of number_token
+    (literals.Number a_number) refl) (λ l. sound_pure (i.constant l) (LowInitial (n + 1)) (λ c us. omega arith)))
 
 -- ---- elements and members, of one depth
 
@@ -179,67 +179,67 @@ is_single : (ts : Tokens) (y : Element) (us : Tokens) → Seq IsInitial (λ v. M
 is_single ts y us (v, vs, s, made eq) = single v s eq
 
 module _ (depth : ℕ) (initial : ℕ → Parser Initial) (tells : Tells initial IsInitial (LowInitial depth)) where
-  reads_initial : {C : Type 0} → Reads C initial IsInitial (LowInitial depth)
-  reads_initial = record { begins = initial_begins; tells = λ c. tells }
+  sound_initial : {C : Type 0} → Sound C initial IsInitial (LowInitial depth)
+  sound_initial = record { begins = initial_begins; tells = λ c. tells }
 
-  reads_member : {C : Type 0} → Reads C (λ e. member_at (initial e)) IsMember (LowMember depth)
+  sound_member : {C : Type 0} → Sound C (λ e. member_at (initial e)) IsMember (LowMember depth)
   unfolding member_at
-  reads_member = reads_as is_member (λ x us d. d) (reads_then reads_name (λ x. reads_then (reads_mark m.Assign)
-      (λ at. reads_then reads_initial (λ v. reads_pure (x, v) (LowMember depth) (λ c us. c.1.1)))))
+  sound_member = sound_as is_member (λ x us d. d) (sound_then sound_name (λ x. sound_then (sound_mark m.Assign)
+      (λ at. sound_then sound_initial (λ v. sound_pure (x, v) (LowMember depth) (λ c us. c.1.1)))))
 
-  pub reads_structure : {C : Type 0} → Reads C (λ e. structure_at (initial e)) IsInitial (LowInitial (depth + 1))
+  pub sound_structure : {C : Type 0} → Sound C (λ e. structure_at (initial e)) IsInitial (LowInitial (depth + 1))
   unfolding structure_at
-  reads_structure = reads_as is_structure (λ x us d. d) (reads_then (reads_mark m.Open) (λ at. reads_then
-      (reads_listed (λ e. member_at (initial e)) IsMember IsMoreMembers IsMembers (λ x. depth_of_initial x.1 ≤ depth)
+  sound_structure = sound_as is_structure (λ x us d. d) (sound_then (sound_mark m.Open) (λ at. sound_then
+      (sound_listed (λ e. member_at (initial e)) IsMember IsMoreMembers IsMembers (λ x. depth_of_initial x.1 ≤ depth)
       (λ ts. no_more_members) (λ ts us x vs xs ws c o r. next_member c o r) (λ ts x us o. member_less o)
-      (λ ts x us xs vs o r. members o r) reads_member)
-      (λ xs. reads_then (reads_mark m.Close) (λ end. reads_pure (i.structure at (members_of xs))
+      (λ ts x us xs vs o r. members o r) sound_member)
+      (λ xs. sound_then (sound_mark m.Close) (λ end. sound_pure (i.structure at (members_of xs))
       (LowInitial (depth + 1)) (λ c us. let l = each_member depth xs c.0.1.1.0 in omega arith)))))
 
-  reads_repeated_of : {C : Type 0} (n : NumberLeaf)
-      → Reads C (λ e. repeated_of (initial e) n) (InParentheses n) (LowElement depth)
+  sound_repeated_of : {C : Type 0} (n : NumberLeaf)
+      → Sound C (λ e. repeated_of (initial e) n) (InParentheses n) (LowElement depth)
   unfolding repeated_of
-  reads_repeated_of n = reads_as (is_repeated n) (λ x us d. d) (reads_then reads_initial
-      (λ v. reads_then (reads_mark m.Close) (λ end. reads_pure (i.repeated n v) (LowElement depth) (λ c us. c.0.1.1))))
+  sound_repeated_of n = sound_as (is_repeated n) (λ x us d. d) (sound_then sound_initial
+      (λ v. sound_then (sound_mark m.Close) (λ end. sound_pure (i.repeated n v) (LowElement depth) (λ c us. c.0.1.1))))
 
   module _ (some : 1 ≤ depth) where
-    reads_defaults_of : {C : Type 0} (n : NumberLeaf)
-        → Reads C (λ e. defaults_of n) (InParentheses n) (LowElement depth)
+    sound_defaults_of : {C : Type 0} (n : NumberLeaf)
+        → Sound C (λ e. defaults_of n) (InParentheses n) (LowElement depth)
     unfolding defaults_of
-    reads_defaults_of n = reads_as (is_defaults n) (λ x us d. d)
-        (reads_then (reads_mark m.Close) (λ end. reads_pure (i.defaults n) (LowElement depth) (λ c us. some)))
+    sound_defaults_of n = sound_as (is_defaults n) (λ x us d. d)
+        (sound_then (sound_mark m.Close) (λ end. sound_pure (i.defaults n) (LowElement depth) (λ c us. some)))
 
-    reads_repetition_of : {C : Type 0} (n : NumberLeaf)
-        → Reads C (λ e. repetition_of (initial e) n) (AfterWhole n) (LowElement depth)
+    sound_repetition_of : {C : Type 0} (n : NumberLeaf)
+        → Sound C (λ e. repetition_of (initial e) n) (AfterWhole n) (LowElement depth)
     unfolding repetition_of
-    reads_repetition_of n = reads_as (is_repetition n) (λ x us d. d)
-        (reads_then (reads_mark m.Open) (λ at. reads_if (is_mark m.Close) (reads_defaults_of n) (reads_repeated_of n)))
+    sound_repetition_of n = sound_as (is_repetition n) (λ x us d. d)
+        (sound_then (sound_mark m.Open) (λ at. sound_if (is_mark m.Close) (sound_defaults_of n) (sound_repeated_of n)))
 
-    reads_counted : {C : Type 0} → Reads C (λ e. counted_at (initial e)) IsElement (LowElement depth)
+    sound_counted : {C : Type 0} → Sound C (λ e. counted_at (initial e)) IsElement (LowElement depth)
     unfolding counted_at
-    reads_counted = reads_as is_counted (λ x us d. d)
-        (reads_then reads_whole (λ n. reads_if (is_mark m.Open) (reads_repetition_of n)
-        (reads_as (is_lone_number n) (λ x us d. d)
-        (reads_pure (i.single (i.constant (literals.Number n))) (LowElement depth) (λ c us. some)))))
+    sound_counted = sound_as is_counted (λ x us d. d)
+        (sound_then sound_whole (λ n. sound_if (is_mark m.Open) (sound_repetition_of n)
+        (sound_as (is_lone_number n) (λ x us d. d)
+        (sound_pure (i.single (i.constant (literals.Number n))) (LowElement depth) (λ c us. some)))))
 
-    reads_single : {C : Type 0} → Reads C (λ e. single_at (initial e)) IsElement (LowElement depth)
+    sound_single : {C : Type 0} → Sound C (λ e. single_at (initial e)) IsElement (LowElement depth)
     unfolding single_at
-    reads_single = reads_as is_single (λ x us d. d)
-        (reads_then reads_initial (λ v. reads_pure (i.single v) (LowElement depth) (λ c us. c.1.1)))
+    sound_single = sound_as is_single (λ x us d. d)
+        (sound_then sound_initial (λ v. sound_pure (i.single v) (LowElement depth) (λ c us. c.1.1)))
 
-    reads_some_element : {C : Type 0}
-        → Reads C (λ e. if_next is_number (counted_at (initial e)) (single_at (initial e))) IsElement (LowElement depth)
-    reads_some_element = reads_if is_number reads_counted reads_single
+    sound_some_element : {C : Type 0}
+        → Sound C (λ e. if_next is_number (counted_at (initial e)) (single_at (initial e))) IsElement (LowElement depth)
+    sound_some_element = sound_if is_number sound_counted sound_single
 
-  pub reads_list : {C : Type 0} (element : ℕ → Parser Element) → Reads (Unit {0}) element IsElement (LowElement depth)
-      → Reads C (λ e. list_at (element e)) IsInitial (LowInitial (depth + 1))
+  pub sound_list : {C : Type 0} (element : ℕ → Parser Element) → Sound (Unit {0}) element IsElement (LowElement depth)
+      → Sound C (λ e. list_at (element e)) IsInitial (LowInitial (depth + 1))
   unfolding list_at
-  reads_list element reads_element =
-      reads_as is_list (λ x us d. d) (reads_then (reads_mark m.OpenBracket) (λ at. reads_then
-      (reads_listed element IsElement IsMoreElements IsElements (λ x. depth_of_element x ≤ depth)
+  sound_list element sound_element =
+      sound_as is_list (λ x us d. d) (sound_then (sound_mark m.OpenBracket) (λ at. sound_then
+      (sound_listed element IsElement IsMoreElements IsElements (λ x. depth_of_element x ≤ depth)
       (λ ts. no_more_elements) (λ ts us x vs xs ws c o r. next_element c o r) (λ ts x us o. element_less o)
-      (λ ts x us xs vs o r. elements o r) (reads_under (λ c. tt) reads_element))
-      (λ xs. reads_then (reads_mark m.CloseBracket) (λ end. reads_pure (i.list at (elements_of xs))
+      (λ ts x us xs vs o r. elements o r) (sound_under (λ c. tt) sound_element))
+      (λ xs. sound_then (sound_mark m.CloseBracket) (λ end. sound_pure (i.list at (elements_of xs))
       (LowInitial (depth + 1)) (λ c us. let l = each_element depth xs c.0.1.1.0 in omega arith)))))
 
 -- ---- where no depth is left
@@ -383,11 +383,11 @@ told_element (suc below) tells ts = rw (element_deeper (initial_at (suc below + 
     (single_at (initial_at (suc below + n)))) (ElementAt (suc below)) IsElement (LowElement (suc below)) ts
     (if_next is_number (counted_at (initial_at (suc below + 0))) (single_at (initial_at (suc below + 0))) ts)
     (λ n more same. element_deeper (initial_at (suc below + n)) below n more)
-    (told_by (reads_some_element (suc below) (λ n. initial_at (suc below + n)) tells (omega arith)) ts))
+    (told_by (sound_some_element (suc below) (λ n. initial_at (suc below + n)) tells (omega arith)) ts))
 
-pub reads_element : {C : Type 0} (depth : ℕ) → Tells (λ n. initial_at (depth + n)) IsInitial (LowInitial depth)
-    → Reads C (ElementAt depth) IsElement (LowElement depth)
-reads_element depth tells = record { begins = element_begins; tells = λ c. told_element depth tells }
+pub sound_element : {C : Type 0} (depth : ℕ) → Tells (λ n. initial_at (depth + n)) IsInitial (LowInitial depth)
+    → Sound C (ElementAt depth) IsElement (LowElement depth)
+sound_element depth tells = record { begins = element_begins; tells = λ c. told_element depth tells }
 
 abbrev Deeper : ℕ → Family Initial
 Deeper below n = if_next (is_mark m.OpenBracket) (list_at (ElementAt below n)) (if_next (is_mark m.Open)
@@ -401,12 +401,12 @@ initial_deeper : (below n : ℕ) (ts : Tokens) → initial_at (suc below + n) ts
 unfolding initial_at
 initial_deeper below n ts = let h : suc below + n ≡ suc (below + n) = omega arith in rw h refl
 
-reads_deeper : {C : Type 0} (below : ℕ) → Tells (λ n. initial_at (below + n)) IsInitial (LowInitial below)
-    → Reads C (Deeper below) IsInitial (LowInitial (below + 1))
-reads_deeper below tells = reads_if (is_mark m.OpenBracket)
-    (reads_list below (λ n. initial_at (below + n)) tells (ElementAt below) (reads_element below tells))
-    (reads_if (is_mark m.Open) (reads_structure below (λ n. initial_at (below + n)) tells)
-    (reads_if (is_mark m.Minus) (reads_negative_constant below) (reads_literal_constant below)))
+sound_deeper : {C : Type 0} (below : ℕ) → Tells (λ n. initial_at (below + n)) IsInitial (LowInitial below)
+    → Sound C (Deeper below) IsInitial (LowInitial (below + 1))
+sound_deeper below tells = sound_if (is_mark m.OpenBracket)
+    (sound_list below (λ n. initial_at (below + n)) tells (ElementAt below) (sound_element below tells))
+    (sound_if (is_mark m.Open) (sound_structure below (λ n. initial_at (below + n)) tells)
+    (sound_if (is_mark m.Minus) (sound_negative_constant below) (sound_literal_constant below)))
 
 pub told_initial : (depth : ℕ) → Tells (λ n. initial_at (depth + n)) IsInitial (LowInitial depth)
 told_initial zero ts = told_too_deep starts_initial (λ n. initial_at (zero + n)) IsInitial (LowInitial zero)
@@ -414,5 +414,5 @@ told_initial zero ts = told_too_deep starts_initial (λ n. initial_at (zero + n)
 told_initial (suc below) ts =
     rw (initial_deeper below 0 ts) (told_agree (Deeper below) (λ n. initial_at (suc below + n)) IsInitial
     (LowInitial (suc below)) ts (Deeper below 0 ts) (λ n more same. initial_deeper below n more)
-    (told_by (reads_as (λ ts x us s. s) (λ x us d. let l = d in omega arith) (reads_deeper below (told_initial below)))
+    (told_by (sound_as (λ ts x us s. s) (λ x us d. let l = d in omega arith) (sound_deeper below (told_initial below)))
     ts))

@@ -1,4 +1,4 @@
--- Statements of the grammar are read.
+-- What is a statement is read.
 use Rattle.std.proofs.Common.{◌≡◌, ℕ, zero, suc, ◌+◌, ◌-◌, ◌≤◌, max, Bool, true, false, List, [], ◌∷◌, Option, Some, Ok}
 use Rattle.std.proofs.Common.{refl, ap, subst, ◌∙◌, arith}
 use Rattle.st_words.specs.declared.identifier.Identifier.{Identifier}
@@ -35,11 +35,11 @@ use Rattle.st_statements.specs.Statements.{no_case_arm, next_case_arm}
 use Rattle.st_statements.proofs.ExpressionFacts.{is_less}
 use Rattle.st_statements.proofs.StatementFacts.{argument_less, label_less, arm_less, case_arm_less, stmt_less}
 use Rattle.st_statements.proofs.StatementFacts.{stmt_some}
-use Rattle.st_statements.proofs.Again.{one_again, mark_kind, keyword_kind, name_in_is, mark_head, keyword_head}
-use Rattle.st_statements.proofs.Again.{name_head, whole_head, number_again, Repeats, repeats_halt, repeats_step}
-use Rattle.st_statements.proofs.Again.{several_again, after_comma_again, comma_next, listed_again}
-use Rattle.st_statements.proofs.AgainExpressions.{Stops, stops_all, close_stops, comma_stops, open_first, expr_again}
-use Rattle.st_statements.proofs.AgainExpressions.{variable_of_again}
+use Rattle.st_statements.proofs.Complete.{one_complete, mark_kind, keyword_kind, name_in_is, mark_head, keyword_head}
+use Rattle.st_statements.proofs.Complete.{name_head, whole_head, number_complete, Repeats, repeats_halt, repeats_step}
+use Rattle.st_statements.proofs.Complete.{several_complete, after_comma_complete, comma_next, listed_complete}
+use Rattle.st_statements.proofs.CompleteExpressions.{Stops, stops_all, close_stops, comma_stops, open_first}
+use Rattle.st_statements.proofs.CompleteExpressions.{expr_complete, variable_of_complete}
 
 -- ---- what stands after
 
@@ -100,12 +100,12 @@ unfolding same_mark
 labels_plain no_more_labels c = mark_head m.Colon (is_mark m.Range) c.1
 labels_plain (next_label p i r) c = mark_head m.Comma (is_mark m.Range) p.1
 
-label_again : {ts us : Tokens} {l : Label} → IsLabel ts l us → next (is_mark m.Range) us ≡ false
+label_complete : {ts us : Tokens} {l : Label} → IsLabel ts l us → next (is_mark m.Range) us ≡ false
     → label_at ts ≡ Ok (l, us)
 unfolding label_at range_of same_mark
-label_again (single n i eq) bare = rw (number_again i, bare, eq) refl
-label_again (range a b i o j eq) bare = let h = mark_head m.Range (is_mark m.Range) o.1 in
-    rw (number_again i, h, one_again o.1, number_again j, eq) refl
+label_complete (single n i eq) bare = rw (number_complete i, bare, eq) refl
+label_complete (range a b i o j eq) bare = let h = mark_head m.Range (is_mark m.Range) o.1 in
+    rw (number_complete i, h, one_complete o.1, number_complete j, eq) refl
 
 colon_no_comma : {ts us : Tokens} → Passes (mark m.Colon) ts us → next (is_mark m.Comma) ts ≡ false
 unfolding same_mark
@@ -115,18 +115,20 @@ close_no_comma : {ts us : Tokens} → Passes (mark m.Close) ts us → next (is_m
 unfolding same_mark
 close_no_comma c = mark_head m.Close (is_mark m.Comma) c.1
 
-more_labels_again : {ts us vs : Tokens} {xs : List Label} → IsMoreLabels ts xs us → Passes (mark m.Colon) us vs
+more_labels_complete : {ts us vs : Tokens} {xs : List Label} → IsMoreLabels ts xs us → Passes (mark m.Colon) us vs
     → Repeats (is_mark m.Comma) (after_comma label_at) ts xs us
-more_labels_again (no_more_labels {ts}) c = repeats_halt (is_mark m.Comma) (after_comma label_at) ts (colon_no_comma c)
-more_labels_again (next_label {ts} {us} {vs} {ws} {x} {xs} p i r) c =
+more_labels_complete (no_more_labels {ts}) c =
+    repeats_halt (is_mark m.Comma) (after_comma label_at) ts (colon_no_comma c)
+more_labels_complete (next_label {ts} {us} {vs} {ws} {x} {xs} p i r) c =
     let less = is_less p.1 in
     let less' = label_less i in
     repeats_step (is_mark m.Comma) (after_comma label_at) ts vs ws x xs (comma_next p)
-    (after_comma_again label_at p (label_again i (labels_plain r c))) (omega arith) (more_labels_again r c)
+    (after_comma_complete label_at p (label_complete i (labels_plain r c))) (omega arith) (more_labels_complete r c)
 
-labels_again : {ts us vs : Tokens} {xs : List Label} → IsLabels ts xs us → Passes (mark m.Colon) us vs
+labels_complete : {ts us vs : Tokens} {xs : List Label} → IsLabels ts xs us → Passes (mark m.Colon) us vs
     → listed label_at ts ≡ Ok (xs, us)
-labels_again (labels i r) c = listed_again label_at (label_again i (labels_plain r c)) (more_labels_again r c)
+labels_complete (labels i r) c =
+    listed_complete label_at (label_complete i (labels_plain r c)) (more_labels_complete r c)
 
 -- ---- arguments
 
@@ -135,71 +137,71 @@ rest_stops : {us vs ws : Tokens} {xs : List Argument} → IsMoreArguments us xs 
 rest_stops no_more_arguments c = close_stops c
 rest_stops (next_argument p i r) c = comma_stops p
 
-variable_again : (depth : ℕ) {ts us : Tokens} {v : Variable} → IsVariable ts v us → depth_of_variable v ≤ depth
+variable_complete : (depth : ℕ) {ts us : Tokens} {v : Variable} → IsVariable ts v us → depth_of_variable v ≤ depth
     → next starts_selector us ≡ false → variable_at depth ts ≡ Ok (v, us)
 unfolding variable_at
-variable_again zero (selected {ts} {us} {vs} {v} x xs n s q) low stop =
+variable_complete zero (selected {ts} {us} {vs} {v} x xs n s q) low stop =
     let low' : depth_of_variable (e.variable x (selectors_of xs)) ≤ zero =
     subst (λ (z : Variable). depth_of_variable z ≤ zero) q low in absurd (omega arith)
-variable_again (suc below) (selected {ts} {us} {vs} {v} x xs n s q) low stop =
+variable_complete (suc below) (selected {ts} {us} {vs} {v} x xs n s q) low stop =
     let low' : depth_of_variable (e.variable x (selectors_of xs)) ≤ suc below =
     subst (λ (z : Variable). depth_of_variable z ≤ suc below) q low in
-    rw (one_again n, q) (variable_of_again below us vs x xs s (omega arith) stop)
+    rw (one_complete n, q) (variable_of_complete below us vs x xs s (omega arith) stop)
 
-given_again : (below : ℕ) {ts us vs ws : Tokens} {x : Identifier} {v : Expr} → Is name ts x us
+given_complete : (below : ℕ) {ts us vs ws : Tokens} {x : Identifier} {v : Expr} → Is name ts x us
     → Passes (mark m.Assign) us vs → expr_at below 1 vs ≡ Ok (v, ws) → argument_at below ts ≡ Ok (s.given x v, ws)
 unfolding argument_at given_of same_mark
-given_again below n o eq = let h = mark_head m.Assign (is_mark m.Assign) o.1 in
-    rw (one_again n, h, one_again o.1, eq) refl
+given_complete below n o eq = let h = mark_head m.Assign (is_mark m.Assign) o.1 in
+    rw (one_complete n, h, one_complete o.1, eq) refl
 
-copied_again : (below : ℕ) {ts us vs ws : Tokens} {x : Identifier} {v : Variable} → Is name ts x us
+copied_complete : (below : ℕ) {ts us vs ws : Tokens} {x : Identifier} {v : Variable} → Is name ts x us
     → Passes (mark m.Arrow) us vs → variable_at below vs ≡ Ok (v, ws) → argument_at below ts ≡ Ok (s.copied x v, ws)
 unfolding argument_at copied_of same_mark
-copied_again below n o eq = let h = mark_head m.Arrow (is_mark m.Assign) o.1 in
-    rw (one_again n, h, one_again o.1, eq) refl
+copied_complete below n o eq = let h = mark_head m.Arrow (is_mark m.Assign) o.1 in
+    rw (one_complete n, h, one_complete o.1, eq) refl
 
-argument_again : (below : ℕ) {ts us : Tokens} {a : Argument} → IsArgument ts a us → depth_of_argument a ≤ below
+argument_complete : (below : ℕ) {ts us : Tokens} {a : Argument} → IsArgument ts a us → depth_of_argument a ≤ below
     → Stops us → argument_at below ts ≡ Ok (a, us)
-argument_again below (given {ts} {us} {vs} {ws} {a} x v n o i eq) low stop =
+argument_complete below (given {ts} {us} {vs} {ws} {a} x v n o i eq) low stop =
     let low' : depth_of_argument (s.given x v) ≤ below = subst (λ (z : Argument). depth_of_argument z ≤ below) eq low in
-    rw eq (given_again below n o (expr_again below i low' stop))
-argument_again below (copied {ts} {us} {vs} {ws} {a} x v n o i eq) low stop =
+    rw eq (given_complete below n o (expr_complete below i low' stop))
+argument_complete below (copied {ts} {us} {vs} {ws} {a} x v n o i eq) low stop =
     let low' : depth_of_argument (s.copied x v) ≤ below =
     subst (λ (z : Argument). depth_of_argument z ≤ below) eq low in
     let all = stops_all ws stop in
-    rw eq (copied_again below n o (variable_again below i low' all.1.0))
+    rw eq (copied_complete below n o (variable_complete below i low' all.1.0))
 
-more_arguments_again : (below : ℕ) {ts us vs : Tokens} {xs : List Argument} → IsMoreArguments ts xs us
+more_arguments_complete : (below : ℕ) {ts us vs : Tokens} {xs : List Argument} → IsMoreArguments ts xs us
     → Passes (mark m.Close) us vs → deepest_argument xs ≤ below
     → Repeats (is_mark m.Comma) (after_comma (argument_at below)) ts xs us
-more_arguments_again below (no_more_arguments {ts}) c low =
+more_arguments_complete below (no_more_arguments {ts}) c low =
     repeats_halt (is_mark m.Comma) (after_comma (argument_at below)) ts (close_no_comma c)
-more_arguments_again below (next_argument {ts} {us} {vs} {ws} {x} {xs} p i r) c low =
+more_arguments_complete below (next_argument {ts} {us} {vs} {ws} {x} {xs} p i r) c low =
     let less = is_less p.1 in
     let less' = argument_less i in
     repeats_step (is_mark m.Comma) (after_comma (argument_at below)) ts vs ws x xs (comma_next p)
-    (after_comma_again (argument_at below) p (argument_again below i (omega arith) (rest_stops r c))) (omega arith)
-    (more_arguments_again below r c (omega arith))
+    (after_comma_complete (argument_at below) p (argument_complete below i (omega arith) (rest_stops r c)))
+    (omega arith) (more_arguments_complete below r c (omega arith))
 
 argument_open : {ts us : Tokens} {a : Argument} → IsArgument ts a us → next (is_mark m.Close) ts ≡ false
 argument_open (given x v n o i eq) = name_head (is_mark m.Close) n
 argument_open (copied x v n o i eq) = name_head (is_mark m.Close) n
 
-no_arguments_again : (below : ℕ) {ts us : Tokens} → Passes (mark m.Close) ts us → arguments_at below ts ≡ Ok ([], ts)
+no_arguments_complete : (below : ℕ) {ts us : Tokens} → Passes (mark m.Close) ts us → arguments_at below ts ≡ Ok ([], ts)
 unfolding arguments_at same_mark
-no_arguments_again below c = let h = mark_head m.Close (is_mark m.Close) c.1 in rw h refl
+no_arguments_complete below c = let h = mark_head m.Close (is_mark m.Close) c.1 in rw h refl
 
-some_arguments_again : (below : ℕ) (ts us : Tokens) (xs : List Argument) → next (is_mark m.Close) ts ≡ false
+some_arguments_complete : (below : ℕ) (ts us : Tokens) (xs : List Argument) → next (is_mark m.Close) ts ≡ false
     → listed (argument_at below) ts ≡ Ok (xs, us) → arguments_at below ts ≡ Ok (xs, us)
 unfolding arguments_at
-some_arguments_again below ts us xs other eq = rw other eq
+some_arguments_complete below ts us xs other eq = rw other eq
 
-arguments_again : (below : ℕ) {ts us vs : Tokens} {xs : List Argument} → IsArguments ts xs us
+arguments_complete : (below : ℕ) {ts us vs : Tokens} {xs : List Argument} → IsArguments ts xs us
     → Passes (mark m.Close) us vs → deepest_argument xs ≤ below → arguments_at below ts ≡ Ok (xs, us)
-arguments_again below no_argument c low = no_arguments_again below c
-arguments_again below (argument {ts} {us} {vs} {x} {xs} i r) c low =
-    some_arguments_again below ts vs (x ∷ xs) (argument_open i) (listed_again (argument_at below)
-    (argument_again below i (omega arith) (rest_stops r c)) (more_arguments_again below r c (omega arith)))
+arguments_complete below no_argument c low = no_arguments_complete below c
+arguments_complete below (argument {ts} {us} {vs} {x} {xs} i r) c low =
+    some_arguments_complete below ts vs (x ∷ xs) (argument_open i) (listed_complete (argument_at below)
+    (argument_complete below i (omega arith) (rest_stops r c)) (more_arguments_complete below r c (omega arith)))
 
 -- ---- statements that hold no statement
 
@@ -215,62 +217,62 @@ by_semicolon : {A : Type 0} (f : TokenKind → Parser A) {ts us : Tokens} → Pa
     → by_kind f ts ≡ f (Mark m.Semicolon) ts
 by_semicolon f (at, is {t} {us} eq) = ap (λ (k : TokenKind). f k (t ∷ us)) (mark_kind m.Semicolon t at eq)
 
-step_again : (below : ℕ) {ts us vs : Tokens} {o : Option Expr} → IsStep ts o us → Passes (keyword w.Do) us vs
+step_complete : (below : ℕ) {ts us vs : Tokens} {o : Option Expr} → IsStep ts o us → Passes (keyword w.Do) us vs
     → depth_of_step o ≤ below → step_at below ts ≡ Ok (o, us)
 unfolding step_at by_at same_keyword
-step_again below no_step d low = let h = keyword_head w.Do (is_keyword w.By) d.1 in rw h refl
-step_again below (step {ts} {us} {vs} {o} x p i eq) d low =
+step_complete below no_step d low = let h = keyword_head w.Do (is_keyword w.By) d.1 in rw h refl
+step_complete below (step {ts} {us} {vs} {o} x p i eq) d low =
     let low' : depth_of_step (Some x) ≤ below = subst (λ (z : Option Expr). depth_of_step z ≤ below) eq low in
     let h = keyword_head w.By (is_keyword w.By) p.1 in
-    rw (h, one_again p.1, expr_again below i low' (do_stops d), eq) refl
+    rw (h, one_complete p.1, expr_complete below i low' (do_stops d), eq) refl
 
 module _ (below : ℕ) (stmts : Parser (List Stmt)) where
-  assign_again : {ts us vs ws zs : Tokens} {x : Identifier} {xs : List Selector} {value : Expr} → Is name ts x us
+  assign_complete : {ts us vs ws zs : Tokens} {x : Identifier} {xs : List Selector} {value : Expr} → Is name ts x us
       → IsSelectors us xs vs → deepest_subscript (selectors_of xs) ≤ below - 1 → Passes (mark m.Assign) vs ws
       → expr_at below 1 ws ≡ Ok (value, zs)
       → stmt_at below stmts ts ≡ Ok (s.assign (e.variable x (selectors_of xs)) value, zs)
   unfolding stmt_at named_at assign_of same_mark
-  assign_again {us = us} {vs = vs} {x = x} {xs = xs} n i low o eq =
+  assign_complete {us = us} {vs = vs} {x = x} {xs = xs} n i low o eq =
       let bare = open_first i (mark_head m.Assign (is_mark m.Open) o.1) in
       let stop = mark_head m.Assign starts_selector o.1 in
       by_name (stmt_by below stmts) n
-      ∙ rw (one_again n, bare, variable_of_again (below - 1) us vs x xs i low stop, one_again o.1, eq) refl
+      ∙ rw (one_complete n, bare, variable_of_complete (below - 1) us vs x xs i low stop, one_complete o.1, eq) refl
 
-  invoke_again : {ts us vs ws zs : Tokens} {f : Identifier} {xs : List Argument} → Is name ts f us
+  invoke_complete : {ts us vs ws zs : Tokens} {f : Identifier} {xs : List Argument} → Is name ts f us
       → Passes (mark m.Open) us vs → arguments_at below vs ≡ Ok (xs, ws) → Passes (mark m.Close) ws zs
       → stmt_at below stmts ts ≡ Ok (s.invoke f xs, zs)
   unfolding stmt_at named_at invoke_of same_mark
-  invoke_again n o eq c = let h = mark_head m.Open (is_mark m.Open) o.1 in
-      by_name (stmt_by below stmts) n ∙ rw (one_again n, h, one_again o.1, eq, one_again c.1) refl
+  invoke_complete n o eq c = let h = mark_head m.Open (is_mark m.Open) o.1 in
+      by_name (stmt_by below stmts) n ∙ rw (one_complete n, h, one_complete o.1, eq, one_complete c.1) refl
 
-  empty_again : {ts us : Tokens} → Passes (mark m.Semicolon) ts us → stmt_at below stmts ts ≡ Ok (s.empty, ts)
+  empty_complete : {ts us : Tokens} → Passes (mark m.Semicolon) ts us → stmt_at below stmts ts ≡ Ok (s.empty, ts)
   unfolding stmt_at
-  empty_again o = by_semicolon (stmt_by below stmts) o
+  empty_complete o = by_semicolon (stmt_by below stmts) o
 
-  exit_again : {ts us : Tokens} {at : ℕ} → Is (keyword w.Exit) ts at us → stmt_at below stmts ts ≡ Ok (s.EXIT at, us)
+  exit_complete : {ts us : Tokens} {at : ℕ} → Is (keyword w.Exit) ts at us → stmt_at below stmts ts ≡ Ok (s.EXIT at, us)
   unfolding stmt_at exit_at
-  exit_again {at = at} o = by_keyword (stmt_by below stmts) w.Exit (at, o) ∙ rw (one_again o) refl
+  exit_complete {at = at} o = by_keyword (stmt_by below stmts) w.Exit (at, o) ∙ rw (one_complete o) refl
 
-  return_again : {ts us : Tokens} → Passes (keyword w.Return) ts us → stmt_at below stmts ts ≡ Ok (s.RETURN, us)
+  return_complete : {ts us : Tokens} → Passes (keyword w.Return) ts us → stmt_at below stmts ts ≡ Ok (s.RETURN, us)
   unfolding stmt_at return_at
-  return_again o = by_keyword (stmt_by below stmts) w.Return o ∙ rw (one_again o.1) refl
+  return_complete o = by_keyword (stmt_by below stmts) w.Return o ∙ rw (one_complete o.1) refl
 
   -- ---- statements that hold statements
 
   arm_is : (ts us vs ws : Tokens) (x : Expr) (body : List Stmt) → expr_at below 1 ts ≡ Ok (x, us)
       → Passes (keyword w.Then) us vs → stmts vs ≡ Ok (body, ws) → arm_at below stmts ts ≡ Ok ((x, stmts_of body), ws)
   unfolding arm_at
-  arm_is ts us vs ws x body eq t same = rw (eq, one_again t.1, same) refl
+  arm_is ts us vs ws x body eq t same = rw (eq, one_complete t.1, same) refl
 
   elsif_is : {ts us vs : Tokens} {a : Arm} → Passes (keyword w.Elsif) ts us → arm_at below stmts us ≡ Ok (a, vs)
       → elsif_at below stmts ts ≡ Ok (a, vs)
   unfolding elsif_at
-  elsif_is p eq = rw (one_again p.1) eq
+  elsif_is p eq = rw (one_complete p.1) eq
 
   otherwise_is : {ts us vs : Tokens} {xs : List Stmt} → Passes (keyword w.Else) ts us → stmts us ≡ Ok (xs, vs)
       → else_at below stmts ts ≡ Ok (xs, vs)
   unfolding else_at otherwise_at same_keyword
-  otherwise_is p eq = let h = keyword_head w.Else (is_keyword w.Else) p.1 in rw (h, one_again p.1) eq
+  otherwise_is p eq = let h = keyword_head w.Else (is_keyword w.Else) p.1 in rw (h, one_complete p.1) eq
 
   no_else_is : {ts : Tokens} → next (is_keyword w.Else) ts ≡ false → else_at below stmts ts ≡ Ok ([], ts)
   unfolding else_at
@@ -283,18 +285,18 @@ module _ (below : ℕ) (stmts : Parser (List Stmt)) where
   unfolding stmt_at if_at
   if_is {vs = vs} {ws = ws} {a = a} {arms = arms} o eq r same c =
       by_keyword (stmt_by below stmts) w.If o ∙ rw (
-        one_again o.1,
+        one_complete o.1,
         eq,
-        several_again (is_keyword w.Elsif) (elsif_at below stmts) vs ws (a ∷ []) arms r,
+        several_complete (is_keyword w.Elsif) (elsif_at below stmts) vs ws (a ∷ []) arms r,
         same,
-        one_again c.1,
+        one_complete c.1,
       ) refl
 
   case_arm_is : (ts us vs ws : Tokens) (ls : List Label) (body : List Stmt) → listed label_at ts ≡ Ok (ls, us)
       → Passes (mark m.Colon) us vs → stmts vs ≡ Ok (body, ws)
       → case_arm_at below stmts ts ≡ Ok ((ls, stmts_of body), ws)
   unfolding case_arm_at
-  case_arm_is ts us vs ws ls body eq c same = rw (eq, one_again c.1, same) refl
+  case_arm_is ts us vs ws ls body eq c same = rw (eq, one_complete c.1, same) refl
 
   case_is : {ts us vs ws zs qs rs : Tokens} {x : Expr} {arms : List CaseArm} {other : List Stmt}
       → Passes (keyword w.Case) ts us → expr_at below 1 us ≡ Ok (x, vs) → Passes (keyword w.Of) vs ws
@@ -304,12 +306,12 @@ module _ (below : ℕ) (stmts : Parser (List Stmt)) where
   unfolding stmt_at case_at
   case_is {ws = ws} {zs = zs} {arms = arms} o eq p r same c =
       by_keyword (stmt_by below stmts) w.Case o ∙ rw (
-        one_again o.1,
+        one_complete o.1,
         eq,
-        one_again p.1,
-        several_again starts_number (case_arm_at below stmts) ws zs [] arms r,
+        one_complete p.1,
+        several_complete starts_number (case_arm_at below stmts) ws zs [] arms r,
         same,
-        one_again c.1,
+        one_complete c.1,
       ) refl
 
   for_is : {ts us vs ws zs qs rs ns os ps ms : Tokens} {x : Identifier} {start limit : Expr} {by : Option Expr}
@@ -319,8 +321,18 @@ module _ (below : ℕ) (stmts : Parser (List Stmt)) where
       → Passes (keyword w.Do) ns os → stmts os ≡ Ok (body, ps) → Passes (keyword w.EndFor) ps ms
       → stmt_at below stmts ts ≡ Ok (s.FOR x start limit by (stmts_of body), ms)
   unfolding stmt_at for_at
-  for_is o n p eq t eq' st d same c = by_keyword (stmt_by below stmts) w.For o ∙ rw
-      (one_again o.1, one_again n, one_again p.1, eq, one_again t.1, eq', st, one_again d.1, same, one_again c.1) refl
+  for_is o n p eq t eq' st d same c = by_keyword (stmt_by below stmts) w.For o ∙ rw (
+    one_complete o.1,
+    one_complete n,
+    one_complete p.1,
+    eq,
+    one_complete t.1,
+    eq',
+    st,
+    one_complete d.1,
+    same,
+    one_complete c.1,
+  ) refl
 
   while_is : {ts us vs ws zs qs : Tokens} {x : Expr} {body : List Stmt} → Passes (keyword w.While) ts us
       → expr_at below 1 us ≡ Ok (x, vs) → Passes (keyword w.Do) vs ws → stmts ws ≡ Ok (body, zs)
@@ -328,7 +340,7 @@ module _ (below : ℕ) (stmts : Parser (List Stmt)) where
       → stmt_at below stmts ts ≡ Ok (s.WHILE x (stmts_of body), qs)
   unfolding stmt_at while_at
   while_is o eq d same c = by_keyword (stmt_by below stmts) w.While o
-      ∙ rw (one_again o.1, eq, one_again d.1, same, one_again c.1) refl
+      ∙ rw (one_complete o.1, eq, one_complete d.1, same, one_complete c.1) refl
 
   repeat_is : {ts us vs ws zs qs : Tokens} {x : Expr} {body : List Stmt} → Passes (keyword w.Repeat) ts us
       → stmts us ≡ Ok (body, vs) → Passes (keyword w.Until) vs ws → expr_at below 1 ws ≡ Ok (x, zs)
@@ -336,7 +348,7 @@ module _ (below : ℕ) (stmts : Parser (List Stmt)) where
       → stmt_at below stmts ts ≡ Ok (s.REPEAT (stmts_of body) x, qs)
   unfolding stmt_at repeat_at
   repeat_is o same u eq c = by_keyword (stmt_by below stmts) w.Repeat o
-      ∙ rw (one_again o.1, same, one_again u.1, eq, one_again c.1) refl
+      ∙ rw (one_complete o.1, same, one_complete u.1, eq, one_complete c.1) refl
 
 -- ---- where lists of statements end
 
@@ -373,15 +385,15 @@ stmt_next (repeat_until body condition p b u i f q) o = keyword_head w.Repeat st
 stmt_next (exit at p q) o = keyword_head w.Exit starts_stmt p
 stmt_next (leave p q) o = keyword_head w.Return starts_stmt p.1
 
-line_again : (below : ℕ) (ts us vs : Tokens) (x : Stmt) → stmt_at below (stmts_at below) ts ≡ Ok (x, us)
+line_complete : (below : ℕ) (ts us vs : Tokens) (x : Stmt) → stmt_at below (stmts_at below) ts ≡ Ok (x, us)
     → Passes (mark m.Semicolon) us vs → line_at (suc below) ts ≡ Ok (x, vs)
 unfolding line_at
-line_again below ts us vs x eq o = rw (eq, one_again o.1) refl
+line_complete below ts us vs x eq o = rw (eq, one_complete o.1) refl
 
-lines_again : (depth : ℕ) (ts us : Tokens) (xs : List Stmt) → Repeats starts_stmt (line_at depth) ts xs us
+lines_complete : (depth : ℕ) (ts us : Tokens) (xs : List Stmt) → Repeats starts_stmt (line_at depth) ts xs us
     → stmts_at depth ts ≡ Ok (xs, us)
 unfolding lines
-lines_again depth ts us xs r = several_again starts_stmt (line_at depth) ts us [] xs r
+lines_complete depth ts us xs r = several_complete starts_stmt (line_at depth) ts us [] xs r
 
 -- ---- all
 
@@ -410,98 +422,107 @@ unfolding same_keyword
 end_case_word = refl
 
 mutual
-  pub stmt_again : {ts us vs : Tokens} {x : Stmt} → IsStmt ts x us → Passes (mark m.Semicolon) us vs → (below : ℕ)
+  pub stmt_complete : {ts us vs : Tokens} {x : Stmt} → IsStmt ts x us → Passes (mark m.Semicolon) us vs → (below : ℕ)
       → depth_of_stmt x ≤ below + 1 → stmt_at below (stmts_at below) ts ≡ Ok (x, us)
-  stmt_again (empty {ts} {x} q) o below low = rw q (empty_again below (stmts_at below) o)
-  stmt_again (assign {ts} {us} {vs} {ws} {x} v value (selected {v = v'} y xs n i r) p j q) o below low =
+  stmt_complete (empty {ts} {x} q) o below low = rw q (empty_complete below (stmts_at below) o)
+  stmt_complete (assign {ts} {us} {vs} {ws} {x} v value (selected {v = v'} y xs n i r) p j q) o below low =
       let low' = lower x (s.assign v value) (below + 1) q low in
       let low'' : depth_of_variable (e.variable y (selectors_of xs)) ≤ below =
       subst (λ (z : Variable). depth_of_variable z ≤ below) r (omega arith) in
-      rw (q, r) (assign_again below (stmts_at below) n i (omega arith) p
-      (expr_again below j (omega arith) (semicolon_stops o)))
-  stmt_again (invoke {ts} {us} {vs} {ws} {zs} {x} f xs n p i c q) o below low =
+      rw (q, r) (assign_complete below (stmts_at below) n i (omega arith) p
+      (expr_complete below j (omega arith) (semicolon_stops o)))
+  stmt_complete (invoke {ts} {us} {vs} {ws} {zs} {x} f xs n p i c q) o below low =
       let low' = lower x (s.invoke f xs) (below + 1) q low in
-      rw q (invoke_again below (stmts_at below) n p (arguments_again below i c (omega arith)) c)
-  stmt_again (choose {ts} {us} {vs} {ws} {zs} {qs} {x} a arms other p i r j c q) o below low =
+      rw q (invoke_complete below (stmts_at below) n p (arguments_complete below i c (omega arith)) c)
+  stmt_complete (choose {ts} {us} {vs} {ws} {zs} {qs} {x} a arms other p i r j c q) o below low =
       let low' = lower x (s.IF (arms_of (a ∷ arms)) (stmts_of other)) (below + 1) q low in
       rw q
-      (if_is below (stmts_at below) p (arm_again i below (omega arith) (arms_next starts_stmt r j c refl refl refl))
-      (more_arms_again r j c below (omega arith)) (else_again w.EndIf j c refl end_if_word below (omega arith)) c)
-  stmt_again (select {ts} {us} {vs} {ws} {zs} {qs} {rs} {x} selector arms other p i d r j c q) o below low =
+      (if_is below (stmts_at below) p (arm_complete i below (omega arith) (arms_next starts_stmt r j c refl refl refl))
+      (more_arms_complete r j c below (omega arith)) (else_complete w.EndIf j c refl end_if_word below (omega arith)) c)
+  stmt_complete (select {ts} {us} {vs} {ws} {zs} {qs} {rs} {x} selector arms other p i d r j c q) o below low =
       let low' = lower x (s.CASE selector (case_arms_of arms) (stmts_of other)) (below + 1) q low in
-      rw q (case_is below (stmts_at below) p (expr_again below i (omega arith) (of_stops d)) d (case_arms_again r j c
-      below (omega arith)) (else_again w.EndCase j c refl end_case_word below (omega arith)) c)
-  stmt_again (count {ts} {us} {vs} {ws} {zs} {qs} {rs} {ns} {os} {ps} {ms} {x} control start limit by body p n a i t j
-      st d b c q) o below low =
+      rw q (case_is below (stmts_at below) p (expr_complete below i (omega arith) (of_stops d)) d
+      (case_arms_complete r j c below (omega arith))
+      (else_complete w.EndCase j c refl end_case_word below (omega arith)) c)
+  stmt_complete (count {ts} {us} {vs} {ws} {zs} {qs} {rs} {ns} {os} {ps} {ms} {x} control start limit by body p n a i t
+      j st d b c q) o below low =
       let low' = lower x (s.FOR control start limit by (stmts_of body)) (below + 1) q low in
-      rw q (for_is below (stmts_at below) p n a (expr_again below i (omega arith) (to_stops t)) t
-      (expr_again below j (omega arith) (step_stops st d)) (step_again below st d (omega arith)) d
-      (lines_again below os ps body (stmts_again b below (omega arith) (keyword_head w.EndFor starts_stmt c.1))) c)
-  stmt_again (repeat_while {ts} {us} {vs} {ws} {zs} {qs} {x} condition body p i d b c q) o below low =
+      rw q (for_is below (stmts_at below) p n a (expr_complete below i (omega arith) (to_stops t)) t
+      (expr_complete below j (omega arith) (step_stops st d)) (step_complete below st d (omega arith)) d
+      (lines_complete below os ps body
+      (stmts_complete b below (omega arith) (keyword_head w.EndFor starts_stmt c.1))) c)
+  stmt_complete (repeat_while {ts} {us} {vs} {ws} {zs} {qs} {x} condition body p i d b c q) o below low =
       let low' = lower x (s.WHILE condition (stmts_of body)) (below + 1) q low in
-      rw q (while_is below (stmts_at below) p (expr_again below i (omega arith) (do_stops d)) d (lines_again below ws zs
-      body (stmts_again b below (omega arith) (keyword_head w.EndWhile starts_stmt c.1))) c)
-  stmt_again (repeat_until {ts} {us} {vs} {ws} {zs} {qs} {x} body condition p b u i c q) o below low =
+      rw q (while_is below (stmts_at below) p (expr_complete below i (omega arith) (do_stops d)) d
+      (lines_complete below ws zs body
+      (stmts_complete b below (omega arith) (keyword_head w.EndWhile starts_stmt c.1))) c)
+  stmt_complete (repeat_until {ts} {us} {vs} {ws} {zs} {qs} {x} body condition p b u i c q) o below low =
       let low' = lower x (s.REPEAT (stmts_of body) condition) (below + 1) q low in
-      rw q (repeat_is below (stmts_at below) p (lines_again below us vs body (stmts_again b below (omega arith)
-      (keyword_head w.Until starts_stmt u.1))) u (expr_again below i (omega arith) (end_repeat_stops c)) c)
-  stmt_again (exit {ts} {us} {x} at p q) o below low = rw q (exit_again below (stmts_at below) p)
-  stmt_again (leave {ts} {us} {x} p q) o below low = rw q (return_again below (stmts_at below) p)
+      rw q (repeat_is below (stmts_at below) p (lines_complete below us vs body (stmts_complete b below (omega arith)
+      (keyword_head w.Until starts_stmt u.1))) u (expr_complete below i (omega arith) (end_repeat_stops c)) c)
+  stmt_complete (exit {ts} {us} {x} at p q) o below low = rw q (exit_complete below (stmts_at below) p)
+  stmt_complete (leave {ts} {us} {x} p q) o below low = rw q (return_complete below (stmts_at below) p)
 
-  pub stmts_again : {ts us : Tokens} {xs : List Stmt} → IsStmts ts xs us → (depth : ℕ)
+  pub stmts_complete : {ts us : Tokens} {xs : List Stmt} → IsStmts ts xs us → (depth : ℕ)
       → deepest_stmt (stmts_of xs) ≤ depth → next starts_stmt us ≡ false → Repeats starts_stmt (line_at depth) ts xs us
-  stmts_again (no_stmt {ts}) depth low stop = repeats_halt starts_stmt (line_at depth) ts stop
-  stmts_again (stmt {ts} {us} {vs} {ws} {x} {xs} i o r) zero low stop = let some = stmt_some x in absurd (omega arith)
-  stmts_again (stmt {ts} {us} {vs} {ws} {x} {xs} i o r) (suc below) low stop =
+  stmts_complete (no_stmt {ts}) depth low stop = repeats_halt starts_stmt (line_at depth) ts stop
+  stmts_complete (stmt {ts} {us} {vs} {ws} {x} {xs} i o r) zero low stop =
+      let some = stmt_some x in absurd (omega arith)
+  stmts_complete (stmt {ts} {us} {vs} {ws} {x} {xs} i o r) (suc below) low stop =
       let less = stmt_less i in
       let less' = is_less o.1 in
-      repeats_step starts_stmt (line_at (suc below)) ts vs ws x xs (stmt_next i o) (line_again below ts us vs x
-      (stmt_again i o below (omega arith)) o) (omega arith) (stmts_again r (suc below) (omega arith) stop)
+      repeats_step starts_stmt (line_at (suc below)) ts vs ws x xs (stmt_next i o) (line_complete below ts us vs x
+      (stmt_complete i o below (omega arith)) o) (omega arith) (stmts_complete r (suc below) (omega arith) stop)
 
-  arm_again : {ts us : Tokens} {a : Arm} → IsArm ts a us → (below : ℕ) → max (depth_of a.0) (deepest_stmt a.1) ≤ below
+  arm_complete : {ts us : Tokens} {a : Arm} → IsArm ts a us → (below : ℕ)
+      → max (depth_of a.0) (deepest_stmt a.1) ≤ below
       → next starts_stmt us ≡ false → arm_at below (stmts_at below) ts ≡ Ok (a, us)
-  arm_again (arm {ts} {us} {vs} {ws} {a} condition body i t b q) below low stop =
+  arm_complete (arm {ts} {us} {vs} {ws} {a} condition body i t b q) below low stop =
       let low' : max (depth_of condition) (deepest_stmt (stmts_of body)) ≤ below =
       subst (λ (z : Arm). max (depth_of z.0) (deepest_stmt z.1) ≤ below) q low in
-      rw q (arm_is below (stmts_at below) ts us vs ws condition body (expr_again below i (omega arith) (then_stops t)) t
-      (lines_again below vs ws body (stmts_again b below (omega arith) stop)))
+      rw q (arm_is below (stmts_at below) ts us vs ws condition body
+      (expr_complete below i (omega arith) (then_stops t)) t
+      (lines_complete below vs ws body (stmts_complete b below (omega arith) stop)))
 
-  more_arms_again : {ts us vs ws : Tokens} {arms : List Arm} {other : List Stmt} → IsMoreArms ts arms us
+  more_arms_complete : {ts us vs ws : Tokens} {arms : List Arm} {other : List Stmt} → IsMoreArms ts arms us
       → IsElse us other vs → Passes (keyword w.EndIf) vs ws → (below : ℕ) → deepest_arm (arms_of arms) ≤ below
       → Repeats (is_keyword w.Elsif) (elsif_at below (stmts_at below)) ts arms us
-  more_arms_again (no_more_arms {ts}) j c below low =
+  more_arms_complete (no_more_arms {ts}) j c below low =
       repeats_halt (is_keyword w.Elsif) (elsif_at below (stmts_at below)) ts (no_elsif j c)
-  more_arms_again (elsif {ts} {us} {vs} {ws} {x} {xs} p a r) j c below low =
+  more_arms_complete (elsif {ts} {us} {vs} {ws} {x} {xs} p a r) j c below low =
       let less = is_less p.1 in
       let less' = arm_less a in
       repeats_step (is_keyword w.Elsif) (elsif_at below (stmts_at below)) ts vs ws x xs (elsif_word p) (elsif_is below
-      (stmts_at below) p (arm_again a below (omega arith) (arms_next starts_stmt r j c refl refl refl)))
-      (omega arith) (more_arms_again r j c below (omega arith))
+      (stmts_at below) p (arm_complete a below (omega arith) (arms_next starts_stmt r j c refl refl refl)))
+      (omega arith) (more_arms_complete r j c below (omega arith))
 
-  else_again : (x : KeywordType) {ts us vs : Tokens} {xs : List Stmt} → IsElse ts xs us → Passes (keyword x) us vs
+  else_complete : (x : KeywordType) {ts us vs : Tokens} {xs : List Stmt} → IsElse ts xs us → Passes (keyword x) us vs
       → starts_stmt (Keyword x) ≡ false → is_keyword w.Else (Keyword x) ≡ false → (below : ℕ)
       → deepest_stmt (stmts_of xs) ≤ below → else_at below (stmts_at below) ts ≡ Ok (xs, us)
-  else_again x no_else c a b below low = no_else_is below (stmts_at below) (no_else_word x c b)
-  else_again x (otherwise {ts} {us} {vs} {xs} p i) c a b below low = otherwise_is below (stmts_at below) p
-      (lines_again below us vs xs (stmts_again i below low (keyword_head x starts_stmt c.1 ∙ a)))
+  else_complete x no_else c a b below low = no_else_is below (stmts_at below) (no_else_word x c b)
+  else_complete x (otherwise {ts} {us} {vs} {xs} p i) c a b below low = otherwise_is below (stmts_at below) p
+      (lines_complete below us vs xs (stmts_complete i below low (keyword_head x starts_stmt c.1 ∙ a)))
 
-  case_arm_again : {ts us : Tokens} {a : CaseArm} → IsCaseArm ts a us → (below : ℕ) → deepest_stmt a.1 ≤ below
+  case_arm_complete : {ts us : Tokens} {a : CaseArm} → IsCaseArm ts a us → (below : ℕ) → deepest_stmt a.1 ≤ below
       → next starts_stmt us ≡ false → case_arm_at below (stmts_at below) ts ≡ Ok (a, us)
-  case_arm_again (case_arm {ts} {us} {vs} {ws} {a} ls body i c b q) below low stop =
+  case_arm_complete (case_arm {ts} {us} {vs} {ws} {a} ls body i c b q) below low stop =
       let low' : deepest_stmt (stmts_of body) ≤ below = subst (λ (z : CaseArm). deepest_stmt z.1 ≤ below) q low in
-      rw q (case_arm_is below (stmts_at below) ts us vs ws ls body (labels_again i c) c
-      (lines_again below vs ws body (stmts_again b below low' stop)))
+      rw q (case_arm_is below (stmts_at below) ts us vs ws ls body (labels_complete i c) c
+      (lines_complete below vs ws body (stmts_complete b below low' stop)))
 
-  case_arms_again : {ts us vs ws : Tokens} {arms : List CaseArm} {other : List Stmt} → IsCaseArms ts arms us
+  case_arms_complete : {ts us vs ws : Tokens} {arms : List CaseArm} {other : List Stmt} → IsCaseArms ts arms us
       → IsElse us other vs → Passes (keyword w.EndCase) vs ws → (below : ℕ) → deepest_case_arm (case_arms_of arms)
       ≤ below → Repeats starts_number (case_arm_at below (stmts_at below)) ts arms us
-  case_arms_again (no_case_arm {ts}) j c below low = repeats_halt starts_number (case_arm_at below (stmts_at below)) ts
+  case_arms_complete (no_case_arm {ts}) j c below low =
+      repeats_halt starts_number (case_arm_at below (stmts_at below)) ts
       (else_next starts_number w.EndCase j c refl refl)
-  case_arms_again (next_case_arm {ts} {us} {vs} {x} {xs} a r) j c below low =
+  case_arms_complete (next_case_arm {ts} {us} {vs} {x} {xs} a r) j c below low =
       let less = case_arm_less a in
       repeats_step starts_number (case_arm_at below (stmts_at below)) ts us vs x xs (case_arm_next a)
-      (case_arm_again a below (omega arith) (case_arms_next r j c)) less (case_arms_again r j c below (omega arith))
+      (case_arm_complete a below (omega arith) (case_arms_next r j c)) less
+      (case_arms_complete r j c below (omega arith))
 
-pub all_again : (depth : ℕ) {ts us : Tokens} {xs : List Stmt} → IsStmts ts xs us → deepest_stmt (stmts_of xs) ≤ depth
+pub all_complete : (depth : ℕ) {ts us : Tokens} {xs : List Stmt} → IsStmts ts xs us → deepest_stmt (stmts_of xs) ≤ depth
     → next starts_stmt us ≡ false → stmts_at depth ts ≡ Ok (xs, us)
-all_again depth {ts = ts} {us = us} {xs = xs} i low stop = lines_again depth ts us xs (stmts_again i depth low stop)
+all_complete depth {ts = ts} {us = us} {xs = xs} i low stop =
+    lines_complete depth ts us xs (stmts_complete i depth low stop)

@@ -2,11 +2,11 @@
 
 ghost use Rattle.std.specs.Prelude.{◌≡◌, ◌≤◌};
 ghost use Rattle.st_statements.specs.Tokens.{next};
-ghost use Rattle.st_statements.specs.Parsers.{Gives, one};
+ghost use Rattle.st_statements.specs.Parsers.{Reads, as_is, one};
 ghost use Rattle.st_statements.specs.Operators as specs;
 
 use crate::fault::ReadError;
-use crate::next::refused;
+use crate::tokens::refused;
 use st_lex::{Keyword, Mark, Token, TokenKind};
 use st_words::BinaryOperator;
 
@@ -63,9 +63,16 @@ pub fn goes_on(least: usize, tokens: &[Token]) -> bool
     }
 }
 
+/// `operator(1) = "OR" .`
+/// `operator(2) = "XOR" .`
+/// `operator(3) = "AND" .`
+/// `operator(4) = "=" | "<>" .`
+/// `operator(5) = "<" | ">" | "<=" | ">=" .`
+/// `operator(6) = "+" | "-" .`
+/// `operator(7) = "*" | "/" | "MOD" .`
 /// An operator, and the tokens after it.
 pub fn operator(tokens: &[Token]) -> Result<(BinaryOperator, &[Token]), ReadError>
-    ensures { Gives (λ x. (x.0, x.1.now)) result (one specs.operator tokens.now) }
+    ensures { Reads as_is result (one specs.operator tokens.now) }
 {
     let [t, rest @ ..] = tokens else {
         return Err(refused(tokens));

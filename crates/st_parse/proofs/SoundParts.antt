@@ -1,4 +1,4 @@
--- Repeated and optional parts: what reading tells of them.
+-- Repeated and optional parts are sound: what is read is of the grammar.
 use Rattle.std.proofs.Common.{◌≡◌, ◌<◌, ◌≤◌, Bool, false, List, [], ◌∷◌, length, Option, Some, None, IfSome, sym, subst}
 use Rattle.std.proofs.Common.{arith}
 use Rattle.std.specs.List.{AllByRecursion}
@@ -9,10 +9,10 @@ use Rattle.st_lex.specs.declared.mark.Mark.TheVariants as m
 use Rattle.st_statements.specs.Tokens.{Tokens, next, Is, mark, name, is_mark}
 use Rattle.st_statements.specs.Parsers.{one, several, listed, after_comma as comma}
 use Rattle.st_statements.specs.Laws.{Grammar}
-use Rattle.st_statements.proofs.Told.{Family, Any, Seq, Made, made}
-use Rattle.st_statements.proofs.Readings.{Reads, reads_then, reads_pure, reads_as, reads_under, reads_if, reads_mark}
-use Rattle.st_statements.proofs.Readings.{reads_name}
-use Rattle.st_statements.proofs.Lists.{Each, More, reads_several, reads_listed}
+use Rattle.st_statements.proofs.Sound.{Family, Any, Seq, Made, made}
+use Rattle.st_statements.proofs.SoundReadings.{Sound, sound_then, sound_pure, sound_as, sound_under, sound_if}
+use Rattle.st_statements.proofs.SoundReadings.{sound_mark, sound_name}
+use Rattle.st_statements.proofs.SoundLists.{Each, More, sound_several, sound_listed}
 use Rattle.st_statements.proofs.ExpressionFacts.{is_less}
 use Rattle.st_parse.specs.Lists.{Many, no_more, one_more, Several, several as at_least, AfterComma, after_comma, Listed}
 use Rattle.st_parse.specs.Lists.{listed as with_commas, Optional, absent, present}
@@ -62,22 +62,22 @@ module _ {A : Type 0} (f : TokenKind → Bool) (P : Family A) (One : Grammar A) 
   all_many : (ts : Tokens) (ys : List A) (us : Tokens) → Behind [] ts ys us → Many One ts ys us
   all_many ts ys us r = subst (λ (zs : List A). Many One ts zs us) (sym r.2) r.1
 
-  pub reads_many : {C : Type 0} → Reads C P One (λ x us. L x)
-      → Reads C (λ e. many f (P e)) (Many One) (λ xs us. AllByRecursion L xs × (next f us ≡ false))
+  pub sound_many : {C : Type 0} → Sound C P One (λ x us. L x)
+      → Sound C (λ e. many f (P e)) (Many One) (λ xs us. AllByRecursion L xs × (next f us ≡ false))
   unfolding many
-  reads_many p = reads_as all_many (λ xs us d. (each_all L xs d.0, d.1))
-      (reads_several f P One (Many One) L (λ ts. no_more) (λ ts x us xs vs o r. one_more o r) less [] (λ c. tt) p)
+  sound_many p = sound_as all_many (λ xs us d. (each_all L xs d.0, d.1))
+      (sound_several f P One (Many One) L (λ ts. no_more) (λ ts x us xs vs o r. one_more o r) less [] (λ c. tt) p)
 
   all_several : (ts : Tokens) (ys : List A) (us : Tokens) → Seq One (λ x. Behind (x ∷ [])) ts ys us
       → Several One ts ys us
   all_several ts ys us s = subst (λ (zs : List A). Several One ts zs us) (sym s.3.2) (at_least s.2 s.3.1)
 
-  pub reads_at_least_one : {C : Type 0} → Reads C P One (λ x us. L x)
-      → Reads C (λ e. at_least_one f (P e)) (Several One) (λ xs us. AllByRecursion L xs × (next f us ≡ false))
+  pub sound_at_least_one : {C : Type 0} → Sound C P One (λ x us. L x)
+      → Sound C (λ e. at_least_one f (P e)) (Several One) (λ xs us. AllByRecursion L xs × (next f us ≡ false))
   unfolding at_least_one
-  reads_at_least_one p = reads_as all_several (λ xs us d. (each_all L xs d.0, d.1)) (reads_then p (λ x.
-      reads_several f P One (Many One) L (λ ts. no_more) (λ ts x us xs vs o r. one_more o r) less (x ∷ [])
-      (λ c. (c.1.1, tt)) (reads_under (λ c. c.0) p)))
+  sound_at_least_one p = sound_as all_several (λ xs us d. (each_all L xs d.0, d.1)) (sound_then p (λ x.
+      sound_several f P One (Many One) L (λ ts. no_more) (λ ts x us xs vs o r. one_more o r) less (x ∷ [])
+      (λ c. (c.1.1, tt)) (sound_under (λ c. c.0) p)))
 
 module _ {A : Type 0} (f : TokenKind → Bool) (P : Family A) (One : Grammar A) (L : A → Type 0) where
   there : (ts : Tokens) (o : Option A) (us : Tokens) → Seq One (λ x. Made (Some x)) ts o us → Optional One ts o us
@@ -86,21 +86,21 @@ module _ {A : Type 0} (f : TokenKind → Bool) (P : Family A) (One : Grammar A) 
   not_there : (ts : Tokens) (o : Option A) (us : Tokens) → Made None ts o us → Optional One ts o us
   not_there ts o us (made eq) = subst (λ (z : Option A). Optional One ts z ts) (sym eq) absent
 
-  pub reads_optional : {C : Type 0} → Reads C P One (λ x us. L x)
-      → Reads C (λ e. optional f (P e)) (Optional One) (λ o us. IfSome o L)
+  pub sound_optional : {C : Type 0} → Sound C P One (λ x us. L x)
+      → Sound C (λ e. optional f (P e)) (Optional One) (λ o us. IfSome o L)
   unfolding optional
-  reads_optional p = reads_if f
-      (reads_as there (λ o us d. d) (reads_then p (λ x. reads_pure (Some x) (λ o us. IfSome o L) (λ c us. c.1.1))))
-      (reads_as not_there (λ o us d. d) (reads_pure None (λ o us. IfSome o L) (λ c us. tt)))
+  sound_optional p = sound_if f
+      (sound_as there (λ o us d. d) (sound_then p (λ x. sound_pure (Some x) (λ o us. IfSome o L) (λ c us. c.1.1))))
+      (sound_as not_there (λ o us d. d) (sound_pure None (λ o us. IfSome o L) (λ c us. tt)))
 
 -- names with commas between them
-pub reads_names : {C : Type 0}
-    → Reads C (λ e. listed (one name)) (Listed (Is name)) (λ xs us. next (is_mark m.Comma) us ≡ false)
-reads_names = reads_as (λ ts xs us r. r) (λ xs us d. d.1)
-    (reads_listed (λ e. one name) (Is name) (Many (AfterComma (Is name))) (Listed (Is name)) (λ x. Unit {0})
+pub sound_names : {C : Type 0}
+    → Sound C (λ e. listed (one name)) (Listed (Is name)) (λ xs us. next (is_mark m.Comma) us ≡ false)
+sound_names = sound_as (λ ts xs us r. r) (λ xs us d. d.1)
+    (sound_listed (λ e. one name) (Is name) (Many (AfterComma (Is name))) (Listed (Is name)) (λ x. Unit {0})
     (λ ts. no_more) (λ ts us x vs xs ws c o r. one_more (after_comma c o) r) (token_less name)
     (λ ts x us xs vs o r. with_commas o r)
-    (reads_as (λ ts x us i. i) (λ x us d. tt) reads_name))
+    (sound_as (λ ts x us i. i) (λ x us d. tt) sound_name))
 
 -- names after a first one
 abbrev pub ListedFrom : Identifier → Tokens → List Identifier → Tokens → Type 0
@@ -116,17 +116,17 @@ next_names : (ts : Tokens) (x : Identifier) (us : Tokens) (xs : List Identifier)
     → Many (AfterComma (Is name)) us xs vs → Many (AfterComma (Is name)) ts (x ∷ xs) vs
 next_names ts x us xs vs (at, ws, c, n) r = one_more (after_comma (at, c) n) r
 
-reads_next : {C : Type 0} → Reads C (λ e. comma (one name)) NextName (λ x us. Unit {0})
+sound_next : {C : Type 0} → Sound C (λ e. comma (one name)) NextName (λ x us. Unit {0})
 unfolding comma
-reads_next = reads_then (reads_mark m.Comma) (λ at. reads_as (λ ts x us i. i) (λ x us d. tt) reads_name)
+sound_next = sound_then (sound_mark m.Comma) (λ at. sound_as (λ ts x us i. i) (λ x us d. tt) sound_name)
 
 all_from : (x : Identifier) (us : Tokens) (ys : List Identifier) (vs : Tokens)
     → More (is_mark m.Comma) (λ e. comma (one name)) NextName (Many (AfterComma (Is name))) (λ x. Unit {0})
     (λ ts. no_more) next_names next_less (x ∷ []) us ys vs → ListedFrom x us ys vs
 all_from x us ys vs r ts n = subst (λ (zs : List Identifier). Listed (Is name) ts zs vs) (sym r.2) (with_commas n r.1)
 
-pub reads_names_behind : {C : Type 0} (x : Identifier)
-    → Reads C (λ e. several (is_mark m.Comma) (comma (one name)) (x ∷ [])) (ListedFrom x) Any
-reads_names_behind x = reads_as (all_from x) (λ xs us d. tt)
-    (reads_several (is_mark m.Comma) (λ e. comma (one name)) NextName (Many (AfterComma (Is name))) (λ x. Unit {0})
-    (λ ts. no_more) next_names next_less (x ∷ []) (λ c. (tt, tt)) reads_next)
+pub sound_names_behind : {C : Type 0} (x : Identifier)
+    → Sound C (λ e. several (is_mark m.Comma) (comma (one name)) (x ∷ [])) (ListedFrom x) Any
+sound_names_behind x = sound_as (all_from x) (λ xs us d. tt)
+    (sound_several (is_mark m.Comma) (λ e. comma (one name)) NextName (Many (AfterComma (Is name))) (λ x. Unit {0})
+    (λ ts. no_more) next_names next_less (x ∷ []) (λ c. (tt, tt)) sound_next)

@@ -1,0 +1,11 @@
+//! Single tokens: what reads one, with a sign before a number, and what asks for the next.
+
+mod next;
+mod operators;
+mod sign;
+mod terminal;
+
+pub use next::{begins, begins_name, begins_number, is_keyword, is_mark, leads, refused, sunk};
+pub use operators::{binds, goes_on, operator};
+pub use sign::{negative_number, signed_number};
+pub use terminal::{keyword, literal, mark, name, negative_at, whole};
