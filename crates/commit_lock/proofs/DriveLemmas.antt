@@ -1,8 +1,8 @@
 -- Lists of calls.
 use Rattle.std.proofs.Common.{◌≡◌, ◌∙◌, ℕ, List, [], ◌∷◌, ◌++◌, append_assoc, append-nil, length, arith, refl, sym, ap}
 use Rattle.std.proofs.Common.{subst}
-use Rattle.commit_lock.specs.Cores.{CoreView}
-use Rattle.commit_lock.specs.Driving.{Held, Step, Outlives, Drives, SurvivesLast}
+use Rattle.commit_lock.specs.Cores.{CoreView, Outlives}
+use Rattle.commit_lock.specs.Driving.{Held, Step, Drives, SurvivesLast}
 use Rattle.commit_lock.specs.declared.event.Event.{Event}
 use Rattle.commit_lock.specs.declared.event.Reply.{Reply}
 

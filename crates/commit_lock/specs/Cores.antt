@@ -1,9 +1,10 @@
 -- A core over a disk.
-use Rattle.std.specs.Prelude.{◌≡◌, ◌⊎◌, ℕ, Option, Some, None, Result, Ok, Err}
+use Rattle.std.specs.Prelude.{◌≡◌, ◌⊎◌, ℕ, List, Option, Some, None, Result, Ok, Err}
+use Rattle.disk.specs.Runs.{LeavesOnly}
 use Rattle.st_plans.specs.declared.entry.Entry.{Entry}
 use Rattle.retain_store.specs.declared.fault.StoreFault.{StoreFault}
 use Rattle.retain_store.specs.Kept.{StoreView}
-use Rattle.retain_store.specs.Recovered.{Recovered}
+use Rattle.retain_store.specs.Recovered.{Recovered, recovered}
 use Rattle.serial_core.specs.declared.refusal.Refusal.{Refusal as SerialRefusal}
 use Rattle.serial_core.specs.Steps.{State, grown}
 use Rattle.commit_lock.specs.declared.refusal.Refusal.{Refusal}
@@ -36,3 +37,10 @@ IsLonger old new = (new ≡ old) ⊎ ((entry : Entry) × (new ≡ grown old entr
 -- a file of this content survives for the core
 abbrev pub survives : {D : Type 0} → CoreView D → Recovered → Type 0
 survives core file = Survives core.state.plan core.state.start core.state.before core.state.log core.acked file
+
+-- A stop at any moment of a call leaves a file that survives for the core before it, and a stop after it one that
+-- survives for the core after it.
+pub record Outlives {D : Type 0} (left_since : D → D → List ℕ → Type 0) (may_leave : D → List ℕ → Type 0)
+    (old new : CoreView D) : Type 0 where
+  pub during : LeavesOnly left_since may_leave old.store.disk new.store.disk (λ file. survives old (recovered file))
+  pub after : (file : List ℕ) → may_leave new.store.disk file → survives new (recovered file)

@@ -1,7 +1,6 @@
 -- A list of calls, one after another.
 use Rattle.std.specs.Prelude.{◌≡◌, ◌⊎◌, ℕ, true, false, List, [], ◌∷◌, ◌++◌, Option, Some, None, Result, Ok, Err}
 use Rattle.std.specs.Prelude.{slice_get, slice_set, option_and_then}
-use Rattle.disk.specs.Runs.{LeavesOnly}
 use Rattle.slot_run.specs.Effects.{Effect}
 use Rattle.slot_run.specs.Executions.{IsEffectOf}
 use Rattle.slot_run.specs.declared.snapshot.Snapshot.{Snapshot}
@@ -15,7 +14,7 @@ use Rattle.commit_lock.specs.declared.event.Event.{Event}
 use Rattle.commit_lock.specs.declared.event.Event.TheVariants.{Latch, Take, Commit, CommitHere, Flush}
 use Rattle.commit_lock.specs.declared.event.Reply.{Reply}
 use Rattle.commit_lock.specs.declared.event.Reply.TheVariants.{Latched, Taken, Answered, Here, Flushed, Refused}
-use Rattle.commit_lock.specs.Cores.{CoreView, Guards, survives}
+use Rattle.commit_lock.specs.Cores.{CoreView, Guards, Outlives, survives}
 use Rattle.commit_lock.specs.Flushing.{Flushes}
 
 -- what each take gave so far: none where nothing waited or the take was refused, and none once it was used
@@ -63,13 +62,6 @@ module _ {D : Type 0} where
       × (reply ≡ reply_to Here result) × (kept ≡ held)
   Step old held Flush reply new kept =
       (result : Result ℕ Refusal) × Flushes old result new × (reply ≡ reply_to Flushed result) × (kept ≡ held)
-
--- A stop at any moment of the step leaves a file that survives for the core before it, and a stop after it one that
--- survives for the core after it.
-pub record Outlives {D : Type 0} (left_since : D → D → List ℕ → Type 0) (may_leave : D → List ℕ → Type 0)
-    (old new : CoreView D) : Type 0 where
-  pub during : LeavesOnly left_since may_leave old.store.disk new.store.disk (λ file. survives old (recovered file))
-  pub after : (file : List ℕ) → may_leave new.store.disk file → survives new (recovered file)
 
 -- The events one after another, with their replies; each survives a stop, on a disk that tells its facts.
 module _ {D : Type 0} (tells : Type 0) (left_since : D → D → List ℕ → Type 0) (may_leave : D → List ℕ → Type 0) where

@@ -1,10 +1,9 @@
 //! Rows, snapshots and executions.
 
 ghost use Rattle.std.specs.Prelude.{List, ℕ};
-ghost use Rattle.disk.specs.Runs.{LeavesOnly};
 ghost use Rattle.retain_store.specs.Recovered.{recovered};
 ghost use Rattle.serial_core.specs.Steps.{Latches, Takes, Commits, CommitsHere};
-ghost use Rattle.commit_lock.specs.Cores.{Guards, survives};
+ghost use Rattle.commit_lock.specs.Cores.{Guards, Outlives, survives};
 
 use crate::core_state::Core;
 use crate::refusal::Refusal;
@@ -21,10 +20,7 @@ impl<D: Disk> Core<D> {
     /// else K4 where its moment is not later than the last one, of the log or of the record that the life started from.
     pub fn latch(&mut self, row: Row) -> Result<usize, Refusal>
         ensures latches { Guards self.old result self.new (λ r. Latches self.old.state row r self.new.state) }
-        ensures any_moment { D.tells → LeavesOnly D.left_since D.may_leave self.old.store.disk self.new.store.disk
-            (λ file. survives self.old (recovered file)) }
-        ensures survives { D.tells → (file : List ℕ) → D.may_leave self.new.store.disk file
-            → survives self.new (recovered file) }
+        ensures outlives { D.tells → Outlives D.left_since D.may_leave self.old self.new }
     {
         self.kept();
         if let Some(cause) = self.failed {
@@ -44,10 +40,7 @@ impl<D: Disk> Core<D> {
     /// K5 where the store has failed; else none; else K1 where the log is full, or K6 out of memory.
     pub fn commit_here(&mut self, alloc: Global, resource: usize) -> Result<Option<usize>, Refusal>
         ensures commits { Guards self.old result self.new (λ r. CommitsHere self.old.state resource r self.new.state) }
-        ensures any_moment { D.tells → LeavesOnly D.left_since D.may_leave self.old.store.disk self.new.store.disk
-            (λ file. survives self.old (recovered file)) }
-        ensures survives { D.tells → (file : List ℕ) → D.may_leave self.new.store.disk file
-            → survives self.new (recovered file) }
+        ensures outlives { D.tells → Outlives D.left_since D.may_leave self.old self.new }
     {
         self.kept();
         if let Some(cause) = self.failed {
@@ -69,10 +62,7 @@ impl<D: Disk> Core<D> {
     /// another value now.
     pub fn commit(&mut self, execution: Execution) -> Result<Answer, Refusal>
         ensures commits { Guards self.old result self.new (λ r. Commits self.old.state execution r self.new.state) }
-        ensures any_moment { D.tells → LeavesOnly D.left_since D.may_leave self.old.store.disk self.new.store.disk
-            (λ file. survives self.old (recovered file)) }
-        ensures survives { D.tells → (file : List ℕ) → D.may_leave self.new.store.disk file
-            → survives self.new (recovered file) }
+        ensures outlives { D.tells → Outlives D.left_since D.may_leave self.old self.new }
     {
         self.kept();
         if let Some(cause) = self.failed {

@@ -6,8 +6,8 @@ ghost use Rattle.slot_run.specs.declared.snapshot.Snapshot.{Snapshot};
 ghost use Rattle.serial_core.specs.Steps.{Takes};
 ghost use Rattle.commit_lock.specs.declared.refusal.Refusal.{Refusal};
 ghost use Rattle.commit_lock.specs.declared.event.Event.{Event};
-ghost use Rattle.commit_lock.specs.Cores.{Guards};
-ghost use Rattle.commit_lock.specs.Driving.{Held, Step, Outlives, Drives, SurvivesLast, CommitsHeld, held_at, held_of};
+ghost use Rattle.commit_lock.specs.Cores.{Guards, Outlives};
+ghost use Rattle.commit_lock.specs.Driving.{Held, Step, Drives, SurvivesLast, CommitsHeld, held_at, held_of};
 ghost use Rattle.commit_lock.specs.Driving.{reply_to, taken_of};
 
 use crate::core_state::Core;

@@ -1,9 +1,7 @@
 //! Acknowledging what is in the log.
 
-ghost use Rattle.std.specs.Prelude.{◌≡◌, ◌≤◌, List, ℕ, None, IfOk, IfErr, MatchResult, length};
-ghost use Rattle.disk.specs.Runs.{LeavesOnly};
-ghost use Rattle.retain_store.specs.Recovered.{recovered};
-ghost use Rattle.commit_lock.specs.Cores.{survives};
+ghost use Rattle.std.specs.Prelude.{◌≡◌, ◌≤◌, None, IfOk, IfErr, MatchResult, length};
+ghost use Rattle.commit_lock.specs.Cores.{Outlives};
 ghost use Rattle.commit_lock.specs.Flushing.{Flushes, CountsFlush};
 
 use crate::core_state::Core;
@@ -30,10 +28,7 @@ impl<D: Disk> Core<D> {
         ensures flushes { Flushes self.old result self.new }
         ensures device { CountsFlush result (D.failure_count self.old.store.disk) (D.failure_count self.new.store.disk)
             self.old self.new }
-        ensures any_moment { D.tells → LeavesOnly D.left_since D.may_leave self.old.store.disk self.new.store.disk
-            (λ file. survives self.old (recovered file)) }
-        ensures survives { D.tells → (file : List ℕ) → D.may_leave self.new.store.disk file
-            → survives self.new (recovered file) }
+        ensures outlives { D.tells → Outlives D.left_since D.may_leave self.old self.new }
     {
         self.kept();
         if let Some(cause) = self.failed {

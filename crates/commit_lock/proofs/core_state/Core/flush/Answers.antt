@@ -7,30 +7,36 @@ use Rattle.commit_lock.specs.Cores.{CoreView, survives}
 use Rattle.commit_lock.proofs.SurvivalLemmas.{survives_now, survives_either}
 use Rattle.commit_lock.proofs.core_state.Core.flush.Goals as goal
 
-pub returns-in-Ok-clause-any_moment : goal.returns-in-Ok-clause-any_moment
-returns-in-Ok-clause-any_moment g c = λ tells.
+pub returns-in-Ok-clause-outlives : goal.returns-in-Ok-clause-outlives
+returns-in-Ok-clause-outlives g c = λ tells.
     let inside = c.self.inside in
     let state = inside.serial in
     let k = c.self.invariant in
     let sound : inside.failed ≡ None = search rules in
     let working : inside.store.failed ≡ false = sym k.met ∙ ap is_failed sound in
     let new = survives_now state inside.acked (inside.store.generation + 1) k.few c.save_record-saved.ensures.named in
-    subst (λ (v : CoreView _). LeavesOnly g.D.Disk.left_since g.D.Disk.may_leave v.store.disk
-    c.save_record-saved.new.store.disk (λ file. survives v (recovered file))) c.self.view_is
-    (weakens g.D.Disk.left_since g.D.Disk.may_leave _ _ _ _ (c.save_record-saved.ensures.any_moment tells working)
-    (λ file. survives_either state.plan state.start state.before state.log inside.acked inside.store.last
-    (Found (inside.store.generation + 1) (record_now state)) (recovered file) k.last new))
+    record {
+      during = subst (λ (v : CoreView _). LeavesOnly g.D.Disk.left_since g.D.Disk.may_leave v.store.disk
+          c.save_record-saved.new.store.disk (λ file. survives v (recovered file))) c.self.view_is
+          (weakens g.D.Disk.left_since g.D.Disk.may_leave _ _ _ _ (c.save_record-saved.ensures.any_moment tells working)
+          (λ file. survives_either state.plan state.start state.before state.log inside.acked inside.store.last
+          (Found (inside.store.generation + 1) (record_now state)) (recovered file) k.last new));
+      after = search rules;
+    }
 
-pub returns-in-Err-clause-any_moment : goal.returns-in-Err-clause-any_moment
-returns-in-Err-clause-any_moment g c = λ tells.
+pub returns-in-Err-clause-outlives : goal.returns-in-Err-clause-outlives
+returns-in-Err-clause-outlives g c = λ tells.
     let inside = c.self.inside in
     let state = inside.serial in
     let k = c.self.invariant in
     let sound : inside.failed ≡ None = search rules in
     let working : inside.store.failed ≡ false = sym k.met ∙ ap is_failed sound in
     let new = survives_now state inside.acked (inside.store.generation + 1) k.few c.save_record-saved.ensures.named in
-    subst (λ (v : CoreView _). LeavesOnly g.D.Disk.left_since g.D.Disk.may_leave v.store.disk
-    c.save_record-saved.new.store.disk (λ file. survives v (recovered file))) c.self.view_is
-    (weakens g.D.Disk.left_since g.D.Disk.may_leave _ _ _ _ (c.save_record-saved.ensures.any_moment tells working)
-    (λ file. survives_either state.plan state.start state.before state.log inside.acked inside.store.last
-    (Found (inside.store.generation + 1) (record_now state)) (recovered file) k.last new))
+    record {
+      during = subst (λ (v : CoreView _). LeavesOnly g.D.Disk.left_since g.D.Disk.may_leave v.store.disk
+          c.save_record-saved.new.store.disk (λ file. survives v (recovered file))) c.self.view_is
+          (weakens g.D.Disk.left_since g.D.Disk.may_leave _ _ _ _ (c.save_record-saved.ensures.any_moment tells working)
+          (λ file. survives_either state.plan state.start state.before state.log inside.acked inside.store.last
+          (Found (inside.store.generation + 1) (record_now state)) (recovered file) k.last new));
+      after = search rules;
+    }
