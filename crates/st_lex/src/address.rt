@@ -58,6 +58,7 @@ fn joined(
     })
 }
 
+/// `address = "%", ( "I" | "Q" ), ( "X" | "W" ), digit, { digit } .`
 /// The address that the word is.
 #[tactic(auto, unfolding(crate::specs::Addresses::address))]
 pub fn address(word: &[u8]) -> Option<Address>

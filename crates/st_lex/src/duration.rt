@@ -121,6 +121,7 @@ fn leading_part(text: &[u8]) -> Part<'_>
     }
 }
 
+/// `part(unit) = digit, { digit }, unit .`
 fn is_part_in(unit: TimeUnit, text: &[u8]) -> bool
     ensures { result ≡ durations.is_part_in unit text.now }
 {
@@ -163,6 +164,7 @@ fn sum(part: Option<u64>, smaller: Option<u64>) -> Option<u64>
     fits(part.checked_add(smaller)?)
 }
 
+/// `parts = part, { [ "_" ], part } .`
 /// The milliseconds of the parts that the text is, in some of these units and in their order.
 fn parts(units: &[TimeUnit], is_first: bool, text: &[u8]) -> Option<u64>
     ensures { result ≡ durations.fits (durations.parts units.now is_first text.now) }
@@ -195,6 +197,7 @@ fn is_duration(word: &[u8]) -> bool
     same_word(before_hash(word), b"T") || same_word(before_hash(word), b"TIME")
 }
 
+/// `duration = ( "T#" | "TIME#" ), parts .`
 /// The milliseconds of the duration that the word is.
 #[tactic(auto, unfolding(crate::specs::Durations::duration))]
 pub fn duration(word: &[u8]) -> Option<u64>

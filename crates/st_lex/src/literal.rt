@@ -11,6 +11,7 @@ use crate::token::TokenKind;
 
 const TRUTHS: [(&[u8], bool); 2] = [(b"BOOL#0", false), (b"BOOL#1", true)];
 
+/// `truth = "BOOL#0" | "BOOL#1" .`
 #[tactic(auto, unfolding(crate::specs::Literals::truth))]
 fn truth(word: &[u8]) -> Option<bool>
     ensures { result ≡ literals.truth word.now }
@@ -18,6 +19,7 @@ fn truth(word: &[u8]) -> Option<bool>
     lookup(&TRUTHS, word)
 }
 
+/// `literal = whole_number | truth | duration | address .`
 /// The literal or address that the word is.
 #[tactic(auto, unfolding(crate::specs::Literals::literal))]
 pub fn literal(word: &[u8]) -> Option<TokenKind>

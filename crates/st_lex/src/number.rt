@@ -69,6 +69,7 @@ pub fn value(base: u64, digits: &[u8]) -> Option<u64>
     Some(value)
 }
 
+/// `numeral(b) = digit(b), { [ "_" ], digit(b) } .`
 #[tactic(auto, unfolding(crate::specs::Numbers::numeral))]
 fn numeral(base: u64, word: &[u8]) -> Option<u64>
     requires { 1 ≤ base }
@@ -107,6 +108,7 @@ pub fn behind_hash(word: &[u8]) -> &[u8]
 
 const BASES: [(&[u8], u64); 3] = [(b"2", 2), (b"8", 8), (b"16", 16)];
 
+/// `based = "2#", numeral(2) | "8#", numeral(8) | "16#", numeral(16) .`
 #[tactic(auto, unfolding(crate::specs::Numbers::based))]
 fn based(word: &[u8]) -> Option<u64>
     ensures { result ≡ numbers.based word.now }
@@ -117,6 +119,7 @@ fn based(word: &[u8]) -> Option<u64>
     }
 }
 
+/// `magnitude = numeral(10) | based .`
 #[tactic(auto, unfolding(crate::specs::Numbers::magnitude))]
 fn magnitude(word: &[u8]) -> Option<u64>
     ensures { result ≡ numbers.magnitude word.now }
@@ -151,6 +154,7 @@ fn with_type(kind: Option<Kind>, magnitude: Option<u64>) -> Option<WholeNumber>
     })
 }
 
+/// `typed = elementary, "#", magnitude .`
 #[tactic(auto, unfolding(crate::specs::Numbers::typed))]
 fn typed(word: &[u8]) -> Option<WholeNumber>
     ensures { result ≡ numbers.typed word.now }
@@ -168,6 +172,7 @@ fn untyped(is_decimal: bool, magnitude: u64) -> WholeNumber
     }
 }
 
+/// `whole_number = numeral(10) | based | typed .`
 /// The decimal, based or typed literal that the word is.
 #[tactic(auto, unfolding(crate::specs::Numbers::whole_number))]
 pub fn whole_number(word: &[u8]) -> Option<WholeNumber>

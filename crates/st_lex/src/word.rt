@@ -24,6 +24,7 @@ fn run_length(text: &[u8]) -> usize
     text.iter().take_while(|b| is_word_character(**b)).count()
 }
 
+/// `word = [ "%" ], character, { character } .`
 /// How many bytes the word in front has, 0 where there is none.
 pub fn word_length(text: &[u8]) -> usize
     ensures value { result ≡ words.word_length text.now }
