@@ -2,8 +2,8 @@
 //!
 //! Tokens stand in order, and each is what its slice spells. A text has tokens or a first fault, never both.
 //!
-//! Above what a word may be stands its production: `a, b` is a and then b, `a | b` one of the two, `[ a ]` a or nothing,
-//! `{ a }` any number of a. What is quoted stands there so, in letters of either case.
+//! Above what a word may be stands its production: `a, b` is a and then b, `a | b` one of the two, `[ a ]` a or
+//! nothing, `{ a }` any number of a. What is quoted stands there so, in letters of either case.
 #![tactic(auto)]
 
 mod address;
