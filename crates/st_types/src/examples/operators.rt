@@ -1,15 +1,15 @@
 //! Worked examples of what operators give, each proved by computation.
 
 ghost use Rattle.std.specs.Prelude.{◌≡◌, ◌∷◌, [], map, Ok, Err, pos, negsuc, Bool, true, false};
-ghost use Rattle.st_words.specs.declared.kind.Kind.TheVariants.{Int, Sint, Usint, Byte, Word, Time};
-ghost use Rattle.st_words.specs.declared.fault.Fault.TheVariants.{Range};
+ghost use Rattle.st_words.specs.declared.kind.Kind.TheVariants.{Int, Sint, Usint, Byte, Word, Time, Bool};
+ghost use Rattle.st_words.specs.declared.fault.Fault.TheVariants.{Range, DivisionByZero};
 ghost use Rattle.st_words.specs.declared.operator.UnaryOperator.TheVariants.{Negate, Not};
 ghost use Rattle.st_words.specs.declared.operator.BinaryOperator.TheVariants.{Or, Xor, And, Equal, NotEqual, Less};
 ghost use Rattle.st_words.specs.declared.operator.BinaryOperator.TheVariants.{Greater, LessOrEqual, GreaterOrEqual};
-ghost use Rattle.st_words.specs.declared.operator.BinaryOperator.TheVariants.{Add, Subtract, Multiply};
+ghost use Rattle.st_words.specs.declared.operator.BinaryOperator.TheVariants.{Add, Subtract, Multiply, Divide, Modulo};
 ghost use Rattle.st_trees.specs.Expressions.{unary, binary};
 ghost use Rattle.st_types.specs.Operators.{apply, apply_unary};
-ghost use Rattle.st_types.specs.Examples.{after_with, variables, datum, set, number, name, bool, int, X, Y};
+ghost use Rattle.st_types.specs.Examples.{after_with, variables, datum, set, number, name, bool, int, X, Y, by_0, A};
 
 /// What each comparison says of 1, 2 and 3 beside 2, and what `=`, `<>`, `<`, `>`, `<=` and `>=` say of two other pairs
 /// and of equal operands.
@@ -74,6 +74,16 @@ pub fn sums_and_signs()
     // INT#-32768 and SINT#-128
     ensures negated_least { apply_unary Negate (int (negsuc 32767)) ≡ Err Range }
     ensures negated_least_sint { apply_unary Negate (datum Sint (negsuc 127)) ≡ Err Range }
+{}
+
+/// A quotient is truncated toward zero, and `a MOD 0` is 0.
+pub fn division()
+    ensures quotient { apply Divide (int (negsuc 6)) (int (pos 3)) ≡ Ok (int (negsuc 1)) }
+    ensures remainder { apply Modulo (int (negsuc 6)) (int (pos 3)) ≡ Ok (int (negsuc 0)) }
+    ensures remainder_by_0 { apply Modulo (int (pos 5)) (int (pos 0)) ≡ Ok (int (pos 0)) }
+    ensures by_0 { apply Divide (int (pos 5)) (int (pos 0)) ≡ Err DivisionByZero }
+    // SINT#-128 / -1 leaves the type.
+    ensures least_by_minus_1 { apply Divide (datum Sint (negsuc 127)) (datum Sint (negsuc 0)) ≡ Err Range }
 {}
 
 /// What stands left of an operator in a text is its left operand, and an operator before an expression works on its

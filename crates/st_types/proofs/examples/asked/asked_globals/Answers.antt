@@ -2,7 +2,7 @@ use Rattle.std.proofs.Common.{refl}
 use Rattle.st_types.specs.Runs.{ran_where, units_within}
 use Rattle.st_types.specs.StandardBlocks.{block_of}
 use Rattle.st_types.specs.Evaluation.{truth_of}
-use Rattle.st_types.proofs.examples.programs.asked_globals.Goals as goal
+use Rattle.st_types.proofs.examples.asked.asked_globals.Goals as goal
 
 pub returns-clause-without_effect : goal.returns-clause-without_effect
 unfolding ran_where units_within truth_of

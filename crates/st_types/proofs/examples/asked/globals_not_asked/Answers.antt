@@ -2,7 +2,7 @@ use Rattle.std.proofs.Common.{refl}
 use Rattle.st_types.specs.Runs.{ran_where, units_within}
 use Rattle.st_types.specs.Evaluation.{truth_of}
 use Rattle.st_types.proofs.AskedLemmas.{not_asked}
-use Rattle.st_types.proofs.examples.programs.globals_not_asked.Goals as goal
+use Rattle.st_types.proofs.examples.asked.globals_not_asked.Goals as goal
 
 pub returns-clause-assigned : goal.returns-clause-assigned
 unfolding ran_where units_within truth_of
