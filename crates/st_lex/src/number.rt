@@ -155,6 +155,7 @@ fn with_type(kind: Option<Kind>, magnitude: Option<u64>) -> Option<WholeNumber>
 }
 
 /// `typed = elementary, "#", magnitude .`
+/// The type is one of whole numbers or bit strings.
 #[tactic(auto, unfolding(crate::specs::Numbers::typed))]
 fn typed(word: &[u8]) -> Option<WholeNumber>
     ensures { result ≡ numbers.typed word.now }

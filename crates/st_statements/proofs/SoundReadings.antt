@@ -22,7 +22,7 @@ use Rattle.st_statements.specs.Laws.{Grammar, Begins}
 use Rattle.st_statements.proofs.Sound.{Family, Tells, Any, Seq, Made, made, made_begins, seq_begins, begins_as}
 use Rattle.st_statements.proofs.Sound.{one_begins, told_as, then_at, told_pure, told_one, told_if}
 
--- under a condition
+-- Some text of the grammar exists, and under a condition the readings tell of it.
 pub record Sound {A : Type 0} (C : Type 0) (P : Family A) (R : Grammar A) (D : A → Tokens → Type 0) : Type 0 where
   pub begins : Begins R []
   pub tells : C → Tells P R D
