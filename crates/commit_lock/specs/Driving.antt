@@ -14,8 +14,9 @@ use Rattle.commit_lock.specs.declared.event.Event.{Event}
 use Rattle.commit_lock.specs.declared.event.Event.TheVariants.{Latch, Take, Commit, CommitHere, Flush}
 use Rattle.commit_lock.specs.declared.event.Reply.{Reply}
 use Rattle.commit_lock.specs.declared.event.Reply.TheVariants.{Latched, Taken, Answered, Here, Flushed, Refused}
-use Rattle.commit_lock.specs.Cores.{CoreView, Guards, Outlives, survives}
-use Rattle.commit_lock.specs.Flushing.{Flushes}
+use Rattle.commit_lock.specs.Cores.{CoreView, Guards, Outlives}
+use Rattle.commit_lock.specs.Flushing.{Flushes, CountsFlush}
+use Rattle.commit_lock.specs.Restart.{Survives}
 
 -- what each take gave so far: none where nothing waited or the take was refused, and none once it was used
 abbrev pub Held : Type 0
@@ -39,7 +40,20 @@ abbrev pub held_of : Result (Option Snapshot) Refusal → Option Snapshot
 held_of (Ok taken) = taken
 held_of (Err refusal) = None
 
-module _ {D : Type 0} where
+-- how many entries are acknowledged after a reply: what a flush says, else as many as before
+abbrev pub acked_after : ℕ → Reply → ℕ
+acked_after acked (Latched n) = acked
+acked_after acked (Taken t) = acked
+acked_after acked (Answered a) = acked
+acked_after acked (Here o) = acked
+acked_after acked (Flushed n) = n
+acked_after acked (Refused r) = acked
+
+abbrev pub acked_by : ℕ → List Reply → ℕ
+acked_by acked [] = acked
+acked_by acked (reply ∷ replies) = acked_by (acked_after acked reply) replies
+
+module _ {D : Type 0} (failure_count : D → ℕ) where
   -- what was held is run and committed, unless there is nothing, or no memory to run it
   abbrev pub CommitsHeld : CoreView D → Option Snapshot → Reply → CoreView D → Type 0
   CommitsHeld old None reply new = (reply ≡ Refused (Serial NotWaiting)) × (new ≡ old)
@@ -61,23 +75,38 @@ module _ {D : Type 0} where
       (result : Result (Option ℕ) Refusal) × Guards old result new (λ r. CommitsHere old.state resource r new.state)
       × (reply ≡ reply_to Here result) × (kept ≡ held)
   Step old held Flush reply new kept =
-      (result : Result ℕ Refusal) × Flushes old result new × (reply ≡ reply_to Flushed result) × (kept ≡ held)
+      (result : Result ℕ Refusal) × Flushes old result new
+      × CountsFlush result (failure_count old.store.disk) (failure_count new.store.disk) old new
+      × (reply ≡ reply_to Flushed result) × (kept ≡ held)
 
 -- The events one after another, with their replies; each survives a stop, on a disk that tells its facts.
-module _ {D : Type 0} (tells : Type 0) (left_since : D → D → List ℕ → Type 0) (may_leave : D → List ℕ → Type 0) where
+module _ {D : Type 0} (failure_count : D → ℕ) (tells : Type 0) (left_since : D → D → List ℕ → Type 0)
+    (may_leave : D → List ℕ → Type 0) where
   abbrev pub Drives : CoreView D → Held → List Event → List Reply → CoreView D → Held → Type 0
   Drives old held [] [] new kept = (new ≡ old) × (kept ≡ held)
   Drives old held (event ∷ events) (reply ∷ replies) new kept =
-      (mid : CoreView D) × (between : Held) × Step old held event reply mid between
+      (mid : CoreView D) × (between : Held) × Step failure_count old held event reply mid between
       × (tells → Outlives left_since may_leave old mid) × Drives mid between events replies new kept
   Drives old held [] (reply ∷ replies) new kept = ⊥
   Drives old held (event ∷ events) [] new kept = ⊥
 
-  -- The calls before the last led to a core for which every file survives that a stop within the last call might have
-  -- left.
-  pub record SurvivesLast (old : CoreView D) (held : Held) (events : List Event) (new : CoreView D) : Type 0 where
+  -- Power fails at one call of a list. The calls before it, answered so, have led to one core; that call, answered so,
+  -- leads to another; and the calls after it go on from there to the last. A stop within the call leaves a file from
+  -- which a warm restart gives what a prefix of the log before it leaves, and a stop after it one that gives what a
+  -- prefix of the log then leaves. The prefix holds all that the answers until then have acknowledged.
+  pub record Endures (old : CoreView D) (held : Held) (acked : ℕ) (front : List Event) (said : List Reply)
+      (event : Event) (reply : Reply) (rest : List Event) (answers : List Reply) (last : CoreView D) : Type 0 where
     pub before : CoreView D
-    pub replies : List Reply
+    pub after : CoreView D
     pub then : Held
-    pub so_far : Drives old held events replies before then
-    pub survives : (file : List ℕ) → left_since before.store.disk new.store.disk file → survives before (recovered file)
+    pub now : Held
+    pub left : Held
+    pub so_far : Drives old held front said before then
+    pub call : Step failure_count before then event reply after now
+    pub goes_on : Drives after now rest answers last left
+    pub within : (file : List ℕ) → left_since before.store.disk after.store.disk file
+        → Survives before.state.plan before.state.start before.state.before before.state.log (acked_by acked said)
+        (recovered file)
+    pub behind : (file : List ℕ) → may_leave after.store.disk file
+        → Survives after.state.plan after.state.start after.state.before after.state.log
+        (acked_after (acked_by acked said) reply) (recovered file)

@@ -1,13 +1,14 @@
 //! A list of calls, one after another.
 
 ghost use Rattle.std.specs.Prelude.{◌≡◌, ◌+◌, ◌<◌, ◌≤◌, ◌++◌, ◌∷◌, [], List, Option, None, Result, slice_set, vec_len};
-ghost use Rattle.std.specs.Prelude.{vec_capacity, IfOk, OnErr};
+ghost use Rattle.std.specs.Prelude.{vec_capacity, length, IfOk, OnErr};
 ghost use Rattle.slot_run.specs.declared.snapshot.Snapshot.{Snapshot};
 ghost use Rattle.serial_core.specs.Steps.{Takes};
 ghost use Rattle.commit_lock.specs.declared.refusal.Refusal.{Refusal};
 ghost use Rattle.commit_lock.specs.declared.event.Event.{Event};
+ghost use Rattle.commit_lock.specs.declared.event.Reply.{Reply};
 ghost use Rattle.commit_lock.specs.Cores.{Guards, Outlives};
-ghost use Rattle.commit_lock.specs.Driving.{Held, Step, Drives, SurvivesLast, CommitsHeld, held_at, held_of};
+ghost use Rattle.commit_lock.specs.Driving.{Held, Step, Drives, Endures, CommitsHeld, held_at, held_of};
 ghost use Rattle.commit_lock.specs.Driving.{reply_to, taken_of};
 
 use crate::core_state::Core;
@@ -28,7 +29,7 @@ fn take_held(held: &mut Vec<Option<Snapshot>>, i: usize) -> Option<Snapshot>
 
 /// Runs what was held, and commits it.
 fn commit_held<D: Disk>(core: &mut Core<D>, alloc: Global, held: Option<Snapshot>) -> Reply
-    ensures commits { CommitsHeld core.old held result core.new }
+    ensures commits { CommitsHeld D.failure_count core.old held result core.new }
     ensures outlives { D.tells → Outlives D.left_since D.may_leave core.old core.new }
 {
     core.kept();
@@ -79,7 +80,7 @@ fn step<D: Disk>(
     event: Event,
 ) -> Reply
     requires room { vec_len held.old < vec_capacity held.old }
-    ensures step { Step core.old held.old.items event result core.new held.new.items }
+    ensures step { Step D.failure_count core.old held.old.items event result core.new held.new.items }
     ensures outlives { D.tells → Outlives D.left_since D.may_leave core.old core.new }
     ensures len { vec_len held.new ≤ vec_len held.old + 1 }
     ensures capacity { vec_capacity held.old ≤ vec_capacity held.new }
@@ -118,13 +119,16 @@ pub fn drive<D: Disk>(
     events: Vec<Event>,
 ) -> Result<Vec<Reply>, AllocError>
     ensures drives { IfOk result (λ replies. (held : Held)
-        × Drives D.tells D.left_since D.may_leave core.old [] events.items replies.items core.new held) }
+        × Drives D.failure_count D.tells D.left_since D.may_leave core.old [] events.items replies.items core.new
+        held) }
 
-    // The whole promise: whatever the calls are, and wherever a stop falls within the last of them, a warm restart
-    // gives what a prefix of the log leaves, and this prefix holds all that is acknowledged.
-    ensures survives { D.tells
-        → IfOk result (λ replies. (front : List Event) (last : Event) → events.items ≡ front ++ last ∷ []
-        → SurvivesLast D.tells D.left_since D.may_leave core.old [] front core.new) }
+    // The whole promise: whatever the calls are, and wherever power fails within one of them or after it, a warm
+    // restart gives what a prefix of the log leaves, and this prefix holds all that the answers have acknowledged.
+    ensures survives { D.tells → IfOk result (λ replies. (front rest : List Event) (said answers : List Reply)
+        (event : Event) (reply : Reply) → events.items ≡ front ++ event ∷ rest
+        → replies.items ≡ said ++ reply ∷ answers → length front ≡ length said
+        → Endures D.failure_count D.tells D.left_since D.may_leave core.old [] core.old.acked front said event reply
+        rest answers core.new) }
     ensures err { OnErr result (core.new ≡ core.old) }
 {
     let mut held = Vec::with_capacity(alloc, events.len())?;

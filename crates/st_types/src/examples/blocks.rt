@@ -1,6 +1,6 @@
 //! Worked examples of standard function blocks, each proved by computation.
 
-ghost use Rattle.std.specs.Prelude.{◌≡◌, ◌∷◌, [], pos, true, false};
+ghost use Rattle.std.specs.Prelude.{◌≡◌, ◌∷◌, [], pos, negsuc, true, false};
 ghost use Rattle.st_types.specs.StandardBlocks.{TON, TOF, TP, R_TRIG, F_TRIG, CTU, CTD, CTUD};
 ghost use Rattle.st_types.specs.Examples.{outputs_of, fresh_members, timed, q_et, bool, int, time};
 

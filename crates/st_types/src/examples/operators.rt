@@ -1,7 +1,7 @@
 //! Worked examples of what operators give, each proved by computation.
 
 ghost use Rattle.std.specs.Prelude.{◌≡◌, ◌∷◌, [], map, Ok, Err, pos, negsuc, Bool, true, false};
-ghost use Rattle.st_words.specs.declared.kind.Kind.TheVariants.{Int, Sint, Usint, Byte, Word, Time, Bool};
+ghost use Rattle.st_words.specs.declared.kind.Kind.TheVariants.{Int, Sint, Usint, Byte, Word, Time};
 ghost use Rattle.st_words.specs.declared.fault.Fault.TheVariants.{Range, DivisionByZero};
 ghost use Rattle.st_words.specs.declared.operator.UnaryOperator.TheVariants.{Negate, Not};
 ghost use Rattle.st_words.specs.declared.operator.BinaryOperator.TheVariants.{Or, Xor, And, Equal, NotEqual, Less};

@@ -1,14 +1,15 @@
 use Rattle.std.proofs.Common.{rules, ◌≡◌, ◌∙◌, ◌∷◌, ◌++◌, [], List, subst, ap, arith, length, length-append}
 use Rattle.commit_lock.specs.Driving.{Drives}
 use Rattle.commit_lock.specs.declared.event.Event.{Event}
-use Rattle.commit_lock.proofs.DriveLemmas.{drives_step, drives_end, survives_last}
+use Rattle.commit_lock.proofs.DriveLemmas.{drives_step, drives_end, endures}
 use Rattle.commit_lock.proofs.driving.drive.Goals as goal
 
 pub loop-event-preserved : goal.loop-event-preserved
 loop-event-preserved g c =
     let more : c.loop-event.event-iterator.rest.items ≡ c.in-Some.event ∷ c.next.new.self.rest.items = search rules in
     let fewer = ap length more in (
-      drives_step g.D.Disk.tells g.D.Disk.left_since g.D.Disk.may_leave c.args.core.now c.loop-event.core
+      drives_step g.D.Disk.failure_count g.D.Disk.tells g.D.Disk.left_since g.D.Disk.may_leave c.args.core.now
+          c.loop-event.core
           c.step-reply.new.core c.loop-event.held.items c.step-reply.new.held.items
           c.into_iter-event-iterator.result.rest.items c.next.new.self.rest.items c.loop-event.event-iterator.rest.items
           c.in-Some.event
@@ -33,26 +34,31 @@ returns-clause-drives g c =
     let none : length c.loop-event.event-iterator.rest.items ≡ 0 = search rules in
     let all : c.into_iter-event-iterator.result.rest.items ≡ c.args.events.items = search rules in (
       c.loop-event.held.items,
-      drives_end g.D.Disk.tells g.D.Disk.left_since g.D.Disk.may_leave c.args.core.now c.loop-event.core
+      drives_end g.D.Disk.failure_count g.D.Disk.tells g.D.Disk.left_since g.D.Disk.may_leave c.args.core.now
+          c.loop-event.core
           c.loop-event.held.items c.args.events.items c.loop-event.event-iterator.rest.items c.loop-event.replies.items
-          (subst (λ (es : List Event). (replies : _) (new : _) (kept : _) → Drives g.D.Disk.tells g.D.Disk.left_since
+          (subst (λ (es : List Event). (replies : _) (new : _) (kept : _)
+          → Drives g.D.Disk.failure_count g.D.Disk.tells g.D.Disk.left_since
           g.D.Disk.may_leave c.loop-event.core c.loop-event.held.items c.loop-event.event-iterator.rest.items
-          replies new kept → Drives g.D.Disk.tells g.D.Disk.left_since g.D.Disk.may_leave c.args.core.now [] es
+          replies new kept → Drives g.D.Disk.failure_count g.D.Disk.tells g.D.Disk.left_since g.D.Disk.may_leave
+          c.args.core.now [] es
           (c.loop-event.replies.items ++ replies) new kept) all c.loop-event.invariant.0)
           none,
     )
 
 pub returns-clause-survives : goal.returns-clause-survives
-returns-clause-survives g c = λ tells front last is.
+returns-clause-survives g c = λ tells front rest said answers event reply is answered same.
     let none : length c.loop-event.event-iterator.rest.items ≡ 0 = search rules in
     let all : c.into_iter-event-iterator.result.rest.items ≡ c.args.events.items = search rules in
     let so_far = subst (λ (es : List Event). (replies : _) (new : _) (kept : _)
-    → Drives g.D.Disk.tells g.D.Disk.left_since g.D.Disk.may_leave c.loop-event.core c.loop-event.held.items
-    c.loop-event.event-iterator.rest.items replies new kept → Drives g.D.Disk.tells g.D.Disk.left_since
-    g.D.Disk.may_leave c.args.core.now [] es (c.loop-event.replies.items ++ replies) new kept) (all ∙ is)
-    c.loop-event.invariant.0 in
-    survives_last g.D.Disk.tells g.D.Disk.left_since g.D.Disk.may_leave c.args.core.now c.loop-event.core []
-    c.loop-event.held.items front last c.loop-event.replies.items tells
-    (drives_end g.D.Disk.tells g.D.Disk.left_since g.D.Disk.may_leave c.args.core.now c.loop-event.core
-    c.loop-event.held.items (front ++ last ∷ []) c.loop-event.event-iterator.rest.items c.loop-event.replies.items
-    so_far none)
+    → Drives g.D.Disk.failure_count g.D.Disk.tells g.D.Disk.left_since g.D.Disk.may_leave c.loop-event.core
+    c.loop-event.held.items c.loop-event.event-iterator.rest.items replies new kept → Drives g.D.Disk.failure_count
+    g.D.Disk.tells g.D.Disk.left_since g.D.Disk.may_leave c.args.core.now [] es (c.loop-event.replies.items ++ replies)
+    new kept) (all ∙ is) c.loop-event.invariant.0 in
+    let whole = drives_end g.D.Disk.failure_count g.D.Disk.tells g.D.Disk.left_since g.D.Disk.may_leave c.args.core.now
+    c.loop-event.core c.loop-event.held.items (front ++ event ∷ rest) c.loop-event.event-iterator.rest.items
+    c.loop-event.replies.items so_far none in
+    endures g.D.Disk.failure_count g.D.Disk.tells g.D.Disk.left_since g.D.Disk.may_leave c.args.core.now
+    c.loop-event.core [] c.loop-event.held.items front rest said answers event reply tells same
+    (subst (λ rs. Drives g.D.Disk.failure_count g.D.Disk.tells g.D.Disk.left_since g.D.Disk.may_leave c.args.core.now []
+    (front ++ event ∷ rest) rs c.loop-event.core c.loop-event.held.items) answered whole)
