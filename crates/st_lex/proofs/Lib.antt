@@ -4,4 +4,4 @@ pub mod Within
 mod Sound
 mod Orders
 pub mod Decided
-mod Fronts
+pub mod Fronts

@@ -95,6 +95,16 @@ only_ok ts us x source eq i low =
     let read = source_complete MAX_DEPTH i low in let both : (x, us) ≡ (source, []) = cc in
     ap (λ (p : Source × Tokens). p.0) both
 
+-- tokens have one source, however deep
+pub one_source : (ts : Tokens) (this that : Source) → IsSource ts this → IsSource ts that → this ≡ that
+one_source ts this that i j =
+    let a = bounded_source.bound this in
+    let b = bounded_source.bound that in
+    let x = source_complete (a.0 + b.0) i (bounded_source.deeper a.0 (a.0 + b.0) this (omega arith) a.1) in
+    let y = source_complete (a.0 + b.0) j (bounded_source.deeper b.0 (a.0 + b.0) that (omega arith) b.1) in
+    let both : (this, []) ≡ (that, []) = cc in
+    ap (λ (p : Source × Tokens). p.0) both
+
 pub never_refused : (ts : Tokens) (r : Refusal) (source : Source) → source_at MAX_DEPTH ts ≡ Err r → IsSource ts source
     → SourceWithin MAX_DEPTH source → ⊥
 never_refused ts r source eq i low = let read = source_complete MAX_DEPTH i low in absurd cc

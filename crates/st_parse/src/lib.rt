@@ -11,6 +11,7 @@ mod configuration;
 mod data_type;
 mod declaration;
 mod global;
+mod laws;
 mod names;
 mod parsing;
 mod resource;
@@ -18,5 +19,6 @@ mod section;
 mod source;
 mod unit;
 
+pub use crate::laws::a_text_has_one_tree;
 pub use crate::parsing::parse;
 pub use st_statements::ParseError;
