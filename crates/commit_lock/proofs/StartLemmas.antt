@@ -1,22 +1,27 @@
 -- Starting a core.
-use Rattle.std.proofs.Common.{◌≡◌, ℕ, [], Option, Some, inl, inr, refl, sym, ap, subst, ◌∙◌, arith}
+use Rattle.std.proofs.Common.{◌≡◌, ℕ, ◌+◌, List, [], Option, Some, inl, inr, refl, sym, ap, subst, ◌∙◌, arith}
 use Rattle.st_types.specs.Stores.{Store}
 use Rattle.st_plans.specs.Restarts.{Start, kept, written_over}
 use Rattle.st_plans.specs.Plans.{initial_store}
 use Rattle.st_plans.specs.Layouts.{layout_text}
 use Rattle.retain_store.specs.Records.{Content}
 use Rattle.retain_store.specs.Recovered.{Recovered, TooLong, Refused, Nothing, Found}
-use Rattle.retain_store.specs.Kept.{record_in}
+use Rattle.retain_store.specs.Kept.{record_in, IsLast}
 use Rattle.retain_store.specs.FieldLaws.{some_is}
 use Rattle.config.specs.declared.plan.Plan.{Plan}
 use Rattle.config.specs.PlanViews.{plan_view}
 use Rattle.serial_core.specs.Steps.{State}
 use Rattle.serial_core.specs.Retained.{retained_paths, paired}
 use Rattle.commit_lock.specs.Restart.{Survives, begun, record_now}
-use Rattle.commit_lock.specs.Starting.{LeftByStart}
+use Rattle.commit_lock.specs.Starting.{LeftByStart, StartKeeps, RefusesStart, HasOtherLayout, IsLastGeneration}
+use Rattle.commit_lock.specs.Starting.{IsWantOfMemory, next_generation}
+use Rattle.commit_lock.specs.declared.refusal.StartFault.{StartFault}
+use Rattle.commit_lock.specs.declared.refusal.StartFault.TheVariants as faults
+use Rattle.retain_store.specs.declared.fault.StoreFault.TheVariants as stores
+use Rattle.retain_store.specs.Opening.{KeepsRecord}
 use Rattle.commit_lock.specs.declared.starting.StartMode.TheVariants.{Cold}
 use Rattle.retain_store.specs.Areas.{IsEither}
-use Rattle.std.specs.Prelude.{MatchResult, Result, Ok, Err}
+use Rattle.std.specs.Prelude.{MatchResult, IfOk, IfErr, Result, Ok, Err}
 
 abbrev start_at : Store → Option ℕ → Start
 start_at s m = record { store = s; moment = m }
@@ -64,3 +69,63 @@ pub left_cold : (plan : Plan) (room : ℕ) (state : State) (before last file : R
 left_cold plan room state before last file generation is same (inl e) = inl (e ∙ same)
 left_cold plan room state before last file generation is same (inr e) =
     inr (generation, e ∙ ap (λ (s : State). Found generation (record_now s)) is)
+
+-- ---- what a refused start leaves
+
+-- a store that has the greatest generation has a record
+last_kept : (last : Recovered) (first old : List ℕ) → IsLastGeneration last → KeepsRecord last first old → old ≡ first
+last_kept TooLong first old h kept = absurd h
+last_kept Refused first old h kept = absurd h
+last_kept Nothing first old h kept = absurd h
+last_kept (Found generation content) first old h kept = kept
+
+cold_keeps : (plan : Plan) (last : Recovered) (generation : ℕ) (fault : StartFault) (first old new : List ℕ)
+    → IsLast generation last → KeepsRecord last first old → RefusesStart Cold plan last fault
+    → (IsWantOfMemory fault → ⊥) → StartKeeps fault old new → StartKeeps fault first new
+cold_keeps plan last generation (faults.Store stores.TooLong) first old new is kept h full same =
+    absurd (subst (λ (r : Recovered). IsLast generation r) h is)
+cold_keeps plan last generation (faults.Store stores.Damaged) first old new is kept h full same =
+    absurd (subst (λ (r : Recovered). IsLast generation r) h is)
+cold_keeps plan last generation (faults.Store stores.Device) first old new is kept h full same = tt
+cold_keeps plan last generation (faults.Store stores.Generations) first old new is kept h full same =
+    same ∙ last_kept last first old h.1 kept
+cold_keeps plan last generation (faults.Store stores.NoMemory) first old new is kept h full same =
+    absurd (full (inr refl))
+cold_keeps plan last generation (faults.Store stores.Failed) first old new is kept h full same = absurd h
+cold_keeps plan last generation faults.OtherLayout first old new is kept h full same = absurd (let w = h.0 in cc)
+cold_keeps plan last generation faults.NoMemory first old new is kept h full same = absurd (full (inl refl))
+
+pub cold_unwritten : {C D : Type 0} (r : Result C (StartFault × D)) (seen : D → List ℕ) (P : C → Type 0) (plan : Plan)
+    (last : Recovered) (generation : ℕ) (first old : List ℕ) → IsLast generation last → KeepsRecord last first old
+    → MatchResult r P (λ e. RefusesStart Cold plan last e.0) → IfErr r (λ e. IsWantOfMemory e.0 → ⊥)
+    → IfErr r (λ e. StartKeeps e.0 old (seen e.1)) → IfErr r (λ e. StartKeeps e.0 first (seen e.1))
+cold_unwritten (Ok x) seen P plan last generation first old is kept h full same = tt
+cold_unwritten (Err e) seen P plan last generation first old is kept h full same =
+    cold_keeps plan last generation e.0 first old (seen e.1) is kept h full same
+
+warm_keeps : (plan : Plan) (last : Recovered) (first old new : List ℕ) → HasOtherLayout plan last
+    → KeepsRecord last first old → new ≡ old → new ≡ first
+warm_keeps plan TooLong first old new h kept same = absurd h
+warm_keeps plan Refused first old new h kept same = absurd h
+warm_keeps plan Nothing first old new h kept same = absurd h
+warm_keeps plan (Found generation content) first old new h kept same = same ∙ kept
+
+pub warm_unwritten : {C D : Type 0} (r : Result C (StartFault × D)) (seen : D → List ℕ) (plan : Plan)
+    (last : Recovered) (disk : D) (first : List ℕ) → KeepsRecord last first (seen disk)
+    → IfErr r (λ e. (e.0 ≡ faults.OtherLayout) × HasOtherLayout plan last × (e.1 ≡ disk))
+    → IfErr r (λ e. StartKeeps e.0 first (seen e.1))
+warm_unwritten (Ok x) seen plan last disk first kept h = tt
+warm_unwritten (Err e) seen plan last disk first kept h =
+    subst (λ (f : StartFault). StartKeeps f first (seen e.1)) (sym h.0)
+    (warm_keeps plan last first (seen disk) (seen e.1) h.1 kept (ap seen h.2))
+
+-- the generation after the last record's
+pub next_is : (last : Recovered) (generation : ℕ) → IsLast generation last → generation + 1 ≡ next_generation last
+next_is TooLong generation is = absurd is
+next_is Refused generation is = absurd is
+next_is Nothing generation is = ap (λ n. n + 1) is
+next_is (Found g content) generation is = ap (λ n. n + 1) (sym is.0)
+
+pub ok_weaker : {C E : Type 0} (r : Result C E) (P Q : C → Type 0) → ((x : C) → P x → Q x) → IfOk r P → IfOk r Q
+ok_weaker (Ok x) P Q weaker h = weaker x h
+ok_weaker (Err e) P Q weaker h = tt

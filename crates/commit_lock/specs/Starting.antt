@@ -1,10 +1,10 @@
 -- Starting a core.
-use Rattle.std.specs.Prelude.{◌≡◌, ◌≢◌, ◌⊎◌, ◌-◌, ◌^◌, ℕ, []}
+use Rattle.std.specs.Prelude.{◌≡◌, ◌≢◌, ◌⊎◌, ◌+◌, ◌-◌, ◌^◌, ℕ, List, []}
 use Rattle.st_plans.specs.Restarts.{Start, cold_start}
 use Rattle.st_plans.specs.Layouts.{layout_text}
 use Rattle.retain_store.specs.declared.fault.StoreFault.TheVariants as stores
 use Rattle.retain_store.specs.Recovered.{Recovered, TooLong, Refused, Nothing, Found}
-use Rattle.retain_store.specs.Opening.{CountsFault}
+use Rattle.retain_store.specs.Opening.{CountsFault, KeepsFile}
 use Rattle.retain_store.specs.Kept.{StoreView}
 use Rattle.config.specs.declared.plan.Plan.{Plan}
 use Rattle.config.specs.PlanViews.{plan_view}
@@ -64,6 +64,17 @@ abbrev pub CountsStart : StartFault → ℕ → ℕ → Type 0
 CountsStart (faults.Store fault) old new = CountsFault fault old new
 CountsStart faults.OtherLayout old new = new ≡ old
 CountsStart faults.NoMemory old new = new ≡ old
+
+-- A start that is refused leaves the file as it was. A device that fails may have written in part.
+abbrev pub StartKeeps : StartFault → List ℕ → List ℕ → Type 0
+StartKeeps (faults.Store fault) old new = KeepsFile fault old new
+StartKeeps faults.OtherLayout old new = new ≡ old
+StartKeeps faults.NoMemory old new = new ≡ old
+
+-- the generation of the record that is saved next
+abbrev pub next_generation : Recovered → ℕ
+next_generation (Found generation content) = generation + 1
+next_generation other = 1
 
 -- what a stop during a start leaves: what was recovered before, or for a cold start the record of the initial values
 abbrev pub LeftByStart : StartMode → Plan → ℕ → Recovered → Recovered → Type 0

@@ -6,7 +6,7 @@ ghost use Rattle.disk.specs.Runs.{LeavesOnly};
 ghost use Rattle.st_plans.specs.Layouts.{layout_text, record_length};
 ghost use Rattle.retain_store.specs.Recovered.{recovered, Found};
 ghost use Rattle.retain_store.specs.Areas.{IsEither};
-ghost use Rattle.retain_store.specs.Opening.{CountsFault};
+ghost use Rattle.retain_store.specs.Opening.{CountsFault, KeepsFile};
 ghost use Rattle.retain_store.specs.Kept.{IsTriedAfter};
 ghost use Rattle.commit_lock.specs.Restart.{record_now, IsNamed};
 
@@ -42,6 +42,8 @@ pub(crate) fn save_record<D: Disk>(
     ensures device { MatchResult result
         (λ _. D.failure_count store.new.disk ≡ D.failure_count store.old.disk)
         (λ fault. CountsFault fault (D.failure_count store.old.disk) (D.failure_count store.new.disk)) }
+    ensures unwritten { D.tells
+        → IfErr result (λ fault. KeepsFile fault (D.seen store.old.disk) (D.seen store.new.disk)) }
     ensures again { IsErrOf result StoreFault.Failed ↔ (store.old.failed ≡ true) }
     ensures generations { IsErrOf result StoreFault.Generations
         ↔ ((store.old.failed ≡ false) × (store.old.generation ≡ 2 ^ 64 - 1)) }

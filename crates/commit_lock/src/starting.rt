@@ -13,6 +13,7 @@ ghost use Rattle.commit_lock.specs.Restart.{Survives, IsOfPlan, IsInitialAgain, 
 ghost use Rattle.commit_lock.specs.Cores.{survives};
 ghost use Rattle.commit_lock.specs.Starting.{start_of, started, HasOtherLayout, IsNew, CanStart, RefusesStart};
 ghost use Rattle.commit_lock.specs.Starting.{CountsStart, LeftByStart, IsSavedAnew, IsWantOfMemory};
+ghost use Rattle.commit_lock.specs.Starting.{StartKeeps, next_generation};
 
 use crate::core_state::Core;
 use crate::parts::Parts;
@@ -111,6 +112,8 @@ fn cold<D: Disk>(parts: Parts, store: Store<D>) -> Result<Core<D>, (StartFault, 
     ensures state { IfOk result (λ core. core.state ≡ begun parts.serial.plan parts.serial.room) }
     ensures fresh { IfOk result (λ core. (core.acked ≡ 0) × (core.failed ≡ None)) }
     ensures saved { IfOk result (λ core. core.store.last ≡ Found core.store.generation (record_now parts.serial)) }
+    ensures next { IfOk result (λ core. core.store.generation ≡ store.generation + 1) }
+    ensures unwritten { D.tells → IfErr result (λ e. StartKeeps e.0 (D.seen store.disk) (D.seen e.1)) }
     ensures memory { IfErr result (λ e. IsWantOfMemory e.0 → ⊥) }
     ensures survives { D.tells
         → IfOk result (λ core. (file : List ℕ) → D.may_leave core.store.disk file → survives core (recovered file)) }
@@ -170,8 +173,20 @@ impl<D: Disk> Core<D> {
         ensures fresh { IfOk result (λ core. (core.acked ≡ 0) × (core.failed ≡ None)) }
         ensures begun { IfOk result (λ core. IsNew core.state plan.value log_room) }
 
-        // A cold start has saved the record of the initial values.
+        // A warm start goes on from the last record of the store, which is what a read gives.
+        ensures resumed { mode ≡ StartMode.Warm → IfOk result
+            (λ core. core.state ≡ started plan.value log_room (warm plan.value core.store.last)) }
+        ensures last { mode ≡ StartMode.Warm → IfOk result (λ core. IsLast core.store.generation core.store.last) }
+        ensures found { D.tells → mode ≡ StartMode.Warm → IfOk result
+            (λ core. core.store.last ≡ recovered (D.seen disk)) }
+
+        // A cold start has saved the record of the initial values, of the next generation.
         ensures saved { mode ≡ StartMode.Cold → IfOk result (λ core. IsSavedAnew plan.value log_room core.store) }
+        ensures next { D.tells → mode ≡ StartMode.Cold → IfOk result
+            (λ core. core.store.generation ≡ next_generation (recovered (D.seen disk))) }
+
+        // A start that is refused has written nothing.
+        ensures unwritten { D.tells → IfErr result (λ e. StartKeeps e.0 (D.seen disk) (D.seen e.1)) }
 
         // All memory is taken before the first call of the disk.
         ensures memory { IfErr result (λ e. IsWantOfMemory e.0 → e.1 ≡ disk) }

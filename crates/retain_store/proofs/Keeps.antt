@@ -12,11 +12,11 @@ use Rattle.retain_store.specs.declared.area.Half.TheVariants.{First, Second}
 use Rattle.retain_store.specs.declared.store.Saves.{Saves}
 use Rattle.retain_store.specs.declared.store.Saves.TheVariants as saves
 use Rattle.retain_store.specs.Records.{Content}
-use Rattle.retain_store.specs.Recovered.{Recovered, Open, Nothing, Found, area, recovered}
+use Rattle.retain_store.specs.Recovered.{Recovered, Open, TooLong, Refused, Nothing, Found, area, recovered}
 use Rattle.retain_store.specs.Areas.{alone, at_of, other_of, IsOlder, IsOpen, GateIs, IsReady, IsEither, IsSaved}
 use Rattle.retain_store.specs.Areas.{IsSurveyed, areas_after_save}
 use Rattle.retain_store.specs.Surveys.{held}
-use Rattle.retain_store.specs.Opening.{IsAtRest}
+use Rattle.retain_store.specs.Opening.{IsAtRest, KeepsRecord}
 use Rattle.retain_store.specs.Kept.{StoreInvariant, IsLast}
 use Rattle.retain_store.proofs.Surveys.{twice, is_half, held_some}
 
@@ -124,3 +124,10 @@ kept_used_up tells file files areas last tried size kept = record {
   least = kept.least;
   greatest = kept.greatest;
 }
+
+-- where the file is as it was, so is one with a record
+pub keeps_record : (found : Recovered) (old new : List ℕ) → new ≡ old → KeepsRecord found old new
+keeps_record TooLong old new same = tt
+keeps_record Refused old new same = tt
+keeps_record Nothing old new same = tt
+keeps_record (Found generation content) old new same = same

@@ -7,7 +7,7 @@ use Rattle.retain_store.specs.declared.fault.StoreFault.{StoreFault}
 use Rattle.retain_store.specs.declared.fault.StoreFault.TheVariants as faults
 use Rattle.retain_store.specs.declared.loading.Loaded.{Loaded}
 use Rattle.retain_store.specs.declared.loading.Loaded.TheVariants as loads
-use Rattle.retain_store.specs.Recovered.{Recovered, TooLong, Refused}
+use Rattle.retain_store.specs.Recovered.{Recovered, TooLong, Refused, Found}
 use Rattle.retain_store.specs.Areas.{IsEmpty, IsSurveyed}
 
 -- the fault says of the file what is so
@@ -30,6 +30,16 @@ IsOfFile other = ⊥
 abbrev pub CountsFault : StoreFault → ℕ → ℕ → Type 0
 CountsFault faults.Device old new = new ≡ (old + 1) % 2 ^ 64
 CountsFault other old new = new ≡ old
+
+-- A file that is refused is as it was. A device that fails may have written in part.
+abbrev pub KeepsFile : StoreFault → List ℕ → List ℕ → Type 0
+KeepsFile faults.Device old new = Unit {0}
+KeepsFile other old new = new ≡ old
+
+-- A file with a record is as it was. One without may have been formatted.
+abbrev pub KeepsRecord : Recovered → List ℕ → List ℕ → Type 0
+KeepsRecord (Found generation content) old new = new ≡ old
+KeepsRecord other old new = Unit {0}
 
 -- the file was too short and has two closed areas now, or it is whole, as it was, and these are its bytes
 abbrev pub IsLoaded : Loaded → List ℕ → List ℕ → List ℕ → Type 0

@@ -6,7 +6,8 @@ ghost use Rattle.disk.specs.Runs.{LeavesOnly};
 ghost use Rattle.retain_store.specs.Recovered.{recovered};
 ghost use Rattle.retain_store.specs.Areas.{IsZeros};
 ghost use Rattle.retain_store.specs.Surveys.{held, IsRecordableAt};
-ghost use Rattle.retain_store.specs.Opening.{IsAtRest, IsLoaded, IsOfFile, RefusesFor, CountsFault};
+ghost use Rattle.retain_store.specs.Opening.{IsAtRest, IsLoaded, IsOfFile, RefusesFor, CountsFault, KeepsFile};
+ghost use Rattle.retain_store.specs.Opening.{KeepsRecord};
 
 use crate::area::{Areas, format};
 use crate::fault::StoreFault;
@@ -73,6 +74,7 @@ fn load<D: Disk>(disk: &mut D, file: &mut [u8]) -> Result<Loaded, StoreFault>
     ensures synced { D.tells → OnOk result (Only (D.seen disk.new) (D.may_leave disk.new)) }
     ensures faults { IfErr result IsOfFile }
     ensures refused { D.tells → IfErr result (λ fault. RefusesFor fault (recovered (D.seen disk.old))) }
+    ensures unwritten { D.tells → IfErr result (λ fault. KeepsFile fault (D.seen disk.old) (D.seen disk.new)) }
 
     // On a disk with nothing unsynced a stop at any moment leaves what is recovered as the file was.
     ensures any_moment { D.tells → Only (D.seen disk.old) (D.may_leave disk.old)
@@ -104,11 +106,14 @@ pub(crate) fn recover<D: Disk>(
     requires zeros { IsZeros (take (FILE_BYTES - 1) file.old) }
 
     ensures found { D.tells → IfOk result (λ areas. held areas.generation last.new ≡ recovered (D.seen disk.old)) }
+    ensures kept { D.tells
+        → IfOk result (λ areas. KeepsRecord (held areas.generation last.new) (D.seen disk.old) (D.seen disk.new)) }
     ensures sound { IfOk result (λ areas. IsRecordableAt areas.generation last.new) }
     ensures at_rest { D.tells → IfOk result (λ areas.
         IsAtRest (D.seen disk.new) (D.may_leave disk.new) areas (held areas.generation last.new)) }
     ensures faults { IfErr result IsOfFile }
     ensures refused { D.tells → IfErr result (λ fault. RefusesFor fault (recovered (D.seen disk.old))) }
+    ensures unwritten { D.tells → IfErr result (λ fault. KeepsFile fault (D.seen disk.old) (D.seen disk.new)) }
 
     // On a disk with nothing unsynced a stop at any moment leaves what is recovered as the file was.
     ensures any_moment { D.tells → Only (D.seen disk.old) (D.may_leave disk.old)

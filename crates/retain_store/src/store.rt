@@ -9,7 +9,7 @@ ghost use Rattle.disk.specs.Runs.{LeavesOnly};
 ghost use Rattle.retain_store.specs.Records.{IsRecordable, record_bytes};
 ghost use Rattle.retain_store.specs.Recovered.{recovered, Found};
 ghost use Rattle.retain_store.specs.Areas.{IsEither, IsZeros};
-ghost use Rattle.retain_store.specs.Opening.{RefusesFor, CountsFault};
+ghost use Rattle.retain_store.specs.Opening.{RefusesFor, CountsFault, KeepsFile, KeepsRecord};
 ghost use Rattle.retain_store.specs.Kept.{content_of, record_in, IsLast, IsTriedAfter};
 
 use crate::area::{Areas, write_frame};
@@ -119,6 +119,10 @@ impl<D: Disk> Store<D> {
         // The last record is what is recovered of the file that a read gives.
         ensures found { D.tells → IfOk result (λ store. store.last ≡ recovered (D.seen disk)) }
         ensures refused { D.tells → IfErr result (λ e. RefusesFor e.0 (recovered (D.seen disk))) }
+
+        // A file that is refused is as it was, and so is one with a record.
+        ensures unwritten { D.tells → IfErr result (λ e. KeepsFile e.0 (D.seen disk) (D.seen e.1)) }
+        ensures kept { D.tells → IfOk result (λ store. KeepsRecord store.last (D.seen disk) (D.seen store.disk)) }
         ensures opened { IfOk result (λ store. IsLast store.generation store.last) }
         ensures tried { IfOk result (λ store. store.tried ≡ store.last) }
         ensures fresh { IfOk result (λ store. store.failed ≡ false) }
@@ -213,6 +217,10 @@ impl<D: Disk> Store<D> {
             (λ _. D.failure_count self.new.disk ≡ D.failure_count self.old.disk)
             (λ fault. CountsFault fault (D.failure_count self.old.disk) (D.failure_count self.new.disk)) }
         ensures again { IsErrOf result StoreFault.Failed ↔ (self.old.failed ≡ true) }
+
+        // S4 and S6 come before any call of the disk.
+        ensures unwritten { D.tells
+            → IfErr result (λ fault. KeepsFile fault (D.seen self.old.disk) (D.seen self.new.disk)) }
         ensures generations { IsErrOf result StoreFault.Generations
             ↔ ((self.old.failed ≡ false) × (self.old.generation ≡ 2 ^ 64 - 1)) }
     {

@@ -8,6 +8,7 @@ use Rattle.retain_store.specs.Surveys.{held}
 use Rattle.retain_store.proofs.Areas.{shut_area}
 use Rattle.retain_store.proofs.Formats.{short_nothing}
 use Rattle.retain_store.proofs.Surveys.{surveyed_closed}
+use Rattle.retain_store.proofs.Keeps.{keeps_record}
 use Rattle.retain_store.proofs.loading.recover.Goals as goal
 
 pub returns-in-Ok-Formatted-clause-found : goal.returns-in-Ok-Formatted-clause-found
@@ -51,3 +52,17 @@ returns-in-None-clause-refused g c = λ tells.
     (λ (l : Loaded). IsLoaded l c.load.new.file (g.D.Disk.seen c.args.disk.now) (g.D.Disk.seen c.load.new.disk))
     c.in-Ok-Whole.field-0-is (c.in-Ok-Whole.ensures.found tells) in
     ap recovered (sym whole.1) ∙ c.in-None.ensures.damaged
+
+pub returns-in-None-clause-unwritten : goal.returns-in-None-clause-unwritten
+returns-in-None-clause-unwritten g c = λ tells.
+    let whole = subst
+    (λ (l : Loaded). IsLoaded l c.load.new.file (g.D.Disk.seen c.args.disk.now) (g.D.Disk.seen c.load.new.disk))
+    c.in-Ok-Whole.field-0-is (c.in-Ok-Whole.ensures.found tells) in
+    whole.2
+
+pub returns-in-Some-clause-kept : goal.returns-in-Some-clause-kept
+returns-in-Some-clause-kept g c = λ tells.
+    let whole = subst
+    (λ (l : Loaded). IsLoaded l c.load.new.file (g.D.Disk.seen c.args.disk.now) (g.D.Disk.seen c.load.new.disk))
+    c.in-Ok-Whole.field-0-is (c.in-Ok-Whole.ensures.found tells) in
+    keeps_record _ _ _ whole.2
