@@ -196,6 +196,21 @@ first_told good.st "fault G2"
 scene "no trace" 3 "" "fault V6" replay none.st --plant none.csv --trace none.txt
 scene "a folder for a trace" 3 "" "fault V6" replay none.st --plant none.csv --trace .
 
+# A retain file is no other file of the run, by whatever name, and nothing is opened then.
+cp s.st own.st
+cp rows.csv own.csv
+ln -s own.st link.st
+ln own.csv hard.csv
+refused "the source as a retain file" 1 $(run own.st own.csv own.st cold)
+refused "the plant as a retain file" 1 $(run own.st own.csv own.csv warm)
+refused "the trace as a retain file" 1 $(run own.st own.csv own.txt cold) --trace own.txt
+[ ! -e own.txt ] || fail "a refused run has made a trace"
+for name in ./own.st link.st hard.csv "$work/own.csv"; do
+    scene "$name as a retain file" 1 "" "error: the retain file is the source, the plant or the trace" \
+        $(run own.st own.csv "$name" cold)
+done
+cmp -s s.st own.st && cmp -s rows.csv own.csv || fail "a refused run has changed its source or its plant"
+
 # A budget is 1 to 1,000,000 ticks. Where it is taken, this text has no configuration.
 for ticks in 1 1000000 0001000000; do
     scene "$ticks ticks" 2 "" "fault G2" $(run good.st none.csv made warm) --budget $ticks

@@ -1,6 +1,7 @@
 //! Acknowledging what is in the log.
 
-ghost use Rattle.std.specs.Prelude.{◌≡◌, ◌≤◌, None, IfOk, IfErr, MatchResult, length};
+ghost use Rattle.std.specs.Prelude.{◌≡◌, ◌≤◌, None, Some, IfOk, IfErr, IsErrOf, MatchResult, length};
+ghost use Rattle.retain_store.specs.declared.format.TheConstants.{FILE_BYTES};
 ghost use Rattle.commit_lock.specs.Cores.{Outlives};
 ghost use Rattle.commit_lock.specs.Flushing.{Flushes, CountsFlush};
 
@@ -8,6 +9,7 @@ use crate::core_state::Core;
 use crate::refusal::Refusal;
 use crate::saving::save_record;
 use disk::Disk;
+use retain_store::StoreFault;
 
 impl<D: Disk> Core<D> {
     /// How many entries of the log are acknowledged: a restart gives what a prefix of the log leaves that holds them
@@ -28,6 +30,10 @@ impl<D: Disk> Core<D> {
         ensures flushes { Flushes self.old result self.new }
         ensures device { CountsFlush result (D.failure_count self.old.store.disk) (D.failure_count self.new.store.disk)
             self.old self.new }
+
+        // K5 comes from a disk that serves a whole file only where the device has failed before, or by S4.
+        ensures serves { D.serves self.old.store.disk FILE_BYTES → D.serves self.new.store.disk FILE_BYTES
+            × (IsErrOf result (Refusal.StoreFailed StoreFault.Device) → self.old.failed ≡ Some StoreFault.Device) }
         ensures outlives { D.tells → Outlives D.left_since D.may_leave self.old self.new }
     {
         self.kept();

@@ -1,13 +1,13 @@
 //! What a core tells.
 
-ghost use Rattle.std.specs.Prelude.{◌≡◌, ◌<◌, ◌≤◌, List, ℕ, option_map, option_and_then, slice_get, length};
+ghost use Rattle.std.specs.Prelude.{◌≡◌, ◌<◌, ◌≤◌, List, ℕ, option_map, option_and_then, slice_get, length, MatchBool};
 ghost use Rattle.st_plans.specs.Due.{HasOverruns};
 ghost use Rattle.st_plans.specs.Logs.{IsLegal, outcomes_of};
 ghost use Rattle.st_plans.specs.Plans.{schedules_of};
 ghost use Rattle.st_types.specs.Scopes.{seen};
 ghost use Rattle.config.specs.PlanViews.{plan_view};
 ghost use Rattle.retain_store.specs.Recovered.{recovered};
-ghost use Rattle.serial_core.specs.Steps.{made, inputs_now};
+ghost use Rattle.serial_core.specs.Steps.{made, none_waits, inputs_now};
 ghost use Rattle.commit_lock.specs.Cores.{survives};
 
 use crate::core_state::Core;
@@ -24,6 +24,20 @@ impl<D: Disk> Core<D> {
             self.now.state.log }
     {
         self.serial.len()
+    }
+
+    /// How many rows were latched.
+    pub fn rows(&self) -> usize
+        ensures { result ≡ length (made self.now.state).rows }
+    {
+        self.serial.rows()
+    }
+
+    /// Whether something of the resource waits. It takes no memory.
+    pub fn waits_on(&self, resource: usize) -> bool
+        ensures { MatchBool result (none_waits self.now.state resource → ⊥) (none_waits self.now.state resource) }
+    {
+        self.serial.waits_on(resource)
     }
 
     /// The entry of a number from 0; none where the log has no such entry.

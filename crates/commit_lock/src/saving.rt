@@ -4,6 +4,7 @@ ghost use Rattle.std.specs.Prelude.{◌≡◌, ◌≢◌, ◌+◌, ◌≤◌, �
 ghost use Rattle.std.specs.Prelude.{IfErr, OnOk, OnErr, IsErrOf, true, false};
 ghost use Rattle.disk.specs.Runs.{LeavesOnly};
 ghost use Rattle.st_plans.specs.Layouts.{layout_text, record_length};
+ghost use Rattle.retain_store.specs.declared.format.TheConstants.{FILE_BYTES};
 ghost use Rattle.retain_store.specs.Recovered.{recovered, Found};
 ghost use Rattle.retain_store.specs.Areas.{IsEither};
 ghost use Rattle.retain_store.specs.Opening.{CountsFault, KeepsFile};
@@ -42,6 +43,8 @@ pub(crate) fn save_record<D: Disk>(
     ensures device { MatchResult result
         (λ _. D.failure_count store.new.disk ≡ D.failure_count store.old.disk)
         (λ fault. CountsFault fault (D.failure_count store.old.disk) (D.failure_count store.new.disk)) }
+    ensures serves { D.serves store.old.disk FILE_BYTES
+        → IfErr result (λ fault. fault ≢ StoreFault.Device) × D.serves store.new.disk FILE_BYTES }
     ensures unwritten { D.tells
         → IfErr result (λ fault. KeepsFile fault (D.seen store.old.disk) (D.seen store.new.disk)) }
     ensures again { IsErrOf result StoreFault.Failed ↔ (store.old.failed ≡ true) }

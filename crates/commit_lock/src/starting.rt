@@ -1,11 +1,12 @@
 //! Starting a core.
 
-ghost use Rattle.std.specs.Prelude.{◌≡◌, ◌≤◌, ◌+◌, ◌-◌, ◌^◌, List, ℕ, [], None, IsTrue, true, false, length};
+ghost use Rattle.std.specs.Prelude.{◌≡◌, ◌≢◌, ◌≤◌, ◌+◌, ◌-◌, ◌^◌, List, ℕ, [], None, IsTrue, true, false, length};
 ghost use Rattle.std.specs.Prelude.{vec_capacity, IfOk, IfErr, MatchResult};
 ghost use Rattle.st_words.specs.declared.limits.TheConstants.{MAX_LOG_ROOM};
 ghost use Rattle.disk.specs.Disk.{Only};
 ghost use Rattle.disk.specs.Runs.{LeavesOnly};
 ghost use Rattle.st_plans.specs.Layouts.{layout_text};
+ghost use Rattle.retain_store.specs.declared.format.TheConstants.{FILE_BYTES};
 ghost use Rattle.retain_store.specs.Recovered.{recovered, Found};
 ghost use Rattle.retain_store.specs.Areas.{IsEither};
 ghost use Rattle.retain_store.specs.Kept.{IsLast};
@@ -21,7 +22,7 @@ use crate::refusal::StartFault;
 use crate::saving::save_record;
 use config::Plan;
 use disk::Disk;
-use retain_store::Store;
+use retain_store::{Store, StoreFault};
 use serial_core::SerialCore;
 use st_words::limits::MAX_RECORD_BODY;
 use std::alloc::Global;
@@ -114,6 +115,9 @@ fn cold<D: Disk>(parts: Parts, store: Store<D>) -> Result<Core<D>, (StartFault, 
     ensures saved { IfOk result (λ core. core.store.last ≡ Found core.store.generation (record_now parts.serial)) }
     ensures next { IfOk result (λ core. core.store.generation ≡ store.generation + 1) }
     ensures unwritten { D.tells → IfErr result (λ e. StartKeeps e.0 (D.seen store.disk) (D.seen e.1)) }
+    ensures serves { D.serves store.disk FILE_BYTES → MatchResult result
+        (λ core. D.serves core.store.disk FILE_BYTES)
+        (λ e. (e.0 ≢ StartFault.Store StoreFault.Device) × D.serves e.1 FILE_BYTES) }
     ensures memory { IfErr result (λ e. IsWantOfMemory e.0 → ⊥) }
     ensures survives { D.tells
         → IfOk result (λ core. (file : List ℕ) → D.may_leave core.store.disk file → survives core (recovered file)) }
@@ -201,6 +205,11 @@ impl<D: Disk> Core<D> {
         ensures device { MatchResult result
             (λ core. D.failure_count core.store.disk ≡ D.failure_count disk)
             (λ e. CountsStart e.0 (D.failure_count disk) (D.failure_count e.1)) }
+
+        // S3 does not come from a disk that serves a whole file.
+        ensures serves { D.tells → D.serves disk FILE_BYTES → MatchResult result
+            (λ core. D.serves core.store.disk FILE_BYTES)
+            (λ e. (e.0 ≢ StartFault.Store StoreFault.Device) × D.serves e.1 FILE_BYTES) }
 
         // Every file that a stop may leave after it survives.
         ensures survives { D.tells → IfOk result

@@ -3,7 +3,13 @@ use Rattle.std.proofs.Common.{◌≡◌, ◌⊎◌, inl, inr, ℕ, ◌+◌, ◌%
 use Rattle.std.proofs.Common.{if◌then◌else◌, is_ok, Result, Ok, Err, List, length, refl, sym, ap, subst, OnOk, OnErr}
 use Rattle.disk.specs.Disk.{Torn, Follows, Admits, Within, Counts, overwritten}
 use Rattle.disk.specs.Medium.{MediumView, MayLeave, synced_len, with_write, IsWritten}
+use Rattle.std.specs.Prelude.{◌-◌, ◌<◌, min, Option, Some, None, IfSome, IsOk}
+use Rattle.std.proofs.Common.{arith}
+use Rattle.std.proofs.lemmas.Bool.Decides.{nat_tests}
+use Rattle.disk.specs.declared.disk.DiskError.{DiskError}
+use Rattle.disk.specs.Medium.{all_synced}
 use Rattle.disk.specs.Simulated.{SimView, answer_of, works, is_stop, is_failing, has_room, after_write, counted}
+use Rattle.disk.specs.Simulated.{StopView, IsReliable, begun, has_range, after_sync}
 use Rattle.disk.specs.Runs.{torn_none}
 use Rattle.disk.proofs.MediumLemmas.{admits, follows}
 
@@ -107,3 +113,75 @@ module _ (disk : SimView) (at : ℕ) (bytes : List ℕ) where
         λ file left. subst (λ (medium : MediumView). MayLeave medium file) (after_kept is) left,
       )
     ]
+
+-- ---- a disk on which no step fails any more
+
+not_failing : (number : Option ℕ) (step : ℕ) → IfSome number (λ n. n < step) → is_failing number step ≡ false
+not_failing None step past = refl
+not_failing (Some n) step past = grind (arith, nat_tests)
+
+not_stopping : (stop : Option StopView) (step : ℕ) → IfSome stop (λ s. s.step < step) → is_stop stop step ≡ false
+not_stopping None step past = refl
+not_stopping (Some s) step past = grind (arith, nat_tests)
+
+later : {A : Type 0} (number : A → ℕ) (o : Option A) (step next : ℕ) → step ≤ next
+    → IfSome o (λ a. number a < step) → IfSome o (λ a. number a < next)
+later number None step next on past = tt
+later number (Some a) step next on past = omega (arith, on, past)
+
+pub reliable_works : (disk : SimView) (room : ℕ) → IsReliable disk room → works disk ≡ true
+reliable_works disk room h =
+    rw (h.runs, not_stopping disk.stop disk.step h.spared, not_failing disk.failing disk.step h.failed) refl
+
+pub reliable_begun : (disk : SimView) (room : ℕ) → IsReliable disk room → IsReliable (begun disk) room
+reliable_begun disk room h =
+    let on : disk.step ≤ min (disk.step + 1) (2 ^ 64 - 1) = omega (arith, h.counts) in
+    record {
+      runs = rw (h.runs, not_stopping disk.stop disk.step h.spared) refl;
+      failed = later (λ n. n) disk.failing disk.step _ on h.failed;
+      spared = later (λ (s : StopView). s.step) disk.stop disk.step _ on h.spared;
+      fits = h.fits;
+      counts = omega (arith, h.counts);
+    }
+
+pub reliable_counted : {T : Type 0} (result : Result T DiskError) (disk : SimView) (room : ℕ) → IsReliable disk room
+    → IsReliable (counted result disk) room
+reliable_counted result disk room h =
+    record { runs = h.runs; failed = h.failed; spared = h.spared; fits = h.fits; counts = h.counts }
+
+with_medium : (disk : SimView) (medium : MediumView) (room : ℕ) → medium.room ≡ disk.medium.room
+    → IsReliable disk room → IsReliable record disk { medium = medium } room
+with_medium disk medium room same h =
+    record { runs = h.runs; failed = h.failed; spared = h.spared; fits = rw same h.fits; counts = h.counts }
+
+pub reliable_write : (disk : SimView) (at : ℕ) (bytes : List ℕ) (room : ℕ) → IsReliable disk room
+    → IsReliable (after_write disk at bytes) room
+reliable_write disk at bytes room h = by (has_room disk at (length bytes) && not disk.stopped)
+  where
+    by : (b : Bool) → IsReliable (if b then record (begun disk) { medium = with_write disk.medium at bytes }
+        else begun disk) room
+    by true = with_medium (begun disk) (with_write disk.medium at bytes) room refl (reliable_begun disk room h)
+    by false = reliable_begun disk room h
+
+pub reliable_sync : (disk : SimView) (room : ℕ) → IsReliable disk room → IsReliable (after_sync disk) room
+reliable_sync disk room h = by (works disk)
+  where
+    by : (b : Bool) → IsReliable (if b
+        then record (begun disk) { medium = all_synced disk.medium.file disk.medium.room }
+        else begun disk) room
+    by true =
+        with_medium (begun disk) (all_synced disk.medium.file disk.medium.room) room refl (reliable_begun disk room h)
+    by false = reliable_begun disk room h
+
+-- a call that works and can be done succeeds
+pub ok_of : {T : Type 0} (works possible : Bool) (value : T) → works ≡ true → possible ≡ true
+    → IsOk (answer_of works possible value)
+ok_of true true value w p = refl
+ok_of true false value w p = absurd (cc)
+ok_of false possible value w p = absurd (cc)
+
+pub room_found : (disk : SimView) (room at n : ℕ) → IsReliable disk room → at + n ≤ room → has_room disk at n ≡ true
+room_found disk room at n h within = grind (arith, nat_tests, h.fits)
+
+pub range_found : (disk : SimView) (at n : ℕ) → at + n ≤ length disk.medium.file → has_range disk at n ≡ true
+range_found disk at n within = grind (arith, nat_tests)

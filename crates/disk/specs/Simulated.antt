@@ -1,6 +1,6 @@
 -- A simulated disk: its steps, the one that fails, and the one within which the machine stops.
 use Rattle.std.specs.Prelude.{◌+◌, ◌-◌, ◌%◌, ◌^◌, ◌==◌, ◌||◌, ◌&&◌, ℕ, min, max, List, length, nat_le, not, Bool, false}
-use Rattle.std.specs.Prelude.{if◌then◌else◌, Option, Some, None, Result, Ok, Err, is_ok}
+use Rattle.std.specs.Prelude.{◌≡◌, ◌<◌, ◌≤◌, if◌then◌else◌, Option, Some, None, IfSome, Result, Ok, Err, is_ok}
 use Rattle.disk.specs.declared.sim_disk.TheConstants.{ROOM_BYTES}
 use Rattle.disk.specs.Medium.{MediumView, all_synced, with_write}
 use Rattle.disk.specs.declared.disk.DiskError.{DiskError}
@@ -51,6 +51,14 @@ begun disk =
 -- The next call works, unless the machine has stopped before or stops within it, or it is the one that fails.
 abbrev pub works : SimView → Bool
 works disk = not (disk.stopped || is_stop disk.stop disk.step || is_failing disk.failing disk.step)
+
+-- The machine runs, the step that fails and the one within which it stops are past, and so many bytes find room.
+pub record IsReliable (disk : SimView) (room : ℕ) : Type 0 where
+  pub runs : disk.stopped ≡ false
+  pub counts : disk.step ≤ 2 ^ 64 - 1
+  pub failed : IfSome disk.failing (λ number. number < disk.step)
+  pub spared : IfSome disk.stop (λ stop. stop.step < disk.step)
+  pub fits : room ≤ disk.medium.room
 
 -- the answer of a call that works or not, with this value where it can be done
 abbrev pub answer_of : {T : Type 0} → Bool → Bool → T → Result T DiskError

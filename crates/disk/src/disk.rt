@@ -1,5 +1,5 @@
 //! A disk: what a read gives, what a stop now may leave, and what a stop since an earlier moment might have left.
-ghost use Rattle.std.specs.Prelude.{◌≡◌, ◌≤◌, ◌+◌, List, ℕ, length, take, drop, IfOk, OnOk, OnErr};
+ghost use Rattle.std.specs.Prelude.{◌≡◌, ◌≤◌, ◌+◌, List, ℕ, length, take, drop, IfOk, OnOk, OnErr, IsOk};
 ghost use Rattle.disk.specs.Disk.{overwritten, Torn, Follows, Admits, Within, WidensOrKeeps, Only, NothingElse, Counts};
 
 use thiserror::Error;
@@ -36,8 +36,14 @@ pub trait Disk {
     /// How often it has failed, which every disk tells.
     ghost failure_count: { Self → ℕ };
 
+    /// That from now on each call succeeds that can be done within so many bytes: a read inside the file, and a write
+    /// that ends by there. A disk that never says so promises no success.
+    ghost serves: { Self → ℕ → Type 0 };
+
     /// The length of the file in bytes.
     fn len(&mut self) -> Result<u64, DiskError>
+        ensures works { (room : ℕ) → serves self.old room → IsOk result }
+        ensures serves { (room : ℕ) → serves self.old room → serves self.new room }
         ensures value { tells → IfOk result (λ n. n ≡ length (seen self.old)) }
         ensures seen { tells → seen self.new ≡ seen self.old }
         ensures stop { tells → Within (may_leave self.new) (may_leave self.old) }
@@ -48,6 +54,8 @@ pub trait Disk {
     /// Fills the buffer with the bytes of the file from `at` on. It is refused unless the whole range is inside the
     /// file. What the buffer holds after an error is left open.
     fn read(&mut self, at: u64, buf: &mut [u8]) -> Result<(), DiskError>
+        ensures works { (room : ℕ) → serves self.old room → at + length buf.old ≤ length (seen self.old) → IsOk result }
+        ensures serves { (room : ℕ) → serves self.old room → serves self.new room }
         ensures value { tells → OnOk result (buf.new ≡ take (length buf.old) (drop at (seen self.old))) }
         ensures inside { tells → OnOk result (at + length buf.old ≤ length (seen self.old)) }
         ensures seen { tells → seen self.new ≡ seen self.old }
@@ -59,6 +67,8 @@ pub trait Disk {
     /// Writes these bytes from `at` on, over what is there and past the end, with zero bytes in a gap before them. A
     /// failed write may have written them in part.
     fn write_at(&mut self, at: u64, bytes: &[u8]) -> Result<(), DiskError>
+        ensures works { (room : ℕ) → serves self.old room → at + length bytes.now ≤ room → IsOk result }
+        ensures serves { (room : ℕ) → serves self.old room → serves self.new room }
         ensures seen { tells → OnOk result (seen self.new ≡ overwritten (seen self.old) at bytes.now) }
         ensures stop { tells →
             Follows (Torn at (length bytes.now)) (may_leave self.old) (may_leave self.new) }
@@ -74,6 +84,8 @@ pub trait Disk {
 
     /// After it, a stop leaves what a read gives. A failed sync settles nothing.
     fn sync(&mut self) -> Result<(), DiskError>
+        ensures works { (room : ℕ) → serves self.old room → IsOk result }
+        ensures serves { (room : ℕ) → serves self.old room → serves self.new room }
         ensures durable { tells → OnOk result (Only (seen self.new) (may_leave self.new)) }
         ensures seen { tells → seen self.new ≡ seen self.old }
         ensures stop { tells → Within (may_leave self.new) (may_leave self.old) }

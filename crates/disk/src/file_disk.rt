@@ -9,7 +9,7 @@ use std::os::unix::fs::FileExt;
 use std::rt::Files;
 
 /// A disk over a real file, with positioned reads and writes. That the file keeps the rules of a disk is for the user
-/// to know, so this disk tells none of them. A contract sees it as the number of its failures.
+/// to know, so this disk tells none of them and promises no success. A contract sees it as the number of its failures.
 #[derive(Drop)]
 pub struct FileDisk<F: FileExt + OpenFile + Drop> {
     file: F,
@@ -78,6 +78,8 @@ impl<F: FileExt + OpenFile + Drop> Disk for FileDisk<F> {
     ghost left_since = { λ _ _ _. ⊥ };
 
     ghost failure_count = { λ disk. disk };
+
+    ghost serves = { λ _ _. ⊥ };
 
     ghost seen_may_be_left = { λ _ none. none };
 

@@ -4,7 +4,7 @@ ghost use Rattle.std.specs.Prelude.{if◌then◌else◌};
 ghost use Rattle.disk.specs.Disk.{Only};
 ghost use Rattle.disk.specs.Medium.{MayLeave, IsLeft, IsWritten, synced_len, file_may_be_left};
 ghost use Rattle.disk.specs.Simulated.{fresh, StopView, is_stop, begun, works, answer_of, counted, has_range, has_room};
-ghost use Rattle.disk.specs.Simulated.{after_write, after_sync};
+ghost use Rattle.disk.specs.Simulated.{after_write, after_sync, IsReliable};
 
 use crate::disk::{Disk, DiskError};
 use crate::medium::Medium;
@@ -67,6 +67,7 @@ impl SimDisk {
     pub fn new(alloc: Global, file: Vec<u8>) -> Result<SimDisk, AllocError>
         ensures fresh { IfOk result (λ disk. disk ≡ fresh file.items) }
         ensures synced { IfOk result (λ disk. Only file.items (MayLeave disk.medium)) }
+        ensures reliable { IfOk result (λ disk. IsReliable disk ROOM_BYTES) }
     {
         let room = file.len().max(ROOM_BYTES);
         let medium = Medium::new(alloc, file, room)?;
@@ -175,6 +176,8 @@ impl Disk for SimDisk {
     ghost left_since = { λ _ disk. MayLeave disk.medium };
 
     ghost failure_count = { λ disk. disk.failures };
+
+    ghost serves = { IsReliable };
 
     ghost seen_may_be_left = { λ disk _. file_may_be_left disk.medium };
 

@@ -6,14 +6,13 @@ use Rattle.std.proofs.lemmas.List.{get_or_append_left, get_or_push, length-appen
 use Rattle.std.proofs.lemmas.Bool.{cases_lt}
 use Rattle.std.proofs.lemmas.Option.{slice_get_cases}
 use Rattle.st_plans.specs.declared.entry.Entry.{Entry}
-use Rattle.st_plans.specs.declared.entry.Entry.TheVariants.{Row, Done}
 use Rattle.st_plans.specs.Due.{HasOverruns}
 use Rattle.st_plans.specs.Logs.{Past, beginning, outcomes_from, outcomes_of, with_entry}
 use Rattle.st_plans.specs.Plans.{Plan, schedules_of}
 use Rattle.st_types.specs.Stores.{Store}
 use Rattle.config.specs.PlanViews.{plan_view}
 use Rattle.serial_core.specs.Steps.{State, made}
-use Rattle.plant_program.specs.Lives.{AreOverruns, is_done, is_row}
+use Rattle.plant_program.specs.Lives.{AreOverruns}
 
 -- a list that passes at the next place has one more that passes, and one that does not has no more
 pub count_yes : {X : Type 0} (p : X → Bool) (xs : List X) (i : ℕ)
@@ -29,26 +28,6 @@ count_no p xs i small is = elim (slice_get_cases xs i).1 [
   | inl (x, less, found, at) ↦ count_by_more_no p xs i x small (rw at (rw found at is))
   | inr (past, none) ↦ absurd (omega arith)
 ]
-
--- what is no row is a Done
-pub rows_and_dones : (log : List Entry) → count_by is_row log + count_by is_done log ≡ length log
-rows_and_dones [] = refl
-rows_and_dones (Row row ∷ log) =
-    let more = rows_and_dones log in
-    let rows : count_by is_row (Row row ∷ log) ≡ 1 + count_by is_row log =
-    sum_by-cons (λ e. cond (is_row e) 1 0) (Row row) log in
-    let dones : count_by is_done (Row row ∷ log) ≡ 0 + count_by is_done log =
-    sum_by-cons (λ e. cond (is_done e) 1 0) (Row row) log in
-    let all : length (Row row ∷ log) ≡ suc (length log) = refl in
-    rw (rows, dones, all) (omega arith)
-rows_and_dones (Done a ∷ log) =
-    let more = rows_and_dones log in
-    let rows : count_by is_row (Done a ∷ log) ≡ 0 + count_by is_row log =
-    sum_by-cons (λ e. cond (is_row e) 1 0) (Done a) log in
-    let dones : count_by is_done (Done a ∷ log) ≡ 1 + count_by is_done log =
-    sum_by-cons (λ e. cond (is_done e) 1 0) (Done a) log in
-    let all : length (Done a ∷ log) ≡ suc (length log) = refl in
-    rw (rows, dones, all) (omega arith)
 
 -- each entry has an outcome, or none
 outcomes_from_counted : (plan : Plan) (past : Past) (log : List Entry)

@@ -8,7 +8,10 @@ use Rattle.image.specs.Plants.{AreRowsOf}
 use Rattle.commit_lock.specs.Starting.{IsNew}
 use Rattle.plant_program.specs.Lives.{IsReport}
 use Rattle.plant_program.specs.Jobs.{IsReportOf}
-use Rattle.plant_program.specs.Progress.{GoesOn}
+use Rattle.st_plans.specs.Logs.{IsLegal}
+use Rattle.config.specs.PlanViews.{plan_view}
+use Rattle.plant_words.specs.declared.job.Start.{Start}
+use Rattle.plant_program.specs.Progress.{GoesOn, BeginsAs}
 use Rattle.plant_program.proofs.ProgressLemmas.{run_of}
 use Rattle.plant_program.specs.Settling.{IsSettled, NothingWaits}
 
@@ -21,19 +24,20 @@ settled old new n resources counted same acked none = (
 )
 
 -- a report of a settled life that is the run of a plan over rows, by another name for the plan
-pub reported : {D T E : Type 0} (items : T → List ℕ) (begun : State) (life : CoreView D) (rows : List Latch) (room : ℕ)
-    (here plan : Plan) (r : Result T E) → here ≡ plan
-    → AreRowsOf plan.inputs.items rows → IsNew begun plan room → OnOk r (GoesOn begun life.state rows)
-    → OnOk r (IsSettled life here.resources)
+pub reported : {D T E : Type 0} (items : T → List ℕ) (first : State) (life : CoreView D) (asked : Start)
+    (rows : List Latch) (room : ℕ) (here plan : Plan) (r : Result T E) → here ≡ plan
+    → AreRowsOf plan.inputs.items rows → IsNew first plan room → BeginsAs asked first
+    → OnOk r (GoesOn first life.state rows) → OnOk r (IsSettled life here.resources)
+    → IfOk r (λ t. IsLegal (plan_view life.state.plan) life.state.start life.state.before life.state.log)
     → IfOk r (λ t. IsReport life.state life.acked (length here.programs.items) here.variables.items (items t))
-    → IfOk r (λ t. IsReportOf D plan (items t))
-reported items begun life rows room here plan (Ok t) same are new goes settles reports = record {
+    → IfOk r (λ t. IsReportOf D plan asked (items t))
+reported items first life asked rows room here plan (Ok t) same are new as goes settles legal reports = record {
   life = life;
   rows = rows;
   rows_are = are;
-  run = run_of begun life.state plan rows room new goes;
+  run = run_of first life.state plan asked rows room new as goes legal;
   settled = subst (λ (p : Plan). IsSettled life p.resources) same settles;
   report = subst (λ (p : Plan). IsReport life.state life.acked (length p.programs.items) p.variables.items (items t))
       same reports;
 }
-reported items begun life rows room here plan (Err e) same are new goes settles reports = tt
+reported items first life asked rows room here plan (Err e) same are new as goes settles legal reports = tt

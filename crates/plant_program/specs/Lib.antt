@@ -1,4 +1,4 @@
-pub mod Ends
+pub mod Endings
 pub mod Jobs
 pub mod Lives
 pub mod Progress

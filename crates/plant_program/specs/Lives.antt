@@ -1,11 +1,9 @@
 -- What is told of a life.
 use Rattle.std.specs.Prelude.{◌≡◌, ◌-◌, ◌^◌, ◌<◌, ◌≤◌, ℕ, min, List, Bool, true, false, length, sum, count_by}
 use Rattle.std.specs.Prelude.{slice_index, Option, Some, None}
-use Rattle.st_plans.specs.declared.entry.Entry.{Entry}
-use Rattle.st_plans.specs.declared.entry.Entry.TheVariants.{Row, Done}
 use Rattle.st_types.specs.declared.outcome.Outcome.{Outcome}
 use Rattle.st_types.specs.declared.outcome.Outcome.TheVariants.{Done as Ended, Faulted}
-use Rattle.st_plans.specs.Logs.{outcomes_of}
+use Rattle.st_plans.specs.Logs.{outcomes_of, row_count, done_count}
 use Rattle.st_plans.specs.Due.{HasOverruns}
 use Rattle.st_plans.specs.Plans.{schedules_of}
 use Rattle.config.specs.PlanViews.{plan_view}
@@ -15,26 +13,12 @@ use Rattle.serial_core.specs.Steps.{State, inputs_now, made}
 use Rattle.plant_program.specs.declared.report.Counts.{Counts}
 use Rattle.plant_program.specs.Reports.{report_text}
 
-abbrev pub is_row : Entry → Bool
-is_row (Row row) = true
-is_row (Done a) = false
-
-abbrev pub is_done : Entry → Bool
-is_done (Row row) = false
-is_done (Done a) = true
-
 abbrev pub is_faulted : Option Outcome → Bool
 is_faulted None = false
 is_faulted (Some Ended) = false
 is_faulted (Some (Faulted f)) = true
 
--- how many rows, executions and faulted executions the log has
-abbrev pub row_count : State → ℕ
-row_count state = count_by is_row state.log
-
-abbrev pub done_count : State → ℕ
-done_count state = count_by is_done state.log
-
+-- how many executions of the log ended with a fault
 abbrev pub fault_count : State → ℕ
 fault_count state = count_by is_faulted (outcomes_of (plan_view state.plan) state.start state.log)
 
@@ -54,8 +38,8 @@ pub record HasOverrunsInAll (state : State) (programs n : ℕ) : Type 0 where
 -- the report of a life: its counts, and the values of these variables
 pub record IsReport (state : State) (acked programs : ℕ) (variables : List PlanVariable) (text : List ℕ) : Type 0 where
   pub counts : Counts
-  pub rows : counts.rows ≡ row_count state
-  pub done : counts.done ≡ done_count state
+  pub rows : counts.rows ≡ row_count state.log
+  pub done : counts.done ≡ done_count state.log
   pub faults : counts.faults ≡ fault_count state
   pub overruns : HasOverrunsInAll state programs counts.overruns
   pub acked_are : counts.acked ≡ Some acked

@@ -1,8 +1,20 @@
 -- How a life goes on, and of what it is the run.
-use Rattle.std.specs.Prelude.{◌≡◌, ◌++◌, List}
+use Rattle.std.specs.Prelude.{◌≡◌, ◌++◌, List, Option, None}
 use Rattle.st_plans.specs.Rows.{Latch}
+use Rattle.st_plans.specs.Logs.{IsLegal}
+use Rattle.st_plans.specs.Restarts.{Kept, warm_start}
 use Rattle.config.specs.declared.plan.Plan.{Plan}
+use Rattle.config.specs.PlanViews.{plan_view}
+use Rattle.commit_lock.specs.declared.starting.StartMode.{StartMode}
+use Rattle.commit_lock.specs.declared.starting.StartMode.TheVariants as modes
+use Rattle.plant_words.specs.declared.job.Start.{Start}
+use Rattle.plant_words.specs.declared.job.Start.TheVariants.{Warm, Cold}
 use Rattle.serial_core.specs.Steps.{State, made}
+
+-- the start that the words ask for
+abbrev pub mode_of : Start → StartMode
+mode_of Warm = modes.Warm
+mode_of Cold = modes.Cold
 
 -- the life keeps its plan and its start, and these rows are latched
 pub record GoesOn (old new : State) (rows : List Latch) : Type 0 where
@@ -11,7 +23,17 @@ pub record GoesOn (old new : State) (rows : List Latch) : Type 0 where
   pub before_is : new.before ≡ old.before
   pub rows_are : (made new).rows ≡ (made old).rows ++ rows
 
--- a life of the plan in which these rows are latched, and no others
-pub record IsRunOf (plan : Plan) (rows : List Latch) (life : State) : Type 0 where
+-- A life begins with what some record tells, or with the initial values where there is none. Where a cold start was
+-- asked for it goes on from no record.
+pub record BeginsAs (asked : Start) (life : State) : Type 0 where
+  pub told : Option Kept
+  pub cold : asked ≡ Cold → told ≡ None
+  pub store : life.start ≡ (warm_start (plan_view life.plan) told).store
+  pub moment : life.before ≡ (warm_start (plan_view life.plan) told).moment
+
+-- a legal life of the plan, begun as it was asked for, in which these rows are latched and no others
+pub record IsRunOf (plan : Plan) (asked : Start) (rows : List Latch) (life : State) : Type 0 where
   pub plan_is : life.plan ≡ plan
+  pub begins : BeginsAs asked life
+  pub legal : IsLegal (plan_view life.plan) life.start life.before life.log
   pub rows_are : (made life).rows ≡ rows

@@ -24,6 +24,9 @@ pub enum Fault {
     /// The trace can't be opened, read or written.
     #[error("V6")]
     Trace,
+    /// Out of memory while a trace is read.
+    #[error("V5")]
+    TraceMemory,
     /// No life was started.
     #[error("{0}")]
     Start(StartFault),
@@ -44,7 +47,7 @@ impl Fault {
     {
         match self {
             Fault::Source | Fault::Build(_) => 2,
-            Fault::Plant(_) | Fault::Trace => 3,
+            Fault::Plant(_) | Fault::Trace | Fault::TraceMemory => 3,
             Fault::Start(_) => 4,
             Fault::Refused(_) => 5,
         }

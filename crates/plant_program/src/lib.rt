@@ -5,6 +5,7 @@
 #![tactic(auto)]
 
 mod built_in;
+mod ending;
 mod fault;
 mod files;
 mod first_run;
@@ -18,11 +19,12 @@ mod sizes;
 mod sources;
 mod telling;
 
+pub use ending::{Declined, Ending};
 pub use fault::Fault;
 pub use files::Files;
 pub use first_run::first;
 pub use life::report_of;
-pub use program::plant;
+pub use program::{perform, plant};
 pub use real_files::RealFiles;
 pub use report::{Counts, Findings, write_report};
 pub use running::run_plan;

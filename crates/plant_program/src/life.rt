@@ -1,30 +1,17 @@
 //! What is told of a life.
 
 ghost use Rattle.std.specs.Prelude.{◌≡◌, IfOk, Some, option_map, slice_get, unwrap_or, false, length};
-ghost use Rattle.st_plans.specs.Logs.{outcomes_of};
+ghost use Rattle.st_plans.specs.Logs.{IsLegal, outcomes_of, row_count, done_count};
 ghost use Rattle.config.specs.PlanViews.{plan_view};
-ghost use Rattle.plant_program.specs.Lives.{done_count, fault_count, HasOverrunsInAll, IsReport, is_faulted, is_row};
-ghost use Rattle.plant_program.specs.Lives.{row_count};
+ghost use Rattle.plant_program.specs.Lives.{fault_count, HasOverrunsInAll, IsReport, is_faulted};
 
 use crate::report::{Counts, Findings, write_report};
 use commit_lock::Core;
 use config::Plan;
 use disk::Disk;
-use st_plans::Entry;
 use st_types::Outcome;
 use st_words::{Path, Value};
 use std::alloc::{AllocError, Global};
-
-/// Whether the entry of that number is a row.
-fn is_row_at<D: Disk>(core: &Core<D>, number: usize) -> bool
-    ensures { result ≡ unwrap_or (option_map is_row (slice_get core.now.state.log number)) false }
-{
-    match core.entry(number) {
-        Some(Entry::Row(_)) => true,
-        Some(Entry::Done(_)) => false,
-        None => false,
-    }
-}
 
 /// Whether the execution of that entry ended with a fault.
 fn is_faulted_at<D: Disk>(core: &Core<D>, number: usize) -> bool
@@ -36,19 +23,6 @@ fn is_faulted_at<D: Disk>(core: &Core<D>, number: usize) -> bool
         Some(Outcome::Done) => false,
         None => false,
     }
-}
-
-/// How many rows the log has.
-fn rows<D: Disk>(core: &Core<D>) -> usize
-    ensures { result ≡ row_count core.now.state }
-{
-    let mut rows = 0;
-    for number in 0..core.len() {
-        if is_row_at(core, number) {
-            rows += 1;
-        }
-    }
-    rows
 }
 
 /// How many executions of the log ended with a fault.
@@ -77,13 +51,15 @@ fn overruns<D: Disk>(plan: &Plan, core: &Core<D>) -> u64
 
 /// The counts of a life of the plan.
 fn counts<D: Disk>(plan: &Plan, core: &Core<D>) -> Counts
-    ensures rows { result.rows ≡ row_count core.now.state }
-    ensures done { result.done ≡ done_count core.now.state }
+    ensures rows { result.rows ≡ row_count core.now.state.log }
+    ensures done { result.done ≡ done_count core.now.state.log }
     ensures faults { result.faults ≡ fault_count core.now.state }
     ensures overruns { HasOverrunsInAll core.now.state (length plan.now.programs.items) result.overruns }
     ensures acked { result.acked ≡ Some core.now.acked }
+    ensures legal { IsLegal (plan_view core.now.state.plan) core.now.state.start core.now.state.before
+        core.now.state.log }
 {
-    let rows = rows(core);
+    let rows = core.rows();
     Counts {
         rows: rows as u64,
         done: (core.len() - rows) as u64,
@@ -97,6 +73,8 @@ fn counts<D: Disk>(plan: &Plan, core: &Core<D>) -> Counts
 pub fn report_of<D: Disk>(alloc: Global, plan: &Plan, core: &Core<D>) -> Result<Vec<u8>, AllocError>
     ensures report { IfOk result (λ text.
         IsReport core.now.state core.now.acked (length plan.now.programs.items) plan.now.variables.items text.items) }
+    ensures legal { IsLegal (plan_view core.now.state.plan) core.now.state.start core.now.state.before
+        core.now.state.log }
 {
     let mut report = Vec::new(alloc);
     let counts = counts(plan, core);

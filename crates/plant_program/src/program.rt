@@ -1,9 +1,11 @@
-//! The program, from its words to its exit status.
+//! The program, from its words to how it ends.
 
-ghost use Rattle.std.specs.Prelude.{◌≡◌, ◌≢◌, ◌≤◌, IfOk};
-ghost use Rattle.plant_program.specs.Ends.{end_text};
-ghost use Rattle.plant_program.specs.Jobs.{IsCheck, RunTells, Tells};
+ghost use Rattle.std.specs.Prelude.{◌≡◌, IfOk};
+ghost use Rattle.plant_words.specs.declared.job.Job.{Job};
+ghost use Rattle.plant_program.specs.Endings.{Ends, Performs};
+ghost use Rattle.plant_program.specs.Jobs.{EndsWell};
 
+use crate::ending::{Declined, Ending};
 use crate::fault::Fault;
 use crate::files::Files;
 use crate::first_run::first;
@@ -13,49 +15,69 @@ use crate::sources::plan_of;
 use crate::telling::{End, tell, tell_words};
 use plant_words::{DEFAULT_BUDGET, Job, ReplayJob, RunJob, is_out_of_memory, read_words};
 use std::alloc::Global;
+use std::io;
 use std::io::{Read, Write};
-
-/// The exit status where the standard output can't be written.
-const UNTOLD: u8 = 5;
 
 /// Reads and builds the source, and gives its sizes.
 fn check<F: Files>(alloc: Global, files: &mut F, source: &str) -> Result<End, Fault>
-    ensures told { IfOk result (λ end. IsCheck DEFAULT_BUDGET (end_text end)) }
+    ensures { IfOk result (λ end. EndsWell F.Disk (Job.Check source.now) end) }
 {
     let plan = plan_of(alloc, files, source, DEFAULT_BUDGET)?;
     Ok(End::Report(sizes_of(alloc, &plan)?))
 }
 
+/// Whether the retain file is the source, the plant or the trace, as far as the system tells.
+fn shares_store<F: Files>(files: &mut F, job: &RunJob<'_>) -> bool {
+    if let Some(trace) = job.trace {
+        if files.is_one_file(job.store, trace) {
+            return true;
+        }
+    }
+    files.is_one_file(job.store, job.source) || files.is_one_file(job.store, job.plant)
+}
+
 /// Reads and builds the source, then reads the plant, then opens the store and starts, then runs. This version writes
 /// no trace, and does nothing where one is asked for.
 fn run<F: Files>(alloc: Global, files: &mut F, job: &RunJob<'_>) -> Result<End, Fault>
-    ensures told { IfOk result (λ end. RunTells F.Disk job.now end) }
+    ensures { IfOk result (λ end. EndsWell F.Disk (Job.Run job.now) end) }
 {
     if job.trace.is_some() {
-        return Ok(End::NotYet);
+        return Ok(End::Declined(Declined::NotYet));
+    }
+    if shares_store(files, job) {
+        return Ok(End::Declined(Declined::SharedStore));
     }
     let plan = plan_of(alloc, files, job.source, job.budget)?;
     Ok(End::Report(run_plan(alloc, files, plan, job)?))
 }
 
+/// Why a trace can't be read: V5 out of memory, else V6.
+fn unread(error: &io::Error) -> Fault {
+    if error.kind() == io::ErrorKind::OutOfMemory {
+        return Fault::TraceMemory;
+    }
+    Fault::Trace
+}
+
 /// Reads the trace, then the source. This version goes no further.
 fn replay<F: Files>(alloc: Global, files: &mut F, job: &ReplayJob<'_>) -> Result<End, Fault>
-    ensures { IfOk result (λ end. end ≡ End.NotYet) }
+    ensures { IfOk result (λ end. end ≡ End.Declined Declined.NotYet) }
 {
-    let Some(mut reader) = files.read(job.trace) else {
-        return Err(Fault::Trace);
+    let mut reader = match files.read(job.trace) {
+        Ok(reader) => reader,
+        Err(error) => return Err(unread(&error)),
     };
     let mut trace = Vec::new(alloc);
-    if reader.read_to_end(&mut trace).is_err() {
-        return Err(Fault::Trace);
+    if let Err(error) = reader.read_to_end(&mut trace) {
+        return Err(unread(&error));
     }
     plan_of(alloc, files, job.source, DEFAULT_BUDGET)?;
-    Ok(End::NotYet)
+    Ok(End::Declined(Declined::NotYet))
 }
 
 /// How the job ends.
 fn done<F: Files>(alloc: Global, files: &mut F, job: &Job<'_>) -> Result<End, Fault>
-    ensures { IfOk result (λ end. Tells F.Disk job.now end) }
+    ensures { IfOk result (λ end. EndsWell F.Disk job.now end) }
 {
     match job {
         Job::First => Ok(End::Report(first(alloc)?)),
@@ -65,24 +87,33 @@ fn done<F: Files>(alloc: Global, files: &mut F, job: &Job<'_>) -> Result<End, Fa
     }
 }
 
-/// Does what the words ask, the program's name first, and gives the exit status: 0 done, 1 for words that are refused,
-/// and those of `Fault`. A fault is one line `fault CODE` or `fault CODE at PLACE` on the standard error, and nothing
-/// is on the standard output then.
+/// Does a job. A fault is one line `fault CODE` or `fault CODE at PLACE` on the standard error, and nothing is on the
+/// standard output then.
+pub fn perform<F: Files, O: Write, E: Write>(
+    alloc: Global,
+    job: &Job<'_>,
+    files: &mut F,
+    out: &mut O,
+    err: &mut E,
+) -> Ending
+    ensures { Performs O.contents F.Disk job.now result out.old out.new }
+{
+    tell(done(alloc, files, job), out, err)
+}
+
+/// Does what the words ask, the program's name first.
 pub fn plant<F: Files, O: Write, E: Write>(
     alloc: Global,
     words: &[&str],
     files: &mut F,
     out: &mut O,
     err: &mut E,
-) -> u8
-    ensures known { result ≤ 5 }
-    // A status of 5 may also be that of a standard output that takes no more.
-    ensures silent { result ≢ 0 → result ≢ 5 → out.new ≡ out.old }
+) -> Ending
+    ensures { Ends O.contents F.Disk result out.old out.new }
 {
-    let told = match read_words(alloc, words) {
-        Ok(job) => tell(done(alloc, files, &job), out, err),
+    match read_words(alloc, words) {
+        Ok(job) => perform(alloc, &job, files, out, err),
         Err(refused) if is_out_of_memory(&refused) => tell(Err(Fault::NO_MEMORY), out, err),
         Err(refused) => tell_words(&refused, out, err),
-    };
-    told.unwrap_or(UNTOLD)
+    }
 }

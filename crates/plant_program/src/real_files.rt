@@ -2,9 +2,16 @@
 
 use crate::files::Files;
 use disk::FileDisk;
-use std::fs::File;
+use std::fs::{File, Metadata, OpenOptions};
+use std::io;
+use std::os::unix::fs::MetadataExt;
 
-/// The files of the system.
+/// Whether it is one file of one device.
+fn is_same(one: &Metadata, other: &Metadata) -> bool {
+    one.dev() == other.dev() && one.ino() == other.ino()
+}
+
+/// The files of the system. A retain file is locked as long as its disk is there.
 pub struct RealFiles<'a, R: std::rt::Files<File = File>> {
     rt: &'a R,
 }
@@ -28,8 +35,15 @@ impl<R: std::rt::Files<File = File>> Files for RealFiles<'_, R> {
 
     type Disk = FileDisk<File>;
 
-    fn read(&mut self, name: &str) -> Option<File> {
-        File::open(self.rt, name).ok()
+    fn is_one_file(&mut self, one: &str, other: &str) -> bool {
+        match (self.rt.metadata(one), self.rt.metadata(other)) {
+            (Ok(one), Ok(other)) => is_same(&one, &other),
+            _ => false,
+        }
+    }
+
+    fn read(&mut self, name: &str) -> io::Result<File> {
+        File::open(self.rt, name)
     }
 
     fn create(&mut self, name: &str) -> Option<File> {
@@ -37,7 +51,16 @@ impl<R: std::rt::Files<File = File>> Files for RealFiles<'_, R> {
     }
 
     fn store(&mut self, name: &str) -> Option<FileDisk<File>> {
-        FileDisk::open(self.rt, name).ok()
+        let file = OpenOptions::new()
+            .read(true)
+            .write(true)
+            .create(true)
+            .open(self.rt, name)
+            .ok()?;
+
+        // The system takes the lock back when the file is closed, also of a process that was killed.
+        file.try_lock().ok()?;
+        Some(FileDisk::new(file))
     }
 
     fn back(&mut self, _disk: FileDisk<File>) {}

@@ -5,7 +5,9 @@ ghost use Rattle.image.specs.Plants.{AreRowsOf};
 ghost use Rattle.commit_lock.specs.Starting.{IsNew};
 ghost use Rattle.plant_program.specs.Jobs.{IsReportOf};
 ghost use Rattle.plant_program.specs.Lives.{IsReport};
-ghost use Rattle.plant_program.specs.Progress.{GoesOn};
+ghost use Rattle.st_plans.specs.Logs.{IsLegal};
+ghost use Rattle.config.specs.PlanViews.{plan_view};
+ghost use Rattle.plant_program.specs.Progress.{GoesOn, BeginsAs, mode_of};
 ghost use Rattle.plant_program.specs.Settling.{IsSettled};
 
 use crate::fault::Fault;
@@ -21,9 +23,18 @@ use retain_store::StoreFault;
 use st_plans::Row;
 use st_words::limits::MAX_LOG_ROOM;
 use std::alloc::Global;
+use std::io;
 use std::sync::Arc;
 
-/// The rows of the plant of that name; I5 where it can't be opened.
+/// Why a plant can't be opened: I6 out of memory, else I5.
+fn unopened(error: &io::Error) -> PlantError {
+    if error.kind() == io::ErrorKind::OutOfMemory {
+        return PlantError::NoMemory;
+    }
+    PlantError::Reading
+}
+
+/// The rows of the plant of that name.
 fn read_rows<F: Files>(
     alloc: Global,
     files: &mut F,
@@ -32,13 +43,16 @@ fn read_rows<F: Files>(
 ) -> Result<Vec<Row>, Fault>
     ensures { IfOk result (λ rows. AreRowsOf plan.now.inputs.items rows.items) }
 {
-    let Some(reader) = files.read(name) else {
-        return Err(Fault::Plant(PlantError::Reading));
+    let reader = match files.read(name) {
+        Ok(reader) => reader,
+        Err(error) => return Err(Fault::Plant(unopened(&error))),
     };
     Ok(read_plant(alloc, reader, plan)?)
 }
 
-fn mode(start: Start) -> StartMode {
+fn mode(start: Start) -> StartMode
+    ensures { result ≡ mode_of start }
+{
     match start {
         Start::Warm => StartMode::Warm,
         Start::Cold => StartMode::Cold,
@@ -53,7 +67,8 @@ fn start<F: Files>(
     store: &str,
     start: Start,
 ) -> Result<Core<F::Disk>, Fault>
-    ensures { IfOk result (λ core. IsNew core.state plan.value MAX_LOG_ROOM) }
+    ensures new { IfOk result (λ core. IsNew core.state plan.value MAX_LOG_ROOM) }
+    ensures begins { IfOk result (λ core. BeginsAs start core.state) }
 {
     let Some(disk) = files.store(store) else {
         return Err(Fault::Start(StartFault::Store(StoreFault::Device)));
@@ -101,6 +116,8 @@ fn served<D: Disk>(
     ensures goes_on { OnOk result (GoesOn core.old.state core.new.state rows.items) }
     ensures report { IfOk result (λ text.
         IsReport core.new.state core.new.acked (length plan.now.programs.items) plan.now.variables.items text.items) }
+    ensures legal { IfOk result (λ _.
+        IsLegal (plan_view core.new.state.plan) core.new.state.start core.new.state.before core.new.state.log) }
 {
     run_rows(alloc, core, plan.resources(), pace, rows)?;
     Ok(report_of(alloc, plan, core)?)
@@ -114,9 +131,9 @@ pub fn run_plan<F: Files>(
     plan: Plan,
     job: &RunJob<'_>,
 ) -> Result<Vec<u8>, Fault>
-    // The report is that of a life of the plan in which the rows of a plant are latched, nothing waits and all is
-    // acknowledged.
-    ensures report { IfOk result (λ text. IsReportOf F.Disk plan text.items) }
+    // The report is that of a legal life of the plan, begun as it was asked for, in which the rows of a plant are
+    // latched, nothing waits and all is acknowledged.
+    ensures report { IfOk result (λ text. IsReportOf F.Disk plan job.start text.items) }
 {
     let rows = read_rows(alloc, files, job.plant, &plan)?;
     let Ok(plan) = Arc::new(alloc, plan) else {

@@ -1,22 +1,34 @@
 //! Sources.
 
 ghost use Rattle.std.specs.Prelude.{◌≡◌, List, ℕ, IfOk, IfErr};
-ghost use Rattle.plant_program.specs.Jobs.{IsPlanIn, RefusesSource};
+ghost use Rattle.plant_program.specs.Jobs.{IsPlanIn, IsUnread, RefusesSource};
 
 use crate::fault::Fault;
 use crate::files::Files;
 use config::Plan;
-use st_build::build;
+use st_build::{BuildError, build};
 use st_words::limits::MAX_SOURCE_BYTES;
 use std::alloc::Global;
+use std::io;
 use std::io::Read;
 
-/// The bytes of a source, as far as its limit and one more; X1 where the file can't be read.
-fn read_source<F: Files>(alloc: Global, files: &mut F, name: &str) -> Result<Vec<u8>, Fault>
-    ensures { IfErr result (λ fault. fault ≡ Fault.Source) }
+/// Why a source can't be read: G9 out of memory, else X1.
+fn unread(error: &io::Error) -> Fault
+    ensures { IsUnread result }
 {
-    let Some(reader) = files.read(name) else {
-        return Err(Fault::Source);
+    if error.kind() == io::ErrorKind::OutOfMemory {
+        return Fault::Build(BuildError::Memory);
+    }
+    Fault::Source
+}
+
+/// The bytes of a source, as far as its limit and one more.
+fn read_source<F: Files>(alloc: Global, files: &mut F, name: &str) -> Result<Vec<u8>, Fault>
+    ensures { IfErr result IsUnread }
+{
+    let reader = match files.read(name) {
+        Ok(reader) => reader,
+        Err(error) => return Err(unread(&error)),
     };
     let mut text = Vec::new(alloc);
     match reader
@@ -24,7 +36,7 @@ fn read_source<F: Files>(alloc: Global, files: &mut F, name: &str) -> Result<Vec
         .read_to_end(&mut text)
     {
         Ok(_) => Ok(text),
-        Err(_) => Err(Fault::Source),
+        Err(error) => Err(unread(&error)),
     }
 }
 

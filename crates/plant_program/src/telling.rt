@@ -1,72 +1,78 @@
-//! What the program tells, and its exit status.
+//! What the program tells.
 
-ghost use Rattle.std.specs.Prelude.{◌≡◌, ◌≢◌, ◌≤◌, Ok, IfOk, IfErr, OnOk};
+ghost use Rattle.std.specs.Prelude.{◌≡◌, OnOk};
 ghost use Rattle.std.specs.Io.KnownBytes.{Appends};
-ghost use Rattle.plant_program.specs.Statuses.{status_of};
-ghost use Rattle.plant_program.specs.Ends.{end_status, end_text};
+ghost use Rattle.plant_program.specs.Endings.{IsTold, IsAboutWords};
 
+use crate::ending::{Declined, Ending};
 use crate::fault::Fault;
 use plant_words::WordsError;
 use std::io;
 use std::io::Write;
-
-/// The exit status where the words are refused, or ask for what this version can't do.
-const REFUSED: u8 = 1;
 
 /// How a job ends well.
 #[derive(Drop)]
 pub(crate) enum End {
     /// With this text for the standard output.
     Report(Vec<u8>),
-    /// This version can't do it.
-    NotYet,
+    /// It isn't begun.
+    Declined(Declined),
 }
 
-/// Tells how a job ended, and gives the exit status; an error is that of the standard output. A status stands even
-/// where its line on the standard error can't be written.
+/// Puts a text on the standard output.
+fn print<O: Write>(out: &mut O, text: &[u8]) -> io::Result<()>
+    ensures { OnOk result (Appends (O.contents out.old) (O.contents out.new) text.now) }
+{
+    out.write_all(text)?;
+    out.flush()
+}
+
+/// Tells how a job ended: its text on the standard output, or one line on the standard error. An ending stands even
+/// where its line can't be written.
 pub(crate) fn tell<O: Write, E: Write>(
     end: Result<End, Fault>,
     out: &mut O,
     err: &mut E,
-) -> io::Result<u8>
-    ensures status { IfErr end (λ fault. result ≡ Ok (status_of fault)) }
-    ensures silent { IfOk result (λ status. status ≢ 0 → out.new ≡ out.old) }
-    ensures done { IfOk end (λ end. IfOk result (λ status. status ≡ end_status end)) }
-    ensures report { IfOk end (λ end. OnOk result (Appends (O.contents out.old) (O.contents out.new) (end_text end))) }
+) -> Ending
+    ensures { IsTold O.contents end result out.old out.new }
 {
     match end {
-        Ok(End::Report(report)) => {
-            out.write_all(&report)?;
-            out.flush()?;
-            Ok(0)
-        }
-        Ok(End::NotYet) => {
-            let _ = writeln!(err, "this version of plant can't do this yet");
-            Ok(REFUSED)
+        Ok(End::Report(report)) => match print(out, &report) {
+            Ok(()) => Ending::Done,
+            Err(_) => Ending::Untold,
+        },
+        Ok(End::Declined(why)) => {
+            let _ = writeln!(err, "{why}");
+            Ending::Declined(why)
         }
         Err(fault) => {
             let _ = writeln!(err, "fault {fault}");
-            Ok(fault.status())
+            Ending::Fault(fault)
         }
     }
 }
 
-/// Tells why the words are refused, or the help that they ask for, and gives the exit status; an error is that of the
-/// standard output.
+/// Puts a help text on the standard output.
+fn print_help<O: Write>(out: &mut O, help: &WordsError) -> io::Result<()> {
+    write!(out, "{help}")?;
+    out.flush()
+}
+
+/// Tells why the words are refused, or the help that they ask for.
 pub(crate) fn tell_words<O: Write, E: Write>(
     refused: &WordsError,
     out: &mut O,
     err: &mut E,
-) -> io::Result<u8>
-    ensures known { IfOk result (λ status. status ≤ 1) }
-    ensures silent { IfOk result (λ status. status ≢ 0 → out.new ≡ out.old) }
+) -> Ending
+    ensures known { IsAboutWords result }
+    ensures silent { result ≡ Ending.Misworded → out.new ≡ out.old }
 {
     if refused.use_stderr() {
         let _ = write!(err, "{refused}");
-        Ok(REFUSED)
-    } else {
-        write!(out, "{refused}")?;
-        out.flush()?;
-        Ok(0)
+        return Ending::Misworded;
+    }
+    match print_help(out, refused) {
+        Ok(()) => Ending::Helped,
+        Err(_) => Ending::Untold,
     }
 }

@@ -1,5 +1,7 @@
 //! What a command line asks for.
 
+ghost use Rattle.std.specs.Prelude.{◌≡◌};
+
 /// How a life starts.
 #[derive(Clone, Copy, Debug, PartialEq, Eq)]
 pub enum Start {
@@ -29,6 +31,21 @@ pub struct RunJob<'a> {
     pub budget: u32,
     pub pace: Pace,
     pub trace: Option<&'a str>,
+}
+
+impl RunJob<'_> {
+    ghost use Rattle.plant_words.specs.Jobs.{has_own_store};
+
+    /// Whether the retain file is, by its name, no other file of the run.
+    pub fn has_own_store(&self) -> bool
+        ensures { result ≡ has_own_store self.now }
+    {
+        let is_trace = match self.trace {
+            Some(trace) => trace == self.store,
+            None => false,
+        };
+        self.store != self.source && self.store != self.plant && !is_trace
+    }
 }
 
 /// The run of a trace again.

@@ -1,7 +1,8 @@
 //! Reading a command line.
 
-ghost use Rattle.std.specs.Prelude.{◌≡◌, ◌↔◌, IsTrue};
+ghost use Rattle.std.specs.Prelude.{◌≡◌, ◌↔◌, IsTrue, IfOk};
 ghost use Rattle.clap.specs.Words.{kind_of};
+ghost use Rattle.plant_words.specs.Jobs.{IsSafe};
 
 use crate::command::command;
 use crate::job::{Job, Pace, ReplayJob, RunJob, Start};
@@ -61,12 +62,27 @@ fn chosen<'a>(name: &str, given: &ArgMatches<'a>) -> Option<Job<'a>> {
     }
 }
 
-/// The refusal of what clap takes and `plant` does not: a budget with a sign.
-fn signed(alloc: Global) -> Result<Error, AllocError> {
-    command(alloc)?.error(
-        ErrorKind::ValueValidation,
-        "invalid value for '--budget <N>': a whole number of 32 bits without a sign is wanted",
-    )
+/// What is told of a budget with a sign, which clap takes.
+const SIGNED: &str =
+    "invalid value for '--budget <N>': a whole number of 32 bits without a sign is wanted";
+
+/// What is told of a retain file that is another file of the run.
+const SHARED_STORE: &str =
+    "invalid value for '--store <F>': it names the source, the plant or the trace";
+
+/// The refusal of what clap takes and `plant` does not.
+fn refusal(alloc: Global, text: &str) -> Result<Error, AllocError> {
+    command(alloc)?.error(ErrorKind::ValueValidation, text)
+}
+
+/// A job that writes over no file which it reads.
+fn safe<'a>(alloc: Global, job: Job<'a>) -> Result<Job<'a>, Error>
+    ensures { IfOk result (λ job. IsSafe job) }
+{
+    match job {
+        Job::Run(run) if !run.has_own_store() => Err(refusal(alloc, SHARED_STORE)?),
+        job => Ok(job),
+    }
 }
 
 /// Whether memory ran out while the words were read.
@@ -77,15 +93,17 @@ pub fn is_out_of_memory(error: &WordsError) -> bool
 }
 
 /// Reads the words, the program's name first. A refusal shows as the text for the user; one that asks for help is for
-/// the standard output.
-pub fn read_words<'a>(alloc: Global, words: &'a [&'a str]) -> Result<Job<'a>, Error> {
+/// the standard output. A retain file that has the name of another file of the run is refused.
+pub fn read_words<'a>(alloc: Global, words: &'a [&'a str]) -> Result<Job<'a>, Error>
+    ensures { IfOk result (λ job. IsSafe job) }
+{
     let matches = command(alloc)?.try_get_matches_from(words)?;
     let job = match matches.subcommand() {
         Some((name, given)) => chosen(name, given),
         None => None,
     };
     match job {
-        Some(job) => Ok(job),
-        None => Err(signed(alloc)?),
+        Some(job) => safe(alloc, job),
+        None => Err(refusal(alloc, SIGNED)?),
     }
 }

@@ -1,7 +1,7 @@
 //! The ready list.
 
 ghost use Rattle.std.specs.Prelude.{◌≡◌, ◌+◌, ◌≤◌, ◌<◌, ◌^◌, ◌↔◌, ℕ, IsTrue, Some, None, false, if◌then◌else◌, length};
-ghost use Rattle.std.specs.Prelude.{IfOk, MatchOption, All};
+ghost use Rattle.std.specs.Prelude.{IfOk, MatchBool, MatchOption, All};
 ghost use Rattle.st_words.specs.declared.limits.TheConstants.{MOMENT_LIMIT};
 ghost use Rattle.st_plans.specs.Due.{History, Waits, NoneWaits, IsBest, HasOverruns, with_row, no_history};
 ghost use Rattle.st_plans.specs.Plans.{schedules_of as schedules_in};
@@ -160,6 +160,17 @@ impl ReadyList {
             → MatchOption result (NoneWaits self.now.schedules h resource) (IsBest self.now.schedules h resource) }
     {
         first_of(&self.schedules, &self.standings, resource)
+    }
+
+    /// Whether something of the resource waits. It takes no memory.
+    pub fn waits_on(&self, resource: usize) -> bool
+        ensures { (h : History) → IsReadyOf h self.now
+            → MatchBool result (NoneWaits self.now.schedules h resource → ⊥) (NoneWaits self.now.schedules h resource) }
+    {
+        match self.best(resource) {
+            Some(_) => true,
+            None => false,
+        }
     }
 
     /// Whether the activation waits.

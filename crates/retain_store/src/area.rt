@@ -1,6 +1,6 @@
 //! The two areas of a file, and the device steps of a save.
 
-ghost use Rattle.std.specs.Prelude.{◌≡◌, ◌+◌, ◌-◌, ◌<◌, ◌^◌, Some, length, drop, OnOk};
+ghost use Rattle.std.specs.Prelude.{◌≡◌, ◌+◌, ◌-◌, ◌<◌, ◌≤◌, ◌^◌, Some, length, drop, OnOk, IsOk};
 ghost use Rattle.disk.specs.Disk.{Only, Counts, Torn, overwritten};
 ghost use Rattle.disk.specs.Runs.{LeavesOnly};
 ghost use Rattle.retain_store.specs.declared.format.TheConstants.{HEADER_BYTES};
@@ -94,6 +94,9 @@ impl Areas {
 pub(crate) fn write_synced<D: Disk>(disk: &mut D, at: u64, bytes: &[u8]) -> Result<(), DiskError>
     requires synced { D.tells → Only (D.seen disk.old) (D.may_leave disk.old) }
 
+    // On a disk that serves a whole file a write within it succeeds.
+    ensures serves { D.serves disk.old FILE_BYTES → at + length bytes.now ≤ FILE_BYTES
+        → IsOk result × D.serves disk.new FILE_BYTES }
     ensures written { D.tells → OnOk result (D.seen disk.new ≡ overwritten (D.seen disk.old) at bytes.now) }
     ensures synced { D.tells → OnOk result (Only (D.seen disk.new) (D.may_leave disk.new)) }
 
@@ -113,6 +116,7 @@ pub(crate) fn close<D: Disk>(disk: &mut D, at: u64) -> Result<(), DiskError>
     requires open { D.tells → IsOpen at (D.seen disk.old) }
     requires synced { D.tells → Only (D.seen disk.old) (D.may_leave disk.old) }
 
+    ensures serves { D.serves disk.old FILE_BYTES → IsOk result × D.serves disk.new FILE_BYTES }
     ensures closed { D.tells → OnOk result (IsClosedNow at (D.seen disk.old) (D.seen disk.new)) }
     ensures synced { D.tells → OnOk result (Only (D.seen disk.new) (D.may_leave disk.new)) }
 
@@ -130,6 +134,8 @@ fn write_behind<D: Disk>(disk: &mut D, at: u64, frame: &[u8]) -> Result<(), Disk
     requires half { IsHalf at }
     requires synced { D.tells → Only (D.seen disk.old) (D.may_leave disk.old) }
 
+    ensures serves { D.serves disk.old FILE_BYTES → at + 1 + length frame.now ≤ FILE_BYTES
+        → IsOk result × D.serves disk.new FILE_BYTES }
     ensures written { D.tells →
         OnOk result (D.seen disk.new ≡ overwritten (D.seen disk.old) (at + 1) frame.now) }
     ensures synced { D.tells → OnOk result (Only (D.seen disk.new) (D.may_leave disk.new)) }
@@ -153,6 +159,7 @@ pub(crate) fn fill<D: Disk>(
     requires shut { D.tells → IsShut at (D.seen disk.old) }
     requires synced { D.tells → Only (D.seen disk.old) (D.may_leave disk.old) }
 
+    ensures serves { D.serves disk.old FILE_BYTES → IsOk result × D.serves disk.new FILE_BYTES }
     ensures saved { D.tells → OnOk result ((content : Content) → decoded (drop HEADER_BYTES frame.now) ≡ Some content
         → IsSaved generation at content (D.seen disk.old) (D.seen disk.new)) }
     ensures synced { D.tells → OnOk result (Only (D.seen disk.new) (D.may_leave disk.new)) }
@@ -182,6 +189,7 @@ pub(crate) fn write_frame<D: Disk>(
     requires gate { D.tells → GateIs gate at (D.seen disk.old) }
     requires synced { D.tells → Only (D.seen disk.old) (D.may_leave disk.old) }
 
+    ensures serves { D.serves disk.old FILE_BYTES → IsOk result × D.serves disk.new FILE_BYTES }
     ensures saved { D.tells → OnOk result ((content : Content) → decoded (drop HEADER_BYTES frame.now) ≡ Some content
         → IsSaved generation at content (D.seen disk.old) (D.seen disk.new)) }
     ensures synced { D.tells → OnOk result (Only (D.seen disk.new) (D.may_leave disk.new)) }
@@ -211,6 +219,7 @@ pub(crate) fn format<D: Disk>(disk: &mut D, zeros: &[u8]) -> Result<(), DiskErro
     requires short { D.tells → length (D.seen disk.old) < FILE_BYTES }
     requires synced { D.tells → Only (D.seen disk.old) (D.may_leave disk.old) }
 
+    ensures serves { D.serves disk.old FILE_BYTES → IsOk result × D.serves disk.new FILE_BYTES }
     ensures empty { D.tells → OnOk result (IsEmpty (D.seen disk.new)) }
     ensures synced { D.tells → OnOk result (Only (D.seen disk.new) (D.may_leave disk.new)) }
 

@@ -1,6 +1,6 @@
 //! The device steps of opening a store.
 
-ghost use Rattle.std.specs.Prelude.{◌≡◌, ◌-◌, length, take, IfOk, IfErr, OnOk, MatchResult};
+ghost use Rattle.std.specs.Prelude.{◌≡◌, ◌≢◌, ◌-◌, length, take, IfOk, IfErr, IsOk, OnOk, MatchResult};
 ghost use Rattle.disk.specs.Disk.{Only, Counts};
 ghost use Rattle.disk.specs.Runs.{LeavesOnly};
 ghost use Rattle.retain_store.specs.Recovered.{recovered};
@@ -19,6 +19,8 @@ use disk::{Disk, DiskError};
 
 /// Syncs the file, and tells its length.
 fn synced_len<D: Disk>(disk: &mut D) -> Result<u64, DiskError>
+    // On a disk that serves a whole file it succeeds.
+    ensures serves { D.serves disk.old FILE_BYTES → IsOk result × D.serves disk.new FILE_BYTES }
     ensures len { D.tells → IfOk result (λ n. n ≡ length (D.seen disk.old)) }
     ensures seen { D.tells → D.seen disk.new ≡ D.seen disk.old }
     ensures synced { D.tells → OnOk result (Only (D.seen disk.new) (D.may_leave disk.new)) }
@@ -39,6 +41,7 @@ fn read_areas<D: Disk>(disk: &mut D, file: &mut [u8]) -> Result<(), DiskError>
     requires whole { D.tells → length (D.seen disk.old) ≡ FILE_BYTES }
     requires synced { D.tells → Only (D.seen disk.old) (D.may_leave disk.old) }
 
+    ensures serves { D.tells → D.serves disk.old FILE_BYTES → IsOk result × D.serves disk.new FILE_BYTES }
     ensures length { length file.new ≡ FILE_BYTES }
     ensures value { D.tells → OnOk result (file.new ≡ D.seen disk.old) }
     ensures seen { D.tells → D.seen disk.new ≡ D.seen disk.old }
@@ -70,6 +73,11 @@ fn load<D: Disk>(disk: &mut D, file: &mut [u8]) -> Result<Loaded, StoreFault>
     requires zeros { IsZeros (take (FILE_BYTES - 1) file.old) }
 
     ensures length { length file.new ≡ FILE_BYTES }
+
+    // A disk that serves a whole file is not at fault.
+    ensures serves { D.tells → D.serves disk.old FILE_BYTES
+        → IfErr result (λ fault. fault ≢ StoreFault.Device) × D.serves disk.new FILE_BYTES }
+
     ensures found { D.tells → IfOk result (λ loaded. IsLoaded loaded file.new (D.seen disk.old) (D.seen disk.new)) }
     ensures synced { D.tells → OnOk result (Only (D.seen disk.new) (D.may_leave disk.new)) }
     ensures faults { IfErr result IsOfFile }
@@ -104,6 +112,10 @@ pub(crate) fn recover<D: Disk>(
 ) -> Result<Areas, StoreFault>
     requires room { length file.old ≡ FILE_BYTES }
     requires zeros { IsZeros (take (FILE_BYTES - 1) file.old) }
+
+    // A disk that serves a whole file is not at fault.
+    ensures serves { D.tells → D.serves disk.old FILE_BYTES
+        → IfErr result (λ fault. fault ≢ StoreFault.Device) × D.serves disk.new FILE_BYTES }
 
     ensures found { D.tells → IfOk result (λ areas. held areas.generation last.new ≡ recovered (D.seen disk.old)) }
     ensures kept { D.tells

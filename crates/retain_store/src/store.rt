@@ -136,6 +136,11 @@ impl<D: Disk> Store<D> {
         ensures device { MatchResult result
             (λ store. D.failure_count store.disk ≡ D.failure_count disk)
             (λ e. CountsFault e.0 (D.failure_count disk) (D.failure_count e.1)) }
+
+        // S3 does not come from a disk that serves a whole file.
+        ensures serves { D.tells → D.serves disk FILE_BYTES → MatchResult result
+            (λ store. D.serves store.disk FILE_BYTES)
+            (λ e. (e.0 ≢ StoreFault.Device) × D.serves e.1 FILE_BYTES) }
         ensures faults { IfErr result (λ e. (e.0 ≢ StoreFault.Generations) × (e.0 ≢ StoreFault.Failed)) }
         ensures memory { IfErr result (λ e. e.0 ≡ StoreFault.NoMemory → e.1 ≡ disk) }
 
@@ -216,6 +221,10 @@ impl<D: Disk> Store<D> {
         ensures device { MatchResult result
             (λ _. D.failure_count self.new.disk ≡ D.failure_count self.old.disk)
             (λ fault. CountsFault fault (D.failure_count self.old.disk) (D.failure_count self.new.disk)) }
+
+        // S3 does not come from a disk that serves a whole file.
+        ensures serves { D.serves self.old.disk FILE_BYTES
+            → IfErr result (λ fault. fault ≢ StoreFault.Device) × D.serves self.new.disk FILE_BYTES }
         ensures again { IsErrOf result StoreFault.Failed ↔ (self.old.failed ≡ true) }
 
         // S4 and S6 come before any call of the disk.

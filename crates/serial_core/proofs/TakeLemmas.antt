@@ -1,6 +1,7 @@
 -- What is taken from a core.
 use Rattle.std.proofs.Common.{◌≡◌, ℕ, suc, ◌<◌, nat_lt, Bool, true, List, [], ◌∷◌, ◌++◌, length, map, Option, Some}
 use Rattle.std.proofs.Common.{None, option_map, slice_get, slice_index, refl, sym, ap, subst, ◌∙◌, arith}
+use Rattle.std.specs.Prelude.{MatchBool}
 use Rattle.std.specs.List.{list_all}
 use Rattle.std.proofs.lemmas.Bool.Decides.{nat_tests}
 use Rattle.std.proofs.lemmas.List.{length-map}
@@ -40,6 +41,18 @@ module _ {plan : Plan} {start values : List Datum} {before : Option ℕ} {sample
   NoneWaits-best resource none =
       subst (λ ps. NoneWaits ps (past_of (plan_view plan) (store_in plan start) log).history resource) kept.schedules
       (none _ kept.of_past.ready_is)
+
+  pub waits_best : (r : Bool) (resource : ℕ)
+      → ((h : History) → IsReadyOf h ready → MatchBool r (NoneWaits ready.schedules h resource → ⊥)
+      (NoneWaits ready.schedules h resource))
+      → MatchBool r (NoneWaits (schedules_of (plan_view plan))
+      (past_of (plan_view plan) (store_in plan start) log).history resource → ⊥)
+      (NoneWaits (schedules_of (plan_view plan)) (past_of (plan_view plan) (store_in plan start) log).history resource)
+  waits_best r resource tells =
+      subst (λ ps. MatchBool r
+      (NoneWaits ps (past_of (plan_view plan) (store_in plan start) log).history resource → ⊥)
+      (NoneWaits ps (past_of (plan_view plan) (store_in plan start) log).history resource)) kept.schedules
+      (tells _ kept.of_past.ready_is)
 
   pub IsBest-best : (resource : ℕ) (a : Activation)
       → ((h : History) → IsReadyOf h ready → IsBest ready.schedules h resource a)

@@ -1,13 +1,13 @@
 //! What a core tells.
 
-ghost use Rattle.std.specs.Prelude.{◌≡◌, ◌<◌, ◌≤◌, option_map, option_and_then, slice_get, length, Some, None};
+ghost use Rattle.std.specs.Prelude.{◌≡◌, ◌<◌, ◌≤◌, option_map, option_and_then, slice_get, length, Some, None, MatchBool};
 ghost use Rattle.st_plans.specs.Due.{HasOverruns};
 ghost use Rattle.st_plans.specs.Logs.{IsLegal, outcomes_of};
 ghost use Rattle.st_plans.specs.Plans.{schedules_of, initial_value};
 ghost use Rattle.st_types.specs.Scopes.{seen};
 ghost use Rattle.st_types.specs.Stores.{get};
 ghost use Rattle.config.specs.PlanViews.{plan_view};
-ghost use Rattle.serial_core.specs.Steps.{made, first_image, last_image, inputs_now};
+ghost use Rattle.serial_core.specs.Steps.{made, none_waits, first_image, last_image, inputs_now};
 
 use crate::lookup::{input_at, variable_at};
 use crate::rows::row_of;
@@ -43,6 +43,20 @@ impl SerialCore {
         ensures legal { IsLegal (plan_view self.now.plan) self.now.start self.now.before self.now.log }
     {
         self.log.len()
+    }
+
+    /// How many rows were latched.
+    pub fn rows(&self) -> usize
+        ensures { result ≡ length (made self.now).rows }
+    {
+        self.rows.len()
+    }
+
+    /// Whether something of the resource waits. It takes no memory.
+    pub fn waits_on(&self, resource: usize) -> bool
+        ensures { MatchBool result (none_waits self.now resource → ⊥) (none_waits self.now resource) }
+    {
+        self.ready.waits_on(resource)
     }
 
     /// The entry of a number from 0; none where the log has no such entry.

@@ -1,6 +1,6 @@
 -- What a log makes of the variables, and what it may hold.
 use Rattle.std.specs.Prelude.{◌≡◌, ℕ, nat_lt, Bool, true, List, [], ◌∷◌, ◌++◌, fold, slice_index_or, Option, Some, None}
-use Rattle.std.specs.Prelude.{option_map}
+use Rattle.std.specs.Prelude.{option_map, false, count_by}
 use Rattle.st_plans.specs.declared.entry.Entry.{Entry}
 use Rattle.st_plans.specs.declared.entry.Entry.TheVariants.{Row, Done}
 use Rattle.st_plans.specs.Rows.{Latch}
@@ -12,6 +12,21 @@ use Rattle.st_plans.specs.Due.{History, no_history, with_row, with_run, Waits}
 
 abbrev pub Log : Type 0
 Log = List Entry
+
+-- how many rows a log has, and how many executions
+abbrev pub is_row : Entry → Bool
+is_row (Row row) = true
+is_row (Done a) = false
+
+abbrev pub is_done : Entry → Bool
+is_done (Row row) = false
+is_done (Done a) = true
+
+abbrev pub row_count : Log → ℕ
+row_count log = count_by is_row log
+
+abbrev pub done_count : Log → ℕ
+done_count log = count_by is_done log
 
 -- the rows so far, when programs were due and served, and the variables
 pub record Past : Type 0 where

@@ -7,9 +7,10 @@ ghost use Rattle.st_plans.specs.declared.plan.Schedule.{Schedule};
 ghost use Rattle.st_plans.specs.Plans.{Plan};
 ghost use Rattle.st_plans.specs.Due.{History, due, served, Waits, IsBest, NoneWaits, HasOverruns, no_history, with_row};
 ghost use Rattle.st_plans.specs.Due.{with_run};
-ghost use Rattle.st_plans.specs.declared.entry.Entry.TheVariants.{Done};
+ghost use Rattle.st_plans.specs.declared.entry.Entry.TheVariants.{Row, Done};
+ghost use Rattle.st_plans.specs.Rows.{Latch};
 ghost use Rattle.st_plans.specs.declared.entry.Activation.{Activation};
-ghost use Rattle.st_plans.specs.Logs.{Log, IsLegal, past_of, with_entry};
+ghost use Rattle.st_plans.specs.Logs.{Log, IsLegal, past_of, with_entry, row_count, done_count};
 ghost use Rattle.st_plans.specs.Examples.{every, rows_at, dues, three_programs, four_rows, of, ran_3, ran_3_1, ran_all};
 
 /// A program every 10 ms is due at the first row, and where a further whole interval has gone by since then.
@@ -96,6 +97,20 @@ pub fn overruns_are_rows_that_meet_a_waiting_program()
 pub fn logs_grow_by_one_step()
     ensures { (plan : Plan) (start : Store) (log : List Entry) (e : Entry)
         → past_of plan start (log ++ e ∷ []) ≡ with_entry plan (past_of plan start log) e }
+{}
+
+/// Each entry of a log is a row or a Done. What the log makes has as many rows, and as many Dones served. One entry more
+/// counts as what it is.
+pub fn entries_are_counted()
+    ensures each { (log : Log) → row_count log + done_count log ≡ length log }
+    ensures rows { (plan : Plan) (start : Store) (log : Log)
+        → length (past_of plan start log).rows ≡ row_count log }
+    ensures dones { (plan : Plan) (start : Store) (log : Log)
+        → length (past_of plan start log).history.runs ≡ done_count log }
+    ensures row_more { (log : Log) (row : Latch) → row_count (log ++ Row row ∷ []) ≡ row_count log + 1 }
+    ensures row_is_no_done { (log : Log) (row : Latch) → done_count (log ++ Row row ∷ []) ≡ done_count log }
+    ensures done_more { (log : Log) (a : Activation) → done_count (log ++ Done a ∷ []) ≡ done_count log + 1 }
+    ensures done_is_no_row { (log : Log) (a : Activation) → row_count (log ++ Done a ∷ []) ≡ row_count log }
 {}
 
 /// A legal log has an activation's Done at most once, whatever stands before, between and after.

@@ -1,10 +1,18 @@
-use Rattle.std.proofs.Common.{arith}
-use Rattle.plant_program.proofs.CountLemmas.{rows_and_dones}
+use Rattle.std.proofs.Common.{◌∙◌, arith}
+use Rattle.config.specs.PlanViews.{plan_view}
+use Rattle.st_plans.proofs.CountLemmas.{each_counted, rows_counted}
 use Rattle.plant_program.proofs.life.counts.Goals as goal
+
+pub returns-clause-rows : goal.returns-clause-rows
+returns-clause-rows g c =
+    let state = c.args.core.now.state in
+    c.rows-rows.ensures ∙ rows_counted (plan_view state.plan) state.start state.log
 
 pub returns-clause-done : goal.returns-clause-done
 returns-clause-done g c =
-    let all = rows_and_dones c.args.core.now.state.log in
+    let state = c.args.core.now.state in
+    let all = each_counted state.log in
+    let rows = rows_counted (plan_view state.plan) state.start state.log in
+    let made = c.rows-rows.ensures in
     let len = c.len.ensures.len in
-    let rows = c.rows-rows.ensures in
     omega arith

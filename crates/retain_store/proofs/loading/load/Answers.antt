@@ -62,3 +62,14 @@ returns-clause-found g c = λ tells. (
 pub returns-then-len-2-clause-found : goal.returns-then-len-2-clause-found
 returns-then-len-2-clause-found g c =
     λ tells. (omega (arith, c.in_ok-len.ensures.len tells), c.in_ok-format.ensures.empty tells)
+
+pub returns-then-len-clause-serves : goal.returns-then-len-clause-serves
+returns-then-len-clause-serves g c = λ tells serving. (λ is. absurd (cc), (c.synced_len.ensures.serves serving).1)
+
+pub returns-then-len-2-clause-serves : goal.returns-then-len-2-clause-serves
+returns-then-len-2-clause-serves g c = λ tells serving.
+    (tt, (c.format.ensures.serves (c.synced_len.ensures.serves serving).1).1)
+
+pub returns-clause-serves : goal.returns-clause-serves
+returns-clause-serves g c = λ tells serving.
+    (tt, (c.read_areas.ensures.serves tells (c.synced_len.ensures.serves serving).1).1)

@@ -66,3 +66,7 @@ returns-in-Some-clause-kept g c = λ tells.
     (λ (l : Loaded). IsLoaded l c.load.new.file (g.D.Disk.seen c.args.disk.now) (g.D.Disk.seen c.load.new.disk))
     c.in-Ok-Whole.field-0-is (c.in-Ok-Whole.ensures.found tells) in
     keeps_record _ _ _ whole.2
+
+pub returns-in-None-clause-serves : goal.returns-in-None-clause-serves
+returns-in-None-clause-serves g c = λ tells serving.
+    (λ is. absurd (cc), (c.in-Ok-Whole.ensures.serves tells serving).1)
