@@ -15,10 +15,6 @@ pub first_behind : (ps qs : List ℕ) → first ps ≡ None → first (ps ++ qs)
 first_behind [] qs h = refl
 first_behind (x ∷ ps) qs h = absurd (cc)
 
-pub first_alone : (ps : List ℕ) → first (ps ++ []) ≡ first ps
-first_alone [] = refl
-first_alone (x ∷ ps) = refl
-
 -- scopes that stand one after another
 pub repeats_append : (ss ts : List (List Identifier))
     → flat_map repeats (ss ++ ts) ≡ flat_map repeats ss ++ flat_map repeats ts

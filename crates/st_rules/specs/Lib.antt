@@ -1,4 +1,5 @@
 pub mod Places
+pub mod InitialScopes
 pub mod Scopes
 pub mod Declarations
 pub mod Backs

@@ -6,6 +6,7 @@ use Rattle.st_trees.specs.Declarations.{TypeDefinition, array, structure, Variab
 use Rattle.st_trees.specs.Units.{OrganisationUnit}
 use Rattle.st_trees.specs.Configurations.{GlobalNames, located, listed, GlobalBlock, Resource, Configuration}
 use Rattle.st_trees.specs.Sources.{LibraryElement, types, unit, configuration, Source}
+use Rattle.st_rules.specs.InitialScopes.{scopes_in_optional}
 
 -- types, functions, blocks and programs
 abbrev pub names_of_element : LibraryElement → List Identifier
@@ -31,10 +32,17 @@ variables_of_element (configuration c) = []
 abbrev pub variables_of_text : Source → List Identifier
 variables_of_text source = flat_map variables_of_element source
 
--- the fields of a structure
-abbrev pub fields_of : TypeDefinition → List Identifier
-fields_of (array a) = []
-fields_of (structure fields) = map (λ f. f.name) fields
+-- the fields of a structure, and the scopes in their initial values
+abbrev pub scopes_of_type : TypeDefinition → List (List Identifier)
+scopes_of_type (array a) = []
+scopes_of_type (structure fields) = map (λ f. f.name) fields ∷ flat_map (λ f. scopes_in_optional f.initial) fields
+
+-- the scopes in the initial values of variables and of globals
+abbrev pub scopes_in_variables : VariableBlock → List (List Identifier)
+scopes_in_variables b = flat_map (λ d. scopes_in_optional d.initial) b.declarations
+
+abbrev pub scopes_in_globals : GlobalBlock → List (List Identifier)
+scopes_in_globals b = flat_map (λ d. scopes_in_optional d.initial) b.declarations
 
 abbrev pub listed_names : GlobalNames → List Identifier
 listed_names (located x a) = x ∷ []
@@ -51,9 +59,10 @@ abbrev pub names_in : Resource → List Identifier
 names_in r = map (λ t. t.name) r.tasks ++ map (λ i. i.name) r.instances
 
 abbrev pub scopes_of_element : LibraryElement → List (List Identifier)
-scopes_of_element (types ts) = map (λ t. fields_of t.definition) ts
-scopes_of_element (unit u) = variables_of u ∷ []
-scopes_of_element (configuration c) = globals_of c ∷ map (λ r. r.name) c.resources ∷ map names_in c.resources
+scopes_of_element (types ts) = flat_map (λ t. scopes_of_type t.definition) ts
+scopes_of_element (unit u) = variables_of u ∷ flat_map scopes_in_variables u.blocks
+scopes_of_element (configuration c) =
+    (globals_of c ∷ flat_map scopes_in_globals c.globals) ++ map (λ r. r.name) c.resources ∷ map names_in c.resources
 
 abbrev pub scopes_of : Source → List (List Identifier)
 scopes_of source = names_of_text source ∷ flat_map scopes_of_element source

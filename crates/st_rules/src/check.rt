@@ -40,9 +40,10 @@ fn broken_against(alloc: Global, rule: Rule, source: &Source) -> Result<Option<B
 /// A rule on names, types or ranges that the text breaks, with the place: rules on declarations come first, then
 /// unknown names, wrong types and ranges. The only error is out of memory.
 ///
-/// It looks into all declarations of names, into initial values that are constants, into PRIORITY, and into the
-/// assignments at the top level of bodies; of their types, where the target is the name of an elementary variable and
-/// the expression is of literals, names of elementary variables, parentheses and operators.
+/// It looks into all declarations of names, into the names of fields in initial values, into initial values that are
+/// constants, into PRIORITY, and into the assignments at the top level of bodies; of their types, where the target is
+/// the name of an elementary variable and the expression is of literals, names of elementary variables, parentheses and
+/// operators.
 pub fn broken_rule(alloc: Global, source: &Source) -> Result<Option<Broken>, AllocError>
     ensures applies { IfOk result (λ broken. IfSome broken (Breaks (source_view source.now))) }
     ensures once { IfOk result

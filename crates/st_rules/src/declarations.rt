@@ -1,49 +1,78 @@
 //! Names that are declared twice, or that are taken.
 
-ghost use Rattle.std.specs.Prelude.{◌≡◌, ◌++◌, map, IfOk};
+ghost use Rattle.std.specs.Prelude.{◌≡◌, ◌∷◌, ◌++◌, map, IfOk};
 ghost use Rattle.std.specs.List.{flat_map};
-ghost use Rattle.st_trees.specs.DeclarationViews.{type_declaration_view, type_definition_view};
+ghost use Rattle.st_trees.specs.DeclarationViews.{field_view, type_declaration_view, type_definition_view};
 ghost use Rattle.st_trees.specs.UnitViews.{unit_view};
-ghost use Rattle.st_trees.specs.ConfigurationViews.{resource_view, configuration_view};
+ghost use Rattle.st_trees.specs.ConfigurationViews.{global_block_view, resource_view, configuration_view};
 ghost use Rattle.st_trees.specs.SourceViews.{element_view, source_view};
 ghost use Rattle.st_rules.specs.Places.{first, places_where, repeats};
-ghost use Rattle.st_rules.specs.Scopes.{fields_of, names_in, scopes_of_element, variables_of_element};
+ghost use Rattle.st_rules.specs.InitialScopes.{scopes_in_optional};
+ghost use Rattle.st_rules.specs.Scopes.{scopes_of_type, scopes_in_globals, globals_of_block, names_in};
+ghost use Rattle.st_rules.specs.Scopes.{scopes_of_element, variables_of_element};
 ghost use Rattle.st_rules.specs.Declarations.{is_standard, is_taken, twice_declared};
 
+use crate::initial_scopes::{repeat_in_fields, repeat_in_globals, repeat_in_variables};
 use crate::names::{first_repeat, is_among};
 use crate::scopes::{
     globals_of, names_in, names_of_fields, names_of_resources, names_of_text, variables_of,
     variables_of_text,
 };
 use crate::standard::is_standard;
-use st_trees::{Configuration, LibraryElement, Resource, Source, TypeDeclaration, TypeDefinition};
+use st_trees::{
+    Configuration, Field, GlobalBlock, LibraryElement, Resource, Source, TypeDeclaration,
+    TypeDefinition, Unit,
+};
 use st_words::Identifier;
 use std::alloc::{AllocError, Global};
 
-/// A field that is declared again in its structure.
-fn repeated_field(alloc: Global, definition: &TypeDefinition) -> Result<Option<usize>, AllocError>
-    ensures { IfOk result (λ place. place ≡ first (repeats (fields_of (type_definition_view definition.now)))) }
+/// A field that is declared again in a structure, or that is named again in an initial value.
+#[tactic(auto, using(crate::proofs::PlaceLemmas::first_front, crate::proofs::PlaceLemmas::first_behind))]
+fn repeat_in_structure_type(alloc: Global, fields: &[Field]) -> Result<Option<usize>, AllocError>
+    ensures { IfOk result (λ place. place ≡ first (flat_map repeats (map (λ f. f.name) (map field_view fields.now)
+        ∷ flat_map (λ f. scopes_in_optional f.initial) (map field_view fields.now)))) }
+{
+    let scope = names_of_fields(alloc, fields)?;
+    if let Some(place) = first_repeat(&scope) {
+        return Ok(Some(place));
+    }
+    repeat_in_fields(alloc, fields)
+}
+
+fn repeat_in_type(alloc: Global, definition: &TypeDefinition) -> Result<Option<usize>, AllocError>
+    ensures { IfOk result
+        (λ place. place ≡ first (flat_map repeats (scopes_of_type (type_definition_view definition.now)))) }
 {
     match definition {
         TypeDefinition::Array(_) => Ok(None),
-        TypeDefinition::Structure(fields) => {
-            let scope = names_of_fields(alloc, fields)?;
-            Ok(first_repeat(&scope))
-        }
+        TypeDefinition::Structure(fields) => repeat_in_structure_type(alloc, fields),
     }
 }
 
-#[tactic(auto, using(crate::proofs::PlaceLemmas::first_front, crate::proofs::PlaceLemmas::first_behind))]
+#[tactic(auto, using(crate::proofs::PlaceLemmas::first_front, crate::proofs::PlaceLemmas::first_behind, crate::proofs::PlaceLemmas::repeats_append))]
 fn repeat_in_types(alloc: Global, types: &[TypeDeclaration]) -> Result<Option<usize>, AllocError>
-    ensures { IfOk result (λ place. place
-        ≡ first (flat_map repeats (map (λ t. fields_of t.definition) (map type_declaration_view types.now)))) }
+    ensures { IfOk result (λ place. place ≡ first (flat_map repeats
+        (flat_map (λ t. scopes_of_type t.definition) (map type_declaration_view types.now)))) }
 {
     for declaration in types {
-        if let Some(place) = repeated_field(alloc, &declaration.definition)? {
+        if let Some(place) = repeat_in_type(alloc, &declaration.definition)? {
             return Ok(Some(place));
         }
     }
     Ok(None)
+}
+
+/// A variable of a unit that is declared again, or a field that is named again in an initial value.
+#[tactic(auto, using(crate::proofs::PlaceLemmas::first_front, crate::proofs::PlaceLemmas::first_behind))]
+fn repeat_in_unit(alloc: Global, unit: &Unit) -> Result<Option<usize>, AllocError>
+    ensures { IfOk result (λ place. place ≡ first
+        (flat_map repeats (scopes_of_element (element_view (LibraryElement.Unit unit.now))))) }
+{
+    let scope = variables_of(alloc, unit)?;
+    if let Some(place) = first_repeat(&scope) {
+        return Ok(Some(place));
+    }
+    repeat_in_variables(alloc, &unit.blocks)
 }
 
 #[tactic(auto, using(crate::proofs::PlaceLemmas::first_front, crate::proofs::PlaceLemmas::first_behind))]
@@ -59,7 +88,24 @@ fn repeat_in_resources(alloc: Global, resources: &[Resource]) -> Result<Option<u
     Ok(None)
 }
 
+/// A global that is declared again, or a field that is named again in an initial value.
 #[tactic(auto, using(crate::proofs::PlaceLemmas::first_front, crate::proofs::PlaceLemmas::first_behind))]
+fn repeat_in_global_blocks(
+    alloc: Global,
+    blocks: &[GlobalBlock],
+) -> Result<Option<usize>, AllocError>
+    ensures { IfOk result (λ place. place ≡ first (flat_map repeats
+        (flat_map globals_of_block (map global_block_view blocks.now)
+        ∷ flat_map scopes_in_globals (map global_block_view blocks.now)))) }
+{
+    let globals = globals_of(alloc, blocks)?;
+    if let Some(place) = first_repeat(&globals) {
+        return Ok(Some(place));
+    }
+    repeat_in_globals(alloc, blocks)
+}
+
+#[tactic(auto, using(crate::proofs::PlaceLemmas::first_front, crate::proofs::PlaceLemmas::first_behind, crate::proofs::PlaceLemmas::repeats_append))]
 fn repeat_in_configuration(
     alloc: Global,
     configuration: &Configuration,
@@ -67,8 +113,7 @@ fn repeat_in_configuration(
     ensures { IfOk result (λ place. place ≡ first
         (flat_map repeats (scopes_of_element (element_view (LibraryElement.Configuration configuration.now))))) }
 {
-    let globals = globals_of(alloc, &configuration.globals)?;
-    if let Some(place) = first_repeat(&globals) {
+    if let Some(place) = repeat_in_global_blocks(alloc, &configuration.globals)? {
         return Ok(Some(place));
     }
     let resources = names_of_resources(alloc, &configuration.resources)?;
@@ -79,16 +124,12 @@ fn repeat_in_configuration(
 }
 
 /// A name that is declared again in a scope of the element's own.
-#[tactic(auto, using(crate::proofs::PlaceLemmas::first_alone))]
 fn repeat_in_element(alloc: Global, element: &LibraryElement) -> Result<Option<usize>, AllocError>
     ensures { IfOk result (λ place. place ≡ first (flat_map repeats (scopes_of_element (element_view element.now)))) }
 {
     match element {
         LibraryElement::Types(types) => repeat_in_types(alloc, types),
-        LibraryElement::Unit(unit) => {
-            let scope = variables_of(alloc, unit)?;
-            Ok(first_repeat(&scope))
-        }
+        LibraryElement::Unit(unit) => repeat_in_unit(alloc, unit),
         LibraryElement::Configuration(configuration) => {
             repeat_in_configuration(alloc, configuration)
         }

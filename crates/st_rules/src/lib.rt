@@ -6,6 +6,7 @@
 mod check;
 mod declarations;
 mod elements;
+mod initial_scopes;
 mod initials;
 mod kinds;
 mod lookup;
