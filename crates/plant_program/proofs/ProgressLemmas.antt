@@ -114,9 +114,9 @@ begins_still asked s t rows goes b = record {
 pub run_of : (first s : State) (plan : Plan) (asked : Start) (rows : List Latch) (room : ℕ) → IsNew first plan room
     → BeginsAs asked first → GoesOn first s rows → IsLegal (plan_view s.plan) s.start s.before s.log
     → IsRunOf plan asked rows s
-run_of first s plan asked rows room new as goes legal = record {
+run_of first s plan asked rows room new opens goes legal = record {
   plan_is = goes.plan_is ∙ new.plan_is;
-  begins = begins_still asked first s rows goes as;
+  begins = begins_still asked first s rows goes opens;
   legal = legal;
   rows_are = goes.rows_are ∙ ap (λ log. (past_of (plan_view first.plan) first.start log).rows ++ rows) new.empty;
 }

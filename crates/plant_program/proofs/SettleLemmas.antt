@@ -31,13 +31,13 @@ pub reported : {D T E : Type 0} (items : T → List ℕ) (first : State) (life :
     → IfOk r (λ t. IsLegal (plan_view life.state.plan) life.state.start life.state.before life.state.log)
     → IfOk r (λ t. IsReport life.state life.acked (length here.programs.items) here.variables.items (items t))
     → IfOk r (λ t. IsReportOf D plan asked (items t))
-reported items first life asked rows room here plan (Ok t) same are new as goes settles legal reports = record {
+reported items first life asked rows room here plan (Ok t) same are new opens goes settles legal reports = record {
   life = life;
   rows = rows;
   rows_are = are;
-  run = run_of first life.state plan asked rows room new as goes legal;
+  run = run_of first life.state plan asked rows room new opens goes legal;
   settled = subst (λ (p : Plan). IsSettled life p.resources) same settles;
   report = subst (λ (p : Plan). IsReport life.state life.acked (length p.programs.items) p.variables.items (items t))
       same reports;
 }
-reported items first life asked rows room here plan (Err e) same are new as goes settles legal reports = tt
+reported items first life asked rows room here plan (Err e) same are new opens goes settles legal reports = tt

@@ -20,7 +20,7 @@ use std::io::{Read, Write};
 
 /// Reads and builds the source, and gives its sizes.
 fn check<F: Files>(alloc: Global, files: &mut F, source: &str) -> Result<End, Fault>
-    ensures { IfOk result (λ end. EndsWell F.Disk (Job.Check source.now) end) }
+    ensures { IfOk result (λ end. EndsWell F.Disk (Job.Check source.entry) end) }
 {
     let plan = plan_of(alloc, files, source, DEFAULT_BUDGET)?;
     Ok(End::Report(sizes_of(alloc, &plan)?))

@@ -133,7 +133,7 @@ pub fn run_plan<F: Files>(
 ) -> Result<Vec<u8>, Fault>
     // The report is that of a legal life of the plan, begun as it was asked for, in which the rows of a plant are
     // latched, nothing waits and all is acknowledged.
-    ensures report { IfOk result (λ text. IsReportOf F.Disk plan job.start text.items) }
+    ensures report { IfOk result (λ text. IsReportOf F.Disk plan job.now.start text.items) }
 {
     let rows = read_rows(alloc, files, job.plant, &plan)?;
     let Ok(plan) = Arc::new(alloc, plan) else {

@@ -16,3 +16,12 @@ returns-clause-done g c =
     let made = c.rows-rows.ensures in
     let len = c.len.ensures.len in
     omega arith
+
+pub overflow_sub-result : goal.overflow_sub-result
+overflow_sub-result g c =
+    let state = c.args.core.now.state in
+    let all = each_counted state.log in
+    let rows = rows_counted (plan_view state.plan) state.start state.log in
+    let made = c.rows-rows.ensures in
+    let len = c.len.ensures.len in
+    omega arith

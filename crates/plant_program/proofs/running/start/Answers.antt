@@ -1,3 +1,4 @@
+use Rattle.std.proofs.Common.{◌∙◌}
 use Rattle.plant_program.proofs.ProgressLemmas.{begins}
 use Rattle.plant_program.proofs.running.start.Goals as goal
 
