@@ -17,7 +17,7 @@ use Rattle.st_plans.specs.declared.plan.PlanInput.{PlanInput}
 use Rattle.st_types.specs.Scopes.{Name, contains_name}
 use Rattle.st_types.specs.NameTypes.{is_named, type_in, or_type, type_in_blocks, kind_of_type}
 use Rattle.st_types.specs.Bodies.{is_external, names_of, declared_names, externals_in}
-use Rattle.config.specs.Thin.{is_there, are_there, is_absent, is_thin_declaration, is_thin_block}
+use Rattle.config.specs.Thin.{is_thin_external, are_thin_externals, is_absent, is_thin_declaration, is_thin_block}
 
 neither : (a b : Bool) → (a || b) ≡ false → (a ≡ false) × (b ≡ false)
 neither true b h = absurd (cc)
@@ -41,7 +41,7 @@ type_absent x (d ∷ ds) h =
     (type_absent x ds p.1)
 
 none_there : (variables : List PlanVariable) (inputs : List PlanInput) (section : Section) (k : Kind) (x : Name)
-    → is_external section ≡ false → is_there variables inputs section k x ≡ false
+    → is_external section ≡ false → is_thin_external variables inputs section k x ≡ false
 none_there variables inputs (Input keep) k x h = refl
 none_there variables inputs (Output keep) k x h = refl
 none_there variables inputs (Local keep) k x h = refl
@@ -51,14 +51,14 @@ none_there variables inputs ConstantExternal k x h = absurd (cc)
 
 -- a section of no externals has no names
 nameless : (variables : List PlanVariable) (inputs : List PlanInput) (section : Section) (x : Name) (o : Option Kind)
-    (names : List Identifier) → is_external section ≡ false → are_there variables inputs section o names ≡ true
+    (names : List Identifier) → is_external section ≡ false → are_thin_externals variables inputs section o names ≡ true
     → list_any (is_named x) names ≡ false
 nameless variables inputs section x None names e h = absurd (cc)
 nameless variables inputs section x (Some k) [] e h = refl
 nameless variables inputs section x (Some k) (y ∷ ys) e h =
     let there = none_there variables inputs section k y.name e in
-    let p = and_parts (is_there variables inputs section k y.name)
-    (list_all (λ z. is_there variables inputs section k z.name) ys) h in
+    let p = and_parts (is_thin_external variables inputs section k y.name)
+    (list_all (λ z. is_thin_external variables inputs section k z.name) ys) h in
     absurd (cc)
 
 type_nameless : (variables : List PlanVariable) (inputs : List PlanInput) (section : Section) (x : Name)
@@ -69,7 +69,8 @@ type_nameless variables inputs section x (d ∷ ds) e h =
     let p = and_parts (is_thin_declaration variables inputs section d)
     (list_all (is_thin_declaration variables inputs section) ds) h in
     let q =
-    and_parts (is_absent d.initial) (are_there variables inputs section (kind_of_type d.declared) d.names) p.0 in
+    and_parts (is_absent d.initial)
+    (are_thin_externals variables inputs section (kind_of_type d.declared) d.names) p.0 in
     not_here (list_any (is_named x) d.names) d.declared (type_in ds x) (nameless variables inputs section x
     (kind_of_type d.declared) d.names e q.1) (type_nameless variables inputs section x ds e p.1)
 

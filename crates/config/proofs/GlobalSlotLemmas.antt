@@ -30,8 +30,8 @@ use Rattle.st_types.proofs.SlotLemmas.{same_path_is, same_path_itself}
 use Rattle.slot_code.specs.declared.global.GlobalSlot.{GlobalSlot}
 use Rattle.slot_code.specs.Globals.{global_named, Fits}
 use Rattle.config.specs.Sound.{are_different}
-use Rattle.config.specs.Thin.{is_variable_of, is_input_of, is_there, are_there, is_absent, is_thin_declaration}
-use Rattle.config.specs.Thin.{is_thin_block}
+use Rattle.config.specs.Thin.{is_variable_of, is_input_of, is_thin_external, are_thin_externals, is_absent}
+use Rattle.config.specs.Thin.{is_thin_declaration, is_thin_block}
 use Rattle.config.specs.ThinPlans.{names_of}
 use Rattle.config.specs.GlobalSlots.{is_named_in, HasSlot, HaveSlots}
 
@@ -210,7 +210,7 @@ input_named (i ∷ is) k x h =
     (list_any (λ i. same_path (unowned x) i.path) is) (input_named is k x) h
 
 there_named : (variables : List PlanVariable) (inputs : List PlanInput) (section : Section) (k : Kind) (x : Name)
-    → is_there variables inputs section k x ≡ true → is_named_in variables inputs x ≡ true
+    → is_thin_external variables inputs section k x ≡ true → is_named_in variables inputs x ≡ true
 there_named variables inputs External k x h = let t = variable_named variables k x h in rw t refl
 there_named variables inputs ConstantExternal k x h = or_right (list_any (λ v. same_path (unowned x) v.path) variables)
     (list_any (λ i. same_path (unowned x) i.path) inputs) (input_named inputs k x h)
@@ -223,13 +223,13 @@ both_true : (a b : Bool) → a ≡ true → b ≡ true → (a && b) ≡ true
 both_true a b h k = cc
 
 names_known : (variables : List PlanVariable) (inputs : List PlanInput) (section : Section) (o : Option Kind)
-    (names : List Identifier) → are_there variables inputs section o names ≡ true
+    (names : List Identifier) → are_thin_externals variables inputs section o names ≡ true
     → list_all (is_named_in variables inputs) (identifier_names names) ≡ true
 names_known variables inputs section None names h = absurd (cc)
 names_known variables inputs section (Some k) [] h = refl
 names_known variables inputs section (Some k) (x ∷ xs) h =
-    let p = and_parts (is_there variables inputs section k x.name)
-    (list_all (λ x. is_there variables inputs section k x.name) xs) h in
+    let p = and_parts (is_thin_external variables inputs section k x.name)
+    (list_all (λ x. is_thin_external variables inputs section k x.name) xs) h in
     both_true (is_named_in variables inputs x.name) (list_all (is_named_in variables inputs) (identifier_names xs))
     (there_named variables inputs section k x.name p.0) (names_known variables inputs section (Some k) xs p.1)
 
@@ -241,7 +241,8 @@ declared_known variables inputs section (d ∷ ds) h =
     let p = and_parts (is_thin_declaration variables inputs section d)
     (list_all (is_thin_declaration variables inputs section) ds) h in
     let q =
-    and_parts (is_absent d.initial) (are_there variables inputs section (kind_of_type d.declared) d.names) p.0 in
+    and_parts (is_absent d.initial)
+    (are_thin_externals variables inputs section (kind_of_type d.declared) d.names) p.0 in
     list_all-append (is_named_in variables inputs) (identifier_names d.names) (declared_names ds)
     ∙ both_true (list_all (is_named_in variables inputs) (identifier_names d.names))
     (list_all (is_named_in variables inputs) (declared_names ds)) (names_known variables inputs section

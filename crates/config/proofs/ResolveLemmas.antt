@@ -33,9 +33,9 @@ use Rattle.st_types.specs.Resolution.{own_kind, is_untyped, operand_kind, taken_
 use Rattle.st_types.specs.ResolvedUnits.{resolved, resolved_stmt, resolved_type, resolved_initial, resolved_declaration}
 use Rattle.st_types.specs.ResolvedUnits.{resolved_block}
 use Rattle.st_words.proofs.KindLemmas.{same_kind_is}
-use Rattle.config.specs.Thin.{is_variable_of, are_there, is_absent, is_thin_declaration, is_thin_block, kind_in, is_of}
-use Rattle.config.specs.Thin.{is_of_or_none, is_typed, is_typed_for, is_typed_stmt, is_program, is_short, is_undeclared}
-use Rattle.config.specs.Thin.{is_thin_unit}
+use Rattle.config.specs.Thin.{is_variable_of, are_thin_externals, is_absent, is_thin_declaration, is_thin_block}
+use Rattle.config.specs.Thin.{kind_in, is_of, is_of_or_none, is_typed, is_typed_for, is_typed_stmt, is_program}
+use Rattle.config.specs.Thin.{is_short, is_undeclared, is_thin_unit}
 use Rattle.config.specs.Filled.{filled, filled_for, filled_stmt}
 
 -- the types of a unit's names are those of its externals
@@ -137,7 +137,7 @@ body_is text u variables (s ∷ xs) agrees h =
 
 -- declarations of elementary types without initial values stay
 type_is : (variables : List PlanVariable) (inputs : List PlanInput) (section : Section) (names : List Identifier)
-    (t : VariableType) → are_there variables inputs section (kind_of_type t) names ≡ true → resolved_type t ≡ t
+    (t : VariableType) → are_thin_externals variables inputs section (kind_of_type t) names ≡ true → resolved_type t ≡ t
 type_is variables inputs section names (types.Simple t) h = refl
 type_is variables inputs section names (types.Array a) h = absurd (cc)
 
@@ -148,7 +148,8 @@ initial_is f (Some i) h = absurd (cc)
 declaration_is : (text : Declared) (variables : List PlanVariable) (inputs : List PlanInput) (section : Section)
     (d : Declaration) → is_thin_declaration variables inputs section d ≡ true → resolved_declaration text d ≡ d
 declaration_is text variables inputs section d h =
-    let p = and_parts (is_absent d.initial) (are_there variables inputs section (kind_of_type d.declared) d.names) h in
+    let p = and_parts (is_absent d.initial)
+    (are_thin_externals variables inputs section (kind_of_type d.declared) d.names) h in
     ap (λ t. let r : Declaration = record {
       names = d.names;
       declared = t;

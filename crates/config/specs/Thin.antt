@@ -39,14 +39,15 @@ abbrev pub is_input_of : List PlanInput → Kind → Name → Bool
 is_input_of inputs k x = list_any (λ i. same_path (unowned x) i.path && same_kind k i.kind) inputs
 
 -- an external stands for a variable, and a constant one for an input
-abbrev pub is_there : List PlanVariable → List PlanInput → Section → Kind → Name → Bool
-is_there variables inputs External k x = is_variable_of variables k x
-is_there variables inputs ConstantExternal k x = is_input_of inputs k x
-is_there variables inputs _ k x = false
+abbrev pub is_thin_external : List PlanVariable → List PlanInput → Section → Kind → Name → Bool
+is_thin_external variables inputs External k x = is_variable_of variables k x
+is_thin_external variables inputs ConstantExternal k x = is_input_of inputs k x
+is_thin_external variables inputs _ k x = false
 
-abbrev pub are_there : List PlanVariable → List PlanInput → Section → Option Kind → List Identifier → Bool
-are_there variables inputs section None names = false
-are_there variables inputs section (Some k) names = list_all (λ x. is_there variables inputs section k x.name) names
+abbrev pub are_thin_externals : List PlanVariable → List PlanInput → Section → Option Kind → List Identifier → Bool
+are_thin_externals variables inputs section None names = false
+are_thin_externals variables inputs section (Some k) names =
+    list_all (λ x. is_thin_external variables inputs section k x.name) names
 
 abbrev pub is_absent : Option Initial → Bool
 is_absent None = true
@@ -54,7 +55,7 @@ is_absent (Some i) = false
 
 abbrev pub is_thin_declaration : List PlanVariable → List PlanInput → Section → Declaration → Bool
 is_thin_declaration variables inputs section d =
-    is_absent d.initial && are_there variables inputs section (kind_of_type d.declared) d.names
+    is_absent d.initial && are_thin_externals variables inputs section (kind_of_type d.declared) d.names
 
 abbrev pub is_thin_block : List PlanVariable → List PlanInput → VariableBlock → Bool
 is_thin_block variables inputs b = list_all (is_thin_declaration variables inputs b.section) b.declarations

@@ -9,9 +9,10 @@ ghost use Rattle.st_trees.specs.DeclarationViews.{declaration_view, variable_blo
 ghost use Rattle.st_trees.specs.Depths.{depth_of_stmt};
 ghost use Rattle.st_trees.specs.UnitViews.{unit_view};
 ghost use Rattle.st_types.specs.NameTypes.{kind_of_type, type_in, type_in_blocks, is_named};
-ghost use Rattle.config.specs.Thin.{is_thin_kind, is_variable_of, is_input_of, is_there, are_there, is_absent};
-ghost use Rattle.config.specs.Thin.{is_thin_declaration, is_thin_block, kind_in, is_of, is_of_or_none, is_literal_of};
-ghost use Rattle.config.specs.Thin.{is_typed, is_typed_for, is_typed_stmt, is_program, is_short, is_thin_unit};
+ghost use Rattle.config.specs.Thin.{is_thin_kind, is_variable_of, is_input_of, is_thin_external, are_thin_externals};
+ghost use Rattle.config.specs.Thin.{is_absent, is_thin_declaration, is_thin_block, kind_in, is_of, is_of_or_none};
+ghost use Rattle.config.specs.Thin.{is_literal_of, is_typed, is_typed_for, is_typed_stmt, is_program, is_short};
+ghost use Rattle.config.specs.Thin.{is_thin_unit};
 
 use crate::global_path::is_global_of;
 use crate::lookup::kind_in;
@@ -48,14 +49,14 @@ pub fn is_input_of(inputs: &[PlanInput], kind: Kind, name: &Name) -> bool
 }
 
 /// Whether an external stands for a variable, or a constant one for an input.
-fn is_there(
+fn is_thin_external(
     variables: &[PlanVariable],
     inputs: &[PlanInput],
     section: Section,
     kind: Kind,
     name: &Name,
 ) -> bool
-    ensures { result ≡ is_there variables.now inputs.now section kind name.now }
+    ensures { result ≡ is_thin_external variables.now inputs.now section kind name.now }
 {
     match section {
         Section::External => is_variable_of(variables, kind, name),
@@ -64,18 +65,18 @@ fn is_there(
     }
 }
 
-fn are_there(
+fn are_thin_externals(
     variables: &[PlanVariable],
     inputs: &[PlanInput],
     section: Section,
     kind: Kind,
     names: &[Identifier],
 ) -> bool
-    ensures { result ≡ are_there variables.now inputs.now section (Some kind) names.now }
+    ensures { result ≡ are_thin_externals variables.now inputs.now section (Some kind) names.now }
 {
     names
         .iter()
-        .all(|x| is_there(variables, inputs, section, kind, &x.name))
+        .all(|x| is_thin_external(variables, inputs, section, kind, &x.name))
 }
 
 /// Whether the declaration's names stand for what is there.
@@ -91,7 +92,7 @@ fn is_thin_declaration(
         return false;
     }
     match kind_of_type(&declaration.declared) {
-        Some(kind) => are_there(variables, inputs, section, kind, &declaration.names),
+        Some(kind) => are_thin_externals(variables, inputs, section, kind, &declaration.names),
         None => false,
     }
 }

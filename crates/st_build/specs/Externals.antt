@@ -45,15 +45,16 @@ is_behind constant k x q d = is_among x d.names
 abbrev pub stands_in : Bool → Option Kind → Name → GlobalBlock → Bool
 stands_in constant k x b = list_any (is_behind constant k x b.qualifier) b.declarations
 
-abbrev pub is_there : List GlobalBlock → Bool → Option Kind → Name → Bool
-is_there blocks constant k x = list_any (stands_in constant k x) blocks
+abbrev pub is_known_external : List GlobalBlock → Bool → Option Kind → Name → Bool
+is_known_external blocks constant k x = list_any (stands_in constant k x) blocks
 
-abbrev pub are_there : List GlobalBlock → Bool → Declaration → Bool
-are_there blocks constant d = list_all (λ x. is_there blocks constant (kind_of_type d.declared) x.name) d.names
+abbrev pub are_known_externals : List GlobalBlock → Bool → Declaration → Bool
+are_known_externals blocks constant d =
+    list_all (λ x. is_known_external blocks constant (kind_of_type d.declared) x.name) d.names
 
 abbrev pub is_known_section : List GlobalBlock → Section → List Declaration → Bool
-is_known_section blocks External ds = list_all (are_there blocks false) ds
-is_known_section blocks ConstantExternal ds = list_all (are_there blocks true) ds
+is_known_section blocks External ds = list_all (are_known_externals blocks false) ds
+is_known_section blocks ConstantExternal ds = list_all (are_known_externals blocks true) ds
 is_known_section blocks _ ds = true
 
 abbrev pub is_known_block : List GlobalBlock → VariableBlock → Bool

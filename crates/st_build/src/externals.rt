@@ -7,10 +7,10 @@ ghost use Rattle.st_trees.specs.UnitViews.{unit_view};
 ghost use Rattle.st_trees.specs.ConfigurationViews.{global_names_view, global_declaration_view, global_block_view};
 ghost use Rattle.st_trees.specs.ConfigurationViews.{resource_view, configuration_view};
 ghost use Rattle.st_types.specs.NameTypes.{is_named};
-ghost use Rattle.st_build.specs.Externals.{is_among, is_fixed, agree, is_behind, stands_in, is_there, are_there};
-ghost use Rattle.st_build.specs.Externals.{is_known_block, has_known_externals, is_boolean, has_boolean};
-ghost use Rattle.st_build.specs.Externals.{is_known_single, is_known_task, is_program_named, is_known_program};
-ghost use Rattle.st_build.specs.Externals.{is_known_instance, is_known_resource, are_known};
+ghost use Rattle.st_build.specs.Externals.{is_among, is_fixed, agree, is_behind, stands_in, is_known_external};
+ghost use Rattle.st_build.specs.Externals.{are_known_externals, is_known_block, has_known_externals, is_boolean};
+ghost use Rattle.st_build.specs.Externals.{has_boolean, is_known_single, is_known_task, is_program_named};
+ghost use Rattle.st_build.specs.Externals.{is_known_program, is_known_instance, is_known_resource, are_known};
 
 use crate::addresses::is_input;
 use crate::variables::is_constant;
@@ -104,27 +104,29 @@ fn stands_among(blocks: &[GlobalBlock], constant: bool, kind: Option<Kind>, name
 
 /// Whether there is a global for an external.
 #[tactic(auto, using(crate::proofs::ListLemmas::any_viewed))]
-fn is_there(blocks: &[GlobalBlock], constant: bool, kind: Option<Kind>, name: &Name) -> bool
-    ensures { result ≡ is_there (map global_block_view blocks.now) constant kind name.now }
+fn is_known_external(blocks: &[GlobalBlock], constant: bool, kind: Option<Kind>, name: &Name) -> bool
+    ensures { result ≡ is_known_external (map global_block_view blocks.now) constant kind name.now }
 {
     stands_among(blocks, constant, kind, name)
 }
 
-fn are_there(blocks: &[GlobalBlock], constant: bool, declaration: &Declaration) -> bool
-    ensures { result ≡ are_there (map global_block_view blocks.now) constant (declaration_view declaration.now) }
+fn are_known_externals(blocks: &[GlobalBlock], constant: bool, declaration: &Declaration) -> bool
+    ensures { result
+        ≡ are_known_externals (map global_block_view blocks.now) constant (declaration_view declaration.now) }
 {
     let kind = kind_of_type(&declaration.declared);
     declaration
         .names
         .iter()
-        .all(|x| is_there(blocks, constant, kind, &x.name))
+        .all(|x| is_known_external(blocks, constant, kind, &x.name))
 }
 
 fn all_there(blocks: &[GlobalBlock], constant: bool, declarations: &[Declaration]) -> bool
     ensures { result
-        ≡ list_all (λ d. are_there (map global_block_view blocks.now) constant (declaration_view d)) declarations.now }
+        ≡ list_all (λ d. are_known_externals (map global_block_view blocks.now) constant (declaration_view d))
+        declarations.now }
 {
-    declarations.iter().all(|d| are_there(blocks, constant, d))
+    declarations.iter().all(|d| are_known_externals(blocks, constant, d))
 }
 
 #[tactic(auto, using(crate::proofs::ListLemmas::all_viewed))]
