@@ -18,7 +18,7 @@ use Rattle.st_trees.specs.Statements.{CaseArms, no_case_arms, case_arm_then}
 use Rattle.st_types.specs.Stores.{Store, get, may_replace, replaced, behind_first, assigned, shape_of, all_held}
 use Rattle.st_types.specs.Ticks.{Run, follow, ◌>>=◌, ◌>>◌, give, fault, take, or_fault, proceed, tick}
 use Rattle.st_types.specs.StandardBlocks as standard
-use Rattle.st_types.specs.StandardBlocks.{block_of, members_of, stepped}
+use Rattle.st_types.specs.StandardBlocks.{BlockMember, block_of, members_of, stepped}
 use Rattle.st_types.specs.Scopes.{Name, of_block, Block, Library, Units, Scope, path_in, member_at, block_named}
 use Rattle.st_types.specs.Scopes.{block_in}
 use Rattle.st_types.specs.Evaluation.{value, place, truth_of}
@@ -298,7 +298,7 @@ module _ (w : Scope) (blocks : (b : Name) (at : Path) (s : Store) → Keeps Stor
     case_keeps z (case_arm_then labels body arms) otherwise h s =
         if_keeps s (list_any (label_holds z) labels) (exec_all_keeps body s) (case_keeps z arms otherwise h s)
 
-members_same : (s : Store) (at : Path) (ms : List standard.Member) (vs : List Datum) (t : Store)
+members_same : (s : Store) (at : Path) (ms : List BlockMember) (vs : List Datum) (t : Store)
     → members_assigned s at ms vs ≡ Ok t → Same s t
 members_same s at [] vs t e = let q : s ≡ t = cc in same_is s t q
 members_same s at (m ∷ ms) [] t e = let q : s ≡ t = cc in same_is s t q

@@ -19,7 +19,7 @@ use Rattle.st_trees.specs.Units.{OrganisationUnit}
 use Rattle.st_trees.specs.Sources.{LibraryElement, Source}
 use Rattle.st_trees.specs.Sources as sources
 use Rattle.st_types.specs.StandardBlocks as standard
-use Rattle.st_types.specs.StandardBlocks.{block_of, inputs_of, outputs_of}
+use Rattle.st_types.specs.StandardBlocks.{BlockMember, block_of, inputs_of, outputs_of}
 use Rattle.st_types.specs.Scopes.{Name}
 
 -- the types and units of a text
@@ -82,7 +82,7 @@ result_kind Program = None
 abbrev pub variable_type : OrganisationUnit → Name → Option VariableType
 variable_type u x = if is_named x u.name then option_map elementary (result_kind u.sort) else type_in_blocks u.blocks x
 
-abbrev pub member_kind : List standard.Member → Name → Option Kind
+abbrev pub member_kind : List BlockMember → Name → Option Kind
 member_kind [] x = None
 member_kind (m ∷ ms) x = if bytes_eq x m.0 then Some m.1 else member_kind ms x
 
@@ -122,7 +122,7 @@ variable_of_block text wanted b x =
     option_and_then (λ u. type_in_sections wanted (sections_of u.sort u.blocks) x) (unit_named text.units b)
 
 -- an input or an output of a block that is named by a type: a standard one, or one of the text
-abbrev pub block_variable : Declared → (standard.StandardBlock → List standard.Member) → (Section → Bool) → VariableType
+abbrev pub block_variable : Declared → (standard.StandardBlock → List BlockMember) → (Section → Bool) → VariableType
     → Name → Option VariableType
 block_variable text standard_ones wanted (types.Array a) x = None
 block_variable text standard_ones wanted (types.Simple (Elementary k at)) x = None

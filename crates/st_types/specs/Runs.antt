@@ -12,7 +12,7 @@ use Rattle.st_types.specs.declared.outcome.Outcome.TheVariants.{Done, Faulted}
 use Rattle.st_types.specs.Stores.{Store, get, assigned}
 use Rattle.st_types.specs.Ticks.{Run, ◌>>=◌, give, fault, take, or_fault, proceed}
 use Rattle.st_types.specs.StandardBlocks as standard
-use Rattle.st_types.specs.StandardBlocks.{block_of, stepped}
+use Rattle.st_types.specs.StandardBlocks.{BlockMember, block_of, stepped}
 use Rattle.st_types.specs.Scopes.{Name, of_program, of_block, of_call, Body, Function, Block, Library, Units, Scope}
 use Rattle.st_types.specs.Scopes.{unowned, member_at, function_in, block_in}
 use Rattle.st_types.specs.Loops.{End, goes_on, exits, returns}
@@ -39,12 +39,12 @@ function_value missing units now f vs = do
   or_fault Index (get (store_of e) (unowned f.name))
 
 -- the values of an instance's members
-abbrev pub member_values : Store → Path → List standard.Member → Option (List Datum)
+abbrev pub member_values : Store → Path → List BlockMember → Option (List Datum)
 member_values s at [] = Some []
 member_values s at (m ∷ ms) =
     option_and_then (λ v. option_map (λ vs. v ∷ vs) (member_values s at ms)) (get s (member_at at m.0))
 
-abbrev pub members_assigned : Store → Path → List standard.Member → List Datum → Result Store Fault
+abbrev pub members_assigned : Store → Path → List BlockMember → List Datum → Result Store Fault
 members_assigned s at (m ∷ ms) (v ∷ vs) = proceed (assigned s (member_at at m.0) v) (λ t. members_assigned t at ms vs)
 members_assigned s at _ _ = Ok s
 

@@ -36,13 +36,13 @@ block_of x =
     else None
 
 -- a member: its name and its type; all start as FALSE, 0 or T#0s
-abbrev pub Member : Type 0
-Member = List ℕ × Kind
+abbrev pub BlockMember : Type 0
+BlockMember = List ℕ × Kind
 
-abbrev pub bool : List ℕ → Member
+abbrev pub bool : List ℕ → BlockMember
 bool x = (x, Boolean)
 
-abbrev pub inputs_of : StandardBlock → List Member
+abbrev pub inputs_of : StandardBlock → List BlockMember
 inputs_of SR = bool (codes "S1") ∷ bool (codes "R") ∷ []
 inputs_of RS = bool (codes "S") ∷ bool (codes "R1") ∷ []
 inputs_of R_TRIG = bool (codes "CLK") ∷ []
@@ -54,7 +54,7 @@ inputs_of TON = bool (codes "IN") ∷ (codes "PT", Time) ∷ []
 inputs_of TOF = bool (codes "IN") ∷ (codes "PT", Time) ∷ []
 inputs_of TP = bool (codes "IN") ∷ (codes "PT", Time) ∷ []
 
-abbrev pub outputs_of : StandardBlock → List Member
+abbrev pub outputs_of : StandardBlock → List BlockMember
 outputs_of SR = bool (codes "Q1") ∷ []
 outputs_of RS = bool (codes "Q1") ∷ []
 outputs_of R_TRIG = bool (codes "Q") ∷ []
@@ -67,7 +67,7 @@ outputs_of TOF = bool (codes "Q") ∷ (codes "ET", Time) ∷ []
 outputs_of TP = bool (codes "Q") ∷ (codes "ET", Time) ∷ []
 
 -- what texts can't reach
-abbrev pub hidden_of : StandardBlock → List Member
+abbrev pub hidden_of : StandardBlock → List BlockMember
 hidden_of SR = []
 hidden_of RS = []
 hidden_of R_TRIG = bool (codes "M") ∷ []
@@ -80,7 +80,7 @@ hidden_of TOF = bool (codes "RUN") ∷ (codes "START", Time) ∷ []
 hidden_of TP = bool (codes "RUN") ∷ (codes "START", Time) ∷ []
 
 -- all members in the order of the layout
-abbrev pub members_of : StandardBlock → List Member
+abbrev pub members_of : StandardBlock → List BlockMember
 members_of b = inputs_of b ++ outputs_of b ++ hidden_of b
 
 -- one more or one less, but not past the ends of INT
