@@ -12,7 +12,7 @@ use Rattle.st_plans.specs.declared.plan.PlanVariable.{PlanVariable}
 use Rattle.st_types.specs.Scopes.{Name, contains_name}
 use Rattle.st_plans.specs.Layouts.{path_text, line_of, layout_text, values_length, record_length}
 use Rattle.config.specs.Sound.{are_different, is_spelled}
-use Rattle.retain_store.specs.Records.{Line, line_text, text_of, is_path_text, is_visible, IsLayout, IsRecordable}
+use Rattle.retain_store.specs.Records.{Line, line_text, text_of, is_path_text, is_visible, IsLayoutText, IsRecordable}
 use Rattle.retain_store.specs.Records.{value_bytes, record_bytes}
 use Rattle.retain_store.specs.Reading.{line_at}
 use Rattle.retain_store.specs.FieldLaws.{some_is}
@@ -100,7 +100,7 @@ once_are (v ∷ vs) d =
 
 -- the layout text of a plan is one of a record
 pub layout_is : (vs : List PlanVariable) (ks : List Kind) → list_all (λ v. is_spelled (path_text v.path)) vs ≡ true
-    → are_different (texts vs) ≡ true → ks ≡ retained_kinds vs → IsLayout (layout_text vs) ks
+    → are_different (texts vs) ≡ true → ks ≡ retained_kinds vs → IsLayoutText (layout_text vs) ks
 layout_is vs ks spelled d is = record {
   lines = lines_for vs;
   paths = spelled_are vs spelled;
@@ -137,7 +137,7 @@ lines_once (l ∷ ls) (m ∷ ms) h k e =
     rw (kind, lines_once ls ms h.1 k.1 same.1) refl
 
 pub kinds_told : (vs : List PlanVariable) (text : List ℕ) (ks : List Kind)
-    → list_all (λ v. is_spelled (path_text v.path)) vs ≡ true → text ≡ layout_text vs → IsLayout text ks
+    → list_all (λ v. is_spelled (path_text v.path)) vs ≡ true → text ≡ layout_text vs → IsLayoutText text ks
     → ks ≡ retained_kinds vs
 kinds_told vs text ks spelled is layout =
     layout.typed ∙ lines_once layout.lines (lines_for vs) layout.paths (spelled_are vs spelled)
@@ -182,7 +182,7 @@ pub record_sound : (vs : List PlanVariable) (ws : List Datum) (moment : Option �
     → IsRecordable (record { moment = moment; layout = text; values = ws })
 record_sound vs ws moment text spelled d is early e held = record {
   moment = early;
-  layout = subst (λ (t : List ℕ). IsLayout t (map (λ w. w.kind) ws)) (sym is)
+  layout = subst (λ (t : List ℕ). IsLayoutText t (map (λ w. w.kind) ws)) (sym is)
       (layout_is vs (map (λ w. w.kind) ws) spelled d e);
   values = held;
 }

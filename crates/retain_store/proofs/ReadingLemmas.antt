@@ -11,19 +11,19 @@ use Rattle.st_words.specs.declared.kind.Kind.TheVariants.{Dword, Lword, Time, Bo
 use Rattle.st_words.specs.Kinds.{row_of}
 use Rattle.st_words.specs.Values.{Datum}
 use Rattle.retain_store.specs.Records.{Line, line_text, is_path_text}
-use Rattle.retain_store.specs.Reading.{◌>>=◌, cut, line_at, value_at, Variable, variable_at, variables_in, path_from}
-use Rattle.retain_store.specs.Reading.{first_word, AreVariables}
+use Rattle.retain_store.specs.Reading.{◌>>=◌, cut, line_at, value_at, RecordedVariable, variable_at, variables_in}
+use Rattle.retain_store.specs.Reading.{path_from, first_word, AreVariables}
 use Rattle.retain_store.specs.FieldLaws.{bind_some, some_is, cut_again}
 use Rattle.retain_store.specs.LineLaws.{line_parts, line_takes, path_has_no_space}
 
 -- variables before, and those that are read
-abbrev pub with_front : List Variable → Option (List Variable) → Option (List Variable)
+abbrev pub with_front : List RecordedVariable → Option (List RecordedVariable) → Option (List RecordedVariable)
 with_front front o = o >>= λ vs. Some (front ++ vs)
 
 -- some lines and values are read, and the rest is left
 pub record Reads (text bytes left rest starts : List ℕ) (values : List Datum) : Type 0 where
   pub most : ℕ
-  pub done : List Variable
+  pub done : List RecordedVariable
   pub enough : length left ≤ most
   pub so_far : with_front done (variables_in most left rest) ≡ variables_in (length text) text bytes
   pub found : values ≡ map (λ v. v.value) done
@@ -66,7 +66,7 @@ line_long l rest sound =
     )
 
 -- the line of a variable that is read
-pub variable_line : (text bytes : List ℕ) (p : Variable × List ℕ × List ℕ) → variable_at text bytes ≡ Some p
+pub variable_line : (text bytes : List ℕ) (p : RecordedVariable × List ℕ × List ℕ) → variable_at text bytes ≡ Some p
     → (l : Line) × (text ≡ line_text l ++ p.1) × (is_path_text l.path ≡ true) × (p.0.path ≡ l.path)
 unfolding variable_at
 variable_line text bytes p e =
@@ -78,9 +78,9 @@ variable_line text bytes p e =
     let is : (record { path = a.0.0.path; value = b.0.0 }, a.0.1, b.0.1) ≡ p =
     some_is (record { path = a.0.0.path; value = b.0.0 }, a.0.1, b.0.1) p b.2 in (
       a.0.0,
-      l.0 ∙ ap (λ (q : Variable × List ℕ × List ℕ). line_text a.0.0 ++ q.1) is,
+      l.0 ∙ ap (λ (q : RecordedVariable × List ℕ × List ℕ). line_text a.0.0 ++ q.1) is,
       l.1,
-      sym (ap (λ (q : Variable × List ℕ × List ℕ). q.0.path) is),
+      sym (ap (λ (q : RecordedVariable × List ℕ × List ℕ). q.0.path) is),
     )
 
 -- the path where a line begins
@@ -92,18 +92,18 @@ path_there text left behind start l offset is sound =
     ap (λ (t : List ℕ). first_word (cut 32 t)) line
     ∙ ap first_word (cut_again 32 l.path ((row_of l.kind).keyword ++ 10 ∷ behind) (path_has_no_space l.path sound))
 
-with_nothing : (o : Option (List Variable)) → with_front [] o ≡ o
+with_nothing : (o : Option (List RecordedVariable)) → with_front [] o ≡ o
 with_nothing None = refl
 with_nothing (Some vs) = refl
 
-regroup : (front : List Variable) (v : Variable) (o : Option (List Variable))
+regroup : (front : List RecordedVariable) (v : RecordedVariable) (o : Option (List RecordedVariable))
     → with_front front (o >>= λ vs. Some (v ∷ vs)) ≡ with_front (front ++ v ∷ []) o
 regroup front v None = refl
-regroup front v (Some vs) = ap (λ (ws : List Variable). Some ws) (sym (append_assoc front (v ∷ []) vs))
+regroup front v (Some vs) = ap (λ (ws : List RecordedVariable). Some ws) (sym (append_assoc front (v ∷ []) vs))
 
 -- one variable more
-more_so_far : (most : ℕ) (left rest : List ℕ) (done : List Variable) (total : Option (List Variable))
-    (p : Variable × List ℕ × List ℕ) → 0 < length left → length left ≤ most → variable_at left rest ≡ Some p
+more_so_far : (most : ℕ) (left rest : List ℕ) (done : List RecordedVariable) (total : Option (List RecordedVariable))
+    (p : RecordedVariable × List ℕ × List ℕ) → 0 < length left → length left ≤ most → variable_at left rest ≡ Some p
     → with_front done (variables_in most left rest) ≡ total
     → (m : ℕ) × (most ≡ suc m) × (with_front (done ++ p.0 ∷ []) (variables_in m p.1 p.2) ≡ total)
 unfolding variables_in
@@ -116,8 +116,9 @@ more_so_far (suc most) (c ∷ left) rest done total p some enough e so_far =
     (most, refl, sym step ∙ so_far)
 
 -- no variable there
-none_so_far : (most : ℕ) (left rest : List ℕ) (done : List Variable) (total : Option (List Variable)) → 0 < length left
-    → variable_at left rest ≡ None → with_front done (variables_in most left rest) ≡ total → total ≡ None
+none_so_far : (most : ℕ) (left rest : List ℕ) (done : List RecordedVariable) (total : Option (List RecordedVariable))
+    → 0 < length left → variable_at left rest ≡ None → with_front done (variables_in most left rest) ≡ total
+    → total ≡ None
 unfolding variables_in
 none_so_far most [] rest done total some none so_far = absurd (omega arith)
 none_so_far zero (c ∷ left) rest done total some none so_far = sym so_far
@@ -126,14 +127,14 @@ none_so_far (suc most) (c ∷ left) rest done total some none so_far =
     λ first. variables_in most first.1 first.2 >>= λ others. Some (first.0 ∷ others)) ≡ None = rw none refl in
     sym so_far ∙ step
 
-all_so_far : (most : ℕ) (left : List ℕ) (done : List Variable) (total : Option (List Variable)) → length left ≡ 0
-    → with_front done (variables_in most left []) ≡ total → total ≡ Some done
+all_so_far : (most : ℕ) (left : List ℕ) (done : List RecordedVariable) (total : Option (List RecordedVariable))
+    → length left ≡ 0 → with_front done (variables_in most left []) ≡ total → total ≡ Some done
 unfolding variables_in
-all_so_far most [] done total end so_far = sym so_far ∙ ap (λ (vs : List Variable). Some vs) (append-nil done)
+all_so_far most [] done total end so_far = sym so_far ∙ ap (λ (vs : List RecordedVariable). Some vs) (append-nil done)
 all_so_far most (c ∷ left) done total end so_far = absurd (omega arith)
 
-over_so_far : (most : ℕ) (left rest : List ℕ) (done : List Variable) (total : Option (List Variable)) → length left ≡ 0
-    → 0 < length rest → with_front done (variables_in most left rest) ≡ total → total ≡ None
+over_so_far : (most : ℕ) (left rest : List ℕ) (done : List RecordedVariable) (total : Option (List RecordedVariable))
+    → length left ≡ 0 → 0 < length rest → with_front done (variables_in most left rest) ≡ total → total ≡ None
 unfolding variables_in
 over_so_far most [] [] done total end some so_far = absurd (omega arith)
 over_so_far most [] (b ∷ rest) done total end some so_far = sym so_far
@@ -165,7 +166,7 @@ offset_behind text left behind start l offset is within at =
     ∙ ap (λ (n : ℕ). drop n text) (sym far)
 
 pub reads_more :
-    (text bytes left rest starts : List ℕ) (values : List Datum) (p : Variable × List ℕ × List ℕ) (start : ℕ)
+    (text bytes left rest starts : List ℕ) (values : List Datum) (p : RecordedVariable × List ℕ × List ℕ) (start : ℕ)
     → Reads text bytes left rest starts values → variable_at left rest ≡ Some p → start ≡ length text - length left
     → Reads text bytes p.1 p.2 (starts ++ start ∷ []) (values ++ p.0.value ∷ []) × (length p.1 < length left)
 reads_more text bytes left rest starts values p start r e is =
@@ -193,7 +194,7 @@ reads_more text bytes left rest starts values p start r e is =
     )
 
 -- there is room for one more
-pub reads_room : (text bytes left rest starts : List ℕ) (values : List Datum) (p : Variable × List ℕ × List ℕ)
+pub reads_room : (text bytes left rest starts : List ℕ) (values : List Datum) (p : RecordedVariable × List ℕ × List ℕ)
     → Reads text bytes left rest starts values → variable_at left rest ≡ Some p → length text ≤ MAX_LAYOUT_BYTES
     → (length starts < MAX_LINES) × (length values < MAX_LINES)
 reads_room text bytes left rest starts values p r e short =

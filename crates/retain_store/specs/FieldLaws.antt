@@ -93,12 +93,12 @@ wide64 = record {
 }
 
 -- what was read from the front of bytes, and what is left of them
-pub record Takes (bytes text rest : List ℕ) : Type 0 where
+pub record TakesBytes (bytes text rest : List ℕ) : Type 0 where
   pub parts : bytes ≡ text ++ rest
   pub rest_fits : IsBytes rest
 
 pub number_takes : (w : Width) (limit : ℕ) (wide : IsWide w limit) (bytes : List ℕ) (p : ℕ × List ℕ) → IsBytes bytes
-    → number_at w bytes ≡ Some p → Takes bytes (to_be_bytes w p.0) p.1 × (p.0 < limit)
+    → number_at w bytes ≡ Some p → TakesBytes bytes (to_be_bytes w p.0) p.1 × (p.0 < limit)
 number_takes w limit wide bytes p fits e =
     let g = unless_some (ltb (length bytes) (byte_len w))
     (from_be_bytes w (take (byte_len w) bytes), drop (byte_len w) bytes) p e in
@@ -106,13 +106,13 @@ number_takes w limit wide bytes p fits e =
     let front : to_be_bytes w (from_be_bytes w (take (byte_len w) bytes)) ≡ take (byte_len w) bytes =
     wide.back (take (byte_len w) bytes) (omega (arith, length-take (byte_len w) bytes))
     (IsBytes-take (byte_len w) bytes fits) in
-    let made : Takes bytes (to_be_bytes w (from_be_bytes w (take (byte_len w) bytes))) (drop (byte_len w) bytes) =
+    let made : TakesBytes bytes (to_be_bytes w (from_be_bytes w (take (byte_len w) bytes))) (drop (byte_len w) bytes) =
     record {
       parts = rw front (sym (take-append-drop (byte_len w) bytes));
       rest_fits =
           IsBytes-drop (byte_len w) bytes fits;
     } in
-    subst (λ (q : ℕ × List ℕ). Takes bytes (to_be_bytes w q.0) q.1 × (q.0 < limit)) g.1
+    subst (λ (q : ℕ × List ℕ). TakesBytes bytes (to_be_bytes w q.0) q.1 × (q.0 < limit)) g.1
     (made, wide.below (take (byte_len w) bytes) (IsBytes-take (byte_len w) bytes fits))
 
 pub number_again : (w : Width) (limit : ℕ) (wide : IsWide w limit) (n : ℕ) (rest : List ℕ) → n < limit

@@ -19,9 +19,10 @@ use Rattle.st_words.specs.Kinds.{row_of, holds, width_of}
 use Rattle.st_words.specs.Values.{Datum, IsHeld}
 use Rattle.retain_store.specs.Records.{Line, line_text, text_of, is_visible, is_path_text, wide_of, value_bytes}
 use Rattle.retain_store.specs.Reading.{◌>>=◌, number_at, cut, all_kinds, kind_of, line_at, number_of, value_at}
-use Rattle.retain_store.specs.Reading.{Variable, variable_at, variables_in}
-use Rattle.retain_store.specs.FieldLaws.{IsBytes, bind_some, some_is, when_some, Takes, IsWide, wide8, wide16, wide32}
-use Rattle.retain_store.specs.FieldLaws.{wide64, number_takes, number_again, has_no, cut_takes, cut_again, chosen}
+use Rattle.retain_store.specs.Reading.{RecordedVariable, variable_at, variables_in}
+use Rattle.retain_store.specs.FieldLaws.{IsBytes, bind_some, some_is, when_some, TakesBytes, IsWide, wide8, wide16}
+use Rattle.retain_store.specs.FieldLaws.{wide32, wide64, number_takes, number_again, has_no, cut_takes, cut_again}
+use Rattle.retain_store.specs.FieldLaws.{chosen}
 
 -- ---- types
 
@@ -131,7 +132,7 @@ line_again l rest sound =
 -- ---- values
 
 -- what the bytes of a type's values are
-pub record IsType (k : Kind) : Type 0 where
+pub record IsSpelledType (k : Kind) : Type 0 where
   pub limit : ℕ
   pub wide : IsWide (wide_of k) limit
   pub len : byte_len (wide_of k) ≡ width_of k
@@ -169,7 +170,7 @@ natural_near n limit size z lt same p = rw p.1 (omega (arith, p.2))
 signed_type : (k : Kind) (w : Width) (n limit : ℕ) → wide_of k ≡ w → IsWide w limit → byte_len w ≡ width_of k
     → 2 ^ bits w ≡ limit → n < limit → n < 2 ^ hbits w
     → ((z : ℤ) → holds k z ≡ (int_le (negsuc n) z && int_le z (pos n))) → ((m : ℕ) → number_of k m ≡ cast_signed w m)
-    → IsType k
+    → IsSpelledType k
 signed_type k w n limit is wide len same lt half range sign = record {
   limit = limit;
   wide = rw is wide;
@@ -183,7 +184,8 @@ signed_type k w n limit is wide len same lt half range sign = record {
 
 unsigned_type : (k : Kind) (w : Width) (n limit : ℕ) → wide_of k ≡ w → IsWide w limit → byte_len w ≡ width_of k
     → 2 ^ bits w ≡ limit → n < limit
-    → ((z : ℤ) → holds k z ≡ (int_le (pos 0) z && int_le z (pos n))) → ((m : ℕ) → number_of k m ≡ pos m) → IsType k
+    → ((z : ℤ) → holds k z ≡ (int_le (pos 0) z && int_le z (pos n))) → ((m : ℕ) → number_of k m ≡ pos m)
+    → IsSpelledType k
 unsigned_type k w n limit is wide len same lt range sign = record {
   limit = limit;
   wide = rw is wide;
@@ -195,7 +197,7 @@ unsigned_type k w n limit is wide len same lt range sign = record {
   near = λ z h. rw is (natural_near n limit (2 ^ bits w) z lt same (unsigned_natural n z (sym (range z) ∙ h)));
 }
 
-pub type_of : (k : Kind) → IsType k
+pub type_of : (k : Kind) → IsSpelledType k
 type_of Sint = signed_type Sint w8 (2 ^ 7 - 1) (2 ^ 8) refl wide8 refl refl (lit< tt) (lit< tt) (λ z. refl) (λ m. refl)
 type_of Int =
     signed_type Int w16 (2 ^ 15 - 1) (2 ^ 16) refl wide16 refl refl (lit< tt) (lit< tt) (λ z. refl) (λ m. refl)
@@ -219,7 +221,7 @@ pub value_length : (d : Datum) → length (value_bytes d) ≡ width_of d.kind
 value_length d = (type_of d.kind).wide.len (cast_unsigned (wide_of d.kind) d.number) ∙ (type_of d.kind).len
 
 pub value_takes : (k : Kind) (bytes : List ℕ) (p : Datum × List ℕ) → IsBytes bytes → value_at k bytes ≡ Some p
-    → Takes bytes (value_bytes p.0) p.1 × (p.0.kind ≡ k) × IsHeld p.0
+    → TakesBytes bytes (value_bytes p.0) p.1 × (p.0.kind ≡ k) × IsHeld p.0
 unfolding value_at
 value_takes k bytes p fits e =
     let t = type_of k in
@@ -227,9 +229,9 @@ value_takes k bytes p fits e =
     (λ n. cond (holds k (number_of k n.0)) (Some (record { kind = k; number = number_of k n.0 }, n.1)) None) p e in
     let b = when_some (holds k (number_of k a.0.0)) (record { kind = k; number = number_of k a.0.0 }, a.0.1) p a.2 in
     let n = number_takes (wide_of k) t.limit t.wide bytes a.0 fits a.1 in
-    let made : Takes bytes (to_be_bytes (wide_of k) (cast_unsigned (wide_of k) (number_of k a.0.0))) a.0.1 =
+    let made : TakesBytes bytes (to_be_bytes (wide_of k) (cast_unsigned (wide_of k) (number_of k a.0.0))) a.0.1 =
     rw (t.back a.0.0 n.1) n.0 in
-    subst (λ (q : Datum × List ℕ). Takes bytes (value_bytes q.0) q.1 × (q.0.kind ≡ k) × IsHeld q.0) b.1
+    subst (λ (q : Datum × List ℕ). TakesBytes bytes (value_bytes q.0) q.1 × (q.0.kind ≡ k) × IsHeld q.0) b.1
     (made, refl, b.0)
 
 pub value_again : (d : Datum) (rest : List ℕ) → IsHeld d → value_at d.kind (value_bytes d ++ rest) ≡ Some (d, rest)
@@ -246,20 +248,20 @@ value_again d rest held =
 -- ---- lines with their values
 
 -- the line of a variable
-abbrev pub line_of : Variable → Line
+abbrev pub line_of : RecordedVariable → Line
 line_of v = record { path = v.path; kind = v.value.kind }
 
--- what a variable may be
-pub record IsVariable (v : Variable) : Type 0 where
+-- what a variable of a record may be
+pub record IsSoundVariable (v : RecordedVariable) : Type 0 where
   pub path : is_path_text v.path ≡ true
   pub value : IsHeld v.value
 
-abbrev pub made : Line → Datum → Variable
+abbrev pub made : Line → Datum → RecordedVariable
 made l d = record { path = l.path; value = d }
 
-pub variable_takes : (text bytes : List ℕ) (p : Variable × List ℕ × List ℕ) → IsBytes bytes
+pub variable_takes : (text bytes : List ℕ) (p : RecordedVariable × List ℕ × List ℕ) → IsBytes bytes
     → variable_at text bytes ≡ Some p
-    → (text ≡ line_text (line_of p.0) ++ p.1) × Takes bytes (value_bytes p.0.value) p.2 × IsVariable p.0
+    → (text ≡ line_text (line_of p.0) ++ p.1) × TakesBytes bytes (value_bytes p.0.value) p.2 × IsSoundVariable p.0
 unfolding variable_at
 variable_takes text bytes p fits e =
     let a = bind_some (line_at text) (λ line. value_at line.0.kind bytes >>=
@@ -270,9 +272,9 @@ variable_takes text bytes p fits e =
     let v = value_takes a.0.0.kind bytes b.0 fits b.1 in
     let whole : text ≡ line_text (line_of (made a.0.0 b.0.0)) ++ a.0.1 = l.0
     ∙ ap (λ (k : Kind). line_text (record { path = a.0.0.path; kind = k }) ++ a.0.1) (sym v.1) in
-    subst (λ (q : Variable × List ℕ × List ℕ). (text ≡ line_text (line_of q.0) ++ q.1)
-    × Takes bytes (value_bytes q.0.value) q.2 × IsVariable q.0) (some_is (made a.0.0 b.0.0, a.0.1, b.0.1) p b.2)
-    (whole, v.0, record { path = l.1; value = v.2 })
+    subst (λ (q : RecordedVariable × List ℕ × List ℕ). (text ≡ line_text (line_of q.0) ++ q.1)
+    × TakesBytes bytes (value_bytes q.0.value) q.2 × IsSoundVariable q.0)
+    (some_is (made a.0.0 b.0.0, a.0.1, b.0.1) p b.2) (whole, v.0, record { path = l.1; value = v.2 })
 
 pub variable_again : (l : Line) (d : Datum) (text bytes : List ℕ) → is_path_text l.path ≡ true → IsHeld d
     → l.kind ≡ d.kind → variable_at (line_text l ++ text) (value_bytes d ++ bytes) ≡ Some (made l d, text, bytes)
@@ -307,18 +309,18 @@ line_is_some l rest = from l.path refl
       ),
     )
 
-abbrev pub texts : List Variable → List ℕ
+abbrev pub texts : List RecordedVariable → List ℕ
 texts vs = flat_map (λ v. line_text (line_of v)) vs
 
-abbrev pub values_bytes : List Variable → List ℕ
+abbrev pub values_bytes : List RecordedVariable → List ℕ
 values_bytes vs = flat_map (λ v. value_bytes v.value) vs
 
-pub variables_take : (most : ℕ) (text bytes : List ℕ) (vs : List Variable) → IsBytes bytes
+pub variables_take : (most : ℕ) (text bytes : List ℕ) (vs : List RecordedVariable) → IsBytes bytes
     → variables_in most text bytes ≡ Some vs
-    → (text ≡ texts vs) × (bytes ≡ values_bytes vs) × AllByRecursion IsVariable vs
+    → (text ≡ texts vs) × (bytes ≡ values_bytes vs) × AllByRecursion IsSoundVariable vs
 unfolding variables_in
 variables_take most [] [] vs fits e =
-    subst (λ (ws : List Variable). ([] ≡ texts ws) × ([] ≡ values_bytes ws) × AllByRecursion IsVariable ws)
+    subst (λ (ws : List RecordedVariable). ([] ≡ texts ws) × ([] ≡ values_bytes ws) × AllByRecursion IsSoundVariable ws)
     (some_is [] vs e) (refl, refl, tt)
 variables_take most [] (b ∷ bytes) vs fits e = absurd cc
 variables_take zero (c ∷ text) bytes vs fits e = absurd cc
@@ -330,15 +332,16 @@ variables_take (suc most) (c ∷ text) bytes vs fits e =
     let r = variables_take most a.0.1 a.0.2 b.0 f.1.rest_fits b.1 in
     let whole : c ∷ text ≡ texts (a.0.0 ∷ b.0) = f.0 ∙ ap (λ (x : List ℕ). line_text (line_of a.0.0) ++ x) r.0 in
     let all : bytes ≡ values_bytes (a.0.0 ∷ b.0) = f.1.parts ∙ ap (λ (x : List ℕ). value_bytes a.0.0.value ++ x) r.1 in
-    subst (λ (ws : List Variable). (c ∷ text ≡ texts ws) × (bytes ≡ values_bytes ws) × AllByRecursion IsVariable ws)
+    subst (λ (ws : List RecordedVariable). (c ∷ text ≡ texts ws) × (bytes ≡ values_bytes ws)
+    × AllByRecursion IsSoundVariable ws)
     (some_is (a.0.0 ∷ b.0) vs b.2) (whole, all, (f.2, r.2))
 
-abbrev pub paths_of : List Variable → List (List ℕ)
+abbrev pub paths_of : List RecordedVariable → List (List ℕ)
 paths_of vs = map (λ v. v.path) vs
 
 -- what lines and values of the same types spell
 pub record AreRead (most : ℕ) (lines : List Line) (values : List Datum) : Type 0 where
-  pub vs : List Variable
+  pub vs : List RecordedVariable
   pub read : variables_in most (text_of lines) (flat_map value_bytes values) ≡ Some vs
   pub paths : paths_of vs ≡ map (λ l. l.path) lines
   pub found : map (λ v. v.value) vs ≡ values

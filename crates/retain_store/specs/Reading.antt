@@ -52,19 +52,19 @@ value_at k bytes = do
   if holds k (number_of k n.0) then Some (record { kind = k; number = number_of k n.0 }, n.1) else None
 
 -- a retained variable: its path, and its value
-pub record Variable : Type 0 where
+pub record RecordedVariable : Type 0 where
   pub path : List ℕ
   pub value : Datum
 
 -- a line and a value at the front of the two, and what is after them
-unfoldable pub variable_at : List ℕ → List ℕ → Option (Variable × List ℕ × List ℕ)
+unfoldable pub variable_at : List ℕ → List ℕ → Option (RecordedVariable × List ℕ × List ℕ)
 variable_at text bytes = do
   line ← line_at text
   value ← value_at line.0.kind bytes
   Some (record { path = line.0.path; value = value.0 }, line.1, value.1)
 
 -- the lines and their values to the end of both; no more than so many
-unfoldable pub variables_in : ℕ → List ℕ → List ℕ → Option (List Variable)
+unfoldable pub variables_in : ℕ → List ℕ → List ℕ → Option (List RecordedVariable)
 variables_in most [] [] = Some []
 variables_in most [] (b ∷ bytes) = None
 variables_in zero (c ∷ text) bytes = None
@@ -114,7 +114,7 @@ path_from text start = first_word (cut 32 (drop start text))
 
 -- the variables that a text and bytes spell, by the offsets of their lines and by their values
 pub record AreVariables (text bytes starts : List ℕ) (values : List Datum) : Type 0 where
-  pub vs : List Variable
+  pub vs : List RecordedVariable
   pub read : variables_in (length text) text bytes ≡ Some vs
   pub paths : map (path_from text) starts ≡ map (λ v. v.path) vs
   pub found : values ≡ map (λ v. v.value) vs

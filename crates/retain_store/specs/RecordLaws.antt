@@ -11,13 +11,13 @@ use Rattle.std.proofs.lemmas.List.{take_at, drop_at, take-append-drop, length-ap
 use Rattle.st_words.specs.declared.limits.TheConstants.{MAX_RECORD_BODY, MOMENT_LIMIT}
 use Rattle.st_words.specs.declared.kind.Kind.{Kind}
 use Rattle.st_words.specs.Values.{IsHeld}
-use Rattle.retain_store.specs.Records.{Content, line_text, text_of, is_path_text, IsLayout, moment_code, value_bytes}
-use Rattle.retain_store.specs.Records.{record_bytes, IsRecord}
-use Rattle.retain_store.specs.Reading.{◌>>=◌, number_at, Variable, variables_in, are_distinct, moment_of, Parts}
+use Rattle.retain_store.specs.Records.{Content, line_text, text_of, is_path_text, IsLayoutText, moment_code}
+use Rattle.retain_store.specs.Records.{value_bytes, record_bytes, IsRecord}
+use Rattle.retain_store.specs.Reading.{◌>>=◌, number_at, RecordedVariable, variables_in, are_distinct, moment_of, Parts}
 use Rattle.retain_store.specs.Reading.{parts_at, decoded}
 use Rattle.retain_store.specs.FieldLaws.{IsBytes, IsBytes-drop, bind_some, some_is, when_some, when_kept, wide32}
 use Rattle.retain_store.specs.FieldLaws.{wide64, number_takes, number_again}
-use Rattle.retain_store.specs.LineLaws.{line_of, IsVariable, texts, values_bytes, paths_of, variables_take}
+use Rattle.retain_store.specs.LineLaws.{line_of, IsSoundVariable, texts, values_bytes, paths_of, variables_take}
 use Rattle.retain_store.specs.LineLaws.{variables_again}
 
 -- ---- paths that differ
@@ -138,33 +138,35 @@ parts_again moment layout rest low short =
 
 -- ---- lists of variables
 
-texts_are : (vs : List Variable) → texts vs ≡ text_of (map line_of vs)
+texts_are : (vs : List RecordedVariable) → texts vs ≡ text_of (map line_of vs)
 texts_are [] = refl
 texts_are (v ∷ vs) = ap (λ (x : List ℕ). line_text (line_of v) ++ x) (texts_are vs)
 
-values_are : (vs : List Variable) → values_bytes vs ≡ flat_map value_bytes (map (λ v. v.value) vs)
+values_are : (vs : List RecordedVariable) → values_bytes vs ≡ flat_map value_bytes (map (λ v. v.value) vs)
 values_are [] = refl
 values_are (v ∷ vs) = ap (λ (x : List ℕ). value_bytes v.value ++ x) (values_are vs)
 
-lines_paths : (vs : List Variable) → map (λ l. l.path) (map line_of vs) ≡ paths_of vs
+lines_paths : (vs : List RecordedVariable) → map (λ l. l.path) (map line_of vs) ≡ paths_of vs
 lines_paths [] = refl
 lines_paths (v ∷ vs) = ap (λ (x : List (List ℕ)). v.path ∷ x) (lines_paths vs)
 
-lines_kinds : (vs : List Variable) → map (λ d. d.kind) (map (λ v. v.value) vs) ≡ map (λ l. l.kind) (map line_of vs)
+lines_kinds : (vs : List RecordedVariable)
+    → map (λ d. d.kind) (map (λ v. v.value) vs) ≡ map (λ l. l.kind) (map line_of vs)
 lines_kinds [] = refl
 lines_kinds (v ∷ vs) = ap (λ (x : List Kind). v.value.kind ∷ x) (lines_kinds vs)
 
-paths_sound : (vs : List Variable) → AllByRecursion IsVariable vs
+paths_sound : (vs : List RecordedVariable) → AllByRecursion IsSoundVariable vs
     → AllByRecursion (λ l. is_path_text l.path ≡ true) (map line_of vs)
 paths_sound [] h = tt
 paths_sound (v ∷ vs) h = (h.0.path, paths_sound vs h.1)
 
-values_held : (vs : List Variable) → AllByRecursion IsVariable vs → AllByRecursion IsHeld (map (λ v. v.value) vs)
+values_held : (vs : List RecordedVariable) → AllByRecursion IsSoundVariable vs
+    → AllByRecursion IsHeld (map (λ v. v.value) vs)
 values_held [] h = tt
 values_held (v ∷ vs) h = (h.0.value, values_held vs h.1)
 
-pub layout_of : (text : List ℕ) (vs : List Variable) → text ≡ texts vs → AllByRecursion IsVariable vs
-    → are_distinct (paths_of vs) ≡ true → IsLayout text (map (λ d. d.kind) (map (λ v. v.value) vs))
+pub layout_of : (text : List ℕ) (vs : List RecordedVariable) → text ≡ texts vs → AllByRecursion IsSoundVariable vs
+    → are_distinct (paths_of vs) ≡ true → IsLayoutText text (map (λ d. d.kind) (map (λ v. v.value) vs))
 layout_of text vs is all once = record {
   lines = map line_of vs;
   paths = paths_sound vs all;
@@ -175,7 +177,7 @@ layout_of text vs is all once = record {
 
 -- ---- records
 
-record_made : (body : List ℕ) (p : Parts) (vs : List Variable) (c : Content) → length body ≤ MAX_RECORD_BODY
+record_made : (body : List ℕ) (p : Parts) (vs : List RecordedVariable) (c : Content) → length body ≤ MAX_RECORD_BODY
     → IsBytes body → parts_at body ≡ Some p → variables_in (length p.layout) p.layout p.rest ≡ Some vs
     → are_distinct (paths_of vs) ≡ true
     → record { moment = p.moment; layout = p.layout; values = map (λ v. v.value) vs } ≡ c → IsRecord body c

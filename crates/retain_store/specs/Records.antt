@@ -35,7 +35,7 @@ is_path_text [] = false
 is_path_text (b ∷ bs) = list_all is_visible (b ∷ bs)
 
 -- a text that is lines for variables of these types: each path is sound, and none stands twice
-pub record IsLayout (text : List ℕ) (kinds : List Kind) : Type 0 where
+pub record IsLayoutText (text : List ℕ) (kinds : List Kind) : Type 0 where
   pub lines : List Line
   pub paths : AllByRecursion (λ l. is_path_text l.path ≡ true) lines
   pub once : IsDistinct bytes_eq (map (λ l. l.path) lines)
@@ -64,7 +64,7 @@ record_bytes c = to_be_bytes w64 (moment_code c.moment) ++ to_be_bytes w32 (leng
 -- what a record may hold: a moment below its limit, values that their types hold, and a line for each of them
 pub record IsRecordable (c : Content) : Type 0 where
   pub moment : IfSome c.moment (λ t. t < MOMENT_LIMIT)
-  pub layout : IsLayout c.layout (map (λ d. d.kind) c.values)
+  pub layout : IsLayoutText c.layout (map (λ d. d.kind) c.values)
   pub values : AllByRecursion IsHeld c.values
 
 -- a body of an area that is a record of this content

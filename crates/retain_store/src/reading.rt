@@ -11,7 +11,7 @@ use st_words::Value;
 
 /// A retained variable: its path, and its value.
 #[derive(Clone, Copy)]
-struct Variable<'a> {
+struct RecordedVariable<'a> {
     path: &'a [u8],
     value: Value,
 }
@@ -51,7 +51,10 @@ pub(crate) fn read_variables(
 
 /// The line at the front of the text and the value at the front of the bytes, and what stands after them.
 #[tactic(auto, unfolding(crate::specs::Reading::variable_at))]
-fn variable_at<'a>(text: &'a [u8], bytes: &'a [u8]) -> Option<(Variable<'a>, &'a [u8], &'a [u8])>
+fn variable_at<'a>(
+    text: &'a [u8],
+    bytes: &'a [u8],
+) -> Option<(RecordedVariable<'a>, &'a [u8], &'a [u8])>
     ensures { option_map (λ p. (record { path = p.0.path.now; value = p.0.value }, p.1.now, p.2.now)) result
         ≡ variable_at text.now bytes.now }
 {
@@ -60,7 +63,7 @@ fn variable_at<'a>(text: &'a [u8], bytes: &'a [u8]) -> Option<(Variable<'a>, &'a
         return None;
     };
     let path = line.path;
-    Some((Variable { path, value }, text_behind, bytes_behind))
+    Some((RecordedVariable { path, value }, text_behind, bytes_behind))
 }
 
 /// Adds an item where there is room for it.
