@@ -4,7 +4,7 @@ use Rattle.st_words.specs.declared.kind.Kind.{Kind}
 use Rattle.st_words.specs.declared.kind.KindRow.{KindRow}
 use Rattle.st_words.specs.Kinds.{row_of}
 
-pub record IsRowOf (k : Kind) (row : KindRow) : Type 0 where
+pub record IsTableRowOf (k : Kind) (row : KindRow) : Type 0 where
   pub keyword : row.keyword.now ≡ (row_of k).keyword
   pub sort : row.sort ≡ (row_of k).sort
   pub bits : row.bits ≡ (row_of k).bits

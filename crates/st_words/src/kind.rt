@@ -51,11 +51,11 @@ pub struct KindRow {
 }
 
 impl Kind {
-    ghost use Rattle.st_words.specs.KindRows.{IsRowOf};
+    ghost use Rattle.st_words.specs.KindRows.{IsTableRowOf};
 
     /// The type's line of the table.
     pub fn row(self) -> KindRow
-        ensures { IsRowOf self result }
+        ensures { IsTableRowOf self result }
     {
         let (keyword, sort, bits) = match self {
             Kind::Sint => ("SINT", Sort::Signed, 8),
