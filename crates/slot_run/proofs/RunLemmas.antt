@@ -28,7 +28,7 @@ use Rattle.slot_code.specs.Codes.{CodeView, code_view, program_of}
 use Rattle.slot_run.specs.Cells.{with_cell, EachSlotOnce, each_once}
 use Rattle.slot_run.specs.Targets.{targets, all_targets}
 use Rattle.slot_run.specs.Effects.{is_variable_slot, has_slot, is_slot_of, is_target_slot, IsTrueOf}
-use Rattle.slot_run.specs.Steps.{AreAlike, IsVariable, scope_over, Steps, IsEnd, Runs, lasting_writes}
+use Rattle.slot_run.specs.Steps.{AreAlike, IsVariableSlot, scope_over, Steps, IsEnd, Runs, lasting_writes}
 use Rattle.slot_run.proofs.CellLemmas.{alike_written, length_written, inputs_stay, written_with, alike_by_reads}
 use Rattle.slot_run.proofs.Bools.{both, or_left, or_true, same_itself}
 use Rattle.slot_run.proofs.OnceLemmas.{none_once, once_with}
@@ -67,7 +67,7 @@ variable_slot_at [] x g known out = absurd (cc)
 variable_slot_at (h ∷ globals) x g known out = found_slot h g (bytes_eq x h.name) (global_named globals x)
     (is_variable_slot globals g.slot) out (λ e. variable_slot_at globals x g e out) known
 
-variable_slot : (globals : List GlobalSlot) (k : ℕ) → IsVariable globals k → is_variable_slot globals k ≡ true
+variable_slot : (globals : List GlobalSlot) (k : ℕ) → IsVariableSlot globals k → is_variable_slot globals k ≡ true
 variable_slot globals k v = ap (is_variable_slot globals) (sym v.slot)
     ∙ variable_slot_at globals v.name v.global v.known v.sort
 
@@ -111,8 +111,8 @@ moved text x rest layout vs ts moment budget left h e = rw (h, e) refl
 
 pub reached_next : (text : CodeView) (us : List Datum) (x : Stmt) (rest : List Stmt) (budget before left : ℕ)
     (slots : List Datum) (writes : List Cell) (c : Cell) → before ≡ suc left
-    → Reached text us (x ∷ rest) budget before slots writes → Steps text x slots (Ok c) → IsVariable text.globals c.0
-    → is_slot_of text.globals (targets x) c.0 ≡ true
+    → Reached text us (x ∷ rest) budget before slots writes → Steps text x slots (Ok c)
+    → IsVariableSlot text.globals c.0 → is_slot_of text.globals (targets x) c.0 ≡ true
     → Reached text us rest budget left (slice_set slots c.0 c.1) (with_cell writes c)
 reached_next text us x rest budget before left slots writes c one r steps variable target = record {
   goes_on = λ layout vs moment fits len alike.

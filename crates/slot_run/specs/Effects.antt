@@ -29,8 +29,8 @@ pub record Effect : Type 0 where
 
 -- In every layout that has the code's globals, and wherever what was read stands, the program ends so and leaves these
 -- writes.
-abbrev pub IsRunOf : Code → ℕ → ℕ → List Cell → List Cell → Outcome → Type 0
-IsRunOf code moment budget reads writes outcome =
+abbrev pub IsExecutionOf : Code → ℕ → ℕ → List Cell → List Cell → Outcome → Type 0
+IsExecutionOf code moment budget reads writes outcome =
     (layout : List Slot) (vs : List Datum) → Fits layout code.globals.items → length layout ≡ length vs
     → agrees vs reads ≡ true
     → (outcome_of (program_of (code_view code)) budget (variables_in layout vs) (inputs_in layout vs) moment ≡ outcome)
@@ -57,7 +57,7 @@ is_target_slot text k = is_slot_of text.globals (all_targets (stmts_of text.unit
 -- What a run did is true of it; its writes go to variables alone, and to those that its program assigns; no slot stands
 -- twice among its reads or among its writes; and a fault leaves none.
 pub record IsTrueOf (code : Code) (moment budget : ℕ) (reads writes : List Cell) (outcome : Outcome) : Type 0 where
-  pub run : IsRunOf code moment budget reads writes outcome
+  pub run : IsExecutionOf code moment budget reads writes outcome
   pub variables : list_all (λ c. is_variable_slot code.globals.items c.0) writes ≡ true
   pub targets : list_all (λ c. is_target_slot (code_view code) c.0) writes ≡ true
   pub reads_once : EachSlotOnce reads

@@ -33,7 +33,7 @@ AreAlike globals vs us = (x : Name) (g : GlobalSlot) → global_named globals x 
     → slice_get vs g.slot ≡ slice_get us g.slot
 
 -- the slot is that of a named global that is no input
-pub record IsVariable (globals : List GlobalSlot) (k : ℕ) : Type 0 where
+pub record IsVariableSlot (globals : List GlobalSlot) (k : ℕ) : Type 0 where
   pub name : Name
   pub global : GlobalSlot
   pub known : global_named globals name ≡ Some global

@@ -11,7 +11,7 @@ ghost use Rattle.slot_run.specs.Cells.{cut, cut_of, with_cell, EachSlotOnce, eac
 ghost use Rattle.slot_run.specs.Targets.{targets};
 ghost use Rattle.slot_run.specs.Effects.{is_variable_slot, is_slot_of, is_target_slot};
 ghost use Rattle.slot_run.specs.Executions.{IsEffectOf};
-ghost use Rattle.slot_run.specs.Steps.{IsVariable, Runs, Steps, lasting_writes};
+ghost use Rattle.slot_run.specs.Steps.{IsVariableSlot, Runs, Steps, lasting_writes};
 
 use crate::cell::Cell;
 use crate::execution::Execution;
@@ -62,7 +62,7 @@ fn may_replace(old: Value, new: Value) -> bool
 fn step(code: &Code, statement: &Stmt, slots: &[Value]) -> Result<Cell, Fault>
     requires plain { is_plain code.now.globals.items (stmt_view statement.now) ≡ true }
     ensures steps { Steps (code_view code.now) (stmt_view statement.now) slots.now (cut_of result) }
-    ensures variable { IfOk result (λ c. IsVariable code.now.globals.items c.slot) }
+    ensures variable { IfOk result (λ c. IsVariableSlot code.now.globals.items c.slot) }
     ensures target { IfOk result
         (λ c. is_slot_of code.now.globals.items (targets (stmt_view statement.now)) c.slot ≡ true) }
     ensures there { IfOk result (λ c. c.slot < length slots.now) }
