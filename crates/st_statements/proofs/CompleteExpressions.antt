@@ -29,8 +29,8 @@ use Rattle.st_statements.specs.ExpressionReading.{negative_of, negated_of, minus
 use Rattle.st_statements.specs.ExpressionReading.{operation_within, operators_at, expr_at}
 use Rattle.st_statements.specs.Expressions.{IsExpr, literal, variable, call, parenthesis, negative, negated, inverted}
 use Rattle.st_statements.specs.Expressions.{binary, IsVariable, selected, IsSelectors, no_selector, selector}
-use Rattle.st_statements.specs.Expressions.{IsSelector, member, subscript, IsArguments, no_argument, argument}
-use Rattle.st_statements.specs.Expressions.{IsMoreArguments, no_more_arguments, next_argument}
+use Rattle.st_statements.specs.Expressions.{IsSelector, member, subscript, IsExprs, no_argument, argument}
+use Rattle.st_statements.specs.Expressions.{IsMoreExprs, no_more_arguments, next_argument}
 use Rattle.st_statements.proofs.SoundReadings.{mark_is}
 use Rattle.st_statements.proofs.SoundTurns.{halts, turn_is}
 use Rattle.st_statements.proofs.ExpressionFacts.{is_less, expr_less, selector_less, depth_some, binds_small, or_false}
@@ -76,7 +76,7 @@ pub comma_stops : {ts us : Tokens} → Passes (mark m.Comma) ts us → Stops ts
 unfolding same_mark
 comma_stops p = mark_head m.Comma continues p.1
 
-rest_stops : {us vs ws : Tokens} {xs : List Expr} → IsMoreArguments us xs vs → Passes (mark m.Close) vs ws → Stops us
+rest_stops : {us vs ws : Tokens} {xs : List Expr} → IsMoreExprs us xs vs → Passes (mark m.Close) vs ws → Stops us
 rest_stops no_more_arguments c = close_stops c
 rest_stops (next_argument p i r) c = comma_stops p
 
@@ -411,7 +411,7 @@ mutual
       rw q (bracket_selector (expr_at below) o ∙ subscript_complete (expr_at below) o
       (whole_complete below 1 1 us vs x (read_complete i) low' (omega arith) (omega arith) stop.1 stop.0) c)
 
-  all_arguments_complete : {ts us vs : Tokens} {xs : List Expr} → IsArguments ts xs us → Passes (mark m.Close) us vs
+  all_arguments_complete : {ts us vs : Tokens} {xs : List Expr} → IsExprs ts xs us → Passes (mark m.Close) us vs
       → (below : ℕ) → deepest (exprs_of xs) ≤ below → arguments_at (expr_at below) ts ≡ Ok (xs, us)
   all_arguments_complete (no_argument {ts}) c below low = no_arguments_complete (expr_at below) c
   all_arguments_complete (argument {ts} {us} {vs} {x} {xs} i r) c below low =
@@ -419,7 +419,7 @@ mutual
       arguments_complete (expr_at below) (not_close i) (whole_complete below 1 1 ts us x (read_complete i) (omega arith)
       (omega arith) (omega arith) stop.1 stop.0) (rest_complete r c below (omega arith))
 
-  rest_complete : {ts us vs : Tokens} {xs : List Expr} → IsMoreArguments ts xs us → Passes (mark m.Close) us vs
+  rest_complete : {ts us vs : Tokens} {xs : List Expr} → IsMoreExprs ts xs us → Passes (mark m.Close) us vs
       → (below : ℕ) → deepest (exprs_of xs) ≤ below → Repeats (is_mark m.Comma) (after_comma (expr_at below 1)) ts xs us
   rest_complete (no_more_arguments {ts}) c below low =
       repeats_halt (is_mark m.Comma) (after_comma (expr_at below 1)) ts (close_no_comma c)

@@ -13,8 +13,8 @@ use Rattle.st_statements.specs.Operators.{binds_of}
 use Rattle.st_statements.specs.Laws.{Begins}
 use Rattle.st_statements.specs.Expressions.{IsExpr, literal, variable, call, parenthesis, negative, negated, inverted}
 use Rattle.st_statements.specs.Expressions.{binary, IsVariable, selected, IsSelectors, no_selector, selector}
-use Rattle.st_statements.specs.Expressions.{IsSelector, member, subscript, IsArguments, no_argument, argument}
-use Rattle.st_statements.specs.Expressions.{IsMoreArguments, no_more_arguments, next_argument}
+use Rattle.st_statements.specs.Expressions.{IsSelector, member, subscript, IsExprs, no_argument, argument}
+use Rattle.st_statements.specs.Expressions.{IsMoreExprs, no_more_arguments, next_argument}
 use Rattle.st_statements.proofs.SoundReadings.{an_identifier, token_of}
 use Rattle.st_statements.proofs.SoundLists.{Each}
 
@@ -46,11 +46,11 @@ mutual
   selector_less (member x d n q) = let a = is_less d.1 in let b = is_less n in omega arith
   selector_less (subscript x o i c q) = let a = is_less o.1 in let b = expr_less i in let d = is_less c.1 in omega arith
 
-  pub arguments_less : {ts us : Tokens} {xs : List Expr} → IsArguments ts xs us → length us ≤ length ts
+  pub arguments_less : {ts us : Tokens} {xs : List Expr} → IsExprs ts xs us → length us ≤ length ts
   arguments_less no_argument = omega arith
   arguments_less (argument i rest) = let a = expr_less i in let b = more_arguments_less rest in omega arith
 
-  pub more_arguments_less : {ts us : Tokens} {xs : List Expr} → IsMoreArguments ts xs us → length us ≤ length ts
+  pub more_arguments_less : {ts us : Tokens} {xs : List Expr} → IsMoreExprs ts xs us → length us ≤ length ts
   more_arguments_less no_more_arguments = omega arith
   more_arguments_less (next_argument c i rest) = let a = is_less c.1 in let b = expr_less i in
       let d = more_arguments_less rest in omega arith

@@ -31,8 +31,8 @@ use Rattle.st_statements.specs.ExpressionReading.{variable_at}
 use Rattle.st_statements.specs.Laws.{Grammar, Begins}
 use Rattle.st_statements.specs.Expressions.{IsExpr, literal, variable, call, parenthesis, negative, negated, inverted}
 use Rattle.st_statements.specs.Expressions.{binary, IsVariable, selected, IsSelectors, no_selector, selector}
-use Rattle.st_statements.specs.Expressions.{IsSelector, member, subscript, IsArguments, no_argument, argument}
-use Rattle.st_statements.specs.Expressions.{IsMoreArguments, no_more_arguments, next_argument}
+use Rattle.st_statements.specs.Expressions.{IsSelector, member, subscript, IsExprs, no_argument, argument}
+use Rattle.st_statements.specs.Expressions.{IsMoreExprs, no_more_arguments, next_argument}
 use Rattle.st_statements.proofs.Sound.{Family, Told, Tells, Any, Seq, Made, made, made_begins, seq_begins, begins_as}
 use Rattle.st_statements.proofs.Sound.{then_at, told_as, told_agree, told_pure, told_refuse, told_if, told_by_kind}
 use Rattle.st_statements.proofs.Sound.{told_too_deep, told_guard, Unless, told_unless}
@@ -137,7 +137,7 @@ is_read x us y vs (v, ws, s, made eq) =
     record { any = λ k ts n. variable v (selected_is x ts us ws v n s) eq; plain = ap strength eq }
 
 is_call : (f : Identifier) (us : Tokens) (y : Expr) (vs : Tokens) → Seq (Is (mark m.Open))
-    (λ at. Seq IsArguments (λ es. Seq (Is (mark m.Close)) (λ end. Made (e.call f (exprs_of es))))) us y vs
+    (λ at. Seq IsExprs (λ es. Seq (Is (mark m.Close)) (λ end. Made (e.call f (exprs_of es))))) us y vs
     → AfterName f us y vs
 is_call f us y vs (at, ws, o, (es, zs, s, (end, qs, c, made eq))) =
     record { any = λ k ts n. call f es n (at, o) s (end, c) eq; plain = ap strength eq }
@@ -219,19 +219,19 @@ module _ (below : ℕ) (expr : ℕ → ℕ → Parser Expr)
   sound_read_of x = sound_as (is_read x) (λ y us d. d)
       (sound_then (sound_variable_of x) (λ v. sound_pure (e.read v) (Low (below + 1)) (λ c us. c.1.1)))
 
-  sound_arguments : {C : Type 0} → Sound C (λ e. arguments_at (expr e)) IsArguments (LowEach below)
+  sound_arguments : {C : Type 0} → Sound C (λ e. arguments_at (expr e)) IsExprs (LowEach below)
   unfolding arguments_at
   sound_arguments = sound_if (is_mark m.Close)
       (sound_as (λ ts xs us s. no_arguments ts xs us s) (λ x us d. d)
       (sound_pure [] (LowEach below) (λ c us. omega arith)))
       (sound_as (λ ts xs us s. s) (λ xs us d. each_depth below xs d.0)
-      (sound_listed (λ e. expr e 1) (IsExpr 1) IsMoreArguments IsArguments (λ x. depth_of x ≤ below)
+      (sound_listed (λ e. expr e 1) (IsExpr 1) IsMoreExprs IsExprs (λ x. depth_of x ≤ below)
       (λ ts. no_more_arguments) (λ ts us x vs xs ws c o r. next_argument c o r) (λ ts x us o. expr_less o)
       (λ ts x us xs vs o r. argument o r)
       (sound_as (λ ts x us i. i) (λ x us d. d.0) (sound_expr 1 (omega arith)))))
     where
-      no_arguments : (ts : Tokens) (xs : List Expr) (us : Tokens) → Made [] ts xs us → IsArguments ts xs us
-      no_arguments ts xs us (made eq) = subst (λ (zs : List Expr). IsArguments ts zs ts) (sym eq) no_argument
+      no_arguments : (ts : Tokens) (xs : List Expr) (us : Tokens) → Made [] ts xs us → IsExprs ts xs us
+      no_arguments ts xs us (made eq) = subst (λ (zs : List Expr). IsExprs ts zs ts) (sym eq) no_argument
 
   sound_call_of : {C : Type 0} (f : Identifier) → Sound C (λ e. call_of (expr e) f) (AfterName f) (Low (below + 1))
   unfolding call_of

@@ -22,7 +22,7 @@ mutual
         → IsExpr k ts x us
     variable : {k : ℕ} {ts us : Tokens} {x : Expr} (v : Variable) → IsVariable ts v us → x ≡ e.read v → IsExpr k ts x us
     call : {k : ℕ} {ts us vs ws zs : Tokens} {x : Expr} (f : Identifier) (es : List Expr) → Is name ts f us
-        → Passes (mark m.Open) us vs → IsArguments vs es ws → Passes (mark m.Close) ws zs
+        → Passes (mark m.Open) us vs → IsExprs vs es ws → Passes (mark m.Close) ws zs
         → x ≡ e.call f (exprs_of es) → IsExpr k ts x zs
     parenthesis : {k : ℕ} {ts us vs ws : Tokens} {x : Expr} (at : ℕ) (inner : Expr) → Is (mark m.Open) ts at us
         → IsExpr 1 us inner vs → Passes (mark m.Close) vs ws
@@ -57,12 +57,13 @@ mutual
     subscript : {ts us vs ws : Tokens} {s : Selector} (x : Expr) → Passes (mark m.OpenBracket) ts us → IsExpr 1 us x vs
         → Passes (mark m.CloseBracket) vs ws → s ≡ e.subscript x → IsSelector ts s ws
 
-  pub data IsArguments : Tokens → List Expr → Tokens → Type 0 where
-    no_argument : {ts : Tokens} → IsArguments ts [] ts
-    argument : {ts us vs : Tokens} {x : Expr} {xs : List Expr} → IsExpr 1 ts x us → IsMoreArguments us xs vs
-        → IsArguments ts (x ∷ xs) vs
+  -- the arguments of a function call
+  pub data IsExprs : Tokens → List Expr → Tokens → Type 0 where
+    no_argument : {ts : Tokens} → IsExprs ts [] ts
+    argument : {ts us vs : Tokens} {x : Expr} {xs : List Expr} → IsExpr 1 ts x us → IsMoreExprs us xs vs
+        → IsExprs ts (x ∷ xs) vs
 
-  pub data IsMoreArguments : Tokens → List Expr → Tokens → Type 0 where
-    no_more_arguments : {ts : Tokens} → IsMoreArguments ts [] ts
+  pub data IsMoreExprs : Tokens → List Expr → Tokens → Type 0 where
+    no_more_arguments : {ts : Tokens} → IsMoreExprs ts [] ts
     next_argument : {ts us vs ws : Tokens} {x : Expr} {xs : List Expr} → Passes (mark m.Comma) ts us → IsExpr 1 us x vs
-        → IsMoreArguments vs xs ws → IsMoreArguments ts (x ∷ xs) ws
+        → IsMoreExprs vs xs ws → IsMoreExprs ts (x ∷ xs) ws
