@@ -13,7 +13,7 @@ use Rattle.st_statements.specs.Parsers.{Gives, number_at}
 use Rattle.st_statements.specs.ExpressionReading.{expr_at}
 use Rattle.st_statements.specs.InitialReading.{initial_at}
 use Rattle.st_statements.specs.StatementReading.{stmts_at}
-use Rattle.st_statements.specs.Laws.{IsRead, Applies, Answers, Anywhere}
+use Rattle.st_statements.specs.Laws.{IsRead, Applies, GivesTree, Anywhere}
 use Rattle.st_statements.specs.Expressions.{IsExpr}
 use Rattle.st_statements.specs.Initials.{IsInitial}
 use Rattle.st_statements.specs.Statements.{IsStmts}
@@ -52,7 +52,7 @@ module _ {X : Type 0} where
         ts result expression_told given
 
     pub expression_only : (x : Expr) (us : Tokens) → IsExpr 1 ts x us → EndsExpression us → IsShallow x
-        → Answers view result x us
+        → GivesTree view result x us
     expression_only = only_is (λ n. expr_at (MAX_DEPTH + n) 1) (IsExpr 1) EndsExpression (Low MAX_DEPTH) IsShallow
         depth_of (λ n ts x us i ends low. expr_complete (MAX_DEPTH + n) i low ends) (λ x l. l) view ts result given
 
@@ -69,7 +69,7 @@ module _ {X : Type 0} where
         IsShallowInitial depth_of_initial (λ n ts x us i ends low. initial_complete i (MAX_DEPTH + n) low) (λ x l. l)
         view ts result (told_initial MAX_DEPTH ts) given
 
-    pub initial_only : (x : Initial) (us : Tokens) → IsInitial ts x us → IsShallowInitial x → Answers view result x us
+    pub initial_only : (x : Initial) (us : Tokens) → IsInitial ts x us → IsShallowInitial x → GivesTree view result x us
     initial_only x us i low = only_is (λ n. initial_at (MAX_DEPTH + n)) IsInitial Anywhere (LowInitial MAX_DEPTH)
         IsShallowInitial depth_of_initial (λ n ts x us i ends low. initial_complete i (MAX_DEPTH + n) low) (λ x l. l)
         view ts result given x us i tt low
@@ -92,7 +92,7 @@ module _ {X : Type 0} where
         (λ x l. l) view ts result statements_told given
 
     pub statements_only : (xs : List Stmt) (us : Tokens) → IsStmts ts xs us → EndsStatements us → AreShallow xs
-        → Answers view result xs us
+        → GivesTree view result xs us
     statements_only = only_is (λ n. stmts_at (MAX_DEPTH + n)) IsStmts EndsStatements (LowStmts MAX_DEPTH) AreShallow
         (λ xs. deepest_stmt (stmts_of xs)) (λ n ts x us i ends low. all_complete (MAX_DEPTH + n) i low ends) (λ x l. l)
         view ts result given
@@ -107,6 +107,6 @@ module _ {X : Type 0} where
     number_refused = refused_is (λ n. number_at) IsNumber Anywhere Any HasDepthOne (λ x. 0)
         (λ n ts x us i ends low. number_complete i) (λ x l. omega arith) view ts result (told_by sound_number ts) given
 
-    pub number_only : (x : NumberLeaf) (us : Tokens) → IsNumber ts x us → Answers view result x us
+    pub number_only : (x : NumberLeaf) (us : Tokens) → IsNumber ts x us → GivesTree view result x us
     number_only x us i = only_is (λ n. number_at) IsNumber Anywhere Any HasDepthOne (λ x. 0)
         (λ n ts x us i ends low. number_complete i) (λ x l. omega arith) view ts result given x us i tt tt

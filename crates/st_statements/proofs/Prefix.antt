@@ -9,7 +9,7 @@ use Rattle.st_statements.specs.declared.fault.ReadError.{ReadError}
 use Rattle.st_statements.specs.declared.fault.ReadError.TheVariants as errors
 use Rattle.st_statements.specs.Tokens.{Tokens}
 use Rattle.st_statements.specs.Parsers.{Outcome, Gives}
-use Rattle.st_statements.specs.Laws.{Grammar, IsRead, IsUnexpected, IsTooDeep, Applies, Answers}
+use Rattle.st_statements.specs.Laws.{Grammar, IsRead, IsUnexpected, IsTooDeep, Applies, GivesTree}
 use Rattle.st_statements.proofs.Sound.{Family, Kept, Lost, Sunk, Told}
 
 abbrev answer : {A : Type 0} → A → Tokens → Outcome A
@@ -98,7 +98,7 @@ module _ {A : Type 0} (P : Family A) (R : Grammar A) (E : Tokens → Type 0) (D 
     refused_is (Err (errors.Refused d)) told given = refused_in (P 0 ts) d told given
 
     pub only_is : (result : Result X ReadError) → Gives view result (P 0 ts) → (x : A) (us : Tokens) → R ts x us → E us
-        → L x → Answers view result x us
+        → L x → GivesTree view result x us
     only_is (Ok found) given x us r ends low = let h = fits x low in
         in_ok (view found) (x, us) (sym given ∙ again 0 ts x us r ends (omega arith))
       where

@@ -56,14 +56,14 @@ Applies R E L ts (errors.Refused (Unexpected n)) = IsUnexpected R E ts n
 Applies R E L ts (errors.Refused Deep) = IsTooDeep R E L ts
 
 -- this tree and these tokens after it, unless memory ran out
-abbrev pub Answers : {X A : Type 0} → (X → A × Tokens) → Result X ReadError → A → Tokens → Type 0
-Answers view (Ok found) x us = view found ≡ (x, us)
-Answers view (Err errors.Memory) x us = Unit {0}
-Answers view (Err (errors.Refused f)) x us = ⊥
+abbrev pub GivesTree : {X A : Type 0} → (X → A × Tokens) → Result X ReadError → A → Tokens → Type 0
+GivesTree view (Ok found) x us = view found ≡ (x, us)
+GivesTree view (Err errors.Memory) x us = Unit {0}
+GivesTree view (Err (errors.Refused f)) x us = ⊥
 
 -- the same, where the tokens after it come with it
 abbrev pub Finds : {X A : Type 0} → (X → A) → Result (X × Bor Tokens) ReadError → A → Tokens → Type 0
-Finds view result x us = Answers (λ r. (view r.0, r.1.now)) result x us
+Finds view result x us = GivesTree (λ r. (view r.0, r.1.now)) result x us
 
 -- it may end after whatever comes
 abbrev pub Anywhere : Tokens → Type 0
