@@ -14,7 +14,7 @@ use Rattle.st_parse.specs.Units.{IsUnit}
 use Rattle.st_parse.specs.Units as u
 use Rattle.st_parse.specs.Configurations.{IsConfiguration}
 use Rattle.st_parse.specs.Configurations as c
-use Rattle.st_parse.specs.Sources.{IsElement, IsSource}
+use Rattle.st_parse.specs.Sources.{IsLibraryElement, IsSource}
 use Rattle.st_parse.specs.Sources as s
 use Rattle.st_parse.specs.Depths.{TypeWithin, UnitWithin, ConfigurationWithin, ElementWithin, SourceWithin}
 use Rattle.st_parse.specs.SourceReading.{types_element_at, function_element_at, block_element_at, program_element_at}
@@ -69,7 +69,7 @@ module _ (depth : ℕ) where
   unit_complete (u.program x bs body k n b i f q) low = let word = program_word k.1 in
       word.0 ∙ rw (program_complete depth (u.program x bs body k n b i f q) low word.1) refl
 
-  element_complete : {ts us : Tokens} {x : LibraryElement} → IsElement ts x us → ElementWithin depth x
+  element_complete : {ts us : Tokens} {x : LibraryElement} → IsLibraryElement ts x us → ElementWithin depth x
       → element_at depth ts ≡ Ok (x, us)
   unfolding types_element_at configuration_element_at
   element_complete (s.types xs i q) low =
@@ -86,5 +86,6 @@ module _ (depth : ℕ) where
       → source_at depth ts ≡ Ok (x, [])
   unfolding source_at
   source_complete i low =
-      many_complete is_token (element_at depth) IsElement (ElementWithin depth) (λ ts x us o l. element_complete o l)
-      (λ ts x us o. some_token ts us (element_less ts x us o)) element_less i low refl
+      many_complete is_token (element_at depth) IsLibraryElement (ElementWithin depth)
+      (λ ts x us o l. element_complete o l) (λ ts x us o. some_token ts us (element_less ts x us o))
+      element_less i low refl

@@ -15,19 +15,19 @@ use Rattle.st_statements.specs.Laws.{Begins}
 use Rattle.st_statements.proofs.Sound.{Told, Kept, Lost, Sunk}
 use Rattle.st_statements.proofs.SoundReadings.{told_by}
 use Rattle.st_parse.specs.Lists.{Many}
-use Rattle.st_parse.specs.Sources.{IsElement, IsSource}
+use Rattle.st_parse.specs.Sources.{IsLibraryElement, IsSource}
 use Rattle.st_parse.specs.Depths.{SourceWithin}
 use Rattle.st_statements.specs.Places.{end_of, start_of, place_left, parse_error}
-use Rattle.st_parse.specs.Answers.{place_behind, BeginsSource, IsUnexpectedAt, IsTooDeep, Refused, Answers}
+use Rattle.st_parse.specs.Answers.{place_behind, BeginsSource, IsUnexpectedAt, IsTooDeepSource, Refused, Answers}
 use Rattle.st_parse.specs.SourceReading.{is_token, source_at}
 use Rattle.st_parse.proofs.SoundSources.{sound_source}
 use Rattle.st_parse.proofs.CompleteSources.{source_complete}
 use Rattle.st_parse.proofs.Bounds.{bounded_source}
 
-begun : (front : Tokens) → Begins (Many IsElement) front → BeginsSource front
+begun : (front : Tokens) → Begins (Many IsLibraryElement) front → BeginsSource front
 begun front b = record { more = b.more ++ []; source = b.tree; whole = b.whole [] }
 
-told : (ts : Tokens) → Told (λ n. source_at (MAX_DEPTH + n)) (Many IsElement)
+told : (ts : Tokens) → Told (λ n. source_at (MAX_DEPTH + n)) (Many IsLibraryElement)
     (λ xs us. SourceWithin MAX_DEPTH xs × (next is_token us ≡ false)) ts (source_at (MAX_DEPTH + 0) ts)
 told = told_by (sound_source MAX_DEPTH)
 
@@ -35,15 +35,16 @@ no_tokens : (us : Tokens) → next is_token us ≡ false → us ≡ []
 no_tokens [] eq = refl
 no_tokens (t ∷ us) eq = absurd cc
 
-kept_source : (ts us : Tokens) (x : Source) → Kept (λ n. source_at (MAX_DEPTH + n)) (Many IsElement)
+kept_source : (ts us : Tokens) (x : Source) → Kept (λ n. source_at (MAX_DEPTH + n)) (Many IsLibraryElement)
     (λ xs us. SourceWithin MAX_DEPTH xs × (next is_token us ≡ false)) ts x us → IsSource ts x × SourceWithin MAX_DEPTH x
 kept_source ts us x k =
     let none = no_tokens us k.low.1 in
     let parts : ts ≡ k.front ++ [] = k.parts ∙ ap (λ (vs : Tokens). k.front ++ vs) none in
     (subst (λ (zs : Tokens). IsSource zs x) (sym parts) (k.is []), k.low.0)
 
-lost_place : (ts : Tokens) (n : ℕ) → Lost (λ k. source_at (MAX_DEPTH + k)) (Many IsElement) ts n → (front : Tokens)
-    × (rest : Tokens) × (ts ≡ front ++ rest) × (length rest ≡ n) × IsUnexpectedAt ts (place_behind front rest)
+lost_place : (ts : Tokens) (n : ℕ) → Lost (λ k. source_at (MAX_DEPTH + k)) (Many IsLibraryElement) ts n
+    → (front : Tokens) × (rest : Tokens) × (ts ≡ front ++ rest) × (length rest ≡ n)
+    × IsUnexpectedAt ts (place_behind front rest)
 lost_place ts n l = (
   l.front,
   l.rest,
@@ -64,7 +65,7 @@ lost_place ts n l = (
   },
 )
 
-sunk_deep : (ts : Tokens) → Sunk (λ k. source_at (MAX_DEPTH + k)) (Many IsElement) ts → IsTooDeep ts
+sunk_deep : (ts : Tokens) → Sunk (λ k. source_at (MAX_DEPTH + k)) (Many IsLibraryElement) ts → IsTooDeepSource ts
 sunk_deep ts l = record {
   front = l.front;
   rest = l.rest;
@@ -74,8 +75,8 @@ sunk_deep ts l = record {
 }
 
 told_as : (ts : Tokens) (r : Outcome Source) → source_at MAX_DEPTH ts ≡ r → Told (λ n. source_at (MAX_DEPTH + n))
-    (Many IsElement) (λ xs us. SourceWithin MAX_DEPTH xs × (next is_token us ≡ false)) ts r
-told_as ts r eq = subst (λ (z : Outcome Source). Told (λ n. source_at (MAX_DEPTH + n)) (Many IsElement)
+    (Many IsLibraryElement) (λ xs us. SourceWithin MAX_DEPTH xs × (next is_token us ≡ false)) ts r
+told_as ts r eq = subst (λ (z : Outcome Source). Told (λ n. source_at (MAX_DEPTH + n)) (Many IsLibraryElement)
     (λ xs us. SourceWithin MAX_DEPTH xs × (next is_token us ≡ false)) ts z) eq (told ts)
 
 pub found_source : (ts us : Tokens) (x : Source) → source_at MAX_DEPTH ts ≡ Ok (x, us)
@@ -86,7 +87,7 @@ pub unexpected : (ts : Tokens) (n : ℕ) → source_at MAX_DEPTH ts ≡ Err (Une
     × (rest : Tokens) × (ts ≡ front ++ rest) × (length rest ≡ n) × IsUnexpectedAt ts (place_behind front rest)
 unexpected ts n eq = lost_place ts n (told_as ts (Err (Unexpected n)) eq)
 
-pub deep_source : (ts : Tokens) → source_at MAX_DEPTH ts ≡ Err Deep → IsTooDeep ts
+pub deep_source : (ts : Tokens) → source_at MAX_DEPTH ts ≡ Err Deep → IsTooDeepSource ts
 deep_source ts eq = sunk_deep ts (told_as ts (Err Deep) eq)
 
 pub only_ok : (ts us : Tokens) (x source : Source) → source_at MAX_DEPTH ts ≡ Ok (x, us) → IsSource ts source

@@ -25,7 +25,7 @@ use Rattle.st_parse.specs.Configurations as c
 use Rattle.st_parse.specs.Configurations.{IsGlobalNames, IsGlobal, IsGlobalBlock, IsSingle, IsInterval, IsTask, IsWith}
 use Rattle.st_parse.specs.Configurations.{IsInstance, IsResource, IsConfiguration}
 use Rattle.st_parse.specs.Sources as s
-use Rattle.st_parse.specs.Sources.{IsElement}
+use Rattle.st_parse.specs.Sources.{IsLibraryElement}
 use Rattle.st_parse.proofs.SoundParts.{many_less, several_less, listed_less, optional_less, token_less}
 
 pub array_less : {ts us : Tokens} {a : ArrayType} → IsArray ts a us → length us < length ts
@@ -168,7 +168,7 @@ configuration_less (c.configuration x gs rs k n m i e eq) =
     let a' = is_less k.1 in let b' = is_less n in let c' = many_less global_block_less m in
     let d' = several_less resource_less i in let e' = is_less e.1 in omega arith
 
-pub element_less : (ts : Tokens) (x : LibraryElement) (us : Tokens) → IsElement ts x us → length us < length ts
+pub element_less : (ts : Tokens) (x : LibraryElement) (us : Tokens) → IsLibraryElement ts x us → length us < length ts
 element_less rs x vs (s.types xs i eq) = types_less i
 element_less rs x vs (s.unit u i eq) = unit_less i
 element_less rs x vs (s.configuration c i eq) = configuration_less i

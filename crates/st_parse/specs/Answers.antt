@@ -33,7 +33,7 @@ pub record IsUnexpectedAt (tokens : Tokens) (place : ℕ) : Type 0 where
   pub none : (more : Tokens) (source : Source) → SameHead rest more → IsSource (front ++ more) source → ⊥
 
 -- A prefix of the tokens begins some text of the grammar, and no text that begins so is within the depth.
-pub record IsTooDeep (tokens : Tokens) : Type 0 where
+pub record IsTooDeepSource (tokens : Tokens) : Type 0 where
   pub front : Tokens
   pub rest : Tokens
   pub parts : tokens ≡ front ++ rest
@@ -43,7 +43,7 @@ pub record IsTooDeep (tokens : Tokens) : Type 0 where
 -- why tokens are refused; out of memory says nothing of them
 abbrev pub Refused : Tokens → ParseError → Type 0
 Refused tokens (errors.Unexpected place) = IsUnexpectedAt tokens place
-Refused tokens errors.Deep = IsTooDeep tokens
+Refused tokens errors.Deep = IsTooDeepSource tokens
 Refused tokens errors.Memory = Unit {0}
 
 -- this source is the answer, unless memory ran out

@@ -11,14 +11,14 @@ use Rattle.st_parse.specs.Types.{IsTypes}
 use Rattle.st_parse.specs.Units.{IsUnit}
 use Rattle.st_parse.specs.Configurations.{IsConfiguration}
 
-pub data IsElement : Tokens → LibraryElement → Tokens → Type 0 where
+pub data IsLibraryElement : Tokens → LibraryElement → Tokens → Type 0 where
   types : {ts us : Tokens} {x : LibraryElement} (xs : List TypeDeclaration) → IsTypes ts xs us → x ≡ e.types xs
-      → IsElement ts x us
+      → IsLibraryElement ts x us
   unit : {ts us : Tokens} {x : LibraryElement} (u : OrganisationUnit) → IsUnit ts u us → x ≡ e.unit u
-      → IsElement ts x us
+      → IsLibraryElement ts x us
   configuration : {ts us : Tokens} {x : LibraryElement} (c : Configuration) → IsConfiguration ts c us
-      → x ≡ e.configuration c → IsElement ts x us
+      → x ≡ e.configuration c → IsLibraryElement ts x us
 
 -- All of the tokens are those of the source.
 abbrev pub IsSource : Tokens → Source → Type 0
-IsSource ts source = Many IsElement ts source []
+IsSource ts source = Many IsLibraryElement ts source []
