@@ -7,7 +7,7 @@ use Rattle.config.specs.declared.plan.Plan.{Plan}
 use Rattle.config.specs.PlanViews.{plan_view}
 use Rattle.image.specs.Plants.{AreRowsOf}
 use Rattle.commit_lock.specs.Cores.{CoreView}
-use Rattle.st_build.specs.Plans.{IsTextOf, IsPlanOf, Refused}
+use Rattle.st_build.specs.Plans.{IsTextOf, IsPlanOf, TextLacksPlan}
 use Rattle.plant_words.specs.declared.job.Job.{Job}
 use Rattle.plant_words.specs.declared.job.Job.TheVariants as jobs
 use Rattle.plant_words.specs.declared.job.Start.{Start}
@@ -82,5 +82,5 @@ IsUnread fault = (fault ≡ faults.Source) ⊎ (fault ≡ faults.Build errors.Me
 -- plan applies to it.
 abbrev pub RefusesSource : ℕ → Fault → Type 0
 RefusesSource budget faults.Source = Unit {0}
-RefusesSource budget (faults.Build e) = (text : List ℕ) × Refused text budget e
+RefusesSource budget (faults.Build e) = (text : List ℕ) × TextLacksPlan text budget e
 RefusesSource budget _ = ⊥

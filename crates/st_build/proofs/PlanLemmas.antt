@@ -20,10 +20,10 @@ use Rattle.st_plans.specs.Plans as plans
 use Rattle.st_lex.specs.declared.token.Token.{Token}
 use Rattle.st_lex.specs.declared.fault.LexError.{LexError}
 use Rattle.st_lex.specs.declared.fault.LexError.TheVariants as lexing
-use Rattle.st_lex.specs.Texts as texts
+use Rattle.st_lex.specs.Texts.{GivesTokens}
 use Rattle.st_statements.specs.declared.fault.ParseError.{ParseError}
 use Rattle.st_statements.specs.declared.fault.ParseError.TheVariants as grammar
-use Rattle.st_parse.specs.Answers as parsing
+use Rattle.st_parse.specs.Answers.{Answers}
 use Rattle.config.specs.declared.plan.Plan.{Plan}
 use Rattle.config.specs.PlanViews.{plan_view}
 use Rattle.config.specs.declared.thin_program.ThinProgram.{ThinProgram}
@@ -34,11 +34,11 @@ use Rattle.config.specs.ThinPlans.{is_within, thin_plan}
 use Rattle.st_build.specs.declared.build_error.BuildError.{BuildError}
 use Rattle.st_build.specs.declared.build_error.BuildError.TheVariants as errors
 use Rattle.st_rules.specs.declared.rule.Broken.{Broken}
-use Rattle.st_rules.specs.Rules as broken_rules
+use Rattle.st_rules.specs.Rules.{Breaks}
 use Rattle.st_build.specs.TextParts.{configurations_in, has_types, IsNotConfigured}
 use Rattle.st_build.specs.Refusals.{HasGlobals, HasTooManyPaths, HasThinRecordTooLong}
-use Rattle.st_build.specs.Plans.{MeetsRules, HasPrograms, IsPlanFrom, IsPlanOf, IsUnsupported, IsBeyond, Breaks}
-use Rattle.st_build.specs.Plans.{Applies, IsMemory, GivesPlan}
+use Rattle.st_build.specs.Plans.{MeetsRules, HasPrograms, IsPlanFrom, IsPlanOf, IsUnsupported, IsBeyond, LacksPlan}
+use Rattle.st_build.specs.Plans.{TreeLacksPlan, IsMemory, GivesPlan}
 use Rattle.st_build.proofs.ListLemmas.{same_parts}
 
 -- the limits that a thin plan keeps
@@ -84,7 +84,7 @@ one_plan units c budget p q a b =
 
 -- units and a configuration that have a plan are refused only where memory runs out
 not_refused : (units : List OrganisationUnit) (c : Configuration) (budget : ℕ) (p : plans.Plan) (e : BuildError)
-    → IsPlanFrom units c budget p → Breaks units c budget e → IsMemory e
+    → IsPlanFrom units c budget p → LacksPlan units c budget e → IsMemory e
 not_refused units c budget p errors.Unknown a h = let k = a.kept.known in absurd (cc)
 not_refused units c budget p errors.Address a h = let k = a.kept.addresses in absurd (cc)
 not_refused units c budget p errors.TooMany a h = let k = a.kept.few in absurd (cc)
@@ -141,7 +141,7 @@ same_one c d h = ap (head_or c) h
 pub plan_of_text :
     (source : Source) (units : List OrganisationUnit) (c : Configuration) (budget : ℕ) (plan : plans.Plan)
     → units ≡ units_in source → configurations_in source ≡ c ∷ [] → has_types source ≡ false
-    → ((broken : Broken) → broken_rules.Breaks source broken → ⊥)
+    → ((broken : Broken) → Breaks source broken → ⊥)
     → IsPlanFrom units c budget plan → IsPlanOf source budget plan
 plan_of_text source units c budget plan us one plain unbroken from =
     record {
@@ -163,14 +163,14 @@ from_text source units c budget plan us one p =
     (subst (λ x. IsPlanFrom (units_in source) x budget plan) same p.from)
 
 here : (source : Source) (units : List OrganisationUnit) (c : Configuration) (budget : ℕ) (e : BuildError)
-    → units ≡ units_in source → configurations_in source ≡ c ∷ [] → Breaks units c budget e
-    → (d : Configuration) × (configurations_in source ≡ d ∷ []) × Breaks (units_in source) d budget e
-here source units c budget e us one h = (c, one, subst (λ x. Breaks x c budget e) us h)
+    → units ≡ units_in source → configurations_in source ≡ c ∷ [] → LacksPlan units c budget e
+    → (d : Configuration) × (configurations_in source ≡ d ∷ []) × LacksPlan (units_in source) d budget e
+here source units c budget e us one h = (c, one, subst (λ x. LacksPlan x c budget e) us h)
 
 -- a text without a plan of its units and its configuration
 beyond : (source : Source) (units : List OrganisationUnit) (c : Configuration) (budget : ℕ) → units ≡ units_in source
     → configurations_in source ≡ c ∷ []
-    → ((broken : Broken) → broken_rules.Breaks source broken → ⊥) → IsUnsupported units c budget
+    → ((broken : Broken) → Breaks source broken → ⊥) → IsUnsupported units c budget
     → IsBeyond source budget
 beyond source units c budget us one unbroken h = record {
   configuration = c;
@@ -185,7 +185,7 @@ beyond source units c budget us one unbroken h = record {
 -- a text whose units and configuration have a plan, and that has types
 pub beyond_types : (source : Source) (units : List OrganisationUnit) (c : Configuration) (budget : ℕ)
     (plan : plans.Plan) → units ≡ units_in source → configurations_in source ≡ c ∷ []
-    → ((broken : Broken) → broken_rules.Breaks source broken → ⊥) → has_types source ≡ true
+    → ((broken : Broken) → Breaks source broken → ⊥) → has_types source ≡ true
     → IsPlanFrom units c budget plan → IsBeyond source budget
 beyond_types source units c budget plan us one unbroken types from = record {
   configuration = c;
@@ -200,7 +200,7 @@ beyond_types source units c budget plan us one unbroken types from = record {
 
 pub breaks_text : (source : Source) (units : List OrganisationUnit) (c : Configuration) (budget : ℕ) (e : BuildError)
     → units ≡ units_in source → configurations_in source ≡ c ∷ []
-    → ((broken : Broken) → broken_rules.Breaks source broken → ⊥) → Breaks units c budget e → Applies source budget e
+    → ((broken : Broken) → Breaks source broken → ⊥) → LacksPlan units c budget e → TreeLacksPlan source budget e
 breaks_text source units c budget errors.Unknown us one unbroken h = here source units c budget errors.Unknown us one h
 breaks_text source units c budget errors.Address us one unbroken h = here source units c budget errors.Address us one h
 breaks_text source units c budget errors.TooMany us one unbroken h = here source units c budget errors.TooMany us one h
@@ -218,7 +218,7 @@ breaks_text source units c budget (errors.Words x) us one unbroken h = absurd h
 breaks_text source units c budget (errors.Grammar x) us one unbroken h = absurd h
 
 pub not_configured : (source : Source) (budget : ℕ) (e : BuildError) → IsNotConfigured source e
-    → Applies source budget e
+    → TreeLacksPlan source budget e
 not_configured source budget errors.NoConfiguration h = h
 not_configured source budget errors.Unsupported h = absurd h
 not_configured source budget errors.Memory h = h
@@ -234,7 +234,7 @@ not_configured source budget (errors.Words x) h = absurd h
 not_configured source budget (errors.Grammar x) h = absurd h
 
 there : (source : Source) (budget : ℕ) (p : plans.Plan) (e : BuildError) → IsPlanOf source budget p
-    → ((c : Configuration) × (configurations_in source ≡ c ∷ []) × Breaks (units_in source) c budget e) → IsMemory e
+    → ((c : Configuration) × (configurations_in source ≡ c ∷ []) × LacksPlan (units_in source) c budget e) → IsMemory e
 there source budget p e a h =
     not_refused (units_in source) h.0 budget p e (from_text source (units_in source) h.0 budget p refl h.1 a) h.2
 
@@ -246,7 +246,7 @@ text_plan source budget p q a b = one_plan (units_in source) b.configuration bud
 
 -- a text that has a plan is refused only where memory runs out
 pub text_refused : (source : Source) (budget : ℕ) (p : plans.Plan) (e : BuildError) → IsPlanOf source budget p
-    → Applies source budget e → IsMemory e
+    → TreeLacksPlan source budget e → IsMemory e
 text_refused source budget p errors.NoConfiguration a h = absurd (let one = a.one in cc)
 text_refused source budget p errors.Unsupported a h = absurd (h.none p a)
 text_refused source budget p (errors.Rule x) a h = absurd (a.unbroken x h)
@@ -263,16 +263,16 @@ text_refused source budget p (errors.Grammar x) a h = there source budget p (err
 
 -- the lexer and the parser give what is there, or want memory
 pub words_refused : (e : LexError) (found : Result (Vec Token) LexError) (tokens : List Token) → found ≡ Err e
-    → texts.Gives found tokens → IsMemory (errors.Words e)
+    → GivesTokens found tokens → IsMemory (errors.Words e)
 words_refused lexing.Memory found tokens is h = search rules
-words_refused lexing.TooLong found tokens is h = absurd (subst (λ x. texts.Gives x tokens) is h)
-words_refused (lexing.Fault f place) found tokens is h = absurd (subst (λ x. texts.Gives x tokens) is h)
+words_refused lexing.TooLong found tokens is h = absurd (subst (λ x. GivesTokens x tokens) is h)
+words_refused (lexing.Fault f place) found tokens is h = absurd (subst (λ x. GivesTokens x tokens) is h)
 
 pub grammar_refused : (e : ParseError) (found : Result Tree ParseError) (source : Source) → found ≡ Err e
-    → parsing.Answers source found → IsMemory (errors.Grammar e)
+    → Answers source found → IsMemory (errors.Grammar e)
 grammar_refused grammar.Memory found source is h = search rules
-grammar_refused grammar.Deep found source is h = absurd (subst (λ x. parsing.Answers source x) is h)
-grammar_refused (grammar.Unexpected place) found source is h = absurd (subst (λ x. parsing.Answers source x) is h)
+grammar_refused grammar.Deep found source is h = absurd (subst (λ x. Answers source x) is h)
+grammar_refused (grammar.Unexpected place) found source is h = absurd (subst (λ x. Answers source x) is h)
 
 -- a budget that is refused has no plan
 pub budget_refused : (source : Source) (budget : ℕ) (p : plans.Plan) → IsPlanOf source budget p
@@ -295,6 +295,7 @@ err_more P Q (Err e) f h = f e h
 -- the plan of a text is given, unless memory ran out
 pub plan_given : (source : Source) (budget : ℕ) (plan : plans.Plan) (r : Result Plan BuildError)
     → IsPlanOf source budget plan
-    → IfOk r (λ q. IsPlanOf source budget (plan_view q)) → IfErr r (λ e. Applies source budget e) → GivesPlan r plan
+    → IfOk r (λ q. IsPlanOf source budget (plan_view q)) → IfErr r (λ e. TreeLacksPlan source budget e)
+    → GivesPlan r plan
 plan_given source budget plan (Ok q) is ok err = text_plan source budget (plan_view q) plan ok is
 plan_given source budget plan (Err e) is ok err = text_refused source budget plan e is err

@@ -6,11 +6,11 @@ use Rattle.st_trees.specs.Configurations.{Configuration}
 use Rattle.st_trees.specs.Sources.{Source}
 use Rattle.st_lex.specs.declared.token.Token.{Token}
 use Rattle.st_lex.specs.declared.fault.LexError.TheVariants as lexing
-use Rattle.st_lex.specs.Texts as texts
+use Rattle.st_lex.specs.Texts.{IsSpelledBy, LexErrorApplies}
 use Rattle.st_statements.specs.declared.fault.ParseError.TheVariants as grammar
 use Rattle.st_parse.specs.Sources.{IsSource}
 use Rattle.st_parse.specs.Depths.{SourceWithin}
-use Rattle.st_parse.specs.Answers as parsing
+use Rattle.st_parse.specs.Answers.{Refused}
 use Rattle.st_plans.specs.declared.plan.PlanVariable.{PlanVariable}
 use Rattle.st_plans.specs.declared.plan.PlanInput.{PlanInput}
 use Rattle.st_types.specs.NameTypes.{units_in}
@@ -20,7 +20,7 @@ use Rattle.config.specs.declared.thin_program.ThinProgram.{ThinProgram}
 use Rattle.config.specs.PlanViews.{plan_view}
 use Rattle.config.specs.ThinPlans.{is_thin, thin_plan}
 use Rattle.st_rules.specs.declared.rule.Broken.{Broken}
-use Rattle.st_rules.specs.Rules as rules
+use Rattle.st_rules.specs.Rules.{Breaks}
 use Rattle.st_build.specs.declared.build_error.BuildError.{BuildError}
 use Rattle.st_build.specs.declared.build_error.BuildError.TheVariants as errors
 use Rattle.st_build.specs.TextParts.{configurations_in, has_types}
@@ -58,7 +58,7 @@ pub record IsPlanFrom (units : List OrganisationUnit) (c : Configuration) (budge
 pub record IsPlanOf (source : Source) (budget : ℕ) (plan : plans.Plan) : Type 0 where
   pub configuration : Configuration
   pub one : configurations_in source ≡ configuration ∷ []
-  pub unbroken : (broken : Broken) → rules.Breaks source broken → ⊥
+  pub unbroken : (broken : Broken) → Breaks source broken → ⊥
   pub plain : has_types source ≡ false
   pub from : IsPlanFrom (units_in source) configuration budget plan
 
@@ -94,46 +94,45 @@ pub record IsUnsupported (units : List OrganisationUnit) (c : Configuration) (bu
   pub none : (plan : plans.Plan) → IsPlanFrom units c budget plan → ⊥
 
 -- Why units and a configuration have no plan: this number applies. Out of memory says nothing of them.
-abbrev pub Breaks : List OrganisationUnit → Configuration → ℕ → BuildError → Type 0
-Breaks units c budget errors.TooManyPaths = HasTooManyPaths c
-Breaks units c budget errors.RecordTooLong = HasTooLongRecord c
-Breaks units c budget errors.Unsupported = IsUnsupported units c budget
-Breaks units c budget e = BreaksRule units c e
+abbrev pub LacksPlan : List OrganisationUnit → Configuration → ℕ → BuildError → Type 0
+LacksPlan units c budget errors.TooManyPaths = HasTooManyPaths c
+LacksPlan units c budget errors.RecordTooLong = HasTooLongRecord c
+LacksPlan units c budget errors.Unsupported = IsUnsupported units c budget
+LacksPlan units c budget e = BreaksRule units c e
 
 -- A tree that no other number refuses so, and that yet has no plan.
 pub record IsBeyond (source : Source) (budget : ℕ) : Type 0 where
   pub configuration : Configuration
   pub one : configurations_in source ≡ configuration ∷ []
-  pub unbroken : (broken : Broken) → rules.Breaks source broken → ⊥
+  pub unbroken : (broken : Broken) → Breaks source broken → ⊥
   pub kept : MeetsRules (units_in source) configuration
   pub few : HasTooManyPaths configuration → ⊥
   pub short : HasThinRecordTooLong configuration → ⊥
   pub none : (plan : plans.Plan) → IsPlanOf source budget plan → ⊥
 
 -- why a tree has no plan
-abbrev pub Applies : Source → ℕ → BuildError → Type 0
-Applies source budget (errors.Rule broken) = rules.Breaks source broken
-Applies source budget errors.NoConfiguration = (length (configurations_in source) == 1) ≡ false
-Applies source budget errors.Memory = Unit {0}
-Applies source budget errors.Unsupported = IsBeyond source budget
-Applies source budget e =
-    (c : Configuration) × (configurations_in source ≡ c ∷ []) × Breaks (units_in source) c budget e
+abbrev pub TreeLacksPlan : Source → ℕ → BuildError → Type 0
+TreeLacksPlan source budget (errors.Rule broken) = Breaks source broken
+TreeLacksPlan source budget errors.NoConfiguration = (length (configurations_in source) == 1) ≡ false
+TreeLacksPlan source budget errors.Memory = Unit {0}
+TreeLacksPlan source budget errors.Unsupported = IsBeyond source budget
+TreeLacksPlan source budget e =
+    (c : Configuration) × (configurations_in source ≡ c ∷ []) × LacksPlan (units_in source) c budget e
 
 -- The bytes spell the source.
 pub record IsTextOf (text : List ℕ) (source : Source) : Type 0 where
   pub tokens : List Token
-  pub spelled : texts.IsSpelledBy text tokens
+  pub spelled : IsSpelledBy text tokens
   pub parsed : IsSource tokens source
   pub within : SourceWithin 64 source
 
 -- why a text has no plan
-abbrev pub Refused : List ℕ → ℕ → BuildError → Type 0
-Refused text budget errors.Budget = (budget ≡ 0) ⊎ (MAX_BUDGET < budget)
-Refused text budget (errors.Words e) = texts.Applies text e
-Refused text budget (errors.Grammar e) =
-    (tokens : List Token) × texts.IsSpelledBy text tokens × parsing.Refused tokens e
-Refused text budget errors.Memory = Unit {0}
-Refused text budget e = (source : Source) × IsTextOf text source × Applies source budget e
+abbrev pub TextLacksPlan : List ℕ → ℕ → BuildError → Type 0
+TextLacksPlan text budget errors.Budget = (budget ≡ 0) ⊎ (MAX_BUDGET < budget)
+TextLacksPlan text budget (errors.Words e) = LexErrorApplies text e
+TextLacksPlan text budget (errors.Grammar e) = (tokens : List Token) × IsSpelledBy text tokens × Refused tokens e
+TextLacksPlan text budget errors.Memory = Unit {0}
+TextLacksPlan text budget e = (source : Source) × IsTextOf text source × TreeLacksPlan source budget e
 
 -- out of memory, by whomever it is told
 abbrev pub IsMemory : BuildError → Type 0

@@ -6,7 +6,7 @@ ghost use Rattle.st_trees.specs.ConfigurationViews.{configuration_view};
 ghost use Rattle.config.specs.PlanViews.{plan_view};
 ghost use Rattle.st_build.specs.Refusals.{HasGlobals, HasTooManyPaths, HasThinRecordTooLong};
 ghost use Rattle.st_build.specs.Plans.{MeetsRules, HasPrograms, IsPlanFrom, BreaksRule, LacksGlobals, LacksPrograms};
-ghost use Rattle.st_build.specs.Plans.{Breaks};
+ghost use Rattle.st_build.specs.Plans.{LacksPlan};
 
 use crate::addresses::has_sound_addresses;
 use crate::build_error::BuildError;
@@ -95,7 +95,7 @@ pub fn plan_from(
     ensures plan { IfOk result (λ plan.
         IsPlanFrom (map unit_view units.items) (configuration_view configuration.now) budget (plan_view plan)) }
     ensures refused { IfErr result
-        (λ e. Breaks (map unit_view units.items) (configuration_view configuration.now) budget e) }
+        (λ e. LacksPlan (map unit_view units.items) (configuration_view configuration.now) budget e) }
 {
     check(alloc, &units, configuration)?;
     let globals = globals_of(alloc, configuration)?;

@@ -5,7 +5,7 @@ ghost use Rattle.st_trees.specs.SourceViews.{source_view};
 ghost use Rattle.st_trees.specs.Sources as tree;
 ghost use Rattle.st_plans.specs.Plans as plans;
 ghost use Rattle.config.specs.PlanViews.{plan_view};
-ghost use Rattle.st_build.specs.Plans.{IsTextOf, IsPlanOf, Applies, Refused, GivesPlan};
+ghost use Rattle.st_build.specs.Plans.{IsTextOf, IsPlanOf, TreeLacksPlan, TextLacksPlan, GivesPlan};
 
 use crate::build_error::BuildError;
 use crate::making::plan_from;
@@ -21,7 +21,7 @@ use std::alloc::Global;
 /// The plan of a tree.
 fn plan_of(alloc: Global, source: Source, budget: u32) -> Result<Plan, BuildError>
     ensures plan { IfOk result (λ plan. IsPlanOf (source_view source) budget (plan_view plan)) }
-    ensures refused { IfErr result (λ e. Applies (source_view source) budget e) }
+    ensures refused { IfErr result (λ e. TreeLacksPlan (source_view source) budget e) }
 {
     if let Some(broken) = broken_rule(alloc, &source)? {
         return Err(BuildError::Rule(broken));
@@ -54,7 +54,7 @@ pub fn build(alloc: Global, text: &[u8], budget: u32) -> Result<Plan, BuildError
     ensures only { (source : tree.Source) (plan : plans.Plan) → IsTextOf text.now source → IsPlanOf source budget plan
         → GivesPlan result plan }
     // A refusal applies.
-    ensures refused { IfErr result (λ e. Refused text.now budget e) }
+    ensures refused { IfErr result (λ e. TextLacksPlan text.now budget e) }
 {
     if budget == 0 || MAX_BUDGET < budget {
         return Err(BuildError::Budget);

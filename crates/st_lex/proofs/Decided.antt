@@ -6,11 +6,11 @@ use Rattle.st_lex.specs.declared.fault.LexFault.{LexFault}
 use Rattle.st_lex.specs.declared.front.Front.{Front}
 use Rattle.st_lex.specs.declared.front.Front.TheVariants as fronts
 use Rattle.st_lex.specs.Fronts.{front_of}
-use Rattle.st_lex.specs.Texts.{ends, blank, token, Breaks, here, after_blank, after_token}
+use Rattle.st_lex.specs.Texts.{ends, blank, token, HasFault, here, after_blank, after_token}
 use Rattle.st_lex.specs.Laws.{IsSpelled, IsBroken}
 use Rattle.st_lex.proofs.Orders.{within}
 
-pub one_fault : {at : ℕ} {text : List ℕ} {f g : LexFault} {p q : ℕ} → Breaks at text f p → Breaks at text g q
+pub one_fault : {at : ℕ} {text : List ℕ} {f g : LexFault} {p q : ℕ} → HasFault at text f p → HasFault at text g q
     → (f ≡ g) × (p ≡ q)
 one_fault (here n e) (here m h) = let k : m ≡ n = cc in (cc, cc)
 one_fault (here n e) (after_blank m h t) = absurd (cc)

@@ -7,7 +7,7 @@ use Rattle.st_lex.specs.declared.front.Front.{Front}
 use Rattle.st_lex.specs.declared.front.Front.TheVariants as fronts
 use Rattle.st_lex.specs.declared.fault.LexFault.{LexFault}
 use Rattle.st_lex.specs.declared.token.Token.{Token}
-use Rattle.st_lex.specs.Texts.{Spells, ends, blank, token, Breaks, here, after_blank, after_token}
+use Rattle.st_lex.specs.Texts.{Spells, ends, blank, token, HasFault, here, after_blank, after_token}
 use Rattle.st_lex.specs.Fronts.{IsWithin, front_of}
 
 -- one text has one list of tokens
@@ -24,7 +24,7 @@ one_list (token k n e s) (token l m f t) = let q : m ≡ n = cc in let r : l ≡
     let rest = one_list s t' in cc
 
 -- where there is a fault there are no tokens
-pub no_list : {at : ℕ} {text : List ℕ} {a : List Token} {fault : LexFault} {place : ℕ} → Breaks at text fault place
+pub no_list : {at : ℕ} {text : List ℕ} {a : List Token} {fault : LexFault} {place : ℕ} → HasFault at text fault place
     → Spells at text a → ⊥
 no_list (here n e) (ends f) = cc
 no_list (here n e) (blank m f s) = cc
@@ -66,12 +66,13 @@ pub over_token : (text : List ℕ) (at n : ℕ) (kind : TokenKind) (front : Fron
 over_token text at n kind front tokens e f s = token kind n (front_at text at front e ∙ f) (rw (drop-drop n at text) s)
 
 pub past_blank : (text : List ℕ) (at n : ℕ) (front : Front) (fault : LexFault) (place : ℕ) → Shown text at front
-    → front ≡ fronts.Blank n → Breaks (at + n) (drop (at + n) text) fault place → Breaks at (drop at text) fault place
+    → front ≡ fronts.Blank n → HasFault (at + n) (drop (at + n) text) fault place
+    → HasFault at (drop at text) fault place
 past_blank text at n front fault place e f s = after_blank n (front_at text at front e ∙ f) (rw (drop-drop n at text) s)
 
 pub past_token : (text : List ℕ) (at n : ℕ) (kind : TokenKind) (front : Front) (fault : LexFault) (place : ℕ)
-    → Shown text at front → front ≡ fronts.Token kind n → Breaks (at + n) (drop (at + n) text) fault place
-    → Breaks at (drop at text) fault place
+    → Shown text at front → front ≡ fronts.Token kind n → HasFault (at + n) (drop (at + n) text) fault place
+    → HasFault at (drop at text) fault place
 past_token text at n kind front fault place e f s =
     after_token kind n (front_at text at front e ∙ f) (rw (drop-drop n at text) s)
 
@@ -81,8 +82,8 @@ at_end text at tokens front e f so_far = rw (append-nil tokens) at (so_far [] (e
 
 pub at_fault : (text : List ℕ) (at n : ℕ) (fault : LexFault) (front : Front) → Shown text at front
     → front ≡ fronts.Fault fault n
-    → ((fault : LexFault) (place : ℕ) → Breaks at (drop at text) fault place → Breaks 0 text fault place)
-    → Breaks 0 text fault (at + n)
+    → ((fault : LexFault) (place : ℕ) → HasFault at (drop at text) fault place → HasFault 0 text fault place)
+    → HasFault 0 text fault (at + n)
 at_fault text at n fault front e f so_far = so_far fault (at + n) (here n (front_at text at front e ∙ f))
 
 pub pushed : (t : Token) (text : List ℕ) (old new tail : List Token) → new ≡ old ++ t ∷ []

@@ -3,7 +3,7 @@ use Rattle.std.specs.Prelude.{◌≡◌, ℕ, ◌-◌, ◌<◌, ◌≤◌, List,
 use Rattle.st_lex.specs.declared.token.Token.{Token}
 use Rattle.st_lex.specs.Characters.{is_word_character}
 use Rattle.st_lex.specs.declared.fault.LexFault.{LexFault}
-use Rattle.st_lex.specs.Texts.{Spells, Breaks, IsSpelledBy}
+use Rattle.st_lex.specs.Texts.{Spells, HasFault, IsSpelledBy}
 
 -- each begins where the one before it has ended, or later, and has bytes; the last has ended at the end, or before
 abbrev pub AreInOrder : ℕ → ℕ → List Token → Type 0
@@ -34,4 +34,4 @@ IsSpelled at text = (tokens : List Token) × Spells at text tokens
 
 -- they have a fault, which is the first
 abbrev pub IsBroken : ℕ → List ℕ → Type 0
-IsBroken at text = (fault : LexFault) × (place : ℕ) × Breaks at text fault place
+IsBroken at text = (fault : LexFault) × (place : ℕ) × HasFault at text fault place

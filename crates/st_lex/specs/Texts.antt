@@ -21,14 +21,14 @@ pub data Spells : ℕ → List ℕ → List Token → Type 0 where
       → Spells at text (record { kind = kind; start = at; end = at + n } ∷ tokens)
 
 -- After some tokens there is a fault at a place.
-pub data Breaks : ℕ → List ℕ → LexFault → ℕ → Type 0 where
+pub data HasFault : ℕ → List ℕ → LexFault → ℕ → Type 0 where
   here : {at : ℕ} {text : List ℕ} {fault : LexFault} (n : ℕ) → front_of text ≡ fronts.Fault fault n
-      → Breaks at text fault (at + n)
+      → HasFault at text fault (at + n)
   after_blank : {at : ℕ} {text : List ℕ} {fault : LexFault} {place : ℕ} (n : ℕ) → front_of text ≡ fronts.Blank n
-      → Breaks (at + n) (drop n text) fault place → Breaks at text fault place
+      → HasFault (at + n) (drop n text) fault place → HasFault at text fault place
   after_token : {at : ℕ} {text : List ℕ} {fault : LexFault} {place : ℕ} (kind : TokenKind) (n : ℕ)
       → front_of text ≡ fronts.Token kind n
-      → Breaks (at + n) (drop n text) fault place → Breaks at text fault place
+      → HasFault (at + n) (drop n text) fault place → HasFault at text fault place
 
 -- A text that is not too long is spelled so.
 pub record IsSpelledBy (text : List ℕ) (tokens : List Token) : Type 0 where
@@ -36,14 +36,14 @@ pub record IsSpelledBy (text : List ℕ) (tokens : List Token) : Type 0 where
   pub spells : Spells 0 text tokens
 
 -- The refusal applies to the text: the length is tested first, and the first fault is told, at its place.
-abbrev pub Applies : List ℕ → LexError → Type 0
-Applies text Memory = Unit {0}
-Applies text TooLong = MAX_SOURCE_BYTES < length text
-Applies text (Fault fault place) = (length text ≤ MAX_SOURCE_BYTES) × Breaks 0 text fault place
+abbrev pub LexErrorApplies : List ℕ → LexError → Type 0
+LexErrorApplies text Memory = Unit {0}
+LexErrorApplies text TooLong = MAX_SOURCE_BYTES < length text
+LexErrorApplies text (Fault fault place) = (length text ≤ MAX_SOURCE_BYTES) × HasFault 0 text fault place
 
 -- these tokens, unless memory ran out
-abbrev pub Gives : Result (Vec Token) LexError → List Token → Type 0
-Gives (Ok found) tokens = found.items ≡ tokens
-Gives (Err Memory) tokens = Unit {0}
-Gives (Err TooLong) tokens = ⊥
-Gives (Err (Fault fault place)) tokens = ⊥
+abbrev pub GivesTokens : Result (Vec Token) LexError → List Token → Type 0
+GivesTokens (Ok found) tokens = found.items ≡ tokens
+GivesTokens (Err Memory) tokens = Unit {0}
+GivesTokens (Err TooLong) tokens = ⊥
+GivesTokens (Err (Fault fault place)) tokens = ⊥

@@ -4,7 +4,7 @@
 ghost use Rattle.std.specs.Prelude.{◌≡◌, ℕ, ◌≤◌, length, List, ◌⊎◌};
 ghost use Rattle.st_lex.specs.declared.token.Token.{Token};
 ghost use Rattle.st_lex.specs.declared.fault.LexFault.{LexFault};
-ghost use Rattle.st_lex.specs.Texts.{Spells, Breaks, IsSpelledBy};
+ghost use Rattle.st_lex.specs.Texts.{Spells, HasFault, IsSpelledBy};
 ghost use Rattle.st_lex.specs.Laws.{IsSpelled, IsBroken, AreInOrder, Each, IsItsSlice, IsWhole};
 
 /// A text, however long, has either tokens or a first fault at a place, never both, and of neither two.
@@ -12,10 +12,10 @@ pub fn a_text_is_read_in_one_way()
     ensures decided { (text : List ℕ) → IsSpelled 0 text ⊎ IsBroken 0 text }
     ensures tokens { (text : List ℕ) (these those : List Token) → Spells 0 text these → Spells 0 text those
         → these ≡ those }
-    ensures fault { (text : List ℕ) (f g : LexFault) (p q : ℕ) → Breaks 0 text f p → Breaks 0 text g q
+    ensures fault { (text : List ℕ) (f g : LexFault) (p q : ℕ) → HasFault 0 text f p → HasFault 0 text g q
         → (f ≡ g) × (p ≡ q) }
     ensures apart { (text : List ℕ) (tokens : List Token) (f : LexFault) (p : ℕ) → Spells 0 text tokens
-        → Breaks 0 text f p → ⊥ }
+        → HasFault 0 text f p → ⊥ }
 {}
 
 /// Tokens have bytes, stand in order, do not overlap and lie within the text.

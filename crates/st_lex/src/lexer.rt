@@ -2,7 +2,7 @@
 
 ghost use Rattle.std.specs.Prelude.{◌≡◌, ◌≤◌, ◌<◌, length, List, IfOk, IfErr};
 ghost use Rattle.st_lex.specs.declared.token.Token.{Token};
-ghost use Rattle.st_lex.specs.Texts as texts;
+ghost use Rattle.st_lex.specs.Texts.{IsSpelledBy, LexErrorApplies, GivesTokens};
 
 use crate::fault::LexError;
 use crate::front::{Front, read_front};
@@ -16,11 +16,11 @@ use std::alloc::Global;
 /// memory runs out.
 pub fn lex(alloc: Global, text: &[u8]) -> Result<Vec<Token>, LexError>
     // What is read is spelled so.
-    ensures found { IfOk result (λ tokens. texts.IsSpelledBy text.now tokens.items) }
+    ensures found { IfOk result (λ tokens. IsSpelledBy text.now tokens.items) }
     // A refusal applies, at its place.
-    ensures refused { IfErr result (λ e. texts.Applies text.now e) }
+    ensures refused { IfErr result (λ e. LexErrorApplies text.now e) }
     // What is spelled so is read, unless memory runs out.
-    ensures only { (tokens : List Token) → texts.IsSpelledBy text.now tokens → texts.Gives result tokens }
+    ensures only { (tokens : List Token) → IsSpelledBy text.now tokens → GivesTokens result tokens }
 {
     if text.len() > MAX_SOURCE_BYTES {
         return Err(LexError::TooLong);

@@ -3,7 +3,7 @@ use Rattle.st_trees.specs.UnitViews.{unit_view}
 use Rattle.st_trees.specs.ConfigurationViews.{configuration_view}
 use Rattle.st_trees.specs.SourceViews.{source_view}
 use Rattle.config.specs.PlanViews.{plan_view}
-use Rattle.st_build.specs.Plans.{Applies}
+use Rattle.st_build.specs.Plans.{TreeLacksPlan}
 use Rattle.st_build.proofs.LackLemmas.{handed_on}
 use Rattle.st_build.proofs.PlanLemmas.{plan_of_text, breaks_text, beyond_types}
 use Rattle.st_build.proofs.source_plan.plan_of.Goals as goal
@@ -23,7 +23,7 @@ returns-then-has_types-clause-refused c =
 pub returns-in_err-plan-clause-refused : goal.returns-in_err-plan-clause-refused
 returns-in_err-plan-clause-refused c =
     let source = source_view c.args.source in
-    handed_on (λ e. Applies source c.args.budget e) c.in_err-plan.field-0.0 c.from_residual-in_err-plan.result
+    handed_on (λ e. TreeLacksPlan source c.args.budget e) c.in_err-plan.field-0.0 c.from_residual-in_err-plan.result
     (search rules)
     (breaks_text source (map unit_view c.in_ok-units.units.items) (configuration_view c.in_ok-units.configuration)
     c.args.budget c.in_err-plan.field-0.0
