@@ -168,29 +168,3 @@ impl Tree for Initial {
         same_initial(self, other)
     }
 }
-
-impl Tree for InitialElement {
-    ghost use Rattle.st_trees.specs.Initials as tree;
-    ghost use Rattle.st_trees.specs.InitialViews.{element_view};
-
-    ghost Mirror = { tree.Element };
-
-    ghost view = { element_view };
-
-    fn is(&self, other: &InitialElement) -> bool {
-        same_element(self, other)
-    }
-}
-
-impl Tree for InitialMember {
-    ghost use Rattle.st_trees.specs.Initials as tree;
-    ghost use Rattle.st_trees.specs.InitialViews.{member_view};
-
-    ghost Mirror = { tree.Member };
-
-    ghost view = { member_view };
-
-    fn is(&self, other: &InitialMember) -> bool {
-        same_member(self, other)
-    }
-}
