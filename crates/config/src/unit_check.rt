@@ -74,9 +74,7 @@ fn are_thin_externals(
 ) -> bool
     ensures { result ≡ are_thin_externals variables.now inputs.now section (Some kind) names.now }
 {
-    names
-        .iter()
-        .all(|x| is_thin_external(variables, inputs, section, kind, &x.name))
+    names.iter().all(|x| is_thin_external(variables, inputs, section, kind, &x.name))
 }
 
 /// Whether the declaration's names stand for what is there.

@@ -104,7 +104,12 @@ fn stands_among(blocks: &[GlobalBlock], constant: bool, kind: Option<Kind>, name
 
 /// Whether there is a global for an external.
 #[tactic(auto, using(crate::proofs::ListLemmas::any_viewed))]
-fn is_known_external(blocks: &[GlobalBlock], constant: bool, kind: Option<Kind>, name: &Name) -> bool
+fn is_known_external(
+    blocks: &[GlobalBlock],
+    constant: bool,
+    kind: Option<Kind>,
+    name: &Name,
+) -> bool
     ensures { result ≡ is_known_external (map global_block_view blocks.now) constant kind name.now }
 {
     stands_among(blocks, constant, kind, name)
@@ -126,7 +131,9 @@ fn all_there(blocks: &[GlobalBlock], constant: bool, declarations: &[Declaration
         ≡ list_all (λ d. are_known_externals (map global_block_view blocks.now) constant (declaration_view d))
         declarations.now }
 {
-    declarations.iter().all(|d| are_known_externals(blocks, constant, d))
+    declarations
+        .iter()
+        .all(|d| are_known_externals(blocks, constant, d))
 }
 
 #[tactic(auto, using(crate::proofs::ListLemmas::all_viewed))]
