@@ -29,11 +29,7 @@ fn print<O: Write>(out: &mut O, text: &[u8]) -> io::Result<()>
 
 /// Tells how a job ended: its text on the standard output, or one line on the standard error. An ending stands even
 /// where its line can't be written.
-pub(crate) fn tell<O: Write, E: Write>(
-    end: Result<End, Fault>,
-    out: &mut O,
-    err: &mut E,
-) -> Ending
+pub(crate) fn tell<O: Write, E: Write>(end: Result<End, Fault>, out: &mut O, err: &mut E) -> Ending
     ensures { IsTold O.contents end result out.old out.new }
 {
     match end {

@@ -265,7 +265,9 @@ given_back plan s moment p h same held = kept_over (is_retained plan) s (initial
 pub given_back_after : (plan : Plan) (r : Option Kept) (log : Log) (moment : Option ℕ) (p : Path)
     → IsStore [] (initial_store plan)
     → get (warm_start plan (Some record {
-    values = kept plan (after plan (warm_start plan r).store log); moment = moment })).store p
+      values = kept plan (after plan (warm_start plan r).store log);
+      moment = moment;
+    })).store p
     ≡ (if is_retained plan p then get (after plan (warm_start plan r).store log) p else get (initial_store plan) p)
 given_back_after plan r log moment p h =
     let all = same_then (start_same plan r) (after_same plan (warm_start plan r).store log) in

@@ -14,9 +14,9 @@ mod restarts;
 
 pub use entry::{Activation, Entry, Row};
 pub use laws::{
-    each_activation_is_done_once, entries_are_counted, intervals, logs_grow_by_one_step, one_activation_is_best,
-    one_activation_waits, overruns_are_rows_that_meet_a_waiting_program, served_for_good,
-    single_and_interval, three_programs_in_order,
+    each_activation_is_done_once, entries_are_counted, intervals, logs_grow_by_one_step,
+    one_activation_is_best, one_activation_waits, overruns_are_rows_that_meet_a_waiting_program,
+    served_for_good, single_and_interval, three_programs_in_order,
 };
 pub use plan::{PlanInput, PlanVariable, Schedule};
 pub use restarts::{
