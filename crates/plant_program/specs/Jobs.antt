@@ -36,8 +36,8 @@ pub record IsCheck (budget : ℕ) (told : List ℕ) : Type 0 where
   pub is : IsPlanIn text budget plan
   pub sizes : told ≡ sizes_text plan
 
--- the report of a life of the plan, legal and begun as it was asked for, in which the rows of a plant are latched and no
--- others, nothing waits and all is acknowledged
+-- the report of a life of the plan, legal and begun as it was asked for, in which the rows of a plant are latched and
+-- no others, nothing waits and all is acknowledged
 pub record IsReportOf (D : Type 0) (plan : Plan) (asked : Start) (told : List ℕ) : Type 0 where
   pub life : CoreView D
   pub rows : List Latch
@@ -61,8 +61,8 @@ Tells D (jobs.Check source) text = IsCheck DEFAULT_BUDGET text
 Tells D (jobs.Run job) text = IsNone job.trace × IsRun D job.budget job.start text
 Tells D (jobs.Replay job) text = ⊥
 
--- Why a job isn't begun: a trace is asked for. Or a retain file is another file of the run, of which files tell nothing,
--- so that is not held to it.
+-- Why a job isn't begun: a trace is asked for. Or a retain file is another file of the run, of which files tell
+-- nothing, so that is not held to it.
 abbrev pub Declines : Job → Declined → Type 0
 Declines (jobs.Run job) NotYet = IsSome job.trace
 Declines (jobs.Run job) SharedStore = Unit {0}

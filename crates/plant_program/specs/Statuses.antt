@@ -3,7 +3,8 @@ use Rattle.std.specs.Prelude.{ℕ}
 use Rattle.plant_program.specs.declared.fault.Fault.{Fault}
 use Rattle.plant_program.specs.declared.ending.Ending.{Ending}
 use Rattle.plant_program.specs.declared.ending.Ending.TheVariants as endings
-use Rattle.plant_program.specs.declared.fault.Fault.TheVariants.{Source, Build, Plant, Trace, TraceMemory, Start, Refused}
+use Rattle.plant_program.specs.declared.fault.Fault.TheVariants.{Source, Build, Plant, Trace, TraceMemory, Start}
+use Rattle.plant_program.specs.declared.fault.Fault.TheVariants.{Refused}
 
 -- 2 for the source, 3 for a plant or a trace, 4 for the start, 5 for the run
 abbrev pub status_of : Fault → ℕ

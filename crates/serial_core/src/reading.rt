@@ -1,6 +1,7 @@
 //! What a core tells.
 
-ghost use Rattle.std.specs.Prelude.{◌≡◌, ◌<◌, ◌≤◌, option_map, option_and_then, slice_get, length, Some, None, MatchBool};
+ghost use Rattle.std.specs.Prelude.{◌≡◌, ◌<◌, ◌≤◌, option_map, option_and_then, slice_get, length, Some, None};
+ghost use Rattle.std.specs.Prelude.{MatchBool};
 ghost use Rattle.st_plans.specs.Due.{HasOverruns};
 ghost use Rattle.st_plans.specs.Logs.{IsLegal, outcomes_of};
 ghost use Rattle.st_plans.specs.Plans.{schedules_of, initial_value};

@@ -95,7 +95,8 @@ takes_here e s v kinds held =
 
 found_behind : (e : Path × Datum) (s : Store) (p q : Path) (v : Datum) (b c : Bool) → same_path p e.0 ≡ false
     → same_path q e.0 ≡ b → same_path q p ≡ c
-    → (if b then Some e.1 else (if c then Some v else get s q)) ≡ (if c then Some v else (if b then Some e.1 else get s q))
+    → (if b then Some e.1 else (if c then Some v else get s q))
+    ≡ (if c then Some v else (if b then Some e.1 else get s q))
 found_behind e s p q v true true apart eb ec =
     let x : q ≡ e.0 = same_path_is q e.0 eb in
     let y : q ≡ p = same_path_is q p ec in

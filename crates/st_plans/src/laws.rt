@@ -99,8 +99,8 @@ pub fn logs_grow_by_one_step()
         → past_of plan start (log ++ e ∷ []) ≡ with_entry plan (past_of plan start log) e }
 {}
 
-/// Each entry of a log is a row or a Done. What the log makes has as many rows, and as many Dones served. One entry more
-/// counts as what it is.
+/// Each entry of a log is a row or a Done. What the log makes has as many rows, and as many Dones served. One entry
+/// more counts as what it is.
 pub fn entries_are_counted()
     ensures each { (log : Log) → row_count log + done_count log ≡ length log }
     ensures rows { (plan : Plan) (start : Store) (log : Log)
