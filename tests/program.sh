@@ -125,7 +125,7 @@ scene "no source" 2 "" "fault X1" check none.st
 scene "no ticks" 2 "" "fault G7" $(run word.st rows.csv made cold) --budget 0
 scene "one tick too many" 2 "" "fault G7" $(run s.st rows.csv made cold) --budget 1000001
 scene "a refused source" 2 "" "fault L3 at 0" $(run word.st rows.csv made cold)
-scene "a trace, which this version doesn't write" 1 "" "this version of plant can't do this yet" $(run s.st rows.csv made cold) --trace made
+scene "a trace, which this version doesn't write" 1 "" "this version of plant can't do this yet" $(run s.st rows.csv made cold) --trace made.txt
 scene "no plant" 3 "" "fault I5" $(run s.st nowhere.csv made cold)
 scene "a folder for a plant" 3 "" "fault I5" $(run s.st . made cold)
 printf 't\n5\n5\n' > twice.csv
