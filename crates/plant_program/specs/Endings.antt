@@ -36,8 +36,8 @@ module _ {O : Type 0} (contents : O → Option (List ℕ)) where
   Performs D job Untold old new = Unit {0}
   Performs D job other old new = ⊥
 
-  -- How the program ends: as the job does that the words ask for, or with help, or with words that are refused, or out
-  -- of memory before there is a job.
+  -- How the program ends: as a job does whose retain file is no other file of it, or with help, or with words that are
+  -- refused, or out of memory before there is a job.
   abbrev pub Ends : Type 0 → Ending → O → O → Type 0
   Ends D Done old new = (job : Job) × IsSafe job × Performs D job Done old new
   Ends D (Declined why) old new = (job : Job) × IsSafe job × Performs D job (Declined why) old new
