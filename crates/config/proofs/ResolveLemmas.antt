@@ -29,7 +29,7 @@ use Rattle.st_types.specs.Operators.{number_of, or_kind}
 use Rattle.st_types.specs.Scopes.{Name}
 use Rattle.st_types.specs.NameTypes.{Declared, is_named, elementary, result_kind, type_in_blocks, type_behind}
 use Rattle.st_types.specs.NameTypes.{kind_of_type, kind_of_variable}
-use Rattle.st_types.specs.Resolution.{own_kind, is_untyped, operand_kind, taken_kind, resolved_expr}
+use Rattle.st_types.specs.Resolution.{own_kind, is_untyped, expected_of_both, operand_kind, taken_kind, resolved_expr}
 use Rattle.st_types.specs.ResolvedUnits.{resolved, resolved_stmt, resolved_type, resolved_initial, resolved_declaration}
 use Rattle.st_types.specs.ResolvedUnits.{resolved_block}
 use Rattle.st_words.proofs.KindLemmas.{same_kind_is}
@@ -79,7 +79,7 @@ own_is text u k (binary Add l r) agrees h =
     ∙ joined_is k (is_untyped l) (is_untyped r)
 own_is text u k (binary op l r) agrees h = absurd (cc)
 
-expected_is : (k : Kind) (a b : Bool) → (if a && b then Some k else or_kind (kind_if a k) (kind_if b k)) ≡ Some k
+expected_is : (k : Kind) (a b : Bool) → expected_of_both (Some k) (kind_if a k) (kind_if b k) a b ≡ Some k
 expected_is k true true = refl
 expected_is k true false = refl
 expected_is k false true = refl
@@ -89,9 +89,8 @@ expected_is k false false = refl
 operand_is : (text : Declared) (u : OrganisationUnit) (k : Kind) (l r : Expr) → Agrees text u
     → is_typed u.blocks k l ≡ true → is_typed u.blocks k r ≡ true → operand_kind text u (Some k) Add l r ≡ Some k
 operand_is text u k l r agrees hl hr =
-    ap (λ a. if is_untyped l && is_untyped r then Some k else or_kind a (own_kind text u r))
-    (own_is text u k l agrees hl)
-    ∙ ap (λ b. if is_untyped l && is_untyped r then Some k else or_kind (kind_if (is_untyped l) k) b)
+    ap (λ a. expected_of_both (Some k) a (own_kind text u r) (is_untyped l) (is_untyped r)) (own_is text u k l agrees hl)
+    ∙ ap (λ b. expected_of_both (Some k) (kind_if (is_untyped l) k) b (is_untyped l) (is_untyped r))
     (own_is text u k r agrees hr)
     ∙ expected_is k (is_untyped l) (is_untyped r)
 

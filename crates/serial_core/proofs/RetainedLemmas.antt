@@ -12,12 +12,11 @@ use Rattle.st_words.specs.Values.{Datum, IsHeld}
 use Rattle.st_words.specs.Paths.{Path, same_path}
 use Rattle.st_plans.specs.declared.plan.PlanVariable.{PlanVariable}
 use Rattle.st_plans.specs.declared.plan.PlanInput.{PlanInput}
+use Rattle.st_types.specs.Failures.{Failure}
 use Rattle.st_types.specs.Stores.{Store, assigned, may_replace}
 use Rattle.st_types.specs.Slots.{variables_in}
 use Rattle.st_plans.specs.Layouts.{layout_of, path_text}
-use Rattle.st_plans.specs.Restarts.{written_over, or_else}
-use Rattle.st_types.specs.Loops.{unless_refused}
-use Rattle.st_words.specs.declared.fault.Fault.{Fault}
+use Rattle.st_plans.specs.Restarts.{written_over, unless_refused}
 use Rattle.st_types.specs.Scopes.{Name, contains_name}
 use Rattle.st_types.proofs.SlotLemmas.{same_path_is, same_path_itself}
 use Rattle.slot_run.proofs.Bools.{same_itself}
@@ -215,7 +214,7 @@ over_first s v vs ins [] true again absent d e held = absurd (omega (arith, ap l
 over_first s v vs ins (w ∷ ws) true again absent d e held =
     let p = and_parts (not (contains_name (texts vs) (path_text v.path))) (are_different (texts vs)) d in
     let next = absent_next s v w vs absent.1 (not-true (contains_name (texts vs) (path_text v.path)) p.0) in
-    ap (λ (r : Result Store Fault). written_over (or_else (unless_refused r) (s ++ (v.path, v.initial) ∷ entries vs))
+    ap (λ (r : Result Store Failure). written_over (unless_refused (s ++ (v.path, v.initial) ∷ entries vs) r)
     (paired (retained_paths vs) ws))
     (assigned_behind s (entries vs) v.path v.initial w absent.0 (takes_its_kind v w (cons_head e) held.0))
     ∙ ap (λ (t : Store). written_over t (paired (retained_paths vs) ws))

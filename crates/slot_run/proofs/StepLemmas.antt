@@ -100,13 +100,13 @@ sees_over text layout vs moment budget named fits len = record {
       rw (path_of_global text layout vs moment budget x g named known)
       (seen_slot layout vs fits.distinct len g.slot (record { path = unowned x; is_input = g.is_input })
       (fits.slots x g known));
-  missing = refl;
+  stand_ins = refl;
 }
 
 sees_alike : (w : Scope) (s : Store) (globals : List GlobalSlot) (vs us : List Datum) → Sees w s globals vs
     → AreAlike globals vs us → Sees w s globals us
 sees_alike w s globals vs us sees alike =
-    record { there = λ x g known. sees.there x g known ∙ alike x g known; missing = sees.missing }
+    record { there = λ x g known. sees.there x g known ∙ alike x g known; stand_ins = sees.stand_ins }
 
 sum_over : (text : CodeView) (e : Expr) (us : List Datum) (result : Result Datum Fault) (layout : List Slot)
     (vs : List Datum) (moment budget left : ℕ) → AreNamed text → IsValueOf text.globals us e result

@@ -6,8 +6,9 @@ use Rattle.st_words.specs.declared.fault.Fault.TheVariants.{Index}
 use Rattle.st_words.specs.declared.identifier.Identifier.{Identifier}
 use Rattle.st_words.specs.declared.operator.BinaryOperator.TheVariants.{Add}
 use Rattle.st_words.specs.declared.operator.BinaryOperator.{BinaryOperator}
-use Rattle.st_words.specs.Values.{Datum, IsHeld}
-use Rattle.std.specs.Prelude.{Box, IfSome}
+use Rattle.st_words.specs.Kinds.{same_kind}
+use Rattle.st_words.specs.Values.{Datum, IsHeld, in_range}
+use Rattle.std.specs.Prelude.{Box, IfSome, ◌+ℤ◌}
 use Rattle.std.specs.declared.alloc.Global.{Global}
 use Rattle.st_trees.specs.declared.expression.Expr as code_expr
 use Rattle.st_trees.specs.declared.expression.Variable as code_variable
@@ -16,7 +17,8 @@ use Rattle.st_trees.specs.Expressions.{Expr, binary, read, variable, Selectors, 
 use Rattle.st_trees.specs.Expressions.{selectors_of}
 use Rattle.st_types.specs.Stores.{Store}
 use Rattle.st_types.specs.Scopes.{Scope}
-use Rattle.st_types.specs.Ticks.{take, or_fault}
+use Rattle.st_types.specs.Failures.{Failure, valueless, in_runs, or_failure, run_result, failing}
+use Rattle.st_types.specs.Ticks.{take, attempt}
 use Rattle.st_types.specs.Operators.{apply}
 use Rattle.st_types.specs.Evaluation.{value, known}
 use Rattle.slot_code.specs.declared.global.GlobalSlot.{GlobalSlot}
@@ -43,6 +45,19 @@ is_added : (globals : List GlobalSlot) (op : BinaryOperator) (l r : Expr) → is
 is_added globals Add l r h = let p = both (is_sum globals l) (is_sum globals r) h in (refl, p.0, p.1)
 is_added globals op l r h = absurd (cc)
 
+-- in a run a failure is told as its fault
+pub attempted : {A : Type 0} (r : Result A Failure) (b : ℕ) → attempt in_runs r b ≡ take (run_result r) b
+attempted (Ok a) b = refl
+attempted (Err e) b = refl
+
+run_failing : {A : Type 0} (r : Result A Fault) → run_result (failing r) ≡ r
+run_failing (Ok a) = refl
+run_failing (Err f) = refl
+
+pub sum_result : (a b : Datum) (r : Result Datum Fault) → same_kind a.kind b.kind ≡ true
+    → r ≡ in_range a.kind (a.number +ℤ b.number) → r ≡ run_result (apply Add a b)
+sum_result a b r same is = rw same (is ∙ sym (run_failing (in_range a.kind (a.number +ℤ b.number))))
+
 pub left_faults : (globals : List GlobalSlot) (vs : List Datum) (op : BinaryOperator) (l r : Expr) (f : Fault)
     → IsValueOf globals vs l (Err f) → IsValueOf globals vs (binary op l r) (Err f)
 left_faults globals vs op l r f left w s b sees sum = let p = is_added globals op l r sum in
@@ -56,16 +71,17 @@ right_faults globals vs op l r x f left right w s b sees sum = let p = is_added 
 
 pub both_added : (globals : List GlobalSlot) (vs : List Datum) (op : BinaryOperator) (l r : Expr) (x y : Datum)
     → IsValueOf globals vs l (Ok x) → IsValueOf globals vs r (Ok y)
-    → IsValueOf globals vs (binary op l r) (apply Add x y)
+    → IsValueOf globals vs (binary op l r) (run_result (apply Add x y))
 both_added globals vs op l r x y left right w s b sees sum =
-    let p = is_added globals op l r sum in rw (left w s b sees p.1, right w s b sees p.2, p.0) refl
+    let p = is_added globals op l r sum in
+    rw (left w s b sees p.1, right w s b sees p.2, p.0, sees.stand_ins) (attempted (apply Add x y) b)
 
 -- the value of a global, or F3 where its slot is not there
 abbrev pub or_index : Option Datum → Result Datum Fault
 or_index (Some v) = Ok v
 or_index None = Err Index
 
-or_index_taken : (o : Option Datum) (b : ℕ) → or_fault Index o b ≡ take (or_index o) b
+or_index_taken : (o : Option Datum) (b : ℕ) → attempt in_runs (or_failure valueless o) b ≡ take (or_index o) b
 or_index_taken (Some v) b = refl
 or_index_taken None b = refl
 
@@ -79,7 +95,7 @@ read_seen : (globals : List GlobalSlot) (vs : List Datum) (w : Scope) (s : Store
     → IfSome o IsHeld
     → value w s (read (variable x no_selectors)) b ≡ take (or_index o) b
 read_seen globals vs w s x g o b sees named at held =
-    rw (sees.there x.name g named, at, sees.missing, all_known o held) (or_index_taken o b)
+    rw (sees.there x.name g named, at, sees.stand_ins, all_known o held) (or_index_taken o b)
 
 known_global : (o : Option GlobalSlot) → is_known o ≡ true → (g : GlobalSlot) × (o ≡ Some g)
 known_global None h = absurd (cc)

@@ -3,7 +3,7 @@ use Rattle.std.specs.Prelude.{◌≡◌, ℕ, suc, false, List, [], length, slic
 use Rattle.std.specs.Prelude.{Result, Ok, Err}
 use Rattle.st_words.specs.Values.{Datum}
 use Rattle.st_words.specs.declared.fault.Fault.{Fault}
-use Rattle.st_words.specs.declared.fault.Fault.TheVariants.{Index}
+use Rattle.st_types.specs.Failures.{in_runs}
 use Rattle.st_trees.specs.Statements.{Stmt, stmts_of}
 use Rattle.st_types.specs.declared.outcome.Outcome.{Outcome}
 use Rattle.st_types.specs.declared.outcome.Outcome.TheVariants.{Done, Faulted}
@@ -17,11 +17,12 @@ use Rattle.slot_code.specs.declared.global.GlobalSlot.{GlobalSlot}
 use Rattle.slot_code.specs.Globals.{global_named, Fits}
 use Rattle.slot_code.specs.Codes.{CodeView, program_of}
 
--- Each global has in the store, or among the inputs, the value of its slot, and F3 stands where a name has no value.
+-- Each global has in the store, or among the inputs, the value of its slot, and what no well-typed text meets is told as
+-- in a run.
 pub record Sees (w : Scope) (s : Store) (globals : List GlobalSlot) (vs : List Datum) : Type 0 where
   pub there : (x : Name) (g : GlobalSlot) → global_named globals x ≡ Some g
       → seen w.image s (path_in w.frame w.body x) ≡ slice_get vs g.slot
-  pub missing : w.missing ≡ Index
+  pub stand_ins : w.stand_ins ≡ in_runs
 
 -- what stands in the slot of a name
 abbrev pub value_at : List GlobalSlot → List Datum → Name → Option Datum

@@ -4,6 +4,7 @@ ghost use Rattle.std.specs.Prelude.{◌≡◌, ℕ, ◌+ℤ◌, IfSome, true};
 ghost use Rattle.st_words.specs.Values.{IsHeld};
 ghost use Rattle.st_words.specs.declared.operator.BinaryOperator.TheVariants.{Add};
 ghost use Rattle.st_trees.specs.ExpressionViews.{expr_view};
+ghost use Rattle.st_types.specs.Failures.{run_result};
 ghost use Rattle.st_types.specs.Operators.{apply};
 ghost use Rattle.st_types.specs.Stores.{Store};
 ghost use Rattle.st_types.specs.Scopes.{Scope};
@@ -26,7 +27,7 @@ fn total(a: Value, b: Value) -> i128
 
 /// The sum of two values of one type; F1 where it leaves the type.
 fn sum(a: Value, b: Value) -> Result<Value, Fault>
-    ensures { result ≡ apply Add a b }
+    ensures { result ≡ run_result (apply Add a b) }
 {
     if !a.kind().is(b.kind()) {
         return Err(Fault::Conversion);

@@ -4,16 +4,14 @@ use Rattle.std.proofs.Common.{ℕ, Option, Some, None, Result, Ok, Err, refl, sy
 use Rattle.std.specs.Prelude.{filter, fold}
 use Rattle.std.proofs.lemmas.Bool.{cases_Bool}
 use Rattle.std.specs.List.{list_any}
-use Rattle.st_words.specs.declared.fault.Fault.{Fault}
-use Rattle.st_words.specs.declared.fault.Fault.TheVariants.{Conversion}
 use Rattle.st_words.specs.declared.kind.Kind.{Kind}
 use Rattle.st_words.specs.Kinds.{same_kind, holds}
 use Rattle.st_words.specs.Values.{Datum}
 use Rattle.st_words.specs.Paths.{Path, same_path}
 use Rattle.st_words.proofs.KindLemmas.{same_kind-refl}
+use Rattle.st_types.specs.Failures.{Failure, ill_typed}
 use Rattle.st_types.specs.Stores.{Store, get, may_replace, replaced, behind_first, assigned, shape_of, is_distinct}
 use Rattle.st_types.specs.Stores.{all_held, IsStore}
-use Rattle.st_types.specs.Loops.{unless_refused}
 use Rattle.st_types.specs.Scopes.{or_datum}
 use Rattle.st_types.proofs.Shapes.{both, Same, same_refl, assigned_same}
 use Rattle.st_types.proofs.SlotLemmas.{same_path_is, same_path_itself}
@@ -23,7 +21,7 @@ use Rattle.st_plans.specs.declared.entry.Entry.TheVariants.{Row, Done}
 use Rattle.st_plans.specs.Rows.{Latch}
 use Rattle.st_plans.specs.Plans.{Plan, ProgramInstance, initial_store, is_retained, image_of, after_run, program_at}
 use Rattle.st_plans.specs.Logs.{Log, Past, row_at, with_entry, beginning, after}
-use Rattle.st_plans.specs.Restarts.{Kept, kept, or_else, written_over, warm_start}
+use Rattle.st_plans.specs.Restarts.{Kept, kept, unless_refused, written_over, warm_start}
 
 same_then : {s t u : Store} → Same s t → Same t u → Same s u
 same_then h k = record { shape = k.shape ∙ h.shape; held = λ x. k.held (h.held x) }
@@ -178,7 +176,7 @@ written_first keep e s t q true stays_kept apart held type types rest =
     let u = takes t e.0 e.1 type held in
     let stays = (assigned_same t e.0 e.1 u.after u.is).shape in
     let others = rest u.after (types_stay (shape_of t) (shape_of u.after) s stays types) in
-    ap (λ r. get (written_over (or_else (unless_refused r) t) (filter (λ d. keep d.0) s)) q) u.is
+    ap (λ r. get (written_over (unless_refused t r) (filter (λ d. keep d.0) s)) q) u.is
     ∙ others
     ∙ ap (λ found. if keep q then or_datum (get s q) found else found) (u.gives q)
     ∙ over_first keep e s t q (same_path q e.0) refl stays_kept apart
@@ -225,8 +223,8 @@ kept_over keep s t q once same held =
     written_gives keep s t q own held (types_stay (shape_of s) (shape_of t) s (sym same) (own_types s own))
     ∙ ap (λ found. if keep q then found else get t q) (own_first (get s q) (get t q) (none_in_both s t q same))
 
-unless_same : (s : Store) (r : Result Store Fault) → ((t : Store) → r ≡ Ok t → Same s t)
-    → Same s (or_else (unless_refused r) s)
+unless_same : (s : Store) (r : Result Store Failure) → ((t : Store) → r ≡ Ok t → Same s t)
+    → Same s (unless_refused s r)
 unless_same s (Ok t) h = h t refl
 unless_same s (Err f) h = same_refl s
 
@@ -235,7 +233,7 @@ pub written_same : (s es : Store) → Same s (written_over s es)
 written_same s [] = same_refl s
 written_same s (e ∷ es) =
     same_then (unless_same s (assigned s e.0 e.1) (assigned_same s e.0 e.1))
-    (written_same (or_else (unless_refused (assigned s e.0 e.1)) s) es)
+    (written_same (unless_refused s (assigned s e.0 e.1)) es)
 
 pub start_same : (plan : Plan) (r : Option Kept) → Same (initial_store plan) (warm_start plan r).store
 start_same plan None = same_refl (initial_store plan)

@@ -1,7 +1,7 @@
 -- What is kept over a power failure, and what a life starts with.
-use Rattle.std.specs.Prelude.{ℕ, [], ◌∷◌, Option, Some, None, filter}
+use Rattle.std.specs.Prelude.{ℕ, [], ◌∷◌, Option, Some, None, Result, Ok, Err, filter}
+use Rattle.st_types.specs.Failures.{Failure}
 use Rattle.st_types.specs.Stores.{Store, assigned}
-use Rattle.st_types.specs.Loops.{unless_refused}
 use Rattle.st_plans.specs.Plans.{Plan, initial_store, is_retained}
 
 -- the retained variables with their values, in the order of the layout
@@ -18,15 +18,16 @@ pub record Start : Type 0 where
   pub store : Store
   pub moment : Option ℕ
 
-abbrev pub or_else : Option Store → Store → Store
-or_else None s = s
-or_else (Some t) s = t
+-- the store after an assignment, and as it was where that is refused
+abbrev pub unless_refused : Store → Result Store Failure → Store
+unless_refused s (Ok t) = t
+unless_refused s (Err e) = s
 
 -- The variables with these values written over them. One for which there is no variable of its type is left out: a
 -- record of the plan's own layout has none.
 abbrev pub written_over : Store → Store → Store
 written_over s [] = s
-written_over s (e ∷ es) = written_over (or_else (unless_refused (assigned s e.0 e.1)) s) es
+written_over s (e ∷ es) = written_over (unless_refused s (assigned s e.0 e.1)) es
 
 abbrev pub cold_start : Plan → Start
 cold_start plan = record { store = initial_store plan; moment = None }

@@ -167,22 +167,6 @@ fn own_kind(unit: &Unit, expression: &Expr) -> Option<Kind>
     }
 }
 
-fn are_untyped(left: &Expr, right: &Expr) -> bool
-    ensures { result ≡ (is_untyped (expr_view left.now) && is_untyped (expr_view right.now)) }
-{
-    is_untyped(left) && is_untyped(right)
-}
-
-/// The type of the operands of an operator, of which one has a type.
-fn common_kind(unit: &Unit, left: &Expr, right: &Expr) -> Option<Kind>
-    requires left { is_plain (unit_view unit.now) (expr_view left.now) ≡ true }
-    requires right { is_plain (unit_view unit.now) (expr_view right.now) ≡ true }
-    ensures { (text : Declared) → result ≡ or_kind (own_kind text (unit_view unit.now) (expr_view left.now))
-        (own_kind text (unit_view unit.now) (expr_view right.now)) }
-{
-    own_kind(unit, left).or(own_kind(unit, right))
-}
-
 /// What the operands of an operator expect.
 pub fn operand_kind(
     unit: &Unit,
@@ -196,10 +180,11 @@ pub fn operand_kind(
     ensures { (text : Declared)
         → result ≡ operand_kind text (unit_view unit.now) expected operator (expr_view left.now) (expr_view right.now) }
 {
-    if are_untyped(left, right) {
-        return if is_joining(operator) { expected } else { None };
+    match (is_untyped(left), is_untyped(right)) {
+        (true, true) => { if is_joining(operator) { expected } else { None } }
+        (true, false) => own_kind(unit, right),
+        (false, _) => own_kind(unit, left),
     }
-    common_kind(unit, left, right)
 }
 
 /// The type of an expression at a place that expects a type.

@@ -3,9 +3,9 @@
 use Rattle.std.proofs.Common.{◌≡◌, ℕ, zero, suc, ◌<◌, ◌≤◌, List, Option, Some, None, Result, Ok, Err, refl, ap, ◌∙◌}
 use Rattle.std.proofs.Common.{arith}
 use Rattle.st_words.specs.declared.fault.Fault.{Fault}
-use Rattle.st_words.specs.declared.fault.Fault.TheVariants.{Index}
 use Rattle.st_words.specs.Values.{Datum}
 use Rattle.st_words.specs.Paths.{Path}
+use Rattle.st_types.specs.Failures.{StandIns, in_runs}
 use Rattle.st_types.specs.Stores.{Store}
 use Rattle.st_types.specs.Ticks.{Run, follow, ◌>>=◌, ◌>>◌, give, fault, tick}
 use Rattle.st_types.specs.StandardBlocks.{block_of}
@@ -13,7 +13,7 @@ use Rattle.st_types.specs.Scopes.{Name, Library, Units}
 use Rattle.st_types.specs.Loops.{End, goes_on, Turn, again, over, resumed, go_back, turns, looped}
 use Rattle.st_types.specs.Execution.{exec_all}
 use Rattle.st_types.specs.Runs.{Program, units_within, scope_of, ran, ran_where}
-use Rattle.st_types.proofs.Related.{IsClosed, exec_all_q, functions_q, instances_q}
+use Rattle.st_types.proofs.Related.{IsClosed, stand_themselves, stop_themselves, exec_all_q, functions_q, instances_q}
 use Rattle.st_types.proofs.Lasts.{Lasts, units_last}
 
 -- the same below t ticks
@@ -64,25 +64,26 @@ agrees_tick t {m = m} {n = n} h = record { same = same_tick t m n h; falls = fal
 agrees_within : (t : ℕ) {A : Type 0} {m n : Run A} → Agrees (suc t) A m n → Agrees t A m n
 agrees_within t h = record { same = λ b lt. h.same b (omega arith); falls = h.falls }
 
-module _ (t : ℕ) (turn turn' : Store → Run Turn) (step : Store → Option Store)
-    (h : (s : Store) → Agrees t Turn (turn s) (turn' s)) where
+module _ (t : ℕ) (turn turn' : Store → Run Turn) (step step' : Store → Run (Option Store))
+    (h : (s : Store) → Agrees t Turn (turn s) (turn' s))
+    (i : (s : Store) → Agrees t (Option Store) (step s) (step' s)) where
   stepped_agrees : (next next' : Store → Run End) → ((s : Store) → Agrees t End (next s) (next' s))
       → (s : Store) (o : Option Store) → Agrees t End (resumed next s o) (resumed next' s o)
   stepped_agrees next next' k s None = agrees_give t (goes_on s)
   stepped_agrees next next' k s (Some u) = k u
 
   back_agrees : (next next' : Store → Run End) → ((s : Store) → Agrees t End (next s) (next' s)) → (u : Turn)
-      → Agrees t End (go_back step next u) (go_back step next' u)
+      → Agrees t End (go_back step next u) (go_back step' next' u)
   back_agrees next next' k (over e) = agrees_give t e
-  back_agrees next next' k (again s) = agrees_within t (agrees_tick t (stepped_agrees next next' k s (step s)))
+  back_agrees next next' k (again s) = agrees_within t (agrees_tick t (agrees_then t (i s) (stepped_agrees next next' k s)))
 
-  turns_agree : (n : ℕ) (s : Store) → Agrees t End (turns n turn step s) (turns n turn' step s)
+  turns_agree : (n : ℕ) (s : Store) → Agrees t End (turns n turn step s) (turns n turn' step' s)
   unfolding turns
   turns_agree zero s = agrees_fault t _
   turns_agree (suc n) s =
-      agrees_then t (h s) (λ u. back_agrees (turns n turn step) (turns n turn' step) (turns_agree n) u)
+      agrees_then t (h s) (λ u. back_agrees (turns n turn step) (turns n turn' step') (turns_agree n) u)
 
-  looped_agrees : (s : Store) → Agrees t End (looped turn step s) (looped turn' step s)
+  looped_agrees : (s : Store) → Agrees t End (looped turn step s) (looped turn' step' s)
   unfolding looped
   looped_agrees s = record {
     same = λ b lt. (turns_agree (suc b) s).same b lt;
@@ -109,50 +110,62 @@ pub record UnitsAgree (t : ℕ) (u v : Units) : Type 0 where
 none_below : {A : Type 0} (m n : Run A) → Lasts A m m → Agrees 0 A m n
 none_below m n h = record { same = λ b lt. absurd (omega arith); falls = h.falls }
 
-pub units_agree : (missing : Fault) (library : Library) (image : Store) (now t n m : ℕ) → t ≤ n → t ≤ m
-    → UnitsAgree t (units_within missing library image now n) (units_within missing library image now m)
+pub units_agree : (stand_ins : StandIns) (library : Library) (image : Store) (now t n m : ℕ) → t ≤ n → t ≤ m
+    → UnitsAgree t (units_within stand_ins library image now n) (units_within stand_ins library image now m)
 unfolding units_within
-units_agree missing library image now zero n m le le' =
-    let u = units_last missing library image now n n (omega arith) in
+units_agree stand_ins library image now zero n m le le' =
+    let u = units_last stand_ins library image now n n (omega arith) in
     record {
       functions =
           λ f vs. none_below _ _ (u.functions f vs);
       blocks = λ b at s. none_below _ _ (u.blocks b at s);
     }
-units_agree missing library image now (suc t) zero m le le' = absurd (omega arith)
-units_agree missing library image now (suc t) (suc n) zero le le' = absurd (omega arith)
-units_agree missing library image now (suc t) (suc n) (suc m) le le' =
-    let u = units_agree missing library image now t n m (omega arith) (omega arith) in
+units_agree stand_ins library image now (suc t) zero m le le' = absurd (omega arith)
+units_agree stand_ins library image now (suc t) (suc n) zero le le' = absurd (omega arith)
+units_agree stand_ins library image now (suc t) (suc n) (suc m) le le' =
+    let u = units_agree stand_ins library image now t n m (omega arith) (omega arith) in
     record {
-      functions = functions_q (Agrees t) (Agrees (suc t)) (agrees_closed t) missing missing library image now
-          (units_within missing library image now n) (units_within missing library image now m) u.functions u.blocks
-          (agrees_fault t missing);
-      blocks = λ b. instances_q (Agrees t) (Agrees (suc t)) (agrees_closed t) missing missing library image now
-          (units_within missing library image now n) (units_within missing library image now m) u.functions u.blocks
-          (agrees_fault t missing) b (block_of b);
+      functions = functions_q (Agrees t) (Agrees (suc t)) (agrees_closed t) stand_ins stand_ins library image now
+          (units_within stand_ins library image now n) (units_within stand_ins library image now m) u.functions u.blocks
+          (stand_themselves (Agrees t) (Agrees (suc t)) (agrees_closed t) stand_ins)
+          (stop_themselves (Agrees t) (Agrees (suc t)) (agrees_closed t) stand_ins);
+      blocks = λ b. instances_q (Agrees t) (Agrees (suc t)) (agrees_closed t) stand_ins stand_ins library image now
+          (units_within stand_ins library image now n) (units_within stand_ins library image now m) u.functions u.blocks
+          (stand_themselves (Agrees t) (Agrees (suc t)) (agrees_closed t) stand_ins)
+          (stop_themselves (Agrees t) (Agrees (suc t)) (agrees_closed t) stand_ins) b (block_of b);
     }
 
 pub ran_agrees : (p : Program) (image : Store) (now b n : ℕ) (s : Store) → b ≤ n
     → ran p image now b s ≡ exec_all (scope_of p image now n) p.body.statements s b
 unfolding ran ran_where
 ran_agrees p image now b n s le =
-    let u = units_agree Index p.library image now b b n (omega arith) le in
-    (exec_all_q (Agrees b) (Agrees (suc b)) (agrees_closed b) (scope_of p image now b) (units_within Index p.library
-    image now n) Index u.functions u.blocks (agrees_fault b Index) p.body.statements s).same b (omega arith)
+    let u = units_agree in_runs p.library image now b b n (omega arith) le in
+    (exec_all_q (Agrees b) (Agrees (suc b)) (agrees_closed b) (scope_of p image now b) (units_within in_runs p.library
+    image now n) in_runs u.functions u.blocks (stand_themselves (Agrees b) (Agrees (suc b)) (agrees_closed b) in_runs)
+    p.body.statements s).same b (omega arith)
 
 -- a loop whose turns never give ticks back needs no more turns than it has ticks
-module _ (turn : Store → Run Turn) (step : Store → Option Store)
-    (falls : (s : Store) (b : ℕ) (t : Turn) (c : ℕ) → turn s b ≡ Ok (t, c) → c ≤ b) where
+module _ (turn : Store → Run Turn) (step : Store → Run (Option Store))
+    (falls : (s : Store) (b : ℕ) (t : Turn) (c : ℕ) → turn s b ≡ Ok (t, c) → c ≤ b)
+    (steps : (s : Store) (b : ℕ) (o : Option Store) (c : ℕ) → step s b ≡ Ok (o, c) → c ≤ b) where
   stepped_same : (next next' : Store → Run End) (b : ℕ) → ((t : Store) (c : ℕ) → c < b → next t c ≡ next' t c)
       → (s : Store) (c : ℕ) (o : Option Store) → c < b → resumed next s o c ≡ resumed next' s o c
   stepped_same next next' b h s c None lt = refl
   stepped_same next next' b h s c (Some t) lt = h t c lt
 
+  stepped_on_same : (next next' : Store → Run End) (b : ℕ) → ((t : Store) (c : ℕ) → c < b → next t c ≡ next' t c)
+      → (s : Store) (d : ℕ) (r : Result (Option Store × ℕ) Fault)
+      → ((o : Option Store) (c : ℕ) → r ≡ Ok (o, c) → c ≤ d) → d < b
+      → follow r (resumed next s) ≡ follow r (resumed next' s)
+  stepped_on_same next next' b h s d (Ok r) k lt =
+      let le = k r.0 r.1 refl in stepped_same next next' b h s r.1 r.0 (omega arith)
+  stepped_on_same next next' b h s d (Err e) k lt = refl
+
   back_same : (next next' : Store → Run End) (b : ℕ) → ((t : Store) (c : ℕ) → c < b → next t c ≡ next' t c)
       → (u : Turn) (c : ℕ) → c ≤ b → go_back step next u c ≡ go_back step next' u c
   back_same next next' b h (over e) c le = refl
   back_same next next' b h (again s) zero le = refl
-  back_same next next' b h (again s) (suc c) le = stepped_same next next' b h s c (step s) (omega arith)
+  back_same next next' b h (again s) (suc c) le = stepped_on_same next next' b h s c (step s c) (steps s c) (omega arith)
 
   turned_same : (next next' : Store → Run End) (b : ℕ) → ((t : Store) (c : ℕ) → c < b → next t c ≡ next' t c)
       → (r : Result (Turn × ℕ) Fault) → ((u : Turn) (c : ℕ) → r ≡ Ok (u, c) → c ≤ b)
@@ -167,8 +180,9 @@ module _ (turn : Store → Run Turn) (step : Store → Option Store)
   turns_enough (suc n) (suc m) s b lt lt' = turned_same (turns n turn step) (turns m turn step) b
       (λ t c le. turns_enough n m t c (omega arith) (omega arith)) (turn s b) (falls s b)
 
-pub loop_enough : (turn : Store → Run Turn) (step : Store → Option Store)
-    → ((s : Store) (b : ℕ) (t : Turn) (c : ℕ) → turn s b ≡ Ok (t, c) → c ≤ b) → (n : ℕ) (s : Store) (b : ℕ) → b < n
+pub loop_enough : (turn : Store → Run Turn) (step : Store → Run (Option Store))
+    → ((s : Store) (b : ℕ) (t : Turn) (c : ℕ) → turn s b ≡ Ok (t, c) → c ≤ b)
+    → ((s : Store) (b : ℕ) (o : Option Store) (c : ℕ) → step s b ≡ Ok (o, c) → c ≤ b) → (n : ℕ) (s : Store) (b : ℕ) → b < n
     → turns n turn step s b ≡ looped turn step s b
 unfolding looped
-loop_enough turn step falls n s b lt = turns_enough turn step falls n (suc b) s b lt (omega arith)
+loop_enough turn step falls steps n s b lt = turns_enough turn step falls steps n (suc b) s b lt (omega arith)

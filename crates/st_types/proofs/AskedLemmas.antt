@@ -1,5 +1,5 @@
 -- What is taken away with a value, and when a value is not asked for.
-use Rattle.std.proofs.Common.{◌≡◌, ℕ, pos, ◌+ℤ◌, Bool, true, false, if◌then◌else◌, [], ◌∷◌, Option, Some, None, refl}
+use Rattle.std.proofs.Common.{◌≡◌, ℕ, pos, ◌+ℤ◌, Bool, true, false, if◌then◌else◌, [], ◌∷◌, Option, Some, None, Err, refl}
 use Rattle.std.proofs.Common.{sym, ap, ◌∙◌}
 use Rattle.st_words.specs.declared.kind.Kind.{Kind}
 use Rattle.st_words.specs.declared.kind.Kind.TheVariants.{Sint, Int, Dint, Lint, Usint, Uint, Udint, Ulint, Byte, Word}
@@ -8,20 +8,28 @@ use Rattle.st_words.specs.Kinds.{holds, greatest}
 use Rattle.st_words.specs.Values.{Datum}
 use Rattle.st_words.specs.declared.fault.Fault.TheVariants.{Index, Range}
 use Rattle.st_words.specs.Paths.{Path, same_path}
+use Rattle.st_types.specs.Failures.{with_missing, with_wrong}
 use Rattle.st_types.specs.Stores.{Store, get, shape_of, all_held}
 use Rattle.st_types.specs.Scopes.{seen, or_datum}
 use Rattle.st_types.specs.Evaluation.{known}
 use Rattle.st_types.specs.Runs.{Program, ran_where}
-use Rattle.st_types.specs.Asked.{IsAsked, not_held, without_value}
+use Rattle.st_types.specs.Asked.{IsAsked, IsTypedRun, not_held, without_value}
 use Rattle.st_types.proofs.Shapes.{both}
 use Rattle.st_types.proofs.SlotLemmas.{same_path_is}
 
 -- a run that without the value ends the same way for two faults does not ask for it
 pub not_asked : (program : Program) (budget : ℕ) (s image : Store) (now : ℕ) (p : Path)
-    → ran_where Index program (without_value image p) now budget (without_value s p)
-    ≡ ran_where Range program (without_value image p) now budget (without_value s p)
+    → ran_where (with_missing Index) program (without_value image p) now budget (without_value s p)
+    ≡ ran_where (with_missing Range) program (without_value image p) now budget (without_value s p)
     → IsAsked program budget s image now p → ⊥
 not_asked program budget s image now p same h = let a = h.is_wanted Index in let b = h.is_wanted Range in absurd (cc)
+
+-- two faults that are told tell that a run meets something ill typed
+pub is_ill_typed : (program : Program) (budget : ℕ) (s image : Store) (now : ℕ)
+    → ran_where (with_wrong Index) program image now budget s ≡ Err Index
+    → ran_where (with_wrong Range) program image now budget s ≡ Err Range
+    → IsTypedRun program budget s image now → ⊥
+is_ill_typed program budget s image now a b h = let e = h.same Index Range in absurd (cc)
 
 past_the_greatest : (k : Kind) → holds k (greatest k +ℤ pos 1) ≡ false
 past_the_greatest Sint = refl

@@ -3,10 +3,11 @@
 use Rattle.std.proofs.Common.{◌≡◌, ℕ, zero, suc, ◌+◌, ◌≤◌, List, Option, Some, None, Result, Ok, Err, refl, sym, ap}
 use Rattle.std.proofs.Common.{arith}
 use Rattle.st_words.specs.declared.fault.Fault.{Fault}
-use Rattle.st_words.specs.declared.fault.Fault.TheVariants.{Index, Budget}
+use Rattle.st_words.specs.declared.fault.Fault.TheVariants.{Budget}
 use Rattle.st_words.specs.Values.{Datum}
 use Rattle.st_words.specs.Paths.{Path}
 use Rattle.st_trees.specs.Statements.{Stmts}
+use Rattle.st_types.specs.Failures.{StandIns, in_runs}
 use Rattle.st_types.specs.Stores.{Store}
 use Rattle.st_types.specs.Ticks.{Run, follow, ◌>>=◌, ◌>>◌, give, fault, tick}
 use Rattle.st_types.specs.StandardBlocks.{block_of}
@@ -14,7 +15,7 @@ use Rattle.st_types.specs.Scopes.{Name, Library, Units}
 use Rattle.st_types.specs.Loops.{End, goes_on, Turn, again, over, resumed, go_back, turns, looped}
 use Rattle.st_types.specs.Execution.{exec_all}
 use Rattle.st_types.specs.Runs.{Program, units_within, scope_of, ran, ran_where}
-use Rattle.st_types.proofs.Related.{IsClosed, exec_all_q, functions_q, instances_q}
+use Rattle.st_types.proofs.Related.{IsClosed, stand_themselves, exec_all_q, functions_q, instances_q}
 
 pub record Lasts (A : Type 0) (m n : Run A) : Type 0 where
   pub falls : (b : ℕ) (a : A) (c : ℕ) → m b ≡ Ok (a, c) → c ≤ b
@@ -85,7 +86,8 @@ tick_same m n h (suc b) k e other q = let s : suc b + k ≡ suc (b + k) = omega 
 lasts_tick : {A : Type 0} {m n : Run A} → Lasts A m n → Lasts A (tick >> m) (tick >> n)
 lasts_tick {m = m} {n = n} h = record { falls = tick_falls m n h; more = tick_more m n h; same = tick_same m n h }
 
-module _ (turn turn' : Store → Run Turn) (step : Store → Option Store) (h : (s : Store) → Lasts Turn (turn s) (turn' s))
+module _ (turn turn' : Store → Run Turn) (step step' : Store → Run (Option Store))
+    (h : (s : Store) → Lasts Turn (turn s) (turn' s)) (i : (s : Store) → Lasts (Option Store) (step s) (step' s))
   where
     stepped_lasts : (next next' : Store → Run End) → ((s : Store) → Lasts End (next s) (next' s))
         → (s : Store) (o : Option Store) → Lasts End (resumed next s o) (resumed next' s o)
@@ -93,18 +95,18 @@ module _ (turn turn' : Store → Run Turn) (step : Store → Option Store) (h : 
     stepped_lasts next next' k s (Some t) = k t
 
     back_lasts : (next next' : Store → Run End) → ((s : Store) → Lasts End (next s) (next' s)) → (t : Turn)
-        → Lasts End (go_back step next t) (go_back step next' t)
+        → Lasts End (go_back step next t) (go_back step' next' t)
     back_lasts next next' k (over e) = lasts_give e
-    back_lasts next next' k (again s) = lasts_tick (stepped_lasts next next' k s (step s))
+    back_lasts next next' k (again s) = lasts_tick (lasts_then (i s) (stepped_lasts next next' k s))
 
-    turns_last : (n m : ℕ) → n ≤ m → (s : Store) → Lasts End (turns n turn step s) (turns m turn' step s)
+    turns_last : (n m : ℕ) → n ≤ m → (s : Store) → Lasts End (turns n turn step s) (turns m turn' step' s)
     unfolding turns
     turns_last zero m le s = lasts_none _
     turns_last (suc n) zero le s = absurd (omega arith)
     turns_last (suc n) (suc m) le s =
-        lasts_then (h s) (λ t. back_lasts (turns n turn step) (turns m turn' step) (turns_last n m (omega arith)) t)
+        lasts_then (h s) (λ t. back_lasts (turns n turn step) (turns m turn' step') (turns_last n m (omega arith)) t)
 
-    looped_lasts : (s : Store) → Lasts End (looped turn step s) (looped turn' step s)
+    looped_lasts : (s : Store) → Lasts End (looped turn step s) (looped turn' step' s)
     unfolding looped
     looped_lasts s = record {
       falls = λ b a c e. (turns_last (suc b) (suc b) (omega arith) s).falls b a c e;
@@ -130,29 +132,31 @@ pub record UnitsLast (u v : Units) : Type 0 where
   pub functions : (f : Name) (vs : List Datum) → Lasts Datum (u.functions f vs) (v.functions f vs)
   pub blocks : (b : Name) (at : Path) (s : Store) → Lasts Store (u.blocks b at s) (v.blocks b at s)
 
-pub units_last : (missing : Fault) (library : Library) (image : Store) (now n m : ℕ) → n ≤ m
-    → UnitsLast (units_within missing library image now n) (units_within missing library image now m)
+pub units_last : (stand_ins : StandIns) (library : Library) (image : Store) (now n m : ℕ) → n ≤ m
+    → UnitsLast (units_within stand_ins library image now n) (units_within stand_ins library image now m)
 unfolding units_within
-units_last missing library image now zero m le =
+units_last stand_ins library image now zero m le =
     record { functions = λ f vs. lasts_none _; blocks = λ b at s. lasts_none _ }
-units_last missing library image now (suc n) zero le = absurd (omega arith)
-units_last missing library image now (suc n) (suc m) le =
-    let u = units_last missing library image now n m (omega arith) in
+units_last stand_ins library image now (suc n) zero le = absurd (omega arith)
+units_last stand_ins library image now (suc n) (suc m) le =
+    let u = units_last stand_ins library image now n m (omega arith) in
     record {
-      functions = functions_q Lasts Lasts lasts_closed missing missing library image now (units_within missing library
-          image now n) (units_within missing library image now m) u.functions u.blocks (lasts_fault missing);
-      blocks = λ b. instances_q Lasts Lasts lasts_closed missing missing library image now
-          (units_within missing library image now n) (units_within missing library image now m) u.functions u.blocks
-          (lasts_fault missing) b (block_of b);
+      functions = functions_q Lasts Lasts lasts_closed stand_ins stand_ins library image now
+          (units_within stand_ins library image now n) (units_within stand_ins library image now m) u.functions u.blocks
+          (stand_themselves Lasts Lasts lasts_closed stand_ins) (stand_themselves Lasts Lasts lasts_closed stand_ins);
+      blocks = λ b. instances_q Lasts Lasts lasts_closed stand_ins stand_ins library image now
+          (units_within stand_ins library image now n) (units_within stand_ins library image now m) u.functions u.blocks
+          (stand_themselves Lasts Lasts lasts_closed stand_ins) (stand_themselves Lasts Lasts lasts_closed stand_ins) b
+          (block_of b);
     }
 
 -- the statements of a program, with calls at most n deep and with deeper ones
 pub program_lasts : (p : Program) (image : Store) (now n m : ℕ) → n ≤ m → (xs : Stmts) (s : Store)
     → Lasts End (exec_all (scope_of p image now n) xs s) (exec_all (scope_of p image now m) xs s)
 program_lasts p image now n m le xs s =
-    let u = units_last Index p.library image now n m le in
-    exec_all_q Lasts Lasts lasts_closed (scope_of p image now n) (units_within Index p.library image now m) Index
-    u.functions u.blocks (lasts_fault Index) xs s
+    let u = units_last in_runs p.library image now n m le in
+    exec_all_q Lasts Lasts lasts_closed (scope_of p image now n) (units_within in_runs p.library image now m) in_runs
+    u.functions u.blocks (stand_themselves Lasts Lasts lasts_closed in_runs) xs s
 
 pub ran_falls : (p : Program) (image : Store) (now b : ℕ) (s : Store) (e : End) (c : ℕ)
     → ran p image now b s ≡ Ok (e, c) → c ≤ b

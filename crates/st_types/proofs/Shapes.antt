@@ -1,13 +1,8 @@
 -- A run neither adds nor takes away a variable, and each keeps its type.
-use Rattle.std.proofs.Common.{◌≡◌, ℕ, zero, suc, ◌==◌, ℤ, Bool, true, false, ◌&&◌, if◌then◌else◌, List, [], ◌∷◌, Option}
-use Rattle.std.proofs.Common.{Some, None, option_and_then, Result, Ok, Err, refl, sym, ap, ◌∙◌, arith}
+use Rattle.std.proofs.Common.{◌≡◌, ℕ, zero, suc, ℤ, Bool, true, false, ◌&&◌, if◌then◌else◌, List, [], ◌∷◌, Option}
+use Rattle.std.proofs.Common.{Some, None, Result, Ok, Err, refl, sym, ap, ◌∙◌}
 use Rattle.std.specs.List.{list_any}
-use Rattle.std.proofs.lemmas.Bool.Decides.{nat_tests}
 use Rattle.st_words.specs.declared.fault.Fault.{Fault}
-use Rattle.st_words.specs.declared.fault.Fault.TheVariants.{Index, Conversion}
-use Rattle.st_words.specs.declared.kind.Kind.{Kind}
-use Rattle.st_words.specs.declared.kind.Kind.TheVariants.{Sint, Int, Dint, Lint, Usint, Uint, Udint, Ulint, Byte, Word}
-use Rattle.st_words.specs.declared.kind.Kind.TheVariants.{Dword, Lword, Time, Bool as Boolean}
 use Rattle.st_words.specs.Kinds.{same_kind, holds}
 use Rattle.st_words.proofs.KindLemmas.{same_kind_is}
 use Rattle.st_words.specs.Values.{Datum}
@@ -15,16 +10,17 @@ use Rattle.st_words.specs.Paths.{Path, same_path}
 use Rattle.st_trees.specs.Statements.{Argument, given, copied, Stmt, empty, assign, invoke, IF, CASE, FOR, WHILE}
 use Rattle.st_trees.specs.Statements.{REPEAT, EXIT, RETURN, Stmts, no_stmts, stmt_then, Arms, no_arms, arm_then}
 use Rattle.st_trees.specs.Statements.{CaseArms, no_case_arms, case_arm_then}
+use Rattle.st_types.specs.Failures.{Failure, ill_typed, StandIns, in_runs, or_failure}
 use Rattle.st_types.specs.Stores.{Store, get, may_replace, replaced, behind_first, assigned, shape_of, all_held}
-use Rattle.st_types.specs.Ticks.{Run, follow, ◌>>=◌, ◌>>◌, give, fault, take, or_fault, proceed, tick}
+use Rattle.st_types.specs.Ticks.{Run, follow, ◌>>=◌, ◌>>◌, give, fault, attempt, proceed, tick}
 use Rattle.st_types.specs.StandardBlocks as standard
 use Rattle.st_types.specs.StandardBlocks.{BlockMember, block_of, members_of, stepped}
 use Rattle.st_types.specs.Scopes.{Name, of_block, Block, Library, Units, Scope, path_in, member_at, block_named}
 use Rattle.st_types.specs.Scopes.{block_in}
 use Rattle.st_types.specs.Evaluation.{value, place, truth_of}
 use Rattle.st_types.specs.Loops.{End, goes_on, exits, returns, behind, Turn, again, over, turned, resumed, go_back}
-use Rattle.st_types.specs.Loops.{turns, looped, guarded, asked, until, runs_on, step_on, unless_refused, stepped_on}
-use Rattle.st_types.specs.Loops.{stored, nonzero}
+use Rattle.st_types.specs.Loops.{turns, looped, guarded, asked, until, runs_on, step_on, stepped_on, stored}
+use Rattle.st_types.specs.Loops.{no_step, nonzero}
 use Rattle.st_types.specs.Execution.{label_holds, given_inputs, assigned_inputs, copied_outputs, ran_block, step_of}
 use Rattle.st_types.specs.Execution.{exec, exec_all, exec_arms, exec_case}
 use Rattle.st_types.specs.Runs.{store_of, members_assigned, standard_call, block_call, instance_call, units_within}
@@ -56,7 +52,7 @@ and_both false b h k = absurd (cc)
 
 replaced_same : (e : Path × Datum) (v : Datum) (s t : Store) (b : Bool)
     → (b ≡ true → (e.1.kind ≡ v.kind) × (holds v.kind v.number ≡ true))
-    → (if b then Ok ((e.0, v) ∷ s) else Err Conversion) ≡ Ok t → Same (e ∷ s) t
+    → (if b then Ok ((e.0, v) ∷ s) else Err ill_typed) ≡ Ok t → Same (e ∷ s) t
 replaced_same e v s t true k h =
     let q : ◌≡◌ {A = Store} ((e.0, v) ∷ s) t = cc in
     same_then (record {
@@ -67,7 +63,7 @@ replaced_same e v s t true k h =
     (same_is ((e.0, v) ∷ s) t q)
 replaced_same e v s t false k h = absurd (cc)
 
-behind_same : (e : Path × Datum) (s t : Store) (r : Result Store Fault) → ((u : Store) → r ≡ Ok u → Same s u)
+behind_same : (e : Path × Datum) (s t : Store) (r : Result Store Failure) → ((u : Store) → r ≡ Ok u → Same s u)
     → behind_first e r ≡ Ok t → Same (e ∷ s) t
 behind_same e s t (Ok u) k h =
     let q : ◌≡◌ {A = Store} (e ∷ u) t = cc in
@@ -136,12 +132,14 @@ keeps_tick store s {m = m} h = record { kept = λ b x c e. kept_follow store s (
 abbrev itself : Store → Store
 itself s = s
 
-keeps_take : (s : Store) (r : Result Store Fault) → ((t : Store) → r ≡ Ok t → Same s t) → Keeps Store itself s (take r)
-keeps_take s (Ok t) h = keeps_give itself s t (h t refl)
-keeps_take s (Err e) h = keeps_fault itself s e
+keeps_attempt : (stand_ins : StandIns) (s : Store) (r : Result Store Failure) → ((t : Store) → r ≡ Ok t → Same s t)
+    → Keeps Store itself s (attempt stand_ins r)
+keeps_attempt stand_ins s (Ok t) h = keeps_give itself s t (h t refl)
+keeps_attempt stand_ins s (Err e) h = keeps_fault itself s _
 
-keeps_assigned : (s : Store) (p : Path) (v : Datum) → Keeps Store itself s (take (assigned s p v))
-keeps_assigned s p v = keeps_take s (assigned s p v) (assigned_same s p v)
+keeps_assigned : (stand_ins : StandIns) (s : Store) (p : Path) (v : Datum)
+    → Keeps Store itself s (attempt stand_ins (assigned s p v))
+keeps_assigned stand_ins s p v = keeps_attempt stand_ins s (assigned s p v) (assigned_same s p v)
 
 abbrev store_of_turn : Turn → Store
 store_of_turn (again s) = s
@@ -152,17 +150,24 @@ turned_same (goes_on s) = refl
 turned_same (exits s) = refl
 turned_same (returns s) = refl
 
-module _ (turn : Store → Run Turn) (step : Store → Option Store) (h : (s : Store) → Keeps Turn store_of_turn s (turn s))
-    (k : (s t : Store) → step s ≡ Some t → Same s t) where
+-- the store after a step of the control variable, or before it where there is none
+abbrev or_before : Store → Option Store → Store
+or_before s None = s
+or_before s (Some t) = t
+
+module _ (turn : Store → Run Turn) (step : Store → Run (Option Store))
+    (h : (s : Store) → Keeps Turn store_of_turn s (turn s))
+    (k : (s : Store) → Keeps (Option Store) (or_before s) s (step s)) where
   resumed_keeps : (next : Store → Run End) → ((s : Store) → Keeps End store_of s (next s))
-      → (s : Store) (o : Option Store) → ((t : Store) → o ≡ Some t → Same s t) → Keeps End store_of s (resumed next s o)
-  resumed_keeps next n s None q = keeps_give store_of s (goes_on s) (same_refl s)
-  resumed_keeps next n s (Some t) q = record { kept = λ b a c e. same_then (q t refl) ((n t).kept b a c e) }
+      → (s : Store) (o : Option Store) → Keeps End store_of (or_before s o) (resumed next s o)
+  resumed_keeps next n s None = keeps_give store_of s (goes_on s) (same_refl s)
+  resumed_keeps next n s (Some t) = n t
 
   back_keeps : (next : Store → Run End) → ((s : Store) → Keeps End store_of s (next s)) → (t : Turn)
       → Keeps End store_of (store_of_turn t) (go_back step next t)
   back_keeps next n (over e) = keeps_give store_of (store_of e) e (same_refl (store_of e))
-  back_keeps next n (again s) = keeps_tick store_of s (resumed_keeps next n s (step s) (k s))
+  back_keeps next n (again s) =
+      keeps_tick store_of s (keeps_then (or_before s) store_of s (k s) (resumed_keeps next n s))
 
   turns_keep : (n : ℕ) (s : Store) → Keeps End store_of s (turns n turn step s)
   unfolding turns
@@ -199,43 +204,46 @@ until_keeps : (body : Store → Run End) (condition : Store → Run Bool) → ((
 unfolding until
 until_keeps body condition h s = keeps_then store_of store_of_turn s (h s) (λ e. asked_keeps condition e)
 
-refused_same : (s t : Store) (r : Result Store Fault) → ((u : Store) → r ≡ Ok u → Same s u) → unless_refused r ≡ Some t
-    → Same s t
-refused_same s t (Ok u) h e = let q : u ≡ t = cc in same_then (h u refl) (same_is u t q)
-refused_same s t (Err f) h e = absurd (cc)
+stored_keeps : (stand_ins : StandIns) (s : Store) (x : Path) (o : Option Datum)
+    → Keeps (Option Store) (or_before s) s (attempt stand_ins (stored s x o))
+stored_keeps stand_ins s x None = keeps_give (or_before s) s None (same_refl s)
+stored_keeps stand_ins s x (Some v) = after_assignment (assigned s x v) (assigned_same s x v)
+  where
+    after_assignment : (r : Result Store Failure) → ((t : Store) → r ≡ Ok t → Same s t)
+        → Keeps (Option Store) (or_before s) s (attempt stand_ins (proceed r (λ t. Ok (Some t))))
+    after_assignment (Ok t) h = keeps_give (or_before s) s (Some t) (h t refl)
+    after_assignment (Err e) h = keeps_fault (or_before s) s _
 
-stored_same : (s : Store) (x : Path) (o : Option Datum) (t : Store) → stored s x o ≡ Some t → Same s t
-stored_same s x None t e = absurd (cc)
-stored_same s x (Some v) t e = refused_same s t (assigned s x v) (assigned_same s x v) e
+next_keeps : (stand_ins : StandIns) (s : Store) (x : Path) (step : ℤ) (o : Option Datum) → Keeps (Option Store)
+    (or_before s) s (attempt stand_ins (proceed (or_failure ill_typed o) (λ v. stored s x (stepped_on step v))))
+next_keeps stand_ins s x step None = keeps_fault (or_before s) s _
+next_keeps stand_ins s x step (Some v) = stored_keeps stand_ins s x (stepped_on step v)
 
-next_same : (s : Store) (x : Path) (step : ℤ) (o : Option Datum) (t : Store)
-    → option_and_then (λ v. stored s x (stepped_on step v)) o ≡ Some t → Same s t
-next_same s x step None t e = absurd (cc)
-next_same s x step (Some v) t e = stored_same s x (stepped_on step v) t e
-
-step_same : (x : Path) (step : ℤ) (s t : Store) → step_on x step s ≡ Some t → Same s t
+step_keeps : (stand_ins : StandIns) (x : Path) (step : ℤ) (s : Store)
+    → Keeps (Option Store) (or_before s) s (step_on stand_ins x step s)
 unfolding step_on
-step_same x step s t e = next_same s x step (get s x) t e
+step_keeps stand_ins x step s = next_keeps stand_ins s x step (get s x)
 
-some_same : (s t : Store) → Some s ≡ Some t → Same s t
-some_same s t e = let q : s ≡ t = cc in same_is s t q
+no_step_keeps : (s : Store) → Keeps (Option Store) (or_before s) s (no_step s)
+no_step_keeps s = keeps_give (or_before s) s (Some s) (same_refl s)
 
 module _ (w : Scope) (blocks : (b : Name) (at : Path) (s : Store) → Keeps Store itself s (w.units.blocks b at s)) where
-  inputs_keep : (at : Path) (vs : List (Name × Datum)) (s : Store) → Keeps Store itself s (assigned_inputs at vs s)
+  inputs_keep : (at : Path) (vs : List (Name × Datum)) (s : Store)
+      → Keeps Store itself s (assigned_inputs w.stand_ins at vs s)
   inputs_keep at [] s = keeps_give itself s s (same_refl s)
   inputs_keep at (e ∷ es) s =
-      keeps_then itself itself s (keeps_assigned s (member_at at e.0) e.1) (λ t. inputs_keep at es t)
+      keeps_then itself itself s (keeps_assigned w.stand_ins s (member_at at e.0) e.1) (λ t. inputs_keep at es t)
 
   outputs_keep : (at : Path) (arguments : List Argument) (s : Store)
       → Keeps Store itself s (copied_outputs w at arguments s)
   outputs_keep at [] s = keeps_give itself s s (same_refl s)
   outputs_keep at (given x e ∷ rest) s = outputs_keep at rest s
   outputs_keep at (copied x v ∷ rest) s =
-      keeps_behind itself s (or_fault Index (get s (member_at at x.name))) (λ o. keeps_behind itself s (place w s v)
-      (λ p. keeps_then itself itself s (keeps_assigned s p o) (λ t. outputs_keep at rest t)))
+      keeps_behind itself s (attempt w.stand_ins (or_failure ill_typed (get s (member_at at x.name)))) (λ o. keeps_behind itself s (place w s v)
+      (λ p. keeps_then itself itself s (keeps_assigned w.stand_ins s p o) (λ t. outputs_keep at rest t)))
 
   block_keeps : (at : Path) (o : Option Name) (s : Store) → Keeps Store itself s (ran_block w at o s)
-  block_keeps at None s = keeps_fault itself s Index
+  block_keeps at None s = keeps_fault itself s _
   block_keeps at (Some b) s = blocks b at s
 
   if_keeps : (s : Store) (b : Bool) {m n : Run End} → Keeps End store_of s m → Keeps End store_of s n
@@ -254,7 +262,7 @@ module _ (w : Scope) (blocks : (b : Name) (at : Path) (s : Store) → Keeps Stor
     exec_keeps empty s = keeps_tick store_of s (keeps_give store_of s (goes_on s) (same_refl s))
     exec_keeps (assign v e) s =
         keeps_tick store_of s (keeps_behind store_of s (value w s e) (λ x. keeps_behind store_of s (place w s v) (λ p.
-        keeps_then itself store_of s (keeps_assigned s p x) (λ t. keeps_give store_of t (goes_on t) (same_refl t)))))
+        keeps_then itself store_of s (keeps_assigned w.stand_ins s p x) (λ t. keeps_give store_of t (goes_on t) (same_refl t)))))
     exec_keeps (invoke x arguments) s =
         keeps_tick store_of s (keeps_behind store_of s (given_inputs w s arguments)
         (λ vs. keeps_then itself store_of s (inputs_keep (path_in w.frame w.body x.name) vs s)
@@ -269,14 +277,14 @@ module _ (w : Scope) (blocks : (b : Name) (at : Path) (s : Store) → Keeps Stor
     exec_keeps (FOR x start limit step body) s =
         keeps_tick store_of s (keeps_behind store_of s (value w s start) (λ i. keeps_behind store_of s (value w s limit)
         (λ n. keeps_behind store_of s (step_of w s step) (λ d. keeps_behind store_of s (nonzero d)
-        (λ _. keeps_then itself store_of s (keeps_assigned s (path_in w.frame w.body x.name) i)
-        (λ t. looped_keeps _ (step_on (path_in w.frame w.body x.name) d)
-        (guarded_keeps (runs_on (path_in w.frame w.body x.name) n.number d) (exec_all w body) (exec_all_keeps body))
-        (step_same (path_in w.frame w.body x.name) d) t))))))
+        (λ _. keeps_then itself store_of s (keeps_assigned w.stand_ins s (path_in w.frame w.body x.name) i)
+        (λ t. looped_keeps _ (step_on w.stand_ins (path_in w.frame w.body x.name) d)
+        (guarded_keeps (runs_on w.stand_ins (path_in w.frame w.body x.name) n.number d) (exec_all w body) (exec_all_keeps body))
+        (step_keeps w.stand_ins (path_in w.frame w.body x.name) d) t))))))
     exec_keeps (WHILE e body) s = keeps_tick store_of s
-        (looped_keeps _ Some (guarded_keeps (truth_of w e) (exec_all w body) (exec_all_keeps body)) some_same s)
+        (looped_keeps _ no_step (guarded_keeps (truth_of w e) (exec_all w body) (exec_all_keeps body)) no_step_keeps s)
     exec_keeps (REPEAT body e) s = keeps_tick store_of s
-        (looped_keeps _ Some (until_keeps (exec_all w body) (truth_of w e) (exec_all_keeps body)) some_same s)
+        (looped_keeps _ no_step (until_keeps (exec_all w body) (truth_of w e) (exec_all_keeps body)) no_step_keeps s)
     exec_keeps (EXIT at) s = keeps_tick store_of s (keeps_give store_of s (exits s) (same_refl s))
     exec_keeps RETURN s = keeps_tick store_of s (keeps_give store_of s (returns s) (same_refl s))
 
@@ -305,39 +313,39 @@ members_same s at (m ∷ ms) [] t e = let q : s ≡ t = cc in same_is s t q
 members_same s at (m ∷ ms) (v ∷ vs) t e =
     next (assigned s (member_at at m.0) v) (assigned_same s (member_at at m.0) v) (λ u. members_same u at ms vs t) e
   where
-    next : (r : Result Store Fault) → ((u : Store) → r ≡ Ok u → Same s u)
+    next : (r : Result Store Failure) → ((u : Store) → r ≡ Ok u → Same s u)
         → ((u : Store) → members_assigned u at ms vs ≡ Ok t → Same u t)
         → proceed r (λ u. members_assigned u at ms vs) ≡ Ok t → Same s t
     next (Ok u) h k e = same_then (h u refl) (k u e)
     next (Err f) h k e = absurd (cc)
 
-standard_keeps : (k : standard.StandardBlock) (now : ℕ) (at : Path) (s : Store)
-    → Keeps Store itself s (standard_call k now at s)
-standard_keeps k now at s = keeps_behind itself s _ (λ vs. keeps_take s
+standard_keeps : (stand_ins : StandIns) (k : standard.StandardBlock) (now : ℕ) (at : Path) (s : Store)
+    → Keeps Store itself s (standard_call stand_ins k now at s)
+standard_keeps stand_ins k now at s = keeps_behind itself s _ (λ vs. keeps_attempt stand_ins s
     (members_assigned s at (members_of k) (stepped k now vs)) (members_same s at (members_of k) (stepped k now vs)))
 
-module _ (missing : Fault) (library : Library) (image : Store) (now : ℕ) (units : Units)
+module _ (stand_ins : StandIns) (library : Library) (image : Store) (now : ℕ) (units : Units)
     (blocks : (b : Name) (at : Path) (s : Store) → Keeps Store itself s (units.blocks b at s)) where
-  body_keeps : (b : Block) (at : Path) (s : Store) → Keeps Store itself s (block_call missing units image now b at s)
+  body_keeps : (b : Block) (at : Path) (s : Store) → Keeps Store itself s (block_call stand_ins units image now b at s)
   body_keeps b at s = keeps_then store_of itself s (exec_all_keeps
-      (record { units = units; frame = of_block at; body = b.body; image = image; now = now; missing = missing }) blocks
+      (record { units = units; frame = of_block at; body = b.body; image = image; now = now; stand_ins = stand_ins }) blocks
       b.body.statements s) (λ e. keeps_give itself (store_of e) (store_of e) (same_refl (store_of e)))
 
   instance_keeps : (b : Name) (o : Option standard.StandardBlock) (at : Path) (s : Store)
-      → Keeps Store itself s (instance_call missing library image units now b o at s)
-  instance_keeps b (Some k) at s = standard_keeps k now at s
+      → Keeps Store itself s (instance_call stand_ins library image units now b o at s)
+  instance_keeps b (Some k) at s = standard_keeps stand_ins k now at s
   instance_keeps b None at s =
-      keeps_behind itself s (or_fault Index (block_in library.blocks b)) (λ c. body_keeps c at s)
+      keeps_behind itself s (attempt stand_ins (or_failure ill_typed (block_in library.blocks b))) (λ c. body_keeps c at s)
 
-units_keep : (missing : Fault) (library : Library) (image : Store) (now n : ℕ) (b : Name) (at : Path) (s : Store)
-    → Keeps Store itself s ((units_within missing library image now n).blocks b at s)
+units_keep : (stand_ins : StandIns) (library : Library) (image : Store) (now n : ℕ) (b : Name) (at : Path) (s : Store)
+    → Keeps Store itself s ((units_within stand_ins library image now n).blocks b at s)
 unfolding units_within
-units_keep missing library image now zero b at s = keeps_fault itself s _
-units_keep missing library image now (suc n) b at s = instance_keeps missing library image now
-    (units_within missing library image now n) (units_keep missing library image now n) b (block_of b) at s
+units_keep stand_ins library image now zero b at s = keeps_fault itself s _
+units_keep stand_ins library image now (suc n) b at s = instance_keeps stand_ins library image now
+    (units_within stand_ins library image now n) (units_keep stand_ins library image now n) b (block_of b) at s
 
 pub ran_keeps : (p : Program) (image : Store) (now b : ℕ) (s : Store) (e : End) (c : ℕ)
     → ran p image now b s ≡ Ok (e, c) → Same s (store_of e)
 unfolding ran ran_where
 ran_keeps p image now b s e c h =
-    (exec_all_keeps (scope_of p image now b) (units_keep Index p.library image now b) p.body.statements s).kept b e c h
+    (exec_all_keeps (scope_of p image now b) (units_keep in_runs p.library image now b) p.body.statements s).kept b e c h

@@ -5,12 +5,12 @@ use Rattle.std.specs.Prelude.{bytes_eq}
 use Rattle.std.specs.Ordering.{int_eq}
 use Rattle.std.proofs.lemmas.Slice.Eq.{bytes_eq-Decides}
 use Rattle.std.proofs.lemmas.Bool.Decides.{Decides-int_eq}
-use Rattle.st_words.specs.declared.fault.Fault.TheVariants.{Index, Conversion}
 use Rattle.st_words.specs.declared.path.Owner.{Owner}
 use Rattle.st_words.specs.declared.path.Step.{Step}
 use Rattle.st_words.specs.declared.path.Step.TheVariants.{Member, Element}
 use Rattle.st_words.specs.Values.{Datum}
 use Rattle.st_words.specs.Paths.{Path, same_owner, same_step, same_steps, same_path}
+use Rattle.st_types.specs.Failures.{ill_typed}
 use Rattle.st_types.specs.Stores.{Store, get, may_replace, replaced, behind_first, assigned}
 use Rattle.st_types.specs.Scopes.{seen, or_datum}
 use Rattle.st_types.specs.Slots.{Slot, slot_of, IsLayout, variables_in, inputs_in, written_slot}
@@ -221,8 +221,8 @@ seen_slot layout vs distinct len k l at = by_sort l.is_input refl
         rw (b, a) refl
 
 behind_written : (e : Path × Datum) (ls : List Slot) (vs : List Datum) (j : ℕ) (old v : Datum) (b : Bool)
-    → behind_first e (if b then Ok (variables_in ls (slice_set vs j v)) else Err Conversion)
-    ≡ (if b then Ok (e ∷ variables_in ls (slice_set vs j v)) else Err Conversion)
+    → behind_first e (if b then Ok (variables_in ls (slice_set vs j v)) else Err ill_typed)
+    ≡ (if b then Ok (e ∷ variables_in ls (slice_set vs j v)) else Err ill_typed)
 behind_written e ls vs j old v true = refl
 behind_written e ls vs j old v false = refl
 
@@ -233,7 +233,7 @@ assigned_cases : (l : Slot) (ls : List Slot) (u : Datum) (vs : List Datum) (p : 
     → assigned (variables_in ls vs) p v ≡ written_slot ls vs j old v)
     → (if t then Some 0 else option_map suc o) ≡ Some i
     → assigned (if input then variables_in ls vs else (l.path, u) ∷ variables_in ls vs) p v
-    ≡ (if may_replace old v then Ok (variables_in (l ∷ ls) (slice_set (u ∷ vs) i v)) else Err Conversion)
+    ≡ (if may_replace old v then Ok (variables_in (l ∷ ls) (slice_set (u ∷ vs) i v)) else Err ill_typed)
 assigned_cases l ls u vs p i m old v true true o e t at out here rest h =
     let z : i ≡ 0 = cc in let q : Some l ≡ Some m = rw z at at in let r : l ≡ m = cc in
     let w : true ≡ false = sym e ∙ ap (λ x. x.is_input) r ∙ out in absurd (cc)
@@ -266,17 +266,17 @@ assigned_slot layout vs distinct len k l old v at out here =
     assigned_at layout vs l.path k l old v len (distinct k l at) at out here
 
 none_behind : (e : Path × Datum) (s : Store) (p : Path) (v : Datum) (b : Bool)
-    → (get s p ≡ None → assigned s p v ≡ Err Index) → (if b then Some e.1 else get s p) ≡ None
-    → (if b then replaced e v s else behind_first e (assigned s p v)) ≡ Err Index
+    → (get s p ≡ None → assigned s p v ≡ Err ill_typed) → (if b then Some e.1 else get s p) ≡ None
+    → (if b then replaced e v s else behind_first e (assigned s p v)) ≡ Err ill_typed
 none_behind e s p v true ih g = absurd (cc)
 none_behind e s p v false ih g = rw (ih g) refl
 
-none_assigned : (s : Store) (p : Path) (v : Datum) → get s p ≡ None → assigned s p v ≡ Err Index
+none_assigned : (s : Store) (p : Path) (v : Datum) → get s p ≡ None → assigned s p v ≡ Err ill_typed
 none_assigned [] p v h = refl
 none_assigned (e ∷ s) p v h = none_behind e s p v (same_path p e.0) (none_assigned s p v) h
 
 pub assigned_input : (layout : List Slot) (vs : List Datum) → IsLayout layout → (k : ℕ) (l : Slot) (v : Datum)
-    → slice_get layout k ≡ Some l → l.is_input ≡ true → assigned (variables_in layout vs) l.path v ≡ Err Index
+    → slice_get layout k ≡ Some l → l.is_input ≡ true → assigned (variables_in layout vs) l.path v ≡ Err ill_typed
 assigned_input layout vs distinct k l v at e =
     none_assigned (variables_in layout vs) l.path v
     (none_where (variables_in layout vs) l.path (λ w h. let f = one_sort layout distinct k l false at

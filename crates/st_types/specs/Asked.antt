@@ -1,9 +1,11 @@
--- The globals whose value a run asks for: it looks them up before it has assigned them itself.
+-- What a run meets: the globals whose value it asks for, which it looks up before it has assigned them itself, and what
+-- is ill typed.
 use Rattle.std.specs.Prelude.{◌≡◌, pos, ◌+ℤ◌, ℕ, None, Err, IsSome, if◌then◌else◌, map}
 use Rattle.st_words.specs.declared.fault.Fault.{Fault}
 use Rattle.st_words.specs.Kinds.{greatest}
 use Rattle.st_words.specs.Values.{Datum}
 use Rattle.st_words.specs.Paths.{Path, same_path}
+use Rattle.st_types.specs.Failures.{with_missing, with_wrong}
 use Rattle.st_types.specs.Stores.{Store}
 use Rattle.st_types.specs.Scopes.{seen}
 use Rattle.st_types.specs.Runs.{Program, ran_where}
@@ -24,5 +26,10 @@ without_value s p = map (λ e. if same_path p e.0 then (e.0, not_held e.1) else 
 pub record IsAsked (program : Program) (budget : ℕ) (s image : Store) (now : ℕ) (p : Path) : Type 0 where
   pub of_nobody : p.owner ≡ None
   pub is_there : IsSome (seen image s p)
-  pub is_wanted : (missing : Fault)
-      → ran_where missing program (without_value image p) now budget (without_value s p) ≡ Err missing
+  pub is_wanted : (f : Fault)
+      → ran_where (with_missing f) program (without_value image p) now budget (without_value s p) ≡ Err f
+
+-- The run meets nothing in its text that is ill typed: it ends the same way whatever fault stands for that.
+pub record IsTypedRun (program : Program) (budget : ℕ) (s image : Store) (now : ℕ) : Type 0 where
+  pub same : (f g : Fault)
+      → ran_where (with_wrong f) program image now budget s ≡ ran_where (with_wrong g) program image now budget s

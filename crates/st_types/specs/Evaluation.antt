@@ -1,6 +1,5 @@
 -- The value of an expression. All operands are evaluated, the left before the right.
--- F3 is a subscript out of bounds. Where a name has no value, which no well-typed text meets, the scope's fault for it
--- stands.
+-- F3 is a subscript out of bounds.
 use Rattle.std.specs.Prelude.{ℕ, ℤ, List, [], ◌∷◌, ◌++◌, Bool, ◌||◌, if◌then◌else◌, Option, Some, None}
 use Rattle.st_words.specs.declared.fault.Fault.TheVariants.{Index}
 use Rattle.st_words.specs.declared.path.Step.TheVariants.{Element}
@@ -10,8 +9,9 @@ use Rattle.st_words.specs.Paths.{Path}
 use Rattle.st_trees.specs.Expressions.{Expr, literal, read, call, parenthesis, unary, binary, Exprs, no_exprs}
 use Rattle.st_trees.specs.Expressions.{expr_then, Variable, variable, Selector, member, subscript, Selectors}
 use Rattle.st_trees.specs.Expressions.{no_selectors, selector_then}
+use Rattle.st_types.specs.Failures.{valueless, or_failure, failing}
 use Rattle.st_types.specs.Stores.{Store, has_part}
-use Rattle.st_types.specs.Ticks.{Run, ◌>>=◌, give, fault, take, or_fault}
+use Rattle.st_types.specs.Ticks.{Run, ◌>>=◌, give, fault, attempt}
 use Rattle.st_types.specs.Operators.{value_of_literal, apply, apply_unary, truth}
 use Rattle.st_types.specs.StandardFunctions.{Standard, standard_of, standard_value}
 use Rattle.st_types.specs.Scopes.{Scope, path_in, member_at, seen}
@@ -31,16 +31,16 @@ known None = None
 
 -- the value of the input or the variable at a path
 abbrev pub looked_up : Scope → Store → Path → Run Datum
-looked_up w s p = or_fault w.missing (known (seen w.image s p))
+looked_up w s p = attempt w.stand_ins (or_failure valueless (known (seen w.image s p)))
 
 -- a call of a standard function or one of the text
 abbrev pub called : Scope → Option Standard → List ℕ → List Datum → Run Datum
-called w (Some f) x vs = take (standard_value f vs)
+called w (Some f) x vs = attempt w.stand_ins (standard_value f vs)
 called w None x vs = w.units.functions x vs
 
 abbrev mutual
   pub value : Scope → Store → Expr → Run Datum
-  value w s (literal l) = take (value_of_literal l)
+  value w s (literal l) = attempt w.stand_ins (value_of_literal l)
   value w s (read v) = do
     p ← place w s v
     looked_up w s p
@@ -50,11 +50,11 @@ abbrev mutual
   value w s (parenthesis at e) = value w s e
   value w s (unary op at e) = do
     x ← value w s e
-    take (apply_unary op x)
+    attempt w.stand_ins (failing (apply_unary op x))
   value w s (binary op l r) = do
     x ← value w s l
     y ← value w s r
-    take (apply op x y)
+    attempt w.stand_ins (apply op x y)
 
   pub values : Scope → Store → Exprs → Run (List Datum)
   values w s no_exprs = give []
@@ -83,4 +83,4 @@ abbrev mutual
 unfoldable pub truth_of : Scope → Expr → Store → Run Bool
 truth_of w e s = do
   v ← value w s e
-  take (truth v)
+  attempt w.stand_ins (truth v)

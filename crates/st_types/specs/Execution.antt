@@ -2,7 +2,6 @@
 use Rattle.std.specs.Prelude.{ℤ, pos, int_le, List, [], ◌∷◌, Bool, ◌&&◌, if◌then◌else◌, Option, Some, None}
 use Rattle.std.specs.Ordering.{int_eq}
 use Rattle.std.specs.List.{list_any}
-use Rattle.st_words.specs.declared.fault.Fault.TheVariants.{Index}
 use Rattle.st_words.specs.Values.{Datum}
 use Rattle.st_words.specs.Paths.{Path}
 use Rattle.st_trees.specs.declared.statement.Label.{Label}
@@ -11,13 +10,14 @@ use Rattle.st_trees.specs.Expressions.{Expr, Variable}
 use Rattle.st_trees.specs.Statements.{Argument, given, copied, Stmt, empty, assign, invoke, IF, CASE, FOR, WHILE}
 use Rattle.st_trees.specs.Statements.{REPEAT, EXIT, RETURN, Stmts, no_stmts, stmt_then, Arms, no_arms, arm_then}
 use Rattle.st_trees.specs.Statements.{CaseArms, no_case_arms, case_arm_then}
+use Rattle.st_types.specs.Failures.{ill_typed, StandIns, or_failure}
 use Rattle.st_types.specs.Stores.{Store, get, assigned}
-use Rattle.st_types.specs.Ticks.{Run, ◌>>=◌, ◌>>◌, give, fault, take, or_fault, tick}
+use Rattle.st_types.specs.Ticks.{Run, ◌>>=◌, ◌>>◌, give, fault, attempt, tick}
 use Rattle.st_types.specs.Operators.{number_of}
 use Rattle.st_types.specs.Scopes.{Name, Scope, path_in, member_at, block_named}
 use Rattle.st_types.specs.Evaluation.{value, place, truth_of}
 use Rattle.st_types.specs.Loops.{End, goes_on, exits, returns, behind, looped, guarded, until, runs_on, step_on}
-use Rattle.st_types.specs.Loops.{nonzero}
+use Rattle.st_types.specs.Loops.{no_step, nonzero}
 
 -- a label holds the selector's number
 abbrev pub label_holds : ℤ → Label → Bool
@@ -34,25 +34,25 @@ given_inputs w s (given x e ∷ rest) = do
 given_inputs w s (copied x v ∷ rest) = given_inputs w s rest
 
 -- then assigned; an input that is not given keeps its value
-abbrev pub assigned_inputs : Path → List (Name × Datum) → Store → Run Store
-assigned_inputs at [] s = give s
-assigned_inputs at (e ∷ es) s = do
-  t ← take (assigned s (member_at at e.0) e.1)
-  assigned_inputs at es t
+abbrev pub assigned_inputs : StandIns → Path → List (Name × Datum) → Store → Run Store
+assigned_inputs stand_ins at [] s = give s
+assigned_inputs stand_ins at (e ∷ es) s = do
+  t ← attempt stand_ins (assigned s (member_at at e.0) e.1)
+  assigned_inputs stand_ins at es t
 
 -- the outputs of a block call, copied in written order
 abbrev pub copied_outputs : Scope → Path → List Argument → Store → Run Store
 copied_outputs w at [] s = give s
 copied_outputs w at (given x e ∷ rest) s = copied_outputs w at rest s
 copied_outputs w at (copied x v ∷ rest) s = do
-  o ← or_fault Index (get s (member_at at x.name))
+  o ← attempt w.stand_ins (or_failure ill_typed (get s (member_at at x.name)))
   p ← place w s v
-  t ← take (assigned s p o)
+  t ← attempt w.stand_ins (assigned s p o)
   copied_outputs w at rest t
 
 -- the body of the block of an instance
 abbrev pub ran_block : Scope → Path → Option Name → Store → Run Store
-ran_block w at None s = fault Index
+ran_block w at None s = fault w.stand_ins.wrong
 ran_block w at (Some b) s = w.units.blocks b at s
 
 -- the step of a FOR: 1 where none is written
@@ -67,14 +67,14 @@ abbrev pub assigning : Scope → Variable → Expr → Store → Run End
 assigning w v e s = do
   x ← value w s e
   p ← place w s v
-  t ← take (assigned s p x)
+  t ← attempt w.stand_ins (assigned s p x)
   give (goes_on t)
 
 -- a call of an instance at a path: its inputs, its body, its outputs
 abbrev pub invoking : Scope → Path → Option Name → List Argument → Store → Run End
 invoking w at block arguments s = do
   vs ← given_inputs w s arguments
-  t ← assigned_inputs at vs s
+  t ← assigned_inputs w.stand_ins at vs s
   u ← ran_block w at block t
   z ← copied_outputs w at arguments u
   give (goes_on z)
@@ -86,8 +86,8 @@ counting w x start limit step body s = do
   n ← value w s limit
   d ← step_of w s step
   nonzero d
-  t ← take (assigned s x i)
-  looped (guarded (runs_on x n.number d) body) (step_on x d) t
+  t ← attempt w.stand_ins (assigned s x i)
+  looped (guarded (runs_on w.stand_ins x n.number d) body) (step_on w.stand_ins x d) t
 
 abbrev mutual
   pub exec : Scope → Stmt → Store → Run End
@@ -102,8 +102,8 @@ abbrev mutual
     exec_case w v.number arms (exec_all w otherwise) s
   exec w (FOR x start limit step body) s =
       tick >> counting w (path_in w.frame w.body x.name) start limit step (exec_all w body) s
-  exec w (WHILE e body) s = tick >> looped (guarded (truth_of w e) (exec_all w body)) Some s
-  exec w (REPEAT body e) s = tick >> looped (until (exec_all w body) (truth_of w e)) Some s
+  exec w (WHILE e body) s = tick >> looped (guarded (truth_of w e) (exec_all w body)) no_step s
+  exec w (REPEAT body e) s = tick >> looped (until (exec_all w body) (truth_of w e)) no_step s
   exec w (EXIT at) s = tick >> give (exits s)
   exec w RETURN s = tick >> give (returns s)
 

@@ -1,3 +1,4 @@
+pub mod Failures
 pub mod Stores
 pub mod Ticks
 pub mod Operators
@@ -11,8 +12,10 @@ pub mod Execution
 pub mod Runs
 pub mod Asked
 pub mod Examples
+pub mod CallExamples
 pub mod NameTypes
 pub mod Resolution
 pub mod ResolvedUnits
 pub mod Bodies
 pub mod Slots
+pub mod ResolutionExamples

@@ -1,12 +1,13 @@
 -- Loops.
 use Rattle.std.specs.Prelude.{ℕ, zero, suc, ℤ, pos, ◌+ℤ◌, int_lt, int_le, Bool, if◌then◌else◌, Option, Some, None}
-use Rattle.std.specs.Prelude.{option_and_then, Result, Ok, Err}
+use Rattle.std.specs.Prelude.{Result, Ok, Err}
 use Rattle.st_words.specs.declared.fault.Fault.{Fault}
-use Rattle.st_words.specs.declared.fault.Fault.TheVariants.{Index, Budget, ZeroStep}
+use Rattle.st_words.specs.declared.fault.Fault.TheVariants.{Budget, ZeroStep}
 use Rattle.st_words.specs.Values.{Datum, in_range}
 use Rattle.st_words.specs.Paths.{Path}
+use Rattle.st_types.specs.Failures.{Failure, ill_typed, StandIns, or_failure}
 use Rattle.st_types.specs.Stores.{Store, get, assigned}
-use Rattle.st_types.specs.Ticks.{Run, ◌>>=◌, ◌>>◌, give, fault, or_fault, tick}
+use Rattle.st_types.specs.Ticks.{Run, ◌>>=◌, ◌>>◌, give, fault, attempt, proceed, tick}
 
 -- how statements end, with the store that they leave
 pub data End : Type 0 where
@@ -37,20 +38,21 @@ resumed next s None = give (goes_on s)
 resumed next s (Some t) = next t
 
 -- after a turn: the tick of going back, the step of the control variable, and the loop again
-abbrev pub go_back : (Store → Option Store) → (Store → Run End) → Turn → Run End
+abbrev pub go_back : (Store → Run (Option Store)) → (Store → Run End) → Turn → Run End
 go_back step next (over e) = give e
 go_back step next (again s) = do
   tick
-  resumed next s (step s)
+  o ← step s
+  resumed next s o
 
 -- A loop of at most n turns. One that begins with n ticks goes back at most n times, so for it suc n turns are enough.
-unfoldable pub turns : ℕ → (Store → Run Turn) → (Store → Option Store) → Store → Run End
+unfoldable pub turns : ℕ → (Store → Run Turn) → (Store → Run (Option Store)) → Store → Run End
 turns zero turn step s = fault Budget
 turns (suc n) turn step s = do
   t ← turn s
   go_back step (turns n turn step) t
 
-unfoldable pub looped : (Store → Run Turn) → (Store → Option Store) → Store → Run End
+unfoldable pub looped : (Store → Run Turn) → (Store → Run (Option Store)) → Store → Run End
 looped turn step s = λ b. turns (suc b) turn step s b
 
 -- a turn with its condition at the head
@@ -75,9 +77,9 @@ until body condition s = do
 
 -- the control variable has not passed the limit: it is not above it for a positive step, and not below it for a
 -- negative one
-unfoldable pub runs_on : Path → ℤ → ℤ → Store → Run Bool
-runs_on x limit step s = do
-  v ← or_fault Index (get s x)
+unfoldable pub runs_on : StandIns → Path → ℤ → ℤ → Store → Run Bool
+runs_on stand_ins x limit step s = do
+  v ← attempt stand_ins (or_failure ill_typed (get s x))
   give (if int_lt step (pos 0) then int_le limit v.number else int_le v.number limit)
 
 abbrev pub unless_fault : Result Datum Fault → Option Datum
@@ -88,16 +90,18 @@ unless_fault (Err e) = None
 abbrev pub stepped_on : ℤ → Datum → Option Datum
 stepped_on step v = unless_fault (in_range v.kind (v.number +ℤ step))
 
-abbrev pub unless_refused : Result Store Fault → Option Store
-unless_refused (Ok t) = Some t
-unless_refused (Err e) = None
+-- the store with the control variable one step on, where there is a step
+abbrev pub stored : Store → Path → Option Datum → Result (Option Store) Failure
+stored s x None = Ok None
+stored s x (Some v) = proceed (assigned s x v) (λ t. Ok (Some t))
 
-abbrev pub stored : Store → Path → Option Datum → Option Store
-stored s x None = None
-stored s x (Some v) = unless_refused (assigned s x v)
+unfoldable pub step_on : StandIns → Path → ℤ → Store → Run (Option Store)
+step_on stand_ins x step s =
+    attempt stand_ins (proceed (or_failure ill_typed (get s x)) (λ v. stored s x (stepped_on step v)))
 
-unfoldable pub step_on : Path → ℤ → Store → Option Store
-step_on x step s = option_and_then (λ v. stored s x (stepped_on step v)) (get s x)
+-- a loop without a control variable
+abbrev pub no_step : Store → Run (Option Store)
+no_step s = give (Some s)
 
 abbrev pub nonzero : ℤ → Run (Unit {0})
 nonzero (pos zero) = fault ZeroStep

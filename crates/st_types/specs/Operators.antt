@@ -1,10 +1,9 @@
 -- What the operators give. Each takes operands of one type; its result is tested once against the range of its type.
--- F4 stands where a text is not well typed: it is met in none that is.
 use Rattle.std.specs.Prelude.{ℤ, pos, ◌+ℤ◌, ◌-ℤ◌, ◌*ℤ◌, neg_ℤ, int_div, int_lt, int_le, bit_and, bit_or, bit_xor, Bool}
 use Rattle.std.specs.Prelude.{not, if◌then◌else◌, Option, Some, None, Result, Ok, Err}
 use Rattle.std.specs.Ordering.{int_eq}
 use Rattle.st_words.specs.declared.fault.Fault.{Fault}
-use Rattle.st_words.specs.declared.fault.Fault.TheVariants.{DivisionByZero, Conversion}
+use Rattle.st_words.specs.declared.fault.Fault.TheVariants.{DivisionByZero}
 use Rattle.st_words.specs.declared.kind.Kind.{Kind}
 use Rattle.st_words.specs.declared.kind.Kind.TheVariants.{Time, Bool as Boolean}
 use Rattle.st_words.specs.declared.literal.Literal.{Literal}
@@ -19,6 +18,7 @@ use Rattle.st_words.specs.declared.operator.BinaryOperator.TheVariants.{Multiply
 use Rattle.st_words.specs.Kinds.{greatest, same_kind}
 use Rattle.st_words.specs.Words.{natural}
 use Rattle.st_words.specs.Values.{Datum, in_range, datum_of_truth, is_true}
+use Rattle.st_types.specs.Failures.{Failure, ill_typed, failing}
 
 -- the number that a literal's digits and sign spell
 abbrev pub number_of : Number → ℤ
@@ -32,17 +32,17 @@ or_kind None l = l
 abbrev pub kind_of_number : Number → Option Kind
 kind_of_number n = or_kind n.written n.taken
 
-abbrev pub value_in : Option Kind → ℤ → Result Datum Fault
-value_in (Some k) z = in_range k z
-value_in None z = Err Conversion
+abbrev pub value_in : Option Kind → ℤ → Result Datum Failure
+value_in (Some k) z = failing (in_range k z)
+value_in None z = Err ill_typed
 
-abbrev pub value_of_number : Number → Result Datum Fault
+abbrev pub value_of_number : Number → Result Datum Failure
 value_of_number n = value_in (kind_of_number n) (number_of n)
 
-abbrev pub value_of_literal : Literal → Result Datum Fault
+abbrev pub value_of_literal : Literal → Result Datum Failure
 value_of_literal (literals.Number n) = value_of_number n
 value_of_literal (literals.Truth at b) = Ok (datum_of_truth b)
-value_of_literal (literals.Duration at n) = in_range Time (pos n)
+value_of_literal (literals.Duration at n) = failing (in_range Time (pos n))
 
 -- a quotient is truncated toward zero
 abbrev pub quotient : Kind → ℤ → ℤ → Result Datum Fault
@@ -69,8 +69,8 @@ applied Divide k x y = quotient k x y
 applied Modulo k x y = in_range k (remainder x y)
 
 -- operands of two types stand in no text that is well typed
-abbrev pub apply : BinaryOperator → Datum → Datum → Result Datum Fault
-apply op x y = if same_kind x.kind y.kind then applied op x.kind x.number y.number else Err Conversion
+abbrev pub apply : BinaryOperator → Datum → Datum → Result Datum Failure
+apply op x y = if same_kind x.kind y.kind then failing (applied op x.kind x.number y.number) else Err ill_typed
 
 -- NOT turns each bit
 abbrev pub apply_unary : UnaryOperator → Datum → Result Datum Fault
@@ -78,5 +78,5 @@ apply_unary Negate x = in_range x.kind (neg_ℤ x.number)
 apply_unary Not x = in_range x.kind (greatest x.kind -ℤ x.number)
 
 -- the truth of a condition
-abbrev pub truth : Datum → Result Bool Fault
-truth x = if same_kind x.kind Boolean then Ok (is_true x) else Err Conversion
+abbrev pub truth : Datum → Result Bool Failure
+truth x = if same_kind x.kind Boolean then Ok (is_true x) else Err ill_typed

@@ -141,11 +141,19 @@ abbrev pub other_kinds : List (Option Kind) → List (Option Kind)
 other_kinds [] = []
 other_kinds (k ∷ ks) = ks
 
--- what an operator's operands expect: where both are untyped, what the whole place expects; else the type of the typed
--- one
+-- what both operands of an operator expect, by whether the left and the right one are untyped: where both are, what their
+-- whole place offers them; where one is, the type of the other; where none is, the left one's, as both are of one type
+abbrev pub expected_of_both : Option Kind → Option Kind → Option Kind → Bool → Bool → Option Kind
+expected_of_both offered left right true true = offered
+expected_of_both offered left right true false = right
+expected_of_both offered left right false true = left
+expected_of_both offered left right false false = left
+
+-- a comparison offers its operands nothing
 abbrev pub operand_kind : Declared → OrganisationUnit → Option Kind → BinaryOperator → Expr → Expr → Option Kind
-operand_kind text u k op l r = if is_untyped l && is_untyped r then (if is_joining op then k else None)
-    else or_kind (own_kind text u l) (own_kind text u r)
+operand_kind text u k op l r =
+    expected_of_both (if is_joining op then k else None) (own_kind text u l) (own_kind text u r) (is_untyped l)
+    (is_untyped r)
 
 -- An expression at a place that expects a type: an untyped one takes it, and in a typed one each untyped part takes
 -- what its own place expects.

@@ -1,12 +1,12 @@
 -- What the names of a unit's body stand for.
 use Rattle.std.specs.Prelude.{ℕ, List, [], ◌∷◌, ◌++◌, Bool, if◌then◌else◌, Option, Some, None, bytes_eq}
 use Rattle.std.specs.List.{list_any}
-use Rattle.st_words.specs.declared.fault.Fault.{Fault}
 use Rattle.st_words.specs.declared.path.Owner.{Owner}
 use Rattle.st_words.specs.declared.path.Step.TheVariants.{Member}
 use Rattle.st_words.specs.Values.{Datum}
 use Rattle.st_words.specs.Paths.{Path}
 use Rattle.st_trees.specs.Statements.{Stmts}
+use Rattle.st_types.specs.Failures.{StandIns}
 use Rattle.st_types.specs.Stores.{Store, get}
 use Rattle.st_types.specs.Ticks.{Run}
 
@@ -79,15 +79,15 @@ pub record Units : Type 0 where
   pub functions : Name → List Datum → Run Datum
   pub blocks : Name → Path → Store → Run Store
 
--- where a body runs: the units, its names, the inputs of the plant, the row's moment, and the fault that stands where a
--- name has no value
+-- where a body runs: the units, its names, the inputs of the plant, the row's moment, and the faults that stand for what
+-- no well-typed text meets
 pub record Scope : Type 0 where
   pub units : Units
   pub frame : Frame
   pub body : Body
   pub image : Store
   pub now : ℕ
-  pub missing : Fault
+  pub stand_ins : StandIns
 
 abbrev pub or_datum : Option Datum → Option Datum → Option Datum
 or_datum (Some v) other = Some v

@@ -3,8 +3,7 @@ use Rattle.std.specs.Prelude.{◌≡◌, ℕ, suc, List, [], ◌∷◌, Bool, tr
 use Rattle.std.specs.Prelude.{option_map, slice_get, slice_set, Result, Ok, Err}
 use Rattle.st_words.specs.Values.{Datum, same_datum}
 use Rattle.st_words.specs.Paths.{Path, same_path}
-use Rattle.st_words.specs.declared.fault.Fault.{Fault}
-use Rattle.st_words.specs.declared.fault.Fault.TheVariants.{Conversion}
+use Rattle.st_types.specs.Failures.{Failure, ill_typed}
 use Rattle.st_types.specs.Stores.{Store, may_replace}
 
 -- a slot: whose value stands in it, and whether that comes from the plant
@@ -51,6 +50,6 @@ written vs [] = vs
 written vs (c ∷ cells) = written (slice_set vs c.0 c.1) cells
 
 -- the variables after a value is written to a slot, where it may take the place of the old one
-abbrev pub written_slot : List Slot → List Datum → ℕ → Datum → Datum → Result Store Fault
+abbrev pub written_slot : List Slot → List Datum → ℕ → Datum → Datum → Result Store Failure
 written_slot layout vs k old v =
-    if may_replace old v then Ok (variables_in layout (slice_set vs k v)) else Err Conversion
+    if may_replace old v then Ok (variables_in layout (slice_set vs k v)) else Err ill_typed

@@ -10,6 +10,7 @@ use Rattle.st_words.specs.declared.kind.Kind.TheVariants.{Dword, Lword, Bool as 
 use Rattle.st_words.specs.Kinds.{row_of, holds, same_kind}
 use Rattle.st_words.specs.Values.{Datum, in_range, is_true}
 use Rattle.st_words.specs.Words.{natural}
+use Rattle.st_types.specs.Failures.{Failure, ill_typed, failing}
 
 pub data Standard : Type 0 where
   ABS : Standard
@@ -83,15 +84,16 @@ abbrev pub conversion : Kind → ℤ → Result Datum Fault
 conversion l z = if holds l z then Ok (record { kind = l; number = z }) else Err Conversion
 
 -- Arguments that do not fit stand in no text that is well typed.
-abbrev pub standard_value : Standard → List Datum → Result Datum Fault
-standard_value ABS (x ∷ []) = in_range x.kind (pos (unsigned_abs x.number))
+abbrev pub standard_value : Standard → List Datum → Result Datum Failure
+standard_value ABS (x ∷ []) = failing (in_range x.kind (pos (unsigned_abs x.number)))
 standard_value MIN (a ∷ b ∷ []) = Ok (lesser a b)
 standard_value MAX (a ∷ b ∷ []) = Ok (greater a b)
 standard_value LIMIT (mn ∷ x ∷ mx ∷ []) = Ok (lesser (greater x mn) mx)
 standard_value SEL (g ∷ a ∷ b ∷ []) = Ok (if is_true g then b else a)
-standard_value SHL (x ∷ n ∷ []) = shifted bits_up x n.number
-standard_value SHR (x ∷ n ∷ []) = shifted bits_down x n.number
-standard_value ROL (x ∷ n ∷ []) = shifted bits_turned x n.number
-standard_value ROR (x ∷ n ∷ []) = shifted turned_down x n.number
-standard_value (CONVERT k l) (x ∷ []) = if same_kind x.kind k then conversion l x.number else Err Conversion
-standard_value _ _ = Err Conversion
+standard_value SHL (x ∷ n ∷ []) = failing (shifted bits_up x n.number)
+standard_value SHR (x ∷ n ∷ []) = failing (shifted bits_down x n.number)
+standard_value ROL (x ∷ n ∷ []) = failing (shifted bits_turned x n.number)
+standard_value ROR (x ∷ n ∷ []) = failing (shifted turned_down x n.number)
+standard_value (CONVERT k l) (x ∷ []) =
+    if same_kind x.kind k then failing (conversion l x.number) else Err ill_typed
+standard_value _ _ = Err ill_typed

@@ -2,12 +2,11 @@
 use Rattle.std.specs.Prelude.{◌≡◌, List, [], ◌∷◌, ◌++◌, Bool, true, ◌&&◌, not, if◌then◌else◌, Option, Some, None}
 use Rattle.std.specs.Prelude.{Result, Ok, Err, map}
 use Rattle.std.specs.List.{list_any}
-use Rattle.st_words.specs.declared.fault.Fault.{Fault}
-use Rattle.st_words.specs.declared.fault.Fault.TheVariants.{Index, Conversion}
 use Rattle.st_words.specs.declared.kind.Kind.{Kind}
 use Rattle.st_words.specs.Kinds.{same_kind, holds}
 use Rattle.st_words.specs.Values.{Datum}
 use Rattle.st_words.specs.Paths.{Path, same_path, is_within}
+use Rattle.st_types.specs.Failures.{Failure, ill_typed}
 
 -- a store, or an image: the inputs of the plant with their values
 abbrev pub Store : Type 0
@@ -21,17 +20,17 @@ get (e ∷ s) p = if same_path p e.0 then Some e.1 else get s p
 abbrev pub may_replace : Datum → Datum → Bool
 may_replace old new = same_kind old.kind new.kind && holds new.kind new.number
 
--- the first variable with a new value; F4 stands where it may not take it, which no well-typed text meets
-abbrev pub replaced : Path × Datum → Datum → Store → Result Store Fault
-replaced e v s = if may_replace e.1 v then Ok ((e.0, v) ∷ s) else Err Conversion
+-- the first variable with a new value, where it may take it
+abbrev pub replaced : Path × Datum → Datum → Store → Result Store Failure
+replaced e v s = if may_replace e.1 v then Ok ((e.0, v) ∷ s) else Err ill_typed
 
-abbrev pub behind_first : Path × Datum → Result Store Fault → Result Store Fault
+abbrev pub behind_first : Path × Datum → Result Store Failure → Result Store Failure
 behind_first e (Ok t) = Ok (e ∷ t)
 behind_first e (Err f) = Err f
 
--- the store after an assignment: F3 where there is no such variable
-abbrev pub assigned : Store → Path → Datum → Result Store Fault
-assigned [] p v = Err Index
+-- the store after an assignment, where there is such a variable
+abbrev pub assigned : Store → Path → Datum → Result Store Failure
+assigned [] p v = Err ill_typed
 assigned (e ∷ s) p v = if same_path p e.0 then replaced e v s else behind_first e (assigned s p v)
 
 -- some variable is this one or a part of it

@@ -1,7 +1,8 @@
 -- What takes ticks: from the ticks that are left, a result with those left after it, or a fault.
-use Rattle.std.specs.Prelude.{ℕ, zero, suc, Option, Some, None, Result, Ok, Err}
+use Rattle.std.specs.Prelude.{ℕ, zero, suc, Result, Ok, Err}
 use Rattle.st_words.specs.declared.fault.Fault.{Fault}
 use Rattle.st_words.specs.declared.fault.Fault.TheVariants.{Budget}
+use Rattle.st_types.specs.Failures.{Failure, StandIns, fault_for}
 
 abbrev pub Run : Type 0 → Type 0
 Run A = ℕ → Result (A × ℕ) Fault
@@ -30,13 +31,13 @@ abbrev pub take : {A : Type 0} → Result A Fault → Run A
 take (Ok a) = give a
 take (Err e) = fault e
 
--- the value, or the fault where there is none
-abbrev pub or_fault : {A : Type 0} → Fault → Option A → Run A
-or_fault e (Some a) = give a
-or_fault e None = fault e
+-- the same of a part that may fail for what no well-typed text meets
+abbrev pub attempt : {A : Type 0} → StandIns → Result A Failure → Run A
+attempt stand_ins (Ok a) = give a
+attempt stand_ins (Err e) = fault (fault_for stand_ins e)
 
 -- one part after another, where neither takes ticks
-abbrev pub proceed : {A B : Type 0} → Result A Fault → (A → Result B Fault) → Result B Fault
+abbrev pub proceed : {A B : Type 0} → Result A Failure → (A → Result B Failure) → Result B Failure
 proceed (Ok a) f = f a
 proceed (Err e) f = Err e
 

@@ -10,7 +10,7 @@ ghost use Rattle.st_words.specs.Kinds.{holds};
 ghost use Rattle.st_words.specs.Values.{Datum};
 ghost use Rattle.st_trees.specs.Expressions.{Expr, binary};
 ghost use Rattle.st_words.specs.Paths.{Path, same_path};
-ghost use Rattle.st_words.specs.declared.fault.Fault.TheVariants.{Index};
+ghost use Rattle.st_types.specs.Failures.{ill_typed, with_missing, with_wrong};
 ghost use Rattle.std.specs.Prelude.{length, slice_get};
 ghost use Rattle.st_types.specs.Scopes.{seen};
 ghost use Rattle.st_types.specs.Slots.{Slot, IsLayout, variables_in, inputs_in, written_slot};
@@ -47,8 +47,9 @@ pub fn budgets()
 pub fn bounds_of_recursion()
     ensures calls { (p : Program) (image : Store) (now budget depth : ℕ) (s : Store) → budget ≤ depth
         → ran p image now budget s ≡ exec_all (scope_of p image now depth) p.body.statements s budget }
-    ensures turns { (turn : Store → ℕ → Result (Turn × ℕ) Fault) (step : Store → Option Store)
+    ensures turns { (turn : Store → ℕ → Result (Turn × ℕ) Fault) (step : Store → ℕ → Result (Option Store × ℕ) Fault)
         → ((s : Store) (b : ℕ) (t : Turn) (c : ℕ) → turn s b ≡ Ok (t, c) → c ≤ b)
+        → ((s : Store) (b : ℕ) (o : Option Store) (c : ℕ) → step s b ≡ Ok (o, c) → c ≤ b)
         → (n : ℕ) (s : Store) (b : ℕ) → b < n → turns n turn step s b ≡ looped turn step s b }
 {}
 
@@ -126,7 +127,7 @@ pub fn paths_and_slots()
         (l : Slot) (old v : Datum) → slice_get layout k ≡ Some l → l.is_input ≡ false → slice_get vs k ≡ Some old
         → assigned (variables_in layout vs) l.path v ≡ written_slot layout vs k old v }
     ensures input { (layout : List Slot) (vs : List Datum) → IsLayout layout → (k : ℕ) (l : Slot) (v : Datum)
-        → slice_get layout k ≡ Some l → l.is_input ≡ true → assigned (variables_in layout vs) l.path v ≡ Err Index }
+        → slice_get layout k ≡ Some l → l.is_input ≡ true → assigned (variables_in layout vs) l.path v ≡ Err ill_typed }
 {}
 
 /// Where an image and a store hold their values, a look-up finds each of them. A store without a value has the same
@@ -140,14 +141,20 @@ pub fn values_that_are_not_there()
 {}
 
 /// Where a run comes to something that has no value, it ends with the fault that stands for it; else it ends the same
-/// way whatever this fault is. So two faults tell whether a value is asked for.
+/// way whatever this fault is. So two faults tell whether a value is asked for. Where it comes to something that is ill
+/// typed, it is the same with the fault that stands for that.
 pub fn two_faults_tell_what_is_asked()
     ensures ends { (f g : Fault) (p : Program) (image : Store) (now budget : ℕ) (s : Store)
-        → (ran_where f p image now budget s ≡ ran_where g p image now budget s)
-        ⊎ ((ran_where f p image now budget s ≡ Err f) × (ran_where g p image now budget s ≡ Err g)) }
+        → (ran_where (with_missing f) p image now budget s ≡ ran_where (with_missing g) p image now budget s)
+        ⊎ ((ran_where (with_missing f) p image now budget s ≡ Err f)
+        × (ran_where (with_missing g) p image now budget s ≡ Err g)) }
+    ensures wrong { (f g : Fault) (p : Program) (image : Store) (now budget : ℕ) (s : Store)
+        → (ran_where (with_wrong f) p image now budget s ≡ ran_where (with_wrong g) p image now budget s)
+        ⊎ ((ran_where (with_wrong f) p image now budget s ≡ Err f)
+        × (ran_where (with_wrong g) p image now budget s ≡ Err g)) }
     ensures asked { (f g : Fault) (program : Program) (budget : ℕ) (s image : Store) (now : ℕ) (p : Path) → (f ≡ g → ⊥)
         → p.owner ≡ None → IsSome (seen image s p)
-        → ran_where f program (without_value image p) now budget (without_value s p) ≡ Err f
-        → ran_where g program (without_value image p) now budget (without_value s p) ≡ Err g
+        → ran_where (with_missing f) program (without_value image p) now budget (without_value s p) ≡ Err f
+        → ran_where (with_missing g) program (without_value image p) now budget (without_value s p) ≡ Err g
         → IsAsked program budget s image now p }
 {}

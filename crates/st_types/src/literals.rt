@@ -1,6 +1,7 @@
 //! The values of literals.
 
 ghost use Rattle.std.specs.Prelude.{◌≡◌};
+ghost use Rattle.st_types.specs.Failures.{run_result};
 ghost use Rattle.st_types.specs.Operators.{number_of, kind_of_number, value_of_number};
 
 use st_words::{Fault, Kind, Number, Value};
@@ -30,7 +31,7 @@ fn kind_of(number: &Number) -> Option<Kind>
 /// The value of a literal of a whole number or bit string; F1 where its type does not hold it, and F4 where it has
 /// none.
 pub fn value_of_number(number: &Number) -> Result<Value, Fault>
-    ensures { result ≡ value_of_number number.now }
+    ensures { result ≡ run_result (value_of_number number.now) }
 {
     match kind_of(number) {
         Some(kind) => Value::new(kind, number_of(number)),

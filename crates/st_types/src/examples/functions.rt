@@ -3,6 +3,7 @@
 ghost use Rattle.std.specs.Prelude.{◌≡◌, ◌∷◌, [], Ok, Err, Some, None, pos, negsuc, codes, true, false};
 ghost use Rattle.st_words.specs.declared.kind.Kind.TheVariants.{Int, Dint, Sint, Usint, Byte, Lword, Bool};
 ghost use Rattle.st_words.specs.declared.fault.Fault.TheVariants.{Range, Conversion, Budget};
+ghost use Rattle.st_types.specs.Failures.{fails};
 ghost use Rattle.st_types.specs.StandardFunctions.{standard_value, standard_of, ABS, MIN, MAX, LIMIT, SEL, SHL, SHR};
 ghost use Rattle.st_types.specs.StandardFunctions.{ROL, ROR, CONVERT};
 ghost use Rattle.st_types.specs.Loops.{goes_on};
@@ -10,9 +11,9 @@ ghost use Rattle.st_types.specs.Examples.{ran_with, variables, datum, square, sq
 
 /// What standard functions give at the ends of types, and what they refuse.
 pub fn standard_functions()
-    ensures abs_of_the_least { standard_value ABS (datum Sint (negsuc 127) ∷ []) ≡ Err Range }
-    ensures int_to_usint { standard_value (CONVERT Int Usint) (int (pos 256) ∷ []) ≡ Err Conversion }
-    ensures byte_to_sint { standard_value (CONVERT Byte Sint) (datum Byte (pos 0x80) ∷ []) ≡ Err Conversion }
+    ensures abs_of_the_least { standard_value ABS (datum Sint (negsuc 127) ∷ []) ≡ Err (fails Range) }
+    ensures int_to_usint { standard_value (CONVERT Int Usint) (int (pos 256) ∷ []) ≡ Err (fails Conversion) }
+    ensures byte_to_sint { standard_value (CONVERT Byte Sint) (datum Byte (pos 0x80) ∷ []) ≡ Err (fails Conversion) }
     ensures shl { standard_value SHL (datum Byte (pos 0x81) ∷ int (pos 1) ∷ []) ≡ Ok (datum Byte (pos 0x02)) }
     ensures rol { standard_value ROL (datum Byte (pos 0x81) ∷ int (pos 1) ∷ []) ≡ Ok (datum Byte (pos 0x03)) }
     ensures ror_by_9 { standard_value ROR (datum Byte (pos 0x81) ∷ int (pos 9) ∷ []) ≡ Ok (datum Byte (pos 0xC0)) }
@@ -26,7 +27,7 @@ pub fn standard_functions()
     ensures limit_of_none { standard_value LIMIT (int (pos 9) ∷ int (pos 5) ∷ int (pos 0) ∷ []) ≡ Ok (int (pos 0)) }
     ensures sel_of_false { standard_value SEL (bool false ∷ int (pos 4) ∷ int (pos 7) ∷ []) ≡ Ok (int (pos 4)) }
     ensures sel_of_true { standard_value SEL (bool true ∷ int (pos 4) ∷ int (pos 7) ∷ []) ≡ Ok (int (pos 7)) }
-    ensures rol_by_minus_1 { standard_value ROL (datum Byte (pos 0x81) ∷ int (negsuc 0) ∷ []) ≡ Err Range }
+    ensures rol_by_minus_1 { standard_value ROL (datum Byte (pos 0x81) ∷ int (negsuc 0) ∷ []) ≡ Err (fails Range) }
 {}
 
 /// Standard functions go by their names; `INT_TO_INT` and `TIME_TO_INT` are none.

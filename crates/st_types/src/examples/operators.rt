@@ -8,6 +8,7 @@ ghost use Rattle.st_words.specs.declared.operator.BinaryOperator.TheVariants.{Or
 ghost use Rattle.st_words.specs.declared.operator.BinaryOperator.TheVariants.{Greater, LessOrEqual, GreaterOrEqual};
 ghost use Rattle.st_words.specs.declared.operator.BinaryOperator.TheVariants.{Add, Subtract, Multiply, Divide, Modulo};
 ghost use Rattle.st_trees.specs.Expressions.{unary, binary};
+ghost use Rattle.st_types.specs.Failures.{fails};
 ghost use Rattle.st_types.specs.Operators.{apply, apply_unary};
 ghost use Rattle.st_types.specs.Examples.{after_with, variables, datum, set, number, name, bool, int, X, Y, by_0, A};
 
@@ -65,7 +66,7 @@ pub fn sums_and_signs()
     ensures smaller_less_greater { apply Subtract (int (pos 3)) (int (pos 5)) ≡ Ok (int (negsuc 1)) }
     ensures greater_less_smaller { apply Subtract (int (pos 5)) (int (pos 3)) ≡ Ok (int (pos 2)) }
     ensures less_below_0 { apply Subtract (int (pos 5)) (int (negsuc 2)) ≡ Ok (int (pos 8)) }
-    ensures below_an_unsigned { apply Subtract (datum Usint (pos 3)) (datum Usint (pos 5)) ≡ Err Range }
+    ensures below_an_unsigned { apply Subtract (datum Usint (pos 3)) (datum Usint (pos 5)) ≡ Err (fails Range) }
     ensures of_durations { apply Subtract (datum Time (pos 3)) (datum Time (pos 5)) ≡ Ok (datum Time (negsuc 1)) }
     ensures product { apply Multiply (int (pos 3)) (int (negsuc 4)) ≡ Ok (int (negsuc 14)) }
     ensures negated { apply_unary Negate (int (pos 5)) ≡ Ok (int (negsuc 4)) }
@@ -81,9 +82,9 @@ pub fn division()
     ensures quotient { apply Divide (int (negsuc 6)) (int (pos 3)) ≡ Ok (int (negsuc 1)) }
     ensures remainder { apply Modulo (int (negsuc 6)) (int (pos 3)) ≡ Ok (int (negsuc 0)) }
     ensures remainder_by_0 { apply Modulo (int (pos 5)) (int (pos 0)) ≡ Ok (int (pos 0)) }
-    ensures by_0 { apply Divide (int (pos 5)) (int (pos 0)) ≡ Err DivisionByZero }
+    ensures by_0 { apply Divide (int (pos 5)) (int (pos 0)) ≡ Err (fails DivisionByZero) }
     // SINT#-128 / -1 leaves the type.
-    ensures least_by_minus_1 { apply Divide (datum Sint (negsuc 127)) (datum Sint (negsuc 0)) ≡ Err Range }
+    ensures least_by_minus_1 { apply Divide (datum Sint (negsuc 127)) (datum Sint (negsuc 0)) ≡ Err (fails Range) }
 {}
 
 /// What stands left of an operator in a text is its left operand, and an operator before an expression works on its
