@@ -2,7 +2,7 @@
 use Rattle.std.specs.Prelude.{ℕ, ℤ, pos, List, [], ◌∷◌, true, None, Result, codes}
 use Rattle.st_words.specs.declared.fault.Fault.{Fault}
 use Rattle.st_words.specs.declared.kind.Kind.TheVariants.{Int, Dint}
-use Rattle.st_words.specs.declared.operator.BinaryOperator.TheVariants.{Equal, Add, Multiply}
+use Rattle.st_words.specs.declared.operator.BinaryOperator.TheVariants.{Equal, Add, Multiply, Divide}
 use Rattle.st_words.specs.Paths.{Path}
 use Rattle.st_trees.specs.Expressions.{Expr, call, binary, exprs_of, Variable, variable, member, subscript}
 use Rattle.st_trees.specs.Expressions.{selectors_of}
@@ -40,11 +40,11 @@ abbrev pub copying : Name → Name → Argument
 copying x y = copied (identifier x) (target y)
 
 -- x[e] and x.y
-abbrev pub element_of : Name → Expr → Variable
-element_of x e = variable (identifier x) (selectors_of (subscript e ∷ []))
+abbrev pub indexed : Name → Expr → Variable
+indexed x e = variable (identifier x) (selectors_of (subscript e ∷ []))
 
-abbrev pub member_of : Name → Name → Variable
-member_of x y = variable (identifier x) (selectors_of (member (identifier y) ∷ []))
+abbrev pub dotted : Name → Name → Variable
+dotted x y = variable (identifier x) (selectors_of (member (identifier y) ∷ []))
 
 -- a member and an element of the program's variables
 abbrev pub own_member : Name → Name → Path
@@ -97,6 +97,11 @@ two_outputs = simple_block (codes "TWO") (set P (number Int (pos 1)) ∷ set Q (
 -- FUNCTION_BLOCK Early VAR_OUTPUT p : INT; END_VAR p := 1; RETURN; p := 2; END_FUNCTION_BLOCK
 abbrev pub early : Block
 early = simple_block (codes "EARLY") (set P (number Int (pos 1)) ∷ RETURN ∷ set P (number Int (pos 2)) ∷ [])
+
+-- FUNCTION_BLOCK Fails VAR_OUTPUT p : INT; END_VAR p := 1; p := 1 / 0; END_FUNCTION_BLOCK
+abbrev pub failing_block : Block
+failing_block = simple_block (codes "FAILS")
+    (set P (number Int (pos 1)) ∷ set P (binary Divide (number Int (pos 1)) (number Int (pos 0))) ∷ [])
 
 -- the functions and blocks of a text
 abbrev pub with_blocks : List Block → Library

@@ -20,35 +20,35 @@ use Rattle.st_types.specs.Scopes.{Name}
 use Rattle.st_types.specs.Examples.{identifier, declared, A, C, X}
 
 -- a decimal number without a type, and one that has taken a type
-abbrev pub decimal : Option Kind → ℕ → Number
-decimal k n =
+abbrev pub plain_number : Option Kind → ℕ → Number
+plain_number k n =
     record { place = 0; is_negative = false; magnitude = n; written = None; is_decimal = true; taken = k }
 
 -- a label, or a range of them
 abbrev pub labelled : Option Kind → ℕ → Label
-labelled k n = Single (decimal k n)
+labelled k n = Single (plain_number k n)
 
 abbrev pub ranging : Option Kind → ℕ → ℕ → Label
-ranging k least greatest = Range (decimal k least) (decimal k greatest)
+ranging k least greatest = Range (plain_number k least) (plain_number k greatest)
 
 -- an initial value of a number
 abbrev pub initially : Option Kind → ℕ → Initial
-initially k n = constant (literals.Number (decimal k n))
+initially k n = constant (literals.Number (plain_number k n))
 
 -- ARRAY [0..1] OF DINT
 abbrev pub two_dints : VariableType
 two_dints = variable_types.Array (record {
   place = 0;
-  lower = decimal None 0;
-  upper = decimal None 1;
+  lower = plain_number None 0;
+  upper = plain_number None 1;
   element = Elementary Dint 0;
 })
 
 abbrev pub of_type : Name → VariableType
 of_type x = variable_types.Simple (Named (identifier x))
 
-abbrev pub field_of : Name → Kind → Field
-field_of x k = record { name = identifier x; declared = variable_types.Simple (Elementary k 0); initial = None }
+abbrev pub field_named : Name → Kind → Field
+field_named x k = record { name = identifier x; declared = variable_types.Simple (Elementary k 0); initial = None }
 
 abbrev pub declaration : Name → VariableType → Declaration
 declaration x t = record { names = identifier x ∷ []; declared = t; initial = None }
@@ -84,7 +84,7 @@ text_of_several = record {
   types = record {
     name = identifier (codes "PAIR");
     definition =
-        structure (field_of (codes "U") Int ∷ field_of (codes "V") Sint ∷ []);
+        structure (field_named (codes "U") Int ∷ field_named (codes "V") Sint ∷ []);
   } ∷ [];
   units = half ∷ several_variables ∷ [];
 }

@@ -1,16 +1,19 @@
 //! Worked examples of calls of blocks and functions of a text, each proved by computation.
 
 ghost use Rattle.std.specs.Prelude.{◌≡◌, ◌∷◌, [], Ok, Err, pos, codes, true, false};
-ghost use Rattle.st_words.specs.declared.fault.Fault.TheVariants.{Budget};
+ghost use Rattle.st_words.specs.declared.fault.Fault.TheVariants.{Budget, DivisionByZero};
 ghost use Rattle.st_words.specs.declared.kind.Kind.TheVariants.{Int, Dint};
 ghost use Rattle.st_trees.specs.Statements.{copied};
 ghost use Rattle.st_types.specs.Scopes.{member_at};
 ghost use Rattle.st_types.specs.Loops.{goes_on};
+ghost use Rattle.st_types.specs.Runs.{outcome_of, store_after};
 ghost use Rattle.st_types.specs.Examples.{own, number, name, set, truth, target, identifier, int, bool, datum, ran_with};
 ghost use Rattle.st_types.specs.Examples.{after_with, variables, square, A, C, I, K, P, X, Y};
-ghost use Rattle.st_types.specs.CallExamples.{ran_calling, invoked, giving, copying, element_of, own_member, own_element};
+ghost use Rattle.st_types.specs.CallExamples.{ran_calling, invoked, giving, copying, indexed, own_member, own_element};
 ghost use Rattle.st_types.specs.CallExamples.{with_blocks, accumulator, accumulated, outer, two_outputs, early, fourth};
-ghost use Rattle.st_types.specs.CallExamples.{first, calling_with, returning_at_2, Q, T, STEP, TOTAL};
+ghost use Rattle.st_types.specs.CallExamples.{calling, failing_block, first, calling_with, returning_at_2, Q, T, STEP, TOTAL};
+
+use crate::outcome::Outcome;
 
 /// A call of an instance evaluates its inputs, assigns them, runs the block's body and copies outputs. An input that is
 /// not given keeps its value, and so do all members between calls.
@@ -26,7 +29,7 @@ pub fn calls_of_blocks()
         ≡ Ok (goes_on (accumulated (pos 5) (pos 7) (pos 7)), 0) }
     // t(p => i, q => a[i]); with i = 0
     ensures outputs_in_written_order { ran_calling (with_blocks (two_outputs ∷ [])) ((T, codes "TWO") ∷ []) 3
-        (invoked T (copying P I ∷ copied (identifier Q) (element_of A (name I)) ∷ []) ∷ [])
+        (invoked T (copying P I ∷ copied (identifier Q) (indexed A (name I)) ∷ []) ∷ [])
         ((own_member T P, int (pos 0)) ∷ (own_member T Q, int (pos 0)) ∷ (own I, int (pos 0))
         ∷ (own_element A (pos 0), int (pos 0)) ∷ (own_element A (pos 1), int (pos 0)) ∷ [])
         ≡ Ok (
@@ -99,4 +102,15 @@ pub fn returns_from_loops()
     // FOR i := 1 TO 5 DO WHILE TRUE DO IF i = 2 THEN RETURN; END_IF; EXIT; END_WHILE; k := k + 1; END_FOR; k := 100;
     ensures { after_with [] (returning_at_2 ∷ set K (number Int (pos 100)) ∷ [])
         ((I, int (pos 0)) ∷ (K, int (pos 0)) ∷ []) ≡ variables ((I, int (pos 2)) ∷ (K, int (pos 1)) ∷ []) }
+{}
+
+/// A fault in a block ends the whole run, and undoes what the block and its caller assigned: `x := 5; t();`.
+#[tactic(auto, unfolding(crate::specs::Runs::ran, crate::specs::Runs::ran_where, crate::specs::Runs::outcome_of, crate::specs::Runs::store_after, crate::specs::Runs::units_within, crate::specs::StandardBlocks::block_of))]
+pub fn faults_in_blocks()
+    ensures outcome { outcome_of (calling (with_blocks (failing_block ∷ [])) ((T, codes "FAILS") ∷ [])
+        (set X (number Int (pos 5)) ∷ invoked T [] ∷ [])) 9 ((own_member T P, int (pos 0)) ∷ (own X, int (pos 0)) ∷ [])
+        [] 0 ≡ Outcome.Faulted DivisionByZero }
+    ensures undone { store_after (calling (with_blocks (failing_block ∷ [])) ((T, codes "FAILS") ∷ [])
+        (set X (number Int (pos 5)) ∷ invoked T [] ∷ [])) 9 ((own_member T P, int (pos 0)) ∷ (own X, int (pos 0)) ∷ [])
+        [] 0 ≡ (own_member T P, int (pos 0)) ∷ (own X, int (pos 0)) ∷ [] }
 {}

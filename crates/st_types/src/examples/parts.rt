@@ -9,7 +9,7 @@ ghost use Rattle.st_trees.specs.Statements.{assign};
 ghost use Rattle.st_types.specs.Scopes.{member_at};
 ghost use Rattle.st_types.specs.Runs.{outcome_of, store_after};
 ghost use Rattle.st_types.specs.Examples.{program, number, identifier, int, A, I};
-ghost use Rattle.st_types.specs.CallExamples.{element_of, member_of, own_member, own_element};
+ghost use Rattle.st_types.specs.CallExamples.{indexed, dotted, own_member, own_element};
 
 use crate::outcome::Outcome;
 
@@ -18,8 +18,8 @@ use crate::outcome::Outcome;
 #[tactic(auto, unfolding(crate::specs::Runs::ran, crate::specs::Runs::ran_where, crate::specs::Runs::outcome_of, crate::specs::Runs::store_after, crate::specs::Runs::units_within))]
 pub fn parts_of_variables()
     // i.u := i.v + 1; with i.v = 5
-    ensures members { store_after (program [] (assign (member_of I (codes "U"))
-        (binary Add (read (member_of I (codes "V"))) (number Int (pos 1))) ∷ [])) 1
+    ensures members { store_after (program [] (assign (dotted I (codes "U"))
+        (binary Add (read (dotted I (codes "V"))) (number Int (pos 1))) ∷ [])) 1
         ((own_member I (codes "U"), int (pos 0)) ∷ (own_member I (codes "V"), int (pos 5)) ∷ []) [] 0
         ≡ (own_member I (codes "U"), int (pos 6)) ∷ (own_member I (codes "V"), int (pos 5)) ∷ [] }
     // a[1].u := 4;
@@ -42,7 +42,7 @@ pub fn parts_of_variables()
         ∷ subscript (binary Divide (number Int (pos 1)) (number Int (pos 0))) ∷ []))) (number Int (pos 4)) ∷ [])) 1
         ((own_element A (pos 0), int (pos 0)) ∷ []) [] 0 ≡ Outcome.Faulted Index }
     // a[2] := 1 / 0;
-    ensures value_before_subscripts { outcome_of (program [] (assign (element_of A (number Int (pos 2)))
+    ensures value_before_subscripts { outcome_of (program [] (assign (indexed A (number Int (pos 2)))
         (binary Divide (number Int (pos 1)) (number Int (pos 0))) ∷ [])) 1 ((own_element A (pos 0), int (pos 0)) ∷ [])
         [] 0 ≡ Outcome.Faulted DivisionByZero }
 {}

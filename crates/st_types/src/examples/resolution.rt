@@ -10,8 +10,8 @@ ghost use Rattle.st_trees.specs.Initials.{list, structure, single, repeated, def
 ghost use Rattle.st_types.specs.NameTypes.{variable_type};
 ghost use Rattle.st_types.specs.ResolvedUnits.{resolved_stmt, resolved_initial, resolved_type};
 ghost use Rattle.st_types.specs.Examples.{identifier, name, number, untyped, truth, set, A, C};
-ghost use Rattle.st_types.specs.CallExamples.{element_of, member_of, giving, invoked};
-ghost use Rattle.st_types.specs.ResolutionExamples.{several_variables, text_of_several, decimal, labelled, ranging};
+ghost use Rattle.st_types.specs.CallExamples.{indexed, dotted, giving, invoked};
+ghost use Rattle.st_types.specs.ResolutionExamples.{several_variables, text_of_several, plain_number, labelled, ranging};
 ghost use Rattle.st_types.specs.ResolutionExamples.{initially, two_dints};
 
 /// In an assignment, the type is that of the target, also of an element or a member; a subscript is a LINT.
@@ -20,11 +20,11 @@ pub fn literals_in_assignments()
     ensures variable { resolved_stmt text_of_several several_variables (set (codes "N") (untyped (pos 1)))
         ≡ set (codes "N") (number Int (pos 1)) }
     // a[0] := 2;
-    ensures element { resolved_stmt text_of_several several_variables (assign (element_of A (untyped (pos 0)))
-        (untyped (pos 2))) ≡ assign (element_of A (number Lint (pos 0))) (number Dint (pos 2)) }
+    ensures element { resolved_stmt text_of_several several_variables (assign (indexed A (untyped (pos 0)))
+        (untyped (pos 2))) ≡ assign (indexed A (number Lint (pos 0))) (number Dint (pos 2)) }
     // s.v := 3;
-    ensures member { resolved_stmt text_of_several several_variables (assign (member_of (codes "S") (codes "V"))
-        (untyped (pos 3))) ≡ assign (member_of (codes "S") (codes "V")) (number Sint (pos 3)) }
+    ensures member { resolved_stmt text_of_several several_variables (assign (dotted (codes "S") (codes "V"))
+        (untyped (pos 3))) ≡ assign (dotted (codes "S") (codes "V")) (number Sint (pos 3)) }
 {}
 
 /// An argument takes the type of its input, of a function and of an instance.
@@ -81,9 +81,9 @@ pub fn literals_in_initial_values()
         ≡ initially (Some Int) 7 }
     // a : ARRAY [0..1] OF DINT := [1, 2(3), 4()];
     ensures array { resolved_initial text_of_several (variable_type several_variables A) (list 0 (elements_of
-        (single (initially None 1) ∷ repeated (decimal None 2) (initially None 3) ∷ defaults (decimal None 4) ∷ [])))
-        ≡ list 0 (elements_of (single (initially (Some Dint) 1) ∷ repeated (decimal (Some Lint) 2)
-        (initially (Some Dint) 3) ∷ defaults (decimal (Some Lint) 4) ∷ [])) }
+        (single (initially None 1) ∷ repeated (plain_number None 2) (initially None 3) ∷ defaults (plain_number None 4) ∷ [])))
+        ≡ list 0 (elements_of (single (initially (Some Dint) 1) ∷ repeated (plain_number (Some Lint) 2)
+        (initially (Some Dint) 3) ∷ defaults (plain_number (Some Lint) 4) ∷ [])) }
     // s : Pair := (u := 1, v := 2);
     ensures structure { resolved_initial text_of_several (variable_type several_variables (codes "S"))
         (structure 0 (members_of ((identifier (codes "U"), initially None 1) ∷ (

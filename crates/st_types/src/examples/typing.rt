@@ -6,7 +6,7 @@ ghost use Rattle.st_words.specs.declared.operator.BinaryOperator.TheVariants.{Ad
 ghost use Rattle.st_trees.specs.Expressions.{binary, read};
 ghost use Rattle.st_types.specs.Asked.{IsTypedRun};
 ghost use Rattle.st_types.specs.Examples.{program, variables, own, number, name, truth, set, if_then, int, datum, A, X, Y};
-ghost use Rattle.st_types.specs.CallExamples.{calling_with, element_of, own_element, invoked};
+ghost use Rattle.st_types.specs.CallExamples.{calling_with, indexed, own_element, invoked};
 
 /// A fault of the run is not ill typed: F1, F2, F3 and F4 stay what they are.
 pub fn typed_runs()
@@ -14,7 +14,7 @@ pub fn typed_runs()
     ensures range { IsTypedRun (program [] (set X (binary Add (name X) (number Int (pos 1))) ∷ [])) 9
         (variables ((X, int (pos 32767)) ∷ [])) [] 0 }
     // x := a[5];
-    ensures index { IsTypedRun (program [] (set X (read (element_of A (number Int (pos 5)))) ∷ [])) 9
+    ensures index { IsTypedRun (program [] (set X (read (indexed A (number Int (pos 5)))) ∷ [])) 9
         ((own X, int (pos 0)) ∷ (own_element A (pos 0), int (pos 0)) ∷ []) [] 0 }
     // y := INT_TO_USINT(256);
     ensures conversion { IsTypedRun (program [] (set Y (calling_with (codes "INT_TO_USINT") (number Int (pos 256)))
