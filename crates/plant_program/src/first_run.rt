@@ -6,7 +6,7 @@ use crate::report::write_variable;
 use crate::serial_run::run_row;
 use commit_lock::{Core, Refusal, StartMode};
 use config::Plan;
-use disk::SimDisk;
+use disk::{Disk, SimDisk};
 use plant_words::DEFAULT_BUDGET;
 use serial_core::Refusal as SerialRefusal;
 use st_build::build;
@@ -34,15 +34,17 @@ fn started(alloc: Global, plan: Plan) -> Result<Core<SimDisk>, Fault> {
     }
 }
 
-/// Serves 100 rows of no inputs, at 0, 10, .., 990 ms, and gives the line that tells the value of n after them.
-pub fn first(alloc: Global) -> Result<Vec<u8>, Fault> {
-    let plan = build(alloc, built_in::TEXT.as_bytes(), DEFAULT_BUDGET)?;
-    let resources = plan.resources();
-    let mut core = started(alloc, plan)?;
+/// Serves 100 rows of no inputs, at 0, 10, .., 990 ms.
+fn serve_rows<D: Disk>(alloc: Global, core: &mut Core<D>, resources: usize) -> Result<(), Refusal> {
     for k in 0..ROWS {
         let row = Row::new(k * built_in::INTERVAL, Vec::new(alloc));
-        run_row(alloc, &mut core, resources, LOG_ROOM, row)?;
+        run_row(alloc, core, resources, LOG_ROOM, row)?;
     }
+    Ok(())
+}
+
+/// The line that tells the value of n.
+fn count_line<D: Disk>(alloc: Global, core: &Core<D>) -> Result<Vec<u8>, Fault> {
     let path = Path::global(alloc, Name::from_slice(alloc, built_in::COUNT.as_bytes())?);
     let Some(value) = core.value(&path) else {
         return Err(FOREIGN);
@@ -52,4 +54,13 @@ pub fn first(alloc: Global) -> Result<Vec<u8>, Fault> {
         Ok(()) => Ok(line),
         Err(_) => Err(Fault::NO_MEMORY),
     }
+}
+
+/// Serves the rows of the built-in configuration, and gives the line that tells the value of n after them.
+pub fn first(alloc: Global) -> Result<Vec<u8>, Fault> {
+    let plan = build(alloc, built_in::TEXT.as_bytes(), DEFAULT_BUDGET)?;
+    let resources = plan.resources();
+    let mut core = started(alloc, plan)?;
+    serve_rows(alloc, &mut core, resources)?;
+    count_line(alloc, &core)
 }

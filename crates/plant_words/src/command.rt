@@ -58,16 +58,25 @@ fn check<'a>(alloc: Global) -> Result<Command<'a>, AllocError> {
         .arg(source(alloc))
 }
 
-fn run<'a>(alloc: Global) -> Result<Command<'a>, AllocError> {
-    Command::new(alloc, "run")
-        .about("Runs a source against a plant and prints the report")
-        .arg(source(alloc))?
+/// The files that a run reads and writes.
+fn with_files<'a>(alloc: Global, run: Command<'a>) -> Result<Command<'a>, AllocError> {
+    run.arg(source(alloc))?
         .arg(file(alloc, "plant", "The plant, a CSV file").required(true))?
-        .arg(file(alloc, "store", "The retain file").required(true))?
-        .arg(start(alloc))?
-        .arg(budget(alloc))?
-        .arg(pace(alloc))?
-        .arg(file(alloc, "trace", "The trace to write (not yet)"))
+        .arg(file(alloc, "store", "The retain file").required(true))
+}
+
+/// How it runs.
+fn with_options<'a>(alloc: Global, run: Command<'a>) -> Result<Command<'a>, AllocError> {
+    run.arg(start(alloc))?.arg(budget(alloc))?.arg(pace(alloc))
+}
+
+fn run<'a>(alloc: Global) -> Result<Command<'a>, AllocError> {
+    let run = Command::new(alloc, "run").about(
+        "Runs a source against a plant and prints the report",
+    );
+    let run = with_files(alloc, run)?;
+    let run = with_options(alloc, run)?;
+    run.arg(file(alloc, "trace", "The trace to write (not yet)"))
 }
 
 fn replay<'a>(alloc: Global) -> Result<Command<'a>, AllocError> {
@@ -79,15 +88,29 @@ fn replay<'a>(alloc: Global) -> Result<Command<'a>, AllocError> {
         .arg(file(alloc, "trace", "The trace to run").required(true))
 }
 
+/// The command `plant` before its subcommands.
+fn plant<'a>(alloc: Global) -> Result<Command<'a>, AllocError> {
+    let plant = Command::new(alloc, "plant").bin_name("plant")?;
+    Ok(
+        plant
+            .about("Runs Structured Text against a recorded plant")
+            .subcommand_required(true),
+    )
+}
+
+/// The command with a subcommand that was made.
+fn with<'a>(
+    command: Command<'a>,
+    made: Result<Command<'a>, AllocError>,
+) -> Result<Command<'a>, AllocError> {
+    command.subcommand(made?)
+}
+
 /// The command `plant` with its subcommands.
 pub(crate) fn command<'a>(alloc: Global) -> Result<Command<'a>, AllocError> {
     let first = Command::new(alloc, "first").about("Runs the built-in configuration");
-    Command::new(alloc, "plant")
-        .bin_name("plant")?
-        .about("Runs Structured Text against a recorded plant")
-        .subcommand_required(true)
-        .subcommand(first)?
-        .subcommand(check(alloc)?)?
-        .subcommand(run(alloc)?)?
-        .subcommand(replay(alloc)?)
+    let command = plant(alloc)?.subcommand(first)?;
+    let command = with(command, check(alloc))?;
+    let command = with(command, run(alloc))?;
+    with(command, replay(alloc))
 }
