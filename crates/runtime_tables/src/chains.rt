@@ -1,0 +1,319 @@
+//! Chains of lives, each whole or stopped within each device step that it has. Two chains that come to one file go on
+//! alike, so a life is lived once over each file that the lives before it may leave.
+//!
+//! They are thousands of lives: a few seconds as they are built, and many minutes under `rt try`, whose code is slow.
+
+use crate::disks::{Cut, Mishap, disk_with};
+use crate::lives::{Course, Life, Lived, Setting, Telling, Told, live};
+use crate::records::opened;
+use crate::row_error::RowError;
+use crate::words::{number, split, write_number};
+use commit_lock::{StartFault, StartMode};
+use retain_store::{FILE_BYTES, StoreFault};
+use std::alloc::{AllocError, Global};
+
+/// No life of two rows has so many device steps.
+const STEPS: u64 = 30;
+
+/// The greatest number that is looked for.
+const MOST: u64 = 9;
+
+/// Room in the log of a life.
+const ROOM: usize = 100;
+
+/// What is left where bytes were written since the last sync: the mark of an open gate in each, zeros, or what was
+/// written.
+const TORN: [&str; 3] = ["\\A5", "\\00", "written"];
+
+/// N and the moment that a life goes on from.
+#[derive(Clone, Copy, PartialEq, Eq)]
+struct Point {
+    n: i128,
+    moment: Option<u64>,
+}
+
+/// Where a cold life begins, and a warm one over a file without a record.
+const INITIAL: Point = Point { n: 0, moment: None };
+
+/// Where a warm start over the file goes on from.
+fn recovered(alloc: Global, file: &[u8]) -> Result<Point, RowError> {
+    let store = opened(alloc, file)?;
+    let point = match store.last() {
+        Some(record) => Point {
+            n: match record.values().first() {
+                Some(value) => value.number(),
+                None => -1,
+            },
+            moment: record.moment(),
+        },
+        None => INITIAL,
+    };
+    let _ = store.into_disk();
+    Ok(point)
+}
+
+/// A life of two rows of these moments, each served and acknowledged.
+#[derive(Clone, Copy)]
+struct Chapter {
+    mode: StartMode,
+    first: u64,
+    second: u64,
+}
+
+impl Chapter {
+    /// A life that is written `warm 20 30`.
+    fn read(written: &str) -> Result<Chapter, RowError> {
+        let (mode, moments) = split(written, " ");
+        let (first, second) = split(moments, " ");
+        Ok(Chapter {
+            mode: match mode {
+                "warm" => StartMode::Warm,
+                "cold" => StartMode::Cold,
+                _ => return Err(RowError::Form),
+            },
+            first: number(first)?,
+            second: number(second)?,
+        })
+    }
+
+    fn calls(self, alloc: Global) -> Result<String, AllocError> {
+        let mut calls = String::new(alloc);
+        write_number(&mut calls, "row ", i128::from(self.first))?;
+        write_number(&mut calls, ", here 0, flush, row ", i128::from(self.second))?;
+        calls.push_str(", here 0, flush")?;
+        Ok(calls)
+    }
+
+    /// Where the life begins over a file of which a warm start goes on from there.
+    fn start(self, before: Point) -> Point {
+        match self.mode {
+            StartMode::Warm => before,
+            StartMode::Cold => INITIAL,
+        }
+    }
+
+    /// Where a warm start goes on from after so many entries of its log: a row and its execution, which adds 1, and
+    /// the same again.
+    fn front(self, start: Point, entries: usize) -> Point {
+        let (added, moment) = match entries {
+            0 => return start,
+            1 => (0, self.first),
+            2 => (1, self.first),
+            3 => (1, self.second),
+            _ => (2, self.second),
+        };
+        Point {
+            n: start.n.wrapping_add(added),
+            moment: Some(moment),
+        }
+    }
+
+    /// Whether the point is that after a part of the life's log that holds all that it acknowledged.
+    fn has_front(self, start: Point, course: Course, point: Point) -> bool {
+        for entries in course.acked..=course.len {
+            if self.front(start, entries) == point {
+                return true;
+            }
+        }
+        false
+    }
+
+    /// Whether a warm start goes on from a prefix of the life's log that holds all that it acknowledged. A life that
+    /// was not started leaves what was there before, or where it begins.
+    fn is_kept(self, before: Point, told: Told, after: Point) -> bool {
+        let start = self.start(before);
+        match told {
+            Told::NotStarted(StartFault::Store(StoreFault::Device)) => {
+                after == before || after == start
+            }
+            Told::NotStarted(_) => false,
+            Told::Started(course) => {
+                course.began == start.n && self.has_front(start, course, after)
+            }
+        }
+    }
+}
+
+/// A file that a life may leave, and where a warm start over it goes on from.
+#[derive(Drop)]
+struct Left {
+    file: Vec<u8>,
+    sum: u64,
+    point: Point,
+}
+
+/// A sum over the bytes, by which most files are told apart.
+fn sum_of(file: &[u8]) -> u64 {
+    let mut sum: u64 = 0;
+    for byte in file {
+        sum = sum.wrapping_mul(31).wrapping_add(u64::from(*byte));
+    }
+    sum
+}
+
+/// Where a warm start over the file goes on from, if it is known.
+fn known_point(known: &[Left], file: &[u8], sum: u64) -> Option<Point> {
+    for left in known {
+        if left.sum == sum && left.file.as_slice() == file {
+            return Some(left.point);
+        }
+    }
+    None
+}
+
+/// Where a warm start over the file goes on from. The file is added to those that are known unless it is one of them.
+fn point_of(alloc: Global, known: &mut Vec<Left>, file: Vec<u8>) -> Result<Point, RowError> {
+    let sum = sum_of(&file);
+    if let Some(point) = known_point(known, &file, sum) {
+        return Ok(point);
+    }
+    let point = recovered(alloc, &file)?;
+    known.push(Left { file, sum, point })?;
+    Ok(point)
+}
+
+/// A life of a chain, over each of the files that are there.
+#[derive(Clone, Copy)]
+struct Link<'a> {
+    setting: Setting<'a>,
+    chapter: Chapter,
+    calls: &'a str,
+}
+
+impl Link<'_> {
+    /// Lives the life over a disk with a copy of the file, which is stopped so.
+    fn live(self, alloc: Global, file: &[u8], cut: Cut<'_>) -> Result<Lived, RowError> {
+        let mishap = Mishap {
+            fails: None,
+            stops: Some(cut),
+        };
+        let life = Life {
+            mode: self.chapter.mode,
+            room: ROOM,
+            telling: Telling::Nothing,
+            calls: self.calls,
+        };
+        let disk = disk_with(alloc, file, mishap)?;
+        let mut untold = String::new(alloc);
+        live(&mut untold, alloc, self.setting, disk, life)
+    }
+
+    /// Lives the life over the file, stopped so, and adds the file that it leaves. It says whether power went in it.
+    fn stop_at(
+        self,
+        alloc: Global,
+        from: &Left,
+        cut: Cut<'_>,
+        left: &mut Vec<Left>,
+    ) -> Result<bool, RowError> {
+        let lived = self.live(alloc, &from.file, cut)?;
+        let Lived {
+            told,
+            failures,
+            left: file,
+        } = lived;
+        let after = point_of(alloc, left, file)?;
+        if self.chapter.is_kept(from.point, told, after) {
+            Ok(failures > 0)
+        } else {
+            Err(RowError::Lost(cut.step))
+        }
+    }
+
+    /// Lives the life over the file with a stop within each step in turn, until it has no such step. Adds the files
+    /// that are left.
+    fn stop_at_each(
+        self,
+        alloc: Global,
+        from: &Left,
+        torn: &str,
+        left: &mut Vec<Left>,
+    ) -> Result<(), RowError> {
+        for step in 0..STEPS {
+            let cut = Cut {
+                step,
+                torn,
+                len: FILE_BYTES as u64,
+            };
+            if !self.stop_at(alloc, from, cut, left)? {
+                break;
+            }
+        }
+        Ok(())
+    }
+
+    /// The files that the life may leave over these.
+    fn left_over(self, alloc: Global, files: &[Left]) -> Result<Vec<Left>, RowError> {
+        let mut left = Vec::new(alloc);
+        for from in files {
+            for torn in TORN {
+                self.stop_at_each(alloc, from, torn, &mut left)?;
+            }
+        }
+        Ok(left)
+    }
+}
+
+/// Whether a warm start over one of the files gives this number.
+fn is_found(files: &[Left], n: i128) -> bool {
+    for left in files {
+        if left.point.n == n {
+            return true;
+        }
+    }
+    false
+}
+
+/// Writes the life and each number that a warm start over one of the files gives.
+fn write_found(text: &mut String, chapter: &str, files: &[Left]) -> Result<(), AllocError> {
+    text.push_str(chapter)?;
+    text.push_str(":")?;
+    for n in 0..=MOST {
+        let n = i128::from(n);
+        if is_found(files, n) {
+            write_number(text, " ", n)?;
+        }
+    }
+    Ok(())
+}
+
+/// The files that a life of the chain may leave over these.
+fn next_files(
+    alloc: Global,
+    setting: Setting<'_>,
+    files: &[Left],
+    written: &str,
+) -> Result<Vec<Left>, RowError> {
+    let chapter = Chapter::read(written)?;
+    let calls = chapter.calls(alloc)?;
+    let link = Link {
+        setting,
+        chapter,
+        calls: calls.as_str(),
+    };
+    link.left_over(alloc, files)
+}
+
+/// Lives a chain that is written `cold 0 10, warm 20 30`, the first life over an empty file, and writes after each the
+/// numbers from which a warm start over one of its files goes on.
+pub fn write_chain(
+    text: &mut String,
+    alloc: Global,
+    setting: Setting<'_>,
+    written: &str,
+) -> Result<(), RowError> {
+    let empty = Left {
+        file: Vec::new(alloc),
+        sum: 0,
+        point: INITIAL,
+    };
+    let mut files = vec![in alloc; empty]?;
+    for (number, chapter) in written.split(", ").enumerate() {
+        files = next_files(alloc, setting, &files, chapter)?;
+        if number > 0 {
+            text.push_str("; ")?;
+        }
+        write_found(text, chapter, &files)?;
+    }
+    Ok(())
+}

@@ -1,0 +1,61 @@
+//! What a device meets.
+
+use crate::row_error::RowError;
+use crate::words::{number, split};
+use disk::{SimDisk, Stop};
+use scene_tables::unescaped;
+use std::alloc::{AllocError, Global};
+
+/// A stop of the machine within a device step.
+#[derive(Clone, Copy)]
+pub struct Cut<'a> {
+    pub step: u64,
+    /// The bytes that it leaves in turn where one was written since the last sync, or `written` where it leaves those.
+    pub torn: &'a str,
+    /// The length that it leaves, moved into the span from the synced length to the current one.
+    pub len: u64,
+}
+
+impl<'a> Cut<'a> {
+    /// A stop that is written `STEP TORN LENGTH`.
+    pub fn read(written: &'a str) -> Result<Cut<'a>, RowError> {
+        let (step, left) = split(written, " ");
+        let (torn, len) = split(left, " ");
+        Ok(Cut {
+            step: number(step)?,
+            torn,
+            len: number(len)?,
+        })
+    }
+
+    fn stop(self, alloc: Global) -> Result<Stop, AllocError> {
+        let torn = match self.torn {
+            "written" => Vec::new(alloc),
+            bytes => unescaped(alloc, bytes)?,
+        };
+        Ok(Stop {
+            step: self.step,
+            torn,
+            len: self.len,
+        })
+    }
+}
+
+/// What a device meets: a step that fails, and a stop.
+#[derive(Clone, Copy)]
+pub struct Mishap<'a> {
+    pub fails: Option<u64>,
+    pub stops: Option<Cut<'a>>,
+}
+
+/// A disk with a copy of this file that meets the mishap.
+pub fn disk_with(alloc: Global, file: &[u8], mishap: Mishap<'_>) -> Result<SimDisk, AllocError> {
+    let mut disk = SimDisk::new(alloc, file.to_vec(alloc)?)?;
+    if let Some(step) = mishap.fails {
+        disk.fail_at(step);
+    }
+    if let Some(cut) = mishap.stops {
+        disk.stop_at(cut.stop(alloc)?);
+    }
+    Ok(disk)
+}

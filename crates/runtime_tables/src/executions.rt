@@ -1,0 +1,102 @@
+//! Executions of what a core gives at its first row, as it is or changed.
+
+use crate::lives::plan_of;
+use crate::row_error::RowError;
+use crate::words::{count, number, split};
+use commit_lock::{Core, Reply, StartMode};
+use disk::SimDisk;
+use slot_run::{Execution, Snapshot, run};
+use st_plans::Row;
+use st_words::Value;
+use std::alloc::Global;
+
+/// The moment of the row.
+const MOMENT: u64 = 50;
+
+/// Room in the log.
+const ROOM: usize = 10;
+
+/// What is changed of a snapshot before it is run.
+#[derive(Clone, Copy)]
+enum Change {
+    Nothing,
+    /// The activation is that of the program of this number.
+    Program(usize),
+    /// The moment in milliseconds.
+    Moment(u64),
+    /// The ticks that it may take.
+    Budget(u32),
+}
+
+/// A change that is written `moment 51`; nothing where nothing is written.
+fn change_of(written: &str) -> Result<Change, RowError> {
+    let (word, given) = split(written, " ");
+    match word {
+        "" => Ok(Change::Nothing),
+        "program" => Ok(Change::Program(count(given)?)),
+        "moment" => Ok(Change::Moment(number(given)?)),
+        "budget" => Ok(Change::Budget(number(given)?.min(u64::from(u32::MAX)) as u32)),
+        _ => Err(RowError::Form),
+    }
+}
+
+/// A snapshot with this change.
+fn changed(snapshot: Snapshot, change: Change) -> Snapshot {
+    let Snapshot {
+        code,
+        mut activation,
+        mut moment,
+        mut budget,
+        slots,
+        ..
+    } = snapshot;
+    match change {
+        Change::Nothing => {}
+        Change::Program(number) => activation.program = number,
+        Change::Moment(changed) => moment = changed,
+        Change::Budget(changed) => budget = changed,
+    }
+    Snapshot::new(code, activation, moment, budget, slots)
+}
+
+/// A core of the text's plan, at its first row.
+fn at_a_row(alloc: Global, text: &str) -> Result<Core<SimDisk>, RowError> {
+    let disk = SimDisk::new(alloc, Vec::new(alloc))?;
+    let plan = plan_of(alloc, text)?;
+    match Core::start(alloc, plan, disk, StartMode::Cold, ROOM) {
+        Ok(core) => {
+            let mut core = core;
+            let _ = core.latch(Row::new(MOMENT, Vec::<Value>::new(alloc)));
+            Ok(core)
+        }
+        Err((fault, _)) => Err(RowError::Start(fault)),
+    }
+}
+
+/// What the plan's first resource gives at the first row.
+fn taken(alloc: Global, text: &str) -> Result<Option<Snapshot>, RowError> {
+    let core = at_a_row(alloc, text)?;
+    let taken = core.take(alloc, 0);
+    let _ = core.stop();
+    Ok(taken?)
+}
+
+/// The execution of what is taken, with a change that is written `moment 51`.
+pub fn execution_of(alloc: Global, text: &str, change: &str) -> Result<Execution, RowError> {
+    let change = change_of(change)?;
+    match taken(alloc, text)? {
+        Some(snapshot) => Ok(run(alloc, changed(snapshot, change))?),
+        None => Err(RowError::Form),
+    }
+}
+
+/// What a core of the text's plan answers to an execution.
+pub fn committed(alloc: Global, text: &str, execution: Execution) -> Result<Reply, RowError> {
+    let mut core = at_a_row(alloc, text)?;
+    let answer = core.commit(execution);
+    let _ = core.stop();
+    match answer {
+        Ok(answer) => Ok(Reply::Answered(answer)),
+        Err(refusal) => Ok(Reply::Refused(refusal)),
+    }
+}

@@ -1,0 +1,30 @@
+//! Tests of the runtime as the rows of a table: disks and real files, recorded plants, runs of code, the ready list, and
+//! whole lives of a core over a simulated disk that fails or is stopped at any step.
+#![tactic(auto)]
+
+mod calls;
+mod chains;
+mod disk_calls;
+mod disks;
+mod executions;
+mod files;
+mod lives;
+mod numbers;
+mod odd_file;
+mod plants;
+mod real_files;
+mod records;
+mod row;
+mod row_error;
+mod scene;
+mod telling;
+mod words;
+
+use crate::row::answer;
+use scene_tables::read_table;
+use std::alloc::Global;
+use std::io;
+
+fn main(rt: HostRuntime) -> io::Result<()> {
+    read_table(&rt, |alloc: Global, given: &str| answer(&rt, alloc, given))
+}

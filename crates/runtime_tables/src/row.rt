@@ -1,0 +1,57 @@
+//! What is asked of the runtime.
+//!
+//! A row is of parts with ` | ` between them. Those that tell something are answered in order, with ` | ` between the
+//! answers. A row begins with an empty file, and with a plan of one program that adds 1 to N, which is retained, every
+//! 10 ms.
+//!
+//! The parts that say something of those behind them:
+//!
+//! - `plan N K: PROGRAM ..`: the plan of this text, and its globals that are told
+//! - `file 262144, 0 record, 27 IMT`: a file of zeros, with these bytes over them
+//! - `resaved`: the file that a save of what is recovered makes of an empty one
+//! - `inputs A:BOOL Z:INT`: the inputs of plants
+//! - `fails 2`, `stops 1 \AA 7`, `room 10`: of the next life, disk or plant the step that fails; the step that the
+//!   machine stops within, the bytes that it leaves in turn, or `written`, and the length; the room in the log
+//! - `untold`, `numbers`, `whole`: of the next life nothing is told; no replies; also how each entry of the log ended, and
+//!   the overruns
+//!
+//! The parts that are answered:
+//!
+//! - `sim: write 5 \09\09, sync, read 0 2, len`: calls of a simulated disk with the file; how many have failed, and the
+//!   file that is left
+//! - `real: len`, `slow: len`, `deaf: len`, `broken: len`: the same of a file of the system; of one that moves a byte a
+//!   call, that can be neither read nor written, or all of whose calls fail
+//! - `new: len`, `folderless`: the same of a file of the system that isn't there; one in a folder that isn't there
+//! - `plant t,S\0A0,1\0A`: the rows of a recorded plant, or its refusal; with `fails 8` its reader fails where 8 bytes are
+//!   left
+//! - `rows 10000`: how many are read of a plant with so many rows
+//! - `cold: row 0, here 0, flush`, `warm`: a start over the file and these calls; what the life told
+//! - `same`, `length`, `bytes 131072 34`: whether the last life left the file as it was, its length, 34 bytes from that
+//!   place on
+//! - `recovered`: the moment and the values that a store alone recovers of the file
+//! - `chain cold 0 10, warm 20 30`: two lives, with a stop within any step of each; the values of N that come of it
+//! - `run`, `run moment 51`: the execution of what a core of the plan gives at a row of moment 50, as it is or changed
+//! - `commit`: what a new core of the plan at such a row answers to that execution
+//! - `refusals`, `faults`: the numbers that the refusals of a core and the faults of a start show as
+
+use crate::row_error::{RowError, write_error};
+use crate::scene::Scene;
+use std::alloc::{AllocError, Global};
+
+fn read_all<'a>(scene: &mut Scene<'a>, given: &'a str) -> Result<(), RowError> {
+    for part in given.split(" | ") {
+        scene.read(part)?;
+    }
+    Ok(())
+}
+
+/// What is answered to a row.
+pub fn answer(rt: &HostRuntime, alloc: Global, given: &str) -> Result<String, AllocError> {
+    let mut scene = Scene::new(rt, alloc);
+    let read = read_all(&mut scene, given);
+    let Scene { mut answer, .. } = scene;
+    if let Err(error) = read {
+        write_error(&mut answer, error)?;
+    }
+    Ok(answer)
+}

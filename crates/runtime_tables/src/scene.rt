@@ -1,0 +1,221 @@
+//! The parts of a row, one after another.
+
+use crate::chains::write_chain;
+use crate::disk_calls::{play, write_content};
+use crate::disks::{Cut, Mishap, disk_with};
+use crate::executions::{committed, execution_of};
+use crate::files::file_of;
+use crate::lives::{Life, Setting, Telling, live};
+use crate::numbers::{write_refusals, write_start_faults};
+use crate::plants::{write_plant, write_row_count};
+use crate::real_files::{write_folderless, write_real};
+use crate::records::{resaved, write_recovered};
+use crate::row_error::RowError;
+use crate::telling::{write_execution, write_reply};
+use crate::words::{count, number, split, write_bytes, write_number};
+use commit_lock::StartMode;
+use scene_tables::unescaped;
+use slot_run::Execution;
+use std::alloc::{AllocError, Global};
+
+/// The plan of a row that says none.
+const COUNTER: Setting<'static> = Setting {
+    text: "PROGRAM Unit0 VAR_EXTERNAL N : INT; END_VAR N := N + 1; END_PROGRAM CONFIGURATION C \
+        VAR_GLOBAL RETAIN N : INT; END_VAR RESOURCE R0 ON CPU TASK T0 (INTERVAL := T#10ms, PRIORITY := 0); \
+        PROGRAM P0 WITH T0 : Unit0; END_RESOURCE END_CONFIGURATION",
+    globals: "N",
+};
+
+/// What the next disk, life or reader meets, and what is told of it.
+#[derive(Clone, Copy)]
+struct Terms<'a> {
+    mishap: Mishap<'a>,
+    /// Room in the log.
+    room: usize,
+    telling: Telling,
+}
+
+/// The terms of a part before which none are said.
+const TERMS: Terms<'static> = Terms {
+    mishap: Mishap {
+        fails: None,
+        stops: None,
+    },
+    room: 100,
+    telling: Telling::Replies,
+};
+
+/// What the parts of a row have made so far.
+#[derive(Drop)]
+pub struct Scene<'a> {
+    rt: &'a HostRuntime,
+    alloc: Global,
+    setting: Setting<'a>,
+    /// The inputs of plants.
+    inputs: &'a str,
+    terms: Terms<'a>,
+    file: Vec<u8>,
+    /// Whether the last life left the file as it was.
+    is_same: bool,
+    /// The last execution, until it is committed.
+    execution: Option<Execution>,
+    pub answer: String,
+}
+
+impl<'a> Scene<'a> {
+    /// An empty file, and a plan that counts.
+    pub fn new(rt: &'a HostRuntime, alloc: Global) -> Scene<'a> {
+        Scene {
+            rt,
+            alloc,
+            setting: COUNTER,
+            inputs: "",
+            terms: TERMS,
+            file: Vec::new(alloc),
+            is_same: true,
+            execution: None,
+            answer: String::new(alloc),
+        }
+    }
+
+    /// Divides the answers of two parts.
+    fn divide(&mut self) -> Result<(), AllocError> {
+        if self.answer.is_empty() {
+            return Ok(());
+        }
+        self.answer.push_str(" | ")
+    }
+
+    /// Lives a life over the file, and tells it unless nothing is to be told.
+    fn live(&mut self, mode: StartMode, calls: &str) -> Result<(), RowError> {
+        let life = Life {
+            mode,
+            room: self.terms.room,
+            telling: self.terms.telling,
+            calls,
+        };
+        let disk = disk_with(self.alloc, &self.file, self.terms.mishap)?;
+        let mut told = String::new(self.alloc);
+        let lived = live(&mut told, self.alloc, self.setting, disk, life)?;
+        self.is_same = lived.left.as_slice() == self.file.as_slice();
+        self.file = lived.left;
+        if !matches!(life.telling, Telling::Nothing) {
+            self.divide()?;
+            self.answer.push_str(told.as_str())?;
+        }
+        Ok(())
+    }
+
+    /// Makes calls of a simulated disk with the file, and tells the file that is left.
+    fn simulate(&mut self, calls: &str) -> Result<(), RowError> {
+        let mut disk = disk_with(self.alloc, &self.file, self.terms.mishap)?;
+        play(&mut self.answer, self.alloc, &mut disk, calls)?;
+        self.answer.push_str(", left ")?;
+        write_content(&mut self.answer, &disk.left())?;
+        Ok(())
+    }
+
+    /// Runs what a core gives at its first row, with a change, and tells the execution.
+    fn run(&mut self, change: &str) -> Result<(), RowError> {
+        let execution = execution_of(self.alloc, self.setting.text, change)?;
+        write_execution(&mut self.answer, &execution)?;
+        self.execution = Some(execution);
+        Ok(())
+    }
+
+    /// Commits the last execution in a core at its first row, and tells the answer.
+    fn commit(&mut self) -> Result<(), RowError> {
+        let Some(execution) = self.execution.take() else {
+            return Err(RowError::Form);
+        };
+        let reply = committed(self.alloc, self.setting.text, execution)?;
+        write_reply(&mut self.answer, reply)?;
+        Ok(())
+    }
+
+    /// Reads a recorded plant, and tells its rows.
+    fn read_plant(&mut self, written: &str) -> Result<(), RowError> {
+        let plant = unescaped(self.alloc, written)?;
+        write_plant(
+            &mut self.answer,
+            self.alloc,
+            self.inputs,
+            &plant,
+            self.terms.mishap.fails,
+        )
+    }
+
+    /// Tells so many bytes of the file from a place on, which are written `PLACE COUNT`.
+    fn tell_bytes(&mut self, written: &str) -> Result<(), RowError> {
+        let (at, len) = split(written, " ");
+        let at = count(at)?.min(self.file.len());
+        let end = at.saturating_add(count(len)?).min(self.file.len());
+        write_bytes(&mut self.answer, &self.file[at..end])?;
+        Ok(())
+    }
+
+    /// Tells whether the last life left the file as it was.
+    fn tell_same(&mut self) -> Result<(), AllocError> {
+        let word = if self.is_same { "same" } else { "changed" };
+        self.answer.push_str(word)
+    }
+
+    fn tell_length(&mut self) -> Result<(), AllocError> {
+        write_number(&mut self.answer, "", self.file.len() as i128)?;
+        self.answer.push_str(" bytes")
+    }
+
+    /// A part that tells something, a life aside.
+    fn tell(&mut self, word: &str, given: &str) -> Result<(), RowError> {
+        self.divide()?;
+        match word {
+            "sim:" => self.simulate(given),
+            "folderless" => Ok(write_folderless(&mut self.answer, self.rt)?),
+            "plant" => self.read_plant(given),
+            "rows" => write_row_count(&mut self.answer, self.alloc, number(given)?),
+            "run" => self.run(given),
+            "commit" => self.commit(),
+            "chain" => write_chain(&mut self.answer, self.alloc, self.setting, given),
+            "bytes" => self.tell_bytes(given),
+            "length" => Ok(self.tell_length()?),
+            "same" => Ok(self.tell_same()?),
+            "recovered" => write_recovered(&mut self.answer, self.alloc, &self.file),
+            "refusals" => Ok(write_refusals(&mut self.answer)?),
+            "faults" => Ok(write_start_faults(&mut self.answer)?),
+            _ => write_real(&mut self.answer, self.rt, word, &self.file, given),
+        }
+    }
+
+    /// A part that is answered. The terms that were said hold for it alone.
+    fn answer(&mut self, word: &str, given: &str) -> Result<(), RowError> {
+        match word {
+            "cold" | "cold:" => self.live(StartMode::Cold, given)?,
+            "warm" | "warm:" => self.live(StartMode::Warm, given)?,
+            _ => self.tell(word, given)?,
+        }
+        self.terms = TERMS;
+        Ok(())
+    }
+
+    /// Reads a part, and adds what it is answered.
+    pub fn read(&mut self, part: &'a str) -> Result<(), RowError> {
+        let (word, given) = split(part, " ");
+        match word {
+            "plan" => {
+                let (globals, text) = split(given, ": ");
+                self.setting = Setting { text, globals };
+            }
+            "inputs" => self.inputs = given,
+            "file" => self.file = file_of(self.alloc, given)?,
+            "resaved" => self.file = resaved(self.alloc, &self.file)?,
+            "fails" => self.terms.mishap.fails = Some(number(given)?),
+            "stops" => self.terms.mishap.stops = Some(Cut::read(given)?),
+            "room" => self.terms.room = count(given)?,
+            "untold" => self.terms.telling = Telling::Nothing,
+            "numbers" => self.terms.telling = Telling::Numbers,
+            "whole" => self.terms.telling = Telling::Whole,
+            _ => self.answer(word, given)?,
+        }
+        Ok(())
+    }
+}
