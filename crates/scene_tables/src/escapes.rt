@@ -43,11 +43,17 @@ pub fn unescaped(alloc: Global, written: &str) -> Result<Vec<u8>, AllocError> {
     Ok(text)
 }
 
+/// Adds a part so many times.
+pub fn add(text: &mut Vec<u8>, times: usize, part: &[u8]) -> Result<(), AllocError> {
+    for _ in 0..times {
+        text.extend_from_slice(part)?;
+    }
+    Ok(())
+}
+
 /// The text so many times.
 pub fn repeated(alloc: Global, times: usize, text: &[u8]) -> Result<Vec<u8>, AllocError> {
     let mut all = Vec::new(alloc);
-    for _ in 0..times {
-        all.extend_from_slice(text)?;
-    }
+    add(&mut all, times, text)?;
     Ok(all)
 }

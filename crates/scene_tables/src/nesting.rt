@@ -1,17 +1,20 @@
 //! Texts that repeat a part of themselves.
 
-use crate::escapes::{repeated, unescaped};
+use crate::escapes::{add, unescaped};
 use std::alloc::{AllocError, Global};
 
-/// The text of head, so many openings, middle, as many closings and tail.
+/// The text of head, so many openings, middle, as many closings and tail: every second part is repeated.
 fn nested(alloc: Global, times: usize, parts: &str) -> Result<Vec<u8>, AllocError> {
-    let mut rest = parts.split('|');
     let mut text = Vec::new(alloc);
-    text.extend_from_slice(rest.next().unwrap_or("").as_bytes())?;
-    text.extend_from_slice(&repeated(alloc, times, rest.next().unwrap_or("").as_bytes())?)?;
-    text.extend_from_slice(rest.next().unwrap_or("").as_bytes())?;
-    text.extend_from_slice(&repeated(alloc, times, rest.next().unwrap_or("").as_bytes())?)?;
-    text.extend_from_slice(rest.next().unwrap_or("").as_bytes())?;
+    let mut is_repeated = false;
+    for part in parts.split('|') {
+        add(
+            &mut text,
+            if is_repeated { times } else { 1 },
+            part.as_bytes(),
+        )?;
+        is_repeated = !is_repeated;
+    }
     Ok(text)
 }
 

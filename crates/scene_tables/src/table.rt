@@ -13,9 +13,9 @@ pub fn read_table<
 {
     let mut rows: u64 = 0;
     let mut right: u64 = 0;
-    for line in rt.lines(rt.alloc()) {
-        let line = line?;
-        let Some((given, wanted)) = line.as_str().split_once(" ==> ") else {
+    let table = io::read_to_string(rt.alloc(), rt.reader())?;
+    for line in table.lines() {
+        let Some((given, wanted)) = line.split_once(" ==> ") else {
             println!(rt; "{line}")?;
             continue;
         };
