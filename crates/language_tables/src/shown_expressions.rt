@@ -1,10 +1,9 @@
 //! Variables and expressions as texts. `{ }` are parentheses of the text, and `( )` show what an operator takes.
 
+use crate::answer::Answer;
 use crate::shown_words::{literal, name, name_behind};
 use st_trees::{Expr, Selector, Variable};
 use st_words::{BinaryOperator, UnaryOperator};
-use std::alloc::AllocError;
-use std::fmt::Write;
 
 fn sign(operator: BinaryOperator) -> &'static str {
     match operator {
@@ -33,69 +32,75 @@ fn unary_sign(operator: UnaryOperator) -> &'static str {
 }
 
 #[cycle(shown)]
-pub fn expression(out: &mut String, shown: &Expr) -> Result<(), AllocError> {
+pub fn expression(out: &mut Answer, shown: &Expr) {
     match shown {
         Expr::Literal(found) => literal(out, found),
         Expr::Variable(found) => variable(out, found),
         Expr::Call(function, found) => {
-            name(out, function)?;
+            name(out, function);
             arguments(out, found)
         }
         Expr::Parenthesis(place, inner) => {
-            write!(out, "{{@{place} ")?;
-            expression(out, inner)?;
-            out.push_str("}")
+            out.mark('{');
+            out.at(*place);
+            out.mark(' ');
+            expression(out, inner);
+            out.mark('}')
         }
         Expr::Unary(operator, place, operand) => {
-            write!(out, "({}@{place} ", unary_sign(*operator))?;
-            expression(out, operand)?;
-            out.push_str(")")
+            out.mark('(');
+            out.put(unary_sign(*operator));
+            out.at(*place);
+            out.mark(' ');
+            expression(out, operand);
+            out.mark(')')
         }
         Expr::Binary(operator, left, right) => {
-            out.push_str("(")?;
-            expression(out, left)?;
-            write!(out, " {} ", sign(*operator))?;
-            expression(out, right)?;
-            out.push_str(")")
+            out.mark('(');
+            expression(out, left);
+            out.mark(' ');
+            out.put(sign(*operator));
+            out.mark(' ');
+            expression(out, right);
+            out.mark(')')
         }
     }
 }
 
 #[cycle(shown)]
-fn arguments(out: &mut String, shown: &[Expr]) -> Result<(), AllocError> {
-    out.push_str("<")?;
+fn arguments(out: &mut Answer, shown: &[Expr]) {
+    out.mark('<');
     for i in 0..shown.len() {
         if i > 0 {
-            out.push_str(", ")?;
+            out.put(", ");
         }
-        expression(out, &shown[i])?;
+        expression(out, &shown[i]);
     }
-    out.push_str(">")
+    out.mark('>')
 }
 
 #[cycle(shown)]
-fn selector(out: &mut String, shown: &Selector) -> Result<(), AllocError> {
+fn selector(out: &mut Answer, shown: &Selector) {
     match shown {
         Selector::Member(member) => name_behind(out, ".", member),
         Selector::Subscript(subscript) => {
-            out.push_str("[")?;
-            expression(out, subscript)?;
-            out.push_str("]")
+            out.mark('[');
+            expression(out, subscript);
+            out.mark(']')
         }
     }
 }
 
 #[cycle(shown)]
-pub fn variable(out: &mut String, shown: &Variable) -> Result<(), AllocError> {
-    name(out, &shown.name)?;
+pub fn variable(out: &mut Answer, shown: &Variable) {
+    name(out, &shown.name);
     for found in &shown.selectors {
-        selector(out, found)?;
+        selector(out, found);
     }
-    Ok(())
 }
 
 /// Writes an expression after this text.
-pub fn expression_behind(out: &mut String, before: &str, shown: &Expr) -> Result<(), AllocError> {
-    out.push_str(before)?;
+pub fn expression_behind(out: &mut Answer, before: &str, shown: &Expr) {
+    out.put(before);
     expression(out, shown)
 }

@@ -1,13 +1,17 @@
-//! Asks for the tokens, the trees and the broken rules of the texts of a table. The words of the language have tests of
-//! their own.
+//! Asks for the words of the language, and for the tokens, the trees and the broken rules of the texts of a table.
 #![tactic(auto)]
 
+mod answer;
 mod depths;
+mod kinds;
 mod lexed;
+mod names;
+mod numbers;
 mod parts;
+mod paths;
+mod printing;
 mod reading;
-mod row;
-mod sameness;
+mod rows;
 mod shown_configurations;
 mod shown_expressions;
 mod shown_initials;
@@ -19,8 +23,10 @@ mod shown_words;
 mod sources;
 mod terminals;
 mod trees;
+mod values;
+mod words;
 
-use crate::row::answer;
+use crate::rows::answer;
 use scene_tables::read_table;
 use std::alloc::Global;
 use std::io;

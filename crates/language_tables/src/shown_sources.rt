@@ -1,12 +1,12 @@
 //! Sources as texts: their declarations, with places.
 
+use crate::answer::Answer;
 use crate::shown_configurations::configuration;
 use crate::shown_types::types;
 use crate::shown_units::unit;
 use st_trees::{LibraryElement, Source};
-use std::alloc::AllocError;
 
-fn element(out: &mut String, shown: &LibraryElement) -> Result<(), AllocError> {
+fn element(out: &mut Answer, shown: &LibraryElement) {
     match shown {
         LibraryElement::Types(found) => types(out, found),
         LibraryElement::Unit(found) => unit(out, found),
@@ -15,12 +15,11 @@ fn element(out: &mut String, shown: &LibraryElement) -> Result<(), AllocError> {
 }
 
 /// The declarations of a source with their places.
-pub fn declarations(out: &mut String, shown: &Source) -> Result<(), AllocError> {
+pub fn declarations(out: &mut Answer, shown: &Source) {
     for i in 0..shown.elements.len() {
         if i > 0 {
-            out.push_str(", ")?;
+            out.put(", ");
         }
-        element(out, &shown.elements[i])?;
+        element(out, &shown.elements[i]);
     }
-    Ok(())
 }

@@ -1,20 +1,21 @@
 //! Initial values as texts.
 
+use crate::answer::Answer;
 use crate::shown_words::{literal, name_behind, number};
 use st_trees::{Initial, InitialElement, InitialMember};
-use std::alloc::AllocError;
-use std::fmt::Write;
 
 #[cycle(shown_initial)]
-pub fn initial(out: &mut String, shown: &Initial) -> Result<(), AllocError> {
+pub fn initial(out: &mut Answer, shown: &Initial) {
     match shown {
         Initial::Constant(found) => literal(out, found),
         Initial::List(place, found) => {
-            write!(out, "[@{place}")?;
+            out.mark('[');
+            out.at(*place);
             elements(out, found)
         }
         Initial::Structure(place, found) => {
-            write!(out, "(@{place}")?;
+            out.mark('(');
+            out.at(*place);
             members(out, found)
         }
     }
@@ -22,48 +23,48 @@ pub fn initial(out: &mut String, shown: &Initial) -> Result<(), AllocError> {
 
 /// The elements of a list, to its end.
 #[cycle(shown_initial)]
-fn elements(out: &mut String, shown: &[InitialElement]) -> Result<(), AllocError> {
+fn elements(out: &mut Answer, shown: &[InitialElement]) {
     for i in 0..shown.len() {
-        out.push_str(" ")?;
-        element(out, &shown[i])?;
+        out.mark(' ');
+        element(out, &shown[i]);
     }
-    out.push_str("]")
+    out.mark(']')
 }
 
 /// The members of a structure, to its end.
 #[cycle(shown_initial)]
-fn members(out: &mut String, shown: &[InitialMember]) -> Result<(), AllocError> {
+fn members(out: &mut Answer, shown: &[InitialMember]) {
     for i in 0..shown.len() {
-        name_behind(out, " ", &shown[i].name)?;
-        out.push_str(" := ")?;
-        initial(out, &shown[i].value)?;
+        name_behind(out, " ", &shown[i].name);
+        out.put(" := ");
+        initial(out, &shown[i].value);
     }
-    out.push_str(")")
+    out.mark(')')
 }
 
 #[cycle(shown_initial)]
-fn element(out: &mut String, shown: &InitialElement) -> Result<(), AllocError> {
+fn element(out: &mut Answer, shown: &InitialElement) {
     match shown {
         InitialElement::Single(value) => initial(out, value),
         InitialElement::Repeated(count, value) => {
-            number(out, count)?;
-            out.push_str(" of ")?;
+            number(out, count);
+            out.put(" of ");
             initial(out, value)
         }
         InitialElement::Defaults(count) => {
-            number(out, count)?;
-            out.push_str(" defaults")
+            number(out, count);
+            out.put(" defaults")
         }
     }
 }
 
 /// The initial value after `:=`, if there is one.
-pub fn given(out: &mut String, shown: &Option<Initial>) -> Result<(), AllocError> {
+pub fn given(out: &mut Answer, shown: &Option<Initial>) {
     match shown {
         Some(value) => {
-            out.push_str(" := ")?;
+            out.put(" := ");
             initial(out, value)
         }
-        None => Ok(()),
+        None => {}
     }
 }

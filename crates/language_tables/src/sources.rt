@@ -1,12 +1,12 @@
 //! What the parser makes of whole texts and of their prefixes.
 
+use crate::answer::Answer;
 use crate::shown_sources::declarations;
 use st_lex::{LexError, LexFault, Token, lex};
 use st_parse::{ParseError, parse};
 use st_rules::broken_rule;
 use st_trees::{LibraryElement, Source};
-use std::alloc::{AllocError, Global};
-use std::fmt::Write;
+use std::alloc::Global;
 
 /// Whether the source has a configuration.
 fn is_configured(source: &Source) -> bool {
@@ -19,25 +19,24 @@ fn is_configured(source: &Source) -> bool {
 }
 
 /// The broken rule of a source, or that there is none.
-fn broken(out: &mut String, alloc: Global, source: &Source) -> Result<(), AllocError> {
-    match broken_rule(alloc, source)? {
-        Some(rule) => write!(out, "{rule}"),
-        None => out.push_str("none"),
+fn broken(out: &mut Answer, alloc: Global, source: &Source) {
+    match broken_rule(alloc, source) {
+        Ok(Some(rule)) => out.show(&rule),
+        Ok(None) => out.put("none"),
+        Err(_) => out.put("no memory"),
     }
 }
 
 /// What is answered of the source that the tokens are, or why they are none.
-pub fn shown_source(
-    out: &mut String,
-    alloc: Global,
-    word: &str,
-    tokens: &[Token],
-) -> Result<(), AllocError> {
+pub fn shown_source(out: &mut Answer, alloc: Global, word: &str, tokens: &[Token]) {
     match parse(alloc, tokens) {
         Ok(source) if word == "rules" => broken(out, alloc, &source),
         Ok(source) if word == "declarations" => declarations(out, &source),
-        Ok(source) => write!(out, "{} read", source.elements.len()),
-        Err(error) => write!(out, "{error}"),
+        Ok(source) => {
+            out.show(&source.elements.len());
+            out.put(" read");
+        }
+        Err(error) => out.show(&error),
     }
 }
 
@@ -69,7 +68,7 @@ fn outcome_of(alloc: Global, text: &[u8]) -> Outcome {
 
 /// Of the prefixes of the text, itself included: how many are read as a source with a configuration, and how many are
 /// refused otherwise than a text that ends too early.
-pub fn prefixes(out: &mut String, alloc: Global, text: &[u8]) -> Result<(), AllocError> {
+pub fn prefixes(out: &mut Answer, alloc: Global, text: &[u8]) {
     let mut configured: u64 = 0;
     let mut refused: u64 = 0;
     for end in 0..=text.len() {
@@ -79,8 +78,8 @@ pub fn prefixes(out: &mut String, alloc: Global, text: &[u8]) -> Result<(), Allo
             Outcome::Unconfigured | Outcome::Unfinished => {}
         }
     }
-    write!(
-        out,
-        "{configured} with a configuration, {refused} refused otherwise"
-    )
+    out.show(&configured);
+    out.put(" with a configuration, ");
+    out.show(&refused);
+    out.put(" refused otherwise");
 }

@@ -1,0 +1,57 @@
+//! The elementary types.
+
+use crate::answer::Answer;
+use st_words::{Kind, Sort};
+
+const KINDS: [Kind; 14] = [
+    Kind::Sint,
+    Kind::Int,
+    Kind::Dint,
+    Kind::Lint,
+    Kind::Usint,
+    Kind::Uint,
+    Kind::Udint,
+    Kind::Ulint,
+    Kind::Byte,
+    Kind::Word,
+    Kind::Dword,
+    Kind::Lword,
+    Kind::Time,
+    Kind::Bool,
+];
+
+/// The type whose keyword this is.
+pub fn kind_of(written: &str) -> Option<Kind> {
+    for kind in KINDS {
+        if kind.row().keyword == written {
+            return Some(kind);
+        }
+    }
+    None
+}
+
+fn sort_word(sort: Sort) -> &'static str {
+    match sort {
+        Sort::Signed => "signed",
+        Sort::Unsigned => "unsigned",
+        Sort::Bits => "bits",
+        Sort::Duration => "a duration",
+        Sort::Truth => "a truth value",
+    }
+}
+
+/// Writes the keyword, sort, bits and range of the type that is written so.
+pub fn write_kind(out: &mut Answer, written: &str) -> Option<()> {
+    let kind = kind_of(written)?;
+    let row = kind.row();
+    out.put(row.keyword);
+    out.put(", ");
+    out.put(sort_word(row.sort));
+    out.put(", ");
+    out.show(&row.bits);
+    out.put(" wide, ");
+    out.show(&kind.least());
+    out.put(" to ");
+    out.show(&kind.greatest());
+    Some(())
+}
