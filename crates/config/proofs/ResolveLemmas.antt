@@ -89,7 +89,8 @@ expected_is k false false = refl
 operand_is : (text : Declared) (u : OrganisationUnit) (k : Kind) (l r : Expr) → Agrees text u
     → is_typed u.blocks k l ≡ true → is_typed u.blocks k r ≡ true → operand_kind text u (Some k) Add l r ≡ Some k
 operand_is text u k l r agrees hl hr =
-    ap (λ a. expected_of_both (Some k) a (own_kind text u r) (is_untyped l) (is_untyped r)) (own_is text u k l agrees hl)
+    ap (λ a. expected_of_both (Some k) a (own_kind text u r) (is_untyped l) (is_untyped r))
+    (own_is text u k l agrees hl)
     ∙ ap (λ b. expected_of_both (Some k) (kind_if (is_untyped l) k) b (is_untyped l) (is_untyped r))
     (own_is text u k r agrees hr)
     ∙ expected_is k (is_untyped l) (is_untyped r)

@@ -17,8 +17,8 @@ use Rattle.slot_code.specs.declared.global.GlobalSlot.{GlobalSlot}
 use Rattle.slot_code.specs.Globals.{global_named, Fits}
 use Rattle.slot_code.specs.Codes.{CodeView, program_of}
 
--- Each global has in the store, or among the inputs, the value of its slot, and what no well-typed text meets is told as
--- in a run.
+-- Each global has in the store, or among the inputs, the value of its slot, and what no well-typed text meets is told
+-- as in a run.
 pub record Sees (w : Scope) (s : Store) (globals : List GlobalSlot) (vs : List Datum) : Type 0 where
   pub there : (x : Name) (g : GlobalSlot) → global_named globals x ≡ Some g
       → seen w.image s (path_in w.frame w.body x) ≡ slice_get vs g.slot

@@ -75,7 +75,8 @@ module _ (t : ℕ) (turn turn' : Store → Run Turn) (step step' : Store → Run
   back_agrees : (next next' : Store → Run End) → ((s : Store) → Agrees t End (next s) (next' s)) → (u : Turn)
       → Agrees t End (go_back step next u) (go_back step' next' u)
   back_agrees next next' k (over e) = agrees_give t e
-  back_agrees next next' k (again s) = agrees_within t (agrees_tick t (agrees_then t (i s) (stepped_agrees next next' k s)))
+  back_agrees next next' k (again s) =
+      agrees_within t (agrees_tick t (agrees_then t (i s) (stepped_agrees next next' k s)))
 
   turns_agree : (n : ℕ) (s : Store) → Agrees t End (turns n turn step s) (turns n turn' step' s)
   unfolding turns
@@ -165,7 +166,8 @@ module _ (turn : Store → Run Turn) (step : Store → Run (Option Store))
       → (u : Turn) (c : ℕ) → c ≤ b → go_back step next u c ≡ go_back step next' u c
   back_same next next' b h (over e) c le = refl
   back_same next next' b h (again s) zero le = refl
-  back_same next next' b h (again s) (suc c) le = stepped_on_same next next' b h s c (step s c) (steps s c) (omega arith)
+  back_same next next' b h (again s) (suc c) le =
+      stepped_on_same next next' b h s c (step s c) (steps s c) (omega arith)
 
   turned_same : (next next' : Store → Run End) (b : ℕ) → ((t : Store) (c : ℕ) → c < b → next t c ≡ next' t c)
       → (r : Result (Turn × ℕ) Fault) → ((u : Turn) (c : ℕ) → r ≡ Ok (u, c) → c ≤ b)
@@ -182,7 +184,8 @@ module _ (turn : Store → Run Turn) (step : Store → Run (Option Store))
 
 pub loop_enough : (turn : Store → Run Turn) (step : Store → Run (Option Store))
     → ((s : Store) (b : ℕ) (t : Turn) (c : ℕ) → turn s b ≡ Ok (t, c) → c ≤ b)
-    → ((s : Store) (b : ℕ) (o : Option Store) (c : ℕ) → step s b ≡ Ok (o, c) → c ≤ b) → (n : ℕ) (s : Store) (b : ℕ) → b < n
+    → ((s : Store) (b : ℕ) (o : Option Store) (c : ℕ) → step s b ≡ Ok (o, c) → c ≤ b)
+    → (n : ℕ) (s : Store) (b : ℕ) → b < n
     → turns n turn step s b ≡ looped turn step s b
 unfolding looped
 loop_enough turn step falls steps n s b lt = turns_enough turn step falls steps n (suc b) s b lt (omega arith)

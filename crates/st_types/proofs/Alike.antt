@@ -1,5 +1,5 @@
--- Two choices of the faults for what no well-typed text meets: two runs end the same way, or each with its fault for one
--- such thing.
+-- Two choices of the faults for what no well-typed text meets: two runs end the same way, or each with its fault for
+-- one such thing.
 use Rattle.std.proofs.Common.{◌≡◌, ℕ, zero, suc, ◌⊎◌, inl, inr, IsSome, List, Option, Some, None, Result, Ok, Err, refl}
 use Rattle.std.proofs.Common.{sym, ap, ◌∙◌}
 use Rattle.st_words.specs.declared.fault.Fault.{Fault}
@@ -153,6 +153,7 @@ asked_by_two f g program budget s image now p differ of_nobody there i j = recor
   of_nobody = of_nobody;
   is_there = there;
   is_wanted =
-      λ h. third f g h _ _ _ differ i j (missing_alike f h program (without_value image p) now budget (without_value s p))
+      λ h. third f g h _ _ _ differ i j
+      (missing_alike f h program (without_value image p) now budget (without_value s p))
       (missing_alike g h program (without_value image p) now budget (without_value s p));
 }

@@ -1,5 +1,5 @@
--- Two runs of one tree, whose calls and whose faults for what no well-typed text meets are related, are related. P is a relation of
--- runs, and Q is P before the tick that a statement takes.
+-- Two runs of one tree, whose calls and whose faults for what no well-typed text meets are related, are related. P is a
+-- relation of runs, and Q is P before the tick that a statement takes.
 use Rattle.std.proofs.Common.{ℕ, zero, ℤ, pos, Bool, true, false, if◌then◌else◌, List, [], ◌∷◌, Option, Some, None}
 use Rattle.std.proofs.Common.{Result, Ok, Err}
 use Rattle.std.specs.List.{list_any}
@@ -70,7 +70,14 @@ module _
   where
     -- the same place with the other units and the other faults
     abbrev other : Scope
-    other = record { units = units; frame = w.frame; body = w.body; image = w.image; now = w.now; stand_ins = stand_ins }
+    other = record {
+      units = units;
+      frame = w.frame;
+      body = w.body;
+      image = w.image;
+      now = w.now;
+      stand_ins = stand_ins;
+    }
 
     p_give : {A : Type 0} (a : A) → P A (give a) (give a)
     p_give a = closed.gives a
@@ -259,7 +266,8 @@ module _
     body_q : (frame : Frame) (body : Body) (seen : Store) (s : Store) → Q End
         (exec_all (record { units = units; frame = frame; body = body; image = seen; now = now; stand_ins = stand_ins })
         body.statements s)
-        (exec_all (record { units = units'; frame = frame; body = body; image = seen; now = now; stand_ins = stand_ins' })
+        (exec_all
+        (record { units = units'; frame = frame; body = body; image = seen; now = now; stand_ins = stand_ins' })
         body.statements s)
     body_q frame body seen s = exec_all_q P Q closed
         (record { units = units; frame = frame; body = body; image = seen; now = now; stand_ins = stand_ins }) units'
@@ -281,10 +289,12 @@ module _
 
     pub functions_q : (f : Name) (vs : List Datum)
         → Q Datum (function_call stand_ins library units now f vs) (function_call stand_ins' library units' now f vs)
-    functions_q f vs = closed.continues (q_attempt (or_failure ill_typed (function_in library.functions f))) (λ g. function_q g vs)
+    functions_q f vs = closed.continues (q_attempt (or_failure ill_typed (function_in library.functions f)))
+        (λ g. function_q g vs)
 
     pub instances_q : (b : Name) (o : Option standard.StandardBlock) (at : Path) (s : Store)
         → Q Store (instance_call stand_ins library image units now b o at s)
         (instance_call stand_ins' library image units' now b o at s)
     instances_q b (Some k) at s = standard_q k at s
-    instances_q b None at s = closed.continues (q_attempt (or_failure ill_typed (block_in library.blocks b))) (λ c. block_call_q c at s)
+    instances_q b None at s = closed.continues (q_attempt (or_failure ill_typed (block_in library.blocks b)))
+        (λ c. block_call_q c at s)

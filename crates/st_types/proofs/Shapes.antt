@@ -239,7 +239,8 @@ module _ (w : Scope) (blocks : (b : Name) (at : Path) (s : Store) → Keeps Stor
   outputs_keep at [] s = keeps_give itself s s (same_refl s)
   outputs_keep at (given x e ∷ rest) s = outputs_keep at rest s
   outputs_keep at (copied x v ∷ rest) s =
-      keeps_behind itself s (attempt w.stand_ins (or_failure ill_typed (get s (member_at at x.name)))) (λ o. keeps_behind itself s (place w s v)
+      keeps_behind itself s (attempt w.stand_ins (or_failure ill_typed (get s (member_at at x.name))))
+      (λ o. keeps_behind itself s (place w s v)
       (λ p. keeps_then itself itself s (keeps_assigned w.stand_ins s p o) (λ t. outputs_keep at rest t)))
 
   block_keeps : (at : Path) (o : Option Name) (s : Store) → Keeps Store itself s (ran_block w at o s)
@@ -262,7 +263,8 @@ module _ (w : Scope) (blocks : (b : Name) (at : Path) (s : Store) → Keeps Stor
     exec_keeps empty s = keeps_tick store_of s (keeps_give store_of s (goes_on s) (same_refl s))
     exec_keeps (assign v e) s =
         keeps_tick store_of s (keeps_behind store_of s (value w s e) (λ x. keeps_behind store_of s (place w s v) (λ p.
-        keeps_then itself store_of s (keeps_assigned w.stand_ins s p x) (λ t. keeps_give store_of t (goes_on t) (same_refl t)))))
+        keeps_then itself store_of s (keeps_assigned w.stand_ins s p x)
+        (λ t. keeps_give store_of t (goes_on t) (same_refl t)))))
     exec_keeps (invoke x arguments) s =
         keeps_tick store_of s (keeps_behind store_of s (given_inputs w s arguments)
         (λ vs. keeps_then itself store_of s (inputs_keep (path_in w.frame w.body x.name) vs s)
@@ -279,7 +281,8 @@ module _ (w : Scope) (blocks : (b : Name) (at : Path) (s : Store) → Keeps Stor
         (λ n. keeps_behind store_of s (step_of w s step) (λ d. keeps_behind store_of s (nonzero d)
         (λ _. keeps_then itself store_of s (keeps_assigned w.stand_ins s (path_in w.frame w.body x.name) i)
         (λ t. looped_keeps _ (step_on w.stand_ins (path_in w.frame w.body x.name) d)
-        (guarded_keeps (runs_on w.stand_ins (path_in w.frame w.body x.name) n.number d) (exec_all w body) (exec_all_keeps body))
+        (guarded_keeps (runs_on w.stand_ins (path_in w.frame w.body x.name) n.number d) (exec_all w body)
+        (exec_all_keeps body))
         (step_keeps w.stand_ins (path_in w.frame w.body x.name) d) t))))))
     exec_keeps (WHILE e body) s = keeps_tick store_of s
         (looped_keeps _ no_step (guarded_keeps (truth_of w e) (exec_all w body) (exec_all_keeps body)) no_step_keeps s)
@@ -328,14 +331,16 @@ module _ (stand_ins : StandIns) (library : Library) (image : Store) (now : ℕ) 
     (blocks : (b : Name) (at : Path) (s : Store) → Keeps Store itself s (units.blocks b at s)) where
   body_keeps : (b : Block) (at : Path) (s : Store) → Keeps Store itself s (block_call stand_ins units image now b at s)
   body_keeps b at s = keeps_then store_of itself s (exec_all_keeps
-      (record { units = units; frame = of_block at; body = b.body; image = image; now = now; stand_ins = stand_ins }) blocks
+      (record { units = units; frame = of_block at; body = b.body; image = image; now = now; stand_ins = stand_ins })
+      blocks
       b.body.statements s) (λ e. keeps_give itself (store_of e) (store_of e) (same_refl (store_of e)))
 
   instance_keeps : (b : Name) (o : Option standard.StandardBlock) (at : Path) (s : Store)
       → Keeps Store itself s (instance_call stand_ins library image units now b o at s)
   instance_keeps b (Some k) at s = standard_keeps stand_ins k now at s
   instance_keeps b None at s =
-      keeps_behind itself s (attempt stand_ins (or_failure ill_typed (block_in library.blocks b))) (λ c. body_keeps c at s)
+      keeps_behind itself s (attempt stand_ins (or_failure ill_typed (block_in library.blocks b)))
+      (λ c. body_keeps c at s)
 
 units_keep : (stand_ins : StandIns) (library : Library) (image : Store) (now n : ℕ) (b : Name) (at : Path) (s : Store)
     → Keeps Store itself s ((units_within stand_ins library image now n).blocks b at s)
@@ -348,4 +353,5 @@ pub ran_keeps : (p : Program) (image : Store) (now b : ℕ) (s : Store) (e : End
     → ran p image now b s ≡ Ok (e, c) → Same s (store_of e)
 unfolding ran ran_where
 ran_keeps p image now b s e c h =
-    (exec_all_keeps (scope_of p image now b) (units_keep in_runs p.library image now b) p.body.statements s).kept b e c h
+    (exec_all_keeps (scope_of p image now b) (units_keep in_runs p.library image now b)
+    p.body.statements s).kept b e c h

@@ -141,8 +141,8 @@ abbrev pub other_kinds : List (Option Kind) → List (Option Kind)
 other_kinds [] = []
 other_kinds (k ∷ ks) = ks
 
--- what both operands of an operator expect, by whether the left and the right one are untyped: where both are, what their
--- whole place offers them; where one is, the type of the other; where none is, the left one's, as both are of one type
+-- what both operands of an operator expect, by whether the left and the right one are untyped: where both are, what
+-- their whole place offers them; where one is, the type of the other; where none is, the left one's, as both are of one type
 abbrev pub expected_of_both : Option Kind → Option Kind → Option Kind → Bool → Bool → Option Kind
 expected_of_both offered left right true true = offered
 expected_of_both offered left right true false = right

@@ -79,8 +79,8 @@ pub record Units : Type 0 where
   pub functions : Name → List Datum → Run Datum
   pub blocks : Name → Path → Store → Run Store
 
--- where a body runs: the units, its names, the inputs of the plant, the row's moment, and the faults that stand for what
--- no well-typed text meets
+-- where a body runs: the units, its names, the inputs of the plant, the row's moment, and the faults that stand for
+-- what no well-typed text meets
 pub record Scope : Type 0 where
   pub units : Units
   pub frame : Frame

@@ -7,11 +7,12 @@ ghost use Rattle.st_trees.specs.Statements.{copied};
 ghost use Rattle.st_types.specs.Scopes.{member_at};
 ghost use Rattle.st_types.specs.Loops.{goes_on};
 ghost use Rattle.st_types.specs.Runs.{outcome_of, store_after};
-ghost use Rattle.st_types.specs.Examples.{own, number, name, set, truth, target, identifier, int, bool, datum, ran_with};
-ghost use Rattle.st_types.specs.Examples.{after_with, variables, square, A, C, I, K, P, X, Y};
+ghost use Rattle.st_types.specs.Examples.{own, number, name, set, truth, target, identifier, int, bool, datum};
+ghost use Rattle.st_types.specs.Examples.{ran_with, after_with, variables, square, A, C, I, K, P, X, Y};
 ghost use Rattle.st_types.specs.CallExamples.{ran_calling, invoked, giving, copying, indexed, own_member, own_element};
 ghost use Rattle.st_types.specs.CallExamples.{with_blocks, accumulator, accumulated, outer, two_outputs, early, fourth};
-ghost use Rattle.st_types.specs.CallExamples.{calling, failing_block, first, calling_with, returning_at_2, Q, T, STEP, TOTAL};
+ghost use Rattle.st_types.specs.CallExamples.{calling, failing_block, first, calling_with, returning_at_2, Q, T, STEP};
+ghost use Rattle.st_types.specs.CallExamples.{TOTAL};
 
 use crate::outcome::Outcome;
 

@@ -1,18 +1,19 @@
-//! Worked examples of the types that untyped literals take in statements and initial values, each proved by computation.
+//! Worked examples of the types that untyped literals take in statements and initial values, each proved by
+//! computation.
 
 ghost use Rattle.std.specs.Prelude.{◌≡◌, ◌∷◌, [], Some, None, pos, codes, true};
 ghost use Rattle.st_words.specs.declared.kind.Kind.TheVariants.{Sint, Int, Dint, Lint};
 ghost use Rattle.st_words.specs.declared.operator.BinaryOperator.TheVariants.{Equal, Less, Add};
 ghost use Rattle.st_trees.specs.Expressions.{binary, call, exprs_of};
-ghost use Rattle.st_trees.specs.Statements.{assign, invoke, given, stmts_of, arms_of, case_arms_of, IF, CASE, FOR, WHILE};
-ghost use Rattle.st_trees.specs.Statements.{REPEAT};
+ghost use Rattle.st_trees.specs.Statements.{assign, invoke, given, stmts_of, arms_of, case_arms_of, IF, CASE, FOR};
+ghost use Rattle.st_trees.specs.Statements.{WHILE, REPEAT};
 ghost use Rattle.st_trees.specs.Initials.{list, structure, single, repeated, defaults, elements_of, members_of};
 ghost use Rattle.st_types.specs.NameTypes.{variable_type};
 ghost use Rattle.st_types.specs.ResolvedUnits.{resolved_stmt, resolved_initial, resolved_type};
 ghost use Rattle.st_types.specs.Examples.{identifier, name, number, untyped, truth, set, A, C};
 ghost use Rattle.st_types.specs.CallExamples.{indexed, dotted, giving, invoked};
-ghost use Rattle.st_types.specs.ResolutionExamples.{several_variables, text_of_several, plain_number, labelled, ranging};
-ghost use Rattle.st_types.specs.ResolutionExamples.{initially, two_dints};
+ghost use Rattle.st_types.specs.ResolutionExamples.{several_variables, text_of_several, plain_number, labelled};
+ghost use Rattle.st_types.specs.ResolutionExamples.{ranging, initially, two_dints};
 
 /// In an assignment, the type is that of the target, also of an element or a member; a subscript is a LINT.
 pub fn literals_in_assignments()

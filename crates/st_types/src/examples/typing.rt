@@ -5,7 +5,8 @@ ghost use Rattle.st_words.specs.declared.kind.Kind.TheVariants.{Int, Usint, Dint
 ghost use Rattle.st_words.specs.declared.operator.BinaryOperator.TheVariants.{Add};
 ghost use Rattle.st_trees.specs.Expressions.{binary, read};
 ghost use Rattle.st_types.specs.Asked.{IsTypedRun};
-ghost use Rattle.st_types.specs.Examples.{program, variables, own, number, name, truth, set, if_then, int, datum, A, X, Y};
+ghost use Rattle.st_types.specs.Examples.{program, variables, own, number, name, truth, set, if_then, int, datum, A, X};
+ghost use Rattle.st_types.specs.Examples.{Y};
 ghost use Rattle.st_types.specs.CallExamples.{calling_with, indexed, own_element, invoked};
 
 /// A fault of the run is not ill typed: F1, F2, F3 and F4 stay what they are.
@@ -24,8 +25,8 @@ pub fn typed_runs()
         (variables ((X, int (pos 0)) ∷ [])) [] 0 }
 {}
 
-/// What is ill typed: a value of another type, operands of two types, a condition that is no BOOL, and a unit that is not
-/// there.
+/// What is ill typed: a value of another type, operands of two types, a condition that is no BOOL, and a unit that is
+/// not there.
 pub fn ill_typed_runs()
     // x := TRUE;
     ensures value { IsTypedRun (program [] (set X (truth true) ∷ [])) 9 (variables ((X, int (pos 0)) ∷ [])) [] 0 → ⊥ }
