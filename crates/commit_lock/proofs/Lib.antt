@@ -3,3 +3,4 @@ pub mod StartLemmas
 pub mod SurvivalLemmas
 pub mod CallLemmas
 pub mod DriveLemmas
+pub mod GivenBack

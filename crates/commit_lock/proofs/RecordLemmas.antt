@@ -1,5 +1,5 @@
 -- The record of a plan's variables.
-use Rattle.std.proofs.Common.{◌≡◌, ℕ, ◌+◌, ◌<◌, ◌^◌, Bool, true, false, not, if◌then◌else◌, List, [], ◌∷◌, ◌++◌, length}
+use Rattle.std.proofs.Common.{◌≡◌, ℕ, ◌+◌, ◌<◌, Bool, true, false, not, if◌then◌else◌, List, [], ◌∷◌, ◌++◌, length}
 use Rattle.std.proofs.Common.{map, Option, Some, refl, sym, ap, subst, ◌∙◌, arith, length-append}
 use Rattle.std.specs.Prelude.{IfSome, bytes_eq, codes}
 use Rattle.std.specs.List.{list_all, flat_map, AllByRecursion, IsDistinct}
@@ -12,13 +12,17 @@ use Rattle.st_plans.specs.declared.plan.PlanVariable.{PlanVariable}
 use Rattle.st_types.specs.Scopes.{Name, contains_name}
 use Rattle.st_plans.specs.Layouts.{path_text, line_of, layout_text, values_length, record_length}
 use Rattle.config.specs.Sound.{are_different, is_spelled}
-use Rattle.retain_store.specs.Records.{Line, line_text, text_of, is_path_text, is_visible, IsLayoutText, IsRecordable}
+use Rattle.st_plans.specs.Restarts.{line_with, lines_with}
+use Rattle.config.specs.declared.plan.Plan.{Plan}
+use Rattle.retain_store.specs.Records.{Content, Line, line_text, text_of, is_path_text, is_visible, IsLayoutText}
+use Rattle.retain_store.specs.Records.{IsRecordable}
 use Rattle.retain_store.specs.Records.{value_bytes, record_bytes}
 use Rattle.retain_store.specs.Reading.{line_at}
-use Rattle.retain_store.specs.FieldLaws.{some_is}
-use Rattle.retain_store.specs.LineLaws.{line_again, value_length}
+use Rattle.retain_store.specs.FieldLaws.{some_is, cut_again}
+use Rattle.retain_store.specs.LineLaws.{line_again, value_length, line_parts, path_has_no_space, keyword_in_line}
 use Rattle.retain_store.specs.RecordLaws.{body_length}
-use Rattle.serial_core.specs.Retained.{retained_kinds}
+use Rattle.serial_core.specs.Retained.{retained_kinds, retained_paths, paired, told_by}
+use Rattle.commit_lock.specs.Told.{words_at, line_then, lines_in, told}
 
 -- the line of a variable
 abbrev line_for : PlanVariable → Line
@@ -142,6 +146,57 @@ pub kinds_told : (vs : List PlanVariable) (text : List ℕ) (ks : List Kind)
 kinds_told vs text ks spelled is layout =
     layout.typed ∙ lines_once layout.lines (lines_for vs) layout.paths (spelled_are vs spelled)
     (sym layout.spelled ∙ is ∙ sym (text_is vs)) ∙ kinds_are vs
+
+-- ---- what a record tells
+
+words_again : (l : Line) (rest : List ℕ) → is_path_text l.path ≡ true → words_at (line_text l ++ rest)
+    ≡ Some (record { path = l.path; spelling = (row_of l.kind).keyword; behind = rest })
+words_again l rest sound = ap words_at (line_parts l rest)
+    ∙ rw (
+      cut_again 32 l.path ((row_of l.kind).keyword ++ 10 ∷ rest) (path_has_no_space l.path sound),
+      cut_again 10 (row_of l.kind).keyword rest (keyword_in_line l.kind),
+    ) refl
+
+told_first : (v : PlanVariable) (r : Bool) (vs : List PlanVariable) (ws : List Datum)
+    → is_path_text (path_text v.path) ≡ true
+    → ((us : List Datum) → map (λ d. d.kind) us ≡ retained_kinds vs
+    → lines_in (layout_text vs) us ≡ lines_with (paired (retained_paths vs) us))
+    → map (λ d. d.kind) ws ≡ (if r then v.initial.kind ∷ retained_kinds vs else retained_kinds vs)
+    → lines_in (if r then line_of v ++ layout_text vs else layout_text vs) ws
+    ≡ lines_with (paired (if r then v.path ∷ retained_paths vs else retained_paths vs) ws)
+told_first v true vs [] sound again e = absurd (omega (arith, ap length e))
+told_first v true vs (w ∷ ws) sound again e =
+    let kind : v.initial.kind ≡ w.kind = sym (head_is e) in
+    ap (λ o. line_then o w (λ behind. lines_in behind ws)) (words_again (line_for v) (layout_text vs) sound)
+    ∙ ap (λ k. record { path = path_text v.path; spelling = (row_of k).keyword; number = w.number }
+    ∷ lines_in (layout_text vs) ws) kind
+    ∙ ap (λ ls. line_with (v.path, w) ∷ ls) (again ws (tail_is e))
+  where
+    head_is : {a b : Kind} {xs ys : List Kind} → a ∷ xs ≡ b ∷ ys → a ≡ b
+    head_is h = cc
+
+    tail_is : {a b : Kind} {xs ys : List Kind} → a ∷ xs ≡ b ∷ ys → xs ≡ ys
+    tail_is h = cc
+told_first v false vs ws sound again e = again ws e
+
+-- the layout text of a plan tells its retained variables, whatever values stand behind it
+pub lines_told : (vs : List PlanVariable) (ws : List Datum)
+    → list_all (λ v. is_spelled (path_text v.path)) vs ≡ true → map (λ d. d.kind) ws ≡ retained_kinds vs
+    → lines_in (layout_text vs) ws ≡ lines_with (paired (retained_paths vs) ws)
+lines_told [] [] spelled e = refl
+lines_told [] (w ∷ ws) spelled e = absurd (omega (arith, ap length e))
+lines_told (v ∷ vs) ws spelled e =
+    let p = and_parts (is_spelled (path_text v.path)) (list_all (λ u. is_spelled (path_text u.path)) vs) spelled in
+    told_first v v.retained vs ws (path_spelled (path_text v.path) p.0) (λ us. lines_told vs us p.1) e
+
+-- a warm start from a record of the plan's layout text takes its values in order
+pub told_in_order : (plan : Plan) (content : Content) → content.layout ≡ layout_text plan.variables.items
+    → map (λ d. d.kind) content.values ≡ retained_kinds plan.variables.items
+    → told content ≡ told_by plan.variables.items content.values content.moment
+told_in_order plan content layout kinds =
+    ap (λ ls. record { lines = ls; moment = content.moment })
+    (ap (λ text. lines_in text content.values) layout
+    ∙ lines_told plan.variables.items content.values plan.sound.spelled kinds)
 
 -- ---- how long a record is
 

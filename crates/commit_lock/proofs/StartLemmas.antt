@@ -1,8 +1,8 @@
 -- Starting a core.
-use Rattle.std.proofs.Common.{◌≡◌, ℕ, ◌+◌, List, [], Option, Some, inl, inr, refl, sym, ap, subst, ◌∙◌, arith}
+use Rattle.std.proofs.Common.{◌≡◌, ℕ, ◌+◌, List, [], map, Option, Some, None, inl, inr, refl, sym, ap, subst, ◌∙◌}
+use Rattle.std.proofs.Common.{arith}
 use Rattle.st_types.specs.Stores.{Store}
-use Rattle.st_plans.specs.Restarts.{Start, kept, written_over}
-use Rattle.st_plans.specs.Plans.{initial_store}
+use Rattle.st_plans.specs.Restarts.{Kept, kept, warm_start}
 use Rattle.st_plans.specs.Layouts.{layout_text}
 use Rattle.retain_store.specs.Records.{Content}
 use Rattle.retain_store.specs.Recovered.{Recovered, TooLong, Refused, Nothing, Found}
@@ -11,10 +11,13 @@ use Rattle.retain_store.specs.FieldLaws.{some_is}
 use Rattle.config.specs.declared.plan.Plan.{Plan}
 use Rattle.config.specs.PlanViews.{plan_view}
 use Rattle.serial_core.specs.Steps.{State}
-use Rattle.serial_core.specs.Retained.{retained_paths, paired}
-use Rattle.commit_lock.specs.Restart.{Survives, begun, record_now}
+use Rattle.serial_core.specs.Retained.{retained_kinds, told_by}
+use Rattle.st_words.specs.Values.{Datum}
+use Rattle.commit_lock.specs.Told.{told}
+use Rattle.commit_lock.proofs.RecordLemmas.{told_in_order}
+use Rattle.commit_lock.specs.Restart.{Survives, begun, record_now, warm}
 use Rattle.commit_lock.specs.Starting.{LeftByStart, StartKeeps, RefusesStart, HasOtherLayout, IsLastGeneration}
-use Rattle.commit_lock.specs.Starting.{IsWantOfMemory, next_generation}
+use Rattle.commit_lock.specs.Starting.{IsWantOfMemory, next_generation, started}
 use Rattle.commit_lock.specs.declared.refusal.StartFault.{StartFault}
 use Rattle.commit_lock.specs.declared.refusal.StartFault.TheVariants as faults
 use Rattle.retain_store.specs.declared.fault.StoreFault.TheVariants as stores
@@ -23,38 +26,71 @@ use Rattle.commit_lock.specs.declared.starting.StartMode.TheVariants.{Cold}
 use Rattle.retain_store.specs.Areas.{IsEither}
 use Rattle.std.specs.Prelude.{MatchResult, IfOk, IfErr, Result, Ok, Err}
 
-abbrev start_at : Store → Option ℕ → Start
-start_at s m = record { store = s; moment = m }
-
+-- the record that a life goes on from is that of its start
 survives_of : (plan : Plan) (generation : ℕ) (content : Content) (start : Store) (before : Option ℕ)
     → content.layout ≡ layout_text plan.variables.items → before ≡ content.moment
-    → kept (plan_view plan) start ≡ paired (retained_paths plan.variables.items) content.values
+    → map (λ e. e.1) (kept (plan_view plan) start) ≡ content.values
     → Survives plan start before [] 0 (Found generation content)
-survives_of plan generation content start before layout moment kept_is = record {
-  of_plan = layout;
+survives_of plan generation content start before layout moment values = record {
   front = [];
   rest = [];
   parts = refl;
   acknowledged = omega arith;
-  restarted =
-      ap (λ (s : Store). start_at (written_over (initial_store (plan_view plan)) s) content.moment) (sym kept_is)
-      ∙ ap (start_at (written_over (initial_store (plan_view plan)) (kept (plan_view plan) start))) (sym moment);
+  holds = rw (moment, values, layout) refl;
 }
+
+-- what a record's values make in the plan's order is what the record makes by its lines
+pub resumed_from : (plan : Plan) (room : ℕ) (content : Content) (last : Recovered) (values : List Datum)
+    (moment : Option ℕ) → Some content ≡ record_in last → content.layout ≡ layout_text plan.variables.items
+    → map (λ d. d.kind) content.values ≡ retained_kinds plan.variables.items → values ≡ content.values
+    → moment ≡ content.moment
+    → ◌≡◌ {A = State} record {
+      plan = plan;
+      start = (warm_start (plan_view plan) (Some (told_by plan.variables.items values moment))).store;
+      before = moment;
+      log = [];
+      room = room;
+    } (started plan room (warm plan last))
+resumed_from plan room content TooLong values moment at layout kinds valued timed = absurd (cc)
+resumed_from plan room content Refused values moment at layout kinds valued timed = absurd (cc)
+resumed_from plan room content Nothing values moment at layout kinds valued timed = absurd (cc)
+resumed_from plan room content (Found generation found) values moment at layout kinds valued timed =
+    let begins : Kept → State = λ r. started plan room (warm_start (plan_view plan) (Some r)) in
+    ap (λ vs. begins (told_by plan.variables.items vs moment)) valued
+    ∙ ap (λ m. begins (told_by plan.variables.items content.values m)) timed
+    ∙ ap begins (sym (told_in_order plan content layout kinds))
+    ∙ ap (λ c. begins (told c)) (some_is content found at)
 
 -- the record that a life goes on from survives
 pub survives_found : (plan : Plan) (content : Content) (state : State) (last : Recovered)
     → Some content ≡ record_in last → content.layout ≡ layout_text plan.variables.items
     → state.plan ≡ plan → state.before ≡ content.moment
-    → kept (plan_view plan) state.start ≡ paired (retained_paths plan.variables.items) content.values
+    → map (λ e. e.1) (kept (plan_view plan) state.start) ≡ content.values
     → Survives state.plan state.start state.before [] 0 last
-survives_found plan content state TooLong at layout same moment kept_is = absurd (cc)
-survives_found plan content state Refused at layout same moment kept_is = absurd (cc)
-survives_found plan content state Nothing at layout same moment kept_is = absurd (cc)
-survives_found plan content state (Found generation found) at layout same moment kept_is =
+survives_found plan content state TooLong at layout same moment values = absurd (cc)
+survives_found plan content state Refused at layout same moment values = absurd (cc)
+survives_found plan content state Nothing at layout same moment values = absurd (cc)
+survives_found plan content state (Found generation found) at layout same moment values =
     subst (λ (c : Content). Survives state.plan state.start state.before [] 0 (Found generation c))
     (some_is content found at)
     (subst (λ (p : Plan). Survives p state.start state.before [] 0 (Found generation content)) (sym same)
-    (survives_of plan generation content state.start state.before layout moment kept_is))
+    (survives_of plan generation content state.start state.before layout moment values))
+
+-- a file without a record survives for a life that has begun with the initial values
+pub survives_none : (plan : Plan) (state : State) (room generation : ℕ) (last : Recovered) → None ≡ record_in last
+    → IsLast generation last → state ≡ begun plan room
+    → Survives state.plan state.start state.before [] 0 last
+survives_none plan state room generation TooLong none is new = absurd is
+survives_none plan state room generation Refused none is new = absurd is
+survives_none plan state room generation (Found g content) none is new = absurd (cc)
+survives_none plan state room generation Nothing none is new =
+    subst (λ (s : State). Survives s.plan s.start s.before [] 0 Nothing) (sym new) (record {
+      front = [];
+      rest = [];
+      parts = refl;
+      acknowledged = omega arith;
+      holds = (refl, refl);
+    })
 
 -- each case of an answer on its own
 pub match_both : {A E : Type 0} (r : Result A E) (P P' : A → Type 0) (Q Q' : E → Type 0) → ((a : A) → P a → P' a)

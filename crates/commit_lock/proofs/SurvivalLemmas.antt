@@ -3,30 +3,21 @@ use Rattle.std.proofs.Common.{ℕ, ◌≤◌, List, [], ◌∷◌, ◌++◌, len
 use Rattle.std.proofs.Common.{append-nil, append_assoc}
 use Rattle.st_plans.specs.declared.entry.Entry.{Entry}
 use Rattle.st_types.specs.Stores.{Store}
-use Rattle.st_plans.specs.Restarts.{Start, written_over}
-use Rattle.st_plans.specs.Plans.{initial_store}
-use Rattle.st_plans.specs.Logs.{last_moment}
 use Rattle.retain_store.specs.Areas.{IsEither}
 use Rattle.retain_store.specs.Recovered.{Recovered, Found}
 use Rattle.config.specs.declared.plan.Plan.{Plan}
-use Rattle.config.specs.PlanViews.{plan_view}
-use Rattle.serial_core.specs.Steps.{State, made}
-use Rattle.commit_lock.specs.Restart.{Survives, IsNamed, record_now}
-
-abbrev start_at : Store → Option ℕ → Start
-start_at s m = record { store = s; moment = m }
+use Rattle.serial_core.specs.Steps.{State}
+use Rattle.commit_lock.specs.Restart.{Survives, record_now}
 
 -- the record of a core as it is now survives: it is of the whole log
-pub survives_now : (state : State) (acked generation : ℕ) → acked ≤ length state.log → IsNamed state
+pub survives_now : (state : State) (acked generation : ℕ) → acked ≤ length state.log
     → Survives state.plan state.start state.before state.log acked (Found generation (record_now state))
-survives_now state acked generation few named = record {
-  of_plan = refl;
+survives_now state acked generation few = record {
   front = state.log;
   rest = [];
   parts = sym (append-nil state.log);
   acknowledged = few;
-  restarted = ap (λ (s : Store). start_at (written_over (initial_store (plan_view state.plan)) s)
-      (last_moment state.before (made state).rows)) named;
+  holds = refl;
 }
 
 -- a longer log has the same prefixes
@@ -34,24 +25,22 @@ pub survives_longer :
     (plan : Plan) (start : Store) (before : Option ℕ) (log : List Entry) (acked : ℕ) (file : Recovered) (entry : Entry)
     → Survives plan start before log acked file → Survives plan start before (log ++ entry ∷ []) acked file
 survives_longer plan start before log acked file entry s = record {
-  of_plan = s.of_plan;
   front = s.front;
   rest = s.rest ++ entry ∷ [];
   parts = ap (λ (l : List Entry). l ++ entry ∷ []) s.parts ∙ append_assoc s.front s.rest (entry ∷ []);
   acknowledged = s.acknowledged;
-  restarted = s.restarted;
+  holds = s.holds;
 }
 
 -- what survives with more acknowledged survives with less
 pub survives_less : (plan : Plan) (start : Store) (before : Option ℕ) (log : List Entry) (few many : ℕ)
     (file : Recovered) → few ≤ many → Survives plan start before log many file → Survives plan start before log few file
 survives_less plan start before log few many file less s = record {
-  of_plan = s.of_plan;
   front = s.front;
   rest = s.rest;
   parts = s.parts;
   acknowledged = omega (arith, less, s.acknowledged);
-  restarted = s.restarted;
+  holds = s.holds;
 }
 
 pub survives_either : (plan : Plan) (start : Store) (before : Option ℕ) (log : List Entry) (acked : ℕ)

@@ -1,3 +1,4 @@
+pub mod Told
 pub mod Restart
 pub mod Cores
 pub mod Kept

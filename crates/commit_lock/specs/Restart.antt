@@ -2,7 +2,7 @@
 use Rattle.std.specs.Prelude.{◌≡◌, ◌≤◌, ◌++◌, ℕ, List, [], length, map, Option, Some, None}
 use Rattle.st_plans.specs.declared.entry.Entry.{Entry}
 use Rattle.st_types.specs.Stores.{Store}
-use Rattle.st_plans.specs.Restarts.{Kept, Start, kept, written_over, warm_start}
+use Rattle.st_plans.specs.Restarts.{Start, kept, cold_start, warm_start}
 use Rattle.st_plans.specs.Plans.{initial_store}
 use Rattle.st_plans.specs.Layouts.{layout_text}
 use Rattle.st_plans.specs.Logs.{past_of, after, last_moment}
@@ -11,7 +11,7 @@ use Rattle.retain_store.specs.Recovered.{Recovered, TooLong, Refused, Nothing, F
 use Rattle.config.specs.declared.plan.Plan.{Plan}
 use Rattle.config.specs.PlanViews.{plan_view}
 use Rattle.serial_core.specs.Steps.{State, made}
-use Rattle.serial_core.specs.Retained.{retained_paths, paired, told_by}
+use Rattle.commit_lock.specs.Told.{told}
 
 -- the record of a plan's variables: its layout text, and the values of what is kept, in order
 abbrev pub record_of : Plan → Store → Option ℕ → Content
@@ -26,27 +26,13 @@ record_of plan store moment = record {
 abbrev pub begun : Plan → ℕ → State
 begun plan room = record { plan = plan; start = initial_store (plan_view plan); before = None; log = []; room = room }
 
--- what is kept of the initial values makes the initial values
-abbrev pub IsInitialAgain : Plan → Type 0
-IsInitialAgain plan = written_over (initial_store (plan_view plan))
-    (kept (plan_view plan) (initial_store (plan_view plan))) ≡ initial_store (plan_view plan)
-
 -- the record of a core as it is now
 abbrev pub record_now : State → Content
 record_now state = record_of state.plan (made state).store (last_moment state.before (made state).rows)
 
--- the values of that record, with their paths, are what is kept
-abbrev pub IsNamed : State → Type 0
-IsNamed state = paired (retained_paths state.plan.variables.items) (record_now state).values
-    ≡ kept (plan_view state.plan) (made state).store
-
--- what a record tells of the plan's variables
-abbrev pub told : Plan → Content → Kept
-told plan content = told_by plan.variables.items content.values content.moment
-
 -- a warm start from what a file is recovered to
 abbrev pub warm : Plan → Recovered → Start
-warm plan (Found generation content) = warm_start (plan_view plan) (Some (told plan content))
+warm plan (Found generation content) = warm_start (plan_view plan) (Some (told content))
 warm plan other = warm_start (plan_view plan) None
 
 -- the file is not refused, and a record in it has the plan's layout text
@@ -56,20 +42,25 @@ IsOfPlan plan Refused = ⊥
 IsOfPlan plan Nothing = Unit {0}
 IsOfPlan plan (Found generation content) = content.layout ≡ layout_text plan.variables.items
 
--- the start that a prefix of a log leaves: the initial values with what is kept after it, and the moment of its last
--- row
-abbrev pub start_after : Plan → Store → Option ℕ → List Entry → Start
-start_after plan start before front = record {
-  store = written_over (initial_store (plan_view plan)) (kept (plan_view plan) (after (plan_view plan) start front));
-  moment = last_moment before (past_of (plan_view plan) start front).rows;
-}
+-- the record of what a prefix of a log leaves, with the moment of its last row
+abbrev pub record_after : Plan → Store → Option ℕ → List Entry → Content
+record_after plan start before front = record_of plan (after (plan_view plan) start front)
+    (last_moment before (past_of (plan_view plan) start front).rows)
 
--- A warm restart gives what a prefix of the log leaves, and this prefix holds all that is acknowledged.
+-- A file holds what a prefix of a log leaves: its record. A file without a record holds what the empty prefix leaves,
+-- where the life began with the initial values.
+abbrev pub Holds : Plan → Store → Option ℕ → List Entry → Recovered → Type 0
+Holds plan start before front TooLong = ⊥
+Holds plan start before front Refused = ⊥
+Holds plan start before front Nothing =
+    (front ≡ []) × (record { store = start; moment = before } ≡ cold_start (plan_view plan))
+Holds plan start before front (Found generation content) = content ≡ record_after plan start before front
+
+-- The file holds what a prefix of the log leaves, and this prefix has all that is acknowledged.
 pub record Survives (plan : Plan) (start : Store) (before : Option ℕ) (log : List Entry) (acked : ℕ) (file : Recovered)
     : Type 0 where
-  pub of_plan : IsOfPlan plan file
   pub front : List Entry
   pub rest : List Entry
   pub parts : log ≡ front ++ rest
   pub acknowledged : acked ≤ length front
-  pub restarted : warm plan file ≡ start_after plan start before front
+  pub holds : Holds plan start before front file

@@ -3,11 +3,7 @@
 ghost use Rattle.std.specs.Prelude.{◌≡◌, ◌≤◌, [], None, length, map, vec_capacity, IfOk};
 ghost use Rattle.st_words.specs.declared.limits.TheConstants.{MAX_LOG_ROOM};
 ghost use Rattle.st_plans.specs.Layouts.{layout_text};
-ghost use Rattle.st_plans.specs.Plans.{initial_store};
-ghost use Rattle.st_plans.specs.Restarts.{kept, written_over};
-ghost use Rattle.config.specs.PlanViews.{plan_view};
-ghost use Rattle.serial_core.specs.Steps.{State};
-ghost use Rattle.commit_lock.specs.Restart.{begun, IsInitialAgain};
+ghost use Rattle.commit_lock.specs.Restart.{begun};
 
 use config::Plan;
 use serial_core::SerialCore;
@@ -32,12 +28,10 @@ impl Parts {
         ensures serial { IfOk result (λ parts. parts.serial ≡ begun plan.value log_room) }
         ensures layout { IfOk result (λ parts. parts.layout.items ≡ layout_text plan.value.variables.items) }
         ensures kept { IfOk result (λ parts. length plan.value.variables.items ≤ vec_capacity parts.kept) }
-        ensures initial { IfOk result (λ parts. IsInitialAgain plan.value) }
     {
         let layout = plan.layout_text(alloc)?;
-        let mut kept = Vec::with_capacity(alloc, plan.variables.len())?;
+        let kept = Vec::with_capacity(alloc, plan.variables.len())?;
         let serial = SerialCore::start(alloc, plan, log_room)?;
-        serial.retain(&mut kept);
         Ok(Parts {
             serial,
             layout,

@@ -9,7 +9,7 @@ ghost use Rattle.retain_store.specs.Recovered.{recovered, Found};
 ghost use Rattle.retain_store.specs.Areas.{IsEither};
 ghost use Rattle.retain_store.specs.Opening.{CountsFault, KeepsFile};
 ghost use Rattle.retain_store.specs.Kept.{IsTriedAfter};
-ghost use Rattle.commit_lock.specs.Restart.{record_now, IsNamed};
+ghost use Rattle.commit_lock.specs.Restart.{record_now};
 
 use disk::Disk;
 use retain_store::{Store, StoreFault};
@@ -50,7 +50,6 @@ pub(crate) fn save_record<D: Disk>(
     ensures again { IsErrOf result StoreFault.Failed ↔ (store.old.failed ≡ true) }
     ensures generations { IsErrOf result StoreFault.Generations
         ↔ ((store.old.failed ≡ false) × (store.old.generation ≡ 2 ^ 64 - 1)) }
-    ensures named { IsNamed serial.now }
     ensures kept { vec_capacity kept.old ≤ vec_capacity kept.new }
 {
     serial.retain(kept);

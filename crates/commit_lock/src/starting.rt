@@ -10,7 +10,7 @@ ghost use Rattle.retain_store.specs.declared.format.TheConstants.{FILE_BYTES};
 ghost use Rattle.retain_store.specs.Recovered.{recovered, Found};
 ghost use Rattle.retain_store.specs.Areas.{IsEither};
 ghost use Rattle.retain_store.specs.Kept.{IsLast};
-ghost use Rattle.commit_lock.specs.Restart.{Survives, IsOfPlan, IsInitialAgain, begun, record_now, warm};
+ghost use Rattle.commit_lock.specs.Restart.{Survives, IsOfPlan, begun, record_now, warm};
 ghost use Rattle.commit_lock.specs.Cores.{survives};
 ghost use Rattle.commit_lock.specs.Starting.{start_of, started, HasOtherLayout, IsNew, CanStart, RefusesStart};
 ghost use Rattle.commit_lock.specs.Starting.{CountsStart, LeftByStart, IsSavedAnew, IsWantOfMemory};
@@ -40,7 +40,6 @@ pub enum StartMode {
 /// Goes on from the last record, if there is one; false where it is of another layout.
 fn resume_from<D: Disk>(serial: &mut SerialCore, layout: &[u8], store: &Store<D>) -> bool
     requires begun { serial.old ≡ begun serial.old.plan serial.old.room }
-    requires initial { IsInitialAgain serial.old.plan }
     requires layout { layout.now ≡ layout_text serial.old.plan.variables.items }
     requires last { IsLast store.now.generation store.now.last }
 
@@ -62,7 +61,6 @@ fn resume_from<D: Disk>(serial: &mut SerialCore, layout: &[u8], store: &Store<D>
 /// A core that goes on from the last record of the store.
 fn warm<D: Disk>(parts: Parts, store: Store<D>) -> Result<Core<D>, (StartFault, D)>
     requires begun { parts.serial ≡ begun parts.serial.plan parts.serial.room }
-    requires initial { IsInitialAgain parts.serial.plan }
     requires layout { parts.layout.items ≡ layout_text parts.serial.plan.variables.items }
     requires kept { length parts.serial.plan.variables.items ≤ vec_capacity parts.kept }
     requires last { IsLast store.generation store.last }
@@ -103,7 +101,6 @@ fn warm<D: Disk>(parts: Parts, store: Store<D>) -> Result<Core<D>, (StartFault, 
 /// A core that starts anew. The record of the initial values, without a moment, is saved before.
 fn cold<D: Disk>(parts: Parts, store: Store<D>) -> Result<Core<D>, (StartFault, D)>
     requires begun { parts.serial ≡ begun parts.serial.plan parts.serial.room }
-    requires initial { IsInitialAgain parts.serial.plan }
     requires layout { parts.layout.items ≡ layout_text parts.serial.plan.variables.items }
     requires kept { length parts.serial.plan.variables.items ≤ vec_capacity parts.kept }
     requires last { IsLast store.generation store.last }

@@ -56,7 +56,7 @@ unfolding kind_of
 kind_of_takes word k e = sym
     ((bytes_eq-Decides (row_of k).keyword word).0 (found_passes (λ l. bytes_eq (row_of l).keyword word) all_kinds k e))
 
-keyword_in_line : (k : Kind) → has_no 10 (row_of k).keyword ≡ true
+pub keyword_in_line : (k : Kind) → has_no 10 (row_of k).keyword ≡ true
 keyword_in_line Sint = refl
 keyword_in_line Int = refl
 keyword_in_line Dint = refl

@@ -37,7 +37,7 @@ use Rattle.serial_core.specs.Kept.{IsOfPast, SerialInvariant}
 use Rattle.serial_core.proofs.OutcomeLemmas.{outcomes_of-add}
 use Rattle.serial_core.proofs.VariableLemmas.{get-add}
 use Rattle.serial_core.proofs.PlanSlots.{values_back, variables_alone, inputs_behind, variables_written, length_layout}
-use Rattle.serial_core.proofs.TakeLemmas.{found, same_row, values_are, waits-row, row-there}
+use Rattle.serial_core.proofs.TakeLemmas.{found, values_are, waits-row, row-there}
 
 -- equal texts run alike
 same_run : (X : Type 0) (f : runs.Program → ℕ → Store → Store → ℕ → X) (t t' : CodeView) (b b' : ℕ) (s s' i i' : Store)

@@ -4,16 +4,13 @@ use Rattle.std.specs.List.{AllByRecursion}
 use Rattle.st_words.specs.Values.{Datum, IsHeld}
 use Rattle.st_plans.specs.declared.entry.Entry.{Entry}
 use Rattle.st_types.specs.Stores.{Store}
-use Rattle.st_plans.specs.Restarts.{kept, warm_start, written_over}
-use Rattle.st_plans.specs.Plans.{initial_store}
+use Rattle.st_plans.specs.Restarts.{kept, warm_start}
 use Rattle.config.specs.declared.plan.Plan.{Plan}
 use Rattle.config.specs.PlanViews.{plan_view}
 use Rattle.serial_core.specs.Steps.{State, store_in}
 use Rattle.serial_core.specs.Retained.{retained_kinds, retained_paths, retained_values, restored, paired, told_by}
 use Rattle.serial_core.proofs.RetainedLemmas.{restart_is, goes_by_itself, kept_paired, values_paired, kinds_kept}
-use Rattle.serial_core.proofs.RetainedLemmas.{restored_back, restored_typed, initials_again}
-use Rattle.serial_core.proofs.PlanSlots.{values_back}
-use Rattle.serial_core.proofs.VariableLemmas.{initial_stored}
+use Rattle.serial_core.proofs.RetainedLemmas.{restored_back, restored_typed}
 use Rattle.std.proofs.lemmas.List.{length-map}
 
 -- the variables that a record's values make
@@ -25,16 +22,18 @@ restarted plan ws start moment kinds held is = ap (store_in plan) is
     ∙ sym (restart_is plan.variables.items plan.inputs.items ws plan.sound.different kinds held)
 
 -- what is kept of them
-pub kept_of : (plan : Plan) (ws start : List Datum) → map (λ d. d.kind) ws ≡ retained_kinds plan.variables.items
-    → start ≡ restored plan.variables.items ws
-    → kept (plan_view plan) (store_in plan start) ≡ paired (retained_paths plan.variables.items) ws
-kept_of plan ws start kinds is =
-    ap (λ ds. kept (plan_view plan) (store_in plan ds)) is
-    ∙ kept_paired _ plan.variables.items plan.inputs.items (restored plan.variables.items ws)
+pub kept_values : (plan : Plan) (ws start : List Datum)
+    → map (λ d. d.kind) ws ≡ retained_kinds plan.variables.items → start ≡ restored plan.variables.items ws
+    → map (λ e. e.1) (kept (plan_view plan) (store_in plan start)) ≡ ws
+kept_values plan ws start kinds is =
+    ap (λ ds. map (λ e. e.1) (kept (plan_view plan) (store_in plan ds))) is
+    ∙ ap (map (λ e. e.1))
+    (kept_paired _ plan.variables.items plan.inputs.items (restored plan.variables.items ws)
     (sym (length-map (restored plan.variables.items ws) (λ d. d.kind))
     ∙ ap length (restored_typed plan.variables.items ws kinds) ∙ length-map plan.variables.items (λ v. v.initial.kind))
-    (goes_by_itself plan.variables.items plan.sound.different)
-    ∙ ap (paired (retained_paths plan.variables.items)) (restored_back plan.variables.items ws kinds)
+    (goes_by_itself plan.variables.items plan.sound.different))
+    ∙ values_paired plan.variables.items (restored plan.variables.items ws)
+    ∙ restored_back plan.variables.items ws kinds
 
 pub typed_of : (plan : Plan) (ws start : List Datum) → map (λ d. d.kind) ws ≡ retained_kinds plan.variables.items
     → start ≡ restored plan.variables.items ws
@@ -53,7 +52,6 @@ seen_again plan start store log before room s l =
 -- what a record keeps of a core
 pub record IsRetained (plan : Plan) (store : Store) (ws : List Datum) : Type 0 where
   pub values : ws ≡ map (λ e. e.1) (kept (plan_view plan) store)
-  pub named : paired (retained_paths plan.variables.items) ws ≡ kept (plan_view plan) store
   pub kinds : map (λ d. d.kind) ws ≡ retained_kinds plan.variables.items
 
 pub retained : (plan : Plan) (values ws : List Datum) (store : Store) → length values ≡ length plan.variables.items
@@ -68,28 +66,5 @@ retained plan values ws store sized typed is from =
       values = from ∙ sym (values_paired plan.variables.items values)
           ∙ ap (λ us. map (λ e. e.1) (paired (retained_paths plan.variables.items) us)) (sym from)
           ∙ ap (map (λ e. e.1)) named;
-      named = named;
       kinds = ap (map (λ d. d.kind)) from ∙ kinds_kept plan.variables.items values typed;
     }
-
--- the initial values written over themselves
-pub initial_again : (plan : Plan) (values ws : List Datum) (store : Store) → length values ≡ length plan.variables.items
-    → map (λ d. d.kind) values ≡ map (λ v. v.initial.kind) plan.variables.items
-    → store_in plan values ≡ store → ws ≡ retained_values plan.variables.items values → AllByRecursion IsHeld ws
-    → store ≡ initial_store (plan_view plan)
-    → written_over (initial_store (plan_view plan)) (kept (plan_view plan) (initial_store (plan_view plan)))
-    ≡ initial_store (plan_view plan)
-initial_again plan values ws store sized typed is from held first =
-    let vs = plan.variables.items in
-    let stored : store_in plan (map (λ v. v.initial) vs) ≡ initial_store (plan_view plan) =
-    initial_stored vs plan.inputs.items in
-    let begun : length (map (λ v. v.initial) vs) ≡ length vs = length-map vs (λ v. v.initial) in
-    let valued : values ≡ map (λ v. v.initial) vs = sym (values_back vs plan.inputs.items values sized)
-    ∙ ap (map (λ e. e.1)) (is ∙ first ∙ sym stored)
-    ∙ values_back vs plan.inputs.items (map (λ v. v.initial) vs) begun in
-    let r = retained plan values ws store sized typed is from in
-    ap (λ (s : Store). written_over (initial_store (plan_view plan)) (kept (plan_view plan) s)) (sym first)
-    ∙ ap (written_over (initial_store (plan_view plan))) (sym r.named)
-    ∙ restart_is vs plan.inputs.items ws plan.sound.different r.kinds held
-    ∙ ap (λ us. store_in plan (restored vs us)) (from ∙ ap (retained_values vs) valued)
-    ∙ ap (store_in plan) (initials_again vs) ∙ stored

@@ -1,25 +1,23 @@
 -- Retained variables: what is kept of a store, and what a restart makes of it.
 use Rattle.std.proofs.Common.{◌≡◌, ℕ, zero, suc, Bool, true, false, not, ◌&&◌, ◌||◌, if◌then◌else◌, inl, inr, List, []}
-use Rattle.std.proofs.Common.{◌∷◌, ◌++◌, length, map, Some, Result, Ok, slice_get, refl, sym, ap, subst, ◌∙◌, arith}
+use Rattle.std.proofs.Common.{◌∷◌, ◌++◌, length, map, Some, slice_get, refl, sym, ap, subst, ◌∙◌, arith}
 use Rattle.std.proofs.Common.{append_assoc}
 use Rattle.std.specs.Prelude.{filter, bytes_eq}
-use Rattle.std.proofs.lemmas.Bool.{and_parts, and_from, or_parts, or_from, not-true, cases_Bool}
+use Rattle.std.proofs.lemmas.Bool.{and_parts, or_parts, not-true, cases_Bool}
 use Rattle.std.proofs.lemmas.Slice.Eq.{bytes_eq-Decides}
 use Rattle.std.specs.List.{list_any, AllByRecursion}
 use Rattle.st_words.specs.declared.kind.Kind.{Kind}
-use Rattle.st_words.specs.Kinds.{same_kind, holds, kind_index}
 use Rattle.st_words.specs.Values.{Datum, IsHeld}
 use Rattle.st_words.specs.Paths.{Path, same_path}
 use Rattle.st_plans.specs.declared.plan.PlanVariable.{PlanVariable}
 use Rattle.st_plans.specs.declared.plan.PlanInput.{PlanInput}
-use Rattle.st_types.specs.Failures.{Failure}
-use Rattle.st_types.specs.Stores.{Store, assigned, may_replace}
+use Rattle.st_types.specs.Stores.{Store}
 use Rattle.st_types.specs.Slots.{variables_in}
 use Rattle.st_plans.specs.Layouts.{layout_of, path_text}
-use Rattle.st_plans.specs.Restarts.{written_over, unless_refused}
+use Rattle.st_plans.specs.Restarts.{KeptLine, lines_with, restarted}
+use Rattle.st_plans.proofs.RestartLemmas.{restarts, taken, AreUnlike, all_unlike, unlike_next}
 use Rattle.st_types.specs.Scopes.{Name, contains_name}
 use Rattle.st_types.proofs.SlotLemmas.{same_path_is, same_path_itself}
-use Rattle.slot_run.proofs.Bools.{same_itself}
 use Rattle.config.specs.Sound.{are_different}
 use Rattle.serial_core.specs.Retained.{retained_paths, retained_kinds, retained_values, first_or, others, restored}
 use Rattle.serial_core.specs.Retained.{paired}
@@ -150,94 +148,51 @@ goes_by_itself (u ∷ vs) d (suc k) v at =
 
 -- ---- a restart
 
-abbrev IsAbsent : Store → Path → Type 0
-IsAbsent s p = list_any (λ e. same_path p e.0) s ≡ false
+none_before : (u : PlanVariable) (vs : List PlanVariable) → contains_name (texts vs) (path_text u.path) ≡ false
+    → AllByRecursion (λ x. bytes_eq (path_text u.path) x ≡ false) (texts vs)
+none_before u [] h = tt
+none_before u (v ∷ vs) h =
+    let p = or_parts (bytes_eq (path_text u.path) (path_text v.path)) (contains_name (texts vs) (path_text u.path)) h in
+    (p.0, none_before u vs p.1)
 
-assigned_behind : (s t : Store) (p : Path) (d w : Datum) → IsAbsent s p → may_replace d w ≡ true
-    → assigned (s ++ (p, d) ∷ t) p w ≡ Ok (s ++ (p, w) ∷ t)
-assigned_behind [] t p d w absent may = rw (same_path_itself p, may) refl
-assigned_behind (e ∷ s) t p d w absent may =
-    let q = or_parts (same_path p e.0) (list_any (λ x. same_path p x.0) s) absent in
-    rw (q.0, assigned_behind s t p d w q.1 may) refl
-
-absent_more : (s : Store) (e : Path × Datum) (p : Path) → IsAbsent s p → same_path p e.0 ≡ false
-    → IsAbsent (s ++ e ∷ []) p
-absent_more [] e p absent other = rw other refl
-absent_more (x ∷ s) e p absent other =
-    let q = or_parts (same_path p x.0) (list_any (λ y. same_path p y.0) s) absent in
-    or_from (same_path p x.0) (list_any (λ y. same_path p y.0) (s ++ e ∷ [])) q.0 (absent_more s e p q.1 other)
-
-abbrev AreAbsent : Store → List PlanVariable → Type 0
-AreAbsent s vs = AllByRecursion (λ v. IsAbsent s v.path) vs
-
-all_absent : (vs : List PlanVariable) → AreAbsent [] vs
-all_absent [] = tt
-all_absent (v ∷ vs) = (refl, all_absent vs)
-
-absent_next : (s : Store) (u : PlanVariable) (d : Datum) (vs : List PlanVariable) → AreAbsent s vs
-    → contains_name (texts vs) (path_text u.path) ≡ false → AreAbsent (s ++ (u.path, d) ∷ []) vs
-absent_next s u d [] absent h = tt
-absent_next s u d (v ∷ vs) absent h =
-    let p = or_parts (bytes_eq (path_text u.path) (path_text v.path)) (contains_name (texts vs) (path_text u.path))
-    h in (
-      absent_more s (u.path, d) v.path absent.0 (unlike v.path u.path
-          (λ same. differ (path_text u.path) (path_text v.path) p.0 (sym same))),
-      absent_next s u d vs absent.1 p.1,
-    )
-
-abbrev entries : List PlanVariable → Store
-entries vs = map (λ v. (v.path, v.initial)) vs
-
-kind_itself : (k l : Kind) → k ≡ l → same_kind k l ≡ true
-kind_itself k l e = subst (λ m. same_kind k m ≡ true) e (same_itself (kind_index k))
-
-takes_its_kind : (v : PlanVariable) (w : Datum) → w.kind ≡ v.initial.kind → IsHeld w → may_replace v.initial w ≡ true
-takes_its_kind v w is held =
-    and_from (same_kind v.initial.kind w.kind) (holds w.kind w.number) (kind_itself v.initial.kind w.kind (sym is)) held
-
--- the record's values written over the initial ones
+-- what these lines give the variables, where those of the variables stand behind others
 abbrev RestartsTo : List PlanVariable → List PlanInput → Type 0
-RestartsTo vs ins = (s : Store) (ws : List Datum) → AreAbsent s vs → are_different (texts vs) ≡ true
-    → map (λ d. d.kind) ws ≡ retained_kinds vs → AllByRecursion IsHeld ws
-    → written_over (s ++ entries vs) (paired (retained_paths vs) ws) ≡ s
-    ++ variables_in (layout_of vs ins) (restored vs ws)
+RestartsTo vs ins = (s : Store) (lines : List KeptLine) (ws : List Datum) → AreUnlike vs s
+    → are_different (texts vs) ≡ true → map (λ d. d.kind) ws ≡ retained_kinds vs → AllByRecursion IsHeld ws
+    → lines ≡ lines_with (s ++ paired (retained_paths vs) ws)
+    → restarts lines vs ≡ variables_in (layout_of vs ins) (restored vs ws)
 
-over_first : (s : Store) (v : PlanVariable) (vs : List PlanVariable) (ins : List PlanInput) (ws : List Datum) (r : Bool)
-    → RestartsTo vs ins → AreAbsent s (v ∷ vs) → are_different (texts (v ∷ vs)) ≡ true
+restart_first : (v : PlanVariable) (vs : List PlanVariable) (ins : List PlanInput) (s : Store) (lines : List KeptLine)
+    (ws : List Datum) (r : Bool) → v.retained ≡ r → RestartsTo vs ins → AreUnlike (v ∷ vs) s
+    → are_different (texts (v ∷ vs)) ≡ true
     → map (λ d. d.kind) ws ≡ (if r then v.initial.kind ∷ retained_kinds vs else retained_kinds vs)
     → AllByRecursion IsHeld ws
-    → written_over (s ++ (v.path, v.initial) ∷ entries vs)
-    (paired (if r then v.path ∷ retained_paths vs else retained_paths vs) ws)
-    ≡ s ++ variables_in (layout_of (v ∷ vs) ins)
+    → lines ≡ lines_with (s ++ paired (if r then v.path ∷ retained_paths vs else retained_paths vs) ws)
+    → (v.path, restarted lines v) ∷ restarts lines vs ≡ variables_in (layout_of (v ∷ vs) ins)
     (if r then first_or v.initial ws ∷ restored vs (others ws) else v.initial ∷ restored vs ws)
-over_first s v vs ins [] true again absent d e held = absurd (omega (arith, ap length e))
-over_first s v vs ins (w ∷ ws) true again absent d e held =
+restart_first v vs ins s lines [] true is again apart d e held all = absurd (omega (arith, ap length e))
+restart_first v vs ins s lines (w ∷ ws) true is again apart d e held all =
     let p = and_parts (not (contains_name (texts vs) (path_text v.path))) (are_different (texts vs)) d in
-    let next = absent_next s v w vs absent.1 (not-true (contains_name (texts vs) (path_text v.path)) p.0) in
-    ap (λ (r : Result Store Failure). written_over (unless_refused (s ++ (v.path, v.initial) ∷ entries vs) r)
-    (paired (retained_paths vs) ws))
-    (assigned_behind s (entries vs) v.path v.initial w absent.0 (takes_its_kind v w (cons_head e) held.0))
-    ∙ ap (λ (t : Store). written_over t (paired (retained_paths vs) ws))
-    (sym (append_assoc s ((v.path, w) ∷ []) (entries vs)))
-    ∙ again (s ++ (v.path, w) ∷ []) ws next p.1 (cons_tail e) held.1
-    ∙ append_assoc s ((v.path, w) ∷ []) (variables_in (layout_of vs ins) (restored vs ws))
-over_first s v vs ins ws false again absent d e held =
+    let none = none_before v vs (not-true (contains_name (texts vs) (path_text v.path)) p.0) in
+    let first : restarted lines v ≡ w =
+    taken v w s (paired (retained_paths vs) ws) lines true is apart.0 (cons_head e) held.0 all in
+    let rest = again (s ++ (v.path, w) ∷ []) lines ws (unlike_next v w s vs none apart.1) p.1 (cons_tail e) held.1
+    (all ∙ ap lines_with (sym (append_assoc s ((v.path, w) ∷ []) (paired (retained_paths vs) ws)))) in
+    ap (λ x. (v.path, x) ∷ restarts lines vs) first ∙ ap (λ t. (v.path, w) ∷ t) rest
+restart_first v vs ins s lines ws false is again apart d e held all =
     let p = and_parts (not (contains_name (texts vs) (path_text v.path))) (are_different (texts vs)) d in
-    let next = absent_next s v v.initial vs absent.1 (not-true (contains_name (texts vs) (path_text v.path)) p.0) in
-    ap (λ (t : Store). written_over t (paired (retained_paths vs) ws))
-    (sym (append_assoc s ((v.path, v.initial) ∷ []) (entries vs)))
-    ∙ again (s ++ (v.path, v.initial) ∷ []) ws next p.1 e held
-    ∙ append_assoc s ((v.path, v.initial) ∷ []) (variables_in (layout_of vs ins) (restored vs ws))
+    let rest = again s lines ws apart.1 p.1 e held all in
+    rw is (ap (λ t. (v.path, v.initial) ∷ t) rest)
 
-over_initial : (vs : List PlanVariable) (ins : List PlanInput) → RestartsTo vs ins
-over_initial [] ins s ws absent d e held = ap (λ (t : Store). s ++ t) (sym (no_variables ins []))
-over_initial (v ∷ vs) ins s ws absent d e held =
-    over_first s v vs ins ws v.retained (over_initial vs ins) absent d e held
+restarts_to : (vs : List PlanVariable) (ins : List PlanInput) → RestartsTo vs ins
+restarts_to [] ins s lines ws apart d e held all = sym (no_variables ins [])
+restarts_to (v ∷ vs) ins s lines ws apart d e held all =
+    restart_first v vs ins s lines ws v.retained refl (restarts_to vs ins) apart d e held all
 
 pub restart_is : (vs : List PlanVariable) (ins : List PlanInput) (ws : List Datum) → are_different (texts vs) ≡ true
     → map (λ d. d.kind) ws ≡ retained_kinds vs → AllByRecursion IsHeld ws
-    → written_over (entries vs) (paired (retained_paths vs) ws) ≡ variables_in (layout_of vs ins) (restored vs ws)
-restart_is vs ins ws d e held = over_initial vs ins [] ws (all_absent vs) d e held
+    → restarts (lines_with (paired (retained_paths vs) ws)) vs ≡ variables_in (layout_of vs ins) (restored vs ws)
+restart_is vs ins ws d e held = restarts_to vs ins [] _ ws (all_unlike vs) d e held refl
 
 -- what was restored is what is kept
 back_first : (v : PlanVariable) (vs : List PlanVariable) (ws : List Datum) (r : Bool)
@@ -261,23 +216,6 @@ restored_back [] [] e = refl
 restored_back [] (w ∷ ws) e = absurd (omega (arith, ap length e))
 restored_back (v ∷ vs) ws e = restored_first v vs ws v.retained refl
     ∙ back_first v vs ws v.retained (restored_back vs) e
-
--- the initial values restored over themselves
-same_first : (v : PlanVariable) (vs : List PlanVariable) (r : Bool)
-    → restored vs (retained_values vs (initials vs)) ≡ initials vs
-    → (if r then first_or v.initial
-    (if r then v.initial ∷ retained_values vs (initials vs) else retained_values vs (initials vs)) ∷ restored vs
-    (others (if r then v.initial ∷ retained_values vs (initials vs) else retained_values vs (initials vs)))
-    else v.initial
-    ∷ restored vs (if r then v.initial ∷ retained_values vs (initials vs) else retained_values vs (initials vs)))
-    ≡ v.initial
-    ∷ initials vs
-same_first v vs true rest = ap (λ (t : List Datum). v.initial ∷ t) rest
-same_first v vs false rest = ap (λ (t : List Datum). v.initial ∷ t) rest
-
-pub initials_again : (vs : List PlanVariable) → restored vs (retained_values vs (initials vs)) ≡ initials vs
-initials_again [] = refl
-initials_again (v ∷ vs) = same_first v vs v.retained (initials_again vs)
 
 kinds_restored : (v : PlanVariable) (vs : List PlanVariable) (ws : List Datum) (r : Bool)
     → ((us : List Datum) → map (λ d. d.kind) us ≡ retained_kinds vs → map (λ d. d.kind) (restored vs us) ≡ kinds vs)

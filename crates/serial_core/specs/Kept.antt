@@ -1,5 +1,5 @@
 -- What a core keeps of its fields.
-use Rattle.std.specs.Prelude.{◌≡◌, ℕ, ◌<◌, ◌≤◌, ◌^◌, IfSome, List, Bool, length, map, Option, Some, slice_get}
+use Rattle.std.specs.Prelude.{◌≡◌, ℕ, ◌<◌, ◌≤◌, IfSome, List, Bool, length, map, Option, Some, slice_get}
 use Rattle.std.specs.Prelude.{slice_index}
 use Rattle.st_words.specs.declared.limits.TheConstants.{MOMENT_LIMIT}
 use Rattle.st_words.specs.Values.{Datum}

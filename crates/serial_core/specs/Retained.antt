@@ -5,7 +5,7 @@ use Rattle.st_words.specs.Values.{Datum}
 use Rattle.st_words.specs.Paths.{Path}
 use Rattle.st_plans.specs.declared.plan.PlanVariable.{PlanVariable}
 use Rattle.st_types.specs.Stores.{Store}
-use Rattle.st_plans.specs.Restarts.{Kept}
+use Rattle.st_plans.specs.Restarts.{Kept, lines_with}
 
 abbrev pub retained_paths : List PlanVariable → List Path
 retained_paths [] = []
@@ -44,4 +44,5 @@ paired (p ∷ ps) (d ∷ ds) = (p, d) ∷ paired ps ds
 
 -- what a record of these values of the retained variables tells
 abbrev pub told_by : List PlanVariable → List Datum → Option ℕ → Kept
-told_by variables values moment = record { values = paired (retained_paths variables) values; moment = moment }
+told_by variables values moment =
+    record { lines = lines_with (paired (retained_paths variables) values); moment = moment }

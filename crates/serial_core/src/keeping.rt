@@ -6,11 +6,10 @@ ghost use Rattle.std.specs.List.{AllByRecursion};
 ghost use Rattle.st_words.specs.declared.limits.TheConstants.{MOMENT_LIMIT};
 ghost use Rattle.st_words.specs.Values.{IsHeld};
 ghost use Rattle.st_plans.specs.Logs.{last_moment};
-ghost use Rattle.st_plans.specs.Restarts.{kept, written_over};
-ghost use Rattle.st_plans.specs.Plans.{initial_store};
+ghost use Rattle.st_plans.specs.Restarts.{kept};
 ghost use Rattle.config.specs.PlanViews.{plan_view};
 ghost use Rattle.serial_core.specs.Steps.{made};
-ghost use Rattle.serial_core.specs.Retained.{retained_values, retained_kinds, retained_paths, paired};
+ghost use Rattle.serial_core.specs.Retained.{retained_values, retained_kinds};
 
 use crate::serial::SerialCore;
 use config::Plan;
@@ -74,15 +73,8 @@ impl SerialCore {
     pub fn retain(&self, values: &mut Vec<Value>)
         requires room { length self.now.plan.variables.items ≤ vec_capacity values.old }
         ensures values { values.new.items ≡ map (λ e. e.1) (kept (plan_view self.now.plan) (made self.now).store) }
-        ensures named { paired (retained_paths self.now.plan.variables.items) values.new.items
-            ≡ kept (plan_view self.now.plan) (made self.now).store }
         ensures kinds { map (λ d. d.kind) values.new.items ≡ retained_kinds self.now.plan.variables.items }
         ensures held { AllByRecursion IsHeld values.new.items }
-        // What is kept of the initial values makes the initial values.
-        ensures initial { (made self.now).store ≡ initial_store (plan_view self.now.plan)
-            → written_over (initial_store (plan_view self.now.plan))
-            (kept (plan_view self.now.plan) (initial_store (plan_view self.now.plan)))
-            ≡ initial_store (plan_view self.now.plan) }
         ensures capacity { vec_capacity values.old ≤ vec_capacity values.new }
     {
         retain(&self.values, &self.plan.variables, values);

@@ -6,7 +6,7 @@ ghost use Rattle.st_words.specs.declared.limits.TheConstants.{MOMENT_LIMIT};
 ghost use Rattle.st_words.specs.Values.{IsHeld};
 ghost use Rattle.st_plans.specs.Restarts.{kept, warm_start};
 ghost use Rattle.config.specs.PlanViews.{plan_view};
-ghost use Rattle.serial_core.specs.Retained.{restored, retained_kinds, retained_paths, paired, told_by, first_or};
+ghost use Rattle.serial_core.specs.Retained.{restored, retained_kinds, told_by, first_or};
 ghost use Rattle.serial_core.specs.Retained.{others};
 
 use crate::serial::SerialCore;
@@ -63,8 +63,8 @@ impl SerialCore {
           log = [];
           room = self.old.room;
         } }
-        ensures kept { kept (plan_view self.old.plan) self.new.start
-            ≡ paired (retained_paths self.old.plan.variables.items) values.now }
+        // What is kept of this start are these values again.
+        ensures kept { map (λ e. e.1) (kept (plan_view self.old.plan) self.new.start) ≡ values.now }
     {
         let plan: &Plan = &self.plan;
         restore(&mut self.start, &plan.variables, values);

@@ -1,13 +1,11 @@
 -- How many rows and executions a log has.
-use Rattle.std.proofs.Common.{◌≡◌, ◌∙◌, refl, arith, ℕ, suc, ◌+◌, ◌++◌, Bool, true, false, List, [], ◌∷◌, length}
+use Rattle.std.proofs.Common.{◌≡◌, refl, arith, suc, ◌+◌, ◌++◌, Bool, [], ◌∷◌, length}
 use Rattle.std.proofs.Common.{count_by, cond, length-append}
 use Rattle.std.specs.Prelude.{fold}
 use Rattle.std.proofs.lemmas.List.Sums.{sum_by-append, sum_by-cons}
 use Rattle.st_types.specs.Stores.{Store}
 use Rattle.st_plans.specs.declared.entry.Entry.{Entry}
 use Rattle.st_plans.specs.declared.entry.Entry.TheVariants.{Row, Done}
-use Rattle.st_plans.specs.declared.entry.Activation.{Activation}
-use Rattle.st_plans.specs.Rows.{Latch}
 use Rattle.st_plans.specs.Plans.{Plan}
 use Rattle.st_plans.specs.Logs.{Log, Past, with_entry, beginning, past_of, is_row, is_done, row_count, done_count}
 

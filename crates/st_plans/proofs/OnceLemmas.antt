@@ -1,12 +1,12 @@
 -- An activation is done at most once.
-use Rattle.std.proofs.Common.{◌≡◌, ℕ, ◌<◌, ◌≤◌, List, [], ◌∷◌, ◌++◌, length, Option}
+use Rattle.std.proofs.Common.{ℕ, ◌<◌, ◌≤◌, [], ◌∷◌, ◌++◌, length, Option}
 use Rattle.st_plans.specs.declared.entry.Entry.{Entry}
 use Rattle.st_plans.specs.declared.entry.Entry.TheVariants.{Row, Done}
 use Rattle.st_plans.specs.declared.entry.Activation.{Activation}
 use Rattle.st_plans.specs.Plans.{Plan, schedules_of, samples_of}
 use Rattle.st_types.specs.Stores.{Store}
 use Rattle.st_plans.specs.Due.{served, Waits}
-use Rattle.st_plans.specs.Logs.{Past, Log, with_entry, beginning, MayFollow, row_follows, done_follows, IsLegal}
+use Rattle.st_plans.specs.Logs.{Past, Log, with_entry, beginning, MayFollow, done_follows, IsLegal}
 use Rattle.st_plans.specs.Logs.{IsLegalFrom}
 use Rattle.st_plans.proofs.DueLemmas.{served_by_done, served_stays, served_waits_no_more, served_within_done}
 use Rattle.st_plans.proofs.DueLemmas.{served_within_row, served_within_first}

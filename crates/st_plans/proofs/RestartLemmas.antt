@@ -1,243 +1,274 @@
--- What a store has after the values of a record are written over it.
-use Rattle.std.proofs.Common.{◌≡◌, Bool, true, false, not, ◌&&◌, ◌||◌, if◌then◌else◌, inl, inr, List, [], ◌∷◌, ◌++◌}
-use Rattle.std.proofs.Common.{ℕ, Option, Some, None, Result, Ok, Err, refl, sym, ap, subst, ◌∙◌}
-use Rattle.std.specs.Prelude.{filter, fold}
-use Rattle.std.proofs.lemmas.Bool.{cases_Bool}
-use Rattle.std.specs.List.{list_any}
+-- What a warm start makes of a record.
+use Rattle.std.proofs.Common.{◌≡◌, Bool, true, false, ◌&&◌, ◌||◌, if◌then◌else◌, inl, inr, List, [], ◌∷◌, ◌++◌, map}
+use Rattle.std.proofs.Common.{ℕ, Option, Some, None, refl, sym, ap, ◌∙◌, append_assoc}
+use Rattle.std.specs.Prelude.{filter, fold, bytes_eq}
+use Rattle.std.specs.List.{list_any, find, AllByRecursion, IsDistinct}
+use Rattle.std.proofs.lemmas.Bool.{cases_Bool, and_parts, and_from}
+use Rattle.std.proofs.lemmas.Slice.Eq.{bytes_eq-Decides}
 use Rattle.st_words.specs.declared.kind.Kind.{Kind}
-use Rattle.st_words.specs.Kinds.{same_kind, holds}
+use Rattle.st_words.specs.Kinds.{row_of, holds}
 use Rattle.st_words.specs.Values.{Datum}
 use Rattle.st_words.specs.Paths.{Path, same_path}
-use Rattle.st_words.proofs.KindLemmas.{same_kind-refl}
-use Rattle.st_types.specs.Failures.{Failure, ill_typed}
-use Rattle.st_types.specs.Stores.{Store, get, may_replace, replaced, behind_first, assigned, shape_of, is_distinct}
-use Rattle.st_types.specs.Stores.{all_held, IsStore}
-use Rattle.st_types.specs.Scopes.{or_datum}
-use Rattle.st_types.proofs.Shapes.{both, Same, same_refl, assigned_same}
+use Rattle.st_types.specs.Stores.{Store, get, shape_of, all_held}
+use Rattle.st_types.proofs.Shapes.{Same, same_refl}
 use Rattle.st_types.proofs.SlotLemmas.{same_path_is, same_path_itself}
 use Rattle.st_types.proofs.RunLemmas.{store_after_same}
 use Rattle.st_plans.specs.declared.entry.Entry.{Entry}
 use Rattle.st_plans.specs.declared.entry.Entry.TheVariants.{Row, Done}
+use Rattle.st_plans.specs.declared.plan.PlanVariable.{PlanVariable}
+use Rattle.st_plans.specs.Layouts.{path_text}
 use Rattle.st_plans.specs.Rows.{Latch}
 use Rattle.st_plans.specs.Plans.{Plan, ProgramInstance, initial_store, is_retained, image_of, after_run, program_at}
 use Rattle.st_plans.specs.Logs.{Log, Past, row_at, with_entry, beginning, after}
-use Rattle.st_plans.specs.Restarts.{Kept, kept, unless_refused, written_over, warm_start}
+use Rattle.st_plans.specs.Restarts.{Kept, KeptLine, lines_with, kept_of, is_line_of, value_in, restarted, warm_start}
 
 same_then : {s t u : Store} → Same s t → Same t u → Same s u
 same_then h k = record { shape = k.shape ∙ h.shape; held = λ x. k.held (h.held x) }
 
-abbrev Shape : Type 0
-Shape = List (Path × Kind)
+-- ---- a start has the plan's variables
 
--- the type of the variable at a path
-abbrev type_at : Shape → Path → Option Kind
-type_at [] p = None
-type_at (x ∷ xs) p = if same_path p x.0 then Some x.1 else type_at xs p
+-- the value in a line is one that the variable's type holds
+held_at : (v : PlanVariable) (l : KeptLine) (found : Option KeptLine) (b : Bool) → is_line_of v l ≡ b
+    → holds v.initial.kind (value_in v found).number ≡ true
+    → holds v.initial.kind (value_in v (if b then Some l else found)).number ≡ true
+held_at v l found true is rest =
+    (and_parts (bytes_eq (path_text v.path) l.path && bytes_eq (row_of v.initial.kind).keyword l.spelling)
+    (holds v.initial.kind l.number) is).1
+held_at v l found false is rest = rest
 
--- each value has its variable, of its type
-abbrev HasTypes : Shape → Store → Type 0
-HasTypes shape [] = Unit {0}
-HasTypes shape (e ∷ s) = (type_at shape e.0 ≡ Some e.1.kind) × HasTypes shape s
+held_in : (v : PlanVariable) (lines : List KeptLine) → holds v.initial.kind v.initial.number ≡ true
+    → holds v.initial.kind (value_in v (find (is_line_of v) lines)).number ≡ true
+held_in v [] held = held
+held_in v (l ∷ lines) held =
+    held_at v l (find (is_line_of v) lines) (is_line_of v l) refl (held_in v lines held)
 
-neither : (a b : Bool) → not (a || b) ≡ true → (a ≡ false) × (b ≡ false)
-neither true b h = absurd (cc)
-neither false true h = absurd (cc)
-neither false false h = (refl, refl)
+value_typed : (v : PlanVariable) (found : Option KeptLine) → (value_in v found).kind ≡ v.initial.kind
+value_typed v None = refl
+value_typed v (Some l) = refl
 
--- the variables of a store, among more of other paths
-type_behind : (x : Path × Kind) (shape : Shape) (p : Path) (b : Bool) → same_path x.0 p ≡ false
-    → same_path p x.0 ≡ b → (if b then Some x.1 else type_at shape p) ≡ type_at shape p
-type_behind x shape p true apart e =
-    let same : p ≡ x.0 = same_path_is p x.0 e in
-    let t : same_path x.0 p ≡ true = ap (same_path x.0) same ∙ same_path_itself x.0 in
-    absurd (cc)
-type_behind x shape p false apart e = refl
+restarted_typed : (v : PlanVariable) (lines : List KeptLine) (r : Bool)
+    → (if r then value_in v (find (is_line_of v) lines) else v.initial).kind ≡ v.initial.kind
+restarted_typed v lines true = value_typed v (find (is_line_of v) lines)
+restarted_typed v lines false = refl
 
-types_behind : (x : Path × Kind) (shape : Shape) (s : Store)
-    → not (list_any (λ d. same_path x.0 d.0) (shape_of s)) ≡ true → HasTypes shape s → HasTypes (x ∷ shape) s
-types_behind x shape [] apart h = tt
-types_behind x shape (e ∷ s) apart h =
-    let n = neither (same_path x.0 e.0) (list_any (λ d. same_path x.0 d.0) (shape_of s)) apart in
-    (type_behind x shape e.0 (same_path e.0 x.0) n.0 refl ∙ h.0, types_behind x shape s (ap not n.1) h.1)
+restarted_held : (v : PlanVariable) (lines : List KeptLine) (r : Bool) → holds v.initial.kind v.initial.number ≡ true
+    → holds v.initial.kind (if r then value_in v (find (is_line_of v) lines) else v.initial).number ≡ true
+restarted_held v lines true held = held_in v lines held
+restarted_held v lines false held = held
 
-first_type : (e : Path × Datum) (s : Store) → type_at (shape_of (e ∷ s)) e.0 ≡ Some e.1.kind
-first_type e s = rw (same_path_itself e.0) refl
+abbrev pub initials : List PlanVariable → Store
+initials vs = map (λ v. (v.path, v.initial)) vs
 
--- the values of a store have their variables there
-own_types : (s : Store) → is_distinct (shape_of s) ≡ true → HasTypes (shape_of s) s
-own_types [] h = tt
-own_types (e ∷ s) h =
-    let n = both (not (list_any (λ d. same_path e.0 d.0) (shape_of s))) (is_distinct (shape_of s)) h in
-    (first_type e s, types_behind (e.0, e.1.kind) (shape_of s) s n.0 (own_types s n.1))
+-- the variables with what these lines give them
+abbrev pub restarts : List KeptLine → List PlanVariable → Store
+restarts lines vs = map (λ v. (v.path, restarted lines v)) vs
 
--- A value can be assigned, and then a look-up finds it, and of all else what it found before.
-record Takes (s : Store) (p : Path) (v : Datum) : Type 0 where
-  pub after : Store
-  pub is : assigned s p v ≡ Ok after
-  pub gives : (q : Path) → get after q ≡ (if same_path q p then Some v else get s q)
-
-found_here : (e : Path × Datum) (v : Datum) (s : Store) (q : Path) (b : Bool)
-    → (if b then Some v else get s q) ≡ (if b then Some v else (if b then Some e.1 else get s q))
-found_here e v s q true = refl
-found_here e v s q false = refl
-
-takes_here : (e : Path × Datum) (s : Store) (v : Datum) → e.1.kind ≡ v.kind → holds v.kind v.number ≡ true
-    → Takes (e ∷ s) e.0 v
-takes_here e s v kinds held =
-    let may : may_replace e.1 v ≡ true = rw (kinds, held, same_kind-refl v.kind) refl in
+restarts_same : (lines : List KeptLine) (vs : List PlanVariable) → Same (initials vs) (restarts lines vs)
+restarts_same lines [] = same_refl []
+restarts_same lines (v ∷ vs) =
+    let rest = restarts_same lines vs in
+    let kind = restarted_typed v lines v.retained in
     record {
-      after = (e.0, v) ∷ s;
-      is = rw (same_path_itself e.0, may) refl;
-      gives = λ q. found_here e v s q (same_path q e.0);
+      shape = rw (kind, rest.shape) refl;
+      held = λ h.
+          let p = and_parts (holds v.initial.kind v.initial.number) (all_held (initials vs)) h in
+          rw kind (and_from (holds v.initial.kind (restarted lines v).number) (all_held (restarts lines vs))
+          (restarted_held v lines v.retained p.0) (rest.held p.1));
     }
-
-found_behind : (e : Path × Datum) (s : Store) (p q : Path) (v : Datum) (b c : Bool) → same_path p e.0 ≡ false
-    → same_path q e.0 ≡ b → same_path q p ≡ c
-    → (if b then Some e.1 else (if c then Some v else get s q))
-    ≡ (if c then Some v else (if b then Some e.1 else get s q))
-found_behind e s p q v true true apart eb ec =
-    let x : q ≡ e.0 = same_path_is q e.0 eb in
-    let y : q ≡ p = same_path_is q p ec in
-    let z : same_path p e.0 ≡ true = ap (same_path p) (sym x ∙ y) ∙ same_path_itself p in
-    absurd (cc)
-found_behind e s p q v true false apart eb ec = refl
-found_behind e s p q v false c apart eb ec = refl
-
-takes_behind : (e : Path × Datum) (s : Store) (p : Path) (v : Datum) → same_path p e.0 ≡ false → Takes s p v
-    → Takes (e ∷ s) p v
-takes_behind e s p v apart t = record {
-  after = e ∷ t.after;
-  is = rw (apart, t.is) refl;
-  gives = λ q. rw (t.gives q) (found_behind e s p q v (same_path q e.0) (same_path q p) apart refl refl);
-}
-
-takes_at : (e : Path × Datum) (s : Store) (p : Path) (v : Datum) (b : Bool) → same_path p e.0 ≡ b
-    → (type_at (shape_of s) p ≡ Some v.kind → Takes s p v)
-    → (if b then Some e.1.kind else type_at (shape_of s) p) ≡ Some v.kind → holds v.kind v.number ≡ true
-    → Takes (e ∷ s) p v
-takes_at e s p v true same rest has held =
-    let kinds : e.1.kind ≡ v.kind = cc in
-    subst (λ x. Takes (e ∷ s) x v) (sym (same_path_is p e.0 same)) (takes_here e s v kinds held)
-takes_at e s p v false same rest has held = takes_behind e s p v same (rest has)
-
-takes : (s : Store) (p : Path) (v : Datum) → type_at (shape_of s) p ≡ Some v.kind → holds v.kind v.number ≡ true
-    → Takes s p v
-takes [] p v has held = absurd (cc)
-takes (e ∷ s) p v has held =
-    takes_at e s p v (same_path p e.0) refl (λ h. takes s p v h held) has held
-
--- a path that no entry has leads to nothing
-nothing_at : (s : Store) (p : Path) → not (list_any (λ d. same_path p d.0) (shape_of s)) ≡ true → get s p ≡ None
-nothing_at [] p h = refl
-nothing_at (e ∷ s) p h =
-    let n = neither (same_path p e.0) (list_any (λ d. same_path p d.0) (shape_of s)) h in
-    rw n.0 (nothing_at s p (ap not n.1))
-
--- what a look-up finds after the values of those variables of s which are kept were written over t
-abbrev over : (Path → Bool) → Store → Store → Path → Option Datum
-over keep s t q = if keep q then or_datum (get s q) (get t q) else get t q
-
-over_nothing : (found : Option Datum) (b : Bool) → found ≡ (if b then found else found)
-over_nothing found true = refl
-over_nothing found false = refl
-
--- with one kept value more, looked up where it is and elsewhere
-over_first : (keep : Path → Bool) (e : Path × Datum) (s t : Store) (q : Path) (b : Bool) → same_path q e.0 ≡ b
-    → keep e.0 ≡ true → not (list_any (λ d. same_path e.0 d.0) (shape_of s)) ≡ true
-    → (if keep q then or_datum (get s q) (if b then Some e.1 else get t q) else (if b then Some e.1 else get t q))
-    ≡ (if keep q then or_datum (if b then Some e.1 else get s q) (get t q) else get t q)
-over_first keep e s t q true same stays_kept apart =
-    let is : q ≡ e.0 = same_path_is q e.0 same in
-    let none : get s e.0 ≡ None = nothing_at s e.0 apart in
-    rw (is, stays_kept, none) refl
-over_first keep e s t q false same stays_kept apart = refl
-
--- with one value more that is not kept
-over_other : (keep : Path → Bool) (e : Path × Datum) (s t : Store) (q : Path) (b : Bool) → same_path q e.0 ≡ b
-    → keep e.0 ≡ false
-    → (if keep q then or_datum (get s q) (get t q) else get t q)
-    ≡ (if keep q then or_datum (if b then Some e.1 else get s q) (get t q) else get t q)
-over_other keep e s t q true same falls =
-    let is : q ≡ e.0 = same_path_is q e.0 same in rw (is, falls) refl
-over_other keep e s t q false same falls = refl
-
-types_stay : (shape shape' : Shape) (s : Store) → shape' ≡ shape → HasTypes shape s → HasTypes shape' s
-types_stay shape shape' s e h = subst (λ x. HasTypes x s) (sym e) h
-
--- the first of the values, and then the rest
-written_first : (keep : Path → Bool) (e : Path × Datum) (s t : Store) (q : Path) (b : Bool) → keep e.0 ≡ b
-    → not (list_any (λ d. same_path e.0 d.0) (shape_of s)) ≡ true → holds e.1.kind e.1.number ≡ true
-    → type_at (shape_of t) e.0 ≡ Some e.1.kind → HasTypes (shape_of t) s
-    → ((u : Store) → HasTypes (shape_of u) s
-    → get (written_over u (filter (λ d. keep d.0) s)) q ≡ over keep s u q)
-    → get (written_over t (if b then e ∷ filter (λ d. keep d.0) s else filter (λ d. keep d.0) s)) q
-    ≡ over keep (e ∷ s) t q
-written_first keep e s t q true stays_kept apart held type types rest =
-    let u = takes t e.0 e.1 type held in
-    let stays = (assigned_same t e.0 e.1 u.after u.is).shape in
-    let others = rest u.after (types_stay (shape_of t) (shape_of u.after) s stays types) in
-    ap (λ r. get (written_over (unless_refused t r) (filter (λ d. keep d.0) s)) q) u.is
-    ∙ others
-    ∙ ap (λ found. if keep q then or_datum (get s q) found else found) (u.gives q)
-    ∙ over_first keep e s t q (same_path q e.0) refl stays_kept apart
-written_first keep e s t q false falls apart held type types rest =
-    rest t types ∙ over_other keep e s t q (same_path q e.0) refl falls
-
-written_gives : (keep : Path → Bool) (s t : Store) (q : Path) → is_distinct (shape_of s) ≡ true
-    → all_held s ≡ true → HasTypes (shape_of t) s
-    → get (written_over t (filter (λ e. keep e.0) s)) q ≡ over keep s t q
-written_gives keep [] t q once held types = over_nothing (get t q) (keep q)
-written_gives keep (e ∷ s) t q once held types =
-    let apart = both (not (list_any (λ d. same_path e.0 d.0) (shape_of s))) (is_distinct (shape_of s)) once in
-    let holding = both (holds e.1.kind e.1.number) (all_held s) held in
-    written_first keep e s t q (keep e.0) refl apart.0 holding.0 types.0 types.1
-    (λ u typed. written_gives keep s u q apart.1 holding.1 typed)
-
--- stores of the same variables have something at the same paths
-none_first : (e d : Path × Datum) (s t : Store) (p : Path) (b c : Bool) → b ≡ c
-    → (get s p ≡ None → get t p ≡ None) → (if b then Some e.1 else get s p) ≡ None
-    → (if c then Some d.1 else get t p) ≡ None
-none_first e d s t p true c same rest h = absurd (cc)
-none_first e d s t p false true same rest h = absurd (cc)
-none_first e d s t p false false same rest h = rest h
-
-none_in_both : (s t : Store) (p : Path) → shape_of s ≡ shape_of t → get s p ≡ None → get t p ≡ None
-none_in_both s [] p same none = refl
-none_in_both [] (d ∷ t) p same none = absurd (cc)
-none_in_both (e ∷ s) (d ∷ t) p same none =
-    let heads : ◌≡◌ {A = Path × Kind} (e.0, e.1.kind) (d.0, d.1.kind) = cc in
-    let paths : e.0 ≡ d.0 = ap (λ x. x.0) heads in
-    let others : shape_of s ≡ shape_of t = cc in
-    none_first e d s t p (same_path p e.0) (same_path p d.0) (ap (same_path p) paths) (none_in_both s t p others) none
-
-own_first : (found other : Option Datum) → (found ≡ None → other ≡ None) → or_datum found other ≡ found
-own_first (Some v) other h = refl
-own_first None other h = h refl
-
--- the values of those variables of s which are kept, written over t, where both have the same variables
-pub kept_over : (keep : Path → Bool) (s t : Store) (q : Path) → is_distinct (shape_of t) ≡ true
-    → shape_of s ≡ shape_of t → all_held s ≡ true
-    → get (written_over t (filter (λ e. keep e.0) s)) q ≡ (if keep q then get s q else get t q)
-kept_over keep s t q once same held =
-    let own : is_distinct (shape_of s) ≡ true = ap is_distinct same ∙ once in
-    written_gives keep s t q own held (types_stay (shape_of s) (shape_of t) s (sym same) (own_types s own))
-    ∙ ap (λ found. if keep q then found else get t q) (own_first (get s q) (get t q) (none_in_both s t q same))
-
-unless_same : (s : Store) (r : Result Store Failure) → ((t : Store) → r ≡ Ok t → Same s t)
-    → Same s (unless_refused s r)
-unless_same s (Ok t) h = h t refl
-unless_same s (Err f) h = same_refl s
-
--- whatever is written over a store, its variables are the same with the same types
-pub written_same : (s es : Store) → Same s (written_over s es)
-written_same s [] = same_refl s
-written_same s (e ∷ es) =
-    same_then (unless_same s (assigned s e.0 e.1) (assigned_same s e.0 e.1))
-    (written_same (unless_refused s (assigned s e.0 e.1)) es)
 
 pub start_same : (plan : Plan) (r : Option Kept) → Same (initial_store plan) (warm_start plan r).store
 start_same plan None = same_refl (initial_store plan)
-start_same plan (Some r) = written_same (initial_store plan) r.values
+start_same plan (Some r) = restarts_same r.lines plan.variables
+
+-- ---- a line among others
+
+-- none of the variables is written so
+abbrev pub IsUnlike : List ℕ → Store → Type 0
+IsUnlike text s = AllByRecursion (λ e. bytes_eq text (path_text e.0) ≡ false) s
+
+-- what is sought is not among the first lines
+found_behind : (v : PlanVariable) (s es : Store) → IsUnlike (path_text v.path) s
+    → find (is_line_of v) (lines_with (s ++ es)) ≡ find (is_line_of v) (lines_with es)
+found_behind v [] es h = refl
+found_behind v (e ∷ s) es h = rw h.0 (found_behind v s es h.1)
+
+same_text : (x : List ℕ) → bytes_eq x x ≡ true
+same_text x = (bytes_eq-Decides x x).1 refl
+
+-- what is sought is the first line
+found_here : (v : PlanVariable) (d : Datum) (es : Store) → d.kind ≡ v.initial.kind → holds d.kind d.number ≡ true
+    → value_in v (find (is_line_of v) (lines_with ((v.path, d) ∷ es))) ≡ d
+found_here v d es kinds held =
+    let holding : holds v.initial.kind d.number ≡ true = ap (λ k. holds k d.number) (sym kinds) ∙ held in
+    let spelled : bytes_eq (row_of v.initial.kind).keyword (row_of d.kind).keyword ≡ true =
+    ap (λ k. bytes_eq (row_of v.initial.kind).keyword (row_of k).keyword) kinds
+    ∙ same_text (row_of v.initial.kind).keyword in
+    let own : ◌≡◌ {A = Datum} record { kind = v.initial.kind; number = d.number } d =
+    ap (λ k. record { kind = k; number = d.number }) (sym kinds) in
+    rw (same_text (path_text v.path), spelled, holding) own
+
+-- a variable that is written apart from those of the first lines takes the value of its own line, where it is retained
+pub taken : (v : PlanVariable) (d : Datum) (before rest : Store) (lines : List KeptLine) (r : Bool) → v.retained ≡ r
+    → IsUnlike (path_text v.path) before → d.kind ≡ v.initial.kind → holds d.kind d.number ≡ true
+    → lines ≡ lines_with (before ++ (if r then (v.path, d) ∷ rest else rest))
+    → restarted lines v ≡ (if r then d else v.initial)
+taken v d before rest lines true is apart kinds held all =
+    rw is (ap (λ ls. value_in v (find (is_line_of v) ls)) all
+    ∙ ap (value_in v) (found_behind v before ((v.path, d) ∷ rest) apart) ∙ found_here v d rest kinds held)
+taken v d before rest lines false is apart kinds held all = rw is refl
+
+-- ---- what was kept is given back
+
+abbrev texts : List PlanVariable → List (List ℕ)
+texts vs = map (λ v. path_text v.path) vs
+
+-- whether a path is kept goes by the declaration of its own variable
+abbrev pub GoesByItself : (Path → Bool) → List PlanVariable → Type 0
+GoesByItself keep vs = AllByRecursion (λ v. keep v.path ≡ v.retained) vs
+
+abbrev is_kept_of : List PlanVariable → Path → Bool
+is_kept_of vs p = list_any (λ u. same_path p u.path && u.retained) vs
+
+unlike : (p q : Path) → bytes_eq (path_text p) (path_text q) ≡ false → same_path q p ≡ false
+unlike p q apart = elim (cases_Bool (same_path q p)) [
+  | inl same ↦
+      let one : q ≡ p = same_path_is q p same in
+      let t : bytes_eq (path_text p) (path_text q) ≡ true =
+      ap (λ x. bytes_eq (path_text p) (path_text x)) one ∙ same_text (path_text p) in
+      let f : true ≡ false = sym t ∙ apart in absurd (cc)
+  | inr f ↦ f
+]
+
+turned : (p q : Path) → same_path q p ≡ false → same_path p q ≡ false
+turned p q apart = elim (cases_Bool (same_path p q)) [
+  | inl same ↦
+      let one : p ≡ q = same_path_is p q same in
+      let t : same_path q p ≡ true = ap (same_path q) one ∙ same_path_itself q in absurd (cc)
+  | inr f ↦ f
+]
+
+kept_behind : (p q : Path) (r rest : Bool) → same_path p q ≡ false → ((same_path p q && r) || rest) ≡ rest
+kept_behind p q r rest apart = rw apart refl
+
+kept_here : (p : Path) (r rest : Bool) → rest ≡ false → ((same_path p p && r) || rest) ≡ r
+kept_here p true rest none = rw (same_path_itself p) refl
+kept_here p false rest none = rw (same_path_itself p, none) refl
+
+none_kept : (u : PlanVariable) (vs : List PlanVariable)
+    → AllByRecursion (λ x. bytes_eq (path_text u.path) x ≡ false) (texts vs) → is_kept_of vs u.path ≡ false
+none_kept u [] apart = refl
+none_kept u (v ∷ vs) apart =
+    kept_behind u.path v.path v.retained (is_kept_of vs u.path)
+    (turned u.path v.path (unlike u.path v.path apart.0)) ∙ none_kept u vs apart.1
+
+goes_more : (u : PlanVariable) (vs ws : List PlanVariable)
+    → AllByRecursion (λ x. bytes_eq (path_text u.path) x ≡ false) (texts ws) → GoesByItself (is_kept_of vs) ws
+    → GoesByItself (is_kept_of (u ∷ vs)) ws
+goes_more u vs [] apart goes = tt
+goes_more u vs (w ∷ ws) apart goes = (
+  kept_behind w.path u.path u.retained (is_kept_of vs w.path) (unlike u.path w.path apart.0) ∙ goes.0,
+  goes_more u vs ws apart.1 goes.1,
+)
+
+pub goes_by_itself : (vs : List PlanVariable) → IsDistinct bytes_eq (texts vs) → GoesByItself (is_kept_of vs) vs
+unfolding IsDistinct
+goes_by_itself [] once = tt
+goes_by_itself (v ∷ vs) once = (
+  kept_here v.path v.retained (is_kept_of vs v.path) (none_kept v vs once.0),
+  goes_more v vs vs once.0 (goes_by_itself vs once.1),
+)
+
+abbrev pub AreUnlike : List PlanVariable → Store → Type 0
+AreUnlike vs s = AllByRecursion (λ v. IsUnlike (path_text v.path) s) vs
+
+pub all_unlike : (vs : List PlanVariable) → AreUnlike vs []
+all_unlike [] = tt
+all_unlike (v ∷ vs) = (tt, all_unlike vs)
+
+unlike_more : (text : List ℕ) (s : Store) (e : Path × Datum) → IsUnlike text s → bytes_eq text (path_text e.0) ≡ false
+    → IsUnlike text (s ++ e ∷ [])
+unlike_more text [] e h apart = (apart, tt)
+unlike_more text (d ∷ s) e h apart = (h.0, unlike_more text s e h.1 apart)
+
+text_turned : (x y : List ℕ) → bytes_eq x y ≡ false → bytes_eq y x ≡ false
+text_turned x y apart = elim (cases_Bool (bytes_eq y x)) [
+  | inl same ↦
+      let one : y ≡ x = (bytes_eq-Decides y x).0 same in
+      let t : bytes_eq x y ≡ true = ap (bytes_eq x) one ∙ same_text x in absurd (cc)
+  | inr f ↦ f
+]
+
+-- one variable more stands before, written apart from those that come
+pub unlike_next : (v : PlanVariable) (d : Datum) (s : Store) (vs : List PlanVariable)
+    → AllByRecursion (λ x. bytes_eq (path_text v.path) x ≡ false) (texts vs) → AreUnlike vs s
+    → AreUnlike vs (s ++ (v.path, d) ∷ [])
+unlike_next v d s [] apart h = tt
+unlike_next v d s (w ∷ vs) apart h = (
+  unlike_more (path_text w.path) s (v.path, d) h.0 (text_turned (path_text v.path) (path_text w.path) apart.0),
+  unlike_next v d s vs apart.1 h.1,
+)
+
+-- the first variable, and then the rest
+got_first : (keep : Path → Bool) (p : Path) (v : PlanVariable) (d x : Datum) (rest kept_rest first_rest : Option Datum)
+    (r b : Bool) → keep v.path ≡ r → x ≡ (if r then d else v.initial) → same_path p v.path ≡ b
+    → rest ≡ (if keep p then kept_rest else first_rest)
+    → (if b then Some x else rest)
+    ≡ (if keep p then (if b then Some d else kept_rest) else (if b then Some v.initial else first_rest))
+got_first keep p v d x rest kept_rest first_rest true true goes is same more =
+    let k : keep p ≡ true = ap keep (same_path_is p v.path same) ∙ goes in rw (k, is) refl
+got_first keep p v d x rest kept_rest first_rest false true goes is same more =
+    let k : keep p ≡ false = ap keep (same_path_is p v.path same) ∙ goes in rw (k, is) refl
+got_first keep p v d x rest kept_rest first_rest r false goes is same more = more
+
+filter_first : (keep : Path → Bool) (v : PlanVariable) (d : Datum) (before s : Store) (lines : List KeptLine) (r : Bool)
+    → keep v.path ≡ r → lines ≡ lines_with (before ++ filter (λ e. keep e.0) ((v.path, d) ∷ s))
+    → lines ≡ lines_with (before ++ (if r then (v.path, d) ∷ filter (λ e. keep e.0) s else filter (λ e. keep e.0) s))
+filter_first keep v d before s lines r goes all = all ∙ rw goes refl
+
+-- the same lines, with the first variable among those before
+before_next : (keep : Path → Bool) (v : PlanVariable) (d : Datum) (before s : Store) (vs : List PlanVariable)
+    (lines : List KeptLine) (r : Bool) → AreUnlike vs before
+    → AllByRecursion (λ x. bytes_eq (path_text v.path) x ≡ false) (texts vs)
+    → lines ≡ lines_with (before ++ (if r then (v.path, d) ∷ filter (λ e. keep e.0) s else filter (λ e. keep e.0) s))
+    → (next : Store) × AreUnlike vs next × (lines ≡ lines_with (next ++ filter (λ e. keep e.0) s))
+before_next keep v d before s vs lines true h apart all = (
+  before ++ (v.path, d) ∷ [],
+  unlike_next v d before vs apart h,
+  all ∙ ap lines_with (sym (append_assoc before ((v.path, d) ∷ []) (filter (λ e. keep e.0) s))),
+)
+before_next keep v d before s vs lines false h apart all = (before, h, all)
+
+gives_back : (keep : Path → Bool) (p : Path) (lines : List KeptLine) (before : Store) (vs : List PlanVariable)
+    (s : Store) → GoesByItself keep vs → IsDistinct bytes_eq (texts vs) → AreUnlike vs before
+    → shape_of s ≡ shape_of (initials vs) → all_held s ≡ true
+    → lines ≡ lines_with (before ++ filter (λ e. keep e.0) s)
+    → get (restarts lines vs) p ≡ (if keep p then get s p else get (initials vs) p)
+unfolding IsDistinct
+gives_back keep p lines before [] [] goes once h same held all = nothing (keep p)
+  where
+    nothing : (b : Bool) → ◌≡◌ {A = Option Datum} None (if b then None else None)
+    nothing true = refl
+    nothing false = refl
+gives_back keep p lines before [] (e ∷ s) goes once h same held all = absurd (cc)
+gives_back keep p lines before (v ∷ vs) [] goes once h same held all = absurd (cc)
+gives_back keep p lines before (v ∷ vs) (e ∷ s) goes once h same held all =
+    let heads : ◌≡◌ {A = Path × Kind} (e.0, e.1.kind) (v.path, v.initial.kind) = cc in
+    let path : e.0 ≡ v.path = ap (λ x. x.0) heads in
+    let kind : e.1.kind ≡ v.initial.kind = ap (λ x. x.1) heads in
+    let others : shape_of s ≡ shape_of (initials vs) = cc in
+    let holding = and_parts (holds e.1.kind e.1.number) (all_held s) held in
+    let named : lines ≡ lines_with (before ++ filter (λ x. keep x.0) ((v.path, e.1) ∷ s)) =
+    all ∙ ap (λ q. lines_with (before ++ filter (λ x. keep x.0) ((q, e.1) ∷ s))) path in
+    let first = filter_first keep v e.1 before s lines v.retained goes.0 named in
+    let is = taken v e.1 before (filter (λ x. keep x.0) s) lines v.retained refl h.0 kind holding.0 first in
+    let next = before_next keep v e.1 before s vs lines v.retained h.1 once.0 first in
+    let more = gives_back keep p lines next.0 vs s goes.1 once.1 next.1 others holding.1 next.2 in
+    got_first keep p v e.1 (restarted lines v) (get (restarts lines vs) p) (get s p) (get (initials vs) p) v.retained
+    (same_path p v.path) goes.0 is refl more
+    ∙ ap (λ q. if keep p then (if same_path p q then Some e.1 else get s p)
+    else (if same_path p v.path then Some v.initial else get (initials vs) p)) (sym path)
+
+-- ---- logs
 
 run_same : (plan : Plan) (o : Option ProgramInstance) (s : Store) (row : Latch) → Same s (after_run plan o s row)
 run_same plan None s row = same_refl s
@@ -255,19 +286,21 @@ log_same plan past (e ∷ log) = same_then (entry_same plan past e) (log_same pl
 pub after_same : (plan : Plan) (start : Store) (log : Log) → Same start (after plan start log)
 after_same plan start log = log_same plan (beginning start) log
 
-pub given_back : (plan : Plan) (s : Store) (moment : Option ℕ) (p : Path) → IsStore [] (initial_store plan)
+-- ---- restarts
+
+pub given_back : (plan : Plan) (s : Store) (moment : Option ℕ) (p : Path)
+    → IsDistinct bytes_eq (map (λ v. path_text v.path) plan.variables)
     → shape_of s ≡ shape_of (initial_store plan) → all_held s ≡ true
-    → get (warm_start plan (Some record { values = kept plan s; moment = moment })).store p
+    → get (warm_start plan (Some (kept_of plan s moment))).store p
     ≡ (if is_retained plan p then get s p else get (initial_store plan) p)
-given_back plan s moment p h same held = kept_over (is_retained plan) s (initial_store plan) p h.once same held
+given_back plan s moment p once same held =
+    gives_back (is_retained plan) p (kept_of plan s moment).lines [] plan.variables s
+    (goes_by_itself plan.variables once) once (all_unlike plan.variables) same held refl
 
 pub given_back_after : (plan : Plan) (r : Option Kept) (log : Log) (moment : Option ℕ) (p : Path)
-    → IsStore [] (initial_store plan)
-    → get (warm_start plan (Some record {
-      values = kept plan (after plan (warm_start plan r).store log);
-      moment = moment;
-    })).store p
+    → IsDistinct bytes_eq (map (λ v. path_text v.path) plan.variables) → all_held (initial_store plan) ≡ true
+    → get (warm_start plan (Some (kept_of plan (after plan (warm_start plan r).store log) moment))).store p
     ≡ (if is_retained plan p then get (after plan (warm_start plan r).store log) p else get (initial_store plan) p)
-given_back_after plan r log moment p h =
+given_back_after plan r log moment p once held =
     let all = same_then (start_same plan r) (after_same plan (warm_start plan r).store log) in
-    given_back plan (after plan (warm_start plan r).store log) moment p h all.shape (all.held h.held)
+    given_back plan (after plan (warm_start plan r).store log) moment p once all.shape (all.held held)

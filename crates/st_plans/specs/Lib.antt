@@ -5,3 +5,4 @@ pub mod Due
 pub mod Logs
 pub mod Restarts
 pub mod Examples
+pub mod RestartExamples

@@ -1,5 +1,5 @@
 -- The plan of a text as data: what the runtime needs of it.
-use Rattle.std.specs.Prelude.{ℕ, ◌^◌, pos, nat_lt, Bool, true, false, ◌&&◌, List, [], ◌∷◌, map, slice_index_or}
+use Rattle.std.specs.Prelude.{ℕ, pos, nat_lt, Bool, true, false, ◌&&◌, List, [], ◌∷◌, map, slice_index_or}
 use Rattle.std.specs.Prelude.{slice_get, Option, Some, None}
 use Rattle.std.specs.List.{list_any}
 use Rattle.st_words.specs.declared.limits.TheConstants.{MOMENT_LIMIT}

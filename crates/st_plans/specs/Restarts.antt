@@ -1,16 +1,28 @@
 -- What is kept over a power failure, and what a life starts with.
-use Rattle.std.specs.Prelude.{ℕ, [], ◌∷◌, Option, Some, None, Result, Ok, Err, filter}
-use Rattle.st_types.specs.Failures.{Failure}
-use Rattle.st_types.specs.Stores.{Store, assigned}
+use Rattle.std.specs.Prelude.{ℕ, ℤ, Bool, ◌&&◌, if◌then◌else◌, List, map, filter, Option, Some, None, bytes_eq}
+use Rattle.std.specs.List.{find}
+use Rattle.st_words.specs.Kinds.{row_of, holds}
+use Rattle.st_words.specs.Values.{Datum}
+use Rattle.st_words.specs.Paths.{Path}
+use Rattle.st_types.specs.Stores.{Store}
+use Rattle.st_plans.specs.declared.plan.PlanVariable.{PlanVariable}
+use Rattle.st_plans.specs.Layouts.{path_text}
 use Rattle.st_plans.specs.Plans.{Plan, initial_store, is_retained}
 
 -- the retained variables with their values, in the order of the layout
 abbrev pub kept : Plan → Store → Store
 kept plan s = filter (λ e. is_retained plan e.0) s
 
--- what a record tells: the retained variables with their values, and the moment of the last row, if there was one
+-- A line of a record with its value: the path of a variable and its type as they are written, and the value as a whole
+-- number (FALSE is 0, TRUE is 1). It tells all this by itself, whatever plan reads it.
+pub record KeptLine : Type 0 where
+  pub path : List ℕ
+  pub spelling : List ℕ
+  pub number : ℤ
+
+-- what a record tells: its lines with their values, and the moment of the last row, if there was one
 pub record Kept : Type 0 where
-  pub values : Store
+  pub lines : List KeptLine
   pub moment : Option ℕ
 
 -- what a life starts with: the variables, and the moment that its rows have to be later than
@@ -18,21 +30,36 @@ pub record Start : Type 0 where
   pub store : Store
   pub moment : Option ℕ
 
--- the store after an assignment, and as it was where that is refused
-abbrev pub unless_refused : Store → Result Store Failure → Store
-unless_refused s (Ok t) = t
-unless_refused s (Err e) = s
+-- the lines of variables with these values
+abbrev pub line_with : Path × Datum → KeptLine
+line_with e = record { path = path_text e.0; spelling = (row_of e.1.kind).keyword; number = e.1.number }
 
--- The variables with these values written over them. One for which there is no variable of its type is left out: a
--- record of the plan's own layout has none.
-abbrev pub written_over : Store → Store → Store
-written_over s [] = s
-written_over s (e ∷ es) = written_over (unless_refused s (assigned s e.0 e.1)) es
+abbrev pub lines_with : Store → List KeptLine
+lines_with s = map line_with s
+
+-- what a record of these variables tells
+abbrev pub kept_of : Plan → Store → Option ℕ → Kept
+kept_of plan s moment = record { lines = lines_with (kept plan s); moment = moment }
+
+-- the line has the variable's path and its type, and a value of this type
+abbrev pub is_line_of : PlanVariable → KeptLine → Bool
+is_line_of v l = bytes_eq (path_text v.path) l.path && bytes_eq (row_of v.initial.kind).keyword l.spelling
+    && holds v.initial.kind l.number
+
+-- the value in a variable's line, and its initial value where it has none
+abbrev pub value_in : PlanVariable → Option KeptLine → Datum
+value_in v None = v.initial
+value_in v (Some l) = record { kind = v.initial.kind; number = l.number }
+
+-- A retained variable starts with the value in the line of its path and type, if there is one, and every other with its
+-- initial value. The order of the lines means nothing, and neither does a line for which there is no variable.
+abbrev pub restarted : List KeptLine → PlanVariable → Datum
+restarted lines v = if v.retained then value_in v (find (is_line_of v) lines) else v.initial
 
 abbrev pub cold_start : Plan → Start
 cold_start plan = record { store = initial_store plan; moment = None }
 
--- the record's values stand over the initial ones, where there is a record
 abbrev pub warm_start : Plan → Option Kept → Start
 warm_start plan None = cold_start plan
-warm_start plan (Some r) = record { store = written_over (initial_store plan) r.values; moment = r.moment }
+warm_start plan (Some r) =
+    record { store = map (λ v. (v.path, restarted r.lines v)) plan.variables; moment = r.moment }

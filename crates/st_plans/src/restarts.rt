@@ -1,11 +1,13 @@
 //! Laws of what outlasts a log and a restart.
 
-ghost use Rattle.std.specs.Prelude.{◌≡◌, ℕ, [], true, Option, Some, if◌then◌else◌};
+ghost use Rattle.std.specs.Prelude.{◌≡◌, ℕ, [], true, Option, Some, bytes_eq, if◌then◌else◌, map};
+ghost use Rattle.std.specs.List.{IsDistinct};
 ghost use Rattle.st_words.specs.Paths.{Path};
-ghost use Rattle.st_types.specs.Stores.{Store, get, shape_of, all_held, IsStore};
+ghost use Rattle.st_types.specs.Stores.{Store, get, shape_of, all_held};
+ghost use Rattle.st_plans.specs.Layouts.{path_text};
 ghost use Rattle.st_plans.specs.Plans.{Plan, initial_store, is_retained};
 ghost use Rattle.st_plans.specs.Logs.{Log, after};
-ghost use Rattle.st_plans.specs.Restarts.{Kept, kept, warm_start};
+ghost use Rattle.st_plans.specs.Restarts.{Kept, kept_of, warm_start};
 
 /// A log neither adds nor takes away a variable, each keeps its type, and its value is one that this type holds.
 pub fn logs_keep_the_variables()
@@ -24,18 +26,18 @@ pub fn starts_have_the_variables()
 {}
 
 /// A warm start gives each retained variable the value that was kept of it, and each other its initial value, whatever
-/// their types: of any values that the plan's variables hold, and so after any log of any life.
+/// their types: of any values that the plan's variables hold, and so after any log of any life. No two paths of the
+/// plan are written alike.
 pub fn restarts_give_back_what_was_kept()
-    ensures values { (plan : Plan) (s : Store) (moment : Option ℕ) (p : Path) → IsStore [] (initial_store plan)
+    ensures values { (plan : Plan) (s : Store) (moment : Option ℕ) (p : Path)
+        → IsDistinct bytes_eq (map (λ v. path_text v.path) plan.variables)
         → shape_of s ≡ shape_of (initial_store plan) → all_held s ≡ true
-        → get (warm_start plan (Some record { values = kept plan s; moment = moment })).store p
+        → get (warm_start plan (Some (kept_of plan s moment))).store p
         ≡ (if is_retained plan p then get s p else get (initial_store plan) p) }
     ensures lives { (plan : Plan) (r : Option Kept) (log : Log) (moment : Option ℕ) (p : Path)
-        → IsStore [] (initial_store plan)
-        → get (warm_start plan (Some record {
-          values = kept plan (after plan (warm_start plan r).store log);
-          moment = moment;
-        })).store p
+        → IsDistinct bytes_eq (map (λ v. path_text v.path) plan.variables)
+        → all_held (initial_store plan) ≡ true
+        → get (warm_start plan (Some (kept_of plan (after plan (warm_start plan r).store log) moment))).store p
         ≡ (if is_retained plan p
         then get (after plan (warm_start plan r).store log) p
         else get (initial_store plan) p) }

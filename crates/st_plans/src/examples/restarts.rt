@@ -1,12 +1,10 @@
 //! Worked examples of what is retained and what a life starts with, each proved by computation.
 
-ghost use Rattle.std.specs.Prelude.{◌≡◌, ℕ, ℤ, ◌∷◌, [], List, Some, None, pos, true, false, codes};
+ghost use Rattle.std.specs.Prelude.{◌≡◌, ◌∷◌, [], Some, None, pos, true, false, codes};
 ghost use Rattle.st_trees.specs.declared.declaration.Retention.TheVariants.{Retain, NonRetain};
-ghost use Rattle.st_types.specs.Stores.{Store};
-ghost use Rattle.st_types.specs.Scopes.{unowned};
-ghost use Rattle.st_plans.specs.Plans.{Plan, is_retained_by};
-ghost use Rattle.st_plans.specs.Restarts.{kept, cold_start, warm_start};
-ghost use Rattle.st_types.specs.Examples.{int, K, P};
+ghost use Rattle.st_plans.specs.Plans.{is_retained_by};
+ghost use Rattle.st_plans.specs.Restarts.{kept, kept_of, cold_start, warm_start};
+ghost use Rattle.st_plans.specs.RestartExamples.{two_of_three, values, retained, line, int_line, started_with};
 
 /// The innermost declaration that says RETAIN or NON_RETAIN decides; without any a variable is not retained.
 pub fn retention()
@@ -23,27 +21,38 @@ pub fn retention()
 /// warm start gives them the record's values, and its moment; k, and all without a record or in a cold start, take
 /// their initial values.
 pub fn restarts()
-    ensures { let plan : Plan = record {
-      variables = record { path = unowned (codes "N"); initial = int (pos 0); retained = true }
-          ∷ record { path = unowned P; initial = int (pos 2); retained = true }
-          ∷ record { path = unowned K; initial = int (pos 7); retained = false }
-          ∷ [];
-      inputs = [];
-      resources = 0;
-      tasks = [];
-      programs = [];
-      budget = 1;
-    } in
-        let values : ℤ → ℤ → ℤ → Store =
-        λ n p k. (unowned (codes "N"), int n) ∷ (unowned P, int p) ∷ (unowned K, int k) ∷ [] in
-        let retained : ℤ → ℤ → Store = λ n p. (unowned (codes "N"), int n) ∷ (unowned P, int p) ∷ [] in
-        (kept plan (values (pos 3) (pos 4) (pos 10)) ≡ retained (pos 3) (pos 4))
-        × (warm_start plan (Some (record { values = retained (pos 3) (pos 4); moment = Some 20 }))
+    ensures { (kept two_of_three (values (pos 3) (pos 4) (pos 10)) ≡ retained (pos 3) (pos 4))
+        × (kept_of two_of_three (values (pos 3) (pos 4) (pos 10)) (Some 20)
+        ≡ record {
+          lines = int_line (codes "N") (pos 3) ∷ int_line (codes "P") (pos 4) ∷ [];
+          moment = Some 20;
+        })
+        × (warm_start two_of_three (Some (kept_of two_of_three (values (pos 3) (pos 4) (pos 10)) (Some 20)))
         ≡ record { store = values (pos 3) (pos 4) (pos 7); moment = Some 20 })
-        × (warm_start plan (Some (record { values = retained (pos 5) (pos 0); moment = Some 0 }))
+        × (warm_start two_of_three (Some (kept_of two_of_three (values (pos 5) (pos 0) (pos 1)) (Some 0)))
         ≡ record { store = values (pos 5) (pos 0) (pos 7); moment = Some 0 })
-        × (warm_start plan (Some (record { values = retained (pos 6) (pos 2); moment = None }))
+        × (warm_start two_of_three (Some (kept_of two_of_three (values (pos 6) (pos 2) (pos 1)) None))
         ≡ record { store = values (pos 6) (pos 2) (pos 7); moment = None })
-        × (warm_start plan None ≡ record { store = values (pos 0) (pos 2) (pos 7); moment = None })
-        × (cold_start plan ≡ record { store = values (pos 0) (pos 2) (pos 7); moment = None }) }
+        × (warm_start two_of_three None ≡ record { store = values (pos 0) (pos 2) (pos 7); moment = None })
+        × (cold_start two_of_three ≡ record { store = values (pos 0) (pos 2) (pos 7); moment = None }) }
+{}
+
+/// A variable finds its line by path and type: wherever the line stands, and whatever other lines the record has. A
+/// line of another type is not its line, nor is one of a variable that isn't retained, nor one with a value that the
+/// type doesn't hold.
+pub fn lines_found_by_path_and_type()
+    ensures order { started_with (int_line (codes "P") (pos 4) ∷ int_line (codes "N") (pos 3) ∷ [])
+        ≡ values (pos 3) (pos 4) (pos 7) }
+    ensures one_missing { started_with (int_line (codes "P") (pos 4) ∷ []) ≡ values (pos 0) (pos 4) (pos 7) }
+    ensures none { started_with [] ≡ values (pos 0) (pos 2) (pos 7) }
+    ensures other_type { started_with (line (codes "N") (codes "DINT") (pos 3) ∷ int_line (codes "P") (pos 4) ∷ [])
+        ≡ values (pos 0) (pos 4) (pos 7) }
+    ensures unknown_type { started_with
+        (line (codes "N") (codes "(STOPPED,RUNNING)") (pos 1) ∷ int_line (codes "P") (pos 4) ∷ [])
+        ≡ values (pos 0) (pos 4) (pos 7) }
+    ensures other_path { started_with
+        (int_line (codes "Q") (pos 9) ∷ int_line (codes "N") (pos 3) ∷ int_line (codes "R/I.P") (pos 5) ∷ [])
+        ≡ values (pos 3) (pos 2) (pos 7) }
+    ensures not_retained { started_with (int_line (codes "K") (pos 3) ∷ []) ≡ values (pos 0) (pos 2) (pos 7) }
+    ensures out_of_range { started_with (int_line (codes "N") (pos 40000) ∷ []) ≡ values (pos 0) (pos 2) (pos 7) }
 {}

@@ -7,7 +7,7 @@ use Rattle.commit_lock.proofs.starting.cold.Goals as goal
 pub invariant_of-core : goal.invariant_of-core
 invariant_of-core g c =
     let state = c.args.parts.serial in
-    let now = survives_now state 0 (c.args.store.generation + 1) (omega arith) c.in-Ok.ensures.named in
+    let now = survives_now state 0 (c.args.store.generation + 1) (omega arith) in
     let last = c.in-Ok.ensures.saved in
     record {
       last = subst (λ (r : Recovered). Survives state.plan state.start state.before state.log 0 r) (sym last.1) now;

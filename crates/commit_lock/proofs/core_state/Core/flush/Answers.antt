@@ -14,7 +14,7 @@ returns-in-Ok-clause-outlives g c = λ tells.
     let k = c.self.invariant in
     let sound : inside.failed ≡ None = search rules in
     let working : inside.store.failed ≡ false = sym k.met ∙ ap is_failed sound in
-    let new = survives_now state inside.acked (inside.store.generation + 1) k.few c.save_record-saved.ensures.named in
+    let new = survives_now state inside.acked (inside.store.generation + 1) k.few in
     record {
       during = subst (λ (v : CoreView _). LeavesOnly g.D.Disk.left_since g.D.Disk.may_leave v.store.disk
           c.save_record-saved.new.store.disk (λ file. survives v (recovered file))) c.self.view_is
@@ -31,7 +31,7 @@ returns-in-Err-clause-outlives g c = λ tells.
     let k = c.self.invariant in
     let sound : inside.failed ≡ None = search rules in
     let working : inside.store.failed ≡ false = sym k.met ∙ ap is_failed sound in
-    let new = survives_now state inside.acked (inside.store.generation + 1) k.few c.save_record-saved.ensures.named in
+    let new = survives_now state inside.acked (inside.store.generation + 1) k.few in
     record {
       during = subst (λ (v : CoreView _). LeavesOnly g.D.Disk.left_since g.D.Disk.may_leave v.store.disk
           c.save_record-saved.new.store.disk (λ file. survives v (recovered file))) c.self.view_is

@@ -1,11 +1,11 @@
-use Rattle.std.proofs.Common.{◌≡◌, ◌∙◌, [], Some, sym, ap, subst, arith}
+use Rattle.std.proofs.Common.{◌≡◌, ◌∙◌, [], map, Some, sym, ap, subst, arith}
 use Rattle.st_plans.specs.Restarts.{kept, warm_start}
 use Rattle.config.specs.declared.plan.Plan.{Plan}
 use Rattle.config.specs.PlanViews.{plan_view}
 use Rattle.serial_core.specs.Steps.{State, store_in}
-use Rattle.serial_core.specs.Retained.{restored, retained_kinds, retained_paths, paired, told_by}
+use Rattle.serial_core.specs.Retained.{restored, retained_kinds, told_by}
 use Rattle.serial_core.proofs.StartLemmas.{kept_again}
-use Rattle.serial_core.proofs.ResumeLemmas.{restarted, kept_of, typed_of, seen_again}
+use Rattle.serial_core.proofs.ResumeLemmas.{restarted, kept_values, typed_of, seen_again}
 use Rattle.serial_core.proofs.serial.SerialCore.resume.Goals as goal
 
 pub invariant_of-self : goal.invariant_of-self
@@ -57,6 +57,6 @@ returns-clause-kept c =
     let kinds = c.requires.kinds ∙ ap (λ (st : State). retained_kinds st.plan.variables.items) (sym c.self.view_is) in
     let start = c.restore.ensures ∙ ap (λ vs. restored vs c.args.values.now)
     (c.deref.ensures.value ∙ ap (λ (p : Plan). p.variables.items) c.deref-plan.ensures) in
-    subst (λ (st : State). kept (plan_view st.plan) (store_in c.self.inside.plan.value c.restore.new.values.items)
-    ≡ paired (retained_paths st.plan.variables.items) c.args.values.now) c.self.view_is
-    (kept_of c.self.inside.plan.value c.args.values.now c.restore.new.values.items kinds start)
+    subst (λ (st : State). map (λ e. e.1) (kept (plan_view st.plan)
+    (store_in c.self.inside.plan.value c.restore.new.values.items)) ≡ c.args.values.now) c.self.view_is
+    (kept_values c.self.inside.plan.value c.args.values.now c.restore.new.values.items kinds start)

@@ -1,11 +1,10 @@
 use Rattle.std.proofs.Common.{◌≡◌, ◌∙◌, map, ap, subst}
-use Rattle.st_plans.specs.Plans.{initial_store}
-use Rattle.st_plans.specs.Restarts.{kept, written_over}
+use Rattle.st_plans.specs.Restarts.{kept}
 use Rattle.config.specs.declared.plan.Plan.{Plan}
 use Rattle.config.specs.PlanViews.{plan_view}
 use Rattle.serial_core.specs.Steps.{State, made}
-use Rattle.serial_core.specs.Retained.{retained_values, retained_kinds, retained_paths, paired}
-use Rattle.serial_core.proofs.ResumeLemmas.{retained, initial_again}
+use Rattle.serial_core.specs.Retained.{retained_values, retained_kinds}
+use Rattle.serial_core.proofs.ResumeLemmas.{retained}
 use Rattle.serial_core.proofs.serial.SerialCore.retain.Goals as goal
 
 pub returns-clause-values : goal.returns-clause-values
@@ -19,17 +18,6 @@ returns-clause-values c =
     subst (λ (st : State). c.retain.new.kept.items ≡ map (λ e. e.1) (kept (plan_view st.plan) (made st).store))
     c.self.view_is r.values
 
-pub returns-clause-named : goal.returns-clause-named
-returns-clause-named c =
-    let k = c.self.invariant.0 in
-    let from = c.retain.ensures.values ∙ ap (retained_values c.deref-3.result.now) c.deref.ensures.value
-    ∙ ap (λ vs. retained_values vs c.self.inside.values.items)
-    (c.deref-3.ensures.value ∙ ap (λ (p : Plan). p.variables.items) c.deref-2.ensures) in
-    let r = retained c.self.inside.plan.value c.self.inside.values.items c.retain.new.kept.items _ k.sized k.typed
-    k.of_past.variables from in
-    subst (λ (st : State). paired (retained_paths st.plan.variables.items) c.retain.new.kept.items
-    ≡ kept (plan_view st.plan) (made st).store) c.self.view_is r.named
-
 pub returns-clause-kinds : goal.returns-clause-kinds
 returns-clause-kinds c =
     let k = c.self.invariant.0 in
@@ -40,15 +28,3 @@ returns-clause-kinds c =
     k.of_past.variables from in
     subst (λ (st : State). map (λ d. d.kind) c.retain.new.kept.items ≡ retained_kinds st.plan.variables.items)
     c.self.view_is r.kinds
-
-pub returns-clause-initial : goal.returns-clause-initial
-returns-clause-initial c =
-    let k = c.self.invariant.0 in
-    let from = c.retain.ensures.values ∙ ap (retained_values c.deref-3.result.now) c.deref.ensures.value
-    ∙ ap (λ vs. retained_values vs c.self.inside.values.items)
-    (c.deref-3.ensures.value ∙ ap (λ (p : Plan). p.variables.items) c.deref-2.ensures) in
-    subst (λ (st : State). (made st).store ≡ initial_store (plan_view st.plan) → written_over
-    (initial_store (plan_view st.plan)) (kept (plan_view st.plan) (initial_store (plan_view st.plan)))
-    ≡ initial_store (plan_view st.plan)) c.self.view_is
-    (initial_again c.self.inside.plan.value c.self.inside.values.items c.retain.new.kept.items _ k.sized k.typed
-    k.of_past.variables from c.retain.ensures.held)

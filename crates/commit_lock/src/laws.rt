@@ -1,0 +1,37 @@
+//! Laws of what a restart makes of what survives. The functions do nothing: their contracts are the laws.
+
+ghost use Rattle.std.specs.Prelude.{◌≡◌, ℕ, List, Option, true, if◌then◌else◌};
+ghost use Rattle.st_words.specs.Paths.{Path};
+ghost use Rattle.st_types.specs.Stores.{Store, get, shape_of, all_held};
+ghost use Rattle.st_plans.specs.declared.entry.Entry.{Entry};
+ghost use Rattle.st_plans.specs.Plans.{initial_store, is_retained};
+ghost use Rattle.st_plans.specs.Logs.{past_of, after, last_moment};
+ghost use Rattle.st_plans.specs.Restarts.{kept_of};
+ghost use Rattle.retain_store.specs.Recovered.{Recovered};
+ghost use Rattle.config.specs.declared.plan.Plan.{Plan};
+ghost use Rattle.config.specs.PlanViews.{plan_view};
+ghost use Rattle.commit_lock.specs.Told.{told};
+ghost use Rattle.commit_lock.specs.Restart.{record_of, warm, Survives};
+
+/// A record tells by its bytes alone what was kept: the paths of the retained variables, their types and their values,
+/// and the moment.
+pub fn records_tell_what_was_kept()
+    ensures { (plan : Plan) (s : Store) (moment : Option ℕ) → shape_of s ≡ shape_of (initial_store (plan_view plan))
+        → told (record_of plan s moment) ≡ kept_of (plan_view plan) s moment }
+{}
+
+/// Where a file survives, a warm restart from it gives each retained variable the value that it had after a prefix of
+/// the log, and each other its initial value; rows have to be later than the last row of this prefix. The prefix holds
+/// all that is acknowledged.
+pub fn what_survives_is_given_back()
+    ensures values { (plan : Plan) (start : Store) (before : Option ℕ) (log : List Entry) (acked : ℕ)
+        (file : Recovered) (p : Path) → shape_of start ≡ shape_of (initial_store (plan_view plan))
+        → all_held start ≡ true → (s : Survives plan start before log acked file)
+        → get (warm plan file).store p
+        ≡ (if is_retained (plan_view plan) p
+        then get (after (plan_view plan) start s.front) p
+        else get (initial_store (plan_view plan)) p) }
+    ensures moment { (plan : Plan) (start : Store) (before : Option ℕ) (log : List Entry) (acked : ℕ)
+        (file : Recovered) (s : Survives plan start before log acked file)
+        → (warm plan file).moment ≡ last_moment before (past_of (plan_view plan) start s.front).rows }
+{}
