@@ -16,7 +16,8 @@ use Rattle.commit_lock.specs.declared.refusal.Refusal.TheVariants.{StoreFailed, 
 use Rattle.commit_lock.specs.Cores.{CoreView, Guards}
 use Rattle.commit_lock.specs.Starting.{IsNew}
 use Rattle.commit_lock.specs.Starting.{started}
-use Rattle.commit_lock.specs.Restart.{begun, warm, told}
+use Rattle.commit_lock.specs.Restart.{begun, warm}
+use Rattle.commit_lock.specs.Told.{told}
 use Rattle.commit_lock.specs.declared.starting.StartMode.TheVariants as modes
 use Rattle.retain_store.specs.Recovered.{Recovered, TooLong, Refused, Nothing, Found}
 use Rattle.st_plans.specs.Restarts.{warm_start}
@@ -92,7 +93,7 @@ begins_warm plan room asked TooLong is = record { told = None; cold = λ c. absu
 begins_warm plan room asked Refused is = record { told = None; cold = λ c. absurd (cc); store = refl; moment = refl }
 begins_warm plan room asked Nothing is = record { told = None; cold = λ c. absurd (cc); store = refl; moment = refl }
 begins_warm plan room asked (Found g content) is =
-    record { told = Some (told plan content); cold = λ c. absurd (cc); store = refl; moment = refl }
+    record { told = Some (told content); cold = λ c. absurd (cc); store = refl; moment = refl }
 
 pub begins : (plan : Plan) (room : ℕ) (asked : Start) (last : Recovered) (life : State)
     → (mode_of asked ≡ modes.Warm → life ≡ started plan room (warm plan last))
