@@ -52,7 +52,7 @@ fn run<F: Files>(alloc: Global, files: &mut F, job: &RunJob<'_>) -> Result<End, 
 }
 
 /// Why a trace can't be read: V5 out of memory, else V6.
-fn unread(error: &io::Error) -> Fault {
+fn unread_trace(error: &io::Error) -> Fault {
     if error.kind() == io::ErrorKind::OutOfMemory {
         return Fault::TraceMemory;
     }
@@ -65,11 +65,11 @@ fn replay<F: Files>(alloc: Global, files: &mut F, job: &ReplayJob<'_>) -> Result
 {
     let mut reader = match files.read(job.trace) {
         Ok(reader) => reader,
-        Err(error) => return Err(unread(&error)),
+        Err(error) => return Err(unread_trace(&error)),
     };
     let mut trace = Vec::new(alloc);
     if let Err(error) = reader.read_to_end(&mut trace) {
-        return Err(unread(&error));
+        return Err(unread_trace(&error));
     }
     plan_of(alloc, files, job.source, DEFAULT_BUDGET)?;
     Ok(End::Declined(Declined::NotYet))

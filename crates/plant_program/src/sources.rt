@@ -13,7 +13,7 @@ use std::io;
 use std::io::Read;
 
 /// Why a source can't be read: G9 out of memory, else X1.
-fn unread(error: &io::Error) -> Fault
+fn unread_source(error: &io::Error) -> Fault
     ensures { IsUnread result }
 {
     if error.kind() == io::ErrorKind::OutOfMemory {
@@ -28,7 +28,7 @@ fn read_source<F: Files>(alloc: Global, files: &mut F, name: &str) -> Result<Vec
 {
     let reader = match files.read(name) {
         Ok(reader) => reader,
-        Err(error) => return Err(unread(&error)),
+        Err(error) => return Err(unread_source(&error)),
     };
     let mut text = Vec::new(alloc);
     match reader
@@ -36,7 +36,7 @@ fn read_source<F: Files>(alloc: Global, files: &mut F, name: &str) -> Result<Vec
         .read_to_end(&mut text)
     {
         Ok(_) => Ok(text),
-        Err(error) => Err(unread(&error)),
+        Err(error) => Err(unread_source(&error)),
     }
 }
 
