@@ -42,8 +42,7 @@ fn target(alloc: Global) -> Option<Variable> {
 
 /// The depth of an assignment of the text's expression, which may be deeper than a text's.
 fn assignment_depth(alloc: Global, tokens: &[Token]) -> Option<usize> {
-    let target = target(alloc)?;
-    let value = expression(alloc, tokens)?;
+    let (target, value) = target(alloc).zip(expression(alloc, tokens))?;
     Some(Stmt::assign(target, value).depth())
 }
 
