@@ -95,10 +95,17 @@ pub fn read_plant<R: Read + Drop>(
         .into_byte_records();
     let header = match records.next() {
         Some(Ok(header)) => header,
-        Some(Err(e)) => return Err(refusal(e)),
-        None => return Err(PlantError::Header),
+        Some(Err(e)) => {
+            drop(records);
+            return Err(refusal(e));
+        }
+        None => {
+            drop(records);
+            return Err(PlantError::Header);
+        }
     };
     if !is_header(plan.inputs(), &header) {
+        drop(records);
         return Err(PlantError::Header);
     }
     let mut rows = Vec::new(alloc);

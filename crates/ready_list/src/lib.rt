@@ -7,7 +7,5 @@ mod list;
 mod order;
 mod schedules;
 mod standing;
-#[cfg(test)]
-mod tests;
 
 pub use list::ReadyList;

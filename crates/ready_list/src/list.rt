@@ -82,33 +82,34 @@ fn is_listed(standings: &[Standing], a: Activation) -> bool
     a.program < standings.len() && standings[a.program].waiting == Some(a.row)
 }
 
-/// The list before the first row, of programs at these schedules and this many tasks.
-pub fn list_of(
-    alloc: Global,
-    schedules: Vec<Schedule>,
-    tasks: usize,
-) -> Result<ReadyList, AllocError>
-    ensures schedules { IfOk result (λ r. r.schedules ≡ schedules.items) }
-    ensures number { IfOk result (λ r. length r.samples ≡ tasks) }
-    ensures rows { IfOk result (λ r. r.rows ≡ 0) }
-    ensures new { IfOk result (λ r. IsReadyOf no_history r) }
-{
-    let samples = vec![in alloc; false; tasks]?;
-    let standings = vec![in alloc; Standing {
-        waiting: None,
-        overruns: 0
-    }; schedules.len()]?;
-    Ok(ReadyList {
-        schedules,
-        samples,
-        standings,
-        first: 0,
-        last: 0,
-        rows: 0,
-    })
-}
-
 impl ReadyList {
+    /// The list before the first row, of programs at these schedules and this many tasks: nothing waits. It fails only
+    /// where memory is short.
+    pub fn of_schedules(
+        alloc: Global,
+        schedules: Vec<Schedule>,
+        tasks: usize,
+    ) -> Result<ReadyList, AllocError>
+        ensures schedules { IfOk result (λ r. r.schedules ≡ schedules.items) }
+        ensures number { IfOk result (λ r. length r.samples ≡ tasks) }
+        ensures rows { IfOk result (λ r. r.rows ≡ 0) }
+        ensures new { IfOk result (λ r. IsReadyOf no_history r) }
+    {
+        let samples = vec![in alloc; false; tasks]?;
+        let standings = vec![in alloc; Standing {
+            waiting: None,
+            overruns: 0
+        }; schedules.len()]?;
+        Ok(ReadyList {
+            schedules,
+            samples,
+            standings,
+            first: 0,
+            last: 0,
+            rows: 0,
+        })
+    }
+
     /// The list of a plan before its first row: nothing waits. It fails only where memory is short.
     pub fn new(alloc: Global, plan: &Plan) -> Result<ReadyList, AllocError>
         ensures schedules { IfOk result (λ r. r.schedules ≡ schedules_in (plan_view plan.now)) }
@@ -117,7 +118,7 @@ impl ReadyList {
         ensures new { IfOk result (λ r. IsReadyOf no_history r) }
     {
         let schedules = schedules_of(alloc, &plan.tasks, &plan.programs)?;
-        list_of(alloc, schedules, plan.tasks.len())
+        ReadyList::of_schedules(alloc, schedules, plan.tasks.len())
     }
 
     /// Takes a row: its moment in milliseconds, later than that of the row before and less than 2^62, and a sample of

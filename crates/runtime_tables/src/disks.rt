@@ -50,12 +50,16 @@ pub struct Mishap<'a> {
 
 /// A disk with a copy of this file that meets the mishap.
 pub fn disk_with(alloc: Global, file: &[u8], mishap: Mishap<'_>) -> Result<SimDisk, AllocError> {
+    let stop = match mishap.stops {
+        Some(cut) => Some(cut.stop(alloc)?),
+        None => None,
+    };
     let mut disk = SimDisk::new(alloc, file.to_vec(alloc)?)?;
     if let Some(step) = mishap.fails {
         disk.fail_at(step);
     }
-    if let Some(cut) = mishap.stops {
-        disk.stop_at(cut.stop(alloc)?);
+    if let Some(stop) = stop {
+        disk.stop_at(stop);
     }
     Ok(disk)
 }

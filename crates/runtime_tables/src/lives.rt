@@ -145,14 +145,27 @@ fn course_of(
     })
 }
 
+/// What a life leaves of its disk.
+#[derive(Drop)]
+struct Remains {
+    failures: u64,
+    file: Vec<u8>,
+}
+
+fn remains_of(disk: SimDisk) -> Remains {
+    Remains {
+        failures: disk.failures(),
+        file: disk.left(),
+    }
+}
+
 /// The end of a life, which tells how often the device failed.
-fn ended(text: &mut String, told: Told, disk: SimDisk) -> Result<Lived, AllocError> {
-    let failures = disk.failures();
-    write_number(text, "; failures ", i128::from(failures))?;
+fn ended(text: &mut String, told: Told, remains: Remains) -> Result<Lived, AllocError> {
+    write_number(text, "; failures ", i128::from(remains.failures))?;
     Ok(Lived {
         told,
-        failures,
-        left: disk.left(),
+        failures: remains.failures,
+        left: remains.file,
     })
 }
 
@@ -170,12 +183,13 @@ pub fn live(
         Ok(core) => {
             let mut core = core;
             let course = course_of(text, &mut core, alloc, setting.globals, programs, life);
-            let disk = core.stop();
-            Ok(ended(text, Told::Started(course?), disk)?)
+            let remains = remains_of(core.stop());
+            Ok(ended(text, Told::Started(course?), remains)?)
         }
         Err((fault, disk)) => {
+            let remains = remains_of(disk);
             write_fault(text, fault)?;
-            Ok(ended(text, Told::NotStarted(fault), disk)?)
+            Ok(ended(text, Told::NotStarted(fault), remains)?)
         }
     }
 }

@@ -12,6 +12,7 @@ mod lives;
 mod numbers;
 mod odd_file;
 mod plants;
+mod ready_lists;
 mod real_files;
 mod records;
 mod row;

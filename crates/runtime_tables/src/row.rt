@@ -25,6 +25,8 @@
 //! - `plant t,S\0A0,1\0A`: the rows of a recorded plant, or its refusal; with `fails 8` its reader fails where 8 bytes are
 //!   left
 //! - `rows 10000`: how many are read of a plant with so many rows
+//! - `ready 10:1 20:1 0:0: 0 0 0 0, 5 1 0 1`: of programs whose tasks have these INTERVALs and PRIORITYs, after rows of a
+//!   moment and of SINGLE of each task, what is taken one after another, and the overruns
 //! - `cold: row 0, here 0, flush`, `warm`: a start over the file and these calls; what the life told
 //! - `same`, `length`, `bytes 131072 34`: whether the last life left the file as it was, its length, 34 bytes from that
 //!   place on

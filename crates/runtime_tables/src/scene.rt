@@ -8,6 +8,7 @@ use crate::files::file_of;
 use crate::lives::{Life, Setting, Telling, live};
 use crate::numbers::{write_refusals, write_start_faults};
 use crate::plants::{write_plant, write_row_count};
+use crate::ready_lists::write_ready;
 use crate::real_files::{write_folderless, write_real};
 use crate::records::{resaved, write_recovered};
 use crate::row_error::RowError;
@@ -145,6 +146,12 @@ impl<'a> Scene<'a> {
         )
     }
 
+    /// Tells what is taken of a ready list, whose tasks and rows are written `TASKS: ROWS`.
+    fn tell_ready(&mut self, written: &str) -> Result<(), RowError> {
+        let (tasks, rows) = split(written, ": ");
+        write_ready(&mut self.answer, self.alloc, tasks, rows)
+    }
+
     /// Tells so many bytes of the file from a place on, which are written `PLACE COUNT`.
     fn tell_bytes(&mut self, written: &str) -> Result<(), RowError> {
         let (at, len) = split(written, " ");
@@ -173,6 +180,7 @@ impl<'a> Scene<'a> {
             "folderless" => Ok(write_folderless(&mut self.answer, self.rt)?),
             "plant" => self.read_plant(given),
             "rows" => write_row_count(&mut self.answer, self.alloc, number(given)?),
+            "ready" => self.tell_ready(given),
             "run" => self.run(given),
             "commit" => self.commit(),
             "chain" => write_chain(&mut self.answer, self.alloc, self.setting, given),

@@ -23,8 +23,9 @@ use Rattle.st_parse.specs.Configurations as c
 use Rattle.st_parse.specs.Depths.{ValueWithin, GlobalWithin, GlobalBlockWithin, ConfigurationWithin}
 use Rattle.st_parse.specs.Reading.{optional}
 use Rattle.st_parse.specs.ConfigurationReading.{located_of, listed_of, global_names_at, global_at, is_qualifier}
-use Rattle.st_parse.specs.ConfigurationReading.{global_block_at, single_at, interval_at, task_at, with_at, instance_at}
-use Rattle.st_parse.specs.ConfigurationReading.{resource_at, configuration_at}
+use Rattle.st_parse.specs.ConfigurationReading.{global_block_at, single_at, interval_at, priority_at, terms_at}
+use Rattle.st_parse.specs.ConfigurationReading.{task_at, with_at, program_at, instance_at, work_at, resource_at}
+use Rattle.st_parse.specs.ConfigurationReading.{configuration_at}
 use Rattle.st_parse.proofs.CompleteParts.{many_complete, at_least_one_complete, optional_none, optional_some}
 use Rattle.st_parse.proofs.CompleteParts.{names_behind_complete}
 use Rattle.st_parse.proofs.CompleteTypes.{type_complete, given_or_not_complete}
@@ -117,7 +118,7 @@ single_or_not (absent {ts}) miss = optional_none (is_keyword w.Single) single_at
 single_or_not (present i) miss = optional_some (is_keyword w.Single) single_at (single_head i) (single_complete i)
 
 task_complete : {ts us : Tokens} {x : Task} → IsTask ts x us → task_at ts ≡ Ok (x, us)
-unfolding task_at
+unfolding priority_at terms_at task_at
 task_complete (c.task x s i p k n o a b r g d e z q) =
     rw (
       one_complete k.1,
@@ -151,7 +152,7 @@ with_or_not (absent {ts}) k = optional_none (is_keyword w.With) with_at ts (mark
 with_or_not (present i) k = optional_some (is_keyword w.With) with_at (with_head i) (with_complete i)
 
 instance_complete : {ts us : Tokens} {x : Instance} → IsInstance ts x us → instance_at ts ≡ Ok (x, us)
-unfolding instance_at
+unfolding program_at instance_at
 instance_complete (c.instance_of x t p k n i o g s q) =
     rw (one_complete k.1, one_complete n, with_or_not i o, one_complete o.1, one_complete g, one_complete s.1, q) refl
 
@@ -171,7 +172,7 @@ unfolding same_keyword
 end_resource_head k = keyword_head w.EndResource (is_keyword w.Program) k.1
 
 resource_complete : {ts us : Tokens} {x : Resource} → IsResource ts x us → resource_at ts ≡ Ok (x, us)
-unfolding resource_at
+unfolding work_at resource_at
 resource_complete (c.resource x p xs ys k n o g b i e q) =
     rw (
       one_complete k.1,

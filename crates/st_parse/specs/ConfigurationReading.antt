@@ -1,9 +1,10 @@
 -- Reading configurations.
-use Rattle.std.specs.Prelude.{ℕ, Bool, ◌||◌, [], ◌∷◌}
+use Rattle.std.specs.Prelude.{ℕ, Bool, ◌||◌, List, [], ◌∷◌, Option}
 use Rattle.st_words.specs.declared.identifier.Identifier.{Identifier}
 use Rattle.st_lex.specs.declared.token.TokenKind.{TokenKind}
 use Rattle.st_lex.specs.declared.mark.Mark.TheVariants as m
 use Rattle.st_lex.specs.declared.keyword.Keyword.TheVariants as w
+use Rattle.st_trees.specs.declared.configuration.Priority.{Priority}
 use Rattle.st_trees.specs.declared.configuration.Task.{Task}
 use Rattle.st_trees.specs.declared.configuration.Instance.{Instance}
 use Rattle.st_trees.specs.Configurations.{GlobalNames, located, listed, GlobalDeclaration, GlobalBlock, Resource}
@@ -66,19 +67,31 @@ interval_at = do
   one (mark m.Comma)
   pure d
 
-unfoldable pub task_at : Parser Task
-task_at = do
-  one (keyword w.Task)
-  x ← one name
-  one (mark m.Open)
-  s ← optional (is_keyword w.Single) single_at
-  i ← optional (is_keyword w.Interval) interval_at
+-- a priority, to the end of its task
+unfoldable pub priority_at : Parser Priority
+priority_at = do
   one (keyword w.Priority)
   one (mark m.Assign)
   p ← one decimal
   one (mark m.Close)
   one (mark m.Semicolon)
-  pure (record { name = x; single = s; interval = i; priority = p })
+  pure p
+
+-- when a task is due and what it comes before
+unfoldable pub terms_at : Parser (Option Identifier × Option ℕ × Priority)
+terms_at = do
+  s ← optional (is_keyword w.Single) single_at
+  i ← optional (is_keyword w.Interval) interval_at
+  p ← priority_at
+  pure (s, i, p)
+
+unfoldable pub task_at : Parser Task
+task_at = do
+  one (keyword w.Task)
+  x ← one name
+  one (mark m.Open)
+  terms ← terms_at
+  pure (record { name = x; single = terms.0; interval = terms.1; priority = terms.2 })
 
 unfoldable pub with_at : Parser Identifier
 with_at = do
@@ -86,15 +99,28 @@ with_at = do
   x ← one name
   pure x
 
+unfoldable pub program_at : Parser Identifier
+program_at = do
+  one (mark m.Colon)
+  x ← one name
+  one (mark m.Semicolon)
+  pure x
+
 unfoldable pub instance_at : Parser Instance
 instance_at = do
   one (keyword w.Program)
   x ← one name
   task ← optional (is_keyword w.With) with_at
-  one (mark m.Colon)
-  program ← one name
-  one (mark m.Semicolon)
+  program ← program_at
   pure (record { name = x; task = task; program = program })
+
+-- the tasks and instances of a resource, to its end
+unfoldable pub work_at : Parser (List Task × List Instance)
+work_at = do
+  tasks ← many (is_keyword w.Task) task_at
+  instances ← at_least_one (is_keyword w.Program) instance_at
+  one (keyword w.EndResource)
+  pure (tasks, instances)
 
 unfoldable pub resource_at : Parser Resource
 resource_at = do
@@ -102,10 +128,8 @@ resource_at = do
   x ← one name
   one (keyword w.On)
   processor ← one name
-  tasks ← many (is_keyword w.Task) task_at
-  instances ← at_least_one (is_keyword w.Program) instance_at
-  one (keyword w.EndResource)
-  pure (record { name = x; processor = processor; tasks = tasks; instances = instances })
+  work ← work_at
+  pure (record { name = x; processor = processor; tasks = work.0; instances = work.1 })
 
 unfoldable pub configuration_at : ℕ → Parser Configuration
 configuration_at depth = do

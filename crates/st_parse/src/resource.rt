@@ -16,6 +16,12 @@ use st_trees::{Instance, Priority, Resource, Task};
 use st_words::Identifier;
 use std::alloc::Global;
 
+/// SINGLE, INTERVAL and PRIORITY of a task, and the tokens after them.
+type FoundTerms<'a> = Result<((Option<Identifier>, Option<u64>, Priority), &'a [Token]), ReadError>;
+
+/// The tasks and instances of a resource, and the tokens after them.
+type FoundWork<'a> = Result<((Vec<Task>, Vec<Instance>), &'a [Token]), ReadError>;
+
 /// `duration = Duration .`
 /// A duration in milliseconds.
 fn duration(tokens: &[Token]) -> Result<(u64, &[Token]), ReadError>
@@ -101,7 +107,33 @@ fn interval_or_not(tokens: &[Token]) -> Result<(Option<u64>, &[Token]), ReadErro
     Ok((Some(found), rest))
 }
 
-/// `task = "TASK", name, "(", single_or_not, interval_or_not, "PRIORITY", ":=", decimal, ")", ";" .`
+/// `priority = "PRIORITY", ":=", decimal, ")", ";" .`
+/// A priority, to the end of its task.
+#[tactic(auto, unfolding(crate::specs::ConfigurationReading::priority_at))]
+fn priority(tokens: &[Token]) -> Result<(Priority, &[Token]), ReadError>
+    ensures { Reads as_is result (reading.priority_at tokens.now) }
+{
+    let (_, rest) = keyword(Keyword::Priority, tokens)?;
+    let (_, rest) = mark(Mark::Assign, rest)?;
+    let (found, rest) = decimal(rest)?;
+    let (_, rest) = mark(Mark::Close, rest)?;
+    let (_, rest) = mark(Mark::Semicolon, rest)?;
+    Ok((found, rest))
+}
+
+/// `terms = single_or_not, interval_or_not, priority .`
+/// When a task is due and what it comes before.
+#[tactic(auto, unfolding(crate::specs::ConfigurationReading::terms_at))]
+fn terms(alloc: Global, tokens: &[Token]) -> FoundTerms<'_>
+    ensures { Reads as_is result (reading.terms_at tokens.now) }
+{
+    let (single, rest) = single_or_not(alloc, tokens)?;
+    let (interval, rest) = interval_or_not(rest)?;
+    let (priority, rest) = priority(rest)?;
+    Ok(((single, interval, priority), rest))
+}
+
+/// `task = "TASK", name, "(", terms .`
 /// A task, with its semicolon.
 #[tactic(auto, unfolding(crate::specs::ConfigurationReading::task_at))]
 fn task(alloc: Global, tokens: &[Token]) -> Result<(Task, &[Token]), ReadError>
@@ -110,13 +142,7 @@ fn task(alloc: Global, tokens: &[Token]) -> Result<(Task, &[Token]), ReadError>
     let (_, rest) = keyword(Keyword::Task, tokens)?;
     let (name, rest) = name(alloc, rest)?;
     let (_, rest) = mark(Mark::Open, rest)?;
-    let (single, rest) = single_or_not(alloc, rest)?;
-    let (interval, rest) = interval_or_not(rest)?;
-    let (_, rest) = keyword(Keyword::Priority, rest)?;
-    let (_, rest) = mark(Mark::Assign, rest)?;
-    let (priority, rest) = decimal(rest)?;
-    let (_, rest) = mark(Mark::Close, rest)?;
-    let (_, rest) = mark(Mark::Semicolon, rest)?;
+    let ((single, interval, priority), rest) = terms(alloc, rest)?;
     let task = Task {
         name,
         single,
@@ -161,7 +187,19 @@ fn with_or_not(alloc: Global, tokens: &[Token]) -> Result<(Option<Identifier>, &
     Ok((Some(found), rest))
 }
 
-/// `instance = "PROGRAM", name, with_or_not, ":", name, ";" .`
+/// `program = ":", name, ";" .`
+/// The name of an instance's program, to its semicolon.
+#[tactic(auto, unfolding(crate::specs::ConfigurationReading::program_at))]
+fn program(alloc: Global, tokens: &[Token]) -> Result<(Identifier, &[Token]), ReadError>
+    ensures { Reads as_is result (reading.program_at tokens.now) }
+{
+    let (_, rest) = mark(Mark::Colon, tokens)?;
+    let (found, rest) = name(alloc, rest)?;
+    let (_, rest) = mark(Mark::Semicolon, rest)?;
+    Ok((found, rest))
+}
+
+/// `instance = "PROGRAM", name, with_or_not, program .`
 /// An instance of a program, with its semicolon.
 #[tactic(auto, unfolding(crate::specs::ConfigurationReading::instance_at))]
 fn instance(alloc: Global, tokens: &[Token]) -> Result<(Instance, &[Token]), ReadError>
@@ -170,9 +208,7 @@ fn instance(alloc: Global, tokens: &[Token]) -> Result<(Instance, &[Token]), Rea
     let (_, rest) = keyword(Keyword::Program, tokens)?;
     let (instance, rest) = name(alloc, rest)?;
     let (task, rest) = with_or_not(alloc, rest)?;
-    let (_, rest) = mark(Mark::Colon, rest)?;
-    let (program, rest) = name(alloc, rest)?;
-    let (_, rest) = mark(Mark::Semicolon, rest)?;
+    let (program, rest) = program(alloc, rest)?;
     let instance = Instance {
         name: instance,
         task,
@@ -197,7 +233,19 @@ fn instances(alloc: Global, tokens: &[Token]) -> Result<(Vec<Instance>, &[Token]
     )
 }
 
-/// `resource = "RESOURCE", name, "ON", name, tasks, instances, "END_RESOURCE" .`
+/// `work = tasks, instances, "END_RESOURCE" .`
+/// The tasks and instances of a resource, to its end.
+#[tactic(auto, unfolding(crate::specs::ConfigurationReading::work_at))]
+fn work(alloc: Global, tokens: &[Token]) -> FoundWork<'_>
+    ensures { Reads (λ w. (vec_items w.0, vec_items w.1)) result (reading.work_at tokens.now) }
+{
+    let (tasks, rest) = tasks(alloc, tokens)?;
+    let (instances, rest) = instances(alloc, rest)?;
+    let (_, rest) = keyword(Keyword::EndResource, rest)?;
+    Ok(((tasks, instances), rest))
+}
+
+/// `resource = "RESOURCE", name, "ON", name, work .`
 /// A resource, from RESOURCE to END_RESOURCE.
 #[tactic(auto, unfolding(crate::specs::ConfigurationReading::resource_at))]
 pub fn resource(alloc: Global, tokens: &[Token]) -> Result<(Resource, &[Token]), ReadError>
@@ -207,9 +255,7 @@ pub fn resource(alloc: Global, tokens: &[Token]) -> Result<(Resource, &[Token]),
     let (resource, rest) = name(alloc, rest)?;
     let (_, rest) = keyword(Keyword::On, rest)?;
     let (processor, rest) = name(alloc, rest)?;
-    let (tasks, rest) = tasks(alloc, rest)?;
-    let (instances, rest) = instances(alloc, rest)?;
-    let (_, rest) = keyword(Keyword::EndResource, rest)?;
+    let ((tasks, instances), rest) = work(alloc, rest)?;
     let resource = Resource {
         name: resource,
         processor,

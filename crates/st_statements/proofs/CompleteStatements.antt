@@ -17,12 +17,12 @@ use Rattle.st_trees.specs.Depths.{depth_of, depth_of_variable, depth_of_step, de
 use Rattle.st_trees.specs.Depths.{depth_of_stmt, deepest_stmt, deepest_arm, deepest_case_arm, deepest_subscript}
 use Rattle.st_statements.specs.Tokens.{Tokens, next, Is, is, Passes, mark, keyword, name, is_mark, is_keyword}
 use Rattle.st_statements.specs.Tokens.{is_number, same_mark, same_keyword, IsNumber, plain, negative}
-use Rattle.st_statements.specs.Parsers.{Parser, by_kind, after_comma, listed}
+use Rattle.st_statements.specs.Parsers.{Parser, by_kind, after_comma, listed, between}
 use Rattle.st_statements.specs.ExpressionReading.{starts_selector, continues, expr_at, variable_at}
 use Rattle.st_statements.specs.StatementReading.{starts_number, starts_stmt, range_of, label_at, exit_at, return_at}
 use Rattle.st_statements.specs.StatementReading.{assign_of, given_of, copied_of, argument_at, arguments_at, invoke_of}
-use Rattle.st_statements.specs.StatementReading.{named_at, by_at, step_at, arm_at, elsif_at, otherwise_at, else_at}
-use Rattle.st_statements.specs.StatementReading.{if_at, case_arm_at, case_at, for_at, while_at, repeat_at, stmt_by}
+use Rattle.st_statements.specs.StatementReading.{named_at, by_at, step_at, bounds_at, arm_at, elsif_at, otherwise_at, else_at}
+use Rattle.st_statements.specs.StatementReading.{if_at, case_arm_at, choices_at, case_at, for_at, while_at, repeat_at, stmt_by}
 use Rattle.st_statements.specs.StatementReading.{stmt_at, lines, line_at, stmts_at}
 use Rattle.st_statements.specs.Expressions.{IsVariable, selected, IsSelectors}
 use Rattle.st_statements.specs.Statements.{IsArgument, given, copied, IsMoreArguments, no_more_arguments, next_argument}
@@ -303,7 +303,7 @@ module _ (below : ℕ) (stmts : Parser (List Stmt)) where
       → Repeats starts_number (case_arm_at below stmts) ws arms zs
       → else_at below stmts zs ≡ Ok (other, qs) → Passes (keyword w.EndCase) qs rs
       → stmt_at below stmts ts ≡ Ok (s.CASE x (case_arms_of arms) (stmts_of other), rs)
-  unfolding stmt_at case_at
+  unfolding stmt_at choices_at case_at
   case_is {ws = ws} {zs = zs} {arms = arms} o eq p r same c =
       by_keyword (stmt_by below stmts) w.Case o ∙ rw (
         one_complete o.1,
@@ -320,7 +320,7 @@ module _ (below : ℕ) (stmts : Parser (List Stmt)) where
       → Passes (keyword w.To) zs qs → expr_at below 1 qs ≡ Ok (limit, rs) → step_at below rs ≡ Ok (by, ns)
       → Passes (keyword w.Do) ns os → stmts os ≡ Ok (body, ps) → Passes (keyword w.EndFor) ps ms
       → stmt_at below stmts ts ≡ Ok (s.FOR x start limit by (stmts_of body), ms)
-  unfolding stmt_at for_at
+  unfolding stmt_at bounds_at between for_at
   for_is o n p eq t eq' st d same c = by_keyword (stmt_by below stmts) w.For o ∙ rw (
     one_complete o.1,
     one_complete n,
@@ -338,7 +338,7 @@ module _ (below : ℕ) (stmts : Parser (List Stmt)) where
       → expr_at below 1 us ≡ Ok (x, vs) → Passes (keyword w.Do) vs ws → stmts ws ≡ Ok (body, zs)
       → Passes (keyword w.EndWhile) zs qs
       → stmt_at below stmts ts ≡ Ok (s.WHILE x (stmts_of body), qs)
-  unfolding stmt_at while_at
+  unfolding stmt_at between while_at
   while_is o eq d same c = by_keyword (stmt_by below stmts) w.While o
       ∙ rw (one_complete o.1, eq, one_complete d.1, same, one_complete c.1) refl
 

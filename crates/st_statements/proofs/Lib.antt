@@ -1,5 +1,4 @@
 pub mod CountedLoops
-pub mod Between
 pub mod Sound
 pub mod SoundTurns
 pub mod SoundReadings

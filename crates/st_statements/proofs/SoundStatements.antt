@@ -21,11 +21,12 @@ use Rattle.st_statements.specs.Tokens.{Tokens, next, Is, is, Passes, mark, keywo
 use Rattle.st_statements.specs.Tokens.{IsNumber}
 use Rattle.st_statements.specs.declared.fault.Refusal.TheVariants.{Unexpected}
 use Rattle.st_statements.specs.Parsers.{Parser, ◌>>=◌, ◌>>◌, pure, refuse, one, too_deep, several, listed}
+use Rattle.st_statements.specs.Parsers.{between}
 use Rattle.st_statements.specs.ExpressionReading.{expr_at, variable_at, variable_of}
 use Rattle.st_statements.specs.StatementReading.{starts_number, starts_stmt, range_of, label_at, exit_at, return_at}
 use Rattle.st_statements.specs.StatementReading.{assign_of, given_of, copied_of, argument_at, arguments_at, invoke_of}
-use Rattle.st_statements.specs.StatementReading.{named_at, by_at, step_at, arm_at, elsif_at, otherwise_at, else_at}
-use Rattle.st_statements.specs.StatementReading.{if_at, case_arm_at, case_at, for_at, while_at, repeat_at, stmt_by}
+use Rattle.st_statements.specs.StatementReading.{named_at, by_at, step_at, bounds_at, arm_at, elsif_at, otherwise_at, else_at}
+use Rattle.st_statements.specs.StatementReading.{if_at, case_arm_at, choices_at, case_at, for_at, while_at, repeat_at, stmt_by}
 use Rattle.st_statements.specs.StatementReading.{stmt_at, lines, line_at, stmts_at}
 use Rattle.st_statements.specs.Laws.{Grammar, Begins}
 use Rattle.st_statements.specs.Expressions.{IsExpr, IsVariable}
@@ -148,8 +149,24 @@ is_by ts o us (at, vs, p, (x, ws, i, made eq)) = step x (at, p) i eq
 no_by : (ts : Tokens) (o : Option Expr) (us : Tokens) → Made None ts o us → IsStep ts o us
 no_by ts o us (made eq) = subst (λ (z : Option Expr). IsStep ts z ts) (sym eq) no_step
 
+abbrev Bounds : Grammar (Expr × Expr × Option Expr)
+Bounds ts y us = (vs : Tokens) × (ws : Tokens) × (zs : Tokens) × IsExpr 1 ts y.0 vs × Passes (keyword w.To) vs ws
+    × IsExpr 1 ws y.1 zs × IsStep zs y.2 us
+
+is_bounds : (ts : Tokens) (y : Expr × Expr × Option Expr) (us : Tokens)
+    → Seq (IsExpr 1) (λ start. Seq (Is (keyword w.To)) (λ at. Seq (IsExpr 1)
+    (λ limit. Seq IsStep (λ by. Made (start, limit, by))))) ts y us → Bounds ts y us
+is_bounds ts y us (start, vs, i, (at, ws, t, (limit, zs, j, (by, qs, st, made eq)))) =
+    rw eq (vs, ws, zs, i, (at, t), j, st)
+
 abbrev pub LowStep : ℕ → Option Expr → Tokens → Type 0
 LowStep depth o us = depth_of_step o ≤ depth
+
+abbrev LowBounds : ℕ → Expr × Expr × Option Expr → Tokens → Type 0
+LowBounds depth b us = (depth_of b.0 ≤ depth) × (depth_of b.1 ≤ depth) × (depth_of_step b.2 ≤ depth)
+
+abbrev LowChoices : ℕ → List CaseArm × List Stmt → Tokens → Type 0
+LowChoices depth y us = (deepest_case_arm (case_arms_of y.0) ≤ depth) × (deepest_stmt (stmts_of y.1) ≤ depth)
 
 module _ (below : ℕ) where
   pub sound_expr : {C : Type 0} → Sound C (λ n. expr_at (below + n) 1) (IsExpr 1) (LowExpr below 1)
@@ -241,6 +258,12 @@ module _ (below : ℕ) where
   sound_step = sound_if (is_keyword w.By) sound_by
       (sound_as no_by (λ x us d. d) (sound_pure None (LowStep below) (λ c us. omega arith)))
 
+  sound_bounds : {C : Type 0} → Sound C (λ n. bounds_at (below + n)) Bounds (LowBounds below)
+  unfolding bounds_at
+  sound_bounds = sound_as is_bounds (λ x us d. d) (sound_then sound_expr (λ start. sound_then (sound_keyword w.To)
+      (λ at. sound_then sound_expr (λ limit. sound_then sound_step (λ by. sound_pure (start, limit, by)
+      (LowBounds below) (λ c us. (c.0.0.0.1.1.0, c.0.1.1.0, c.1.1)))))))
+
 -- ---- statements one level down
 
 is_arm : (ts : Tokens) (y : Arm) (us : Tokens)
@@ -279,19 +302,35 @@ is_case_arm ts y us (ls, vs, i, (at, ws, c, (body, zs, b, made eq))) = case_arm 
 abbrev CaseArms : Grammar (List CaseArm)
 CaseArms ts ys us = (xs : List CaseArm) × IsCaseArms ts xs us × (ys ≡ [] ++ xs)
 
+abbrev Choices : Grammar (List CaseArm × List Stmt)
+Choices ts y us = (xs : List CaseArm) × (vs : Tokens) × (ws : Tokens) × (zs : Tokens) × Passes (keyword w.Of) ts vs
+    × IsCaseArms vs xs ws × IsElse ws y.1 zs × Passes (keyword w.EndCase) zs us × (y.0 ≡ xs)
+
+is_choices : (ts : Tokens) (y : List CaseArm × List Stmt) (us : Tokens)
+    → Seq (Is (keyword w.Of)) (λ of. Seq CaseArms (λ arms. Seq IsElse
+    (λ other. Seq (Is (keyword w.EndCase)) (λ end. Made (arms, other))))) ts y us → Choices ts y us
+is_choices ts y us (of, vs, p, (arms, ws, r, (other, zs, q, (end, os, c, made eq)))) = rw eq
+    (r.0, vs, ws, zs, (of, p), r.1, q, (end, c), r.2)
+
 is_case : (ts : Tokens) (y : Stmt) (us : Tokens)
-    → Seq (Is (keyword w.Case)) (λ at. Seq (IsExpr 1) (λ x. Seq (Is (keyword w.Of)) (λ of. Seq CaseArms (λ arms. Seq
-    IsElse (λ other. Seq (Is (keyword w.EndCase)) (λ end. Made (s.CASE x (case_arms_of arms) (stmts_of other))))))))
-    ts y us → IsStmt ts y us
-is_case ts y us (at, vs, o, (x, ws, i, (of, zs, p, (arms, qs, r, (other, rs, q, (end, os, c, made eq)))))) =
-    select x r.0 other (at, o) i (of, p) r.1 q (end, c)
-    (eq ∙ ap (λ (as' : List CaseArm). s.CASE x (case_arms_of as') (stmts_of other)) r.2)
+    → Seq (Is (keyword w.Case)) (λ at. Seq (IsExpr 1) (λ x. Seq Choices
+    (λ c. Made (s.CASE x (case_arms_of c.0) (stmts_of c.1))))) ts y us → IsStmt ts y us
+is_case ts y us (at, vs, o, (x, ws, i, (c, zs, (xs, ps, qs, rs, p, r, q, e, same), made eq))) =
+    select x xs c.1 (at, o) i p r q e
+    (eq ∙ ap (λ (as' : List CaseArm). s.CASE x (case_arms_of as') (stmts_of c.1)) same)
+
+-- statements between two keywords
+abbrev Block : KeywordType → KeywordType → Grammar (List Stmt)
+Block first last ts xs us = (vs : Tokens) × (ws : Tokens) × Passes (keyword first) ts vs × IsStmts vs xs ws
+    × Passes (keyword last) ws us
+
+is_block : (first last : KeywordType) (ts : Tokens) (xs : List Stmt) (us : Tokens) → Seq (Is (keyword first))
+    (λ at. Seq IsStmts (λ body. Seq (Is (keyword last)) (λ end. Made body))) ts xs us → Block first last ts xs us
+is_block first last ts xs us (at, vs, o, (body, ws, b, (end, zs, c, made eq))) = rw eq (vs, ws, (at, o), b, (end, c))
 
 is_for : (ts : Tokens) (y : Stmt) (us : Tokens)
-    → Seq (Is (keyword w.For))
-    (λ at. Seq (Is name) (λ x. Seq (Is (mark m.Assign)) (λ a1. Seq (IsExpr 1) (λ start. Seq (Is (keyword w.To))
-    (λ a2. Seq (IsExpr 1) (λ limit. Seq IsStep (λ by. Seq (Is (keyword w.Do)) (λ a3. Seq IsStmts (λ body.
-    Seq (Is (keyword w.EndFor)) (λ a4. Made (s.FOR x start limit by (stmts_of body)))))))))))) ts y us → IsStmt ts y us
+    → Seq (Is (keyword w.For)) (λ at. Seq (Is name) (λ x. Seq (Is (mark m.Assign)) (λ a1. Seq Bounds
+    (λ b. Seq (Block w.Do w.EndFor) (λ body. Made (s.FOR x b.0 b.1 b.2 (stmts_of body))))))) ts y us → IsStmt ts y us
 is_for ts y us (
   at,
   vs,
@@ -300,22 +339,16 @@ is_for ts y us (
     x,
     ws,
     n,
-    (
-      a1,
-      zs,
-      p,
-      (start, qs, i, (a2, rs, t, (limit, os, j, (by, ps, st, (a3, ms, d, (body, ks, b, (a4, ls, f, made eq))))))),
-    ),
+    (a1, zs, p, (b, qs, (ks, ls, ms, i, t, j, st), (body, rs, (os, ps, d, l, e), made eq))),
   ),
 ) =
-    count x start limit by body (at, o) n (a1, p) i (a2, t) j st (a3, d) b (a4, f) eq
+    count x b.0 b.1 b.2 body (at, o) n (a1, p) i t j st d l e eq
 
 is_while : (ts : Tokens) (y : Stmt) (us : Tokens)
-    → Seq (Is (keyword w.While)) (λ at. Seq (IsExpr 1) (λ x. Seq (Is (keyword w.Do))
-    (λ a1. Seq IsStmts (λ body. Seq (Is (keyword w.EndWhile)) (λ a2. Made (s.WHILE x (stmts_of body))))))) ts y us
-    → IsStmt ts y us
-is_while ts y us (at, vs, o, (x, ws, i, (a1, zs, d, (body, qs, b, (a2, rs, f, made eq))))) =
-    repeat_while x body (at, o) i (a1, d) b (a2, f) eq
+    → Seq (Is (keyword w.While)) (λ at. Seq (IsExpr 1) (λ x. Seq (Block w.Do w.EndWhile)
+    (λ body. Made (s.WHILE x (stmts_of body))))) ts y us → IsStmt ts y us
+is_while ts y us (at, vs, o, (x, ws, i, (body, zs, (os, ps, d, l, e), made eq))) =
+    repeat_while x body (at, o) i d l e eq
 
 is_repeat : (ts : Tokens) (y : Stmt) (us : Tokens)
     → Seq (Is (keyword w.Repeat)) (λ at. Seq IsStmts (λ body. Seq (Is (keyword w.Until))
@@ -384,31 +417,40 @@ module _ (below : ℕ) (stmts : ℕ → Parser (List Stmt)) (tells : Tells stmts
       (λ a. deepest_stmt a.1 ≤ below) (λ ts. no_case_arm) (λ ts x us xs vs o r. next_case_arm o r)
       (λ ts x us o. case_arm_less o) [] (λ c. tt) sound_case_arm)
 
+  sound_choices : {C : Type 0} → Sound C (λ n. choices_at (below + n) (stmts n)) Choices (LowChoices below)
+  unfolding choices_at
+  sound_choices = sound_as is_choices (λ x us d. d) (sound_then (sound_keyword w.Of)
+      (λ of. sound_then sound_case_arms (λ arms. sound_then sound_else (λ other. sound_then (sound_keyword w.EndCase)
+      (λ end. sound_pure (arms, other) (LowChoices below) (λ c us. (c.0.0.1.1, c.0.1.1)))))))
+
   sound_case : {C : Type 0} → Sound C (λ n. case_at (below + n) (stmts n)) IsStmt (LowStmt (below + 1))
   unfolding case_at
   sound_case = sound_as is_case (λ x us d. d) (sound_then (sound_keyword w.Case)
-      (λ at. sound_then (sound_expr below) (λ x. sound_then (sound_keyword w.Of) (λ of.
-      sound_then sound_case_arms (λ arms. sound_then sound_else (λ other. sound_then (sound_keyword w.EndCase) (λ end.
-      sound_pure (s.CASE x (case_arms_of arms) (stmts_of other)) (LowStmt (below + 1))
-      (λ c us. let a' = c.0.0.1.1 in let b' = c.0.1.1 in let d' = c.0.0.0.0.1.1.0 in omega arith))))))))
+      (λ at. sound_then (sound_expr below) (λ x. sound_then sound_choices (λ y.
+      sound_pure (s.CASE x (case_arms_of y.0) (stmts_of y.1)) (LowStmt (below + 1))
+      (λ c us. let a' = c.1.1.0 in let b' = c.1.1.1 in let d' = c.0.1.1.0 in omega arith)))))
+
+  sound_block : {C : Type 0} (first last : KeywordType)
+      → Sound C (λ n. between first last (stmts n)) (Block first last) (LowStmts below)
+  unfolding between
+  sound_block first last = sound_as (is_block first last) (λ x us d. d) (sound_then (sound_keyword first)
+      (λ at. sound_then sound_stmts (λ body. sound_then (sound_keyword last)
+      (λ end. sound_pure body (LowStmts below) (λ c us. c.0.1.1)))))
 
   sound_for : {C : Type 0} → Sound C (λ n. for_at (below + n) (stmts n)) IsStmt (LowStmt (below + 1))
   unfolding for_at
   sound_for = sound_as is_for (λ x us d. d) (sound_then (sound_keyword w.For)
-      (λ at. sound_then sound_name (λ x. sound_then (sound_mark m.Assign) (λ a1. sound_then (sound_expr below)
-      (λ start. sound_then (sound_keyword w.To) (λ a2. sound_then (sound_expr below) (λ limit.
-      sound_then (sound_step below) (λ by. sound_then (sound_keyword w.Do)
-      (λ a3. sound_then sound_stmts (λ body. sound_then (sound_keyword w.EndFor) (λ a4.
-      sound_pure (s.FOR x start limit by (stmts_of body)) (LowStmt (below + 1)) (λ c us. let a' = c.0.1.1 in
-      let b' = c.0.0.0.1.1 in let d' = c.0.0.0.0.1.1.0 in let e' = c.0.0.0.0.0.0.1.1.0 in omega arith))))))))))))
+      (λ at. sound_then sound_name (λ x. sound_then (sound_mark m.Assign) (λ a1. sound_then (sound_bounds below)
+      (λ b. sound_then (sound_block w.Do w.EndFor) (λ body.
+      sound_pure (s.FOR x b.0 b.1 b.2 (stmts_of body)) (LowStmt (below + 1)) (λ c us. let a' = c.1.1 in
+      let b' = c.0.1.1.2 in let d' = c.0.1.1.1 in let e' = c.0.1.1.0 in omega arith)))))))
 
   sound_while : {C : Type 0} → Sound C (λ n. while_at (below + n) (stmts n)) IsStmt (LowStmt (below + 1))
   unfolding while_at
   sound_while = sound_as is_while (λ x us d. d)
-      (sound_then (sound_keyword w.While) (λ at. sound_then (sound_expr below) (λ x. sound_then (sound_keyword w.Do)
-      (λ a1. sound_then sound_stmts (λ body. sound_then (sound_keyword w.EndWhile) (λ a2.
-      sound_pure (s.WHILE x (stmts_of body)) (LowStmt (below + 1))
-      (λ c us. let a' = c.0.1.1 in let b' = c.0.0.0.1.1.0 in omega arith)))))))
+      (sound_then (sound_keyword w.While) (λ at. sound_then (sound_expr below) (λ x.
+      sound_then (sound_block w.Do w.EndWhile) (λ body. sound_pure (s.WHILE x (stmts_of body)) (LowStmt (below + 1))
+      (λ c us. let a' = c.1.1 in let b' = c.0.1.1.0 in omega arith)))))
 
   sound_repeat : {C : Type 0} → Sound C (λ n. repeat_at (below + n) (stmts n)) IsStmt (LowStmt (below + 1))
   unfolding repeat_at

@@ -53,6 +53,12 @@ Gives view (Err x) read = Fails x read
 abbrev pub Reads : {X A : Type 0} → (X → A) → Result (X × Bor Tokens) ReadError → Outcome A → Type 0
 Reads view result read = Gives (λ x. (view x.0, x.1.now)) result read
 
+-- what was read before, beside what was read next
+abbrev pub Beside : {X Y : Type 0} → X → Result (Y × Bor Tokens) ReadError → Result ((X × Y) × Bor Tokens) ReadError
+    → Type 0
+Beside x next (Ok r) = (r.0.0 ≡ x) × (next ≡ Ok (r.0.1, r.1))
+Beside x next (Err e) = next ≡ Err e
+
 -- a view of what is its own mirror, and of a list by one of its items
 abbrev pub as_is : {A : Type 0} → A → A
 as_is x = x

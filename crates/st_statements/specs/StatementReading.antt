@@ -13,7 +13,7 @@ use Rattle.st_trees.specs.Statements.{Argument, Stmt, Arm, CaseArm, stmts_of, ar
 use Rattle.st_trees.specs.Statements as s
 use Rattle.st_statements.specs.Tokens.{is_mark, is_keyword, is_number, mark, keyword, name}
 use Rattle.st_statements.specs.Parsers.{Parser, ◌>>=◌, ◌>>◌, pure, refuse, one, by_kind, if_next, too_deep, several}
-use Rattle.st_statements.specs.Parsers.{listed, number_at}
+use Rattle.st_statements.specs.Parsers.{listed, between, number_at}
 use Rattle.st_statements.specs.ExpressionReading.{expr_at, variable_at, variable_of}
 
 abbrev pub starts_number : TokenKind → Bool
@@ -102,6 +102,15 @@ module _ (below : ℕ) where
   unfoldable pub step_at : Parser (Option Expr)
   step_at = if_next (is_keyword w.By) by_at (pure None)
 
+  -- where a FOR begins and ends, and its step
+  unfoldable pub bounds_at : Parser (Expr × Expr × Option Expr)
+  bounds_at = do
+    start ← expr_at below 1
+    one (keyword w.To)
+    limit ← expr_at below 1
+    step ← step_at
+    pure (start, limit, step)
+
   -- statements one level down
   module _ (stmts : Parser (List Stmt)) where
     unfoldable pub arm_at : Parser Arm
@@ -136,37 +145,36 @@ module _ (below : ℕ) where
       body ← stmts
       pure (ls, stmts_of body)
 
-    unfoldable pub case_at : Parser Stmt
-    case_at = do
-      one (keyword w.Case)
-      selector ← expr_at below 1
+    -- the arms of a CASE, and the statements behind ELSE
+    unfoldable pub choices_at : Parser (List CaseArm × List Stmt)
+    choices_at = do
       one (keyword w.Of)
       arms ← several starts_number case_arm_at []
       other ← else_at
       one (keyword w.EndCase)
-      pure (s.CASE selector (case_arms_of arms) (stmts_of other))
+      pure (arms, other)
+
+    unfoldable pub case_at : Parser Stmt
+    case_at = do
+      one (keyword w.Case)
+      selector ← expr_at below 1
+      choices ← choices_at
+      pure (s.CASE selector (case_arms_of choices.0) (stmts_of choices.1))
 
     unfoldable pub for_at : Parser Stmt
     for_at = do
       one (keyword w.For)
       control ← one name
       one (mark m.Assign)
-      start ← expr_at below 1
-      one (keyword w.To)
-      limit ← expr_at below 1
-      step ← step_at
-      one (keyword w.Do)
-      body ← stmts
-      one (keyword w.EndFor)
-      pure (s.FOR control start limit step (stmts_of body))
+      bounds ← bounds_at
+      body ← between w.Do w.EndFor stmts
+      pure (s.FOR control bounds.0 bounds.1 bounds.2 (stmts_of body))
 
     unfoldable pub while_at : Parser Stmt
     while_at = do
       one (keyword w.While)
       condition ← expr_at below 1
-      one (keyword w.Do)
-      body ← stmts
-      one (keyword w.EndWhile)
+      body ← between w.Do w.EndWhile stmts
       pure (s.WHILE condition (stmts_of body))
 
     unfoldable pub repeat_at : Parser Stmt
@@ -196,13 +204,18 @@ module _ (below : ℕ) where
 unfoldable pub lines : Parser Stmt → Parser (List Stmt)
 lines line = several starts_stmt line []
 
+-- a statement with its semicolon
+abbrev pub closed : Stmt → Parser Stmt
+closed x = do
+  one (mark m.Semicolon)
+  pure x
+
 -- a statement of at most a depth, with its semicolon
 unfoldable pub line_at : ℕ → Parser Stmt
 line_at zero = too_deep starts_stmt
 line_at (suc below) = do
   x ← stmt_at below (lines (line_at below))
-  one (mark m.Semicolon)
-  pure x
+  closed x
 
 -- statements of at most a depth
 abbrev pub stmts_at : ℕ → Parser (List Stmt)

@@ -14,6 +14,7 @@ mod fault;
 mod initial;
 mod label;
 mod list;
+mod pair;
 mod place;
 mod reader;
 mod statement;

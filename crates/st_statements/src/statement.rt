@@ -17,6 +17,7 @@ use crate::expression::{expr, variable_of};
 use crate::fault::ReadError;
 use crate::label::labels;
 use crate::list::several;
+use crate::pair::beside;
 use crate::tokens::{begins, is_mark, keyword, leads, mark, name, refused, sunk};
 use st_lex::{Keyword, Mark, Token, TokenKind};
 use st_trees::{Arm, CaseArm, Expr, Stmt};
@@ -31,6 +32,12 @@ type Block<'a> = Result<(Vec<Stmt>, &'a [Token]), ReadError>;
 
 /// A condition with its statements and the tokens after them.
 type FoundArm<'a> = Result<(Arm, &'a [Token]), ReadError>;
+
+/// Where a FOR begins and ends, its step, and the tokens after them.
+type FoundBounds<'a> = Result<((Expr, Expr, Option<Expr>), &'a [Token]), ReadError>;
+
+/// The arms of a CASE with the statements behind its ELSE, and the tokens after them.
+type FoundChoices<'a> = Result<((Vec<CaseArm>, Vec<Stmt>), &'a [Token]), ReadError>;
 
 /// Labels with their statements and the tokens after them.
 type FoundCaseArm<'a> = Result<(CaseArm, &'a [Token]), ReadError>;
@@ -145,6 +152,20 @@ fn step(
     Ok((None, tokens))
 }
 
+/// `bounds = expr, "TO", expr, step .`
+#[tactic(auto, unfolding(crate::specs::StatementReading::bounds_at))]
+fn bounds(alloc: Global, below: usize, tokens: &[Token]) -> FoundBounds<'_>
+    requires { below < MAX_DEPTH }
+    ensures { Reads (λ b. (expr_view b.0, expr_view b.1, option_map expr_view b.2)) result
+        (reading.bounds_at below tokens.now) }
+{
+    let (start, rest) = expr(alloc, below, 1, tokens)?;
+    let ((start, _), rest) = beside(start, keyword(Keyword::To, rest))?;
+    let (range, rest) = beside(start, expr(alloc, below, 1, rest))?;
+    let (((start, limit), by), rest) = beside(range, step(alloc, below, rest))?;
+    Ok(((start, limit, by), rest))
+}
+
 /// `block(first, last) = first, stmts, last .`
 #[tactic(auto, unfolding(crate::specs::Parsers::between))]
 fn block<'a, I: Fn(&[Token]) -> Block<'_>>(
@@ -177,8 +198,8 @@ fn arm<'a, I: Fn(&[Token]) -> Block<'_>>(
     ensures { Reads arm_view result (reading.arm_at below (reading.stmts_at below) tokens.now) }
 {
     let (condition, rest) = expr(alloc, below, 1, tokens)?;
-    let (_, rest) = keyword(Keyword::Then, rest)?;
-    let (body, rest) = inner(rest)?;
+    let ((condition, _), rest) = beside(condition, keyword(Keyword::Then, rest))?;
+    let ((condition, body), rest) = beside(condition, inner(rest))?;
     Ok((Arm { condition, body }, rest))
 }
 
@@ -306,7 +327,28 @@ fn case_arms<'a, I: Fn(&[Token]) -> Block<'_>>(
     )
 }
 
-/// `case_stmt = "CASE", expr, "OF", case_arms, else, "END_CASE" .`
+/// `choices = "OF", case_arms, else, "END_CASE" .`
+#[tactic(auto, unfolding(crate::specs::StatementReading::choices_at))]
+fn choices<'a, I: Fn(&[Token]) -> Block<'_>>(
+    alloc: Global,
+    below: usize,
+    tokens: &'a [Token],
+    inner: &I,
+) -> FoundChoices<'a>
+    requires below { below < MAX_DEPTH }
+    requires inner { I.IsAlwaysCallable inner.now }
+    requires reads { CallsRead (each stmt_view) (I.post inner.now) (reading.stmts_at below) }
+    ensures { Reads (λ c. (each case_arm_view c.0, each stmt_view c.1)) result
+        (reading.choices_at below (reading.stmts_at below) tokens.now) }
+{
+    let (_, rest) = keyword(Keyword::Of, tokens)?;
+    let (arms, rest) = case_arms(alloc, below, rest, inner)?;
+    let (other, rest) = else_part(alloc, below, rest, inner)?;
+    let (_, rest) = keyword(Keyword::EndCase, rest)?;
+    Ok(((arms, other), rest))
+}
+
+/// `case_stmt = "CASE", expr, choices .`
 #[tactic(auto, unfolding(crate::specs::StatementReading::case_at))]
 fn case_stmt<'a, I: Fn(&[Token]) -> Block<'_>>(
     alloc: Global,
@@ -321,14 +363,11 @@ fn case_stmt<'a, I: Fn(&[Token]) -> Block<'_>>(
 {
     let (_, rest) = keyword(Keyword::Case, tokens)?;
     let (selector, rest) = expr(alloc, below, 1, rest)?;
-    let (_, rest) = keyword(Keyword::Of, rest)?;
-    let (arms, rest) = case_arms(alloc, below, rest, inner)?;
-    let (other, rest) = else_part(alloc, below, rest, inner)?;
-    let (_, rest) = keyword(Keyword::EndCase, rest)?;
+    let ((arms, other), rest) = choices(alloc, below, rest, inner)?;
     Ok((Stmt::select(selector, arms, other), rest))
 }
 
-/// `for_stmt = "FOR", name, ":=", expr, "TO", expr, step, block("DO", "END_FOR") .`
+/// `for_stmt = "FOR", name, ":=", bounds, block("DO", "END_FOR") .`
 #[tactic(auto, unfolding(crate::specs::StatementReading::for_at))]
 fn for_stmt<'a, I: Fn(&[Token]) -> Block<'_>>(
     alloc: Global,
@@ -344,12 +383,12 @@ fn for_stmt<'a, I: Fn(&[Token]) -> Block<'_>>(
     let (_, rest) = keyword(Keyword::For, tokens)?;
     let (control, rest) = name(alloc, rest)?;
     let (_, rest) = mark(Mark::Assign, rest)?;
-    let (start, rest) = expr(alloc, below, 1, rest)?;
-    let (_, rest) = keyword(Keyword::To, rest)?;
-    let (limit, rest) = expr(alloc, below, 1, rest)?;
-    let (by, rest) = step(alloc, below, rest)?;
-    let (body, rest) = block(Keyword::Do, Keyword::EndFor, rest, inner)?;
-    Ok((Stmt::count(control, start, limit, by, body), rest))
+    let (bounds, rest) = bounds(alloc, below, rest)?;
+    let (((start, limit, step), body), rest) = beside(
+        bounds,
+        block(Keyword::Do, Keyword::EndFor, rest, inner),
+    )?;
+    Ok((Stmt::count(control, start, limit, step, body), rest))
 }
 
 /// `while_stmt = "WHILE", expr, block("DO", "END_WHILE") .`
@@ -367,7 +406,8 @@ fn while_stmt<'a, I: Fn(&[Token]) -> Block<'_>>(
 {
     let (_, rest) = keyword(Keyword::While, tokens)?;
     let (condition, rest) = expr(alloc, below, 1, rest)?;
-    let (body, rest) = block(Keyword::Do, Keyword::EndWhile, rest, inner)?;
+    let body = block(Keyword::Do, Keyword::EndWhile, rest, inner);
+    let ((condition, body), rest) = beside(condition, body)?;
     Ok((Stmt::repeat_while(condition, body), rest))
 }
 
@@ -388,7 +428,7 @@ fn repeat_stmt<'a, I: Fn(&[Token]) -> Block<'_>>(
     let (body, rest) = inner(rest)?;
     let (_, rest) = keyword(Keyword::Until, rest)?;
     let (condition, rest) = expr(alloc, below, 1, rest)?;
-    let (_, rest) = keyword(Keyword::EndRepeat, rest)?;
+    let ((condition, _), rest) = beside(condition, keyword(Keyword::EndRepeat, rest))?;
     Ok((Stmt::repeat_until(body, condition), rest))
 }
 
@@ -422,6 +462,15 @@ fn stmt<'a, I: Fn(&[Token]) -> Block<'_>>(
     }
 }
 
+/// `closed = ";" .`
+/// A statement with the semicolon behind it.
+fn closed(found: Stmt, tokens: &[Token]) -> Found<'_>
+    ensures { Reads stmt_view result (reading.closed (stmt_view found) tokens.now) }
+{
+    let ((found, _), rest) = beside(found, mark(Mark::Semicolon, tokens))?;
+    Ok((found, rest))
+}
+
 /// `line = stmt, ";" .`
 /// A statement of at most a depth, with its semicolon.
 #[cycle(line)]
@@ -443,8 +492,7 @@ fn line(alloc: Global, depth: usize, tokens: &[Token]) -> Found<'_>
             ensures { Reads (each stmt_view) result (reading.stmts_at below tokens.now) }
         { stmts(alloc, below, tokens) },
     )?;
-    let (_, rest) = mark(Mark::Semicolon, rest)?;
-    Ok((found, rest))
+    closed(found, rest)
 }
 
 /// `stmts = { line } .`

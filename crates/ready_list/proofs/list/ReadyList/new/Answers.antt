@@ -8,10 +8,10 @@ use Rattle.ready_list.proofs.list.ReadyList.new.Goals as goal
 
 pub returns-clause-schedules : goal.returns-clause-schedules
 returns-clause-schedules c =
-    IfOk-weaker c.list_of.result (λ r. r.schedules ≡ c.in_ok-schedules.schedules.items)
+    IfOk-weaker c.of_schedules.result (λ r. r.schedules ≡ c.in_ok-schedules.schedules.items)
     (λ r. r.schedules ≡ schedules_in (plan_view c.args.plan.now))
     (λ r e.
     e ∙ c.in_ok-schedules.ensures ∙ ap (λ ts. map (code_schedule ts) c.deref-2.result.now) c.deref.ensures.value
     ∙ ap (map (code_schedule c.args.plan.now.tasks.items)) c.deref-2.ensures.value
     ∙ schedules-same c.args.plan.now.variables.items c.args.plan.now.tasks.items c.args.plan.now.programs.items)
-    c.list_of.ensures.schedules
+    c.of_schedules.ensures.schedules
