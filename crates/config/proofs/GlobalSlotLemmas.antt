@@ -28,12 +28,13 @@ use Rattle.st_types.specs.Bodies.{is_external, names_of as identifier_names, dec
 use Rattle.st_types.specs.NameTypes.{kind_of_type}
 use Rattle.st_types.proofs.SlotLemmas.{same_path_is, same_path_itself}
 use Rattle.slot_code.specs.declared.global.GlobalSlot.{GlobalSlot}
-use Rattle.slot_code.specs.Globals.{global_named, Fits}
+use Rattle.slot_code.specs.Globals.{global_named, HaveSlots}
+use Rattle.slot_code.proofs.GlobalLemmas.{named_slot}
 use Rattle.config.specs.Sound.{are_different}
 use Rattle.config.specs.Thin.{is_variable_of, is_input_of, is_thin_external, are_thin_externals, is_absent}
 use Rattle.config.specs.Thin.{is_thin_declaration, is_thin_block}
 use Rattle.config.specs.ThinPlans.{names_of}
-use Rattle.config.specs.GlobalSlots.{is_named_in, HasSlot, HaveSlots}
+use Rattle.config.specs.GlobalSlots.{is_named_in}
 
 -- a slot of these fields
 abbrev slot_at : Path → Bool → Slot
@@ -162,33 +163,6 @@ pub layout_distinct : (variables : List PlanVariable) (inputs : List PlanInput)
     → are_different (names_of variables inputs) ≡ true → IsLayout (layout_of variables inputs)
 layout_distinct variables inputs h =
     distinct_slots (layout_of variables inputs) (ap are_different (names_are variables inputs) ∙ h)
-
--- a global that is found by its name has the slot of this name
-named_first : (layout : List Slot) (h : GlobalSlot) (gs : List GlobalSlot) (x : Name) (g : GlobalSlot) (t : Bool)
-    → bytes_eq x h.name ≡ t → HasSlot layout h
-    → (global_named gs x ≡ Some g → slice_get layout g.slot ≡ Some (record { path = unowned x; is_input = g.is_input }))
-    → (if t then Some h else global_named gs x) ≡ Some g
-    → slice_get layout g.slot ≡ Some (record { path = unowned x; is_input = g.is_input })
-named_first layout h gs x g true e place rest is =
-    let same : h ≡ g = cc in
-    let name : x ≡ h.name = (bytes_eq-Decides x h.name).0 e in
-    ap (λ f. slice_get layout f.slot) (sym same) ∙ place ∙ ap (λ y. Some (slot_at (unowned y) h.is_input)) (sym name)
-    ∙ ap (λ f. Some (slot_at (unowned x) f.is_input)) same
-named_first layout h gs x g false e place rest is = rest is
-
-pub named_slot : (layout : List Slot) (globals : List GlobalSlot) (x : Name) (g : GlobalSlot) → HaveSlots layout globals
-    → global_named globals x ≡ Some g
-    → slice_get layout g.slot ≡ Some (record { path = unowned x; is_input = g.is_input })
-named_slot layout [] x g places h = absurd (cc)
-named_slot layout (f ∷ gs) x g places h =
-    named_first layout f gs x g (bytes_eq x f.name) refl (places 0 f (omega arith))
-    (named_slot layout gs x g (λ k d lt. places (suc k) d (omega arith))) h
-
-pub fits : (variables : List PlanVariable) (inputs : List PlanInput) (globals : List GlobalSlot)
-    → IsLayout (layout_of variables inputs) → HaveSlots (layout_of variables inputs) globals
-    → Fits (layout_of variables inputs) globals
-fits variables inputs globals distinct places =
-    record { distinct = distinct; slots = λ x g h. named_slot (layout_of variables inputs) globals x g places h }
 
 -- the externals of a thin unit are names of the plan
 first_or_behind : (a b rest any : Bool) → (rest ≡ true → any ≡ true) → ((a && b) || rest) ≡ true → (a || any) ≡ true

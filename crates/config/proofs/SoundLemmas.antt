@@ -20,7 +20,7 @@ use Rattle.st_plans.specs.Layouts.{layout_of, path_text, record_length}
 use Rattle.config.specs.declared.task.Task.{Task}
 use Rattle.config.specs.declared.task.ProgramInstance.{ProgramInstance}
 use Rattle.config.specs.declared.thin_program.ThinProgram.{ThinProgram}
-use Rattle.config.specs.GlobalSlots.{HaveSlots}
+use Rattle.slot_code.specs.Globals.{HaveSlots}
 use Rattle.config.specs.Sound.{are_different, is_spelled, is_sound_trigger, is_of_resource, tasks_of, IsWithinLimits}
 use Rattle.config.specs.Sound.{PlanInvariant}
 use Rattle.config.specs.PlanViews.{program_view, task_view}
@@ -32,7 +32,7 @@ use Rattle.config.specs.ThinParts.{task_in, units_in}
 use Rattle.config.specs.ThinPlans.{is_word_byte, is_name, is_nobody, is_global, is_thin_variable, is_thin_input}
 use Rattle.config.specs.ThinPlans.{names_of, is_thin_program, programs_on, is_within, is_thin, resources_of, task_of}
 use Rattle.config.specs.ThinPlans.{program_from, programs_from, thin_plan}
-use Rattle.config.proofs.GlobalSlotLemmas.{layout_distinct, fits}
+use Rattle.config.proofs.GlobalSlotLemmas.{layout_distinct}
 use Rattle.config.proofs.RecordLemmas.{path_is}
 
 global_of : (v : PlanVariable) → is_thin_variable v ≡ true → is_global v.path ≡ true
@@ -215,8 +215,7 @@ sound units us vs is ps budget codes h views places =
     let layout = layout_distinct vs is c.0 in
     record {
       layout = layout;
-      codes = λ k p at. fits vs is p.code.value.globals.items layout (code_fits vs is codes k p places at);
-      placed = λ k p at. code_fits vs is codes k p places at;
+      codes = λ k p at. record { distinct = layout; slots = code_fits vs is codes k p places at };
       resources_are = resource_below ps;
       places = λ k p at. let f = program_place us 0 ps codes k p views at in let t : p.task ≡ k = f.0 ∙ omega arith in
           subst (λ n. is_of_resource p.resource (slice_get (map task_in ps) n) ≡ true) (sym t) f.1;

@@ -8,7 +8,7 @@ use Rattle.std.proofs.lemmas.List.Elements.{All-append}
 use Rattle.st_words.specs.declared.limits.TheConstants.{MAX_RESOURCES}
 use Rattle.st_types.specs.Slots.{Slot}
 use Rattle.config.specs.declared.thin_unit.ThinUnit.{ThinUnit}
-use Rattle.config.specs.GlobalSlots.{is_named_in, HaveSlots}
+use Rattle.config.specs.GlobalSlots.{is_named_in}
 use Rattle.config.proofs.GlobalSlotLemmas.{externals_known}
 use Rattle.config.specs.ThinParts.{units_in}
 use Rattle.std.specs.List.{list_all}
@@ -27,7 +27,7 @@ use Rattle.st_types.specs.NameTypes.{Declared}
 use Rattle.st_types.specs.Bodies.{externals_in}
 use Rattle.st_types.specs.ResolvedUnits.{resolved}
 use Rattle.slot_code.specs.declared.global.GlobalSlot.{GlobalSlot}
-use Rattle.slot_code.specs.Globals.{IsPlain, global_named, are_plain}
+use Rattle.slot_code.specs.Globals.{IsPlain, HaveSlots, global_named, are_plain}
 use Rattle.config.specs.declared.thin_program.ThinProgram.{ThinProgram}
 use Rattle.config.specs.Thin.{is_program, is_short, is_thin_block, is_variable_of, is_thin_unit}
 use Rattle.config.specs.declared.task.ProgramInstance.{ProgramInstance}

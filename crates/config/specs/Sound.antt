@@ -16,7 +16,6 @@ use Rattle.config.specs.declared.task.Trigger.{Trigger}
 use Rattle.config.specs.declared.task.Trigger.TheVariants.{Absent, Input, Variable}
 use Rattle.config.specs.declared.task.Task.{Task}
 use Rattle.config.specs.declared.task.ProgramInstance.{ProgramInstance}
-use Rattle.config.specs.GlobalSlots.{HaveSlots}
 
 -- each name stands once
 abbrev pub are_different : List Name → Bool
@@ -67,8 +66,6 @@ pub record PlanInvariant (variables : List PlanVariable) (inputs : List PlanInpu
   pub layout : IsLayout (layout_of variables inputs)
   pub codes : (k : ℕ) (p : ProgramInstance) → slice_get programs k ≡ Some p
       → Fits (layout_of variables inputs) p.code.value.globals.items
-  pub placed : (k : ℕ) (p : ProgramInstance) → slice_get programs k ≡ Some p
-      → HaveSlots (layout_of variables inputs) p.code.value.globals.items
   pub resources_are : (k : ℕ) (t : Task) → slice_get tasks k ≡ Some t → t.resource < resources
   pub places : (k : ℕ) (p : ProgramInstance) → slice_get programs k ≡ Some p
       → is_of_resource p.resource (slice_get tasks p.task) ≡ true

@@ -7,7 +7,8 @@ ghost use Rattle.st_trees.specs.DeclarationViews.{declaration_view, variable_blo
 ghost use Rattle.st_types.specs.Scopes.{unowned};
 ghost use Rattle.st_types.specs.Bodies.{is_external, names_of, declared_names, externals_in};
 ghost use Rattle.st_plans.specs.Layouts.{layout_of};
-ghost use Rattle.config.specs.GlobalSlots.{is_named_in, HasSlot, HaveSlots};
+ghost use Rattle.slot_code.specs.Globals.{HasSlot, HaveSlots};
+ghost use Rattle.config.specs.GlobalSlots.{is_named_in};
 
 use crate::global_path::is_global_of;
 use slot_code::GlobalSlot;

@@ -10,7 +10,7 @@ ghost use Rattle.st_types.specs.ResolvedUnits.{resolved};
 ghost use Rattle.st_types.specs.Slots.{Slot, IsLayout};
 ghost use Rattle.st_plans.specs.Layouts.{layout_of};
 ghost use Rattle.config.specs.Thin.{is_thin_unit};
-ghost use Rattle.config.specs.GlobalSlots.{HaveSlots};
+ghost use Rattle.slot_code.specs.Globals.{HaveSlots};
 ghost use Rattle.config.specs.PlanViews.{program_view, plan_view};
 ghost use Rattle.config.specs.ThinParts.{task_in, units_in};
 ghost use Rattle.config.specs.ThinPlans.{resources_of, is_thin_program, program_from, programs_from, is_thin};

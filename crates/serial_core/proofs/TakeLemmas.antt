@@ -23,7 +23,7 @@ use Rattle.slot_code.specs.declared.global.GlobalSlot.{GlobalSlot}
 use Rattle.slot_run.specs.declared.snapshot.Snapshot.{Snapshot}
 use Rattle.config.specs.declared.plan.Plan.{Plan}
 use Rattle.config.specs.declared.task.ProgramInstance.{ProgramInstance}
-use Rattle.config.specs.GlobalSlots.{HaveSlots}
+use Rattle.slot_code.specs.Globals.{HaveSlots, Fits}
 use Rattle.config.specs.PlanViews.{plan_view}
 use Rattle.ready_list.specs.Ready.{Ready, IsReadyOf}
 use Rattle.serial_core.specs.Steps.{State, store_in, code_at, none_waits, IsSnapshotOf}
@@ -133,12 +133,12 @@ all_within layout n (g ∷ gs) len h =
     let t : nat_lt g.slot n ≡ true = grind (arith, nat_tests) in
     rw (t, all_within layout n gs len (λ k d lt. h (suc k) d (omega arith))) refl
 
-pub globals_within : (plan : Plan) (p : ℕ) (code : Code) (n : ℕ)
-    → HaveSlots (layout_of plan.variables.items plan.inputs.items) code.globals.items
+pub globals_within : (plan : Plan) (code : Code) (n : ℕ)
+    → Fits (layout_of plan.variables.items plan.inputs.items) code.globals.items
     → length (layout_of plan.variables.items plan.inputs.items) ≡ n
     → list_all (λ g. nat_lt g.slot n) code.globals.items ≡ true
-globals_within plan p code n placed len =
-    all_within (layout_of plan.variables.items plan.inputs.items) n code.globals.items len placed
+globals_within plan code n fits len =
+    all_within (layout_of plan.variables.items plan.inputs.items) n code.globals.items len fits.slots
 
 -- what a value that is found is made of
 pub found : (A B : Type 0) (f : A → B) (o : Option A) (b : B) → option_map f o ≡ Some b
@@ -146,11 +146,9 @@ pub found : (A B : Type 0) (f : A → B) (o : Option A) (b : B) → option_map f
 found A B f None b e = absurd (let y : ◌≡◌ {A = Option B} None (Some b) = e in cc)
 found A B f (Some a) b e = (a, refl, let y : ◌≡◌ {A = Option B} (Some (f a)) (Some b) = e in cc)
 
-pub placed_at : (plan : Plan) (p : ℕ) (code : Code)
-    → ((k : ℕ) (q : ProgramInstance) → slice_get plan.programs.items k ≡ Some q
-    → HaveSlots (layout_of plan.variables.items plan.inputs.items) q.code.value.globals.items)
-    → code_at plan p ≡ Some code → HaveSlots (layout_of plan.variables.items plan.inputs.items) code.globals.items
-placed_at plan p code placed e =
+pub fits_at : (plan : Plan) (p : ℕ) (code : Code) → code_at plan p ≡ Some code
+    → Fits (layout_of plan.variables.items plan.inputs.items) code.globals.items
+fits_at plan p code e =
     let f = found ProgramInstance Code (λ q. q.code.value) (slice_get plan.programs.items p) code e in
-    subst (λ (x : Code). HaveSlots (layout_of plan.variables.items plan.inputs.items) x.globals.items) f.2
-    (placed p f.0 f.1)
+    subst (λ (x : Code). Fits (layout_of plan.variables.items plan.inputs.items) x.globals.items) f.2
+    (plan.sound.codes p f.0 f.1)

@@ -1,6 +1,6 @@
 -- The globals that a program names, by their slots, and the programs that this version runs.
 use Rattle.std.specs.Prelude.{◌≡◌, List, [], ◌∷◌, Bool, true, false, not, ◌&&◌, if◌then◌else◌, Option, Some, None, map}
-use Rattle.std.specs.Prelude.{slice_get, bytes_eq}
+use Rattle.std.specs.Prelude.{slice_get, bytes_eq, All}
 use Rattle.st_words.specs.declared.literal.Literal.TheVariants.{Number}
 use Rattle.st_words.specs.declared.operator.BinaryOperator.TheVariants.{Add}
 use Rattle.st_trees.specs.declared.unit.Unit as code_unit
@@ -46,8 +46,14 @@ pub record IsPlain (unit : code_unit.Unit) (globals : List GlobalSlot) : Type 0 
   pub names : map (λ g. g.name) globals ≡ externals_in (unit_view unit).blocks
   pub body : are_plain globals (unit_view unit).body ≡ true
 
+-- the global has the slot of its name
+abbrev pub HasSlot : List Slot → GlobalSlot → Type 0
+HasSlot layout g = slice_get layout g.slot ≡ Some (record { path = unowned g.name; is_input = g.is_input })
+
+abbrev pub HaveSlots : List Slot → List GlobalSlot → Type 0
+HaveSlots layout globals = All (HasSlot layout) globals
+
 -- each global of the code has its slot in the layout, in which each path has one
 pub record Fits (layout : List Slot) (globals : List GlobalSlot) : Type 0 where
   pub distinct : IsLayout layout
-  pub slots : (x : Name) (g : GlobalSlot) → global_named globals x ≡ Some g
-      → slice_get layout g.slot ≡ Some (record { path = unowned x; is_input = g.is_input })
+  pub slots : HaveSlots layout globals

@@ -15,6 +15,7 @@ use Rattle.st_types.specs.Slots.{Slot, Cell, inputs_in, is_value, agrees, writte
 use Rattle.st_words.proofs.KindLemmas.{same_kind_is}
 use Rattle.slot_code.specs.declared.global.GlobalSlot.{GlobalSlot}
 use Rattle.slot_code.specs.Globals.{global_named, Fits}
+use Rattle.slot_code.proofs.GlobalLemmas.{named_slot}
 use Rattle.slot_run.specs.Cells.{with_cell, each_once}
 use Rattle.slot_run.specs.Steps.{AreAlike, IsVariableSlot}
 use Rattle.slot_run.proofs.Bools.{both, or_true, same_itself}
@@ -70,7 +71,7 @@ inputs_at (m ∷ ls) (u ∷ vs) (suc k) v l at out = rw (inputs_at ls vs k v l a
 pub inputs_stay : (globals : List GlobalSlot) (layout : List Slot) (vs : List Datum) (k : ℕ) (v : Datum)
     → Fits layout globals → IsVariableSlot globals k → inputs_in layout (slice_set vs k v) ≡ inputs_in layout vs
 inputs_stay globals layout vs k v fits variable =
-    let at = fits.slots variable.name variable.global variable.known in
+    let at = named_slot layout globals variable.name variable.global fits.slots variable.known in
     let here = rw variable.slot at at in
     inputs_at layout vs k v _ here variable.sort
 

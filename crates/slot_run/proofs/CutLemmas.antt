@@ -9,10 +9,10 @@ use Rattle.st_words.specs.Values.{Datum}
 use Rattle.st_types.specs.Slots.{agrees}
 use Rattle.slot_code.specs.declared.global.GlobalSlot.{GlobalSlot}
 use Rattle.slot_run.proofs.CellLemmas.{agrees_more}
-use Rattle.slot_run.proofs.OnceLemmas.{each_once_any, each_once_new, each_once_old, once_more}
+use Rattle.slot_run.proofs.OnceLemmas.{each_once_any, each_once_new, each_once_old}
 use Rattle.st_types.specs.Slots as slots
 use Rattle.slot_run.specs.declared.cell.Cell.{Cell}
-use Rattle.slot_run.specs.Cells.{cut, with_cell, EachSlotOnce, each_once}
+use Rattle.slot_run.specs.Cells.{cut, with_cell, each_once}
 use Rattle.slot_run.proofs.Bools.{both}
 
 kept_or_not : (c : Cell) (t : Bool) (xs : List Cell) (ys : List slots.Cell) → map cut xs ≡ ys
@@ -80,9 +80,9 @@ reads_stay globals i g cells lt is among all =
 pub reads_more : (globals : List GlobalSlot) (us : List Datum) (i : ℕ) (g : GlobalSlot) (v : Datum)
     (old new : List Cell) → i < length globals → g ≡ get_or globals i g → g.slot < length us → v ≡ get_or us g.slot v
     → list_any (λ c. g.slot == c.slot) old ≡ false → new ≡ old ++ record { slot = g.slot; value = v } ∷ []
-    → agrees us (map cut old) ≡ true → AreRead globals i old → EachSlotOnce (map cut old)
-    → (agrees us (map cut new) ≡ true) × AreRead globals (i + 1) new × EachSlotOnce (map cut new)
-reads_more globals us i g v old new lt is within at first more agree all once =
+    → agrees us (map cut old) ≡ true → AreRead globals i old
+    → (agrees us (map cut new) ≡ true) × AreRead globals (i + 1) new
+reads_more globals us i g v old new lt is within at first more agree all =
     let cells = ap (map cut) more ∙ map-append cut old (record { slot = g.slot; value = v } ∷ []) in
     let here = slice_get-get_or us g.slot v within ∙ ap Some (sym at) in (
       ap (agrees us) cells ∙ agrees_more us (map cut old) g.slot v agree here,
@@ -90,5 +90,4 @@ reads_more globals us i g v old new lt is within at first more agree all once =
           ∙ ap (λ ks. ks ++ g.slot ∷ []) all
           ∙ sym (ap each_once (slots_read globals i g lt is)
           ∙ each_once_new (map (λ h. h.slot) (take i globals)) g.slot (among_read globals i g old all ∙ first)),
-      rw cells (once_more (map cut old) (g.slot, v) once (sym (slots_among old g.slot) ∙ first)),
     )

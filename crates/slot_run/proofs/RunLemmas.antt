@@ -26,8 +26,7 @@ use Rattle.slot_code.specs.declared.global.GlobalSlot.{GlobalSlot}
 use Rattle.slot_code.specs.Globals.{global_named, is_plain, are_plain, Fits}
 use Rattle.slot_code.specs.Codes.{CodeView, code_view, program_of}
 use Rattle.slot_run.specs.Cells.{with_cell, EachSlotOnce, each_once}
-use Rattle.slot_run.specs.Targets.{targets, all_targets}
-use Rattle.slot_run.specs.Effects.{is_variable_slot, has_slot, is_slot_of, is_target_slot, IsTrueOf}
+use Rattle.slot_run.specs.Effects.{is_variable_slot, IsTrueOf}
 use Rattle.slot_run.specs.Steps.{AreAlike, IsVariableSlot, scope_over, Steps, IsEnd, Runs, lasting_writes}
 use Rattle.slot_run.proofs.CellLemmas.{alike_written, length_written, inputs_stay, written_with, alike_by_reads}
 use Rattle.slot_run.proofs.Bools.{both, or_left, or_true, same_itself}
@@ -49,9 +48,6 @@ pub record Reached (text : CodeView) (us : List Datum) (rest : List Stmt) (budge
   pub now : slots ≡ written us writes
   pub plain : are_plain text.globals rest ≡ true
   pub variables : list_all (λ c. is_variable_slot text.globals c.0) writes ≡ true
-  pub behind : (p : Name → Bool) → list_any p (all_targets (stmts_of rest)) ≡ true
-      → list_any p (all_targets (stmts_of text.unit.body)) ≡ true
-  pub targets : list_all (λ c. is_target_slot text c.0) writes ≡ true
   pub once : EachSlotOnce writes
 
 -- the slots of what is written are those of variables
@@ -85,21 +81,6 @@ all_with : (p : Cell → Bool) (cells : List Cell) (c : Cell) → list_all p cel
     → list_all p (with_cell cells c) ≡ true
 all_with p cells c h here = rw (list_all-append, all_kept p (λ d. not (d.0 == c.0)) cells h, here) refl
 
--- the targets of a statement and of those after it
-here_or_behind : (p : Name → Bool) (x : Stmt) (rest : List Stmt) → list_any p (all_targets (stmts_of (x ∷ rest)))
-    ≡ (list_any p (targets x) || list_any p (all_targets (stmts_of rest)))
-here_or_behind p x rest = list_any-append p (targets x) (all_targets (stmts_of rest))
-
-among_here : (p : Name → Bool) (x : Stmt) (rest : List Stmt) → list_any p (targets x) ≡ true
-    → list_any p (all_targets (stmts_of (x ∷ rest))) ≡ true
-among_here p x rest h = here_or_behind p x rest
-    ∙ or_left (list_any p (targets x)) (list_any p (all_targets (stmts_of rest))) h
-
-among_rest : (p : Name → Bool) (x : Stmt) (rest : List Stmt) → list_any p (all_targets (stmts_of rest)) ≡ true
-    → list_any p (all_targets (stmts_of (x ∷ rest))) ≡ true
-among_rest p x rest h = here_or_behind p x rest
-    ∙ or_true (list_any p (targets x)) (list_any p (all_targets (stmts_of rest))) h
-
 -- one statement more
 moved :
     (text : CodeView) (x : Stmt) (rest : List Stmt) (layout : List Slot) (vs ts : List Datum) (moment budget left : ℕ)
@@ -112,9 +93,9 @@ moved text x rest layout vs ts moment budget left h e = rw (h, e) refl
 pub reached_next : (text : CodeView) (us : List Datum) (x : Stmt) (rest : List Stmt) (budget before left : ℕ)
     (slots : List Datum) (writes : List Cell) (c : Cell) → before ≡ suc left
     → Reached text us (x ∷ rest) budget before slots writes → Steps text x slots (Ok c)
-    → IsVariableSlot text.globals c.0 → is_slot_of text.globals (targets x) c.0 ≡ true
+    → IsVariableSlot text.globals c.0
     → Reached text us rest budget left (slice_set slots c.0 c.1) (with_cell writes c)
-reached_next text us x rest budget before left slots writes c one r steps variable target = record {
+reached_next text us x rest budget before left slots writes c one r steps variable = record {
   goes_on = λ layout vs moment fits len alike.
       let ts = written vs writes in
       let alike_there : AreAlike text.globals ts slots = rw r.now (alike_written text.globals vs us writes alike) in
@@ -130,11 +111,6 @@ reached_next text us x rest budget before left slots writes c one r steps variab
   plain = (both (is_plain text.globals x) (are_plain text.globals rest) r.plain).1;
   variables =
       all_with (λ d. is_variable_slot text.globals d.0) writes c r.variables (variable_slot text.globals c.0 variable);
-  behind = λ p h. r.behind p (among_rest p x rest h);
-  targets =
-      let assigned = λ (y : Name). has_slot (global_named text.globals y) c.0 in
-      all_with (λ d. is_target_slot text d.0) writes c r.targets
-      (r.behind assigned (among_here assigned x rest target));
   once = once_with writes c r.once;
 }
 
@@ -226,18 +202,16 @@ pub run_is_true : (code : Code) (us : List Datum) (moment budget : ℕ) (reads w
     → map (λ c. c.0) reads ≡ each_once (map (λ g. g.slot) code.globals.items) → agrees us reads ≡ true
     → Runs (code_view code) us budget writes outcome
     → list_all (λ c. is_variable_slot code.globals.items c.0) writes ≡ true
-    → list_all (λ c. is_target_slot (code_view code) c.0) writes ≡ true → EachSlotOnce reads → EachSlotOnce writes
+    → EachSlotOnce writes
     → IsTrueOf code moment budget reads (lasting_writes outcome writes) outcome
 unfolding outcome_of store_after
-run_is_true code us moment budget reads writes outcome all agreed runs variables targets reads_once writes_once =
+run_is_true code us moment budget reads writes outcome all agreed runs variables writes_once =
     record {
       run = λ layout vs fits len agree.
           let h = run_whole code us moment budget reads writes outcome all agreed runs layout vs fits len agree in
           let r = ran (program_of (code_view code)) (inputs_in layout vs) moment budget (variables_in layout vs) in
           (outcome_at outcome (variables_in layout (written vs writes)) r h, store_at outcome layout vs writes r h);
       variables = all_left (λ c. is_variable_slot code.globals.items c.0) outcome writes variables;
-      targets = all_left (λ c. is_target_slot (code_view code) c.0) outcome writes targets;
-      reads_once = reads_once;
       writes_once = once_left outcome writes writes_once;
       none = none_kept outcome writes;
     }

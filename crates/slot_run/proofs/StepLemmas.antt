@@ -24,11 +24,10 @@ use Rattle.st_types.proofs.SlotLemmas.{seen_slot, assigned_slot}
 use Rattle.slot_code.specs.declared.global.GlobalSlot.{GlobalSlot}
 use Rattle.slot_code.specs.Globals.{global_named, is_assignable, is_sum, is_plain, Fits}
 use Rattle.slot_code.specs.Codes.{CodeView}
-use Rattle.slot_run.specs.Targets.{targets}
-use Rattle.slot_run.specs.Effects.{is_slot_of}
+use Rattle.slot_code.proofs.GlobalLemmas.{named_slot}
 use Rattle.slot_run.specs.Steps.{Sees, AreAlike, scope_over, Steps}
 use Rattle.slot_run.proofs.SumLemmas.{IsValueOf, variable_view_is}
-use Rattle.slot_run.proofs.Bools.{both, same_itself}
+use Rattle.slot_run.proofs.Bools.{both}
 
 -- the globals' names are the externals of the text
 abbrev pub AreNamed : CodeView → Type 0
@@ -99,7 +98,7 @@ sees_over text layout vs moment budget named fits len = record {
   there = λ x g known.
       rw (path_of_global text layout vs moment budget x g named known)
       (seen_slot layout vs fits.distinct len g.slot (record { path = unowned x; is_input = g.is_input })
-      (fits.slots x g known));
+      (named_slot layout text.globals x g fits.slots known));
   stand_ins = refl;
 }
 
@@ -136,7 +135,8 @@ pub steps_nowhere :
     → global_named text.globals x ≡ Some g → slice_get us g.slot ≡ None → Steps text s us result
 steps_nowhere text x s g us result known none layout vs moment budget left fits len alike =
     let at =
-    slice_get_within layout g.slot (record { path = unowned x; is_input = g.is_input }) (fits.slots x g known) in
+    slice_get_within layout g.slot (record { path = unowned x; is_input = g.is_input })
+    (named_slot layout text.globals x g fits.slots known) in
     absurd (not_past vs g.slot (omega arith) (alike x g known ∙ none))
 
 -- a value that the target's type takes or not
@@ -146,7 +146,7 @@ assigned_global : (text : CodeView) (x : Name) (us : List Datum) (v old : Datum)
     → assigned (variables_in layout vs) (unowned x) v ≡ written_slot layout vs g.slot old v
 assigned_global text x us v old g layout vs known out at fits len alike =
     assigned_slot layout vs fits.distinct len g.slot (record { path = unowned x; is_input = g.is_input }) old v
-    (fits.slots x g known) out (alike x g known ∙ at)
+    (named_slot layout text.globals x g fits.slots known) out (alike x g known ∙ at)
 
 pub steps_written : (text : CodeView) (x : Identifier) (e : Expr) (us : List Datum) (v old : Datum) (g : GlobalSlot)
     → AreNamed text → is_sum text.globals e ≡ true → IsValueOf text.globals us e (Ok v)
@@ -177,9 +177,3 @@ steps_refused text x e us v old g named sum is known out at may layout vs moment
 pub at_globals : (gs hs : List GlobalSlot) (us : List Datum) (e : Expr) (r : Result Datum Fault) → gs ≡ hs
     → IsValueOf gs us e r → IsValueOf hs us e r
 at_globals gs hs us e r is v = rw (← is) v
-
--- the slot of an assignment's target
-pub target_there : (globals : List GlobalSlot) (x : Identifier) (e : Expr) (g : GlobalSlot)
-    → global_named globals x.name ≡ Some g
-    → is_slot_of globals (targets (assign (variable x no_selectors) e)) g.slot ≡ true
-target_there globals x e g known = rw (known, same_itself g.slot) refl

@@ -8,8 +8,7 @@ ghost use Rattle.st_types.specs.Stores.{may_replace};
 ghost use Rattle.slot_code.specs.Globals.{is_plain};
 ghost use Rattle.slot_code.specs.Codes.{code_view};
 ghost use Rattle.slot_run.specs.Cells.{cut, cut_of, with_cell, EachSlotOnce, each_once};
-ghost use Rattle.slot_run.specs.Targets.{targets};
-ghost use Rattle.slot_run.specs.Effects.{is_variable_slot, is_slot_of, is_target_slot};
+ghost use Rattle.slot_run.specs.Effects.{is_variable_slot};
 ghost use Rattle.slot_run.specs.Executions.{IsEffectOf};
 ghost use Rattle.slot_run.specs.Steps.{IsVariableSlot, Runs, Steps, lasting_writes};
 
@@ -31,13 +30,11 @@ fn is_among(cells: &[Cell], slot: usize) -> bool
 }
 
 /// The values of the globals that the code names, in the order of its externals, and each slot once.
-#[tactic(auto, using(crate::proofs::OnceLemmas::none_once))]
 fn reads_of(alloc: Global, globals: &[GlobalSlot], slots: &[Value]) -> Result<Vec<Cell>, AllocError>
     requires there { list_all (λ g. nat_lt g.slot (length slots.now)) globals.now ≡ true }
     ensures agrees { IfOk result (λ cells. agrees slots.now (map cut cells.items) ≡ true) }
     ensures all { IfOk result
         (λ cells. map (λ c. c.0) (map cut cells.items) ≡ each_once (map (λ g. g.slot) globals.now)) }
-    ensures once { IfOk result (λ cells. EachSlotOnce (map cut cells.items)) }
 {
     let mut reads = Vec::new(alloc);
     for global in globals {
@@ -63,8 +60,6 @@ fn step(code: &Code, statement: &Stmt, slots: &[Value]) -> Result<Cell, Fault>
     requires plain { is_plain code.now.globals.items (stmt_view statement.now) ≡ true }
     ensures steps { Steps (code_view code.now) (stmt_view statement.now) slots.now (cut_of result) }
     ensures variable { IfOk result (λ c. IsVariableSlot code.now.globals.items c.slot) }
-    ensures target { IfOk result
-        (λ c. is_slot_of code.now.globals.items (targets (stmt_view statement.now)) c.slot ≡ true) }
     ensures there { IfOk result (λ c. c.slot < length slots.now) }
 {
     let Stmt::Assign(target, expression) = statement else {
@@ -108,8 +103,6 @@ fn run_all(
         (λ outcome. Runs (code_view code.now) slots.items budget (map cut writes.new.items) outcome) }
     ensures variables { IfOk result
         (λ _. list_all (λ c. is_variable_slot code.now.globals.items c.0) (map cut writes.new.items) ≡ true) }
-    ensures targets { IfOk result
-        (λ _. list_all (λ c. is_target_slot (code_view code.now) c.0) (map cut writes.new.items) ≡ true) }
     ensures once { IfOk result (λ _. EachSlotOnce (map cut writes.new.items)) }
 {
     let mut left = budget;
@@ -138,8 +131,7 @@ fn lasting_writes(outcome: Outcome, mut writes: Vec<Cell>) -> Vec<Cell>
     writes
 }
 
-/// Runs a snapshot's code on its values. What it reads are all globals that the program names, each once; what it
-/// writes are variables that its statements assign, each once.
+/// Runs a snapshot's code on its values. What it takes for its reads are all globals that the program names, each once.
 ///
 /// The only error is out of memory.
 pub fn run(alloc: Global, snapshot: Snapshot) -> Result<Execution, AllocError>

@@ -1,6 +1,6 @@
 use Rattle.std.proofs.Common.{◌≡◌, map, take}
 use Rattle.st_plans.specs.Layouts.{layout_of}
-use Rattle.config.specs.GlobalSlots.{HaveSlots}
+use Rattle.slot_code.specs.Globals.{HaveSlots}
 use Rattle.config.proofs.global_slots.slots_of.Given as goal
 
 abbrev pub invariant-loop-name : goal.invariant-loop-name

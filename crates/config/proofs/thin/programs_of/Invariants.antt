@@ -1,6 +1,6 @@
 use Rattle.std.proofs.Common.{◌≡◌, ◌++◌, List, map, drop, All}
 use Rattle.st_types.specs.Slots.{Slot}
-use Rattle.config.specs.GlobalSlots.{HaveSlots}
+use Rattle.slot_code.specs.Globals.{HaveSlots}
 use Rattle.config.specs.PlanViews.{program_view}
 use Rattle.config.specs.ThinParts.{units_in}
 use Rattle.config.specs.ThinPlans.{programs_from}

@@ -5,7 +5,7 @@ use Rattle.st_types.specs.NameTypes.{Declared}
 use Rattle.st_types.specs.ResolvedUnits.{resolved}
 use Rattle.st_plans.specs.Layouts.{layout_of}
 use Rattle.config.specs.Thin.{is_thin_unit}
-use Rattle.config.specs.GlobalSlots.{HaveSlots}
+use Rattle.slot_code.specs.Globals.{HaveSlots}
 use Rattle.config.specs.ThinParts.{units_in}
 use Rattle.config.proofs.thin.thin_units.Given as goal
 

@@ -6,7 +6,7 @@ use Rattle.st_trees.specs.ExpressionViews.{expr_view}
 use Rattle.slot_code.specs.Codes.{code_view}
 use Rattle.slot_code.specs.Globals.{global_named}
 use Rattle.slot_run.proofs.StepLemmas.{plain_view, no_input, at_globals, steps_fault, steps_nowhere, steps_written}
-use Rattle.slot_run.proofs.StepLemmas.{steps_refused, target_there}
+use Rattle.slot_run.proofs.StepLemmas.{steps_refused}
 use Rattle.slot_run.proofs.runner.step.Goals as goal
 
 pub returns-in_err-new-clause-steps : goal.returns-in_err-new-clause-steps
@@ -58,12 +58,3 @@ returns-clause-steps c =
     rw p.0 (steps_written (code_view code) c.in-Assign.target.name (expr_view c.in-Assign.expression) c.args.slots.now
     c.in_ok-new.new c.in-Some-get.old.now global code.plain.names p.2 v known
     (no_input code.globals.items c.in-Assign.target.name.name global p.1 known) at (sym c.if-not-may_replace.ensures))
-
-pub returns-clause-target : goal.returns-clause-target
-returns-clause-target c =
-    let code = c.args.code.now in
-    let global = c.in-Some.global.now in
-    let p = plain_view code.globals.items c.args.statement.now c.in-Assign.target c.in-Assign.expression c.in-Assign.is
-    c.requires.plain in
-    let known : global_named code.globals.items c.in-Assign.target.name.name ≡ Some global = search rules in
-    rw p.0 (target_there code.globals.items c.in-Assign.target.name (expr_view c.in-Assign.expression) global known)
