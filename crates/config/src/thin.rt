@@ -122,6 +122,8 @@ fn program_of(
     Ok(ProgramInstance {
         resource: program.resource,
         task: number,
+        owner: owner_of(alloc, program.resource, number)?,
+        unit: Arc::clone(&unit.unit)?,
         code: Arc::new(alloc, code)?,
     })
 }

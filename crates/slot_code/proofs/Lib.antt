@@ -1,1 +1,2 @@
 pub mod GlobalLemmas
+pub mod MeaningLemmas

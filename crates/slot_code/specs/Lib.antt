@@ -1,2 +1,3 @@
 pub mod Globals
 pub mod Codes
+pub mod Meanings

@@ -25,6 +25,7 @@ use Rattle.slot_code.specs.declared.code.Code.{Code}
 use Rattle.slot_code.specs.declared.global.GlobalSlot.{GlobalSlot}
 use Rattle.slot_code.specs.Globals.{global_named, is_plain, are_plain, Fits}
 use Rattle.slot_code.specs.Codes.{CodeView, code_view, program_of}
+use Rattle.slot_code.proofs.MeaningLemmas.{meant}
 use Rattle.slot_run.specs.Cells.{with_cell, EachSlotOnce, each_once}
 use Rattle.slot_run.specs.Effects.{is_variable_slot, IsTrueOf}
 use Rattle.slot_run.specs.Steps.{AreAlike, IsVariableSlot, scope_over, Steps, IsEnd, Runs, lasting_writes}
@@ -207,9 +208,11 @@ pub run_is_true : (code : Code) (us : List Datum) (moment budget : ℕ) (reads w
 unfolding outcome_of store_after
 run_is_true code us moment budget reads writes outcome all agreed runs variables writes_once =
     record {
-      run = λ layout vs fits len agree.
+      run = λ program means layout vs fits len agree.
           let h = run_whole code us moment budget reads writes outcome all agreed runs layout vs fits len agree in
           let r = ran (program_of (code_view code)) (inputs_in layout vs) moment budget (variables_in layout vs) in
+          meant (code_view code) program budget (variables_in layout vs) (inputs_in layout vs)
+          (variables_in layout (written vs (lasting_writes outcome writes))) moment outcome means
           (outcome_at outcome (variables_in layout (written vs writes)) r h, store_at outcome layout vs writes r h);
       variables = all_left (λ c. is_variable_slot code.globals.items c.0) outcome writes variables;
       writes_once = once_left outcome writes writes_once;

@@ -6,12 +6,13 @@ use Rattle.st_words.specs.declared.fault.Fault.{Fault}
 use Rattle.st_plans.specs.declared.entry.Activation.{Activation}
 use Rattle.st_types.specs.declared.outcome.Outcome.{Outcome}
 use Rattle.st_types.specs.declared.outcome.Outcome.TheVariants.{Faulted}
-use Rattle.st_types.specs.Runs.{outcome_of, store_after}
+use Rattle.st_types.specs.Runs.{Program, outcome_of, store_after}
 use Rattle.st_types.specs.Slots.{Slot, Cell, variables_in, inputs_in, agrees, written}
 use Rattle.slot_code.specs.declared.code.Code.{Code}
 use Rattle.slot_code.specs.declared.global.GlobalSlot.{GlobalSlot}
 use Rattle.slot_code.specs.Globals.{Fits}
-use Rattle.slot_code.specs.Codes.{code_view, program_of}
+use Rattle.slot_code.specs.Codes.{code_view}
+use Rattle.slot_code.specs.Meanings.{Means}
 use Rattle.slot_run.specs.Cells.{EachSlotOnce}
 
 -- an execution: what ran, what it read, what it writes, and how it ended
@@ -24,14 +25,15 @@ pub record Effect : Type 0 where
   pub writes : List Cell
   pub outcome : Outcome
 
--- In every layout that has the code's globals, and wherever what was read stands, the program ends so and leaves these
--- writes.
+-- Each program that the code means ends so and leaves these writes, in every layout that has the code's globals, and
+-- wherever what was read stands.
 abbrev pub IsExecutionOf : Code → ℕ → ℕ → List Cell → List Cell → Outcome → Type 0
 IsExecutionOf code moment budget reads writes outcome =
-    (layout : List Slot) (vs : List Datum) → Fits layout code.globals.items → length layout ≡ length vs
+    (program : Program) → Means (code_view code) program
+    → (layout : List Slot) (vs : List Datum) → Fits layout code.globals.items → length layout ≡ length vs
     → agrees vs reads ≡ true
-    → (outcome_of (program_of (code_view code)) budget (variables_in layout vs) (inputs_in layout vs) moment ≡ outcome)
-    × (store_after (program_of (code_view code)) budget (variables_in layout vs) (inputs_in layout vs) moment
+    → (outcome_of program budget (variables_in layout vs) (inputs_in layout vs) moment ≡ outcome)
+    × (store_after program budget (variables_in layout vs) (inputs_in layout vs) moment
     ≡ variables_in layout (written vs writes))
 
 -- the slot of a global that is no input
