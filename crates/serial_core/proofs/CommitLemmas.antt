@@ -23,7 +23,7 @@ use Rattle.st_plans.specs.Plans.{schedules_of, image_of, program_at, after_run}
 use Rattle.st_plans.specs.Logs.{Past, past_of, row_at, outcome_at, outcomes_of, done_follows}
 use Rattle.st_plans.proofs.LogLemmas.{past_of-add, IsLegal-add}
 use Rattle.slot_code.specs.declared.code.Code.{Code}
-use Rattle.slot_code.specs.Globals.{Fits}
+use Rattle.slot_code.specs.Fitting.{Fits}
 use Rattle.slot_code.specs.Codes.{CodeView, code_view}
 use Rattle.slot_code.specs.Meanings.{Means}
 use Rattle.slot_run.specs.Effects.{Effect, IsTrueOf}
@@ -36,8 +36,8 @@ use Rattle.serial_core.specs.Steps.{store_in, code_at, IsOwnOf}
 use Rattle.serial_core.specs.Kept.{IsOfPast, SerialInvariant}
 use Rattle.serial_core.proofs.OutcomeLemmas.{outcomes_of-add}
 use Rattle.serial_core.proofs.VariableLemmas.{get-add}
-use Rattle.serial_core.proofs.PlanSlots.{values_back, variables_alone, inputs_behind, variables_written, length_layout}
-use Rattle.serial_core.proofs.TakeLemmas.{found, same_row, values_are, waits-row, row-there}
+use Rattle.serial_core.proofs.PlanSlots.{values_back, variables_alone, inputs_behind, variables_written, slots_typed}
+use Rattle.serial_core.proofs.TakeLemmas.{found, values_are, waits-row, row-there}
 
 -- a program runs alike from what is equal
 same_run : (X : Type 0) (f : ℕ → Store → Store → ℕ → X) (b b' : ℕ) (s s' i i' : Store) (m m' : ℕ) → b ≡ b' → s ≡ s'
@@ -64,9 +64,9 @@ program_found : (plan : Plan) (p : ℕ) (q : ProgramInstance) → slice_get plan
 program_found plan p q at = slice_get-map program_view plan.programs.items p ∙ ap (option_map program_view) at
 
 own_fits : (plan : Plan) (p : ℕ) (code : Code) → IsProgram plan p code
-    → Fits (layout_of plan.variables.items plan.inputs.items) code.globals.items
+    → Fits (layout_of plan.variables.items plan.inputs.items) (code_view code)
 own_fits plan p code is =
-    subst (λ (t : CodeView). Fits (layout_of plan.variables.items plan.inputs.items) t.globals) is.text
+    subst (λ (t : CodeView). Fits (layout_of plan.variables.items plan.inputs.items) t) is.text
     (plan.sound.codes p is.program is.at)
 
 own_means : (plan : Plan) (p : ℕ) (code : Code) → (is : IsProgram plan p code)
@@ -94,12 +94,13 @@ ran_outcome plan past row store a q o at r s is =
     ∙ ap (λ x. Some x) is
 
 pub ran : (plan : Plan) (values : List Datum) (row : Latch) (store : Store) (effect : Effect)
-    → length values ≡ length plan.variables.items → length row.image ≡ length plan.inputs.items
-    → store_in plan values ≡ store
+    → length values ≡ length plan.variables.items
+    → map (λ d. d.kind) values ≡ map (λ v. v.initial.kind) plan.variables.items
+    → map (λ d. d.kind) row.image ≡ map (λ i. i.kind) plan.inputs.items → store_in plan values ≡ store
     → IsOwnOf plan row effect
     → IsTrueOf effect.code effect.moment effect.budget effect.reads effect.writes effect.outcome
     → agrees (values ++ row.image) effect.reads ≡ true → Ran plan values row store effect
-ran plan values row store effect sized imaged is own true_of stands =
+ran plan values row store effect sized typed imaged is own true_of stands =
     let xs = plan.variables.items in
     let ins = plan.inputs.items in
     let q = own_program plan row effect own in
@@ -107,7 +108,7 @@ ran plan values row store effect sized imaged is own true_of stands =
     let runs =
     true_of.run (program_view q.program).code (own_means plan effect.activation.program effect.code q)
     (layout_of xs ins) (values ++ row.image) (own_fits plan effect.activation.program effect.code q)
-    (length_layout xs ins values row.image sized imaged) stands in
+    (slots_typed xs ins values row.image typed imaged) stands in
     let s : store ≡ variables_in (layout_of xs ins) (values ++ row.image) = sym is
     ∙ sym (variables_alone xs ins values row.image sized) in
     let i : image_of ins row.image ≡ inputs_in (layout_of xs ins) (values ++ row.image) =
@@ -242,7 +243,8 @@ module _ {plan : Plan} {start values : List Datum} {before : Option ℕ} {sample
         let imaged = kept.of_past.images effect.activation.row (omega (arith, there, kept.of_past.row_count)) in
         let agree : agrees (values ++ row.image) effect.reads ≡ true =
         ap (λ xs. agrees (xs ++ row.image) effect.reads) (values_are kept) ∙ stands in
-        let it = ran plan values row now.store effect kept.sized imaged kept.of_past.variables own true_of agree in
+        let it =
+        ran plan values row now.store effect kept.sized kept.typed imaged kept.of_past.variables own true_of agree in
         let is : values' ≡ written values effect.writes = vs ∙ ap (written values) ws in
         let gone = subst (λ (x : Activation). Removes now.history ready x t ready') same
         (remove now.history kept.of_past.ready_is) in

@@ -1,4 +1,4 @@
-use Rattle.std.proofs.Common.{◌≡◌, ◌∷◌, [], List, Ok, true, ap, sym, subst, arith, length, length-append, map}
+use Rattle.std.proofs.Common.{◌∷◌, [], Ok, true, ap, sym, subst, arith, length, length-append, map}
 use Rattle.st_plans.specs.declared.entry.Entry.TheVariants.{Done}
 use Rattle.slot_run.specs.Cells.{cut}
 use Rattle.serial_core.specs.Steps.{State, Judges}

@@ -1,6 +1,5 @@
-use Rattle.std.proofs.Common.{◌↔◌, ◌∙◌, ap, rules, IsTrue, subst, sym}
-use Rattle.st_plans.specs.Logs.{row_at}
-use Rattle.serial_core.specs.Steps.{State, made, waits_in, IsOwn, IsOwnOf}
+use Rattle.std.proofs.Common.{rules, subst, sym}
+use Rattle.serial_core.specs.Steps.{State, waits_in}
 use Rattle.serial_core.proofs.TakeLemmas.{waits-program}
 use Rattle.serial_core.proofs.serial.SerialCore.owns.Goals as goal
 
