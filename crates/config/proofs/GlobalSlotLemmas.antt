@@ -27,17 +27,19 @@ use Rattle.st_plans.specs.Layouts.{variable_slot, input_slot, layout_of}
 use Rattle.st_types.specs.Bodies.{is_external, names_of as identifier_names, declared_names, externals_in}
 use Rattle.st_types.specs.NameTypes.{kind_of_type}
 use Rattle.st_types.proofs.SlotLemmas.{same_path_is, same_path_itself}
-use Rattle.slot_code.specs.declared.global.GlobalSlot.{GlobalSlot}
-use Rattle.slot_code.specs.Globals.{global_named, Fits}
+use Rattle.slot_code.specs.declared.path_slot.PathSlot.{PathSlot}
+use Rattle.slot_code.specs.Tables.{global_named}
+use Rattle.slot_code.specs.Fitting.{HaveSlots}
+use Rattle.slot_code.proofs.FittingLemmas.{named_slot}
 use Rattle.config.specs.Sound.{are_different}
 use Rattle.config.specs.Thin.{is_variable_of, is_input_of, is_thin_external, are_thin_externals, is_absent}
 use Rattle.config.specs.Thin.{is_thin_declaration, is_thin_block}
 use Rattle.config.specs.ThinPlans.{names_of}
-use Rattle.config.specs.GlobalSlots.{is_named_in, HasSlot, HaveSlots}
+use Rattle.config.specs.GlobalSlots.{is_named_in}
 
 -- a slot of these fields
-abbrev slot_at : Path → Bool → Slot
-slot_at p input = record { path = p; is_input = input }
+abbrev slot_at : Path → Kind → Bool → Slot
+slot_at p k input = record { path = p; kind = k; is_input = input }
 
 get_front : {X : Type 0} (xs ys : List X) (i : ℕ) (x : X) → slice_get xs i ≡ Some x → slice_get (xs ++ ys) i ≡ Some x
 get_front [] ys i x h = absurd (cc)
@@ -50,13 +52,7 @@ get_behind (x ∷ xs) ys i =
     let e : length (x ∷ xs) + i ≡ suc (length xs + i) = omega arith in
     ap (slice_get (x ∷ (xs ++ ys))) e ∙ get_behind xs ys i
 
--- what stands at the first place that passes
-found_at : {X : Type 0} (p : X → Bool) (x : X) (xs : List X) (i : ℕ) → position p (x ∷ xs) ≡ Some i
-    → (slice_get (x ∷ xs) i ≡ Some (get_or (x ∷ xs) i x)) × (p (get_or (x ∷ xs) i x) ≡ true)
-found_at p x xs i h =
-    let f = position-Some p (x ∷ xs) i x h in
-    (slice_get-get_or (x ∷ xs) i x f.0, f.1)
-
+-- nothing passes where there is no first place
 not_first : {X : Type 0} (p : X → Bool) (x : X) (xs : List X) (t : Bool) → (find p xs ≡ None → list_any p xs ≡ false)
     → cond t (Some x) (find p xs) ≡ None → (t || list_any p xs) ≡ false
 not_first p x xs true behind h = absurd (cc)
@@ -75,27 +71,29 @@ none_at p xs h =
     (find_at p xs ∙ slice_get_past xs (position_or_len p xs) (no_position (position_or_len p xs) (length xs) h))
 
 -- a name's place is that of a variable, or after the variables that of an input
-pub variable_place : (variables : List PlanVariable) (inputs : List PlanInput) (x : Name) (i : ℕ)
+pub variable_place : (variables : List PlanVariable) (inputs : List PlanInput) (x : Name) (i : ℕ) (d : PlanVariable)
     → position (λ v. same_path (unowned x) v.path) variables ≡ Some i
-    → slice_get (layout_of variables inputs) i ≡ Some (record { path = unowned x; is_input = false })
-variable_place [] inputs x i h = absurd (cc)
-variable_place (v ∷ vs) inputs x i h =
-    let f = found_at (λ v. same_path (unowned x) v.path) v vs i h in
-    get_front (map variable_slot (v ∷ vs)) (map input_slot inputs) i (slot_at (unowned x) false)
-    (slice_get-map variable_slot (v ∷ vs) i ∙ ap (option_map variable_slot) f.0
-    ∙ ap (λ p. Some (slot_at p false)) (sym (same_path_is (unowned x) (get_or (v ∷ vs) i v).path f.1)))
+    → slice_get (layout_of variables inputs) i
+    ≡ Some (record { path = unowned x; kind = (get_or variables i d).initial.kind; is_input = false })
+variable_place variables inputs x i d h =
+    let f = position-Some (λ v. same_path (unowned x) v.path) variables i d h in
+    let k = (get_or variables i d).initial.kind in
+    get_front (map variable_slot variables) (map input_slot inputs) i (slot_at (unowned x) k false)
+    (slice_get-map variable_slot variables i ∙ ap (option_map variable_slot) (slice_get-get_or variables i d f.0)
+    ∙ ap (λ p. Some (slot_at p k false)) (sym (same_path_is (unowned x) (get_or variables i d).path f.1)))
 
-pub input_place : (variables : List PlanVariable) (inputs : List PlanInput) (x : Name) (i : ℕ)
-    → position (λ i. same_path (unowned x) i.path) inputs ≡ Some i → slice_get (layout_of variables inputs)
-    (length variables + i) ≡ Some (record { path = unowned x; is_input = true })
-input_place variables [] x i h = absurd (cc)
-input_place variables (u ∷ us) x i h =
-    let f = found_at (λ i. same_path (unowned x) i.path) u us i h in
-    ap (λ n. slice_get (layout_of variables (u ∷ us)) (n + i)) (sym (length-map variables variable_slot))
-    ∙ get_behind (map variable_slot variables) (map input_slot (u ∷ us)) i
-    ∙ slice_get-map input_slot (u ∷ us) i
-    ∙ ap (option_map input_slot) f.0
-    ∙ ap (λ p. Some (slot_at p true)) (sym (same_path_is (unowned x) (get_or (u ∷ us) i u).path f.1))
+pub input_place : (variables : List PlanVariable) (inputs : List PlanInput) (x : Name) (i : ℕ) (d : PlanInput)
+    → position (λ i. same_path (unowned x) i.path) inputs ≡ Some i
+    → slice_get (layout_of variables inputs) (length variables + i)
+    ≡ Some (record { path = unowned x; kind = (get_or inputs i d).kind; is_input = true })
+input_place variables inputs x i d h =
+    let f = position-Some (λ i. same_path (unowned x) i.path) inputs i d h in
+    ap (λ n. slice_get (layout_of variables inputs) (n + i)) (sym (length-map variables variable_slot))
+    ∙ get_behind (map variable_slot variables) (map input_slot inputs) i
+    ∙ slice_get-map input_slot inputs i
+    ∙ ap (option_map input_slot) (slice_get-get_or inputs i d f.0)
+    ∙ ap (λ p. Some (slot_at p (get_or inputs i d).kind true))
+    (sym (same_path_is (unowned x) (get_or inputs i d).path f.1))
 
 pub no_slot : (variables : List PlanVariable) (inputs : List PlanInput) (x : Name)
     → position (λ v. same_path (unowned x) v.path) variables ≡ None
@@ -162,33 +160,6 @@ pub layout_distinct : (variables : List PlanVariable) (inputs : List PlanInput)
     → are_different (names_of variables inputs) ≡ true → IsLayout (layout_of variables inputs)
 layout_distinct variables inputs h =
     distinct_slots (layout_of variables inputs) (ap are_different (names_are variables inputs) ∙ h)
-
--- a global that is found by its name has the slot of this name
-named_first : (layout : List Slot) (h : GlobalSlot) (gs : List GlobalSlot) (x : Name) (g : GlobalSlot) (t : Bool)
-    → bytes_eq x h.name ≡ t → HasSlot layout h
-    → (global_named gs x ≡ Some g → slice_get layout g.slot ≡ Some (record { path = unowned x; is_input = g.is_input }))
-    → (if t then Some h else global_named gs x) ≡ Some g
-    → slice_get layout g.slot ≡ Some (record { path = unowned x; is_input = g.is_input })
-named_first layout h gs x g true e place rest is =
-    let same : h ≡ g = cc in
-    let name : x ≡ h.name = (bytes_eq-Decides x h.name).0 e in
-    ap (λ f. slice_get layout f.slot) (sym same) ∙ place ∙ ap (λ y. Some (slot_at (unowned y) h.is_input)) (sym name)
-    ∙ ap (λ f. Some (slot_at (unowned x) f.is_input)) same
-named_first layout h gs x g false e place rest is = rest is
-
-pub named_slot : (layout : List Slot) (globals : List GlobalSlot) (x : Name) (g : GlobalSlot) → HaveSlots layout globals
-    → global_named globals x ≡ Some g
-    → slice_get layout g.slot ≡ Some (record { path = unowned x; is_input = g.is_input })
-named_slot layout [] x g places h = absurd (cc)
-named_slot layout (f ∷ gs) x g places h =
-    named_first layout f gs x g (bytes_eq x f.name) refl (places 0 f (omega arith))
-    (named_slot layout gs x g (λ k d lt. places (suc k) d (omega arith))) h
-
-pub fits : (variables : List PlanVariable) (inputs : List PlanInput) (globals : List GlobalSlot)
-    → IsLayout (layout_of variables inputs) → HaveSlots (layout_of variables inputs) globals
-    → Fits (layout_of variables inputs) globals
-fits variables inputs globals distinct places =
-    record { distinct = distinct; slots = λ x g h. named_slot (layout_of variables inputs) globals x g places h }
 
 -- the externals of a thin unit are names of the plan
 first_or_behind : (a b rest any : Bool) → (rest ≡ true → any ≡ true) → ((a && b) || rest) ≡ true → (a || any) ≡ true
@@ -268,15 +239,23 @@ externals_known variables inputs (b ∷ bs) h =
 -- a variable of a layout is no input
 record HasVariable (variables : List PlanVariable) (x : Name) : Type 0 where
   number : ℕ
-  at : slice_get (map variable_slot variables) number ≡ Some (record { path = unowned x; is_input = false })
+  kind : Kind
+  at : slice_get (map variable_slot variables) number
+      ≡ Some (record { path = unowned x; kind = kind; is_input = false })
 
 variable_first : (v : PlanVariable) (vs : List PlanVariable) (x : Name) (a b rest : Bool)
     → same_path (unowned x) v.path ≡ a → (rest ≡ true → HasVariable vs x) → ((a && b) || rest) ≡ true
     → HasVariable (v ∷ vs) x
 variable_first v vs x true true rest e behind h =
-    record { number = 0; at = ap (λ p. Some (slot_at p false)) (sym (same_path_is (unowned x) v.path e)) }
-variable_first v vs x true false rest e behind h = let b = behind h in record { number = suc b.number; at = b.at }
-variable_first v vs x false b rest e behind h = let b = behind h in record { number = suc b.number; at = b.at }
+    record {
+      number = 0;
+      kind = v.initial.kind;
+      at = ap (λ p. Some (slot_at p v.initial.kind false)) (sym (same_path_is (unowned x) v.path e));
+    }
+variable_first v vs x true false rest e behind h =
+    let b = behind h in record { number = suc b.number; kind = b.kind; at = b.at }
+variable_first v vs x false b rest e behind h =
+    let b = behind h in record { number = suc b.number; kind = b.kind; at = b.at }
 
 variable_there : (variables : List PlanVariable) (k : Kind) (x : Name) → is_variable_of variables k x ≡ true
     → HasVariable variables x
@@ -285,24 +264,24 @@ variable_there (v ∷ vs) k x h = variable_first v vs x (same_path (unowned x) v
     (is_variable_of vs k x) refl (variable_there vs k x) h
 
 -- in a layout a path is a variable's or an input's
-one_sort : (layout : List Slot) (p : Path) (i j : ℕ) (a b : Bool) → IsLayout layout
-    → slice_get layout i ≡ Some (record { path = p; is_input = a })
-    → slice_get layout j ≡ Some (record { path = p; is_input = b }) → a ≡ b
-one_sort layout p i j a b distinct here there =
-    let m : slot_of layout p ≡ Some i = distinct i (slot_at p a) here in
-    let n : slot_of layout p ≡ Some j = distinct j (slot_at p b) there in
+one_sort : (layout : List Slot) (p : Path) (i j : ℕ) (k l : Kind) (a b : Bool) → IsLayout layout
+    → slice_get layout i ≡ Some (record { path = p; kind = k; is_input = a })
+    → slice_get layout j ≡ Some (record { path = p; kind = l; is_input = b }) → a ≡ b
+one_sort layout p i j k l a b distinct here there =
+    let m : slot_of layout p ≡ Some i = distinct i (slot_at p k a) here in
+    let n : slot_of layout p ≡ Some j = distinct j (slot_at p l b) there in
     let e : i ≡ j = cc in
-    let f : Some (slot_at p a) ≡ Some (slot_at p b) = sym here ∙ ap (slice_get layout) e ∙ there in
-    let g : slot_at p a ≡ slot_at p b = cc in
+    let f : Some (slot_at p k a) ≡ Some (slot_at p l b) = sym here ∙ ap (slice_get layout) e ∙ there in
+    let g : slot_at p k a ≡ slot_at p l b = cc in
     ap (λ s. s.is_input) g
 
-pub variable_assignable : (variables : List PlanVariable) (inputs : List PlanInput) (globals : List GlobalSlot)
-    (k : Kind) (x : Name) (g : GlobalSlot) → IsLayout (layout_of variables inputs)
+pub variable_assignable : (variables : List PlanVariable) (inputs : List PlanInput) (globals : List PathSlot)
+    (k : Kind) (x : Name) (g : PathSlot) → IsLayout (layout_of variables inputs)
     → HaveSlots (layout_of variables inputs) globals → is_variable_of variables k x ≡ true
     → global_named globals x ≡ Some g → g.is_input ≡ false
 variable_assignable variables inputs globals k x g distinct places of_kind named =
     let v = variable_there variables k x of_kind in
     let here =
-    get_front (map variable_slot variables) (map input_slot inputs) v.number (slot_at (unowned x) false) v.at in
+    get_front (map variable_slot variables) (map input_slot inputs) v.number (slot_at (unowned x) v.kind false) v.at in
     let there = named_slot (layout_of variables inputs) globals x g places named in
-    one_sort (layout_of variables inputs) (unowned x) g.slot v.number g.is_input false distinct there here
+    one_sort (layout_of variables inputs) (unowned x) g.slot v.number g.kind v.kind g.is_input false distinct there here

@@ -9,3 +9,4 @@ pub mod PlainLemmas
 pub mod ThinLemmas
 pub mod GlobalSlotLemmas
 pub mod SoundLemmas
+pub mod FitLemmas

@@ -1,11 +1,12 @@
 -- The resolved body of a thin unit is of plain assignments to the unit's globals.
 use Rattle.std.proofs.Common.{◌≡◌, Bool, true, false, ◌&&◌, List, [], ◌∷◌, map, Option, Some, None, refl, ap, ◌∙◌}
-use Rattle.std.specs.Prelude.{bytes_eq, nat_le, option_and_then}
-use Rattle.std.proofs.Common.{◌||◌, if◌then◌else◌, arith}
+use Rattle.std.specs.Prelude.{nat_le, option_and_then}
+use Rattle.std.proofs.Common.{arith}
 use Rattle.std.proofs.lemmas.Bool.Decides.{nat_tests}
 use Rattle.st_words.specs.declared.limits.TheConstants.{MAX_DEPTH}
 use Rattle.st_words.specs.Kinds.{same_kind}
-use Rattle.std.specs.List.{list_all}
+use Rattle.std.specs.List.{list_all, list_any}
+use Rattle.st_words.specs.Paths.{same_path}
 use Rattle.std.proofs.lemmas.Bool.{and_parts}
 use Rattle.st_words.specs.declared.kind.Kind.{Kind}
 use Rattle.st_words.specs.declared.literal.Literal.TheVariants as literals
@@ -19,29 +20,18 @@ use Rattle.st_trees.specs.Declarations.{VariableBlock}
 use Rattle.st_trees.specs.Units.{OrganisationUnit}
 use Rattle.st_plans.specs.declared.plan.PlanVariable.{PlanVariable}
 use Rattle.st_plans.specs.declared.plan.PlanInput.{PlanInput}
-use Rattle.st_types.specs.Scopes.{Name, contains_name}
+use Rattle.st_types.specs.Scopes.{Name, unowned, contains_name}
 use Rattle.st_types.specs.NameTypes.{Declared, kind_of_type, kind_of_variable, type_in_blocks}
 use Rattle.st_types.specs.Bodies.{externals_in}
 use Rattle.st_types.specs.Resolution.{resolved_expr, operand_kind}
 use Rattle.st_types.specs.ResolvedUnits.{resolved, resolved_stmt}
-use Rattle.slot_code.specs.declared.global.GlobalSlot.{GlobalSlot}
-use Rattle.slot_code.specs.Globals.{global_named, is_known, is_assignable, is_sum, is_plain, are_plain}
+use Rattle.slot_code.specs.declared.path_slot.PathSlot.{PathSlot}
+use Rattle.slot_code.specs.Tables.{global_named}
+use Rattle.slot_code.specs.Plain.{is_known, is_assignable, is_sum, is_plain, are_plain}
+use Rattle.slot_code.proofs.TableLemmas.{listed_found, listed_name}
 use Rattle.config.specs.Thin.{is_variable_of, is_thin_block, kind_in, is_of, is_typed, is_typed_for, is_typed_stmt}
 use Rattle.config.specs.Thin.{is_program, is_short, is_undeclared, is_thin_unit}
 use Rattle.config.proofs.ExternalLemmas.{absent}
-
--- the globals of these names are known
-known_here : (t : Bool) (g : GlobalSlot) (gs : List GlobalSlot) (x : Name) → t ≡ bytes_eq x g.name
-    → (t || contains_name (map (λ h. h.name) gs) x) ≡ true
-    → (contains_name (map (λ h. h.name) gs) x ≡ true → is_known (global_named gs x) ≡ true)
-    → is_known (if t then Some g else global_named gs x) ≡ true
-known_here true g gs x e h rest = refl
-known_here false g gs x e h rest = rest h
-
-known : (globals : List GlobalSlot) (x : Name) → contains_name (map (λ g. g.name) globals) x ≡ true
-    → is_known (global_named globals x) ≡ true
-known [] x h = absurd (cc)
-known (g ∷ gs) x h = known_here (bytes_eq x g.name) g gs x refl h (known gs x)
 
 -- a name that has a type is an external
 external_if : (t : Bool) (o : Option VariableType) (k : Kind) → (t ≡ false → o ≡ None)
@@ -51,21 +41,23 @@ external_if false None k none h = absurd (cc)
 external_if false (Some v) k none h = let e = none refl in absurd (cc)
 
 -- what the names of a unit's globals are good for
-pub record AreGlobals (variables : List PlanVariable) (blocks : List VariableBlock) (globals : List GlobalSlot) :
+pub record AreGlobals (variables : List PlanVariable) (blocks : List VariableBlock) (globals : List PathSlot) :
     Type 0 where
   pub known : (k : Kind) (x : Name) → is_of k (kind_in blocks x) ≡ true → is_known (global_named globals x) ≡ true
-  pub assignable : (k : Kind) (x : Name) (g : GlobalSlot) → is_variable_of variables k x ≡ true
+  pub assignable : (k : Kind) (x : Name) (g : PathSlot) → is_variable_of variables k x ≡ true
       → global_named globals x ≡ Some g → g.is_input ≡ false
 
 pub named_globals :
-    (variables : List PlanVariable) (inputs : List PlanInput) (blocks : List VariableBlock) (globals : List GlobalSlot)
-    → list_all (is_thin_block variables inputs) blocks ≡ true → map (λ g. g.name) globals ≡ externals_in blocks
+    (variables : List PlanVariable) (inputs : List PlanInput) (blocks : List VariableBlock) (globals : List PathSlot)
+    → list_all (is_thin_block variables inputs) blocks ≡ true
+    → map (λ g. g.path) globals ≡ map unowned (externals_in blocks)
     → (k : Kind) (x : Name) → is_of k (kind_in blocks x) ≡ true → is_known (global_named globals x) ≡ true
 named_globals variables inputs blocks globals thin names k x h =
-    known globals x (ap (λ ns. contains_name ns x) names ∙ external_if (contains_name (externals_in blocks) x)
-    (type_in_blocks blocks x) k (absent variables inputs x blocks thin) h)
+    listed_found globals x (ap (list_any (same_path (unowned x))) names ∙ listed_name (externals_in blocks) x
+    ∙ external_if (contains_name (externals_in blocks) x) (type_in_blocks blocks x) k
+    (absent variables inputs x blocks thin) h)
 
-sum_plain : (text : Declared) (u : OrganisationUnit) (variables : List PlanVariable) (globals : List GlobalSlot)
+sum_plain : (text : Declared) (u : OrganisationUnit) (variables : List PlanVariable) (globals : List PathSlot)
     (k : Kind) (o : Option Kind) (e : Expr) → AreGlobals variables u.blocks globals → is_typed u.blocks k e ≡ true
     → is_sum globals (resolved_expr text u o e) ≡ true
 sum_plain text u variables globals k o (literal (literals.Number n)) are h = refl
@@ -84,7 +76,7 @@ sum_plain text u variables globals k o (binary Add l r) are h =
     ) refl
 sum_plain text u variables globals k o (binary op l r) are h = absurd (cc)
 
-assignable_by : (o : Option GlobalSlot) → is_known o ≡ true → ((g : GlobalSlot) → o ≡ Some g → g.is_input ≡ false)
+assignable_by : (o : Option PathSlot) → is_known o ≡ true → ((g : PathSlot) → o ≡ Some g → g.is_input ≡ false)
     → is_assignable o ≡ true
 assignable_by None h out = absurd (cc)
 assignable_by (Some g) h out = rw (out g refl) refl
@@ -92,7 +84,7 @@ assignable_by (Some g) h out = rw (out g refl) refl
 same_itself : (k : Kind) → same_kind k k ≡ true
 same_itself k = grind (arith, nat_tests)
 
-for_plain : (text : Declared) (u : OrganisationUnit) (variables : List PlanVariable) (globals : List GlobalSlot)
+for_plain : (text : Declared) (u : OrganisationUnit) (variables : List PlanVariable) (globals : List PathSlot)
     (x : Name) (e : Expr) (o place : Option Kind) → AreGlobals variables u.blocks globals → kind_in u.blocks x ≡ o
     → is_typed_for variables u.blocks x e o ≡ true
     → (is_assignable (global_named globals x) && is_sum globals (resolved_expr text u place e)) ≡ true
@@ -104,7 +96,7 @@ for_plain text u variables globals x e (Some k) place are is h =
     assignable_by (global_named globals x) (are.known k x of_kind) (λ g there. are.assignable k x g p.0 there) in
     rw (a, sum_plain text u variables globals k place e are p.1) refl
 
-stmt_plain : (text : Declared) (u : OrganisationUnit) (variables : List PlanVariable) (globals : List GlobalSlot)
+stmt_plain : (text : Declared) (u : OrganisationUnit) (variables : List PlanVariable) (globals : List PathSlot)
     (s : Stmt) → AreGlobals variables u.blocks globals → is_typed_stmt variables u.blocks s ≡ true
     → is_plain globals (resolved_stmt text u s) ≡ true
 stmt_plain text u variables globals (assign (variable x no_selectors) e) are h = for_plain text u variables globals
@@ -112,7 +104,7 @@ stmt_plain text u variables globals (assign (variable x no_selectors) e) are h =
 stmt_plain text u variables globals (assign (variable x (selector_then y ys)) e) are h = absurd (cc)
 stmt_plain text u variables globals s are h = absurd (cc)
 
-body_plain : (text : Declared) (u : OrganisationUnit) (variables : List PlanVariable) (globals : List GlobalSlot)
+body_plain : (text : Declared) (u : OrganisationUnit) (variables : List PlanVariable) (globals : List PathSlot)
     (xs : List Stmt) → AreGlobals variables u.blocks globals → list_all (is_typed_stmt variables u.blocks) xs ≡ true
     → are_plain globals (map (resolved_stmt text u) xs) ≡ true
 body_plain text u variables globals [] are h = refl
@@ -122,9 +114,9 @@ body_plain text u variables globals (s ∷ xs) are h =
 
 -- the resolved body of a thin unit is plain
 pub unit_plain : (text : Declared) (u : OrganisationUnit) (variables : List PlanVariable) (inputs : List PlanInput)
-    (globals : List GlobalSlot)
-    → is_thin_unit variables inputs u ≡ true → map (λ g. g.name) globals ≡ externals_in u.blocks
-    → ((k : Kind) (x : Name) (g : GlobalSlot) → is_variable_of variables k x ≡ true → global_named globals x ≡ Some g
+    (globals : List PathSlot)
+    → is_thin_unit variables inputs u ≡ true → map (λ g. g.path) globals ≡ map unowned (externals_in u.blocks)
+    → ((k : Kind) (x : Name) (g : PathSlot) → is_variable_of variables k x ≡ true → global_named globals x ≡ Some g
     → g.is_input ≡ false)
     → are_plain globals (resolved text u).body ≡ true
 unit_plain text u variables inputs globals h names out =

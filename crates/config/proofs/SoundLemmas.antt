@@ -20,7 +20,7 @@ use Rattle.st_plans.specs.Layouts.{layout_of, path_text, record_length}
 use Rattle.config.specs.declared.task.Task.{Task}
 use Rattle.config.specs.declared.task.ProgramInstance.{ProgramInstance}
 use Rattle.config.specs.declared.thin_program.ThinProgram.{ThinProgram}
-use Rattle.config.specs.GlobalSlots.{HaveSlots}
+use Rattle.slot_code.specs.Fitting.{HaveSlots}
 use Rattle.config.specs.Sound.{are_different, is_spelled, is_sound_trigger, is_of_resource, tasks_of, IsWithinLimits}
 use Rattle.config.specs.Sound.{PlanInvariant}
 use Rattle.config.specs.PlanViews.{program_view, task_view}
@@ -32,8 +32,9 @@ use Rattle.config.specs.ThinParts.{task_in, units_in}
 use Rattle.config.specs.ThinPlans.{is_word_byte, is_name, is_nobody, is_global, is_thin_variable, is_thin_input}
 use Rattle.config.specs.ThinPlans.{names_of, is_thin_program, programs_on, is_within, is_thin, resources_of, task_of}
 use Rattle.config.specs.ThinPlans.{program_from, programs_from, thin_plan}
-use Rattle.config.proofs.GlobalSlotLemmas.{layout_distinct, fits}
+use Rattle.config.proofs.GlobalSlotLemmas.{layout_distinct}
 use Rattle.config.proofs.RecordLemmas.{path_is}
+use Rattle.config.proofs.FitLemmas.{code_fits}
 
 global_of : (v : PlanVariable) → is_thin_variable v ≡ true → is_global v.path ≡ true
 global_of v h = (and_parts (is_global v.path) (is_thin_kind v.initial.kind) h).0
@@ -174,11 +175,12 @@ programs_counted : (us : List OrganisationUnit) (j : ℕ) (ps : List ThinProgram
 programs_counted us j [] = refl
 programs_counted us j (p ∷ ps) = ap suc (programs_counted us (j + 1) ps)
 
-code_fits : (vs : List PlanVariable) (is : List PlanInput) (codes : List ProgramInstance) (k : ℕ) (p : ProgramInstance)
-    → All (λ q. HaveSlots (layout_of vs is) q.code.value.globals.items) codes → slice_get codes k ≡ Some p
-    → HaveSlots (layout_of vs is) p.code.value.globals.items
-code_fits vs is codes k p all at =
-    subst (λ q. HaveSlots (layout_of vs is) q.code.value.globals.items) (get_or_from_slice_get codes k p p at)
+code_placed :
+    (vs : List PlanVariable) (is : List PlanInput) (codes : List ProgramInstance) (k : ℕ) (p : ProgramInstance)
+    → All (λ q. HaveSlots (layout_of vs is) q.code.value.table.items) codes → slice_get codes k ≡ Some p
+    → HaveSlots (layout_of vs is) p.code.value.table.items
+code_placed vs is codes k p all at =
+    subst (λ q. HaveSlots (layout_of vs is) q.code.value.table.items) (get_or_from_slice_get codes k p p at)
     (all k p (slice_get_within codes k p at))
 
 limits : (vs : List PlanVariable) (is : List PlanInput) (ps : List ThinProgram) (n budget codes : ℕ)
@@ -204,7 +206,7 @@ limits vs is ps n budget codes thin h same =
 pub sound : (units us : List OrganisationUnit) (vs : List PlanVariable) (is : List PlanInput) (ps : List ThinProgram)
     (budget : ℕ) (codes : List ProgramInstance)
     → is_thin units vs is ps budget ≡ true → map program_view codes ≡ programs_from us 0 ps
-    → All (λ p. HaveSlots (layout_of vs is) p.code.value.globals.items) codes
+    → All (λ p. HaveSlots (layout_of vs is) p.code.value.table.items) codes
     → PlanInvariant vs is (resources_of ps) (map task_in ps) codes budget
 sound units us vs is ps budget codes h views places =
     let a = and_parts (list_all is_thin_variable vs) _ h in
@@ -215,8 +217,8 @@ sound units us vs is ps budget codes h views places =
     let layout = layout_distinct vs is c.0 in
     record {
       layout = layout;
-      codes = λ k p at. fits vs is p.code.value.globals.items layout (code_fits vs is codes k p places at);
-      placed = λ k p at. code_fits vs is codes k p places at;
+      codes = λ k p at.
+          code_fits vs is p.code.value a.0 b.0 layout (code_placed vs is codes k p places at);
       resources_are = resource_below ps;
       places = λ k p at. let f = program_place us 0 ps codes k p views at in let t : p.task ≡ k = f.0 ∙ omega arith in
           subst (λ n. is_of_resource p.resource (slice_get (map task_in ps) n) ≡ true) (sym t) f.1;
@@ -255,7 +257,7 @@ pub sound_parts : (units us : List OrganisationUnit) (vs : List PlanVariable) (i
     (ps : List ThinProgram) (budget resources : ℕ) (tasks : List Task) (codes : List ProgramInstance)
     → is_thin units vs is ps budget ≡ true → resources ≡ resources_of ps → tasks ≡ map task_in ps
     → map program_view codes ≡ programs_from us 0 ps
-    → All (λ p. HaveSlots (layout_of vs is) p.code.value.globals.items) codes
+    → All (λ p. HaveSlots (layout_of vs is) p.code.value.table.items) codes
     → PlanInvariant vs is resources tasks codes budget
 sound_parts units us vs is ps budget resources tasks codes h r t views places =
     subst (λ n. PlanInvariant vs is n tasks codes budget) (sym r)

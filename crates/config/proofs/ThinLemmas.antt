@@ -8,7 +8,7 @@ use Rattle.std.proofs.lemmas.List.Elements.{All-append}
 use Rattle.st_words.specs.declared.limits.TheConstants.{MAX_RESOURCES}
 use Rattle.st_types.specs.Slots.{Slot}
 use Rattle.config.specs.declared.thin_unit.ThinUnit.{ThinUnit}
-use Rattle.config.specs.GlobalSlots.{is_named_in, HaveSlots}
+use Rattle.config.specs.GlobalSlots.{is_named_in}
 use Rattle.config.proofs.GlobalSlotLemmas.{externals_known}
 use Rattle.config.specs.ThinParts.{units_in}
 use Rattle.std.specs.List.{list_all}
@@ -17,7 +17,7 @@ use Rattle.std.proofs.Math.Numerals.{suc-eq-add-one}
 use Rattle.std.proofs.lemmas.Bool.{and_parts}
 use Rattle.std.proofs.lemmas.List.{drop_all}
 use Rattle.st_words.specs.declared.kind.Kind.{Kind}
-use Rattle.st_types.specs.Scopes.{Name}
+use Rattle.st_types.specs.Scopes.{Name, unowned}
 use Rattle.st_trees.specs.declared.unit.Unit as code_unit
 use Rattle.st_trees.specs.UnitViews.{unit_view}
 use Rattle.st_trees.specs.Units.{OrganisationUnit}
@@ -26,8 +26,11 @@ use Rattle.st_plans.specs.declared.plan.PlanInput.{PlanInput}
 use Rattle.st_types.specs.NameTypes.{Declared}
 use Rattle.st_types.specs.Bodies.{externals_in}
 use Rattle.st_types.specs.ResolvedUnits.{resolved}
-use Rattle.slot_code.specs.declared.global.GlobalSlot.{GlobalSlot}
-use Rattle.slot_code.specs.Globals.{IsPlain, global_named, are_plain}
+use Rattle.slot_code.specs.declared.path_slot.PathSlot.{PathSlot}
+use Rattle.slot_code.specs.declared.root.Root.{Root}
+use Rattle.slot_code.specs.Tables.{global_named, global_root}
+use Rattle.slot_code.specs.Plain.{IsPlain, are_plain}
+use Rattle.slot_code.specs.Fitting.{HaveSlots}
 use Rattle.config.specs.declared.thin_program.ThinProgram.{ThinProgram}
 use Rattle.config.specs.Thin.{is_program, is_short, is_thin_block, is_variable_of, is_thin_unit}
 use Rattle.config.specs.declared.task.ProgramInstance.{ProgramInstance}
@@ -47,19 +50,21 @@ use Rattle.config.proofs.ResolveLemmas.{blocks_are}
 
 -- what a thin unit resolves to is plain over globals that are there
 pub plain_unit : (new : code_unit.Unit) (u : OrganisationUnit) (text : Declared) (variables : List PlanVariable)
-    (inputs : List PlanInput) (globals : List GlobalSlot)
+    (inputs : List PlanInput) (roots : List Root) (globals : List PathSlot)
     → unit_view new ≡ resolved text u → is_thin_unit variables inputs u ≡ true
-    → map (λ g. g.name) globals ≡ externals_in u.blocks
-    → ((k : Kind) (x : Name) (g : GlobalSlot) → is_variable_of variables k x ≡ true → global_named globals x ≡ Some g
+    → roots ≡ map global_root (externals_in u.blocks) → map (λ g. g.path) globals ≡ map unowned (externals_in u.blocks)
+    → ((k : Kind) (x : Name) (g : PathSlot) → is_variable_of variables k x ≡ true → global_named globals x ≡ Some g
     → g.is_input ≡ false)
-    → IsPlain new globals
-plain_unit new u text variables inputs globals e h names out =
+    → IsPlain new roots globals
+plain_unit new u text variables inputs roots globals e h rooted paths out =
     let p = and_parts (is_program u.sort && is_short u.name.name)
     (list_all (is_thin_block variables inputs) u.blocks && _) h in
     let q = and_parts (list_all (is_thin_block variables inputs) u.blocks) _ p.1 in
+    let same = ap externals_in (sym (ap (λ v. v.blocks) e ∙ blocks_are text variables inputs u.blocks q.0)) in
     record {
-      names = names ∙ ap externals_in (sym (ap (λ v. v.blocks) e ∙ blocks_are text variables inputs u.blocks q.0));
-      body = ap (λ v. are_plain globals v.body) e ∙ unit_plain text u variables inputs globals h names out;
+      roots_are = rooted ∙ ap (map global_root) same;
+      paths = paths ∙ ap (map unowned) same;
+      body = ap (λ v. are_plain globals v.body) e ∙ unit_plain text u variables inputs globals h paths out;
     }
 
 program_at : (ps : List ThinProgram) (i : ℕ) (d : ThinProgram) → i < length ps
@@ -87,10 +92,10 @@ units_step text done all u left rest new whole h more is pushed =
     ∙ h
 
 pub places_step : (layout : List Slot) (done all : List ThinUnit) (u : ThinUnit)
-    → All (λ v. HaveSlots layout v.globals.items) done → HaveSlots layout u.globals.items → all ≡ done ++ u ∷ []
-    → All (λ v. HaveSlots layout v.globals.items) all
-places_step layout done all u h is pushed = subst (All (λ v. HaveSlots layout v.globals.items)) (sym pushed)
-    (All-append (λ v. HaveSlots layout v.globals.items) done (u ∷ []) h (search rules))
+    → All (λ v. HaveSlots layout v.table.items) done → HaveSlots layout u.table.items → all ≡ done ++ u ∷ []
+    → All (λ v. HaveSlots layout v.table.items) all
+places_step layout done all u h is pushed = subst (All (λ v. HaveSlots layout v.table.items)) (sym pushed)
+    (All-append (λ v. HaveSlots layout v.table.items) done (u ∷ []) h (search rules))
 
 pub thin_rest : (variables : List PlanVariable) (inputs : List PlanInput) (left rest : List code_unit.Unit)
     (new : code_unit.Unit) → list_all (is_thin_unit variables inputs) (map unit_view left) ≡ true → left ≡ new ∷ rest
@@ -134,12 +139,12 @@ programs_step us ps k d done all p whole h lt is pushed =
     ∙ h
 
 pub code_places_step : (layout : List Slot) (done all : List ProgramInstance) (p : ProgramInstance)
-    → All (λ v. HaveSlots layout v.code.value.globals.items) done → HaveSlots layout p.code.value.globals.items
+    → All (λ v. HaveSlots layout v.code.value.table.items) done → HaveSlots layout p.code.value.table.items
     → all ≡ done ++ p ∷ []
-    → All (λ v. HaveSlots layout v.code.value.globals.items) all
+    → All (λ v. HaveSlots layout v.code.value.table.items) all
 code_places_step layout done all p h is pushed =
-    subst (All (λ v. HaveSlots layout v.code.value.globals.items)) (sym pushed)
-    (All-append (λ v. HaveSlots layout v.code.value.globals.items) done (p ∷ []) h (search rules))
+    subst (All (λ v. HaveSlots layout v.code.value.table.items)) (sym pushed)
+    (All-append (λ v. HaveSlots layout v.code.value.table.items) done (p ∷ []) h (search rules))
 
 pub programs_end : (us : List OrganisationUnit) (ps : List ThinProgram) (k : ℕ) → length ps ≤ k
     → programs_from us k (drop k ps) ≡ []

@@ -1,4 +1,5 @@
 pub mod Thin
+pub mod Sources
 pub mod Sound
 pub mod PlanViews
 pub mod ThinPlans

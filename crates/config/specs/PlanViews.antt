@@ -3,12 +3,12 @@ use Rattle.std.specs.Prelude.{List, map, slice_get, Option, Some, None}
 use Rattle.st_plans.specs.declared.plan.PlanVariable.{PlanVariable}
 use Rattle.st_plans.specs.Plans as plans
 use Rattle.st_plans.specs.Plans.{no_single, single_input, single_global}
-use Rattle.slot_code.specs.Codes.{code_view, program_of}
 use Rattle.config.specs.declared.task.Trigger.{Trigger}
 use Rattle.config.specs.declared.task.Trigger.TheVariants.{Absent, Input, Variable}
 use Rattle.config.specs.declared.task.Task.{Task}
 use Rattle.config.specs.declared.task.ProgramInstance.{ProgramInstance}
 use Rattle.config.specs.declared.plan.Plan.{Plan}
+use Rattle.config.specs.Sources.{source_program}
 
 abbrev pub single_of : Option PlanVariable → plans.Trigger
 single_of None = no_single
@@ -24,7 +24,7 @@ task_view variables t =
     record { single = trigger_view variables t.single; interval = t.interval; priority = t.priority }
 
 abbrev pub program_view : ProgramInstance → plans.ProgramInstance
-program_view p = record { resource = p.resource; task = p.task; code = program_of (code_view p.code.value) }
+program_view p = record { resource = p.resource; task = p.task; code = source_program p.owner p.unit.value }
 
 abbrev pub plan_view : Plan → plans.Plan
 plan_view plan = record {

@@ -11,12 +11,12 @@ use Rattle.st_plans.specs.declared.plan.PlanInput.{PlanInput}
 use Rattle.st_types.specs.Scopes.{Name, contains_name}
 use Rattle.st_types.specs.Slots.{IsLayout}
 use Rattle.st_plans.specs.Layouts.{layout_of, path_text, record_length}
-use Rattle.slot_code.specs.Globals.{Fits}
+use Rattle.slot_code.specs.Codes.{code_view}
+use Rattle.slot_code.specs.Fitting.{Fits}
 use Rattle.config.specs.declared.task.Trigger.{Trigger}
 use Rattle.config.specs.declared.task.Trigger.TheVariants.{Absent, Input, Variable}
 use Rattle.config.specs.declared.task.Task.{Task}
 use Rattle.config.specs.declared.task.ProgramInstance.{ProgramInstance}
-use Rattle.config.specs.GlobalSlots.{HaveSlots}
 
 -- each name stands once
 abbrev pub are_different : List Name → Bool
@@ -60,15 +60,13 @@ pub record IsWithinLimits (variables : List PlanVariable) (inputs : List PlanInp
   pub ticks : budget ≤ MAX_BUDGET
   pub record_is : record_length variables ≤ MAX_RECORD_BODY
 
--- Each path has one slot, and the code of each program the slots of the globals that it names; each program runs in a
+-- Each path has one slot, and the code of each program fits the slots; each program runs in a
 -- task of its resource; each path can be spelled in a record, and no two are spelled alike.
 pub record PlanInvariant (variables : List PlanVariable) (inputs : List PlanInput) (resources : ℕ) (tasks : List Task)
     (programs : List ProgramInstance) (budget : ℕ) : Type 0 where
   pub layout : IsLayout (layout_of variables inputs)
   pub codes : (k : ℕ) (p : ProgramInstance) → slice_get programs k ≡ Some p
-      → Fits (layout_of variables inputs) p.code.value.globals.items
-  pub placed : (k : ℕ) (p : ProgramInstance) → slice_get programs k ≡ Some p
-      → HaveSlots (layout_of variables inputs) p.code.value.globals.items
+      → Fits (layout_of variables inputs) (code_view p.code.value)
   pub resources_are : (k : ℕ) (t : Task) → slice_get tasks k ≡ Some t → t.resource < resources
   pub places : (k : ℕ) (p : ProgramInstance) → slice_get programs k ≡ Some p
       → is_of_resource p.resource (slice_get tasks p.task) ≡ true

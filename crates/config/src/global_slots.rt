@@ -7,13 +7,14 @@ ghost use Rattle.st_trees.specs.DeclarationViews.{declaration_view, variable_blo
 ghost use Rattle.st_types.specs.Scopes.{unowned};
 ghost use Rattle.st_types.specs.Bodies.{is_external, names_of, declared_names, externals_in};
 ghost use Rattle.st_plans.specs.Layouts.{layout_of};
-ghost use Rattle.config.specs.GlobalSlots.{is_named_in, HasSlot, HaveSlots};
+ghost use Rattle.slot_code.specs.Tables.{global_root};
+ghost use Rattle.slot_code.specs.Fitting.{HasSlot, HaveSlots};
+ghost use Rattle.config.specs.GlobalSlots.{is_named_in};
 
-use crate::global_path::is_global_of;
-use slot_code::GlobalSlot;
+use slot_code::{PathSlot, Root, is_global_of};
 use st_plans::{PlanInput, PlanVariable};
 use st_trees::{Declaration, Section, VariableBlock};
-use st_words::{Identifier, Name};
+use st_words::{Identifier, Kind, Name, Path};
 use std::alloc::{AllocError, Global};
 
 fn is_external(section: Section) -> bool
@@ -67,6 +68,8 @@ pub fn externals_in(alloc: Global, blocks: &[VariableBlock]) -> Result<Vec<Name>
 struct Found {
     /// The number of its slot in the layout, from 0.
     slot: usize,
+    /// The type of its value.
+    kind: Kind,
     /// Whether its value comes from the plant.
     is_input: bool,
 }
@@ -91,40 +94,57 @@ fn slot_of(variables: &[PlanVariable], inputs: &[PlanInput], name: &Name) -> Opt
     ensures { MatchOption result
         (is_named_in variables.now inputs.now name.now ≡ false)
         (λ slot. slice_get (layout_of variables.now inputs.now) slot.slot
-        ≡ Some (record { path = unowned name.now; is_input = slot.is_input })) }
+        ≡ Some (record { path = unowned name.now; kind = slot.kind; is_input = slot.is_input })) }
 {
     if let Some(slot) = variable_at(variables, name) {
         return Some(Found {
             slot,
+            kind: variables[slot].initial.kind(),
             is_input: false,
         });
     }
     let input = input_at(inputs, name)?;
     Some(Found {
         slot: variables.len() + input,
+        kind: inputs[input].kind,
         is_input: true,
     })
 }
 
-/// The global of a name with its slot.
-fn global_of(
+/// The entry of a global by its name.
+fn entry_of(
     alloc: Global,
     variables: &[PlanVariable],
     inputs: &[PlanInput],
     name: &Name,
-) -> Result<GlobalSlot, AllocError>
+) -> Result<PathSlot, AllocError>
     requires known { is_named_in variables.now inputs.now name.now ≡ true }
-    ensures name { IfOk result (λ global. global.name ≡ name.now) }
-    ensures slot { IfOk result (λ global. HasSlot (layout_of variables.now inputs.now) global) }
+    ensures path { IfOk result (λ e. e.path ≡ unowned name.now) }
+    ensures slot { IfOk result (λ e. HasSlot (layout_of variables.now inputs.now) e) }
 {
     let Some(slot) = slot_of(variables, inputs, name) else {
         unreachable!()
     };
-    Ok(GlobalSlot {
-        name: name.copied(alloc)?,
+    Ok(PathSlot {
+        path: Path::global(alloc, name.copied(alloc)?),
         slot: slot.slot,
+        kind: slot.kind,
         is_input: slot.is_input,
     })
+}
+
+/// The roots of these globals, in order.
+pub fn roots_of(alloc: Global, names: &[Name]) -> Result<Vec<Root>, AllocError>
+    ensures { IfOk result (λ roots. roots.items ≡ map global_root names.now) }
+{
+    let mut roots = Vec::new(alloc);
+    for name in names {
+        roots.push(Root {
+            owner: None,
+            name: name.copied(alloc)?,
+        })?;
+    }
+    Ok(roots)
 }
 
 /// The globals of these names with their slots, in order.
@@ -133,14 +153,14 @@ pub fn slots_of(
     variables: &[PlanVariable],
     inputs: &[PlanInput],
     names: &[Name],
-) -> Result<Vec<GlobalSlot>, AllocError>
+) -> Result<Vec<PathSlot>, AllocError>
     requires known { list_all (is_named_in variables.now inputs.now) names.now ≡ true }
-    ensures names { IfOk result (λ globals. map (λ g. g.name) globals.items ≡ names.now) }
-    ensures slots { IfOk result (λ globals. HaveSlots (layout_of variables.now inputs.now) globals.items) }
+    ensures paths { IfOk result (λ table. map (λ e. e.path) table.items ≡ map unowned names.now) }
+    ensures slots { IfOk result (λ table. HaveSlots (layout_of variables.now inputs.now) table.items) }
 {
-    let mut globals = Vec::new(alloc);
+    let mut table = Vec::new(alloc);
     for name in names {
-        globals.push(global_of(alloc, variables, inputs, name)?)?;
+        table.push(entry_of(alloc, variables, inputs, name)?)?;
     }
-    Ok(globals)
+    Ok(table)
 }

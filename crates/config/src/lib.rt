@@ -4,7 +4,6 @@
 //! that codes fit, and the limits, so nobody above looks at them again. A plan never changes.
 #![tactic(auto)]
 
-mod global_path;
 mod global_slots;
 mod instance_name;
 mod layout_text;

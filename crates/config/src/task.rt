@@ -1,6 +1,12 @@
 //! Tasks and programs of a plan.
 
+ghost use Rattle.slot_code.specs.Codes.{code_view};
+ghost use Rattle.slot_code.specs.Meanings.{Means};
+ghost use Rattle.config.specs.Sources.{source_program};
+
 use slot_code::Code;
+use st_trees::Unit;
+use st_words::Owner;
 use std::sync::Arc;
 
 /// What makes a task due beside its interval: its SINGLE.
@@ -24,11 +30,16 @@ pub struct Task {
     pub priority: u64,
 }
 
-/// An instance of a program.
+/// An instance of a program: its source, and the code that means it.
 #[derive(Drop)]
 pub struct ProgramInstance {
     pub resource: usize,
     /// The number of its task in declaration order, from 0.
     pub task: usize,
+    /// The resource and the instance that it runs as.
+    pub owner: Owner,
+    /// Its source, with the type of each untyped literal.
+    pub unit: Arc<Unit>,
     pub code: Arc<Code>,
+    ghost means: { Means (code_view code.value) (source_program owner unit.value) },
 }

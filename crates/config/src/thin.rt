@@ -10,13 +10,13 @@ ghost use Rattle.st_types.specs.ResolvedUnits.{resolved};
 ghost use Rattle.st_types.specs.Slots.{Slot, IsLayout};
 ghost use Rattle.st_plans.specs.Layouts.{layout_of};
 ghost use Rattle.config.specs.Thin.{is_thin_unit};
-ghost use Rattle.config.specs.GlobalSlots.{HaveSlots};
+ghost use Rattle.slot_code.specs.Fitting.{HaveSlots};
 ghost use Rattle.config.specs.PlanViews.{program_view, plan_view};
 ghost use Rattle.config.specs.ThinParts.{task_in, units_in};
 ghost use Rattle.config.specs.ThinPlans.{resources_of, is_thin_program, program_from, programs_from, is_thin};
 ghost use Rattle.config.specs.ThinPlans.{thin_plan, IsThinPlan};
 
-use crate::global_slots::{externals_in, slots_of};
+use crate::global_slots::{externals_in, roots_of, slots_of};
 use crate::instance_name::owner_of;
 use crate::plan::Plan;
 use crate::plan_check::is_thin;
@@ -24,13 +24,13 @@ use crate::resolve::resolve;
 use crate::task::{ProgramInstance, Task, Trigger};
 use crate::thin_program::ThinProgram;
 use crate::thin_unit::ThinUnit;
-use slot_code::{Code, copied_globals};
+use slot_code::{Code, copied_roots, copied_table};
 use st_plans::{PlanInput, PlanVariable};
 use st_trees::Unit;
 use std::alloc::{AllocError, Global};
 use std::sync::Arc;
 
-/// A unit with its untyped literals resolved, and with its globals.
+/// A unit with its untyped literals resolved, and with the slots of its globals.
 fn thin_unit(
     alloc: Global,
     mut unit: Unit,
@@ -40,14 +40,16 @@ fn thin_unit(
     requires thin { is_thin_unit variables.now inputs.now (unit_view unit) ≡ true }
     requires layout { IsLayout (layout_of variables.now inputs.now) }
     ensures unit { (text : Declared) → IfOk result (λ u. unit_view u.unit.value ≡ resolved text (unit_view unit)) }
-    ensures slots { IfOk result (λ u. HaveSlots (layout_of variables.now inputs.now) u.globals.items) }
+    ensures slots { IfOk result (λ u. HaveSlots (layout_of variables.now inputs.now) u.table.items) }
 {
     let names = externals_in(alloc, &unit.blocks)?;
-    let globals = slots_of(alloc, variables, inputs, &names)?;
+    let roots = roots_of(alloc, &names)?;
+    let table = slots_of(alloc, variables, inputs, &names)?;
     resolve(&mut unit);
     Ok(ThinUnit {
         unit: Arc::new(alloc, unit)?,
-        globals,
+        roots,
+        table,
     })
 }
 
@@ -92,7 +94,7 @@ fn thin_units(
     ensures units { (text : Declared)
         → IfOk result (λ us. units_in us.items ≡ map (resolved text) (map unit_view units.items)) }
     ensures slots { IfOk result
-        (λ us. All (λ u. HaveSlots (layout_of variables.now inputs.now) u.globals.items) us.items) }
+        (λ us. All (λ u. HaveSlots (layout_of variables.now inputs.now) u.table.items) us.items) }
 {
     let mut resolved = Vec::new(alloc);
     for unit in units {
@@ -110,18 +112,21 @@ fn program_of(
 ) -> Result<ProgramInstance, AllocError>
     requires there { program.unit < length units.now }
     ensures view { IfOk result (λ p. program_view p ≡ program_from (units_in units.now) number program) }
-    ensures slots { (layout : List Slot) → All (λ u. HaveSlots layout u.globals.items) units.now
-        → IfOk result (λ p. HaveSlots layout p.code.value.globals.items) }
+    ensures slots { (layout : List Slot) → All (λ u. HaveSlots layout u.table.items) units.now
+        → IfOk result (λ p. HaveSlots layout p.code.value.table.items) }
 {
     let unit = &units[program.unit];
     let code = Code {
         owner: owner_of(alloc, program.resource, number)?,
         unit: Arc::clone(&unit.unit)?,
-        globals: copied_globals(alloc, &unit.globals)?,
+        roots: copied_roots(alloc, &unit.roots)?,
+        table: copied_table(alloc, &unit.table)?,
     };
     Ok(ProgramInstance {
         resource: program.resource,
         task: number,
+        owner: owner_of(alloc, program.resource, number)?,
+        unit: Arc::clone(&unit.unit)?,
         code: Arc::new(alloc, code)?,
     })
 }
@@ -135,8 +140,8 @@ fn programs_of(
 ) -> Result<Vec<ProgramInstance>, AllocError>
     requires there { list_all (is_thin_program (length units.now)) programs.now ≡ true }
     ensures views { IfOk result (λ ps. map program_view ps.items ≡ programs_from (units_in units.now) 0 programs.now) }
-    ensures slots { (layout : List Slot) → All (λ u. HaveSlots layout u.globals.items) units.now
-        → IfOk result (λ ps. All (λ p. HaveSlots layout p.code.value.globals.items) ps.items) }
+    ensures slots { (layout : List Slot) → All (λ u. HaveSlots layout u.table.items) units.now
+        → IfOk result (λ ps. All (λ p. HaveSlots layout p.code.value.table.items) ps.items) }
 {
     let mut made = Vec::new(alloc);
     for k in 0..programs.len() {

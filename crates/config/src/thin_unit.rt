@@ -1,15 +1,16 @@
 //! Resolved units of a thin plan.
 
-ghost use Rattle.slot_code.specs.Globals.{IsPlain};
+ghost use Rattle.slot_code.specs.Plain.{IsPlain};
 
-use slot_code::GlobalSlot;
+use slot_code::{PathSlot, Root};
 use st_trees::Unit;
 use std::sync::Arc;
 
-/// A resolved program, and the slots of its externals.
+/// A resolved program, the roots that it names, and their slots.
 #[derive(Drop)]
 pub struct ThinUnit {
     pub unit: Arc<Unit>,
-    pub globals: Vec<GlobalSlot>,
-    ghost plain: { IsPlain unit.value globals.items },
+    pub roots: Vec<Root>,
+    pub table: Vec<PathSlot>,
+    ghost plain: { IsPlain unit.value roots.items table.items },
 }

@@ -14,8 +14,8 @@ ghost use Rattle.config.specs.Thin.{is_absent, is_thin_declaration, is_thin_bloc
 ghost use Rattle.config.specs.Thin.{is_literal_of, is_typed, is_typed_for, is_typed_stmt, is_program, is_short};
 ghost use Rattle.config.specs.Thin.{is_thin_unit};
 
-use crate::global_path::is_global_of;
 use crate::lookup::kind_in;
+use slot_code::is_global_of;
 use st_plans::{PlanInput, PlanVariable};
 use st_trees::{
     Declaration, Expr, Section, SimpleType, Stmt, Unit, UnitSort, VariableBlock, VariableType,

@@ -13,7 +13,6 @@ use Rattle.st_plans.specs.declared.plan.PlanVariable.{PlanVariable}
 use Rattle.st_plans.specs.declared.plan.PlanInput.{PlanInput}
 use Rattle.st_types.specs.Stores.{Store, shape_of}
 use Rattle.st_types.proofs.RunLemmas.{store_after_shape}
-use Rattle.st_types.specs.Runs as runs
 use Rattle.st_types.specs.Runs.{outcome_of, store_after}
 use Rattle.st_types.specs.Slots as slots
 use Rattle.st_types.specs.Slots.{agrees, written, variables_in, inputs_in}
@@ -24,8 +23,9 @@ use Rattle.st_plans.specs.Plans.{schedules_of, image_of, program_at, after_run}
 use Rattle.st_plans.specs.Logs.{Past, past_of, row_at, outcome_at, outcomes_of, done_follows}
 use Rattle.st_plans.proofs.LogLemmas.{past_of-add, IsLegal-add}
 use Rattle.slot_code.specs.declared.code.Code.{Code}
-use Rattle.slot_code.specs.Globals.{Fits}
-use Rattle.slot_code.specs.Codes.{CodeView, code_view, program_of}
+use Rattle.slot_code.specs.Fitting.{Fits}
+use Rattle.slot_code.specs.Codes.{CodeView, code_view}
+use Rattle.slot_code.specs.Meanings.{Means}
 use Rattle.slot_run.specs.Effects.{Effect, IsTrueOf}
 use Rattle.slot_run.proofs.CellLemmas.{length_written}
 use Rattle.config.specs.declared.plan.Plan.{Plan}
@@ -36,16 +36,14 @@ use Rattle.serial_core.specs.Steps.{store_in, code_at, IsOwnOf}
 use Rattle.serial_core.specs.Kept.{IsOfPast, SerialInvariant}
 use Rattle.serial_core.proofs.OutcomeLemmas.{outcomes_of-add}
 use Rattle.serial_core.proofs.VariableLemmas.{get-add}
-use Rattle.serial_core.proofs.PlanSlots.{values_back, variables_alone, inputs_behind, variables_written, length_layout}
+use Rattle.serial_core.proofs.PlanSlots.{values_back, variables_alone, inputs_behind, variables_written, slots_typed}
 use Rattle.serial_core.proofs.TakeLemmas.{found, values_are, waits-row, row-there}
 
--- equal texts run alike
-same_run : (X : Type 0) (f : runs.Program → ℕ → Store → Store → ℕ → X) (t t' : CodeView) (b b' : ℕ) (s s' i i' : Store)
-    (m m' : ℕ) → t ≡ t' → b ≡ b' → s ≡ s' → i ≡ i' → m ≡ m' → f (program_of t) b s i m ≡ f (program_of t') b' s' i' m'
-same_run X f t t' b b' s s' i i' m m' et eb es ei em =
-    ap (λ x. f (program_of x) b s i m) et ∙ ap (λ x. f (program_of t') x s i m) eb
-    ∙ ap (λ x. f (program_of t') b' x i m) es
-    ∙ ap (λ x. f (program_of t') b' s' x m) ei ∙ ap (λ x. f (program_of t') b' s' i' x) em
+-- a program runs alike from what is equal
+same_run : (X : Type 0) (f : ℕ → Store → Store → ℕ → X) (b b' : ℕ) (s s' i i' : Store) (m m' : ℕ) → b ≡ b' → s ≡ s'
+    → i ≡ i' → m ≡ m' → f b s i m ≡ f b' s' i' m'
+same_run X f b b' s s' i i' m m' eb es ei em =
+    ap (λ x. f x s i m) eb ∙ ap (λ x. f b' x i m) es ∙ ap (λ x. f b' s' x m) ei ∙ ap (λ x. f b' s' i' x) em
 
 -- an activation's own program
 pub record IsProgram (plan : Plan) (p : ℕ) (code : Code) : Type 0 where
@@ -66,10 +64,15 @@ program_found : (plan : Plan) (p : ℕ) (q : ProgramInstance) → slice_get plan
 program_found plan p q at = slice_get-map program_view plan.programs.items p ∙ ap (option_map program_view) at
 
 own_fits : (plan : Plan) (p : ℕ) (code : Code) → IsProgram plan p code
-    → Fits (layout_of plan.variables.items plan.inputs.items) code.globals.items
+    → Fits (layout_of plan.variables.items plan.inputs.items) (code_view code)
 own_fits plan p code is =
-    subst (λ (t : CodeView). Fits (layout_of plan.variables.items plan.inputs.items) t.globals) is.text
+    subst (λ (t : CodeView). Fits (layout_of plan.variables.items plan.inputs.items) t) is.text
     (plan.sound.codes p is.program is.at)
+
+own_means : (plan : Plan) (p : ℕ) (code : Code) → (is : IsProgram plan p code)
+    → Means (code_view code) (program_view is.program).code
+own_means plan p code is =
+    subst (λ (t : CodeView). Means t (program_view is.program).code) is.text is.program.means
 
 -- where the reads stand, the run is that of the plan's program
 pub record Ran (plan : Plan) (values : List Datum) (row : Latch) (store : Store) (effect : Effect) : Type 0 where
@@ -91,19 +94,21 @@ ran_outcome plan past row store a q o at r s is =
     ∙ ap (λ x. Some x) is
 
 pub ran : (plan : Plan) (values : List Datum) (row : Latch) (store : Store) (effect : Effect)
-    → length values ≡ length plan.variables.items → length row.image ≡ length plan.inputs.items
-    → store_in plan values ≡ store
+    → length values ≡ length plan.variables.items
+    → map (λ d. d.kind) values ≡ map (λ v. v.initial.kind) plan.variables.items
+    → map (λ d. d.kind) row.image ≡ map (λ i. i.kind) plan.inputs.items → store_in plan values ≡ store
     → IsOwnOf plan row effect
     → IsTrueOf effect.code effect.moment effect.budget effect.reads effect.writes effect.outcome
     → agrees (values ++ row.image) effect.reads ≡ true → Ran plan values row store effect
-ran plan values row store effect sized imaged is own true_of stands =
+ran plan values row store effect sized typed imaged is own true_of stands =
     let xs = plan.variables.items in
     let ins = plan.inputs.items in
     let q = own_program plan row effect own in
     let known = program_found plan effect.activation.program q.program q.at in
     let runs =
-    true_of.run (layout_of xs ins) (values ++ row.image) (own_fits plan effect.activation.program effect.code q)
-    (length_layout xs ins values row.image sized imaged) stands in
+    true_of.run (program_view q.program).code (own_means plan effect.activation.program effect.code q)
+    (layout_of xs ins) (values ++ row.image) (own_fits plan effect.activation.program effect.code q)
+    (slots_typed xs ins values row.image typed imaged) stands in
     let s : store ≡ variables_in (layout_of xs ins) (values ++ row.image) = sym is
     ∙ sym (variables_alone xs ins values row.image sized) in
     let i : image_of ins row.image ≡ inputs_in (layout_of xs ins) (values ++ row.image) =
@@ -111,13 +116,13 @@ ran plan values row store effect sized imaged is own true_of stands =
     record {
       after =
           ap (λ o. after_run (plan_view plan) o store row) known
-          ∙ same_run Store store_after (code_view q.program.code.value) (code_view effect.code) plan.budget
-          effect.budget store _ _ _ row.moment effect.moment q.text (sym own.budget) s i (sym own.moment)
+          ∙ same_run Store (store_after (program_view q.program).code) plan.budget effect.budget store _ _ _ row.moment
+          effect.moment (sym own.budget) s i (sym own.moment)
           ∙ runs.1 ∙ variables_written xs ins effect.writes values row.image sized;
       outcome = λ past e r. ran_outcome (plan_view plan) past row store effect.activation (program_view q.program)
           effect.outcome known r e
-          (same_run Outcome outcome_of (code_view q.program.code.value) (code_view effect.code) plan.budget
-          effect.budget store _ _ _ row.moment effect.moment q.text (sym own.budget) s i (sym own.moment) ∙ runs.0);
+          (same_run Outcome (outcome_of (program_view q.program).code) plan.budget effect.budget store _ _ _ row.moment
+          effect.moment (sym own.budget) s i (sym own.moment) ∙ runs.0);
     }
 
 -- a run changes no variable's type
@@ -238,7 +243,8 @@ module _ {plan : Plan} {start values : List Datum} {before : Option ℕ} {sample
         let imaged = kept.of_past.images effect.activation.row (omega (arith, there, kept.of_past.row_count)) in
         let agree : agrees (values ++ row.image) effect.reads ≡ true =
         ap (λ xs. agrees (xs ++ row.image) effect.reads) (values_are kept) ∙ stands in
-        let it = ran plan values row now.store effect kept.sized imaged kept.of_past.variables own true_of agree in
+        let it =
+        ran plan values row now.store effect kept.sized kept.typed imaged kept.of_past.variables own true_of agree in
         let is : values' ≡ written values effect.writes = vs ∙ ap (written values) ws in
         let gone = subst (λ (x : Activation). Removes now.history ready x t ready') same
         (remove now.history kept.of_past.ready_is) in

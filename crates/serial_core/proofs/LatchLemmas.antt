@@ -32,7 +32,7 @@ use Rattle.serial_core.specs.Samples.{sample_at, sample_task}
 use Rattle.serial_core.specs.Steps.{store_in}
 use Rattle.serial_core.specs.Kept.{IsOfPast, SerialInvariant}
 use Rattle.serial_core.proofs.OutcomeLemmas.{outcomes_of-add}
-use Rattle.serial_core.proofs.RowLemmas.{length_held}
+use Rattle.serial_core.proofs.RowLemmas.{kinds_held}
 use Rattle.serial_core.proofs.VariableLemmas.{get-add, get-end, get_in}
 
 left_of_and : (a b : Bool) → (a && b) ≡ true → a ≡ true
@@ -43,9 +43,9 @@ right_of_and : (a b : Bool) → (a && b) ≡ true → b ≡ true
 right_of_and true b e = e
 right_of_and false b e = absurd (cc)
 
-image_length : (plan : Plan) (row : Latch) → fits (plan_view plan) row ≡ true
-    → length row.image ≡ length plan.inputs.items
-image_length plan row e = length_held plan.inputs.items row.image (left_of_and _ _ e)
+image_typed : (plan : Plan) (row : Latch) → fits (plan_view plan) row ≡ true
+    → map (λ v. v.kind) row.image ≡ map (λ i. i.kind) plan.inputs.items
+image_typed plan row e = kinds_held plan.inputs.items row.image (left_of_and _ _ e)
 
 moment_low : (plan : Plan) (row : Latch) → fits (plan_view plan) row ≡ true → row.moment < MOMENT_LIMIT
 moment_low plan row e = ltb-true row.moment MOMENT_LIMIT (right_of_and _ _ e)
@@ -112,16 +112,16 @@ module _ {plan : Plan} {start values : List Datum} {before : Option ℕ} {sample
         ∙ ap (λ x. Some (Row x)) (sym r)
   ]
 
-  images_then : (row : Latch) → length row.image ≡ length plan.inputs.items → (k : ℕ)
+  images_then : (row : Latch) → map (λ v. v.kind) row.image ≡ map (λ i. i.kind) plan.inputs.items → (k : ℕ)
       → k < length ((past_of (plan_view plan) (store_in plan start) log).rows ++ row ∷ [])
-      → length (row_at ((past_of (plan_view plan) (store_in plan start) log).rows ++ row ∷ []) k).image
-      ≡ length plan.inputs.items
+      → map (λ v. v.kind) (row_at ((past_of (plan_view plan) (store_in plan start) log).rows ++ row ∷ []) k).image
+      ≡ map (λ i. i.kind) plan.inputs.items
   images_then row e k h = elim (eqb_tells k (length (past_of (plan_view plan) (store_in plan start) log).rows)) [
     | inl t ↦
         let r : row_at ((past_of (plan_view plan) (store_in plan start) log).rows ++ row ∷ []) k ≡ row =
         ap (row_at ((past_of (plan_view plan) (store_in plan start) log).rows ++ row ∷ [])) t.1 ∙ get_or-append_seam
         (past_of (plan_view plan) (store_in plan start) log).rows row [] record { moment = 0; image = [] } in
-        ap (λ (x : Latch). length x.image) r ∙ e
+        ap (λ (x : Latch). map (λ v. v.kind) x.image) r ∙ e
     | inr f ↦
         let below : k < length (past_of (plan_view plan) (store_in plan start) log).rows =
         omega (arith, f.1, h, length-append (past_of (plan_view plan) (store_in plan start) log).rows (row ∷ [])) in
@@ -129,7 +129,7 @@ module _ {plan : Plan} {start values : List Datum} {before : Option ℕ} {sample
         ≡ row_at (past_of (plan_view plan) (store_in plan start) log).rows k =
         get_or_append_left (past_of (plan_view plan) (store_in plan start) log).rows (row ∷ [])
         record { moment = 0; image = [] } k below in
-        ap (λ (x : Latch). length x.image) r ∙ kept.of_past.images k below
+        ap (λ (x : Latch). map (λ v. v.kind) x.image) r ∙ kept.of_past.images k below
   ]
 
   kept_latched : (row : Latch) (samples' : List Bool) (ready' : Ready)
@@ -170,7 +170,7 @@ module _ {plan : Plan} {start values : List Datum} {before : Option ℕ} {sample
               sampled_count = length-append now.history.sampled
                   (record { moment = row.moment; samples = samples_of (plan_view plan) now.store row.image } ∷ [])
                   ∙ ap (λ n. n + 1) kept.of_past.sampled_count ∙ sym (length-append now.rows (row ∷ []));
-              images = images_then row (image_length plan row fit);
+              images = images_then row (image_typed plan row fit);
               last_is = sym (last_moment-add before now.rows row);
               later = λ s. ap (λ m. Some m) (sym latest);
               ready_is = subst (λ ss. IsReadyOf (with_row now.history row.moment ss) ready') got

@@ -1,11 +1,10 @@
 -- The slots of a plan: its variables, and after them its inputs.
 use Rattle.std.proofs.Common.{◌≡◌, ℕ, zero, suc, List, [], ◌∷◌, ◌++◌, length, map, slice_set, refl, sym, ap, ◌∙◌, arith}
-use Rattle.std.proofs.Common.{length-append}
-use Rattle.std.proofs.lemmas.List.{length-map, length-set}
+use Rattle.std.proofs.lemmas.List.{map-append, length-set}
 use Rattle.st_words.specs.Values.{Datum}
 use Rattle.st_plans.specs.declared.plan.PlanVariable.{PlanVariable}
 use Rattle.st_plans.specs.declared.plan.PlanInput.{PlanInput}
-use Rattle.st_types.specs.Slots.{Cell, variables_in, inputs_in, written}
+use Rattle.st_types.specs.Slots.{Cell, AreOfTypes, variables_in, inputs_in, written}
 use Rattle.st_plans.specs.Layouts.{variable_slot, input_slot, layout_of}
 use Rattle.st_plans.specs.Plans.{image_of}
 
@@ -64,14 +63,20 @@ variables_written xs is (c ∷ ws) vs im e =
     ap (λ t. variables_in (layout_of xs is) (written t ws)) (set_both vs im c.0 c.1)
     ∙ variables_written xs is ws (slice_set vs c.0 c.1) (behind_set vs im c.0 c.1) (length-set vs c.0 c.1 ∙ e)
 
-pub length_layout : (xs : List PlanVariable) (is : List PlanInput) (vs im : List Datum) → length vs ≡ length xs
-    → length im ≡ length is → length (layout_of xs is) ≡ length (vs ++ im)
-length_layout xs is vs im e f = omega (
-  arith,
-  e,
-  f,
-  length-append (map variable_slot xs) (map input_slot is),
-  length-map xs variable_slot,
-  length-map is input_slot,
-  length-append vs im,
-)
+-- the types of a plan's slots
+variables_typed : (xs : List PlanVariable) → map (λ l. l.kind) (map variable_slot xs) ≡ map (λ x. x.initial.kind) xs
+variables_typed [] = refl
+variables_typed (x ∷ xs) = ap (λ ks. x.initial.kind ∷ ks) (variables_typed xs)
+
+inputs_typed : (is : List PlanInput) → map (λ l. l.kind) (map input_slot is) ≡ map (λ i. i.kind) is
+inputs_typed [] = refl
+inputs_typed (i ∷ is) = ap (λ ks. i.kind ∷ ks) (inputs_typed is)
+
+pub slots_typed : (xs : List PlanVariable) (is : List PlanInput) (vs im : List Datum)
+    → map (λ v. v.kind) vs ≡ map (λ x. x.initial.kind) xs → map (λ v. v.kind) im ≡ map (λ i. i.kind) is
+    → AreOfTypes (layout_of xs is) (vs ++ im)
+slots_typed xs is vs im e f =
+    map-append (λ v. v.kind) vs im
+    ∙ ap (λ ks. ks ++ map (λ v. v.kind) im) (e ∙ sym (variables_typed xs))
+    ∙ ap (λ ks. map (λ l. l.kind) (map variable_slot xs) ++ ks) (f ∙ sym (inputs_typed is))
+    ∙ sym (map-append (λ l. l.kind) (map variable_slot xs) (map input_slot is))

@@ -26,6 +26,7 @@ use Rattle.config.specs.PlanViews.{plan_view}
 use Rattle.ready_list.specs.Ready.{Ready}
 use Rattle.serial_core.specs.Steps.{store_in, first_image, last_image}
 use Rattle.serial_core.specs.Kept.{SerialInvariant}
+use Rattle.serial_core.proofs.RowLemmas.{as_many_inputs}
 use Rattle.serial_core.proofs.TakeLemmas.{same_row}
 use Rattle.serial_core.proofs.PlanSlots.{no_variables}
 
@@ -108,7 +109,8 @@ module _ {plan : Plan} {start values : List Datum} {before : Option ℕ} {sample
 
   pub image_long : length image_now ≡ length plan.inputs.items
   image_long = last_long (first_image plan.inputs.items) (past_of (plan_view plan) (store_in plan start) log).rows
-      (length plan.inputs.items) (length-map plan.inputs.items (λ i. initial_value i.kind None)) kept.of_past.images
+      (length plan.inputs.items) (length-map plan.inputs.items (λ i. initial_value i.kind None))
+      (λ k h. as_many_inputs plan.inputs.items _ (kept.of_past.images k h))
 
   -- the value of an input at the last row
   pub input_at_row : (n k : ℕ) (r : Latch) (v : Datum) → length rows ≡ n + 1
@@ -120,7 +122,7 @@ module _ {plan : Plan} {start values : List Datum} {before : Option ℕ} {sample
       let i = last_image_is (first_image plan.inputs.items) (past_of (plan_view plan) (store_in plan start) log).rows n
       (sym kept.of_past.row_count ∙ count) in
       let l : length r.image ≡ length plan.inputs.items = ap (λ (x : Latch). length x.image) e
-      ∙ kept.of_past.images n (omega (arith, count, kept.of_past.row_count)) in
+      ∙ as_many_inputs plan.inputs.items _ (kept.of_past.images n (omega (arith, count, kept.of_past.row_count))) in
       sym (slice_get_read r.image (length r.image) k v refl (omega (arith, l, below)) is)
       ∙ ap (λ (x : Latch). slice_get x.image k) e ∙ ap (λ x. slice_get x k) (sym i)
 

@@ -19,16 +19,18 @@ use Rattle.st_plans.specs.Plans.{schedules_of}
 use Rattle.st_plans.specs.Logs.{past_of, row_at}
 use Rattle.st_plans.proofs.DueLemmas.{Waits-there}
 use Rattle.slot_code.specs.declared.code.Code.{Code}
-use Rattle.slot_code.specs.declared.global.GlobalSlot.{GlobalSlot}
+use Rattle.slot_code.specs.declared.path_slot.PathSlot.{PathSlot}
 use Rattle.slot_run.specs.declared.snapshot.Snapshot.{Snapshot}
 use Rattle.config.specs.declared.plan.Plan.{Plan}
 use Rattle.config.specs.declared.task.ProgramInstance.{ProgramInstance}
-use Rattle.config.specs.GlobalSlots.{HaveSlots}
+use Rattle.slot_code.specs.Codes.{code_view}
+use Rattle.slot_code.specs.Fitting.{HaveSlots, Fits}
 use Rattle.config.specs.PlanViews.{plan_view}
 use Rattle.ready_list.specs.Ready.{Ready, IsReadyOf}
 use Rattle.serial_core.specs.Steps.{State, store_in, code_at, none_waits, IsSnapshotOf}
 use Rattle.serial_core.specs.Kept.{SerialInvariant}
-use Rattle.serial_core.proofs.PlanSlots.{values_back, length_layout}
+use Rattle.serial_core.proofs.PlanSlots.{values_back, slots_typed}
+use Rattle.slot_code.proofs.FittingLemmas.{as_many}
 
 pub same_row : (a b : Latch) → ◌≡◌ {A = Option Entry} (Some (Row a)) (Some (Row b)) → a ≡ b
 same_row a b e = cc
@@ -89,8 +91,10 @@ module _ {plan : Plan} {start values : List Datum} {before : Option ℕ} {sample
       → row ≡ row_at (past_of (plan_view plan) (store_in plan start) log).rows a.row
       → length (layout_of plan.variables.items plan.inputs.items) ≡ length (values ++ row.image)
   slots_counted a row l e =
-      length_layout plan.variables.items plan.inputs.items values row.image kept.sized
-      (ap (λ (r : Latch). length r.image) e ∙ kept.of_past.images a.row (omega (arith, l, kept.of_past.row_count)))
+      as_many (layout_of plan.variables.items plan.inputs.items) (values ++ row.image)
+      (slots_typed plan.variables.items plan.inputs.items values row.image kept.typed
+      (ap (λ (r : Latch). map (λ d. d.kind) r.image) e
+      ∙ kept.of_past.images a.row (omega (arith, l, kept.of_past.row_count))))
 
   -- what is made of these parts
   pub snapshot_is : (room resource : ℕ) (a : Activation) (row : Latch) (code : Code) (slots : List Datum) (s : Snapshot)
@@ -125,7 +129,7 @@ waits_here st st' resource a e best none =
     subst (λ (x : State). none_waits x resource → ⊥) e (λ n. n a best.waits best.here) none
 
 -- globals that have schedules in a layout have slots of it
-all_within : (layout : List Slot) (n : ℕ) (globals : List GlobalSlot) → length layout ≡ n → HaveSlots layout globals
+all_within : (layout : List Slot) (n : ℕ) (globals : List PathSlot) → length layout ≡ n → HaveSlots layout globals
     → list_all (λ g. nat_lt g.slot n) globals ≡ true
 all_within layout n [] len h = refl
 all_within layout n (g ∷ gs) len h =
@@ -133,12 +137,12 @@ all_within layout n (g ∷ gs) len h =
     let t : nat_lt g.slot n ≡ true = grind (arith, nat_tests) in
     rw (t, all_within layout n gs len (λ k d lt. h (suc k) d (omega arith))) refl
 
-pub globals_within : (plan : Plan) (p : ℕ) (code : Code) (n : ℕ)
-    → HaveSlots (layout_of plan.variables.items plan.inputs.items) code.globals.items
+pub globals_within : (plan : Plan) (code : Code) (n : ℕ)
+    → Fits (layout_of plan.variables.items plan.inputs.items) (code_view code)
     → length (layout_of plan.variables.items plan.inputs.items) ≡ n
-    → list_all (λ g. nat_lt g.slot n) code.globals.items ≡ true
-globals_within plan p code n placed len =
-    all_within (layout_of plan.variables.items plan.inputs.items) n code.globals.items len placed
+    → list_all (λ g. nat_lt g.slot n) code.table.items ≡ true
+globals_within plan code n fits len =
+    all_within (layout_of plan.variables.items plan.inputs.items) n code.table.items len fits.all
 
 -- what a value that is found is made of
 pub found : (A B : Type 0) (f : A → B) (o : Option A) (b : B) → option_map f o ≡ Some b
@@ -146,11 +150,9 @@ pub found : (A B : Type 0) (f : A → B) (o : Option A) (b : B) → option_map f
 found A B f None b e = absurd (let y : ◌≡◌ {A = Option B} None (Some b) = e in cc)
 found A B f (Some a) b e = (a, refl, let y : ◌≡◌ {A = Option B} (Some (f a)) (Some b) = e in cc)
 
-pub placed_at : (plan : Plan) (p : ℕ) (code : Code)
-    → ((k : ℕ) (q : ProgramInstance) → slice_get plan.programs.items k ≡ Some q
-    → HaveSlots (layout_of plan.variables.items plan.inputs.items) q.code.value.globals.items)
-    → code_at plan p ≡ Some code → HaveSlots (layout_of plan.variables.items plan.inputs.items) code.globals.items
-placed_at plan p code placed e =
+pub fits_at : (plan : Plan) (p : ℕ) (code : Code) → code_at plan p ≡ Some code
+    → Fits (layout_of plan.variables.items plan.inputs.items) (code_view code)
+fits_at plan p code e =
     let f = found ProgramInstance Code (λ q. q.code.value) (slice_get plan.programs.items p) code e in
-    subst (λ (x : Code). HaveSlots (layout_of plan.variables.items plan.inputs.items) x.globals.items) f.2
-    (placed p f.0 f.1)
+    subst (λ (x : Code). Fits (layout_of plan.variables.items plan.inputs.items) (code_view x)) f.2
+    (plan.sound.codes p f.0 f.1)

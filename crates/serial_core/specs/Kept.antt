@@ -20,13 +20,14 @@ pub record IsOfPast (plan : Plan) (before : Option ℕ) (values : List Datum) (l
   pub rows_are : (k : ℕ) → k < length rows → slice_get log (slice_index rows k) ≡ Some (Row (row_at now.rows k))
   pub row_count : length rows ≡ length now.rows
   pub sampled_count : length now.history.sampled ≡ length now.rows
-  pub images : (k : ℕ) → k < length now.rows → length (row_at now.rows k).image ≡ length plan.inputs.items
+  pub images : (k : ℕ) → k < length now.rows
+      → map (λ d. d.kind) (row_at now.rows k).image ≡ map (λ i. i.kind) plan.inputs.items
   pub last_is : last ≡ last_moment before now.rows
   pub later : 0 < ready.rows → last ≡ Some ready.last
   pub ready_is : IsReadyOf now.history ready
 
--- The log is legal, the variables and outcomes are what it makes, each variable has its type, moments are within their
--- limit, and the ready list has all that waits.
+-- The log is legal, the variables and outcomes are what it makes, each variable and each input has its type, moments
+-- are within their limit, and the ready list has all that waits.
 pub record SerialInvariant (plan : Plan) (start : List Datum) (before : Option ℕ) (values : List Datum)
     (samples : List Bool) (log : List Entry) (outcomes : List (Option Outcome)) (rows : List ℕ) (last : Option ℕ)
     (ready : Ready) : Type 0 where

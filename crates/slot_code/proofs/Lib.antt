@@ -1,1 +1,3 @@
-pub mod GlobalLemmas
+pub mod TableLemmas
+pub mod FittingLemmas
+pub mod MeaningLemmas

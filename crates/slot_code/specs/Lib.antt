@@ -1,2 +1,5 @@
-pub mod Globals
+pub mod Tables
+pub mod Plain
 pub mod Codes
+pub mod Fitting
+pub mod Meanings

@@ -13,6 +13,7 @@ impl Code {
     {
         self.owner.is(&other.owner)
             && self.unit.is(&other.unit)
-            && same_trees(&self.globals, &other.globals)
+            && same_trees(&self.roots, &other.roots)
+            && same_trees(&self.table, &other.table)
     }
 }

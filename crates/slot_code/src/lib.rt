@@ -1,12 +1,15 @@
-//! Programs as code: a resolved tree with the slots of the globals that it names.
+//! Programs as code: a resolved tree with the slots of the paths below the roots that it names.
 //!
-//! The type of `Code` keeps that each external has a slot and that the body is of assignments of sums. Nothing here
-//! runs.
+//! The type of `Code` keeps that each external is a root with its slot and that the body is of assignments of sums.
+//! Nothing here runs.
 #![tactic(auto)]
 
 mod code;
 mod comparison;
-mod global;
+mod laws;
+mod path_slot;
+mod root;
 
 pub use code::Code;
-pub use global::{GlobalSlot, copied_globals, global_named};
+pub use path_slot::{PathSlot, copied_table, global_named, is_global_of};
+pub use root::{Root, copied_roots};

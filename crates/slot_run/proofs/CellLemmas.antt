@@ -2,7 +2,6 @@
 use Rattle.std.proofs.Common.{◌≡◌, ℕ, zero, suc, ◌==◌, ℤ, Bool, true, false, not, ◌||◌, if◌then◌else◌, List, [], ◌∷◌}
 use Rattle.std.proofs.Common.{◌++◌, map, length, slice_get, slice_set, Option, Some, None, option_map, refl, sym, ap}
 use Rattle.std.proofs.Common.{◌∙◌, arith}
-use Rattle.std.specs.Prelude.{bytes_eq}
 use Rattle.std.specs.List.{filter, list_any}
 use Rattle.std.specs.Ordering.{int_eq}
 use Rattle.std.proofs.lemmas.List.{length-set}
@@ -10,11 +9,14 @@ use Rattle.std.proofs.lemmas.Bool.Decides.{nat_tests, Decides-int_eq}
 use Rattle.st_words.specs.declared.kind.Kind.{Kind}
 use Rattle.st_words.specs.Kinds.{same_kind, kind_index}
 use Rattle.st_words.specs.Values.{Datum, same_datum}
-use Rattle.st_types.specs.Scopes.{Name}
+use Rattle.st_words.specs.Paths.{same_path}
+use Rattle.st_types.specs.Scopes.{Name, unowned}
 use Rattle.st_types.specs.Slots.{Slot, Cell, inputs_in, is_value, agrees, written}
 use Rattle.st_words.proofs.KindLemmas.{same_kind_is}
-use Rattle.slot_code.specs.declared.global.GlobalSlot.{GlobalSlot}
-use Rattle.slot_code.specs.Globals.{global_named, Fits}
+use Rattle.slot_code.specs.declared.path_slot.PathSlot.{PathSlot}
+use Rattle.slot_code.specs.Tables.{global_named}
+use Rattle.slot_code.specs.Fitting.{HaveSlots}
+use Rattle.slot_code.proofs.FittingLemmas.{named_slot}
 use Rattle.slot_run.specs.Cells.{with_cell, each_once}
 use Rattle.slot_run.specs.Steps.{AreAlike, IsVariableSlot}
 use Rattle.slot_run.proofs.Bools.{both, or_true, same_itself}
@@ -51,7 +53,7 @@ alike_at [] vs us j h = h
 alike_at (c ∷ cells) vs us j h =
     alike_at cells (slice_set vs c.0 c.1) (slice_set us c.0 c.1) j (alike_set vs us c.0 j c.1 h)
 
-pub alike_written : (globals : List GlobalSlot) (vs us : List Datum) (cells : List Cell) → AreAlike globals vs us
+pub alike_written : (globals : List PathSlot) (vs us : List Datum) (cells : List Cell) → AreAlike globals vs us
     → AreAlike globals (written vs cells) (written us cells)
 alike_written globals vs us cells h x g known = alike_at cells vs us g.slot (h x g known)
 
@@ -67,10 +69,10 @@ inputs_at (m ∷ ls) [] k v l at out = refl
 inputs_at (m ∷ ls) (u ∷ vs) zero v l at out = let e : m.is_input ≡ false = cc in rw e refl
 inputs_at (m ∷ ls) (u ∷ vs) (suc k) v l at out = rw (inputs_at ls vs k v l at out) refl
 
-pub inputs_stay : (globals : List GlobalSlot) (layout : List Slot) (vs : List Datum) (k : ℕ) (v : Datum)
-    → Fits layout globals → IsVariableSlot globals k → inputs_in layout (slice_set vs k v) ≡ inputs_in layout vs
-inputs_stay globals layout vs k v fits variable =
-    let at = fits.slots variable.name variable.global variable.known in
+pub inputs_stay : (globals : List PathSlot) (layout : List Slot) (vs : List Datum) (k : ℕ) (v : Datum)
+    → HaveSlots layout globals → IsVariableSlot globals k → inputs_in layout (slice_set vs k v) ≡ inputs_in layout vs
+inputs_stay globals layout vs k v have variable =
+    let at = named_slot layout globals variable.name variable.global have variable.known in
     let here = rw variable.slot at at in
     inputs_at layout vs k v _ here variable.sort
 
@@ -144,10 +146,10 @@ value_is : (o : Option Datum) (v : Datum) → is_value o v ≡ true → o ≡ So
 value_is None v h = absurd (cc)
 value_is (Some w) v h = ap Some (same_datum_is w v h)
 
-named_among : (globals : List GlobalSlot) (x : Name) (g : GlobalSlot) → global_named globals x ≡ Some g
+named_among : (globals : List PathSlot) (x : Name) (g : PathSlot) → global_named globals x ≡ Some g
     → list_any (λ k. g.slot == k) (map (λ h. h.slot) globals) ≡ true
 named_among [] x g known = absurd (cc)
-named_among (h ∷ globals) x g known = by_test (bytes_eq x h.name) known (named_among globals x g)
+named_among (h ∷ globals) x g known = by_test (same_path (unowned x) h.path) known (named_among globals x g)
   where
     by_test : (t : Bool) → (if t then Some h else global_named globals x) ≡ Some g
         → (global_named globals x ≡ Some g → list_any (λ k. g.slot == k) (map (λ i. i.slot) globals) ≡ true)
@@ -173,7 +175,7 @@ read_alike (c ∷ reads) vs us k among a b =
     by_test true same m here rest = rw (same refl) here
     by_test false same m here rest = rest m
 
-pub alike_by_reads : (globals : List GlobalSlot) (reads : List Cell) (vs us : List Datum)
+pub alike_by_reads : (globals : List PathSlot) (reads : List Cell) (vs us : List Datum)
     → map (λ c. c.0) reads ≡ each_once (map (λ g. g.slot) globals) → agrees vs reads ≡ true → agrees us reads ≡ true
     → AreAlike globals vs us
 alike_by_reads globals reads vs us all a b x g known =

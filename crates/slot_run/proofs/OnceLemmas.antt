@@ -63,7 +63,7 @@ unfolding IsDistinct
 none_once = tt
 
 -- one cell more, of another slot
-pub once_more : (cells : List Cell) (c : Cell) → EachSlotOnce cells
+once_more : (cells : List Cell) (c : Cell) → EachSlotOnce cells
     → list_any (λ j. c.0 == j) (map (λ d. d.0) cells) ≡ false → EachSlotOnce (cells ++ c ∷ [])
 once_more cells c once new = rw (map-append (λ (d : Cell). d.0) cells (c ∷ []))
     (IsDistinct-push slots_compared (map (λ d. d.0) cells) c.0 once new)

@@ -1,7 +1,7 @@
 -- What an assignment of plain code does.
-use Rattle.std.proofs.Common.{◌≡◌, ℕ, zero, suc, ◌<◌, Bool, true, false, not, ◌||◌, if◌then◌else◌, List, [], ◌∷◌, map}
+use Rattle.std.proofs.Common.{◌≡◌, ℕ, zero, suc, ◌<◌, Bool, true, false, not, List, [], ◌∷◌, map}
 use Rattle.std.proofs.Common.{length, slice_get, Some, None, Result, Ok, Err, refl, sym, ap, ◌∙◌, arith, rules}
-use Rattle.std.specs.Prelude.{bytes_eq}
+use Rattle.std.specs.List.{list_any}
 use Rattle.std.proofs.lemmas.Option.{slice_get_within}
 use Rattle.st_words.specs.declared.fault.Fault.{Fault}
 use Rattle.st_words.specs.declared.fault.Fault.TheVariants.{Conversion}
@@ -16,26 +16,29 @@ use Rattle.st_trees.specs.ExpressionViews.{expr_view, variable_view, selector_vi
 use Rattle.st_trees.specs.StatementViews.{stmt_view}
 use Rattle.st_types.specs.Stores.{Store, assigned, may_replace}
 use Rattle.st_types.specs.Scopes.{Name, Scope, contains_name, path_in, unowned}
+use Rattle.st_words.specs.Paths.{same_path}
 use Rattle.st_types.specs.Ticks.{take}
 use Rattle.st_types.specs.Evaluation.{value}
 use Rattle.st_types.specs.Bodies.{externals_in}
 use Rattle.st_types.specs.Slots.{Slot, Cell, variables_in, written_slot}
 use Rattle.st_types.proofs.SlotLemmas.{seen_slot, assigned_slot}
-use Rattle.slot_code.specs.declared.global.GlobalSlot.{GlobalSlot}
-use Rattle.slot_code.specs.Globals.{global_named, is_assignable, is_sum, is_plain, Fits}
+use Rattle.slot_code.specs.declared.path_slot.PathSlot.{PathSlot}
+use Rattle.slot_code.specs.Tables.{global_named}
+use Rattle.slot_code.specs.Plain.{is_assignable, is_sum, is_plain}
+use Rattle.slot_code.specs.Fitting.{Fits}
 use Rattle.slot_code.specs.Codes.{CodeView}
-use Rattle.slot_run.specs.Targets.{targets}
-use Rattle.slot_run.specs.Effects.{is_slot_of}
+use Rattle.slot_code.proofs.TableLemmas.{found_listed, listed_name}
+use Rattle.slot_code.proofs.FittingLemmas.{named_slot}
 use Rattle.slot_run.specs.Steps.{Sees, AreAlike, scope_over, Steps}
 use Rattle.slot_run.proofs.SumLemmas.{IsValueOf, variable_view_is}
-use Rattle.slot_run.proofs.Bools.{both, same_itself}
+use Rattle.slot_run.proofs.Bools.{both}
 
--- the globals' names are the externals of the text
+-- the paths of the table are those of the text's externals
 abbrev pub AreNamed : CodeView → Type 0
-AreNamed text = map (λ g. g.name) text.globals ≡ externals_in text.unit.blocks
+AreNamed text = map (λ g. g.path) text.table ≡ map unowned (externals_in text.unit.blocks)
 
 -- a plain statement is an assignment of a sum to a variable
-plain_parts : (globals : List GlobalSlot) (x : Identifier) (xs : Selectors) (e : Expr)
+plain_parts : (globals : List PathSlot) (x : Identifier) (xs : Selectors) (e : Expr)
     → is_plain globals (assign (variable x xs) e) ≡ true
     → (xs ≡ no_selectors) × (is_assignable (global_named globals x.name) ≡ true) × (is_sum globals e ≡ true)
 plain_parts globals x no_selectors e h = let p =
@@ -50,7 +53,7 @@ assign_view : (v : code_variable.Variable) (e : code_expr.Expr) → stmt_view (c
     ≡ assign (variable v.name (selectors_of (map selector_view v.selectors.items))) (expr_view e)
 assign_view v e = assign_view_is v e ∙ ap (λ u. assign u (expr_view e)) (variable_view_is v)
 
-pub plain_view : (globals : List GlobalSlot) (s : code_stmt.Stmt) (v : code_variable.Variable) (e : code_expr.Expr)
+pub plain_view : (globals : List PathSlot) (s : code_stmt.Stmt) (v : code_variable.Variable) (e : code_expr.Expr)
     → s ≡ code_stmt.Assign v e → is_plain globals (stmt_view s) ≡ true
     → (stmt_view s ≡ assign (variable v.name no_selectors) (expr_view e))
     × (is_assignable (global_named globals v.name.name) ≡ true) × (is_sum globals (expr_view e) ≡ true)
@@ -60,7 +63,7 @@ plain_view globals s v e is plain =
     (rw view at plain) in
     (view ∙ ap (λ xs. assign (variable v.name xs) (expr_view e)) p.0, p.1, p.2)
 
-pub no_input : (globals : List GlobalSlot) (x : Name) (g : GlobalSlot) → is_assignable (global_named globals x) ≡ true
+pub no_input : (globals : List PathSlot) (x : Name) (g : PathSlot) → is_assignable (global_named globals x) ≡ true
     → global_named globals x ≡ Some g → g.is_input ≡ false
 no_input globals x g may known = not_true g.is_input (ap is_assignable (sym known) ∙ may)
   where
@@ -69,23 +72,13 @@ no_input globals x g may known = not_true g.is_input (ap is_assignable (sym know
     not_true false h = refl
 
 -- so a name of a global stands for the global
-named_there : (globals : List GlobalSlot) (x : Name) (g : GlobalSlot) → global_named globals x ≡ Some g
-    → contains_name (map (λ h. h.name) globals) x ≡ true
-named_there [] x g known = absurd (cc)
-named_there (h ∷ globals) x g known = by_test (bytes_eq x h.name) known (named_there globals x g)
-  where
-    by_test : (t : Bool) → (if t then Some h else global_named globals x) ≡ Some g
-        → (global_named globals x ≡ Some g → contains_name (map (λ i. i.name) globals) x ≡ true)
-        → (t || contains_name (map (λ i. i.name) globals) x) ≡ true
-    by_test true e later = refl
-    by_test false e later = later e
-
-contains_there : (text : CodeView) (x : Name) (g : GlobalSlot) → AreNamed text → global_named text.globals x ≡ Some g
+contains_there : (text : CodeView) (x : Name) (g : PathSlot) → AreNamed text → global_named text.table x ≡ Some g
     → contains_name (externals_in text.unit.blocks) x ≡ true
-contains_there text x g named known = ap (λ xs. contains_name xs x) (sym named) ∙ named_there text.globals x g known
+contains_there text x g named known = sym (listed_name (externals_in text.unit.blocks) x)
+    ∙ ap (list_any (same_path (unowned x))) (sym named) ∙ found_listed text.table x g known
 
 path_of_global : (text : CodeView) (layout : List Slot) (vs : List Datum) (moment budget : ℕ) (x : Name)
-    (g : GlobalSlot) → AreNamed text → global_named text.globals x ≡ Some g
+    (g : PathSlot) → AreNamed text → global_named text.table x ≡ Some g
     → path_in (scope_over text layout vs moment budget).frame (scope_over text layout vs moment budget).body x
     ≡ unowned x
 path_of_global text layout vs moment budget x g named known =
@@ -93,34 +86,34 @@ path_of_global text layout vs moment budget x g named known =
 
 -- the place where a global's slot meets the look-up of its name
 sees_over : (text : CodeView) (layout : List Slot) (vs : List Datum) (moment budget : ℕ) → AreNamed text
-    → Fits layout text.globals → length layout ≡ length vs
-    → Sees (scope_over text layout vs moment budget) (variables_in layout vs) text.globals vs
+    → Fits layout text → length layout ≡ length vs
+    → Sees (scope_over text layout vs moment budget) (variables_in layout vs) text.table vs
 sees_over text layout vs moment budget named fits len = record {
   there = λ x g known.
       rw (path_of_global text layout vs moment budget x g named known)
-      (seen_slot layout vs fits.distinct len g.slot (record { path = unowned x; is_input = g.is_input })
-      (fits.slots x g known));
+      (seen_slot layout vs fits.distinct len g.slot (record { path = unowned x; kind = g.kind; is_input = g.is_input })
+      (named_slot layout text.table x g fits.all known));
   stand_ins = refl;
 }
 
-sees_alike : (w : Scope) (s : Store) (globals : List GlobalSlot) (vs us : List Datum) → Sees w s globals vs
+sees_alike : (w : Scope) (s : Store) (globals : List PathSlot) (vs us : List Datum) → Sees w s globals vs
     → AreAlike globals vs us → Sees w s globals us
 sees_alike w s globals vs us sees alike =
     record { there = λ x g known. sees.there x g known ∙ alike x g known; stand_ins = sees.stand_ins }
 
 sum_over : (text : CodeView) (e : Expr) (us : List Datum) (result : Result Datum Fault) (layout : List Slot)
-    (vs : List Datum) (moment budget left : ℕ) → AreNamed text → IsValueOf text.globals us e result
-    → is_sum text.globals e ≡ true
-    → Fits layout text.globals → length layout ≡ length vs → AreAlike text.globals vs us
+    (vs : List Datum) (moment budget left : ℕ) → AreNamed text → IsValueOf text.table us e result
+    → is_sum text.table e ≡ true
+    → Fits layout text → length layout ≡ length vs → AreAlike text.table vs us
     → value (scope_over text layout vs moment budget) (variables_in layout vs) e left ≡ take result left
 sum_over text e us result layout vs moment budget left named is sum fits len alike =
     is (scope_over text layout vs moment budget) (variables_in layout vs) left
-    (sees_alike (scope_over text layout vs moment budget) (variables_in layout vs) text.globals vs us
+    (sees_alike (scope_over text layout vs moment budget) (variables_in layout vs) text.table vs us
     (sees_over text layout vs moment budget named fits len) alike) sum
 
 -- a right side that faults
 pub steps_fault : (text : CodeView) (x : Identifier) (e : Expr) (us : List Datum) (f : Fault) → AreNamed text
-    → is_sum text.globals e ≡ true → IsValueOf text.globals us e (Err f)
+    → is_sum text.table e ≡ true → IsValueOf text.table us e (Err f)
     → Steps text (assign (variable x no_selectors) e) us (Err f)
 steps_fault text x e us f named sum is layout vs moment budget left fits len alike =
     rw (sum_over text e us (Err f) layout vs moment budget left named is sum fits len alike) refl
@@ -132,25 +125,26 @@ not_past (v ∷ vs) zero lt none = absurd (cc)
 not_past (v ∷ vs) (suc k) lt none = not_past vs k (omega arith) none
 
 pub steps_nowhere :
-    (text : CodeView) (x : Name) (s : Stmt) (g : GlobalSlot) (us : List Datum) (result : Result Cell Fault)
-    → global_named text.globals x ≡ Some g → slice_get us g.slot ≡ None → Steps text s us result
+    (text : CodeView) (x : Name) (s : Stmt) (g : PathSlot) (us : List Datum) (result : Result Cell Fault)
+    → global_named text.table x ≡ Some g → slice_get us g.slot ≡ None → Steps text s us result
 steps_nowhere text x s g us result known none layout vs moment budget left fits len alike =
     let at =
-    slice_get_within layout g.slot (record { path = unowned x; is_input = g.is_input }) (fits.slots x g known) in
+    slice_get_within layout g.slot (record { path = unowned x; kind = g.kind; is_input = g.is_input })
+    (named_slot layout text.table x g fits.all known) in
     absurd (not_past vs g.slot (omega arith) (alike x g known ∙ none))
 
 -- a value that the target's type takes or not
-assigned_global : (text : CodeView) (x : Name) (us : List Datum) (v old : Datum) (g : GlobalSlot) (layout : List Slot)
-    (vs : List Datum) → global_named text.globals x ≡ Some g → g.is_input ≡ false → slice_get us g.slot ≡ Some old
-    → Fits layout text.globals → length layout ≡ length vs → AreAlike text.globals vs us
+assigned_global : (text : CodeView) (x : Name) (us : List Datum) (v old : Datum) (g : PathSlot) (layout : List Slot)
+    (vs : List Datum) → global_named text.table x ≡ Some g → g.is_input ≡ false → slice_get us g.slot ≡ Some old
+    → Fits layout text → length layout ≡ length vs → AreAlike text.table vs us
     → assigned (variables_in layout vs) (unowned x) v ≡ written_slot layout vs g.slot old v
 assigned_global text x us v old g layout vs known out at fits len alike =
-    assigned_slot layout vs fits.distinct len g.slot (record { path = unowned x; is_input = g.is_input }) old v
-    (fits.slots x g known) out (alike x g known ∙ at)
+    assigned_slot layout vs fits.distinct len g.slot (record { path = unowned x; kind = g.kind; is_input = g.is_input })
+    old v (named_slot layout text.table x g fits.all known) out (alike x g known ∙ at)
 
-pub steps_written : (text : CodeView) (x : Identifier) (e : Expr) (us : List Datum) (v old : Datum) (g : GlobalSlot)
-    → AreNamed text → is_sum text.globals e ≡ true → IsValueOf text.globals us e (Ok v)
-    → global_named text.globals x.name ≡ Some g → g.is_input ≡ false → slice_get us g.slot ≡ Some old
+pub steps_written : (text : CodeView) (x : Identifier) (e : Expr) (us : List Datum) (v old : Datum) (g : PathSlot)
+    → AreNamed text → is_sum text.table e ≡ true → IsValueOf text.table us e (Ok v)
+    → global_named text.table x.name ≡ Some g → g.is_input ≡ false → slice_get us g.slot ≡ Some old
     → may_replace old v ≡ true → Steps text (assign (variable x no_selectors) e) us (Ok (g.slot, v))
 steps_written text x e us v old g named sum is known out at may layout vs moment budget left fits len alike =
     rw (
@@ -161,9 +155,9 @@ steps_written text x e us v old g named sum is known out at may layout vs moment
       may,
     ) refl
 
-pub steps_refused : (text : CodeView) (x : Identifier) (e : Expr) (us : List Datum) (v old : Datum) (g : GlobalSlot)
-    → AreNamed text → is_sum text.globals e ≡ true → IsValueOf text.globals us e (Ok v)
-    → global_named text.globals x.name ≡ Some g → g.is_input ≡ false → slice_get us g.slot ≡ Some old
+pub steps_refused : (text : CodeView) (x : Identifier) (e : Expr) (us : List Datum) (v old : Datum) (g : PathSlot)
+    → AreNamed text → is_sum text.table e ≡ true → IsValueOf text.table us e (Ok v)
+    → global_named text.table x.name ≡ Some g → g.is_input ≡ false → slice_get us g.slot ≡ Some old
     → may_replace old v ≡ false → Steps text (assign (variable x no_selectors) e) us (Err Conversion)
 steps_refused text x e us v old g named sum is known out at may layout vs moment budget left fits len alike =
     rw (
@@ -174,12 +168,6 @@ steps_refused text x e us v old g named sum is known out at may layout vs moment
       may,
     ) refl
 
-pub at_globals : (gs hs : List GlobalSlot) (us : List Datum) (e : Expr) (r : Result Datum Fault) → gs ≡ hs
+pub at_globals : (gs hs : List PathSlot) (us : List Datum) (e : Expr) (r : Result Datum Fault) → gs ≡ hs
     → IsValueOf gs us e r → IsValueOf hs us e r
 at_globals gs hs us e r is v = rw (← is) v
-
--- the slot of an assignment's target
-pub target_there : (globals : List GlobalSlot) (x : Identifier) (e : Expr) (g : GlobalSlot)
-    → global_named globals x.name ≡ Some g
-    → is_slot_of globals (targets (assign (variable x no_selectors) e)) g.slot ≡ true
-target_there globals x e g known = rw (known, same_itself g.slot) refl

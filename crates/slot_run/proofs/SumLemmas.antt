@@ -21,13 +21,14 @@ use Rattle.st_types.specs.Failures.{Failure, valueless, in_runs, or_failure, run
 use Rattle.st_types.specs.Ticks.{take, attempt}
 use Rattle.st_types.specs.Operators.{apply}
 use Rattle.st_types.specs.Evaluation.{value, known}
-use Rattle.slot_code.specs.declared.global.GlobalSlot.{GlobalSlot}
-use Rattle.slot_code.specs.Globals.{global_named, is_known, is_sum}
+use Rattle.slot_code.specs.declared.path_slot.PathSlot.{PathSlot}
+use Rattle.slot_code.specs.Tables.{global_named}
+use Rattle.slot_code.specs.Plain.{is_known, is_sum}
 use Rattle.slot_run.specs.Steps.{Sees, value_at}
 use Rattle.slot_run.proofs.Bools.{both}
 
 -- what a sum gives wherever the globals have these values
-abbrev pub IsValueOf : List GlobalSlot → List Datum → Expr → Result Datum Fault → Type 0
+abbrev pub IsValueOf : List PathSlot → List Datum → Expr → Result Datum Fault → Type 0
 IsValueOf globals vs e result = (w : Scope) (s : Store) (b : ℕ) → Sees w s globals vs → is_sum globals e ≡ true
     → value w s e b ≡ take result b
 
@@ -40,7 +41,7 @@ pub sum_view : (e : code_expr.Expr) (op : BinaryOperator) (l r : Box code_expr.E
 sum_view e op l r x y is left right = rw (left, right) (ap expr_view is ∙ binary_view op l r)
 
 -- a sum has no operator but +
-is_added : (globals : List GlobalSlot) (op : BinaryOperator) (l r : Expr) → is_sum globals (binary op l r) ≡ true
+is_added : (globals : List PathSlot) (op : BinaryOperator) (l r : Expr) → is_sum globals (binary op l r) ≡ true
     → (op ≡ Add) × (is_sum globals l ≡ true) × (is_sum globals r ≡ true)
 is_added globals Add l r h = let p = both (is_sum globals l) (is_sum globals r) h in (refl, p.0, p.1)
 is_added globals op l r h = absurd (cc)
@@ -58,18 +59,18 @@ pub sum_result : (a b : Datum) (r : Result Datum Fault) → same_kind a.kind b.k
     → r ≡ in_range a.kind (a.number +ℤ b.number) → r ≡ run_result (apply Add a b)
 sum_result a b r same is = rw same (is ∙ sym (run_failing (in_range a.kind (a.number +ℤ b.number))))
 
-pub left_faults : (globals : List GlobalSlot) (vs : List Datum) (op : BinaryOperator) (l r : Expr) (f : Fault)
+pub left_faults : (globals : List PathSlot) (vs : List Datum) (op : BinaryOperator) (l r : Expr) (f : Fault)
     → IsValueOf globals vs l (Err f) → IsValueOf globals vs (binary op l r) (Err f)
 left_faults globals vs op l r f left w s b sees sum = let p = is_added globals op l r sum in
     rw (left w s b sees p.1) refl
 
 pub right_faults :
-    (globals : List GlobalSlot) (vs : List Datum) (op : BinaryOperator) (l r : Expr) (x : Datum) (f : Fault)
+    (globals : List PathSlot) (vs : List Datum) (op : BinaryOperator) (l r : Expr) (x : Datum) (f : Fault)
     → IsValueOf globals vs l (Ok x) → IsValueOf globals vs r (Err f) → IsValueOf globals vs (binary op l r) (Err f)
 right_faults globals vs op l r x f left right w s b sees sum = let p = is_added globals op l r sum in
     rw (left w s b sees p.1, right w s b sees p.2) refl
 
-pub both_added : (globals : List GlobalSlot) (vs : List Datum) (op : BinaryOperator) (l r : Expr) (x y : Datum)
+pub both_added : (globals : List PathSlot) (vs : List Datum) (op : BinaryOperator) (l r : Expr) (x y : Datum)
     → IsValueOf globals vs l (Ok x) → IsValueOf globals vs r (Ok y)
     → IsValueOf globals vs (binary op l r) (run_result (apply Add x y))
 both_added globals vs op l r x y left right w s b sees sum =
@@ -90,18 +91,18 @@ all_known (Some v) held = rw held refl
 all_known None held = refl
 
 -- where a global's slot meets the look-up of its name
-read_seen : (globals : List GlobalSlot) (vs : List Datum) (w : Scope) (s : Store) (x : Identifier) (g : GlobalSlot)
+read_seen : (globals : List PathSlot) (vs : List Datum) (w : Scope) (s : Store) (x : Identifier) (g : PathSlot)
     (o : Option Datum) (b : ℕ) → Sees w s globals vs → global_named globals x.name ≡ Some g → slice_get vs g.slot ≡ o
     → IfSome o IsHeld
     → value w s (read (variable x no_selectors)) b ≡ take (or_index o) b
 read_seen globals vs w s x g o b sees named at held =
     rw (sees.there x.name g named, at, sees.stand_ins, all_known o held) (or_index_taken o b)
 
-known_global : (o : Option GlobalSlot) → is_known o ≡ true → (g : GlobalSlot) × (o ≡ Some g)
+known_global : (o : Option PathSlot) → is_known o ≡ true → (g : PathSlot) × (o ≡ Some g)
 known_global None h = absurd (cc)
 known_global (Some g) h = (g, refl)
 
-global_read : (globals : List GlobalSlot) (vs : List Datum) (x : Identifier) (xs : Selectors) (o : Option Datum)
+global_read : (globals : List PathSlot) (vs : List Datum) (x : Identifier) (xs : Selectors) (o : Option Datum)
     → o ≡ value_at globals vs x.name → IfSome o IsHeld → IsValueOf globals vs (read (variable x xs)) (or_index o)
 global_read globals vs x no_selectors o found held w s b sees sum =
     let k = known_global (global_named globals x.name) sum in
@@ -115,7 +116,7 @@ variable_view_is v = search (rules, code_variable.the_lemmas)
 read_view_is : (v : code_variable.Variable) → expr_view (code_expr.Variable v) ≡ read (variable_view v)
 read_view_is v = search (rules, code_expr.the_lemmas)
 
-pub read_value : (globals : List GlobalSlot) (vs : List Datum) (e : code_expr.Expr) (v : code_variable.Variable)
+pub read_value : (globals : List PathSlot) (vs : List Datum) (e : code_expr.Expr) (v : code_variable.Variable)
     (o : Option Datum) → e ≡ code_expr.Variable v → o ≡ value_at globals vs v.name.name → IfSome o IsHeld
     → IsValueOf globals vs (expr_view e) (or_index o)
 read_value globals vs e v o is found held =

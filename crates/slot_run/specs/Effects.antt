@@ -1,21 +1,19 @@
 -- What a run did, and when that is true of it.
-use Rattle.std.specs.Prelude.{◌≡◌, ℕ, ◌==◌, List, [], length, Bool, true, false, not, ◌&&◌, Option, Some, None}
+use Rattle.std.specs.Prelude.{◌≡◌, ℕ, ◌==◌, List, [], Bool, true, not, ◌&&◌}
 use Rattle.std.specs.List.{list_any, list_all}
 use Rattle.st_words.specs.Values.{Datum}
 use Rattle.st_words.specs.declared.fault.Fault.{Fault}
-use Rattle.st_trees.specs.Statements.{stmts_of}
 use Rattle.st_plans.specs.declared.entry.Activation.{Activation}
 use Rattle.st_types.specs.declared.outcome.Outcome.{Outcome}
 use Rattle.st_types.specs.declared.outcome.Outcome.TheVariants.{Faulted}
-use Rattle.st_types.specs.Runs.{outcome_of, store_after}
-use Rattle.st_types.specs.Scopes.{Name}
-use Rattle.st_types.specs.Slots.{Slot, Cell, variables_in, inputs_in, agrees, written}
+use Rattle.st_types.specs.Runs.{Program, outcome_of, store_after}
+use Rattle.st_types.specs.Slots.{Slot, Cell, AreOfTypes, variables_in, inputs_in, agrees, written}
 use Rattle.slot_code.specs.declared.code.Code.{Code}
-use Rattle.slot_code.specs.declared.global.GlobalSlot.{GlobalSlot}
-use Rattle.slot_code.specs.Globals.{global_named, Fits}
-use Rattle.slot_code.specs.Codes.{CodeView, code_view, program_of}
+use Rattle.slot_code.specs.declared.path_slot.PathSlot.{PathSlot}
+use Rattle.slot_code.specs.Fitting.{Fits}
+use Rattle.slot_code.specs.Codes.{code_view}
+use Rattle.slot_code.specs.Meanings.{Means}
 use Rattle.slot_run.specs.Cells.{EachSlotOnce}
-use Rattle.slot_run.specs.Targets.{all_targets}
 
 -- an execution: what ran, what it read, what it writes, and how it ended
 pub record Effect : Type 0 where
@@ -27,39 +25,25 @@ pub record Effect : Type 0 where
   pub writes : List Cell
   pub outcome : Outcome
 
--- In every layout that has the code's globals, and wherever what was read stands, the program ends so and leaves these
--- writes.
+-- Each program that the code means ends so and leaves these writes, over every layout that fits the code, and whatever
+-- values of their slots' types are there, where what was read stands.
 abbrev pub IsExecutionOf : Code → ℕ → ℕ → List Cell → List Cell → Outcome → Type 0
 IsExecutionOf code moment budget reads writes outcome =
-    (layout : List Slot) (vs : List Datum) → Fits layout code.globals.items → length layout ≡ length vs
+    (program : Program) → Means (code_view code) program
+    → (layout : List Slot) (vs : List Datum) → Fits layout (code_view code) → AreOfTypes layout vs
     → agrees vs reads ≡ true
-    → (outcome_of (program_of (code_view code)) budget (variables_in layout vs) (inputs_in layout vs) moment ≡ outcome)
-    × (store_after (program_of (code_view code)) budget (variables_in layout vs) (inputs_in layout vs) moment
+    → (outcome_of program budget (variables_in layout vs) (inputs_in layout vs) moment ≡ outcome)
+    × (store_after program budget (variables_in layout vs) (inputs_in layout vs) moment
     ≡ variables_in layout (written vs writes))
 
--- the slot of a global that is no input
-abbrev pub is_variable_slot : List GlobalSlot → ℕ → Bool
-is_variable_slot globals k = list_any (λ g. (g.slot == k) && not g.is_input) globals
+-- the slot of a path of the table that is no input
+abbrev pub is_variable_slot : List PathSlot → ℕ → Bool
+is_variable_slot table k = list_any (λ e. (e.slot == k) && not e.is_input) table
 
--- the global has this slot
-abbrev pub has_slot : Option GlobalSlot → ℕ → Bool
-has_slot None k = false
-has_slot (Some g) k = g.slot == k
-
--- the slot of a global that one of the names stands for
-abbrev pub is_slot_of : List GlobalSlot → List Name → ℕ → Bool
-is_slot_of globals names k = list_any (λ x. has_slot (global_named globals x) k) names
-
--- the slot of a global that the program's statements assign
-abbrev pub is_target_slot : CodeView → ℕ → Bool
-is_target_slot text k = is_slot_of text.globals (all_targets (stmts_of text.unit.body)) k
-
--- What a run did is true of it; its writes go to variables alone, and to those that its program assigns; no slot stands
--- twice among its reads or among its writes; and a fault leaves none.
+-- What a run did is true of it, whatever it took for its reads; its writes go to variables alone; no slot stands twice
+-- among them; and a fault leaves none.
 pub record IsTrueOf (code : Code) (moment budget : ℕ) (reads writes : List Cell) (outcome : Outcome) : Type 0 where
   pub run : IsExecutionOf code moment budget reads writes outcome
-  pub variables : list_all (λ c. is_variable_slot code.globals.items c.0) writes ≡ true
-  pub targets : list_all (λ c. is_target_slot (code_view code) c.0) writes ≡ true
-  pub reads_once : EachSlotOnce reads
+  pub variables : list_all (λ c. is_variable_slot code.table.items c.0) writes ≡ true
   pub writes_once : EachSlotOnce writes
   pub none : (f : Fault) → outcome ≡ Faulted f → writes ≡ []

@@ -13,4 +13,4 @@ pub record IsEffectOf (snapshot : Snapshot) (effect : Effect) : Type 0 where
   pub moment : effect.moment ≡ snapshot.moment
   pub budget : effect.budget ≡ snapshot.budget
   pub agrees : agrees snapshot.slots.items effect.reads ≡ true
-  pub all : map (λ c. c.0) effect.reads ≡ each_once (map (λ g. g.slot) snapshot.code.value.globals.items)
+  pub all : map (λ c. c.0) effect.reads ≡ each_once (map (λ g. g.slot) snapshot.code.value.table.items)

@@ -1,5 +1,4 @@
 pub mod Cells
-pub mod Targets
 pub mod Steps
 pub mod Effects
 pub mod Executions

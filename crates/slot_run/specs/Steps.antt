@@ -13,30 +13,31 @@ use Rattle.st_types.specs.Loops.{End, goes_on}
 use Rattle.st_types.specs.Execution.{exec, exec_all}
 use Rattle.st_types.specs.Runs.{scope_of}
 use Rattle.st_types.specs.Slots.{Slot, Cell, variables_in, inputs_in, written}
-use Rattle.slot_code.specs.declared.global.GlobalSlot.{GlobalSlot}
-use Rattle.slot_code.specs.Globals.{global_named, Fits}
+use Rattle.slot_code.specs.declared.path_slot.PathSlot.{PathSlot}
+use Rattle.slot_code.specs.Tables.{global_named}
 use Rattle.slot_code.specs.Codes.{CodeView, program_of}
+use Rattle.slot_code.specs.Fitting.{Fits}
 
 -- Each global has in the store, or among the inputs, the value of its slot, and what no well-typed text meets is told
 -- as in a run.
-pub record Sees (w : Scope) (s : Store) (globals : List GlobalSlot) (vs : List Datum) : Type 0 where
-  pub there : (x : Name) (g : GlobalSlot) → global_named globals x ≡ Some g
+pub record Sees (w : Scope) (s : Store) (globals : List PathSlot) (vs : List Datum) : Type 0 where
+  pub there : (x : Name) (g : PathSlot) → global_named globals x ≡ Some g
       → seen w.image s (path_in w.frame w.body x) ≡ slice_get vs g.slot
   pub stand_ins : w.stand_ins ≡ in_runs
 
 -- what stands in the slot of a name
-abbrev pub value_at : List GlobalSlot → List Datum → Name → Option Datum
+abbrev pub value_at : List PathSlot → List Datum → Name → Option Datum
 value_at globals vs x = option_and_then (λ g. slice_get vs g.slot) (global_named globals x)
 
 -- the globals have one value in both lists
-abbrev pub AreAlike : List GlobalSlot → List Datum → List Datum → Type 0
-AreAlike globals vs us = (x : Name) (g : GlobalSlot) → global_named globals x ≡ Some g
+abbrev pub AreAlike : List PathSlot → List Datum → List Datum → Type 0
+AreAlike globals vs us = (x : Name) (g : PathSlot) → global_named globals x ≡ Some g
     → slice_get vs g.slot ≡ slice_get us g.slot
 
 -- the slot is that of a named global that is no input
-pub record IsVariableSlot (globals : List GlobalSlot) (k : ℕ) : Type 0 where
+pub record IsVariableSlot (globals : List PathSlot) (k : ℕ) : Type 0 where
   pub name : Name
-  pub global : GlobalSlot
+  pub global : PathSlot
   pub known : global_named globals name ≡ Some global
   pub slot : global.slot ≡ k
   pub sort : global.is_input ≡ false
@@ -53,8 +54,8 @@ ended layout vs left (Err f) = Err f
 -- The statement writes the cell, or faults, wherever the globals have these values.
 abbrev pub Steps : CodeView → Stmt → List Datum → Result Cell Fault → Type 0
 Steps text x us result =
-    (layout : List Slot) (vs : List Datum) (moment budget left : ℕ) → Fits layout text.globals
-    → length layout ≡ length vs → AreAlike text.globals vs us
+    (layout : List Slot) (vs : List Datum) (moment budget left : ℕ) → Fits layout text
+    → length layout ≡ length vs → AreAlike text.table vs us
     → exec (scope_over text layout vs moment budget) x (variables_in layout vs) (suc left) ≡ ended layout vs left result
 
 -- statements that end so, and leave this store where they are done
@@ -65,8 +66,8 @@ IsEnd (Faulted f) s r = r ≡ Err f
 -- The code ends so, and writes these cells where it is done, wherever the globals have these values.
 abbrev pub Runs : CodeView → List Datum → ℕ → List Cell → Outcome → Type 0
 Runs text us budget writes outcome =
-    (layout : List Slot) (vs : List Datum) (moment : ℕ) → Fits layout text.globals → length layout ≡ length vs
-    → AreAlike text.globals vs us
+    (layout : List Slot) (vs : List Datum) (moment : ℕ) → Fits layout text → length layout ≡ length vs
+    → AreAlike text.table vs us
     → IsEnd outcome (variables_in layout (written vs writes))
     (exec_all (scope_over text layout vs moment budget) (stmts_of text.unit.body) (variables_in layout vs) budget)
 

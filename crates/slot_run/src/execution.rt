@@ -14,8 +14,7 @@ use std::sync::Arc;
 /// A run of an activation's code: what it read, what it writes, and how it ended. Contracts see these as an `Effect`.
 ///
 /// Wherever what it read stands, the program ends so and leaves these writes; one that faulted writes nothing. It
-/// writes only variables that the program's statements assign, and no slot stands twice among its reads or among its
-/// writes.
+/// writes only variables, and no slot stands twice among its writes. Which reads it has is up to the run that makes it.
 #[derive(Drop)]
 pub struct Execution {
     code: Arc<Code>,
@@ -58,7 +57,7 @@ impl Model for Execution {
 
 impl Execution {
     /// The run that these make.
-    pub fn new(
+    pub(crate) fn new(
         code: Arc<Code>,
         activation: Activation,
         moment: u64,
@@ -119,7 +118,7 @@ impl Execution {
         self.budget
     }
 
-    /// What it read, by slots, each of them once.
+    /// What it read, by slots.
     pub fn reads(&self) -> &[Cell]
         ensures { map cut result.now ≡ self.now.reads }
     {

@@ -5,11 +5,10 @@ ghost use Rattle.std.specs.List.{list_all, list_any};
 ghost use Rattle.st_trees.specs.StatementViews.{stmt_view};
 ghost use Rattle.st_types.specs.Slots.{agrees};
 ghost use Rattle.st_types.specs.Stores.{may_replace};
-ghost use Rattle.slot_code.specs.Globals.{is_plain};
+ghost use Rattle.slot_code.specs.Plain.{is_plain};
 ghost use Rattle.slot_code.specs.Codes.{code_view};
 ghost use Rattle.slot_run.specs.Cells.{cut, cut_of, with_cell, EachSlotOnce, each_once};
-ghost use Rattle.slot_run.specs.Targets.{targets};
-ghost use Rattle.slot_run.specs.Effects.{is_variable_slot, is_slot_of, is_target_slot};
+ghost use Rattle.slot_run.specs.Effects.{is_variable_slot};
 ghost use Rattle.slot_run.specs.Executions.{IsEffectOf};
 ghost use Rattle.slot_run.specs.Steps.{IsVariableSlot, Runs, Steps, lasting_writes};
 
@@ -17,7 +16,7 @@ use crate::cell::Cell;
 use crate::execution::Execution;
 use crate::snapshot::Snapshot;
 use crate::sum::value;
-use slot_code::{Code, GlobalSlot, global_named};
+use slot_code::{Code, PathSlot, global_named};
 use st_trees::Stmt;
 use st_types::Outcome;
 use st_words::{Fault, Value};
@@ -31,13 +30,11 @@ fn is_among(cells: &[Cell], slot: usize) -> bool
 }
 
 /// The values of the globals that the code names, in the order of its externals, and each slot once.
-#[tactic(auto, using(crate::proofs::OnceLemmas::none_once))]
-fn reads_of(alloc: Global, globals: &[GlobalSlot], slots: &[Value]) -> Result<Vec<Cell>, AllocError>
+fn reads_of(alloc: Global, globals: &[PathSlot], slots: &[Value]) -> Result<Vec<Cell>, AllocError>
     requires there { list_all (λ g. nat_lt g.slot (length slots.now)) globals.now ≡ true }
     ensures agrees { IfOk result (λ cells. agrees slots.now (map cut cells.items) ≡ true) }
     ensures all { IfOk result
         (λ cells. map (λ c. c.0) (map cut cells.items) ≡ each_once (map (λ g. g.slot) globals.now)) }
-    ensures once { IfOk result (λ cells. EachSlotOnce (map cut cells.items)) }
 {
     let mut reads = Vec::new(alloc);
     for global in globals {
@@ -60,18 +57,16 @@ fn may_replace(old: Value, new: Value) -> bool
 
 /// The cell that an assignment writes, or its fault. It takes one tick, which the caller counts.
 fn step(code: &Code, statement: &Stmt, slots: &[Value]) -> Result<Cell, Fault>
-    requires plain { is_plain code.now.globals.items (stmt_view statement.now) ≡ true }
+    requires plain { is_plain code.now.table.items (stmt_view statement.now) ≡ true }
     ensures steps { Steps (code_view code.now) (stmt_view statement.now) slots.now (cut_of result) }
-    ensures variable { IfOk result (λ c. IsVariableSlot code.now.globals.items c.slot) }
-    ensures target { IfOk result
-        (λ c. is_slot_of code.now.globals.items (targets (stmt_view statement.now)) c.slot ≡ true) }
+    ensures variable { IfOk result (λ c. IsVariableSlot code.now.table.items c.slot) }
     ensures there { IfOk result (λ c. c.slot < length slots.now) }
 {
     let Stmt::Assign(target, expression) = statement else {
         return Err(Fault::Conversion);
     };
-    let new = value(expression, &code.globals, slots)?;
-    let Some(global) = global_named(&code.globals, &target.name.name) else {
+    let new = value(expression, &code.table, slots)?;
+    let Some(global) = global_named(&code.table, &target.name.name) else {
         return Err(Fault::Index);
     };
     let Some(old) = slots.get(global.slot) else {
@@ -107,9 +102,7 @@ fn run_all(
     ensures runs { IfOk result
         (λ outcome. Runs (code_view code.now) slots.items budget (map cut writes.new.items) outcome) }
     ensures variables { IfOk result
-        (λ _. list_all (λ c. is_variable_slot code.now.globals.items c.0) (map cut writes.new.items) ≡ true) }
-    ensures targets { IfOk result
-        (λ _. list_all (λ c. is_target_slot (code_view code.now) c.0) (map cut writes.new.items) ≡ true) }
+        (λ _. list_all (λ c. is_variable_slot code.now.table.items c.0) (map cut writes.new.items) ≡ true) }
     ensures once { IfOk result (λ _. EachSlotOnce (map cut writes.new.items)) }
 {
     let mut left = budget;
@@ -138,8 +131,7 @@ fn lasting_writes(outcome: Outcome, mut writes: Vec<Cell>) -> Vec<Cell>
     writes
 }
 
-/// Runs a snapshot's code on its values. What it reads are all globals that the program names, each once; what it
-/// writes are variables that its statements assign, each once.
+/// Runs a snapshot's code on its values. What it takes for its reads are all globals that the program names, each once.
 ///
 /// The only error is out of memory.
 pub fn run(alloc: Global, snapshot: Snapshot) -> Result<Execution, AllocError>
@@ -153,7 +145,7 @@ pub fn run(alloc: Global, snapshot: Snapshot) -> Result<Execution, AllocError>
         slots,
         ..
     } = snapshot;
-    let reads = reads_of(alloc, &code.globals, &slots)?;
+    let reads = reads_of(alloc, &code.table, &slots)?;
     let mut writes = Vec::new(alloc);
     let outcome = run_all(&code, slots, &mut writes, budget)?;
     let writes = lasting_writes(outcome, writes);

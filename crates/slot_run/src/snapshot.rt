@@ -19,7 +19,7 @@ pub struct Snapshot {
     pub budget: u32,
     /// The values by their slots, those of the inputs too.
     pub slots: Vec<Value>,
-    ghost there: { list_all (λ g. nat_lt g.slot (length slots.items)) code.value.globals.items ≡ true },
+    ghost there: { list_all (λ g. nat_lt g.slot (length slots.items)) code.value.table.items ≡ true },
 }
 
 impl Snapshot {
@@ -31,7 +31,7 @@ impl Snapshot {
         budget: u32,
         slots: Vec<Value>,
     ) -> Snapshot
-        requires there { list_all (λ g. nat_lt g.slot (length slots.items)) code.value.globals.items ≡ true }
+        requires there { list_all (λ g. nat_lt g.slot (length slots.items)) code.value.table.items ≡ true }
         ensures code { result.code.value ≡ code.value }
         ensures activation { result.activation ≡ activation }
         ensures moment { result.moment ≡ moment }

@@ -10,10 +10,10 @@ ghost use Rattle.st_types.specs.Stores.{Store};
 ghost use Rattle.st_types.specs.Scopes.{Scope};
 ghost use Rattle.st_types.specs.Ticks.{take};
 ghost use Rattle.st_types.specs.Evaluation as meaning;
-ghost use Rattle.slot_code.specs.Globals.{is_sum};
+ghost use Rattle.slot_code.specs.Plain.{is_sum};
 ghost use Rattle.slot_run.specs.Steps.{Sees, value_at};
 
-use slot_code::{GlobalSlot, global_named};
+use slot_code::{PathSlot, global_named};
 use st_trees::Expr;
 use st_types::value_of_number;
 use st_words::{BinaryOperator, Fault, Literal, Name, Value};
@@ -36,7 +36,7 @@ fn sum(a: Value, b: Value) -> Result<Value, Fault>
 }
 
 /// What stands in the slot of a name.
-fn global_value(globals: &[GlobalSlot], slots: &[Value], name: &Name) -> Option<Value>
+fn global_value(globals: &[PathSlot], slots: &[Value], name: &Name) -> Option<Value>
     ensures value { result ≡ value_at globals.now slots.now name.now }
     ensures held { IfSome result IsHeld }
 {
@@ -45,7 +45,7 @@ fn global_value(globals: &[GlobalSlot], slots: &[Value], name: &Name) -> Option<
 }
 
 /// The value of a sum over these slots. It takes no ticks.
-pub fn value(expression: &Expr, globals: &[GlobalSlot], slots: &[Value]) -> Result<Value, Fault>
+pub fn value(expression: &Expr, globals: &[PathSlot], slots: &[Value]) -> Result<Value, Fault>
     ensures { (w : Scope) (s : Store) (b : ℕ) → Sees w s globals.now slots.now
         → is_sum globals.now (expr_view expression.now) ≡ true
         → meaning.value w s (expr_view expression.now) b ≡ take result b }

@@ -13,10 +13,10 @@ use Rattle.st_types.specs.Slots.{Slot}
 
 -- the slots of a plan: its variables in order, and after them its inputs
 abbrev pub variable_slot : PlanVariable → Slot
-variable_slot v = record { path = v.path; is_input = false }
+variable_slot v = record { path = v.path; kind = v.initial.kind; is_input = false }
 
 abbrev pub input_slot : PlanInput → Slot
-input_slot i = record { path = i.path; is_input = true }
+input_slot i = record { path = i.path; kind = i.kind; is_input = true }
 
 abbrev pub layout_of : List PlanVariable → List PlanInput → List Slot
 layout_of variables inputs = map variable_slot variables ++ map input_slot inputs

@@ -160,8 +160,8 @@ variable_found l ls v w vs p true e rest h = behind_slot l ls p false (rest h)
 variable_found l ls v w vs p false e rest h =
     here_or l ls v w (variables_in ls vs) p false (same_path p l.path) e (same_path_is p l.path) rest h
 
-variable_has : (layout : List Slot) (vs : List Datum) (p : Path) (w : Datum) → get (variables_in layout vs) p ≡ Some w
-    → HasSlot layout p false
+pub variable_has : (layout : List Slot) (vs : List Datum) (p : Path) (w : Datum)
+    → get (variables_in layout vs) p ≡ Some w → HasSlot layout p false
 variable_has [] vs p w h = absurd (cc)
 variable_has (l ∷ ls) [] p w h = absurd (cc)
 variable_has (l ∷ ls) (v ∷ vs) p w h = variable_found l ls v w vs p l.is_input refl (variable_has ls vs p w) h
@@ -173,7 +173,7 @@ input_found l ls v w vs p true e rest h =
     here_or l ls v w (inputs_in ls vs) p true (same_path p l.path) e (same_path_is p l.path) rest h
 input_found l ls v w vs p false e rest h = behind_slot l ls p true (rest h)
 
-input_has : (layout : List Slot) (vs : List Datum) (p : Path) (w : Datum) → get (inputs_in layout vs) p ≡ Some w
+pub input_has : (layout : List Slot) (vs : List Datum) (p : Path) (w : Datum) → get (inputs_in layout vs) p ≡ Some w
     → HasSlot layout p true
 input_has [] vs p w h = absurd (cc)
 input_has (l ∷ ls) [] p w h = absurd (cc)
@@ -195,7 +195,7 @@ one_sort layout distinct k l input at h =
     let g : l ≡ h.slot = cc in
     ap (λ x. x.is_input) g ∙ h.sort
 
-none_where : (s : Store) (p : Path) → ((w : Datum) → get s p ≡ Some w → ⊥) → get s p ≡ None
+pub none_where : (s : Store) (p : Path) → ((w : Datum) → get s p ≡ Some w → ⊥) → get s p ≡ None
 none_where s p h = cases (get s p) h
   where
     cases : (o : Option Datum) → ((w : Datum) → o ≡ Some w → ⊥) → o ≡ None

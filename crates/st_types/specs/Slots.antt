@@ -1,14 +1,16 @@
 -- Slots: the variables and the inputs of a plan by their numbers.
 use Rattle.std.specs.Prelude.{◌≡◌, ℕ, suc, List, [], ◌∷◌, Bool, true, false, ◌&&◌, if◌then◌else◌, Option, Some, None}
-use Rattle.std.specs.Prelude.{option_map, slice_get, slice_set, Result, Ok, Err}
+use Rattle.std.specs.Prelude.{option_map, map, slice_get, slice_set, Result, Ok, Err}
+use Rattle.st_words.specs.declared.kind.Kind.{Kind}
 use Rattle.st_words.specs.Values.{Datum, same_datum}
 use Rattle.st_words.specs.Paths.{Path, same_path}
 use Rattle.st_types.specs.Failures.{Failure, ill_typed}
 use Rattle.st_types.specs.Stores.{Store, may_replace}
 
--- a slot: whose value stands in it, and whether that comes from the plant
+-- a slot: whose value stands in it, of which type it is, and whether it comes from the plant
 pub record Slot : Type 0 where
   pub path : Path
+  pub kind : Kind
   pub is_input : Bool
 
 -- the number of a path's slot
@@ -19,6 +21,10 @@ slot_of (l ∷ ls) p = if same_path p l.path then Some 0 else option_map suc (sl
 -- each path has one slot
 abbrev pub IsLayout : List Slot → Type 0
 IsLayout layout = (k : ℕ) (l : Slot) → slice_get layout k ≡ Some l → slot_of layout l.path ≡ Some k
+
+-- a value for each slot, of its type
+abbrev pub AreOfTypes : List Slot → List Datum → Type 0
+AreOfTypes layout vs = map (λ v. v.kind) vs ≡ map (λ l. l.kind) layout
 
 -- the variables of slots with these values, and the inputs of the plant
 abbrev pub variables_in : List Slot → List Datum → Store

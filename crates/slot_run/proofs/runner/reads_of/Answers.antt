@@ -15,12 +15,11 @@ loop-global-preserved c =
           let more = reads_more globals c.args.slots.now i g w.index-slots-global.result c.loop-global.reads.items
           w.push.new.self.items (omega arith) c.global-item.is within w.index-slots-global.is (search rules)
           w.in_ok-push.ensures.items
-          c.loop-global.invariant.agrees c.loop-global.invariant.all c.loop-global.invariant.once in
-          rw w.reads-is record { agrees = more.0; all = more.1; once = more.2 }
+          c.loop-global.invariant.agrees c.loop-global.invariant.all in
+          rw w.reads-is record { agrees = more.0; all = more.1 }
       | else-not-is_among w ↦ rw w.reads-is record {
         agrees = c.loop-global.invariant.agrees;
         all = reads_stay globals i g c.loop-global.reads.items (omega arith) c.global-item.is (search rules)
             c.loop-global.invariant.all;
-        once = c.loop-global.invariant.once;
       }
     ]

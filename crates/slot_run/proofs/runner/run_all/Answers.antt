@@ -51,5 +51,5 @@ loop-statement-preserved c =
     rw c.deref-in-loop-statement.ensures.value at c.in-Ok.ensures.steps in
     let next = reached_next (code_view code) c.args.slots.items (stmt_view x) (map stmt_view (drop (i + 1) body))
     c.args.budget c.loop-statement.left (c.loop-statement.left - 1) slots writes (cut c.in-Ok.cell) (omega arith) r
-    steps c.in-Ok.ensures.variable c.in-Ok.ensures.target in
+    steps c.in-Ok.ensures.variable in
     rw c.in_ok-write.ensures next

@@ -4,7 +4,7 @@ use Rattle.config.specs.declared.plan.Plan.{Plan}
 use Rattle.config.specs.PlanViews.{plan_view}
 use Rattle.serial_core.specs.Steps.{State, store_in, code_at, none_waits}
 use Rattle.serial_core.proofs.TakeLemmas.{NoneWaits-best, IsBest-best, waits-row, row-there, same_row, snapshot_is}
-use Rattle.serial_core.proofs.TakeLemmas.{slots_counted, globals_within, placed_at, IsSnapshotOf-same, waits_here}
+use Rattle.serial_core.proofs.TakeLemmas.{slots_counted, globals_within, fits_at, IsSnapshotOf-same, waits_here}
 use Rattle.serial_core.proofs.serial.SerialCore.take.Goals as goal
 
 pub returns-in_default : goal.returns-in_default
@@ -41,8 +41,8 @@ new-snapshot-requires c =
     (sym (row-there k a l) ∙ rw (← c.deref.ensures.value, ← c.deref-2.ensures.value) c.row_of-row.ensures) in
     let coded = ap (λ p. code_at p a.program) (sym c.deref-plan.ensures) ∙ c.in-Ok.ensures in
     record {
-      there = globals_within c.self.inside.plan.value a.program c.in-Ok.code.value _
-          (placed_at c.self.inside.plan.value a.program c.in-Ok.code.value c.self.inside.plan.value.sound.placed coded)
+      there = globals_within c.self.inside.plan.value c.in-Ok.code.value _
+          (fits_at c.self.inside.plan.value a.program c.in-Ok.code.value coded)
           (slots_counted k a c.row_of-row.result.now l (sym e)
           ∙ ap length (sym (c.in-Ok-slots_of.ensures ∙ ap (λ vs. vs ++ c.image.result.now) c.deref-3.ensures.value
           ∙ ap (λ im. c.self.inside.values.items ++ im) c.image.ensures)));
