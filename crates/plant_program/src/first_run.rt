@@ -11,7 +11,7 @@ use plant_words::DEFAULT_BUDGET;
 use serial_core::Refusal as SerialRefusal;
 use st_build::build;
 use st_plans::Row;
-use st_words::{Name, Path};
+use st_words::{Name, Path, Value};
 use std::alloc::Global;
 use std::sync::Arc;
 
@@ -24,9 +24,8 @@ const LOG_ROOM: usize = 300;
 /// What a built-in plan without its variable would be.
 const FOREIGN: Fault = Fault::Refused(Refusal::Serial(SerialRefusal::Foreign));
 
-/// A core of the plan, started cold over an empty simulated disk.
-fn started(alloc: Global, plan: Plan) -> Result<Core<SimDisk>, Fault> {
-    let disk = SimDisk::new(alloc, Vec::new(alloc))?;
+/// A core of the plan, started cold over the disk.
+fn started<D: Disk + Drop>(alloc: Global, plan: Plan, disk: D) -> Result<Core<D>, Fault> {
     let plan = Arc::new(alloc, plan)?;
     match Core::start(alloc, plan, disk, StartMode::Cold, LOG_ROOM) {
         Ok(core) => Ok(core),
@@ -43,24 +42,35 @@ fn serve_rows<D: Disk>(alloc: Global, core: &mut Core<D>, resources: usize) -> R
     Ok(())
 }
 
-/// The line that tells the value of n.
-fn count_line<D: Disk>(alloc: Global, core: &Core<D>) -> Result<Vec<u8>, Fault> {
-    let path = Path::global(alloc, Name::from_slice(alloc, built_in::COUNT.as_bytes())?);
-    let Some(value) = core.value(&path) else {
-        return Err(FOREIGN);
-    };
+/// The line that tells the value of a variable.
+fn line_of(alloc: Global, path: &Path, value: Value) -> Result<Vec<u8>, Fault> {
     let mut line = Vec::new(alloc);
-    match write_variable(&mut line, &path, value) {
+    match write_variable(&mut line, path, value) {
         Ok(()) => Ok(line),
         Err(_) => Err(Fault::NO_MEMORY),
     }
 }
 
-/// Serves the rows of the built-in configuration, and gives the line that tells the value of n after them.
-pub fn first(alloc: Global) -> Result<Vec<u8>, Fault> {
-    let plan = build(alloc, built_in::TEXT.as_bytes(), DEFAULT_BUDGET)?;
+/// The line that tells the value of n.
+fn count_line<D: Disk>(alloc: Global, core: &Core<D>) -> Result<Vec<u8>, Fault> {
+    let path = Path::global(alloc, Name::from_slice(alloc, built_in::COUNT.as_bytes())?);
+    match core.value(&path) {
+        Some(value) => line_of(alloc, &path, value),
+        None => Err(FOREIGN),
+    }
+}
+
+/// Serves the rows of the plan over the disk, and gives the line that tells the value of n after them.
+fn served<D: Disk + Drop>(alloc: Global, plan: Plan, disk: D) -> Result<Vec<u8>, Fault> {
     let resources = plan.resources();
-    let mut core = started(alloc, plan)?;
+    let mut core = started(alloc, plan, disk)?;
     serve_rows(alloc, &mut core, resources)?;
     count_line(alloc, &core)
+}
+
+/// Serves the rows of the built-in configuration over an empty simulated disk, and gives the line that tells the value
+/// of n after them.
+pub fn first(alloc: Global) -> Result<Vec<u8>, Fault> {
+    let plan = build(alloc, built_in::TEXT.as_bytes(), DEFAULT_BUDGET)?;
+    served(alloc, plan, SimDisk::new(alloc, Vec::new(alloc))?)
 }
