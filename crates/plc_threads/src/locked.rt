@@ -1,18 +1,16 @@
 //! What lies under the lock of a run.
 
-ghost use Rattle.std.specs.Prelude.{◌≡◌, ℕ, ◌+◌, ◌^◌, ◌<◌, ◌≤◌, ◌++◌, List, Option, Some, drop, length, max, IfOk, IfNone, OnErr, IsTrue};
-ghost use Rattle.std.specs.Coded.{Coded-set, coded_list, coded_option};
+ghost use Rattle.std.specs.Prelude.{◌≡◌, ◌+◌, ◌^◌, ◌<◌, ◌≤◌, ◌++◌, Option, drop, max, IfOk, IfNone, OnErr, IsTrue};
+ghost use Rattle.std.specs.Coded.{Coded-set};
 ghost use Rattle.atomic_table.specs.Seated.{table_id_coded};
-ghost use Rattle.st_plans.specs.contracts.entry.Row as latch;
 ghost use Rattle.st_plans.specs.Logs.{done_count};
-ghost use Rattle.serial_core.specs.contracts.serial.SerialCore as state;
 ghost use Rattle.serial_core.specs.Steps.{made, Commits, CommitsHere};
 ghost use Rattle.commit_lock.specs.Cores.{Guards};
 ghost use Rattle.commit_lock.specs.Flushing.{Flushes, IsAcknowledged};
 ghost use Rattle.plc_threads.specs.Answers.{committed_by, committed_here};
-ghost use Rattle.plc_threads.specs.Lives.{life_of, NothingIsDue};
+ghost use Rattle.plc_threads.specs.Lives.{life_of, IsOfLife, IsOfLife-prop, InOrder, InOrder-prop, NothingIsDue};
 ghost use Rattle.plc_threads.specs.Latching.{LatchesNext};
-ghost use Rattle.plc_threads.specs.Phases.{ended_by, phase_after, unless_stopped};
+ghost use Rattle.plc_threads.specs.Phases.{ended_by, phase_after};
 ghost use Rattle.commit_lock.specs.declared.refusal.Refusal.{Refusal};
 
 use crate::mark::{Mark, RaisePass};
@@ -73,9 +71,8 @@ pub struct Locked<J: Run, D: Disk> {
     pub ghost counted: { done_count core.state.log ≡ J.dones + book.total },
     pub ghost acknowledged: { raises.top ≤ core.acked },
     pub ghost of_run: { raises.mark ≡ J.mark } by { Coded-set table_id_coded raises.mark J.mark },
-    pub ghost one_life: { Some (life_of core.state) ≡ J.life } by { Coded-set (coded_option state.the_row.coded) (Some (life_of core.state)) J.life },
-    pub ghost in_order: { unless_stopped phase ((made core.state).rows ++ rest.items) ≡ unless_stopped phase J.rows } by { Coded-set (coded_list latch.the_row.coded) (unless_stopped phase ((made core.state).rows ++ rest.items))
-        (unless_stopped phase J.rows) },
+    pub ghost one_life: { IsOfLife core J.life } by { IsOfLife-prop core J.life },
+    pub ghost in_order: { InOrder phase core rest.items J.rows } by { InOrder-prop phase core rest.items J.rows },
 }
 
 /// 1 for an execution that was committed.
