@@ -1,0 +1,13 @@
+//! What a caller may do between the steps of a worker.
+
+use commit_lock::Answer;
+use st_plans::Activation;
+
+/// Called by the workers of a run, outside the lock. Tests hold a worker by it.
+pub trait Gate {
+    /// Between a run of code and its commit.
+    fn between(&self, resource: usize, activation: Activation);
+
+    /// After each answer, that of a commit in one step too.
+    fn answered(&self, resource: usize, activation: Activation, answer: Answer);
+}

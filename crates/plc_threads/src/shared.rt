@@ -1,0 +1,118 @@
+//! What all threads of a run share.
+
+ghost use Rattle.std.specs.Prelude.{◌≡◌, ◌+◌, Ok, IfSome, IfNone};
+ghost use Rattle.plc_threads.specs.Answers.{committed_by, committed_here, stale_after};
+
+use crate::locked::{Locked, Run};
+use crate::phase::{Phase, RunFault};
+use crate::tally::Tally;
+use commit_lock::{Answer, Core};
+use disk::Disk;
+use slot_run::{Execution, Snapshot};
+use st_plans::{Activation, Entry};
+use std::alloc::Global;
+use std::sync::{Condvar, Mutex, Wait};
+
+/// The one lock of a run, and what tells its threads that something under it has changed.
+#[derive(Drop)]
+pub struct Shared<J: Run, D: Disk> {
+    pub locked: Mutex<Locked<J, D>>,
+    pub changed: Condvar,
+}
+
+/// What a commit in one step did.
+#[derive(Clone, Copy)]
+pub struct Served {
+    /// The log's length after it; none where nothing waited.
+    pub length: Option<usize>,
+    /// The activation of the log's last entry.
+    pub last: Option<Activation>,
+}
+
+/// The activation of the log's last entry; none where that is a row.
+fn last_activation<D: Disk>(core: &Core<D>) -> Option<Activation> {
+    let last = core.len().checked_sub(1)?;
+    match core.entry(last) {
+        Some(Entry::Done(activation)) => Some(*activation),
+        Some(Entry::Row(_)) | None => None,
+    }
+}
+
+impl<J: Run, D: Disk + Drop> Shared<J, D> {
+    /// Ends the run, unless it has ended.
+    pub fn end<R: Wait>(&self, rt: &R, end: Phase) {
+        self.locked.lock(rt).end(end);
+        self.changed.notify_all();
+    }
+
+    /// The best activation of a resource, once there is one; none where the run has ended.
+    pub fn next<R: Wait>(&self, rt: &R, alloc: Global, resource: usize) -> Option<Snapshot> {
+        let mut guard = self.locked.lock(rt);
+        for _ in rt.forever() {
+            if guard.phase != Phase::Running {
+                return None;
+            }
+            match guard.core.take(alloc, resource) {
+                Ok(Some(snapshot)) => return Some(snapshot),
+                Ok(None) => guard = self.changed.wait(rt, guard),
+                Err(refusal) => {
+                    guard.end(Phase::Stopped(RunFault::Refused(refusal)));
+                    self.changed.notify_all();
+                    return None;
+                }
+            }
+        }
+        unreachable!()
+    }
+
+    /// Commits; none where that was refused, which ends the run.
+    pub fn commit<R: Wait>(
+        &self,
+        rt: &R,
+        tally: &mut Tally<J>,
+        execution: Execution,
+    ) -> Option<Answer>
+        ensures committed { IfSome result (λ a. tally.new.committed ≡ tally.old.committed + committed_by (Ok a)) }
+        ensures stale { IfSome result (λ a. tally.new.stale ≡ stale_after tally.old.stale (Ok a)) }
+        ensures none { IfNone result (tally.new.committed ≡ tally.old.committed) }
+    {
+        let mut guard = self.locked.lock(rt);
+        let result = tally.commit(&mut *guard, execution);
+        self.changed.notify_all();
+        match result {
+            Ok(answer) => Some(answer),
+            Err(refusal) => {
+                guard.end(Phase::Stopped(RunFault::Refused(refusal)));
+                None
+            }
+        }
+    }
+
+    /// Commits the best activation of a resource in one step; none where that was refused, which ends the run.
+    pub fn commit_here<R: Wait>(
+        &self,
+        rt: &R,
+        tally: &mut Tally<J>,
+        alloc: Global,
+        resource: usize,
+    ) -> Option<Served>
+        ensures committed { IfSome result
+            (λ s. tally.new.committed ≡ tally.old.committed + committed_here (Ok s.length)) }
+        ensures stale { tally.new.stale ≡ tally.old.stale }
+        ensures none { IfNone result (tally.new.committed ≡ tally.old.committed) }
+    {
+        let mut guard = self.locked.lock(rt);
+        let result = tally.commit_here(&mut *guard, alloc, resource);
+        self.changed.notify_all();
+        match result {
+            Ok(length) => Some(Served {
+                length,
+                last: last_activation(&guard.core),
+            }),
+            Err(refusal) => {
+                guard.end(Phase::Stopped(RunFault::Refused(refusal)));
+                None
+            }
+        }
+    }
+}

@@ -1,0 +1,87 @@
+//! What the thread of a resource does, and what the flusher does.
+
+ghost use Rattle.std.specs.Prelude.{◌≡◌, ◌+◌};
+
+use crate::gate::Gate;
+use crate::locked::Run;
+use crate::mark::Mark;
+use crate::phase::{NO_MEMORY, Phase, RunFault};
+use crate::shared::{Served, Shared};
+use crate::tally::Tally;
+use commit_lock::Answer;
+use disk::Disk;
+use slot_run::run;
+use std::alloc::Global;
+use std::sync::Wait;
+use std::sync::ledger::Share;
+
+/// After so many stale answers in a row the next try is a commit in one step.
+const PATIENCE: u32 = 8;
+
+/// Tells the gate of a commit in one step.
+fn tell_gate<G: Gate>(gate: &G, resource: usize, served: Served) {
+    if let (Some(length), Some(activation)) = (served.length, served.last) {
+        gate.answered(resource, activation, Answer::Committed(length));
+    }
+}
+
+/// Takes, runs and commits what waits on a resource, until the run ends.
+pub fn work<J: Run, D: Disk + Drop, G: Gate, R: Wait>(
+    rt: &R,
+    alloc: Global,
+    shared: &Shared<J, D>,
+    gate: &G,
+    resource: usize,
+    share: Share<J>,
+) -> Tally<J>
+    requires { (share.parts ≡ 1) × (share.amount ≡ 0) }
+{
+    let mut tally = Tally::new(share);
+    let mut stale_in_a_row = 0;
+    for _ in rt.forever() {
+        let Some(snapshot) = shared.next(rt, alloc, resource) else {
+            break;
+        };
+        if stale_in_a_row >= PATIENCE {
+            stale_in_a_row = 0;
+            let Some(served) = shared.commit_here(rt, &mut tally, alloc, resource) else {
+                break;
+            };
+            tell_gate(gate, resource, served);
+            continue;
+        }
+        let activation = snapshot.activation;
+        let Ok(execution) = run(alloc, snapshot) else {
+            shared.end(rt, Phase::Stopped(NO_MEMORY));
+            break;
+        };
+        gate.between(resource, activation);
+        let Some(answer) = shared.commit(rt, &mut tally, execution) else {
+            break;
+        };
+        stale_in_a_row = match answer {
+            Answer::Committed(_) => 0,
+            Answer::Stale => stale_in_a_row + 1,
+        };
+        gate.answered(resource, activation, answer);
+    }
+    tally
+}
+
+/// Flushes whenever the log is longer than what is acknowledged, until the run ends.
+pub fn flush_all<J: Run, D: Disk + Drop, R: Wait>(rt: &R, shared: &Shared<J, D>, mark: &Mark)
+    requires { mark.now ≡ J.mark }
+{
+    for _ in rt.forever() {
+        let mut guard = shared.changed.wait_while(rt, shared.locked.lock(rt), |l| {
+            l.phase == Phase::Running && l.core.acked() == l.core.len()
+        });
+        if guard.phase != Phase::Running {
+            break;
+        }
+        if let Err(refusal) = guard.flush(mark) {
+            guard.end(Phase::Stopped(RunFault::Refused(refusal)));
+        }
+        shared.changed.notify_all();
+    }
+}
