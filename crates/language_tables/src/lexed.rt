@@ -36,6 +36,12 @@ fn kind(out: &mut Answer, kind: &TokenKind) {
             out.put(" ms");
         }
         TokenKind::Address(found) => address(out, found, " "),
+        TokenKind::Enumerated(type_name, name) => {
+            out.put("value ");
+            out.name(type_name.as_slice());
+            out.mark('#');
+            out.name(name.as_slice());
+        }
     }
 }
 

@@ -18,8 +18,7 @@ use Rattle.st_lex.specs.declared.front.Front.{Front}
 use Rattle.st_lex.specs.declared.front.Front.TheVariants as fronts
 use Rattle.st_lex.specs.Characters.{begins, is_word_character, is_allowed, is_space}
 use Rattle.st_lex.specs.Comments.{before, to_close, to_open, comment_front}
-use Rattle.st_lex.specs.Words.{word_length, word_front, read_as, with_percent, must_be_literal, identifier}
-use Rattle.st_lex.specs.Literals.{literal}
+use Rattle.st_lex.specs.Words.{word_length, word_front, read_as, with_percent, must_be_literal, identifier, literal_of}
 use Rattle.st_lex.specs.Marks.{leading, marks, longest_mark, read_mark, mark_front}
 use Rattle.st_lex.specs.Fronts.{front_of}
 use Rattle.st_lex.proofs.Within.{by_test, by_tests, starts, word_length_bound}
@@ -202,8 +201,8 @@ word_sound : (text word : List ℕ) → IsCut text (length word) → front_of (t
     → IsSound text (word_front word)
 unfolding word_front
 word_sound text word cut e = either_sound text (front_of (take (length word) text)) (must_be_literal word)
-    (read_as faults.Literal (length word) (literal word)) (read_as faults.Identifier (length word) (identifier word))
-    (read_sound text (length word) faults.Literal (literal word) cut)
+    (read_as faults.Literal (length word) (literal_of word)) (read_as faults.Identifier (length word) (identifier word))
+    (read_sound text (length word) faults.Literal (literal_of word) cut)
     (read_sound text (length word) faults.Identifier (identifier word) cut) e
 
 worded : (b : ℕ) (bs : List ℕ) → is_space b ≡ false → 0 < word_length (b ∷ bs)

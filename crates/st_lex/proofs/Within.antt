@@ -19,8 +19,7 @@ use Rattle.st_lex.specs.declared.front.Front.{Front}
 use Rattle.st_lex.specs.declared.front.Front.TheVariants as fronts
 use Rattle.st_lex.specs.Characters.{begins, is_word_character, is_allowed, is_space}
 use Rattle.st_lex.specs.Comments.{before, to_close, to_open, comment_front}
-use Rattle.st_lex.specs.Words.{word_length, word_front, read_as, with_percent, must_be_literal, identifier}
-use Rattle.st_lex.specs.Literals.{literal}
+use Rattle.st_lex.specs.Words.{word_length, word_front, read_as, with_percent, must_be_literal, identifier, literal_of}
 use Rattle.st_lex.specs.Marks.{leading, marks, longest_mark, read_mark, mark_front}
 use Rattle.st_lex.specs.Fronts.{IsWithin, front_of}
 
@@ -74,8 +73,8 @@ read_within fault n m (Some kind) = λ some le. (some, le)
 word_within : (word : List ℕ) (m : ℕ) → 0 < length word → length word ≤ m → IsWithin m (word_front word)
 unfolding word_front
 word_within word m some le = by_test (IsWithin m) (must_be_literal word)
-    (read_as faults.Literal (length word) (literal word)) (read_as faults.Identifier (length word) (identifier word))
-    (λ _. read_within faults.Literal (length word) m (literal word) some le)
+    (read_as faults.Literal (length word) (literal_of word)) (read_as faults.Identifier (length word) (identifier word))
+    (λ _. read_within faults.Literal (length word) m (literal_of word) some le)
     (λ _. read_within faults.Identifier (length word) m (identifier word) some le)
 
 with_percent_bound : (n m : ℕ) → n ≤ m → with_percent n ≤ m + 1

@@ -1,12 +1,12 @@
 -- Words: the longest runs of letters, digits, `_` and `#`, each with a `%` directly before it where there is one.
 use Rattle.std.specs.Prelude.{ℕ, ◌+◌, List, [], ◌∷◌, length, map, Bool, false, ◌&&◌, ◌||◌, ◌==◌, nat_le, if◌then◌else◌}
-use Rattle.std.specs.Prelude.{Option, Some, None}
-use Rattle.std.specs.Option.{unwrap_or}
+use Rattle.std.specs.Prelude.{Option, Some, None, is_none, not, codes, bytes_eq}
+use Rattle.std.specs.Option.{unwrap_or, option_or}
 use Rattle.std.specs.List.{list_any, prefix_len}
 use Rattle.std.specs.Char.{to_ascii_uppercase, is_ascii_digit}
 use Rattle.st_words.specs.declared.limits.TheConstants.{MAX_NAME_LENGTH}
 use Rattle.st_lex.specs.declared.token.TokenKind.{TokenKind}
-use Rattle.st_lex.specs.declared.token.TokenKind.TheVariants.{Name}
+use Rattle.st_lex.specs.declared.token.TokenKind.TheVariants.{Name, Enumerated}
 use Rattle.st_lex.specs.declared.fault.LexFault.{LexFault}
 use Rattle.st_lex.specs.declared.fault.LexFault.TheVariants as faults
 use Rattle.st_lex.specs.declared.front.Front.{Front}
@@ -14,6 +14,7 @@ use Rattle.st_lex.specs.declared.front.Front.TheVariants as fronts
 use Rattle.st_lex.specs.Characters.{is_word_character, is_spaced}
 use Rattle.st_lex.specs.ReservedWords.{reserved}
 use Rattle.st_lex.specs.Literals.{literal}
+use Rattle.st_lex.specs.Numbers.{before_hash, behind_hash}
 
 abbrev pub with_percent : ℕ → ℕ
 with_percent n = if n == 0 then 0 else n + 1
@@ -51,9 +52,28 @@ read_as fault n (Some kind) = fronts.Token kind n
 abbrev pub identifier : List ℕ → Option TokenKind
 identifier word = if is_identifier word then Some (named word) else None
 
+-- an identifier that is no reserved word
+abbrev pub is_name : List ℕ → Bool
+is_name [] = false
+is_name (b ∷ bs) = not (must_be_literal (b ∷ bs)) && is_identifier (b ∷ bs) && is_none (reserved (b ∷ bs))
+
+-- `T#` begins a duration, never a value of a type T
+abbrev pub begins_duration : List ℕ → Bool
+begins_duration word = bytes_eq (upper (before_hash word)) (codes "T")
+
+-- a type's name, `#`, and the name of one of its values
+unfoldable pub enumerated : List ℕ → Option TokenKind
+enumerated word =
+    if is_name (before_hash word) && is_name (behind_hash word) && not (begins_duration word)
+    then Some (Enumerated (upper (before_hash word)) (upper (behind_hash word))) else None
+
+-- a word that is no identifier: a literal, an address or a value of an enumerated type; no word is two of them
+abbrev pub literal_of : List ℕ → Option TokenKind
+literal_of word = option_or (literal word) (enumerated word)
+
 -- what a word is
 unfoldable pub word_front : List ℕ → Front
 word_front word =
     if must_be_literal word
-    then read_as faults.Literal (length word) (literal word)
+    then read_as faults.Literal (length word) (literal_of word)
     else read_as faults.Identifier (length word) (identifier word)

@@ -4,7 +4,6 @@ ghost use Rattle.std.specs.Prelude.{◌≡◌, ◌≤◌, ◌<◌, ◌==◌, ◌
 ghost use Rattle.std.specs.List.{list_any, prefix_len};
 ghost use Rattle.st_lex.specs.Characters.{is_word_character};
 ghost use Rattle.st_lex.specs.declared.fault.LexFault.TheVariants as faults;
-ghost use Rattle.st_lex.specs.Literals.{literal};
 ghost use Rattle.st_lex.specs.Words as words;
 
 use crate::character::{is_spaced, is_word_character};
@@ -12,6 +11,7 @@ use crate::fault::LexFault;
 use crate::front::Front;
 use crate::keyword::reserved;
 use crate::literal::literal;
+use crate::number::{before_hash, behind_hash};
 use crate::token::TokenKind;
 use st_words::Name;
 use st_words::limits::MAX_NAME_LENGTH;
@@ -75,12 +75,47 @@ fn named(alloc: Global, word: &[u8]) -> Result<TokenKind, AllocError>
     }
 }
 
-fn literal_front(word: &[u8]) -> Front
-    ensures { result ≡ words.read_as faults.Literal (length word.now) (literal word.now) }
+/// An identifier that is no reserved word.
+fn is_name(word: &[u8]) -> bool
+    ensures { result ≡ words.is_name word.now }
+{
+    !word.is_empty() && !must_be_literal(word) && is_identifier(word) && reserved(word).is_none()
+}
+
+fn begins_duration(word: &[u8]) -> bool
+    ensures { result ≡ words.begins_duration word.now }
+{
+    before_hash(word).eq_ignore_ascii_case(b"T")
+}
+
+/// `enumerated = name, "#", name .`
+/// The type's name is not `T`, which begins a duration.
+#[tactic(auto, unfolding(crate::specs::Words::enumerated))]
+fn enumerated(alloc: Global, word: &[u8]) -> Result<Option<TokenKind>, AllocError>
+    ensures { IfOk result (λ kind. kind ≡ words.enumerated word.now) }
+{
+    let (type_name, name) = (before_hash(word), behind_hash(word));
+    if !is_name(type_name) || !is_name(name) || begins_duration(word) {
+        return Ok(None);
+    }
+    Ok(Some(TokenKind::Enumerated(Name::upper(alloc, type_name)?, Name::upper(alloc, name)?)))
+}
+
+fn literal_of(alloc: Global, word: &[u8]) -> Result<Option<TokenKind>, AllocError>
+    ensures { IfOk result (λ kind. kind ≡ words.literal_of word.now) }
 {
     match literal(word) {
-        Some(kind) => Front::Token(kind, word.len()),
-        None => Front::Fault(LexFault::Literal, 0),
+        Some(kind) => Ok(Some(kind)),
+        None => enumerated(alloc, word),
+    }
+}
+
+fn literal_front(alloc: Global, word: &[u8]) -> Result<Front, AllocError>
+    ensures { IfOk result (λ front. front ≡ words.read_as faults.Literal (length word.now) (words.literal_of word.now)) }
+{
+    match literal_of(alloc, word)? {
+        Some(kind) => Ok(Front::Token(kind, word.len())),
+        None => Ok(Front::Fault(LexFault::Literal, 0)),
     }
 }
 
@@ -90,7 +125,7 @@ pub fn word_front(alloc: Global, word: &[u8]) -> Result<Front, AllocError>
     ensures { IfOk result (λ front. front ≡ words.word_front word.now) }
 {
     if must_be_literal(word) {
-        return Ok(literal_front(word));
+        return literal_front(alloc, word);
     }
     if !is_identifier(word) {
         return Ok(Front::Fault(LexFault::Identifier, 0));

@@ -9,8 +9,7 @@ use Rattle.st_words.specs.declared.operator.UnaryOperator.TheVariants.{Negate, N
 use Rattle.st_words.specs.declared.operator.BinaryOperator.{BinaryOperator}
 use Rattle.st_lex.specs.declared.token.Token.{Token}
 use Rattle.st_lex.specs.declared.token.TokenKind.{TokenKind}
-use Rattle.st_lex.specs.declared.token.TokenKind.TheVariants.{Name, Elementary, Keyword, Mark, Number, Truth, Duration}
-use Rattle.st_lex.specs.declared.token.TokenKind.TheVariants.{Address}
+use Rattle.st_lex.specs.declared.token.TokenKind.TheVariants.{Name, Keyword, Mark, Number, Truth, Duration}
 use Rattle.st_lex.specs.declared.mark.Mark.TheVariants as m
 use Rattle.st_lex.specs.declared.keyword.Keyword.TheVariants as w
 use Rattle.st_trees.specs.Expressions.{Expr, Variable, Selector, exprs_of, selectors_of}
@@ -568,9 +567,7 @@ operand_begun least t (Mark k) eq yes' =
       whole = λ after. parenthesis t.start a_name (is (mark_at m.Open t opens)) (name_is 1 (close_token ∷ after))
           (0, is (mark_at m.Close close_token refl)) refl;
     }
-operand_begun least t (Elementary k) eq yes' = absurd cc
-operand_begun least t (Keyword k) eq yes' = absurd cc
-operand_begun least t (Address k) eq yes' = absurd cc
+operand_begun least t _ eq yes' = absurd cc
 
 sign_begun : (least : ℕ) (t : Token) → least ≤ 8 → (is_mark m.Minus t.kind ≡ true) ⊎ (is_keyword w.Not t.kind ≡ true)
     → Begins (IsExpr least) (t ∷ [])
