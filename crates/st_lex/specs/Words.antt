@@ -67,7 +67,7 @@ enumerated word =
     if is_name (before_hash word) && is_name (behind_hash word) && not (begins_duration word)
     then Some (Enumerated (upper (before_hash word)) (upper (behind_hash word))) else None
 
--- a word that is no identifier: a literal, an address or a value of an enumerated type; no word is two of them
+-- of a word that is no identifier: a literal or an address, and only where it is neither, a value of an enumerated type
 abbrev pub literal_of : List ℕ → Option TokenKind
 literal_of word = option_or (literal word) (enumerated word)
 

@@ -31,7 +31,8 @@ pub enum TokenKind {
     /// A duration in milliseconds, at most 9,223,372,036,854,775,807.
     Duration(u64),
     Address(Address),
-    /// A value of an enumerated type, as in `Mode#Fault`: the type's name and its own, each no reserved word, in upper case.
+    /// A value of an enumerated type, as in `Mode#Fault`: the type's name and its own, each no reserved word, in upper
+    /// case.
     Enumerated(Name, Name),
 }
 

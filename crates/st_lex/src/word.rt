@@ -111,7 +111,8 @@ fn literal_of(alloc: Global, word: &[u8]) -> Result<Option<TokenKind>, AllocErro
 }
 
 fn literal_front(alloc: Global, word: &[u8]) -> Result<Front, AllocError>
-    ensures { IfOk result (λ front. front ≡ words.read_as faults.Literal (length word.now) (words.literal_of word.now)) }
+    ensures { IfOk result
+        (λ front. front ≡ words.read_as faults.Literal (length word.now) (words.literal_of word.now)) }
 {
     match literal_of(alloc, word)? {
         Some(kind) => Ok(Front::Token(kind, word.len())),
