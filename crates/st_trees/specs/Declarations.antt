@@ -15,6 +15,8 @@ pub record Field : Type 0 where
 pub data TypeDefinition : Type 0 where
   array : ArrayType → TypeDefinition
   structure : List Field → TypeDefinition
+  -- the names of an enumerated type
+  enumeration : List Identifier → TypeDefinition
 
 pub record TypeDeclaration : Type 0 where
   pub name : Identifier

@@ -43,6 +43,8 @@ pub struct Field {
 pub enum TypeDefinition {
     Array(ArrayType),
     Structure(Vec<Field>),
+    /// The names of an enumerated type, in order.
+    Enumeration(Vec<Identifier>),
 }
 
 /// A declaration of a type.
@@ -149,11 +151,15 @@ impl Tree for TypeDefinition {
         match self {
             TypeDefinition::Array(a) => match other {
                 TypeDefinition::Array(b) => a.is(b),
-                TypeDefinition::Structure(_) => false,
+                _ => false,
             },
             TypeDefinition::Structure(a) => match other {
-                TypeDefinition::Array(_) => false,
                 TypeDefinition::Structure(b) => same_trees(a, b),
+                _ => false,
+            },
+            TypeDefinition::Enumeration(a) => match other {
+                TypeDefinition::Enumeration(b) => same_trees(a, b),
+                _ => false,
             },
         }
     }

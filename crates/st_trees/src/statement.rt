@@ -7,7 +7,7 @@ ghost use Rattle.st_trees.specs.ExpressionViews.{expr_view, variable_view};
 ghost use Rattle.st_trees.specs.StatementViews.{argument_view, arm_view, case_arm_view, stmt_view};
 
 use crate::expression::{Expr, Variable};
-use st_words::{Identifier, Number, Tree, same_option, same_trees};
+use st_words::{EnumeratedValue, Identifier, Number, Tree, same_option, same_trees};
 
 /// A statement of a body, without its semicolon.
 #[derive(Drop)]
@@ -53,11 +53,12 @@ pub struct CaseArm {
 }
 
 /// A label of a CASE.
-#[derive(Clone, Copy, Debug, PartialEq, Eq)]
+#[derive(Drop)]
 pub enum Label {
     Single(Number),
     /// A least and a greatest number.
     Range(Number, Number),
+    Enumerated(EnumeratedValue),
 }
 
 /// An argument of a block call.
@@ -173,11 +174,15 @@ impl Tree for Label {
         match self {
             Label::Single(a) => match other {
                 Label::Single(b) => a.is(b),
-                Label::Range(_, _) => false,
+                _ => false,
             },
             Label::Range(a, c) => match other {
-                Label::Single(_) => false,
                 Label::Range(b, d) => a.is(b) && c.is(d),
+                _ => false,
+            },
+            Label::Enumerated(a) => match other {
+                Label::Enumerated(b) => a.is(b),
+                _ => false,
             },
         }
     }

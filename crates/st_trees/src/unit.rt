@@ -2,15 +2,16 @@
 
 ghost use Rattle.std.specs.Prelude.{◌≡◌, ◌↔◌, IsTrue};
 
+use crate::data_type::SimpleType;
 use crate::declaration::VariableBlock;
 use crate::statement::Stmt;
-use st_words::{Identifier, Kind, Tree, same_trees};
+use st_words::{Identifier, Tree, same_trees};
 
 /// What a unit is.
-#[derive(Clone, Copy, Debug, PartialEq, Eq)]
+#[derive(Drop)]
 pub enum UnitSort {
-    /// A function, with the type of its result and the place of that word.
-    Function(Kind, usize),
+    /// A function, with the type of its result.
+    Function(SimpleType),
     FunctionBlock,
     Program,
 }
@@ -33,8 +34,8 @@ impl Tree for UnitSort {
 
     fn is(&self, other: &UnitSort) -> bool {
         match self {
-            UnitSort::Function(k, p) => match other {
-                UnitSort::Function(l, q) => k == l && p == q,
+            UnitSort::Function(a) => match other {
+                UnitSort::Function(b) => a.is(b),
                 _ => false,
             },
             UnitSort::FunctionBlock => matches!(other, UnitSort::FunctionBlock),

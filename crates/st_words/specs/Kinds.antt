@@ -1,10 +1,10 @@
 -- The elementary types, as one table.
-use Rattle.std.specs.Prelude.{ℕ, ◌+◌, ◌-◌, ◌/◌, ◌^◌, ◌==◌, ℤ, pos, neg_ℤ, int_le, List, Bool, true, false, ◌&&◌, codes}
+use Rattle.std.specs.Prelude.{ℕ, ◌+◌, ◌-◌, ◌/◌, ◌^◌, ◌==◌, ◌-ℤ◌, ℤ, pos, neg_ℤ, int_le, List, [], Bool, true, false, ◌&&◌, codes}
 use Rattle.st_words.specs.declared.kind.Kind.{Kind}
 use Rattle.st_words.specs.declared.kind.Kind.TheVariants.{Sint, Int, Dint, Lint, Usint, Uint, Udint, Ulint, Byte, Word}
-use Rattle.st_words.specs.declared.kind.Kind.TheVariants.{Dword, Lword, Time, Bool as Boolean}
+use Rattle.st_words.specs.declared.kind.Kind.TheVariants.{Dword, Lword, Time, Bool as Boolean, Enumerated}
 use Rattle.st_words.specs.declared.kind.Sort.{Sort}
-use Rattle.st_words.specs.declared.kind.Sort.TheVariants.{Signed, Unsigned, Bits, Duration, Truth}
+use Rattle.st_words.specs.declared.kind.Sort.TheVariants.{Signed, Unsigned, Bits, Duration, Truth, Place}
 
 -- a line of the table: the keyword, what the values are, and how many bits they have
 pub record Row : Type 0 where
@@ -27,6 +27,8 @@ row_of Dword = record { keyword = codes "DWORD"; sort = Bits; bits = 32 }
 row_of Lword = record { keyword = codes "LWORD"; sort = Bits; bits = 64 }
 row_of Time = record { keyword = codes "TIME"; sort = Duration; bits = 64 }
 row_of Boolean = record { keyword = codes "BOOL"; sort = Truth; bits = 1 }
+-- an enumerated type has no keyword
+row_of (Enumerated names number) = record { keyword = []; sort = Place; bits = 8 }
 
 abbrev pub is_signed : Sort → Bool
 is_signed Signed = true
@@ -34,21 +36,36 @@ is_signed Duration = true
 is_signed Unsigned = false
 is_signed Bits = false
 is_signed Truth = false
+is_signed Place = false
 
 -- the least and the greatest number of so many bits, in two's complement or without a sign
 abbrev pub least_of : Bool → ℕ → ℤ
 least_of true n = neg_ℤ (pos (2 ^ (n - 1)))
 least_of false n = pos 0
 
+-- how many names the type has, and its place among the enumerated types; 0 of any other type
+abbrev pub names_in : Kind → ℕ
+names_in (Enumerated names number) = names
+names_in k = 0
+
+abbrev pub number_of_type : Kind → ℕ
+number_of_type (Enumerated names number) = number
+number_of_type k = 0
+
 abbrev pub greatest_of : Bool → ℕ → ℤ
 greatest_of true n = pos (2 ^ (n - 1) - 1)
 greatest_of false n = pos (2 ^ n - 1)
+
+-- the place of the last name, or the greatest number of so many bits
+abbrev pub greatest_as : Sort → ℕ → ℕ → ℤ
+greatest_as Place bits names = pos names -ℤ pos 1
+greatest_as s bits names = greatest_of (is_signed s) bits
 
 abbrev pub least : Kind → ℤ
 least k = least_of (is_signed (row_of k).sort) (row_of k).bits
 
 abbrev pub greatest : Kind → ℤ
-greatest k = greatest_of (is_signed (row_of k).sort) (row_of k).bits
+greatest k = greatest_as (row_of k).sort (row_of k).bits (names_in k)
 
 -- the type has this number
 abbrev pub holds : Kind → ℤ → Bool
@@ -74,6 +91,7 @@ kind_index Dword = 10
 kind_index Lword = 11
 kind_index Time = 12
 kind_index Boolean = 13
+kind_index (Enumerated names number) = 14
 
 abbrev pub same_kind : Kind → Kind → Bool
-same_kind k l = kind_index k == kind_index l
+same_kind k l = (kind_index k == kind_index l) && ((names_in k == names_in l) && (number_of_type k == number_of_type l))

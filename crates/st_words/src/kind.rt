@@ -23,6 +23,13 @@ pub enum Kind {
     /// A signed count of milliseconds (our profile).
     Time,
     Bool,
+    /// An enumerated type of a text. Its values are their places among its names, from 0.
+    Enumerated {
+        /// How many names it has.
+        names: u16,
+        /// Its place among the enumerated types of the text, from 0.
+        number: u32,
+    },
 }
 
 /// What the values of an elementary type are.
@@ -38,6 +45,8 @@ pub enum Sort {
     Duration,
     /// FALSE, which counts as 0, and TRUE, which counts as 1.
     Truth,
+    /// Places of names.
+    Place,
 }
 
 /// A line of the table of elementary types.
@@ -72,6 +81,7 @@ impl Kind {
             Kind::Lword => ("LWORD", Sort::Bits, 64),
             Kind::Time => ("TIME", Sort::Duration, 64),
             Kind::Bool => ("BOOL", Sort::Truth, 1),
+            Kind::Enumerated { .. } => ("", Sort::Place, 8),
         };
         KindRow {
             keyword,
@@ -107,6 +117,7 @@ impl Kind {
             Kind::Udint | Kind::Dword => u32::MAX as i128,
             Kind::Ulint | Kind::Lword => u64::MAX as i128,
             Kind::Bool => 1,
+            Kind::Enumerated { names, .. } => i128::from(names) - 1,
         }
     }
 

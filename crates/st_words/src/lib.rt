@@ -17,7 +17,7 @@ mod value;
 pub use fault::Fault;
 pub use identifier::Identifier;
 pub use kind::{Kind, KindRow, Sort};
-pub use literal::{Literal, Number};
+pub use literal::{EnumeratedValue, Literal, Number};
 pub use name::Name;
 pub use operator::{BinaryOperator, UnaryOperator};
 pub use path::{Owner, Path, Step};

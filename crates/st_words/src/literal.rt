@@ -3,6 +3,7 @@
 ghost use Rattle.std.specs.Prelude.{◌≡◌, ◌↔◌, IsTrue};
 
 use crate::kind::Kind;
+use crate::name::Name;
 use crate::tree::Tree;
 
 /// A whole number or bit string as it is written, with a `-` directly before it.
@@ -21,14 +22,39 @@ pub struct Number {
     pub taken: Option<Kind>,
 }
 
+/// A value of an enumerated type as a text writes it: `Fault`, or `Mode#Fault`.
+///
+/// IEC 61131-3:2003, B.1.3.3, enumerated value.
+#[derive(Drop)]
+pub struct EnumeratedValue {
+    /// The offset of its first byte.
+    pub place: usize,
+    /// The name of its type, where it is written.
+    pub type_name: Option<Name>,
+    pub name: Name,
+}
+
 /// A literal where it stands in a text.
-#[derive(Clone, Copy, Debug, PartialEq, Eq)]
+#[derive(Drop)]
 pub enum Literal {
     Number(Number),
     /// TRUE or FALSE, at a place.
     Truth(usize, bool),
     /// A duration in milliseconds, at a place.
     Duration(usize, u64),
+    Enumerated(EnumeratedValue),
+}
+
+fn same_names(this: &Option<Name>, that: &Option<Name>) -> bool
+    ensures { IsTrue result ↔ (this.now ≡ that.now) }
+{
+    match this {
+        Some(a) => match that {
+            Some(b) => a.is(b),
+            None => false,
+        },
+        None => that.is_none(),
+    }
 }
 
 fn same_kinds(this: Option<Kind>, that: Option<Kind>) -> bool
@@ -60,6 +86,20 @@ impl Tree for Number {
     }
 }
 
+impl Tree for EnumeratedValue {
+    ghost use Rattle.st_words.specs.declared.literal.EnumeratedValue.{EnumeratedValue};
+
+    ghost Mirror = { EnumeratedValue };
+
+    ghost view = { λ x. x };
+
+    fn is(&self, other: &EnumeratedValue) -> bool {
+        self.place == other.place
+            && same_names(&self.type_name, &other.type_name)
+            && self.name.is(&other.name)
+    }
+}
+
 impl Tree for Literal {
     ghost use Rattle.st_words.specs.declared.literal.Literal.{Literal};
 
@@ -79,6 +119,10 @@ impl Tree for Literal {
             },
             Literal::Duration(p, a) => match other {
                 Literal::Duration(q, b) => p == q && a == b,
+                _ => false,
+            },
+            Literal::Enumerated(a) => match other {
+                Literal::Enumerated(b) => a.is(b),
                 _ => false,
             },
         }
