@@ -1,9 +1,10 @@
 -- What is taken away with a value, and when a value is not asked for.
 use Rattle.std.proofs.Common.{◌≡◌, ℕ, pos, ◌+ℤ◌, Bool, true, false, if◌then◌else◌, [], ◌∷◌, Option, Some, None, Err}
-use Rattle.std.proofs.Common.{refl, sym, ap, ◌∙◌}
+use Rattle.std.proofs.Common.{refl, sym, ap, ◌∙◌, ◌+◌, ◌-◌, ◌&&◌, nat_le, arith}
+use Rattle.std.proofs.lemmas.Bool.Decides.{nat_tests}
 use Rattle.st_words.specs.declared.kind.Kind.{Kind}
 use Rattle.st_words.specs.declared.kind.Kind.TheVariants.{Sint, Int, Dint, Lint, Usint, Uint, Udint, Ulint, Byte, Word}
-use Rattle.st_words.specs.declared.kind.Kind.TheVariants.{Dword, Lword, Time, Bool as Boolean}
+use Rattle.st_words.specs.declared.kind.Kind.TheVariants.{Dword, Lword, Time, Bool as Boolean, Enumerated}
 use Rattle.st_words.specs.Kinds.{holds, greatest}
 use Rattle.st_words.specs.Values.{Datum}
 use Rattle.st_words.specs.declared.fault.Fault.TheVariants.{Index, Range}
@@ -46,6 +47,10 @@ past_the_greatest Dword = refl
 past_the_greatest Lword = refl
 past_the_greatest Time = refl
 past_the_greatest Boolean = refl
+past_the_greatest (Enumerated names number) = above (names - 1)
+  where
+    above : (n : ℕ) → nat_le 0 (n + 1) && nat_le (n + 1) n ≡ false
+    above n = grind (arith, nat_tests)
 
 -- an entry, whose path is the one or not
 entry_shape : (e : Path × Datum) (b : Bool) → ◌≡◌ {A = Path × Kind}

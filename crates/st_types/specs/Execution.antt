@@ -1,11 +1,11 @@
 -- What statements do. Each takes a tick as it begins, before all else.
-use Rattle.std.specs.Prelude.{ℤ, pos, int_le, List, [], ◌∷◌, Bool, ◌&&◌, if◌then◌else◌, Option, Some, None}
+use Rattle.std.specs.Prelude.{ℤ, pos, int_le, List, [], ◌∷◌, Bool, false, ◌&&◌, if◌then◌else◌, Option, Some, None}
 use Rattle.std.specs.Ordering.{int_eq}
 use Rattle.std.specs.List.{list_any}
 use Rattle.st_words.specs.Values.{Datum}
 use Rattle.st_words.specs.Paths.{Path}
 use Rattle.st_trees.specs.declared.statement.Label.{Label}
-use Rattle.st_trees.specs.declared.statement.Label.TheVariants.{Single, Range}
+use Rattle.st_trees.specs.declared.statement.Label.TheVariants.{Single, Range, Enumerated}
 use Rattle.st_trees.specs.Expressions.{Expr, Variable}
 use Rattle.st_trees.specs.Statements.{Argument, given, copied, Stmt, empty, assign, invoke, IF, CASE, FOR, WHILE}
 use Rattle.st_trees.specs.Statements.{REPEAT, EXIT, RETURN, Stmts, no_stmts, stmt_then, Arms, no_arms, arm_then}
@@ -19,10 +19,11 @@ use Rattle.st_types.specs.Evaluation.{value, place, truth_of}
 use Rattle.st_types.specs.Loops.{End, goes_on, exits, returns, behind, looped, guarded, until, runs_on, step_on}
 use Rattle.st_types.specs.Loops.{no_step, nonzero}
 
--- a label holds the selector's number
+-- a label holds the selector's number; a name that stands for no value holds none
 abbrev pub label_holds : ℤ → Label → Bool
 label_holds z (Single n) = int_eq z (number_of n)
 label_holds z (Range least greatest) = int_le (number_of least) z && int_le z (number_of greatest)
+label_holds z (Enumerated v) = false
 
 -- the inputs of a block call, all evaluated in written order
 abbrev pub given_inputs : Scope → Store → List Argument → Run (List (Name × Datum))

@@ -13,9 +13,11 @@ pub mod Runs
 pub mod Asked
 pub mod Examples
 pub mod CallExamples
+pub mod Enumerations
 pub mod NameTypes
 pub mod Resolution
 pub mod ResolvedUnits
 pub mod Bodies
 pub mod Slots
 pub mod ResolutionExamples
+pub mod EnumerationExamples

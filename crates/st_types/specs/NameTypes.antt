@@ -13,13 +13,14 @@ use Rattle.st_trees.specs.declared.unit.UnitSort.{UnitSort}
 use Rattle.st_trees.specs.declared.unit.UnitSort.TheVariants.{Function, FunctionBlock, Program}
 use Rattle.st_trees.specs.Expressions.{Variable, variable, Selector, member, subscript, Selectors, no_selectors}
 use Rattle.st_trees.specs.Expressions.{selector_then}
-use Rattle.st_trees.specs.Declarations.{Field, TypeDefinition, array, structure, TypeDeclaration, Declaration}
-use Rattle.st_trees.specs.Declarations.{VariableBlock}
+use Rattle.st_trees.specs.Declarations.{Field, TypeDefinition, array, structure, enumeration, TypeDeclaration}
+use Rattle.st_trees.specs.Declarations.{Declaration, VariableBlock}
 use Rattle.st_trees.specs.Units.{OrganisationUnit}
 use Rattle.st_trees.specs.Sources.{LibraryElement, Source}
 use Rattle.st_trees.specs.Sources as sources
 use Rattle.st_types.specs.StandardBlocks as standard
 use Rattle.st_types.specs.StandardBlocks.{BlockMember, block_of, inputs_of, outputs_of}
+use Rattle.st_types.specs.Enumerations.{enumerations_of, enumeration_named, kind_of_enumeration}
 use Rattle.st_types.specs.Scopes.{Name}
 
 -- the types and units of a text
@@ -73,14 +74,14 @@ field_type (f ∷ fs) x = if is_named x f.name then Some f.declared else field_t
 abbrev pub elementary : Kind → VariableType
 elementary k = types.Simple (Elementary k 0)
 
-abbrev pub result_kind : UnitSort → Option Kind
-result_kind (Function k at) = Some k
-result_kind FunctionBlock = None
-result_kind Program = None
+abbrev pub result_type : UnitSort → Option VariableType
+result_type (Function t) = Some (types.Simple t)
+result_type FunctionBlock = None
+result_type Program = None
 
 -- the type of a unit's variable; a function's name is a variable in its body
 abbrev pub variable_type : OrganisationUnit → Name → Option VariableType
-variable_type u x = if is_named x u.name then option_map elementary (result_kind u.sort) else type_in_blocks u.blocks x
+variable_type u x = if is_named x u.name then result_type u.sort else type_in_blocks u.blocks x
 
 abbrev pub member_kind : List BlockMember → Name → Option Kind
 member_kind [] x = None
@@ -95,6 +96,7 @@ definition_of text (types.Simple (Named x)) = type_named text.types x.name
 abbrev pub element_type : Option TypeDefinition → Option VariableType
 element_type (Some (array a)) = Some (types.Simple a.element)
 element_type (Some (structure fields)) = None
+element_type (Some (enumeration names)) = None
 element_type None = None
 
 -- the blocks of variables of one section
@@ -113,7 +115,7 @@ type_in_sections wanted (b ∷ bs) x = if wanted b.section
 
 abbrev pub sections_of : UnitSort → List VariableBlock → List VariableBlock
 sections_of FunctionBlock bs = bs
-sections_of (Function k at) bs = []
+sections_of (Function t) bs = []
 sections_of Program bs = []
 
 -- a variable of the wanted section of a function block of the text
@@ -137,6 +139,7 @@ block_variable text standard_ones wanted (types.Simple (Named b)) x =
 abbrev pub member_type : Declared → VariableType → Name → Option TypeDefinition → Option VariableType
 member_type text t x (Some (structure fields)) = field_type fields x
 member_type text t x (Some (array a)) = None
+member_type text t x (Some (enumeration names)) = None
 member_type text t x None = block_variable text outputs_of is_output t x
 
 abbrev pub selected_type : Declared → VariableType → Selector → Option VariableType
@@ -153,26 +156,36 @@ kind_of_type (types.Simple (Elementary k at)) = Some k
 kind_of_type (types.Simple (Named x)) = None
 kind_of_type (types.Array a) = None
 
--- the elementary type of a variable of a unit
+-- the elementary or enumerated type that a type is, by the types of the text
+abbrev pub kind_among : List TypeDeclaration → VariableType → Option Kind
+kind_among ts (types.Simple (Elementary k at)) = Some k
+kind_among ts (types.Simple (Named x)) = option_map kind_of_enumeration (enumeration_named (enumerations_of ts) x.name)
+kind_among ts (types.Array a) = None
+
+-- the elementary or enumerated type of a variable of a unit
 abbrev pub kind_of_variable : Declared → OrganisationUnit → Variable → Option Kind
 kind_of_variable text u (variable x xs) =
-    option_and_then kind_of_type (option_and_then (type_behind text xs) (variable_type u x.name))
+    option_and_then (kind_among text.types) (option_and_then (type_behind text xs) (variable_type u x.name))
+
+-- the type of a function's result
+abbrev pub result_kind : Declared → UnitSort → Option Kind
+result_kind text sort = option_and_then (kind_among text.types) (result_type sort)
 
 -- the types of the inputs of a list of blocks of variables, in order
-abbrev pub kinds_of_declaration : Declaration → List Identifier → List (Option Kind)
-kinds_of_declaration d [] = []
-kinds_of_declaration d (x ∷ xs) = kind_of_type d.declared ∷ kinds_of_declaration d xs
+abbrev pub kinds_of_declaration : Declared → Declaration → List Identifier → List (Option Kind)
+kinds_of_declaration text d [] = []
+kinds_of_declaration text d (x ∷ xs) = kind_among text.types d.declared ∷ kinds_of_declaration text d xs
 
-abbrev pub kinds_of_declarations : List Declaration → List (Option Kind)
-kinds_of_declarations [] = []
-kinds_of_declarations (d ∷ ds) = kinds_of_declaration d d.names ++ kinds_of_declarations ds
+abbrev pub kinds_of_declarations : Declared → List Declaration → List (Option Kind)
+kinds_of_declarations text [] = []
+kinds_of_declarations text (d ∷ ds) = kinds_of_declaration text d d.names ++ kinds_of_declarations text ds
 
-abbrev pub input_kinds : List VariableBlock → List (Option Kind)
-input_kinds [] = []
-input_kinds (b ∷ bs) =
-    if is_input b.section then kinds_of_declarations b.declarations ++ input_kinds bs else input_kinds bs
+abbrev pub input_kinds : Declared → List VariableBlock → List (Option Kind)
+input_kinds text [] = []
+input_kinds text (b ∷ bs) =
+    if is_input b.section then kinds_of_declarations text b.declarations ++ input_kinds text bs else input_kinds text bs
 
 -- the type of an input of a block's instance
 abbrev pub input_kind : Declared → OrganisationUnit → Name → Name → Option Kind
-input_kind text u instance x = option_and_then kind_of_type
+input_kind text u instance x = option_and_then (kind_among text.types)
     (option_and_then (λ t. block_variable text inputs_of is_input t x) (variable_type u instance))

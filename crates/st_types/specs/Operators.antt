@@ -1,5 +1,5 @@
 -- What the operators give. Each takes operands of one type; its result is tested once against the range of its type.
-use Rattle.std.specs.Prelude.{ℤ, pos, ◌+ℤ◌, ◌-ℤ◌, ◌*ℤ◌, neg_ℤ, int_div, int_lt, int_le, bit_and, bit_or, bit_xor, Bool}
+use Rattle.std.specs.Prelude.{ℕ, ℤ, pos, negsuc, ◌+ℤ◌, ◌-ℤ◌, ◌*ℤ◌, neg_ℤ, int_div, int_lt, int_le, bit_and, bit_or, bit_xor, Bool}
 use Rattle.std.specs.Prelude.{not, if◌then◌else◌, Option, Some, None, Result, Ok, Err}
 use Rattle.std.specs.Ordering.{int_eq}
 use Rattle.st_words.specs.declared.fault.Fault.{Fault}
@@ -16,9 +16,13 @@ use Rattle.st_words.specs.declared.operator.BinaryOperator.TheVariants.{Or, Xor,
 use Rattle.st_words.specs.declared.operator.BinaryOperator.TheVariants.{LessOrEqual, GreaterOrEqual, Add, Subtract}
 use Rattle.st_words.specs.declared.operator.BinaryOperator.TheVariants.{Multiply, Divide, Modulo}
 use Rattle.st_words.specs.Kinds.{greatest, same_kind}
-use Rattle.st_words.specs.Words.{natural}
 use Rattle.st_words.specs.Values.{Datum, in_range, datum_of_truth, is_true}
-use Rattle.st_types.specs.Failures.{Failure, ill_typed, failing}
+use Rattle.st_types.specs.Failures.{Failure, valueless, ill_typed, failing}
+
+-- the number without a sign; 0 for one below 0
+abbrev pub natural : ℤ → ℕ
+natural (pos n) = n
+natural (negsuc n) = 0
 
 -- the number that a literal's digits and sign spell
 abbrev pub number_of : Number → ℤ
@@ -43,6 +47,8 @@ abbrev pub value_of_literal : Literal → Result Datum Failure
 value_of_literal (literals.Number n) = value_of_number n
 value_of_literal (literals.Truth at b) = Ok (datum_of_truth b)
 value_of_literal (literals.Duration at n) = failing (in_range Time (pos n))
+-- a name that stands for no value
+value_of_literal (literals.Enumerated v) = Err valueless
 
 -- a quotient is truncated toward zero
 abbrev pub quotient : Kind → ℤ → ℤ → Result Datum Fault

@@ -1,6 +1,7 @@
 -- The types of untyped literals. Each takes the type that its place expects, which the parsed tree and its declarations
 -- tell.
 use Rattle.std.specs.Prelude.{ℕ, List, [], ◌∷◌, Bool, true, false, ◌&&◌, if◌then◌else◌, Option, Some, None}
+use Rattle.std.specs.Prelude.{option_map, is_some}
 use Rattle.st_words.specs.declared.kind.Kind.{Kind}
 use Rattle.st_words.specs.declared.kind.Kind.TheVariants.{Lint, Time, Bool as Boolean}
 use Rattle.st_words.specs.declared.kind.Sort.{Sort}
@@ -17,11 +18,12 @@ use Rattle.st_trees.specs.Expressions.{expr_then, Variable, variable, Selector, 
 use Rattle.st_trees.specs.Expressions.{no_selectors, selector_then}
 use Rattle.st_trees.specs.declared.unit.UnitSort.{UnitSort}
 use Rattle.st_trees.specs.declared.unit.UnitSort.TheVariants.{Function, FunctionBlock, Program}
-use Rattle.st_trees.specs.Declarations.{VariableBlock}
+use Rattle.st_trees.specs.Declarations.{TypeDeclaration, VariableBlock}
 use Rattle.st_trees.specs.Units.{OrganisationUnit}
 use Rattle.st_types.specs.Operators.{or_kind}
 use Rattle.st_types.specs.StandardFunctions.{Standard, MIN, MAX, LIMIT, SEL, CONVERT, standard_of}
-use Rattle.st_types.specs.NameTypes.{Declared, kind_of_variable, unit_named, input_kinds, result_kind}
+use Rattle.st_types.specs.Enumerations.{Member, member_named, member_written, number_of_member, resolved_value}
+use Rattle.st_types.specs.NameTypes.{Declared, variable_type, kind_of_variable, unit_named, input_kinds, result_kind}
 
 -- an operator that joins untyped expressions to an untyped one
 abbrev pub is_joining : BinaryOperator → Bool
@@ -37,6 +39,7 @@ abbrev pub is_untyped_literal : Literal → Bool
 is_untyped_literal (literals.Number n) = elim n.written [ Some k ↦ false | None ↦ true ]
 is_untyped_literal (literals.Truth at b) = false
 is_untyped_literal (literals.Duration at n) = false
+is_untyped_literal (literals.Enumerated v) = false
 
 -- Its leaves are literals without a type, joined by parentheses, unary operators and operators of whole numbers and bit
 -- strings.
@@ -54,6 +57,7 @@ is_whole_or_bits sorts.Unsigned = true
 is_whole_or_bits sorts.Bits = true
 is_whole_or_bits sorts.Duration = false
 is_whole_or_bits sorts.Truth = false
+is_whole_or_bits sorts.Place = false
 
 -- the type that an untyped expression takes: LINT where nothing is expected that it may be
 abbrev pub taken_kind : Option Kind → Kind
@@ -63,15 +67,27 @@ taken_kind (Some k) = if is_whole_or_bits (row_of k).sort then k else Lint
 abbrev pub taking_number : Kind → Number → Number
 taking_number k n = elim n.written [ Some l ↦ n | None ↦ record n { taken = Some k } ]
 
-abbrev pub taking_literal : Kind → Literal → Literal
-taking_literal k (literals.Number n) = literals.Number (taking_number k n)
-taking_literal k (literals.Truth at b) = literals.Truth at b
-taking_literal k (literals.Duration at n) = literals.Duration at n
+-- a value of an enumerated type becomes a number of its type
+abbrev pub taking_literal : List TypeDeclaration → Kind → Literal → Literal
+taking_literal ts k (literals.Number n) = literals.Number (taking_number k n)
+taking_literal ts k (literals.Truth at b) = literals.Truth at b
+taking_literal ts k (literals.Duration at n) = literals.Duration at n
+taking_literal ts k (literals.Enumerated v) = resolved_value ts v
 
-abbrev pub kind_of_literal : Literal → Option Kind
-kind_of_literal (literals.Number n) = n.written
-kind_of_literal (literals.Truth at b) = Some Boolean
-kind_of_literal (literals.Duration at n) = Some Time
+abbrev pub kind_of_literal : List TypeDeclaration → Literal → Option Kind
+kind_of_literal ts (literals.Number n) = n.written
+kind_of_literal ts (literals.Truth at b) = Some Boolean
+kind_of_literal ts (literals.Duration at n) = Some Time
+kind_of_literal ts (literals.Enumerated v) = option_map (λ m. m.kind) (member_written ts v)
+
+abbrev pub place_of_variable : Variable → ℕ
+place_of_variable (variable x xs) = x.place
+
+-- what a name alone stands for where no variable of the unit has it
+abbrev pub member_read : Declared → OrganisationUnit → Variable → Option Member
+member_read text u (variable x no_selectors) =
+    if is_some (variable_type u x.name) then None else member_named text.types x.name
+member_read text u (variable x (selector_then y ys)) = None
 
 -- the common type of a standard function's operands, of those that have it; where the function has one such operand,
 -- that is the first
@@ -97,27 +113,27 @@ expected_kinds SEL ks = Some Boolean ∷ common_kind SEL ks ∷ common_kind SEL 
 expected_kinds (CONVERT k l) ks = Some k ∷ []
 expected_kinds _ ks = []
 
-abbrev pub result_of_unit : Option OrganisationUnit → Option Kind
-result_of_unit None = None
-result_of_unit (Some u) = result_kind u.sort
+abbrev pub result_of_unit : Declared → Option OrganisationUnit → Option Kind
+result_of_unit text None = None
+result_of_unit text (Some u) = result_kind text u.sort
 
 -- what a function expects of its arguments
-abbrev pub inputs_of_function : UnitSort → List VariableBlock → List (Option Kind)
-inputs_of_function (Function k at) bs = input_kinds bs
-inputs_of_function FunctionBlock bs = []
-inputs_of_function Program bs = []
+abbrev pub inputs_of_function : Declared → UnitSort → List VariableBlock → List (Option Kind)
+inputs_of_function text (Function t) bs = input_kinds text bs
+inputs_of_function text FunctionBlock bs = []
+inputs_of_function text Program bs = []
 
-abbrev pub inputs_of_unit : Option OrganisationUnit → List (Option Kind)
-inputs_of_unit None = []
-inputs_of_unit (Some u) = inputs_of_function u.sort u.blocks
+abbrev pub inputs_of_unit : Declared → Option OrganisationUnit → List (Option Kind)
+inputs_of_unit text None = []
+inputs_of_unit text (Some u) = inputs_of_function text u.sort u.blocks
 
 -- the type of a typed expression of a unit; an untyped one has none of its own
 abbrev mutual
   pub own_kind : Declared → OrganisationUnit → Expr → Option Kind
-  own_kind text u (literal l) = kind_of_literal l
-  own_kind text u (read v) = kind_of_variable text u v
+  own_kind text u (literal l) = kind_of_literal text.types l
+  own_kind text u (read v) = or_kind (kind_of_variable text u v) (option_map (λ m. m.kind) (member_read text u v))
   own_kind text u (call f es) = elim (standard_of f.name)
-      [ Some std ↦ standard_kind std (own_kinds text u es) | None ↦ result_of_unit (unit_named text.units f.name) ]
+      [ Some std ↦ standard_kind std (own_kinds text u es) | None ↦ result_of_unit text (unit_named text.units f.name) ]
   own_kind text u (parenthesis at e) = own_kind text u e
   own_kind text u (unary op at e) = own_kind text u e
   own_kind text u (binary op l r) =
@@ -130,7 +146,7 @@ abbrev mutual
 -- the types that a call expects of its arguments
 abbrev pub argument_kinds : Declared → OrganisationUnit → List ℕ → Exprs → List (Option Kind)
 argument_kinds text u f es = elim (standard_of f)
-    [ Some std ↦ expected_kinds std (own_kinds text u es) | None ↦ inputs_of_unit (unit_named text.units f) ]
+    [ Some std ↦ expected_kinds std (own_kinds text u es) | None ↦ inputs_of_unit text (unit_named text.units f) ]
 
 -- the first of the types that are expected, and the others
 abbrev pub first_kind : List (Option Kind) → Option Kind
@@ -159,8 +175,9 @@ operand_kind text u k op l r =
 -- what its own place expects.
 abbrev mutual
   pub resolved_expr : Declared → OrganisationUnit → Option Kind → Expr → Expr
-  resolved_expr text u k (literal l) = literal (taking_literal (taken_kind k) l)
-  resolved_expr text u k (read v) = read (resolved_variable text u v)
+  resolved_expr text u k (literal l) = literal (taking_literal text.types (taken_kind k) l)
+  resolved_expr text u k (read v) = elim (member_read text u v)
+      [ Some m ↦ literal (literals.Number (number_of_member (place_of_variable v) m)) | None ↦ read (resolved_variable text u v) ]
   resolved_expr text u k (call f es) = call f (resolved_exprs text u (argument_kinds text u f.name es) es)
   resolved_expr text u k (parenthesis at e) = parenthesis at (resolved_expr text u k e)
   resolved_expr text u k (unary op at e) = unary op at (resolved_expr text u k e)

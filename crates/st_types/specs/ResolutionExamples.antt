@@ -72,7 +72,7 @@ several_variables = record {
 -- FUNCTION Half : DINT VAR_INPUT x : SINT; END_VAR
 abbrev pub half : OrganisationUnit
 half = record {
-  sort = FunctionSort Dint 0;
+  sort = FunctionSort (Elementary Dint 0);
   name = identifier (codes "HALF");
   blocks = record { section = Input None; declarations = declared X Sint ∷ [] } ∷ [];
   body = [];

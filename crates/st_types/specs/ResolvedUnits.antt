@@ -3,7 +3,7 @@ use Rattle.std.specs.Prelude.{map, Option, Some, None, option_map, option_and_th
 use Rattle.st_words.specs.declared.kind.Kind.{Kind}
 use Rattle.st_words.specs.declared.kind.Kind.TheVariants.{Bool as Boolean}
 use Rattle.st_trees.specs.declared.statement.Label.{Label}
-use Rattle.st_trees.specs.declared.statement.Label.TheVariants.{Single, Range}
+use Rattle.st_trees.specs.declared.statement.Label.TheVariants.{Single, Range, Enumerated}
 use Rattle.st_trees.specs.declared.data_type.ArrayType.{ArrayType}
 use Rattle.st_trees.specs.declared.data_type.VariableType.{VariableType}
 use Rattle.st_trees.specs.declared.data_type.VariableType.TheVariants as variable_types
@@ -18,19 +18,22 @@ use Rattle.st_trees.specs.Units.{OrganisationUnit}
 use Rattle.st_trees.specs.Configurations.{GlobalDeclaration, GlobalBlock}
 use Rattle.st_trees.specs.Sources.{LibraryElement, types, unit, configuration, Source}
 use Rattle.st_types.specs.Scopes.{Name}
-use Rattle.st_types.specs.NameTypes.{Declared, declared_in, variable_type, kind_of_type, kind_of_variable, input_kind}
+use Rattle.st_types.specs.NameTypes.{Declared, declared_in, variable_type, kind_among, kind_of_variable, input_kind}
+use Rattle.st_types.specs.Enumerations.{member_written, number_of_member}
 use Rattle.st_types.specs.NameTypes.{definition_of, element_type, field_type}
 use Rattle.st_types.specs.Resolution.{own_kind, taken_kind, taking_number, taking_literal, resolved_expr}
 use Rattle.st_types.specs.Resolution.{resolved_variable}
 
--- the elementary type that is there
-abbrev pub elementary_kind : Option VariableType → Option Kind
-elementary_kind t = option_and_then kind_of_type t
+-- the elementary or enumerated type that is there
+abbrev pub kind_there : Declared → Option VariableType → Option Kind
+kind_there text t = option_and_then (kind_among text.types) t
 
--- a label takes the selector's type
-abbrev pub resolved_label : Option Kind → Label → Label
-resolved_label k (Single n) = Single (taking_number (taken_kind k) n)
-resolved_label k (Range a b) = Range (taking_number (taken_kind k) a) (taking_number (taken_kind k) b)
+-- a label takes the selector's type; a name is a value of an enumerated type, whatever variables there are
+abbrev pub resolved_label : Declared → Option Kind → Label → Label
+resolved_label text k (Single n) = Single (taking_number (taken_kind k) n)
+resolved_label text k (Range a b) = Range (taking_number (taken_kind k) a) (taking_number (taken_kind k) b)
+resolved_label text k (Enumerated v) = elim (member_written text.types v)
+    [ Some m ↦ Single (number_of_member v.place m) | None ↦ Enumerated v ]
 
 -- an argument of a call of an instance takes the type of its input
 abbrev pub resolved_argument : Declared → OrganisationUnit → Name → Argument → Argument
@@ -48,9 +51,9 @@ abbrev mutual
   resolved_stmt text u (CASE e arms otherwise) = CASE (resolved_expr text u None e)
       (resolved_case_arms text u (own_kind text u e) arms) (resolved_stmts text u otherwise)
   resolved_stmt text u (FOR x start limit step body) =
-      FOR x (resolved_expr text u (elementary_kind (variable_type u x.name)) start)
-      (resolved_expr text u (elementary_kind (variable_type u x.name)) limit)
-      (option_map (resolved_expr text u (elementary_kind (variable_type u x.name))) step)
+      FOR x (resolved_expr text u (kind_there text (variable_type u x.name)) start)
+      (resolved_expr text u (kind_there text (variable_type u x.name)) limit)
+      (option_map (resolved_expr text u (kind_there text (variable_type u x.name))) step)
       (resolved_stmts text u body)
   resolved_stmt text u (WHILE e body) = WHILE (resolved_expr text u (Some Boolean) e) (resolved_stmts text u body)
   resolved_stmt text u (REPEAT body e) = REPEAT (resolved_stmts text u body) (resolved_expr text u (Some Boolean) e)
@@ -69,7 +72,7 @@ abbrev mutual
   pub resolved_case_arms : Declared → OrganisationUnit → Option Kind → CaseArms → CaseArms
   resolved_case_arms text u k no_case_arms = no_case_arms
   resolved_case_arms text u k (case_arm_then labels body arms) =
-      case_arm_then (map (resolved_label k) labels) (resolved_stmts text u body) (resolved_case_arms text u k arms)
+      case_arm_then (map (resolved_label text k) labels) (resolved_stmts text u body) (resolved_case_arms text u k arms)
 
 -- the type of a list's elements, and of a structure's field
 abbrev pub element_of : Declared → Option VariableType → Option VariableType
@@ -79,6 +82,7 @@ element_of text (Some t) = element_type (definition_of text t)
 abbrev pub field_in : Option TypeDefinition → Name → Option VariableType
 field_in (Some (declared_as.structure fields)) x = field_type fields x
 field_in (Some (declared_as.array a)) x = None
+field_in (Some (declared_as.enumeration names)) x = None
 field_in None x = None
 
 abbrev pub field_of : Declared → Option VariableType → Name → Option VariableType
@@ -88,7 +92,7 @@ field_of text (Some t) x = field_in (definition_of text t) x
 -- an initial value of a variable of a type; a count that is untyped is a LINT
 abbrev mutual
   pub resolved_initial : Declared → Option VariableType → Initial → Initial
-  resolved_initial text t (constant l) = constant (taking_literal (taken_kind (elementary_kind t)) l)
+  resolved_initial text t (constant l) = constant (taking_literal text.types (taken_kind (kind_there text t)) l)
   resolved_initial text t (list at xs) = list at (resolved_elements text (element_of text t) xs)
   resolved_initial text t (structure at xs) = structure at (resolved_members text t xs)
 
@@ -147,6 +151,7 @@ resolved_field text f = record {
 abbrev pub resolved_definition : Declared → TypeDefinition → TypeDefinition
 resolved_definition text (declared_as.array a) = declared_as.array (resolved_array a)
 resolved_definition text (declared_as.structure fields) = declared_as.structure (map (resolved_field text) fields)
+resolved_definition text (declared_as.enumeration names) = declared_as.enumeration names
 
 abbrev pub resolved_type_declaration : Declared → TypeDeclaration → TypeDeclaration
 resolved_type_declaration text t = record { name = t.name; definition = resolved_definition text t.definition }

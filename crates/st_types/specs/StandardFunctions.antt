@@ -9,7 +9,7 @@ use Rattle.st_words.specs.declared.kind.Kind.TheVariants.{Sint, Int, Dint, Lint,
 use Rattle.st_words.specs.declared.kind.Kind.TheVariants.{Dword, Lword, Bool as Boolean}
 use Rattle.st_words.specs.Kinds.{row_of, holds, same_kind}
 use Rattle.st_words.specs.Values.{Datum, in_range, is_true}
-use Rattle.st_words.specs.Words.{natural}
+use Rattle.st_types.specs.Operators.{natural}
 use Rattle.st_types.specs.Failures.{Failure, ill_typed, failing}
 
 pub data Standard : Type 0 where

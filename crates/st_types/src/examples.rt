@@ -4,6 +4,7 @@ pub mod asked;
 pub mod blocks;
 pub mod calls;
 pub mod cases;
+pub mod enumerations;
 pub mod faults;
 pub mod functions;
 pub mod literals;

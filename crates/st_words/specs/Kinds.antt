@@ -1,5 +1,5 @@
 -- The elementary types, as one table.
-use Rattle.std.specs.Prelude.{ℕ, ◌+◌, ◌-◌, ◌/◌, ◌^◌, ◌==◌, ◌-ℤ◌, ℤ, pos, neg_ℤ, int_le, List, [], Bool, true, false, ◌&&◌, codes}
+use Rattle.std.specs.Prelude.{ℕ, ◌+◌, ◌-◌, ◌/◌, ◌^◌, ◌==◌, ℤ, pos, neg_ℤ, int_le, List, [], Bool, true, false, ◌&&◌, codes}
 use Rattle.st_words.specs.declared.kind.Kind.{Kind}
 use Rattle.st_words.specs.declared.kind.Kind.TheVariants.{Sint, Int, Dint, Lint, Usint, Uint, Udint, Ulint, Byte, Word}
 use Rattle.st_words.specs.declared.kind.Kind.TheVariants.{Dword, Lword, Time, Bool as Boolean, Enumerated}
@@ -58,7 +58,7 @@ greatest_of false n = pos (2 ^ n - 1)
 
 -- the place of the last name, or the greatest number of so many bits
 abbrev pub greatest_as : Sort → ℕ → ℕ → ℤ
-greatest_as Place bits names = pos names -ℤ pos 1
+greatest_as Place bits names = pos (names - 1)
 greatest_as s bits names = greatest_of (is_signed s) bits
 
 abbrev pub least : Kind → ℤ

@@ -25,7 +25,7 @@ pub enum Kind {
     Bool,
     /// An enumerated type of a text. Its values are their places among its names, from 0.
     Enumerated {
-        /// How many names it has.
+        /// How many names it has, at least 1.
         names: u16,
         /// Its place among the enumerated types of the text, from 0.
         number: u32,
@@ -117,7 +117,7 @@ impl Kind {
             Kind::Udint | Kind::Dword => u32::MAX as i128,
             Kind::Ulint | Kind::Lword => u64::MAX as i128,
             Kind::Bool => 1,
-            Kind::Enumerated { names, .. } => i128::from(names) - 1,
+            Kind::Enumerated { names, .. } => i128::from(names.saturating_sub(1)),
         }
     }
 
