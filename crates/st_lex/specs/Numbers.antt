@@ -62,6 +62,7 @@ is_whole sorts.Unsigned = true
 is_whole sorts.Bits = true
 is_whole sorts.Duration = false
 is_whole sorts.Truth = false
+is_whole sorts.Place = false
 
 abbrev pub with_type : Option Kind → Option ℕ → Option WholeNumber
 with_type (Some kind) (Some n) = if is_whole (row_of kind).sort

@@ -136,7 +136,7 @@ fn is_whole(kind: Kind) -> bool
 {
     match kind.row().sort {
         Sort::Signed | Sort::Unsigned | Sort::Bits => true,
-        Sort::Duration | Sort::Truth => false,
+        Sort::Duration | Sort::Truth | Sort::Place => false,
     }
 }
 
