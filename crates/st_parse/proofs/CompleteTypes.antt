@@ -17,13 +17,14 @@ use Rattle.st_statements.proofs.Complete.{one_complete, mark_head, keyword_head,
 use Rattle.st_statements.proofs.CompleteInitials.{initial_complete}
 use Rattle.st_parse.specs.Lists.{Optional, absent, present, Several}
 use Rattle.st_parse.specs.Types.{simple, simple_in, IsArray, IsType, plain, IsGiven, given, IsField, field}
-use Rattle.st_parse.specs.Types.{IsDefinition, structure, IsTypeDeclaration, declared, IsTypes, block}
+use Rattle.st_parse.specs.Types.{IsDefinition, structure, enumeration, IsTypeDeclaration, declared, IsTypes, block}
 use Rattle.st_parse.specs.Types as t
 use Rattle.st_parse.specs.Depths.{ValueWithin, FieldWithin, DefinitionWithin, TypeWithin}
 use Rattle.st_parse.specs.TypeReading.{array_at, array_type_at, simple_type_at, type_at, given_at, given_or_not}
-use Rattle.st_parse.specs.TypeReading.{field_at, fields_at, structure_at, array_definition_at, definition_at}
+use Rattle.st_parse.specs.TypeReading.{field_at, fields_at, structure_at, array_definition_at, enumeration_at}
+use Rattle.st_parse.specs.TypeReading.{definition_at}
 use Rattle.st_parse.specs.TypeReading.{type_declaration_at, type_declarations_at, types_at}
-use Rattle.st_parse.proofs.CompleteParts.{at_least_one_complete, optional_none, optional_some}
+use Rattle.st_parse.proofs.CompleteParts.{at_least_one_complete, optional_none, optional_some, names_complete}
 use Rattle.st_parse.proofs.Shorter.{field_less, type_declaration_less}
 
 simple_kind : (at : ℕ) (k : TokenKind) (x : SimpleType) → simple_in at k ≡ Some x → is_keyword w.Array k ≡ false
@@ -96,14 +97,30 @@ module _ (depth : ℕ) where
   unfolding same_keyword
   structure_head s = keyword_head w.Struct (is_keyword w.Array) s.1
 
+  -- a parenthesis begins an enumerated type alone
+  structure_unopened : {ts us : Tokens} → Passes (keyword w.Struct) ts us → next (is_mark m.Open) ts ≡ false
+  structure_unopened s = keyword_head w.Struct (is_mark m.Open) s.1
+
+  enumeration_head : {ts us : Tokens} → Passes (mark m.Open) ts us
+      → (next (is_keyword w.Array) ts ≡ false) × (next (is_mark m.Open) ts ≡ true)
+  unfolding same_mark
+  enumeration_head s = (mark_head m.Open (is_keyword w.Array) s.1, mark_head m.Open (is_mark m.Open) s.1)
+
+  close_no_comma : {ts us : Tokens} → Passes (mark m.Close) ts us → next (is_mark m.Comma) ts ≡ false
+  unfolding same_mark
+  close_no_comma c = mark_head m.Close (is_mark m.Comma) c.1
+
   definition_complete : {ts us : Tokens} {x : TypeDefinition} → IsDefinition ts x us → DefinitionWithin depth x
       → definition_at depth ts ≡ Ok (x, us)
-  unfolding definition_at array_definition_at structure_at
+  unfolding definition_at array_definition_at enumeration_at structure_at
   definition_complete (t.array a i q) low = rw (array_head i, array_complete i, q) refl
   definition_complete (structure fs s i e q) low =
       let low' : AllByRecursion (FieldWithin depth) fs =
       subst (λ (z : TypeDefinition). DefinitionWithin depth z) q low in
-      rw (structure_head s, one_complete s.1, fields_complete i e low', one_complete e.1, q) refl
+      rw (structure_head s, structure_unopened s, one_complete s.1, fields_complete i e low', one_complete e.1, q) refl
+  definition_complete (enumeration xs s i e q) low =
+      let h = enumeration_head s in
+      rw (h.0, h.1, one_complete s.1, names_complete i (close_no_comma e), one_complete e.1, q) refl
 
   type_declaration_complete : {ts us : Tokens} {x : TypeDeclaration} → IsTypeDeclaration ts x us → TypeWithin depth x
       → type_declaration_at depth ts ≡ Ok (x, us)

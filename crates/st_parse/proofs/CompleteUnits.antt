@@ -22,7 +22,7 @@ use Rattle.st_statements.specs.StatementReading.{stmts_at, starts_stmt}
 use Rattle.st_statements.proofs.Complete.{one_complete, mark_head, keyword_head, name_head}
 use Rattle.st_statements.proofs.CompleteStatements.{all_complete, stmt_next}
 use Rattle.st_parse.specs.Lists.{Many, no_more, one_more, Listed, listed as with_commas, Optional, absent, present}
-use Rattle.st_parse.specs.Units.{retention, retention_in, elementary, IsDeclaration, IsExternal, IsFunctionSection}
+use Rattle.st_parse.specs.Units.{retention, retention_in, IsDeclaration, IsExternal, IsFunctionSection}
 use Rattle.st_parse.specs.Units.{IsOwnSection, IsBlockSection, IsExternalSection, IsBlock, IsProgramBlock}
 use Rattle.st_parse.specs.Units.{IsFunctionBlockBlock, IsUnit}
 use Rattle.st_parse.specs.Units as u

@@ -16,6 +16,7 @@ use Rattle.st_statements.proofs.ExpressionFacts.{is_less}
 use Rattle.st_statements.proofs.StatementFacts.{number_less, stmts_less}
 use Rattle.st_statements.proofs.SoundInitials.{initial_less}
 use Rattle.st_parse.specs.Types.{IsArray, IsType, plain, IsGiven, given, IsField, field, IsDefinition, structure}
+use Rattle.st_parse.specs.Types.{enumeration}
 use Rattle.st_parse.specs.Types.{IsTypeDeclaration, declared, IsTypes, block as types_block}
 use Rattle.st_parse.specs.Types as t
 use Rattle.st_parse.specs.Units as u
@@ -47,6 +48,8 @@ field_less rs f vs (field x t v n c ty g s eq) = let a' = is_less n in let b' = 
 pub definition_less : {ts us : Tokens} {t : TypeDefinition} → IsDefinition ts t us → length us < length ts
 definition_less (t.array a i eq) = array_less i
 definition_less (structure fs s i e eq) = let a' = is_less s.1 in let b' = several_less field_less i in
+    let c' = is_less e.1 in omega arith
+definition_less (enumeration xs s i e eq) = let a' = is_less s.1 in let b' = listed_less (token_less name) i in
     let c' = is_less e.1 in omega arith
 
 pub type_declaration_less : (ts : Tokens) (t : TypeDeclaration) (us : Tokens) → IsTypeDeclaration ts t us

@@ -21,15 +21,16 @@ use Rattle.st_statements.proofs.Sound.{Any, Seq, Made, made}
 use Rattle.st_statements.proofs.SoundReadings.{Sound, sound_then, sound_pure, sound_as, sound_if, sound_one, sound_mark}
 use Rattle.st_statements.proofs.SoundReadings.{sound_keyword, sound_name, sound_number, token_of}
 use Rattle.st_statements.proofs.SoundInitials.{told_initial, initial_begins}
-use Rattle.st_parse.specs.Lists.{Several, Optional}
+use Rattle.st_parse.specs.Lists.{Several, Listed, Optional}
 use Rattle.st_parse.specs.Types.{simple, IsArray, IsType, plain, IsGiven, given, IsField, field, IsDefinition}
-use Rattle.st_parse.specs.Types.{structure, IsTypeDeclaration, declared, IsTypes, block}
+use Rattle.st_parse.specs.Types.{structure, enumeration, IsTypeDeclaration, declared, IsTypes, block}
 use Rattle.st_parse.specs.Types as t
 use Rattle.st_parse.specs.Depths.{ValueWithin, FieldWithin, DefinitionWithin, TypeWithin}
 use Rattle.st_parse.specs.TypeReading.{array_at, array_type_at, simple_type_at, type_at, given_at, given_or_not}
-use Rattle.st_parse.specs.TypeReading.{field_at, fields_at, structure_at, array_definition_at, definition_at}
+use Rattle.st_parse.specs.TypeReading.{field_at, fields_at, structure_at, array_definition_at, enumeration_at}
+use Rattle.st_parse.specs.TypeReading.{definition_at}
 use Rattle.st_parse.specs.TypeReading.{type_declaration_at, type_declarations_at, types_at}
-use Rattle.st_parse.proofs.SoundParts.{sound_at_least_one, sound_optional}
+use Rattle.st_parse.proofs.SoundParts.{sound_at_least_one, sound_optional, sound_names}
 use Rattle.st_parse.proofs.Shorter.{field_less, type_declaration_less}
 
 sound_simple : {C : Type 0} → Sound C (λ e. one simple) (Is simple) Any
@@ -90,6 +91,11 @@ is_structure : (ts : Tokens) (x : TypeDefinition) (us : Tokens) → Seq (Is (key
     → IsDefinition ts x us
 is_structure ts x us (s, t1, k, (fs, t2, i, (e, t3, j, made eq))) = structure fs (s, k) i (e, j) eq
 
+is_enumeration : (ts : Tokens) (x : TypeDefinition) (us : Tokens) → Seq (Is (mark m.Open))
+    (λ s. Seq (Listed (Is name)) (λ xs. Seq (Is (mark m.Close)) (λ e. Made (d.enumeration xs)))) ts x us
+    → IsDefinition ts x us
+is_enumeration ts x us (s, t1, k, (xs, t2, i, (e, t3, j, made eq))) = enumeration xs (s, k) i (e, j) eq
+
 is_array_definition : (ts : Tokens) (x : TypeDefinition) (us : Tokens) → Seq IsArray (λ a. Made (d.array a)) ts x us
     → IsDefinition ts x us
 is_array_definition ts x us (a, vs, i, made eq) = t.array a i eq
@@ -144,10 +150,18 @@ module _ (depth : ℕ) where
   sound_array_definition = sound_as is_array_definition (λ x us d. d)
       (sound_then sound_array (λ a. sound_pure (d.array a) (λ x us. DefinitionWithin depth x) (λ c us. tt)))
 
+  sound_enumeration : {C : Type 0}
+      → Sound C (λ n. enumeration_at) IsDefinition (λ x us. DefinitionWithin depth x)
+  unfolding enumeration_at
+  sound_enumeration = sound_as is_enumeration (λ x us d. d) (sound_then (sound_mark m.Open)
+      (λ s. sound_then (sound_as (λ ts xs us r. r) (λ xs us d. tt) sound_names) (λ xs. sound_then (sound_mark m.Close)
+      (λ e. sound_pure (d.enumeration xs) (λ x us. DefinitionWithin depth x) (λ c us. tt)))))
+
   sound_definition : {C : Type 0}
       → Sound C (λ n. definition_at (depth + n)) IsDefinition (λ x us. DefinitionWithin depth x)
   unfolding definition_at
-  sound_definition = sound_if (is_keyword w.Array) sound_array_definition sound_structure
+  sound_definition = sound_if (is_keyword w.Array) sound_array_definition
+      (sound_if (is_mark m.Open) sound_enumeration sound_structure)
 
   sound_type_declaration : {C : Type 0}
       → Sound C (λ n. type_declaration_at (depth + n)) IsTypeDeclaration (λ x us. TypeWithin depth x)

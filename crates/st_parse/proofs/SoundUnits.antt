@@ -1,6 +1,7 @@
 -- What is read as a function, a function block or a program is one, and what stands before a refusal begins one.
 use Rattle.std.proofs.Common.{ℕ, ◌+◌, ◌<◌, ◌≤◌, length, None, refl}
 use Rattle.st_words.specs.declared.kind.Kind.TheVariants.{Int}
+use Rattle.st_trees.specs.declared.data_type.SimpleType.TheVariants as simples
 use Rattle.st_lex.specs.declared.token.TokenKind.TheVariants.{Elementary, Keyword}
 use Rattle.st_lex.specs.declared.mark.Mark.TheVariants as m
 use Rattle.st_lex.specs.declared.keyword.Keyword.TheVariants as w
@@ -21,8 +22,8 @@ use Rattle.st_statements.proofs.SoundReadings.{Sound, sound_then, sound_pure, so
 use Rattle.st_statements.proofs.SoundReadings.{sound_one, sound_mark, sound_keyword, sound_name, token_of}
 use Rattle.st_statements.proofs.SoundStatements.{told_stmts, stmts_begins}
 use Rattle.st_parse.specs.Lists.{Many, Listed, Optional}
-use Rattle.st_parse.specs.Types.{IsType, IsGiven}
-use Rattle.st_parse.specs.Units.{retention, elementary, IsDeclaration, IsExternal, IsFunctionSection, IsOwnSection}
+use Rattle.st_parse.specs.Types.{simple, IsType, IsGiven}
+use Rattle.st_parse.specs.Units.{retention, IsDeclaration, IsExternal, IsFunctionSection, IsOwnSection}
 use Rattle.st_parse.specs.Units.{IsBlockSection, IsExternalSection, IsBlock, IsProgramBlock, IsFunctionBlockBlock}
 use Rattle.st_parse.specs.Units.{IsUnit}
 use Rattle.st_parse.specs.Units as u
@@ -224,9 +225,9 @@ module _ (depth : ℕ) where
 
   is_function : (ts : Tokens) (x : OrganisationUnit) (us : Tokens)
       → Seq (Is (keyword w.Function))
-      (λ k. Seq (Is name) (λ x. Seq (Is (mark m.Colon)) (λ c. Seq (Is elementary) (λ r. Seq (Many
+      (λ k. Seq (Is name) (λ x. Seq (Is (mark m.Colon)) (λ c. Seq (Is simple) (λ r. Seq (Many
       (IsBlock IsFunctionSection IsDeclaration)) (λ bs. Seq IsStmts (λ body. Seq (Is (keyword w.EndFunction)) (λ e.
-      Made (record { sort = sorts.Function r.0 r.1; name = x; blocks = bs; body = body }))))))))
+      Made (record { sort = sorts.Function r; name = x; blocks = bs; body = body }))))))))
       ts
       x
       us
@@ -241,11 +242,11 @@ module _ (depth : ℕ) where
   unfolding function_at
   sound_function = sound_as is_function (λ x us d. d)
       (sound_then (sound_keyword w.Function) (λ k. sound_then sound_name (λ x. sound_then (sound_mark m.Colon)
-      (λ c. sound_then (sound_one elementary (token_of (Elementary Int)) (Int, 0) refl) (λ r.
+      (λ c. sound_then (sound_one simple (token_of (Elementary Int)) (simples.Elementary Int 0) refl) (λ r.
       sound_then (sound_many starts_function_section (λ n. function_block_at (depth + n))
       (IsBlock IsFunctionSection IsDeclaration) (BlockWithin depth) function_block_less sound_function_block)
       (λ bs. sound_then sound_stmts (λ body. sound_then (sound_keyword w.EndFunction) (λ e.
-      sound_pure (record { sort = sorts.Function r.0 r.1; name = x; blocks = bs; body = body })
+      sound_pure (record { sort = sorts.Function r; name = x; blocks = bs; body = body })
       (λ x us. UnitWithin depth x) (λ c us. (c.0.0.1.1.0, c.0.1.1))))))))))
 
   is_block_unit : (ts : Tokens) (x : OrganisationUnit) (us : Tokens)

@@ -3,7 +3,8 @@ use Rattle.std.specs.Prelude.{ℕ, ◌≤◌, Option, IfSome}
 use Rattle.std.specs.List.{AllByRecursion}
 use Rattle.st_trees.specs.Initials.{Initial}
 use Rattle.st_trees.specs.Statements.{stmts_of}
-use Rattle.st_trees.specs.Declarations.{Field, TypeDefinition, array, structure, TypeDeclaration, Declaration}
+use Rattle.st_trees.specs.Declarations.{Field, TypeDefinition, array, structure, enumeration, TypeDeclaration}
+use Rattle.st_trees.specs.Declarations.{Declaration}
 use Rattle.st_trees.specs.Declarations.{VariableBlock}
 use Rattle.st_trees.specs.Units.{OrganisationUnit}
 use Rattle.st_trees.specs.Configurations.{GlobalDeclaration, GlobalBlock, Configuration}
@@ -20,6 +21,7 @@ module _ (depth : ℕ) where
   abbrev pub DefinitionWithin : TypeDefinition → Type 0
   DefinitionWithin (array a) = Unit {0}
   DefinitionWithin (structure fields) = AllByRecursion FieldWithin fields
+  DefinitionWithin (enumeration names) = Unit {0}
 
   abbrev pub TypeWithin : TypeDeclaration → Type 0
   TypeWithin t = DefinitionWithin t.definition

@@ -9,7 +9,7 @@ use Rattle.st_trees.specs.Initials.{Initial}
 use Rattle.st_trees.specs.Declarations.{Field, TypeDefinition, TypeDeclaration}
 use Rattle.st_trees.specs.Declarations as d
 use Rattle.st_statements.specs.Tokens.{is_mark, is_keyword, is_name, mark, keyword, name}
-use Rattle.st_statements.specs.Parsers.{Parser, ◌>>=◌, ◌>>◌, pure, one, if_next, number_at}
+use Rattle.st_statements.specs.Parsers.{Parser, ◌>>=◌, ◌>>◌, pure, one, if_next, listed, number_at}
 use Rattle.st_statements.specs.InitialReading.{initial_at}
 use Rattle.st_parse.specs.Types.{simple}
 use Rattle.st_parse.specs.Reading.{optional, at_least_one}
@@ -71,8 +71,16 @@ array_definition_at = do
   a ← array_at
   pure (d.array a)
 
+unfoldable pub enumeration_at : Parser TypeDefinition
+enumeration_at = do
+  one (mark m.Open)
+  names ← listed (one name)
+  one (mark m.Close)
+  pure (d.enumeration names)
+
 unfoldable pub definition_at : ℕ → Parser TypeDefinition
-definition_at depth = if_next (is_keyword w.Array) array_definition_at (structure_at depth)
+definition_at depth = if_next (is_keyword w.Array) array_definition_at
+    (if_next (is_mark m.Open) enumeration_at (structure_at depth))
 
 unfoldable pub type_declaration_at : ℕ → Parser TypeDeclaration
 type_declaration_at depth = do

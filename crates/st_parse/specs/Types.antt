@@ -17,7 +17,7 @@ use Rattle.st_trees.specs.Declarations.{Field, TypeDefinition, TypeDeclaration}
 use Rattle.st_trees.specs.Declarations as d
 use Rattle.st_statements.specs.Tokens.{Tokens, mark, keyword, name, Is, Passes, IsNumber}
 use Rattle.st_statements.specs.Initials.{IsInitial}
-use Rattle.st_parse.specs.Lists.{Several, Optional}
+use Rattle.st_parse.specs.Lists.{Several, Listed, Optional}
 
 -- a type that is named by one word
 abbrev pub simple_in : ℕ → TokenKind → Option SimpleType
@@ -54,6 +54,9 @@ pub data IsDefinition : Tokens → TypeDefinition → Tokens → Type 0 where
   structure : {ts us vs ws : Tokens} {t : TypeDefinition} (fields : List Field)
       → Passes (keyword w.Struct) ts us → Several IsField us fields vs → Passes (keyword w.EndStruct) vs ws
       → t ≡ d.structure fields → IsDefinition ts t ws
+  enumeration : {ts us vs ws : Tokens} {t : TypeDefinition} (names : List Identifier)
+      → Passes (mark m.Open) ts us → Listed (Is name) us names vs → Passes (mark m.Close) vs ws
+      → t ≡ d.enumeration names → IsDefinition ts t ws
 
 pub data IsTypeDeclaration : Tokens → TypeDeclaration → Tokens → Type 0 where
   declared : {ts us vs ws zs : Tokens} {t : TypeDeclaration} (x : Identifier) (definition : TypeDefinition)

@@ -15,7 +15,8 @@ use Rattle.st_statements.specs.Parsers.{Parser, ◌>>=◌, ◌>>◌, pure, one, 
 use Rattle.st_statements.specs.StatementReading.{stmts_at}
 use Rattle.st_parse.specs.Reading.{optional, many}
 use Rattle.st_parse.specs.TypeReading.{type_at, given_or_not}
-use Rattle.st_parse.specs.Units.{retention, elementary}
+use Rattle.st_parse.specs.Units.{retention}
+use Rattle.st_parse.specs.Types.{simple}
 
 abbrev pub is_retention : TokenKind → Bool
 is_retention k = is_keyword w.Retain k || is_keyword w.NonRetain k
@@ -129,11 +130,11 @@ function_at depth = do
   one (keyword w.Function)
   x ← one name
   one (mark m.Colon)
-  result ← one elementary
+  result ← one simple
   blocks ← many starts_function_section (function_block_at depth)
   body ← stmts_at depth
   one (keyword w.EndFunction)
-  pure (record { sort = sorts.Function result.0 result.1; name = x; blocks = blocks; body = body })
+  pure (record { sort = sorts.Function result; name = x; blocks = blocks; body = body })
 
 unfoldable pub function_block_unit_at : ℕ → Parser OrganisationUnit
 function_block_unit_at depth = do

@@ -1,10 +1,9 @@
 -- The grammar of functions, function blocks and programs.
 use Rattle.std.specs.Prelude.{◌≡◌, ℕ, List, Option, Some, None}
 use Rattle.st_words.specs.declared.identifier.Identifier.{Identifier}
-use Rattle.st_words.specs.declared.kind.Kind.{Kind}
 use Rattle.st_lex.specs.declared.token.Token.{Token}
 use Rattle.st_lex.specs.declared.token.TokenKind.{TokenKind}
-use Rattle.st_lex.specs.declared.token.TokenKind.TheVariants.{Elementary, Keyword}
+use Rattle.st_lex.specs.declared.token.TokenKind.TheVariants.{Keyword}
 use Rattle.st_lex.specs.declared.mark.Mark.TheVariants as m
 use Rattle.st_lex.specs.declared.keyword.Keyword.TheVariants as w
 use Rattle.st_trees.specs.declared.data_type.VariableType.{VariableType}
@@ -20,7 +19,8 @@ use Rattle.st_trees.specs.Units.{OrganisationUnit}
 use Rattle.st_statements.specs.Tokens.{Tokens, mark, keyword, name, Is, Passes}
 use Rattle.st_statements.specs.Statements.{IsStmts}
 use Rattle.st_parse.specs.Lists.{Many, Listed, Optional}
-use Rattle.st_parse.specs.Types.{IsType, IsGiven}
+use Rattle.st_parse.specs.Types.{simple, IsType, IsGiven}
+use Rattle.st_trees.specs.declared.data_type.SimpleType.{SimpleType}
 
 -- RETAIN or NON_RETAIN
 abbrev pub retention_in : TokenKind → Option Retention
@@ -30,14 +30,6 @@ retention_in k = None
 
 abbrev pub retention : Token → Option Retention
 retention t = retention_in t.kind
-
--- an elementary type at its place
-abbrev pub elementary_in : ℕ → TokenKind → Option (Kind × ℕ)
-elementary_in at (Elementary k) = Some (k, at)
-elementary_in at k = None
-
-abbrev pub elementary : Token → Option (Kind × ℕ)
-elementary t = elementary_in t.start t.kind
 
 -- names of one type and one initial value
 pub data IsDeclaration : Tokens → Declaration → Tokens → Type 0 where
@@ -102,12 +94,12 @@ pub data IsFunctionBlockBlock : Tokens → VariableBlock → Tokens → Type 0 w
       → IsFunctionBlockBlock ts b us
 
 pub data IsUnit : Tokens → OrganisationUnit → Tokens → Type 0 where
-  function : {ts us vs ws zs qs rs ns : Tokens} {u : OrganisationUnit} (x : Identifier) (result : Kind × ℕ)
+  function : {ts us vs ws zs qs rs ns : Tokens} {u : OrganisationUnit} (x : Identifier) (result : SimpleType)
       (blocks : List VariableBlock) (body : List Stmt)
-      → Passes (keyword w.Function) ts us → Is name us x vs → Passes (mark m.Colon) vs ws → Is elementary ws result zs
+      → Passes (keyword w.Function) ts us → Is name us x vs → Passes (mark m.Colon) vs ws → Is simple ws result zs
       → Many (IsBlock IsFunctionSection IsDeclaration) zs blocks qs → IsStmts qs body rs
       → Passes (keyword w.EndFunction) rs ns
-      → u ≡ record { sort = sorts.Function result.0 result.1; name = x; blocks = blocks; body = body } → IsUnit ts u ns
+      → u ≡ record { sort = sorts.Function result; name = x; blocks = blocks; body = body } → IsUnit ts u ns
   function_block : {ts us vs ws zs qs : Tokens} {u : OrganisationUnit} (x : Identifier) (blocks : List VariableBlock)
       (body : List Stmt)
       → Passes (keyword w.FunctionBlock) ts us → Is name us x vs → Many IsFunctionBlockBlock vs blocks ws

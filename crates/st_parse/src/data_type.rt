@@ -9,6 +9,7 @@ ghost use Rattle.st_statements.specs.Parsers.{Reads, as_is, each, one};
 ghost use Rattle.st_parse.specs.Types as specs;
 ghost use Rattle.st_parse.specs.TypeReading as reading;
 
+use crate::names::names;
 use st_lex::{Keyword, Mark, Token, TokenKind};
 use st_statements::{
     ReadError, begins, begins_name, keyword, leads, mark, name, read_initial, read_number, refused,
@@ -22,7 +23,7 @@ use std::alloc::Global;
 
 /// `simple = Elementary | Name .`
 /// A type that is named by one word.
-fn simple(alloc: Global, tokens: &[Token]) -> Result<(SimpleType, &[Token]), ReadError>
+pub fn simple(alloc: Global, tokens: &[Token]) -> Result<(SimpleType, &[Token]), ReadError>
     ensures { Reads as_is result (one specs.simple tokens.now) }
 {
     let [t, rest @ ..] = tokens else {
@@ -136,7 +137,18 @@ fn fields(alloc: Global, tokens: &[Token]) -> Result<(Vec<Field>, &[Token]), Rea
     )
 }
 
-/// `definition = array | "STRUCT", fields, "END_STRUCT" .`
+/// `enumeration = "(", names, ")" .`
+#[tactic(auto, unfolding(crate::specs::TypeReading::enumeration_at, crate::specs::UnitReading::names_at))]
+fn enumeration(alloc: Global, tokens: &[Token]) -> Result<(TypeDefinition, &[Token]), ReadError>
+    ensures { Reads type_definition_view result (reading.enumeration_at tokens.now) }
+{
+    let (_, rest) = mark(Mark::Open, tokens)?;
+    let (names, rest) = names(alloc, rest)?;
+    let (_, rest) = mark(Mark::Close, rest)?;
+    Ok((TypeDefinition::Enumeration(names), rest))
+}
+
+/// `definition = array | enumeration | "STRUCT", fields, "END_STRUCT" .`
 #[tactic(auto, unfolding(crate::specs::TypeReading::definition_at, crate::specs::TypeReading::array_definition_at, crate::specs::TypeReading::structure_at))]
 fn definition(alloc: Global, tokens: &[Token]) -> Result<(TypeDefinition, &[Token]), ReadError>
     ensures { Reads type_definition_view result (reading.definition_at MAX_DEPTH tokens.now) }
@@ -144,6 +156,9 @@ fn definition(alloc: Global, tokens: &[Token]) -> Result<(TypeDefinition, &[Toke
     if leads(Keyword::Array, tokens) {
         let (found, rest) = array(alloc, tokens)?;
         return Ok((TypeDefinition::Array(found), rest));
+    }
+    if begins(Mark::Open, tokens) {
+        return enumeration(alloc, tokens);
     }
     let (_, rest) = keyword(Keyword::Struct, tokens)?;
     let (fields, rest) = fields(alloc, rest)?;

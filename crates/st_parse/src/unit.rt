@@ -3,35 +3,20 @@
 ghost use Rattle.std.specs.Prelude.{◌≡◌};
 ghost use Rattle.st_words.specs.declared.limits.TheConstants.{MAX_DEPTH};
 ghost use Rattle.st_trees.specs.UnitViews.{unit_view};
-ghost use Rattle.st_statements.specs.Parsers.{Reads, as_is, one};
-ghost use Rattle.st_parse.specs.Units as specs;
+ghost use Rattle.st_statements.specs.Parsers.{Reads};
 ghost use Rattle.st_parse.specs.UnitReading as reading;
 
 use crate::block::{function_blocks, program_blocks, variable_blocks};
-use st_lex::{Keyword, Mark, Token, TokenKind};
-use st_statements::{ReadError, keyword, mark, name, read_statements, refused};
+use crate::data_type::simple;
+use st_lex::{Keyword, Mark, Token};
+use st_statements::{ReadError, keyword, mark, name, read_statements};
 use st_trees::{Unit, UnitSort};
-use st_words::Kind;
 use std::alloc::Global;
 
 /// A unit, and the tokens after it.
 type Found<'a> = Result<(Unit, &'a [Token]), ReadError>;
 
-/// `elementary = Elementary .`
-/// An elementary type, at its place.
-fn elementary(tokens: &[Token]) -> Result<((Kind, usize), &[Token]), ReadError>
-    ensures { Reads as_is result (one specs.elementary tokens.now) }
-{
-    let [t, rest @ ..] = tokens else {
-        return Err(refused(tokens));
-    };
-    match &t.kind {
-        TokenKind::Elementary(kind) => Ok(((*kind, t.start), rest)),
-        _ => Err(refused(tokens)),
-    }
-}
-
-/// `function = "FUNCTION", name, ":", elementary, function_blocks, stmts, "END_FUNCTION" .`
+/// `function = "FUNCTION", name, ":", simple, function_blocks, stmts, "END_FUNCTION" .`
 /// A function.
 #[tactic(auto, unfolding(crate::specs::UnitReading::function_at))]
 pub fn function(alloc: Global, tokens: &[Token]) -> Found<'_>
@@ -40,12 +25,12 @@ pub fn function(alloc: Global, tokens: &[Token]) -> Found<'_>
     let (_, rest) = keyword(Keyword::Function, tokens)?;
     let (name, rest) = name(alloc, rest)?;
     let (_, rest) = mark(Mark::Colon, rest)?;
-    let ((kind, place), rest) = elementary(rest)?;
+    let (result, rest) = simple(alloc, rest)?;
     let (blocks, rest) = function_blocks(alloc, rest)?;
     let (body, rest) = read_statements(alloc, rest)?;
     let (_, rest) = keyword(Keyword::EndFunction, rest)?;
     let unit = Unit {
-        sort: UnitSort::Function(kind, place),
+        sort: UnitSort::Function(result),
         name,
         blocks,
         body,

@@ -10,7 +10,7 @@ use Rattle.st_words.specs.declared.operator.UnaryOperator.TheVariants.{Negate, N
 use Rattle.st_words.specs.declared.operator.BinaryOperator.{BinaryOperator}
 use Rattle.st_lex.specs.declared.token.Token.{Token}
 use Rattle.st_lex.specs.declared.token.TokenKind.{TokenKind}
-use Rattle.st_lex.specs.declared.token.TokenKind.TheVariants.{Name, Keyword, Mark, Number, Truth, Duration}
+use Rattle.st_lex.specs.declared.token.TokenKind.TheVariants.{Name, Keyword, Mark, Number, Truth, Duration, Enumerated}
 use Rattle.st_lex.specs.declared.mark.Mark.TheVariants as m
 use Rattle.st_lex.specs.declared.keyword.Keyword.TheVariants as w
 use Rattle.st_trees.specs.Expressions.{Expr, Variable, Selector, exprs_of, selectors_of}
@@ -115,6 +115,7 @@ literal_by : (expr : ℕ → Parser Expr) (at : ℕ) (k : TokenKind) (l : Litera
 literal_by expr at (Number n) l ts eq = refl
 literal_by expr at (Truth b) l ts eq = refl
 literal_by expr at (Duration d) l ts eq = refl
+literal_by expr at (Enumerated n x) l ts eq = refl
 literal_by expr at _ l ts eq = absurd cc
 
 literal_complete : (expr : ℕ → Parser Expr) {ts us : Tokens} {l : Literal} → Is literal_of ts l us
@@ -146,6 +147,7 @@ kind_unsigned (Mark k) eq = let h : Mark k ≡ Mark m.Open = mark_is m.Open (Mar
 kind_unsigned (Number n) eq = (refl, refl)
 kind_unsigned (Truth n) eq = (refl, refl)
 kind_unsigned (Duration n) eq = (refl, refl)
+kind_unsigned (Enumerated n x) eq = (refl, refl)
 kind_unsigned (Name n) eq = (refl, refl)
 kind_unsigned _ eq = absurd cc
 

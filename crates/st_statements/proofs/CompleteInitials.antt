@@ -15,8 +15,8 @@ use Rattle.st_lex.specs.declared.mark.Mark.TheVariants as m
 use Rattle.st_trees.specs.Initials.{Initial, Element, Member, elements_of, members_of}
 use Rattle.st_trees.specs.Initials as i
 use Rattle.st_trees.specs.Depths.{depth_of_initial, depth_of_element, deepest_element, deepest_member}
-use Rattle.st_statements.specs.Tokens.{Tokens, next, Is, is, Passes, mark, name, whole, literal as literal_of}
-use Rattle.st_statements.specs.Tokens.{literal_in, unsigned, is_mark, is_number, same_mark}
+use Rattle.st_statements.specs.Tokens.{Tokens, next, Is, is, Passes, mark, name, whole, constant as constant_of}
+use Rattle.st_statements.specs.Tokens.{constant_in, unsigned, is_mark, is_number, same_mark}
 use Rattle.st_statements.specs.Parsers.{Outcome, Parser, after_comma, listed, negative_number_at}
 use Rattle.st_statements.specs.InitialReading.{negative_constant_at, literal_constant_at, defaults_of, member_at}
 use Rattle.st_statements.specs.InitialReading.{structure_at, single_at, repeated_of, repetition_of, counted_at}
@@ -30,11 +30,11 @@ use Rattle.st_statements.proofs.SoundInitials.{element_less, member_less, initia
 use Rattle.st_statements.proofs.Complete.{one_complete, mark_head, whole_head, Repeats, repeats_halt, repeats_step}
 use Rattle.st_statements.proofs.Complete.{after_comma_complete, comma_next, listed_complete}
 
-literal_plain : (x : MarkType) (at : ℕ) (k : TokenKind) (l : Literal) → literal_in at k ≡ Some l → is_mark x k ≡ false
+literal_plain : (x : MarkType) (at : ℕ) (k : TokenKind) (l : Literal) → constant_in at k ≡ Some l → is_mark x k ≡ false
 literal_plain x at (Mark y) l eq = absurd cc
 literal_plain x at _ l eq = refl
 
-literal_head : (x : MarkType) {ts us : Tokens} {l : Literal} → Is literal_of ts l us → next (is_mark x) ts ≡ false
+literal_head : (x : MarkType) {ts us : Tokens} {l : Literal} → Is constant_of ts l us → next (is_mark x) ts ≡ false
 literal_head x {l = l} (is {t} eq) = literal_plain x t.start t.kind l eq
 
 -- ---- constants

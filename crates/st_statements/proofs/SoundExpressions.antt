@@ -9,13 +9,13 @@ use Rattle.st_words.specs.declared.operator.UnaryOperator.TheVariants.{Negate, N
 use Rattle.st_words.specs.declared.operator.BinaryOperator.{BinaryOperator}
 use Rattle.st_lex.specs.declared.token.Token.{Token}
 use Rattle.st_lex.specs.declared.token.TokenKind.{TokenKind}
-use Rattle.st_lex.specs.declared.token.TokenKind.TheVariants.{Name, Keyword, Mark, Number, Truth, Duration}
+use Rattle.st_lex.specs.declared.token.TokenKind.TheVariants.{Name, Keyword, Mark, Number, Truth, Duration, Enumerated}
 use Rattle.st_lex.specs.declared.mark.Mark.TheVariants as m
 use Rattle.st_lex.specs.declared.keyword.Keyword.TheVariants as w
 use Rattle.st_trees.specs.Expressions.{Expr, Variable, Selector, exprs_of, selectors_of}
 use Rattle.st_trees.specs.Expressions as e
 use Rattle.st_trees.specs.Depths.{depth_of, depth_of_variable, depth_of_subscript, deepest, deepest_subscript}
-use Rattle.st_statements.specs.Tokens.{Tokens, next, Is, is, mark, keyword, name, name_in, literal_in, whole}
+use Rattle.st_statements.specs.Tokens.{Tokens, next, Is, is, mark, keyword, name, name_in, literal_in, value_at, whole}
 use Rattle.st_statements.specs.Tokens.{literal as literal_of, negative_at, unsigned, is_mark, is_keyword, is_name}
 use Rattle.st_statements.specs.Tokens.{is_number}
 use Rattle.st_statements.specs.Operators.{operator_in, operator, binds_of, is_within, goes_on, operand_level}
@@ -262,6 +262,7 @@ module _ (below : ℕ) (expr : ℕ → ℕ → Parser Expr)
   told_operand_by (Number n) t ts = told_by (sound_literal below) (t ∷ ts)
   told_operand_by (Truth n) t ts = told_by (sound_literal below) (t ∷ ts)
   told_operand_by (Duration n) t ts = told_by (sound_literal below) (t ∷ ts)
+  told_operand_by (Enumerated n x) t ts = told_by (sound_literal below) (t ∷ ts)
   told_operand_by (Name n) t ts = told_by sound_named (t ∷ ts)
   told_operand_by (Mark m.Open) t ts = told_by sound_parenthesis (t ∷ ts)
   told_operand_by _ t ts =
@@ -494,6 +495,7 @@ operand_refuses : (expr : ℕ → Parser Expr) (k : TokenKind) (ts : Tokens) →
 operand_refuses expr (Number n) ts eq = absurd cc
 operand_refuses expr (Truth n) ts eq = absurd cc
 operand_refuses expr (Duration n) ts eq = absurd cc
+operand_refuses expr (Enumerated n x) ts eq = absurd cc
 operand_refuses expr (Name n) ts eq = absurd cc
 operand_refuses expr (Mark m.Open) ts eq = let h = mark_same m.Open in absurd cc
 operand_refuses expr _ ts eq = refl
@@ -551,6 +553,8 @@ operand_begun least t (Number n) eq yes' =
 operand_begun least t (Truth b) eq yes' = literal_begun least t (literals.Truth t.start b) (ap (literal_in t.start) eq)
 operand_begun least t (Duration d) eq yes' =
     literal_begun least t (literals.Duration t.start d) (ap (literal_in t.start) eq)
+operand_begun least t (Enumerated n x) eq yes' =
+    literal_begun least t (literals.Enumerated (value_at t.start (Some n) x)) (ap (literal_in t.start) eq)
 operand_begun least t (Name x) eq yes' =
     record {
       more = [];

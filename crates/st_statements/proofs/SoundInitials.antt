@@ -1,22 +1,21 @@
 -- What is read as an initial value is one, and what stands before a refusal begins one.
-use Rattle.std.proofs.Common.{◌≡◌, ℕ, zero, suc, ◌+◌, ◌<◌, ◌≤◌, true, false, ◌||◌, List, [], ◌∷◌, length, None, Err}
+use Rattle.std.proofs.Common.{◌≡◌, ℕ, zero, suc, ◌+◌, ◌<◌, ◌≤◌, true, false, ◌||◌, List, [], ◌∷◌, length, Some, None, Err}
 use Rattle.std.proofs.Common.{refl, ap, arith, inl, inr}
 use Rattle.st_words.specs.declared.literal.Number.{Number as NumberLeaf}
 use Rattle.st_words.specs.declared.literal.Literal.{Literal}
 use Rattle.st_words.specs.declared.literal.Literal.TheVariants as literals
 use Rattle.st_lex.specs.declared.token.Token.{Token}
 use Rattle.st_lex.specs.declared.token.TokenKind.{TokenKind}
-use Rattle.st_lex.specs.declared.token.TokenKind.TheVariants.{Name, Mark, Number, Truth, Duration}
+use Rattle.st_lex.specs.declared.token.TokenKind.TheVariants.{Name, Mark, Number, Truth, Duration, Enumerated}
 use Rattle.st_lex.specs.declared.mark.Mark.TheVariants as m
 use Rattle.st_trees.specs.Initials.{Initial, Element, Member, elements_of, members_of}
 use Rattle.st_trees.specs.Initials as i
 use Rattle.st_trees.specs.Depths.{depth_of_initial, depth_of_element, deepest_element, deepest_member}
-use Rattle.st_statements.specs.Tokens.{Tokens, next, Is, is, Passes, mark, name, whole, literal as literal_of}
-use Rattle.st_statements.specs.Tokens.{literal_in, negative_at, unsigned, is_mark, is_number}
+use Rattle.st_statements.specs.Tokens.{Tokens, next, Is, is, Passes, mark, name, whole, constant as constant_of}
+use Rattle.st_statements.specs.Tokens.{constant_in, value_at, negative_at, unsigned, is_mark, is_number}
 use Rattle.st_statements.specs.declared.fault.Refusal.TheVariants.{Unexpected}
 use Rattle.st_statements.specs.Parsers.{Parser, if_next, too_deep}
-use Rattle.st_statements.specs.ExpressionReading.{starts_literal}
-use Rattle.st_statements.specs.InitialReading.{starts_initial, negative_constant_at, literal_constant_at, defaults_of}
+use Rattle.st_statements.specs.InitialReading.{starts_constant, starts_initial, negative_constant_at, literal_constant_at, defaults_of}
 use Rattle.st_statements.specs.InitialReading.{member_at, structure_at, single_at, repeated_of, repetition_of}
 use Rattle.st_statements.specs.InitialReading.{counted_at, element_at, list_at, initial_at}
 use Rattle.st_statements.specs.Laws.{Grammar, Begins}
@@ -122,13 +121,13 @@ unfolding negative_constant_at
 sound_negative_constant n = sound_as is_negative_constant (λ x us d. d) (sound_then sound_negative
     (λ k. sound_pure (i.constant (literals.Number k)) (LowInitial (n + 1)) (λ c us. omega arith)))
 
-is_literal_constant : (ts : Tokens) (x : Initial) (us : Tokens) → Seq (Is literal_of) (λ l. Made (i.constant l)) ts x us
+is_literal_constant : (ts : Tokens) (x : Initial) (us : Tokens) → Seq (Is constant_of) (λ l. Made (i.constant l)) ts x us
     → IsInitial ts x us
 is_literal_constant ts x us (l, vs, s, made eq) = constant l (literal s) eq
 
 sound_literal_constant : {C : Type 0} (n : ℕ) → Sound C (λ e. literal_constant_at) IsInitial (LowInitial (n + 1))
 unfolding literal_constant_at
-sound_literal_constant n = sound_as is_literal_constant (λ x us d. d) (sound_then (sound_one literal_of number_token
+sound_literal_constant n = sound_as is_literal_constant (λ x us d. d) (sound_then (sound_one constant_of number_token
     (literals.Number a_number) refl) (λ l. sound_pure (i.constant l) (LowInitial (n + 1)) (λ c us. omega arith)))
 
 -- ---- elements and members, of one depth
@@ -245,22 +244,24 @@ module _ (depth : ℕ) (initial : ℕ → Parser Initial) (tells : Tells initial
 -- ---- where no depth is left
 
 starts_nothing : (ts : Tokens) → next starts_initial ts ≡ false → (next (is_mark m.OpenBracket) ts ≡ false)
-    × (next (is_mark m.Open) ts ≡ false) × (next (is_mark m.Minus) ts ≡ false) × (next starts_literal ts ≡ false)
+    × (next (is_mark m.Open) ts ≡ false) × (next (is_mark m.Minus) ts ≡ false) × (next starts_constant ts ≡ false)
 starts_nothing [] eq = (refl, refl, refl, refl)
 starts_nothing (t ∷ ts) eq =
     let a = or_false (is_mark m.OpenBracket t.kind || is_mark m.Open t.kind || is_mark m.Minus t.kind)
-    (starts_literal t.kind) eq in
+    (starts_constant t.kind) eq in
     let b = or_false (is_mark m.OpenBracket t.kind || is_mark m.Open t.kind) (is_mark m.Minus t.kind) a.0 in
     let c = or_false (is_mark m.OpenBracket t.kind) (is_mark m.Open t.kind) b.0 in
     (c.0, c.1, b.1, a.1)
 
-no_literal : (at : ℕ) (k : TokenKind) → starts_literal k ≡ false → literal_in at k ≡ None
+no_literal : (at : ℕ) (k : TokenKind) → starts_constant k ≡ false → constant_in at k ≡ None
 no_literal at (Number n) eq = absurd cc
 no_literal at (Truth n) eq = absurd cc
 no_literal at (Duration n) eq = absurd cc
+no_literal at (Enumerated n x) eq = absurd cc
+no_literal at (Name x) eq = absurd cc
 no_literal at _ eq = refl
 
-literal_refuses : (ts : Tokens) → next starts_literal ts ≡ false → literal_constant_at ts ≡ Err (Unexpected (length ts))
+literal_refuses : (ts : Tokens) → next starts_constant ts ≡ false → literal_constant_at ts ≡ Err (Unexpected (length ts))
 unfolding literal_constant_at
 literal_refuses [] eq = refl
 literal_refuses (t ∷ ts) eq = rw (no_literal t.start t.kind eq) refl
@@ -271,11 +272,11 @@ unfolding initial_at
 initial_refuses zero ts eq = rw eq refl
 initial_refuses (suc below) ts eq = let n = starts_nothing ts eq in rw (n.0, n.1, n.2) (literal_refuses ts n.3)
 
-no_number : (ts : Tokens) → next starts_literal ts ≡ false → next is_number ts ≡ false
+no_number : (ts : Tokens) → next starts_constant ts ≡ false → next is_number ts ≡ false
 no_number [] eq = refl
 no_number (t ∷ ts) eq = not_one t.kind eq
   where
-    not_one : (k : TokenKind) → starts_literal k ≡ false → is_number k ≡ false
+    not_one : (k : TokenKind) → starts_constant k ≡ false → is_number k ≡ false
     not_one (Number n) eq = absurd cc
     not_one _ eq = refl
 
@@ -285,23 +286,35 @@ unfolding element_at single_at
 element_refuses initial zero ts eq same = rw eq refl
 element_refuses initial (suc below) ts eq same = let n = no_number ts (starts_nothing ts eq).3 in rw (n, same) refl
 
-literal_begun : (t : Token) (k : TokenKind) → t.kind ≡ k → starts_literal k ≡ true → Begins IsInitial (t ∷ [])
+literal_begun : (t : Token) (k : TokenKind) → t.kind ≡ k → starts_constant k ≡ true → Begins IsInitial (t ∷ [])
 literal_begun t (Number n) eq yes' = record {
   more = [];
   tree = i.constant (literals.Number (unsigned t.start n));
-  whole = λ after. constant (literals.Number (unsigned t.start n)) (literal (is (ap (literal_in t.start) eq))) refl;
+  whole = λ after. constant (literals.Number (unsigned t.start n)) (literal (is (ap (constant_in t.start) eq))) refl;
 }
 literal_begun t (Truth b) eq yes' = record {
   more = [];
   tree = i.constant (literals.Truth t.start b);
   whole =
-      λ after. constant (literals.Truth t.start b) (literal (is (ap (literal_in t.start) eq))) refl;
+      λ after. constant (literals.Truth t.start b) (literal (is (ap (constant_in t.start) eq))) refl;
 }
 literal_begun t (Duration d) eq yes' = record {
   more = [];
   tree = i.constant (literals.Duration t.start d);
   whole =
-      λ after. constant (literals.Duration t.start d) (literal (is (ap (literal_in t.start) eq))) refl;
+      λ after. constant (literals.Duration t.start d) (literal (is (ap (constant_in t.start) eq))) refl;
+}
+literal_begun t (Enumerated n x) eq yes' = record {
+  more = [];
+  tree = i.constant (literals.Enumerated (value_at t.start (Some n) x));
+  whole =
+      λ after. constant (literals.Enumerated (value_at t.start (Some n) x)) (literal (is (ap (constant_in t.start) eq))) refl;
+}
+literal_begun t (Name x) eq yes' = record {
+  more = [];
+  tree = i.constant (literals.Enumerated (value_at t.start None x));
+  whole =
+      λ after. constant (literals.Enumerated (value_at t.start None x)) (literal (is (ap (constant_in t.start) eq))) refl;
 }
 literal_begun t _ eq yes' = absurd cc
 
@@ -344,7 +357,7 @@ structure_begun t eq = record {
 
 pub initial_begun : (t : Token) → starts_initial t.kind ≡ true → Begins IsInitial (t ∷ [])
 initial_begun t eq = elim (or_true (is_mark m.OpenBracket t.kind || is_mark m.Open t.kind || is_mark m.Minus t.kind)
-    (starts_literal t.kind) eq) [
+    (starts_constant t.kind) eq) [
       | inl a ↦ elim (or_true (is_mark m.OpenBracket t.kind || is_mark m.Open t.kind) (is_mark m.Minus t.kind) a) [
         | inl b ↦ elim (or_true (is_mark m.OpenBracket t.kind) (is_mark m.Open t.kind) b) [
           | inl c ↦ list_begun t (mark_is m.OpenBracket t.kind c)

@@ -14,7 +14,7 @@ use Rattle.st_lex.specs.declared.token.TokenKind.TheVariants.{Name, Keyword, Mar
 use Rattle.st_lex.specs.declared.mark.Mark.{Mark as MarkType}
 use Rattle.st_lex.specs.declared.mark.Mark.TheVariants as m
 use Rattle.st_lex.specs.declared.keyword.Keyword.{Keyword as KeywordType}
-use Rattle.st_statements.specs.Tokens.{Tokens, Is, mark, keyword, name, whole, whole_in, literal, literal_in}
+use Rattle.st_statements.specs.Tokens.{Tokens, Is, mark, keyword, name, whole, whole_in, constant, constant_in}
 use Rattle.st_statements.specs.Tokens.{negative_at, is_mark, is_keyword, same_mark, same_keyword, IsNumber, plain}
 use Rattle.st_statements.specs.Tokens.{negative}
 use Rattle.st_statements.specs.Parsers.{◌>>=◌, pure, one, if_next, number_at, negative_number_at}
@@ -146,11 +146,11 @@ unfolding number_at
 sound_number = sound_if (is_mark m.Minus) (sound_as is_negative_number (λ x us d. d) sound_negative)
     (sound_as (λ ts x us w. plain w) (λ x us d. d) sound_whole)
 
--- a token that stands for a number is a literal
-pub whole_literal : (t : Token) (n : NumberLeaf) → whole t ≡ Some n → literal t ≡ Some (literals.Number n)
+-- a token that stands for a number is a constant
+pub whole_literal : (t : Token) (n : NumberLeaf) → whole t ≡ Some n → constant t ≡ Some (literals.Number n)
 whole_literal t n eq = by_kind_of t.start t.kind n eq
   where
     by_kind_of : (at : ℕ) (k : TokenKind) (n : NumberLeaf) → whole_in at k ≡ Some n
-        → literal_in at k ≡ Some (literals.Number n)
+        → constant_in at k ≡ Some (literals.Number n)
     by_kind_of at (Number m) n eq = ap (λ (o : Option NumberLeaf). numbered o) eq
     by_kind_of at _ n eq = absurd cc

@@ -4,7 +4,7 @@ use Rattle.st_words.specs.declared.identifier.Identifier.{Identifier}
 use Rattle.st_words.specs.declared.literal.Literal.TheVariants as literals
 use Rattle.st_words.specs.declared.operator.UnaryOperator.TheVariants.{Negate, Not}
 use Rattle.st_lex.specs.declared.token.TokenKind.{TokenKind}
-use Rattle.st_lex.specs.declared.token.TokenKind.TheVariants.{Name, Mark, Number, Truth, Duration}
+use Rattle.st_lex.specs.declared.token.TokenKind.TheVariants.{Name, Mark, Number, Truth, Duration, Enumerated}
 use Rattle.st_lex.specs.declared.mark.Mark.TheVariants as m
 use Rattle.st_lex.specs.declared.keyword.Keyword.TheVariants as w
 use Rattle.st_trees.specs.Expressions.{Expr, Variable, Selector, exprs_of, selectors_of}
@@ -23,6 +23,7 @@ abbrev pub starts_literal : TokenKind → Bool
 starts_literal (Number n) = true
 starts_literal (Truth b) = true
 starts_literal (Duration d) = true
+starts_literal (Enumerated t x) = true
 starts_literal k = false
 
 abbrev pub starts_operand : TokenKind → Bool
@@ -102,6 +103,7 @@ module _ (expr : ℕ → Parser Expr) where
   operand_by (Number n) = literal_at
   operand_by (Truth b) = literal_at
   operand_by (Duration d) = literal_at
+  operand_by (Enumerated t x) = literal_at
   operand_by (Name x) = named_at
   operand_by (Mark m.Open) = parenthesis_at
   operand_by k = refuse

@@ -6,12 +6,15 @@ use Rattle.st_lex.specs.declared.token.TokenKind.{TokenKind}
 use Rattle.st_lex.specs.declared.mark.Mark.TheVariants as m
 use Rattle.st_trees.specs.Initials.{Initial, Element, Member, elements_of, members_of}
 use Rattle.st_trees.specs.Initials as i
-use Rattle.st_statements.specs.Tokens.{is_mark, is_number, mark, name, whole, literal}
+use Rattle.st_statements.specs.Tokens.{is_mark, is_name, is_number, mark, name, whole, constant}
 use Rattle.st_statements.specs.Parsers.{Parser, ◌>>=◌, ◌>>◌, pure, one, if_next, too_deep, listed, negative_number_at}
 use Rattle.st_statements.specs.ExpressionReading.{starts_literal}
 
+abbrev pub starts_constant : TokenKind → Bool
+starts_constant k = starts_literal k || is_name k
+
 abbrev pub starts_initial : TokenKind → Bool
-starts_initial k = is_mark m.OpenBracket k || is_mark m.Open k || is_mark m.Minus k || starts_literal k
+starts_initial k = is_mark m.OpenBracket k || is_mark m.Open k || is_mark m.Minus k || starts_constant k
 
 unfoldable pub negative_constant_at : Parser Initial
 negative_constant_at = do
@@ -20,7 +23,7 @@ negative_constant_at = do
 
 unfoldable pub literal_constant_at : Parser Initial
 literal_constant_at = do
-  l ← one literal
+  l ← one constant
   pure (i.constant l)
 
 unfoldable pub defaults_of : Number → Parser Element

@@ -7,11 +7,11 @@ use Rattle.st_words.specs.declared.literal.Literal.TheVariants as literals
 use Rattle.st_lex.specs.declared.mark.Mark.TheVariants as m
 use Rattle.st_trees.specs.Initials.{Initial, Element, Member, elements_of, members_of}
 use Rattle.st_trees.specs.Initials as i
-use Rattle.st_statements.specs.Tokens.{Tokens, mark, name, whole, literal as literal_of, negative_at, Is, Passes}
+use Rattle.st_statements.specs.Tokens.{Tokens, mark, name, whole, constant as constant_of, negative_at, Is, Passes}
 
--- a literal, or a number with a `-` directly before it
+-- a literal or the name of a value, or a number with a `-` directly before it
 pub data IsConstant : Tokens → Literal → Tokens → Type 0 where
-  literal : {ts us : Tokens} {l : Literal} → Is literal_of ts l us → IsConstant ts l us
+  literal : {ts us : Tokens} {l : Literal} → Is constant_of ts l us → IsConstant ts l us
   negative : {ts us vs : Tokens} {l : Literal} (at : ℕ) (n : Number) → Is (mark m.Minus) ts at us → Is whole us n vs
       → l ≡ literals.Number (negative_at at n) → IsConstant ts l vs
 

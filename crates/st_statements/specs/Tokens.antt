@@ -2,12 +2,13 @@
 use Rattle.std.specs.Prelude.{◌≡◌, ℕ, Bool, true, false, List, [], ◌∷◌, Option, Some, None, if◌then◌else◌}
 use denote.Enum.Bare.{sameb}
 use Rattle.st_words.specs.declared.identifier.Identifier.{Identifier}
+use Rattle.st_words.specs.declared.literal.EnumeratedValue.{EnumeratedValue}
 use Rattle.st_words.specs.declared.literal.Number.{Number as NumberLeaf}
 use Rattle.st_words.specs.declared.literal.Literal.{Literal}
 use Rattle.st_words.specs.declared.literal.Literal.TheVariants as literals
 use Rattle.st_lex.specs.declared.token.Token.{Token}
 use Rattle.st_lex.specs.declared.token.TokenKind.{TokenKind}
-use Rattle.st_lex.specs.declared.token.TokenKind.TheVariants.{Name, Keyword, Mark, Number, Truth, Duration}
+use Rattle.st_lex.specs.declared.token.TokenKind.TheVariants.{Name, Keyword, Mark, Number, Truth, Duration, Enumerated}
 use Rattle.st_lex.specs.declared.token.WholeNumber.{WholeNumber}
 use Rattle.st_lex.specs.declared.mark.Mark.{Mark as MarkType}
 use Rattle.st_lex.specs.declared.mark.Mark.TheVariants as m
@@ -90,15 +91,28 @@ whole_in at k = None
 abbrev pub whole : Token → Option NumberLeaf
 whole t = whole_in t.start t.kind
 
+-- a value of an enumerated type, with its type or alone
+abbrev pub value_at : ℕ → Option (List ℕ) → List ℕ → EnumeratedValue
+value_at at t x = record { place = at; type_name = t; name = x }
+
 abbrev pub literal_in : ℕ → TokenKind → Option Literal
 literal_in at (Number n) = Some (literals.Number (unsigned at n))
 literal_in at (Truth b) = Some (literals.Truth at b)
 literal_in at (Duration d) = Some (literals.Duration at d)
+literal_in at (Enumerated t x) = Some (literals.Enumerated (value_at at (Some t) x))
 literal_in at k = None
 
 -- a literal without a sign
 abbrev pub literal : Token → Option Literal
 literal t = literal_in t.start t.kind
+
+abbrev pub constant_in : ℕ → TokenKind → Option Literal
+constant_in at (Name x) = Some (literals.Enumerated (value_at at None x))
+constant_in at k = literal_in at k
+
+-- a literal without a sign, or the name of a value of an enumerated type
+abbrev pub constant : Token → Option Literal
+constant t = constant_in t.start t.kind
 
 -- One token that stands for x, and then the others.
 pub data Is {A : Type 0} (of : Token → Option A) : Tokens → A → Tokens → Type 0 where

@@ -34,7 +34,7 @@ fn starts_operand(kind: &TokenKind) -> bool
 {
     match kind {
         TokenKind::Number(_) | TokenKind::Truth(_) | TokenKind::Duration(_) => true,
-        TokenKind::Name(_) => true,
+        TokenKind::Enumerated(_, _) | TokenKind::Name(_) => true,
         _ => is_mark(Mark::Open, kind),
     }
 }
@@ -235,8 +235,11 @@ fn operand(alloc: Global, below: usize, tokens: &[Token]) -> Found<'_>
         return Err(refused(tokens));
     };
     match &t.kind {
-        TokenKind::Number(_) | TokenKind::Truth(_) | TokenKind::Duration(_) => {
-            let (found, rest) = literal(tokens)?;
+        TokenKind::Number(_)
+        | TokenKind::Truth(_)
+        | TokenKind::Duration(_)
+        | TokenKind::Enumerated(_, _) => {
+            let (found, rest) = literal(alloc, tokens)?;
             Ok((Expr::literal(found), rest))
         }
         TokenKind::Name(_) => named(alloc, below, tokens),

@@ -7,12 +7,12 @@ ghost use Rattle.st_trees.specs.InitialViews.{initial_view, element_view, member
 ghost use Rattle.st_statements.specs.Tokens.{next, is_mark};
 ghost use Rattle.st_statements.specs.Parsers as parsers;
 ghost use Rattle.st_statements.specs.Parsers.{Reads, each, several};
-ghost use Rattle.st_statements.specs.ExpressionReading.{starts_literal};
+ghost use Rattle.st_statements.specs.InitialReading.{starts_constant};
 ghost use Rattle.st_statements.specs.InitialReading as reading;
 
 use crate::fault::ReadError;
 use crate::tokens::{
-    begins, begins_number, is_mark, literal, mark, name, negative_number, sunk, whole,
+    begins, begins_number, constant, is_mark, mark, name, negative_number, sunk, whole,
 };
 use st_lex::{Mark, Token, TokenKind};
 use st_trees::{Initial, InitialElement, InitialMember};
@@ -28,11 +28,12 @@ type FoundElement<'a> = Result<(InitialElement, &'a [Token]), ReadError>;
 /// A field with its initial value and the tokens after it.
 type FoundMember<'a> = Result<(InitialMember, &'a [Token]), ReadError>;
 
-fn starts_literal(kind: &TokenKind) -> bool
-    ensures { result ≡ starts_literal kind.now }
+fn starts_constant(kind: &TokenKind) -> bool
+    ensures { result ≡ starts_constant kind.now }
 {
     match kind {
         TokenKind::Number(_) | TokenKind::Truth(_) | TokenKind::Duration(_) => true,
+        TokenKind::Enumerated(_, _) | TokenKind::Name(_) => true,
         _ => false,
     }
 }
@@ -45,7 +46,7 @@ fn starts_initial(tokens: &[Token]) -> bool
             is_mark(Mark::OpenBracket, &t.kind)
                 || is_mark(Mark::Open, &t.kind)
                 || is_mark(Mark::Minus, &t.kind)
-                || starts_literal(&t.kind)
+                || starts_constant(&t.kind)
         }
         [] => false,
     }
@@ -238,6 +239,6 @@ pub fn initial(alloc: Global, depth: usize, tokens: &[Token]) -> Found<'_>
         let (number, rest) = negative_number(tokens)?;
         return Ok((Initial::constant(Literal::Number(number)), rest));
     }
-    let (found, rest) = literal(tokens)?;
+    let (found, rest) = constant(alloc, tokens)?;
     Ok((Initial::constant(found), rest))
 }

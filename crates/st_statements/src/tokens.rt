@@ -8,4 +8,4 @@ mod terminal;
 pub use next::{begins, begins_name, begins_number, is_keyword, is_mark, leads, refused, sunk};
 pub use operators::{binds, goes_on, operator};
 pub use sign::{negative_number, signed_number};
-pub use terminal::{keyword, literal, mark, name, negative_at, whole};
+pub use terminal::{constant, keyword, literal, mark, name, negative_at, whole};

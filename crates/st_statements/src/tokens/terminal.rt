@@ -7,7 +7,7 @@ ghost use Rattle.st_statements.specs.Parsers.{Reads, as_is, one};
 use crate::fault::ReadError;
 use crate::tokens::{is_keyword, is_mark, refused};
 use st_lex::{Keyword, Mark, Token, TokenKind, WholeNumber};
-use st_words::{Identifier, Literal, Number};
+use st_words::{EnumeratedValue, Identifier, Literal, Number};
 use std::alloc::Global;
 
 /// `mark(m) = m .`
@@ -93,9 +93,9 @@ pub fn whole(tokens: &[Token]) -> Result<(Number, &[Token]), ReadError>
     }
 }
 
-/// `literal = Number | Truth | Duration .`
+/// `literal = Number | Truth | Duration | Enumerated .`
 /// A literal without a sign, and the tokens after it.
-pub fn literal(tokens: &[Token]) -> Result<(Literal, &[Token]), ReadError>
+pub fn literal(alloc: Global, tokens: &[Token]) -> Result<(Literal, &[Token]), ReadError>
     ensures { Reads as_is result (one specs.literal tokens.now) }
 {
     let [t, rest @ ..] = tokens else {
@@ -105,6 +105,35 @@ pub fn literal(tokens: &[Token]) -> Result<(Literal, &[Token]), ReadError>
         TokenKind::Number(found) => Ok((Literal::Number(unsigned(t.start, *found)), rest)),
         TokenKind::Truth(truth) => Ok((Literal::Truth(t.start, *truth), rest)),
         TokenKind::Duration(duration) => Ok((Literal::Duration(t.start, *duration), rest)),
+        TokenKind::Enumerated(type_name, name) => {
+            let value = EnumeratedValue {
+                place: t.start,
+                type_name: Some(type_name.copied(alloc)?),
+                name: name.copied(alloc)?,
+            };
+            Ok((Literal::Enumerated(value), rest))
+        }
         _ => Err(refused(tokens)),
+    }
+}
+
+/// `constant = literal | Name .`
+/// A literal without a sign or the name of a value of an enumerated type, and the tokens after it.
+pub fn constant(alloc: Global, tokens: &[Token]) -> Result<(Literal, &[Token]), ReadError>
+    ensures { Reads as_is result (one specs.constant tokens.now) }
+{
+    let [t, rest @ ..] = tokens else {
+        return Err(refused(tokens));
+    };
+    match &t.kind {
+        TokenKind::Name(name) => {
+            let value = EnumeratedValue {
+                place: t.start,
+                type_name: None,
+                name: name.copied(alloc)?,
+            };
+            Ok((Literal::Enumerated(value), rest))
+        }
+        _ => literal(alloc, tokens),
     }
 }
