@@ -3,7 +3,7 @@ use Rattle.std.proofs.Common.{ℕ, ◌+◌, ◌≤◌, List, [], ◌∷◌, Opti
 use Rattle.std.specs.List.{AllByRecursion}
 use Rattle.st_trees.specs.Initials.{Initial}
 use Rattle.st_trees.specs.Statements.{stmts_of}
-use Rattle.st_trees.specs.Declarations.{TypeDefinition, array, structure}
+use Rattle.st_trees.specs.Declarations.{TypeDefinition, array, structure, enumeration}
 use Rattle.st_trees.specs.Sources.{LibraryElement, types, unit, configuration}
 use Rattle.st_trees.specs.Depths.{depth_of_initial, deepest_stmt}
 use Rattle.st_parse.specs.Depths.{ValueWithin, FieldWithin, DefinitionWithin, TypeWithin, DeclarationWithin}
@@ -52,10 +52,12 @@ bounded_definition = record { deeper = deeper; bound = bound }
   where
     deeper : (d d' : ℕ) (x : TypeDefinition) → d ≤ d' → DefinitionWithin d x → DefinitionWithin d' x
     deeper d d' (array a) le w = tt
+    deeper d d' (enumeration names) le w = tt
     deeper d d' (structure fs) le w = (bounded_all FieldWithin bounded_field).deeper d d' fs le w
 
     bound : (x : TypeDefinition) → (d : ℕ) × DefinitionWithin d x
     bound (array a) = (0, tt)
+    bound (enumeration names) = (0, tt)
     bound (structure fs) = (bounded_all FieldWithin bounded_field).bound fs
 
 bounded_type : Bounded TypeWithin

@@ -14,7 +14,7 @@ use Rattle.st_trees.specs.Depths.{depth_of_initial}
 use Rattle.st_trees.specs.Declarations.{Field, TypeDefinition, TypeDeclaration}
 use Rattle.st_trees.specs.Declarations as d
 use Rattle.st_statements.specs.Tokens.{Tokens, Is, mark, keyword, name, is_mark, is_keyword, is_name, IsNumber}
-use Rattle.st_statements.specs.Parsers.{one}
+use Rattle.st_statements.specs.Parsers.{one, listed}
 use Rattle.st_statements.specs.Initials.{IsInitial}
 use Rattle.st_statements.specs.InitialReading.{initial_at}
 use Rattle.st_statements.proofs.Sound.{Any, Seq, Made, made}
@@ -91,6 +91,9 @@ is_structure : (ts : Tokens) (x : TypeDefinition) (us : Tokens) → Seq (Is (key
     → IsDefinition ts x us
 is_structure ts x us (s, t1, k, (fs, t2, i, (e, t3, j, made eq))) = structure fs (s, k) i (e, j) eq
 
+sound_listed : {C : Type 0} → Sound C (λ e. listed (one name)) (Listed (Is name)) Any
+sound_listed = sound_as (λ ts xs us r. r) (λ xs us d. tt) sound_names
+
 is_enumeration : (ts : Tokens) (x : TypeDefinition) (us : Tokens) → Seq (Is (mark m.Open))
     (λ s. Seq (Listed (Is name)) (λ xs. Seq (Is (mark m.Close)) (λ e. Made (d.enumeration xs)))) ts x us
     → IsDefinition ts x us
@@ -154,7 +157,7 @@ module _ (depth : ℕ) where
       → Sound C (λ n. enumeration_at) IsDefinition (λ x us. DefinitionWithin depth x)
   unfolding enumeration_at
   sound_enumeration = sound_as is_enumeration (λ x us d. d) (sound_then (sound_mark m.Open)
-      (λ s. sound_then (sound_as (λ ts xs us r. r) (λ xs us d. tt) sound_names) (λ xs. sound_then (sound_mark m.Close)
+      (λ s. sound_then sound_listed (λ xs. sound_then (sound_mark m.Close)
       (λ e. sound_pure (d.enumeration xs) (λ x us. DefinitionWithin depth x) (λ c us. tt)))))
 
   sound_definition : {C : Type 0}

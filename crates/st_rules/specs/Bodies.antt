@@ -52,6 +52,7 @@ literal_out_of_range expected (literals.Number n) =
     unless (holds (kind_or_taken expected n.written) (number_of n)) n.place
 literal_out_of_range expected (literals.Truth at b) = []
 literal_out_of_range expected (literals.Duration at n) = []
+literal_out_of_range expected (literals.Enumerated v) = []
 
 abbrev pub out_of_range : Declared → OrganisationUnit → Option Kind → Expr → List ℕ
 out_of_range text u k (literal l) = literal_out_of_range k l
@@ -71,6 +72,7 @@ abbrev pub typed_literal_out_of_range : Literal → List ℕ
 typed_literal_out_of_range (literals.Number n) = typed_out_of_range n n.written
 typed_literal_out_of_range (literals.Truth at b) = []
 typed_literal_out_of_range (literals.Duration at n) = []
+typed_literal_out_of_range (literals.Enumerated v) = []
 
 abbrev pub typed_literals_out_of_range : Expr → List ℕ
 typed_literals_out_of_range (literal l) = typed_literal_out_of_range l

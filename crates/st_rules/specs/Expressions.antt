@@ -3,7 +3,7 @@ use Rattle.std.specs.Prelude.{ℕ, List, [], ◌∷◌, ◌++◌, Bool, true, fa
 use Rattle.std.specs.Prelude.{option_and_then}
 use Rattle.st_words.specs.declared.kind.Kind.{Kind}
 use Rattle.st_words.specs.declared.kind.Sort.{Sort}
-use Rattle.st_words.specs.declared.kind.Sort.TheVariants.{Signed, Unsigned, Bits, Duration, Truth}
+use Rattle.st_words.specs.declared.kind.Sort.TheVariants.{Signed, Unsigned, Bits, Duration, Truth, Place}
 use Rattle.st_words.specs.declared.literal.Literal.{Literal}
 use Rattle.st_words.specs.declared.literal.Literal.TheVariants as literals
 use Rattle.st_words.specs.declared.operator.UnaryOperator.{UnaryOperator}
@@ -24,6 +24,7 @@ abbrev pub place_of_literal : Literal → ℕ
 place_of_literal (literals.Number n) = n.place
 place_of_literal (literals.Truth at b) = at
 place_of_literal (literals.Duration at n) = at
+place_of_literal (literals.Enumerated v) = v.place
 
 abbrev pub place_of_variable : Variable → ℕ
 place_of_variable (variable x xs) = x.place
@@ -42,9 +43,14 @@ abbrev pub kind_of_name : OrganisationUnit → Variable → Option Kind
 kind_of_name u (variable x no_selectors) = option_and_then kind_of_type (variable_type u x.name)
 kind_of_name u (variable x (selector_then y ys)) = None
 
--- an expression of literals, names of elementary variables, parentheses and operators
+-- a literal of an elementary type, or of none
+abbrev pub is_plain_literal : Literal → Bool
+is_plain_literal (literals.Enumerated v) = false
+is_plain_literal l = true
+
+-- an expression of such literals, names of elementary variables, parentheses and operators
 abbrev pub is_plain : OrganisationUnit → Expr → Bool
-is_plain u (literal l) = true
+is_plain u (literal l) = is_plain_literal l
 is_plain u (read v) = is_there (kind_of_name u v)
 is_plain u (call f es) = false
 is_plain u (parenthesis at e) = is_plain u e
@@ -78,6 +84,7 @@ is_truth_or_bits _ = false
 
 abbrev pub is_ordered : Sort → Bool
 is_ordered Truth = false
+is_ordered Place = false
 is_ordered _ = true
 
 abbrev pub is_with_sign : Sort → Bool

@@ -16,9 +16,9 @@ use Rattle.st_rules.specs.declared.rule.Rule.TheVariants.{WrongType, OutOfRange}
 use Rattle.st_rules.specs.Expressions.{place_of_literal, kind_or_taken, unless}
 use Rattle.st_rules.specs.Bodies.{literal_out_of_range}
 
--- a literal of another type than the variable
+-- a literal of another type than the variable; values of enumerated types are not looked into
 abbrev pub wrong_literal : Kind → Literal → List ℕ
-wrong_literal k l = unless (same_kind (kind_or_taken (Some k) (kind_of_literal l)) k) (place_of_literal l)
+wrong_literal k l = unless (same_kind (kind_or_taken (Some k) (kind_of_literal [] l)) k) (place_of_literal l)
 
 -- a constant that a variable of the type begins with, against the rule
 abbrev pub constant_against : Rule → Kind → Literal → List ℕ

@@ -2,7 +2,7 @@
 use Rattle.std.specs.Prelude.{List, [], ◌∷◌, ◌++◌, map}
 use Rattle.std.specs.List.{flat_map}
 use Rattle.st_words.specs.declared.identifier.Identifier.{Identifier}
-use Rattle.st_trees.specs.Declarations.{TypeDefinition, array, structure, VariableBlock}
+use Rattle.st_trees.specs.Declarations.{TypeDefinition, array, structure, enumeration, VariableBlock}
 use Rattle.st_trees.specs.Units.{OrganisationUnit}
 use Rattle.st_trees.specs.Configurations.{GlobalNames, located, listed, GlobalBlock, Resource, Configuration}
 use Rattle.st_trees.specs.Sources.{LibraryElement, types, unit, configuration, Source}
@@ -32,10 +32,11 @@ variables_of_element (configuration c) = []
 abbrev pub variables_of_text : Source → List Identifier
 variables_of_text source = flat_map variables_of_element source
 
--- the fields of a structure, and the scopes in their initial values
+-- the fields of a structure, and the scopes in their initial values; the names of an enumerated type
 abbrev pub scopes_of_type : TypeDefinition → List (List Identifier)
 scopes_of_type (array a) = []
 scopes_of_type (structure fields) = map (λ f. f.name) fields ∷ flat_map (λ f. scopes_in_optional f.initial) fields
+scopes_of_type (enumeration names) = names ∷ []
 
 -- the scopes in the initial values of variables and of globals
 abbrev pub scopes_in_variables : VariableBlock → List (List Identifier)

@@ -1,6 +1,6 @@
 //! Names that are declared twice, or that are taken.
 
-ghost use Rattle.std.specs.Prelude.{◌≡◌, ◌∷◌, ◌++◌, map, IfOk};
+ghost use Rattle.std.specs.Prelude.{◌≡◌, ◌∷◌, ◌++◌, [], map, IfOk};
 ghost use Rattle.std.specs.List.{flat_map};
 ghost use Rattle.st_trees.specs.DeclarationViews.{field_view, type_declaration_view, type_definition_view};
 ghost use Rattle.st_trees.specs.UnitViews.{unit_view};
@@ -13,7 +13,7 @@ ghost use Rattle.st_rules.specs.Scopes.{scopes_of_element, variables_of_element}
 ghost use Rattle.st_rules.specs.Declarations.{is_standard, is_taken, twice_declared};
 
 use crate::initial_scopes::{repeat_in_fields, repeat_in_globals, repeat_in_variables};
-use crate::names::{first_repeat, is_among};
+use crate::names::{first_repeat, is_among, push_names};
 use crate::scopes::{
     globals_of, names_in, names_of_fields, names_of_resources, names_of_text, variables_of,
     variables_of_text,
@@ -39,6 +39,16 @@ fn repeat_in_structure_type(alloc: Global, fields: &[Field]) -> Result<Option<us
     repeat_in_fields(alloc, fields)
 }
 
+/// A name that an enumerated type has again.
+#[tactic(auto, using(crate::proofs::PlaceLemmas::first_front, crate::proofs::PlaceLemmas::first_behind))]
+fn repeat_in_enumeration(alloc: Global, names: &[Identifier]) -> Result<Option<usize>, AllocError>
+    ensures { IfOk result (λ place. place ≡ first (flat_map repeats (names.now ∷ []))) }
+{
+    let mut scope = Vec::new(alloc);
+    push_names(&mut scope, names)?;
+    Ok(first_repeat(&scope))
+}
+
 fn repeat_in_type(alloc: Global, definition: &TypeDefinition) -> Result<Option<usize>, AllocError>
     ensures { IfOk result
         (λ place. place ≡ first (flat_map repeats (scopes_of_type (type_definition_view definition.now)))) }
@@ -46,6 +56,7 @@ fn repeat_in_type(alloc: Global, definition: &TypeDefinition) -> Result<Option<u
     match definition {
         TypeDefinition::Array(_) => Ok(None),
         TypeDefinition::Structure(fields) => repeat_in_structure_type(alloc, fields),
+        TypeDefinition::Enumeration(names) => repeat_in_enumeration(alloc, names),
     }
 }
 

@@ -1,6 +1,7 @@
 //! The types of the parts of an expression.
 
-ghost use Rattle.std.specs.Prelude.{◌≡◌, ◌&&◌, true};
+ghost use Rattle.std.specs.Prelude.{◌≡◌, ◌&&◌, true, List, []};
+ghost use Rattle.st_trees.specs.Declarations.{TypeDeclaration};
 ghost use Rattle.st_types.specs.Operators.{or_kind};
 ghost use Rattle.st_words.specs.Kinds.{row_of};
 ghost use Rattle.st_trees.specs.ExpressionViews.{expr_view, variable_view};
@@ -9,7 +10,7 @@ ghost use Rattle.st_types.specs.NameTypes.{Declared, kind_of_variable};
 ghost use Rattle.st_types.specs.Resolution.{is_joining, is_untyped_literal, is_untyped, is_whole_or_bits, taken_kind};
 ghost use Rattle.st_types.specs.Resolution.{kind_of_literal, own_kind, operand_kind};
 ghost use Rattle.st_rules.specs.Declarations.{is_there};
-ghost use Rattle.st_rules.specs.Expressions.{kind_of_name, place_of_literal, place_of_variable, first_byte, is_plain};
+ghost use Rattle.st_rules.specs.Expressions.{is_plain_literal, kind_of_name, place_of_literal, place_of_variable, first_byte, is_plain};
 ghost use Rattle.st_rules.specs.Expressions.{kind_or_taken, kind_at, takes_operand, takes_operands, is_operation};
 
 use crate::lookup::kind_of_name;
@@ -24,6 +25,7 @@ pub fn place_of_literal(literal: &Literal) -> usize
         Literal::Number(number) => number.place,
         Literal::Truth(place, _) => *place,
         Literal::Duration(place, _) => *place,
+        Literal::Enumerated(value) => value.place,
     }
 }
 
@@ -127,12 +129,15 @@ pub fn kind_or_taken(expected: Option<Kind>, own: Option<Kind>) -> Kind
 
 /// The type of a literal that has one of its own.
 pub fn kind_of_literal(literal: &Literal) -> Option<Kind>
-    ensures { result ≡ kind_of_literal literal.now }
+    ensures alone { result ≡ kind_of_literal [] literal.now }
+    ensures plain { is_plain_literal literal.now ≡ true → (ts : List TypeDeclaration)
+        → result ≡ kind_of_literal ts literal.now }
 {
     match literal {
         Literal::Number(number) => number.written,
         Literal::Truth(_, _) => Some(Kind::Bool),
         Literal::Duration(_, _) => Some(Kind::Time),
+        Literal::Enumerated(_) => None,
     }
 }
 
@@ -224,7 +229,7 @@ fn takes_operands(operator: BinaryOperator, sort: Sort) -> bool
         BinaryOperator::Less
         | BinaryOperator::Greater
         | BinaryOperator::LessOrEqual
-        | BinaryOperator::GreaterOrEqual => !matches!(sort, Sort::Truth),
+        | BinaryOperator::GreaterOrEqual => !matches!(sort, Sort::Truth | Sort::Place),
     }
 }
 

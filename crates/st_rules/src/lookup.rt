@@ -3,19 +3,26 @@
 ghost use Rattle.std.specs.Prelude.{◌≡◌, option_and_then};
 ghost use Rattle.st_trees.specs.ExpressionViews.{variable_view};
 ghost use Rattle.st_trees.specs.UnitViews.{unit_view};
-ghost use Rattle.st_types.specs.NameTypes.{kind_of_type, result_kind, variable_type};
+ghost use Rattle.st_types.specs.NameTypes.{kind_of_type, result_type, variable_type};
 ghost use Rattle.st_rules.specs.Declarations.{is_there};
 ghost use Rattle.st_rules.specs.Expressions.{kind_of_name};
 
-use st_trees::{Unit, UnitSort, Variable};
+use st_trees::{SimpleType, Unit, UnitSort, Variable};
 use st_types::lookup::{is_named, kind_of_type, type_in_blocks};
 use st_words::{Kind, Name};
 
-fn result_kind(sort: UnitSort) -> Option<Kind>
-    ensures { result ≡ result_kind sort }
+fn has_result(sort: &UnitSort) -> bool
+    ensures { result ≡ is_there (result_type sort.now) }
+{
+    matches!(sort, UnitSort::Function(_))
+}
+
+/// The elementary type of a function's result.
+fn result_kind(sort: &UnitSort) -> Option<Kind>
+    ensures { result ≡ option_and_then kind_of_type (result_type sort.now) }
 {
     match sort {
-        UnitSort::Function(kind, _) => Some(kind),
+        UnitSort::Function(SimpleType::Elementary(kind, _)) => Some(*kind),
         _ => None,
     }
 }
@@ -25,7 +32,7 @@ pub fn is_declared(unit: &Unit, name: &Name) -> bool
     ensures { result ≡ is_there (variable_type (unit_view unit.now) name.now) }
 {
     if is_named(name, &unit.name) {
-        result_kind(unit.sort).is_some()
+        has_result(&unit.sort)
     } else {
         type_in_blocks(&unit.blocks, name).is_some()
     }
@@ -36,7 +43,7 @@ fn kind_named(unit: &Unit, name: &Name) -> Option<Kind>
     ensures { result ≡ option_and_then kind_of_type (variable_type (unit_view unit.now) name.now) }
 {
     if is_named(name, &unit.name) {
-        result_kind(unit.sort)
+        result_kind(&unit.sort)
     } else {
         kind_of_type(type_in_blocks(&unit.blocks, name)?)
     }
