@@ -2,15 +2,17 @@
 
 ghost use Rattle.std.specs.Prelude.{◌≡◌, ◌&&◌, true, List, []};
 ghost use Rattle.st_trees.specs.Declarations.{TypeDeclaration};
+ghost use Rattle.st_trees.specs.Expressions.{read};
 ghost use Rattle.st_types.specs.Operators.{or_kind};
 ghost use Rattle.st_words.specs.Kinds.{row_of};
 ghost use Rattle.st_trees.specs.ExpressionViews.{expr_view, variable_view};
 ghost use Rattle.st_trees.specs.UnitViews.{unit_view};
-ghost use Rattle.st_types.specs.NameTypes.{Declared, kind_of_variable};
+ghost use Rattle.st_types.specs.NameTypes.{Declared};
 ghost use Rattle.st_types.specs.Resolution.{is_joining, is_untyped_literal, is_untyped, is_whole_or_bits, taken_kind};
 ghost use Rattle.st_types.specs.Resolution.{kind_of_literal, own_kind, operand_kind};
 ghost use Rattle.st_rules.specs.Declarations.{is_there};
-ghost use Rattle.st_rules.specs.Expressions.{is_plain_literal, kind_of_name, place_of_literal, place_of_variable, first_byte, is_plain};
+ghost use Rattle.st_rules.specs.Expressions.{kind_of_name, place_of_literal, place_of_variable, first_byte, is_plain};
+ghost use Rattle.st_rules.specs.Expressions.{is_plain_literal};
 ghost use Rattle.st_rules.specs.Expressions.{kind_or_taken, kind_at, takes_operand, takes_operands, is_operation};
 
 use crate::lookup::kind_of_name;
@@ -43,12 +45,18 @@ pub fn first_byte(expression: &Expr) -> usize
     }
 }
 
+fn is_plain_literal(literal: &Literal) -> bool
+    ensures { result ≡ is_plain_literal literal.now }
+{
+    !matches!(literal, Literal::Enumerated(_))
+}
+
 /// Whether the expression is of literals, names of elementary variables, parentheses and operators.
 pub fn is_plain(unit: &Unit, expression: &Expr) -> bool
     ensures { result ≡ is_plain (unit_view unit.now) (expr_view expression.now) }
 {
     match expression {
-        Expr::Literal(_) => true,
+        Expr::Literal(literal) => is_plain_literal(literal),
         Expr::Variable(variable) => kind_of_name(unit, variable).is_some(),
         Expr::Call(_, _) => false,
         Expr::Parenthesis(_, inner) => is_plain(unit, inner),
@@ -141,11 +149,11 @@ pub fn kind_of_literal(literal: &Literal) -> Option<Kind>
     }
 }
 
-/// The type of a variable that is a name alone.
-#[tactic(auto, using(crate::proofs::KindLemmas::kind_of_plain_name))]
-fn kind_of_variable(unit: &Unit, variable: &Variable) -> Option<Kind>
+/// The type of a variable that is a name alone, where it is read.
+#[tactic(auto, using(crate::proofs::KindLemmas::kind_of_plain_read))]
+fn kind_read(unit: &Unit, variable: &Variable) -> Option<Kind>
     requires { is_there (kind_of_name (unit_view unit.now) (variable_view variable.now)) ≡ true }
-    ensures { (text : Declared) → result ≡ kind_of_variable text (unit_view unit.now) (variable_view variable.now) }
+    ensures { (text : Declared) → result ≡ own_kind text (unit_view unit.now) (read (variable_view variable.now)) }
 {
     kind_of_name(unit, variable)
 }
@@ -158,7 +166,7 @@ fn own_kind(unit: &Unit, expression: &Expr) -> Option<Kind>
 {
     match expression {
         Expr::Literal(literal) => kind_of_literal(literal),
-        Expr::Variable(variable) => kind_of_variable(unit, variable),
+        Expr::Variable(variable) => kind_read(unit, variable),
         Expr::Call(_, _) => None,
         Expr::Parenthesis(_, inner) => own_kind(unit, inner),
         Expr::Unary(_, _, operand) => own_kind(unit, operand),
