@@ -7,7 +7,7 @@ use Rattle.std.specs.Ordering.{int_eq}
 use Rattle.std.proofs.lemmas.List.{length-set}
 use Rattle.std.proofs.lemmas.Bool.Decides.{nat_tests, Decides-int_eq}
 use Rattle.st_words.specs.declared.kind.Kind.{Kind}
-use Rattle.st_words.specs.Kinds.{same_kind, kind_index}
+use Rattle.st_words.specs.Kinds.{same_kind, kind_index, names_in, number_of_type}
 use Rattle.st_words.specs.Values.{Datum, same_datum}
 use Rattle.st_words.specs.Paths.{same_path}
 use Rattle.st_types.specs.Scopes.{Name, unowned}
@@ -139,7 +139,8 @@ same_datum_is a b h =
     ∙ ap (datum b.kind) ((Decides-int_eq a.number b.number).0 p.1)
 
 same_datum_itself : (a : Datum) → same_datum a a ≡ true
-same_datum_itself a = let k : same_kind a.kind a.kind ≡ true = same_itself (kind_index a.kind) in
+same_datum_itself a = let k : same_kind a.kind a.kind ≡ true =
+    rw (same_itself (kind_index a.kind), same_itself (names_in a.kind), same_itself (number_of_type a.kind)) refl in
     let n = (Decides-int_eq a.number a.number).1 refl in rw (k, n) refl
 
 value_is : (o : Option Datum) (v : Datum) → is_value o v ≡ true → o ≡ Some v
