@@ -23,7 +23,8 @@ use Rattle.st_statements.proofs.Sound.{Told, Any, told_as}
 use Rattle.st_statements.proofs.SoundReadings.{told_by, sound_number}
 use Rattle.st_statements.proofs.SoundExpressions.{LowExpr, Low, told_expr}
 use Rattle.st_statements.proofs.SoundInitials.{LowInitial, told_initial}
-use Rattle.st_statements.proofs.SoundStatements.{LowStmts, told_stmts}
+use Rattle.st_statements.proofs.SoundSimple.{LowStmts}
+use Rattle.st_statements.proofs.SoundStatements.{told_stmts}
 use Rattle.st_statements.proofs.Complete.{number_complete}
 use Rattle.st_statements.proofs.CompleteExpressions.{expr_complete}
 use Rattle.st_statements.proofs.CompleteInitials.{initial_complete}

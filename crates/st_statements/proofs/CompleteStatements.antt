@@ -1,14 +1,16 @@
 -- What is a statement is read.
-use Rattle.std.proofs.Common.{◌≡◌, ℕ, zero, suc, ◌+◌, ◌-◌, ◌≤◌, max, Bool, true, false, List, [], ◌∷◌, Option, Some, Ok}
-use Rattle.std.proofs.Common.{refl, ap, subst, ◌∙◌, arith}
+use Rattle.std.proofs.Common.{true≢false, ◌≡◌, ℕ, zero, suc, ◌+◌, ◌-◌, ◌≤◌, max, Bool, true, false, List, [], ◌∷◌}
+use Rattle.std.proofs.Common.{Option, Some, Ok, refl, ap, subst, ◌∙◌, arith, ◌<◌, ◌||◌, ◌++◌, length, None, sym}
+use Rattle.std.proofs.Common.{append_assoc, inl, inr}
 use Rattle.st_words.specs.declared.identifier.Identifier.{Identifier}
 use Rattle.st_words.specs.declared.literal.Number.{Number as NumberLeaf}
 use Rattle.st_lex.specs.declared.token.TokenKind.{TokenKind}
-use Rattle.st_lex.specs.declared.token.TokenKind.TheVariants.{Name, Keyword, Mark, Number}
+use Rattle.st_lex.specs.declared.token.TokenKind.TheVariants.{Name, Keyword, Mark, Number, Enumerated}
 use Rattle.st_lex.specs.declared.mark.Mark.TheVariants as m
 use Rattle.st_lex.specs.declared.keyword.Keyword.{Keyword as KeywordType}
 use Rattle.st_lex.specs.declared.keyword.Keyword.TheVariants as w
 use Rattle.st_trees.specs.declared.statement.Label.{Label}
+use Rattle.st_trees.specs.declared.statement.Label.TheVariants as label_forms
 use Rattle.st_trees.specs.Expressions.{Expr, Variable, Selector, selectors_of}
 use Rattle.st_trees.specs.Expressions as e
 use Rattle.st_trees.specs.Statements.{Argument, Stmt, Arm, CaseArm, stmts_of, arms_of, case_arms_of}
@@ -16,30 +18,39 @@ use Rattle.st_trees.specs.Statements as s
 use Rattle.st_trees.specs.Depths.{depth_of, depth_of_variable, depth_of_step, depth_of_argument, deepest_argument}
 use Rattle.st_trees.specs.Depths.{depth_of_stmt, deepest_stmt, deepest_arm, deepest_case_arm, deepest_subscript}
 use Rattle.st_statements.specs.Tokens.{Tokens, next, Is, is, Passes, mark, keyword, name, is_mark, is_keyword}
-use Rattle.st_statements.specs.Tokens.{is_number, same_mark, same_keyword, IsNumber, plain, negative}
-use Rattle.st_statements.specs.Parsers.{Parser, by_kind, after_comma, listed, between}
+use Rattle.st_statements.specs.Tokens.{is_number, same_mark, same_keyword, IsNumber, plain, negative, is_name, is_value}
+use Rattle.st_statements.specs.Tokens.{name_in, value, value_at, value_in}
+use Rattle.st_statements.specs.Parsers.{Parser, by_kind, after_comma, listed, between, Outcome, and_then, loops, turns}
 use Rattle.st_statements.specs.ExpressionReading.{starts_selector, continues, expr_at, variable_at}
 use Rattle.st_statements.specs.StatementReading.{starts_number, starts_stmt, range_of, label_at, exit_at, return_at}
 use Rattle.st_statements.specs.StatementReading.{assign_of, given_of, copied_of, argument_at, arguments_at, invoke_of}
-use Rattle.st_statements.specs.StatementReading.{named_at, by_at, step_at, bounds_at, arm_at, elsif_at, otherwise_at, else_at}
-use Rattle.st_statements.specs.StatementReading.{if_at, case_arm_at, choices_at, case_at, for_at, while_at, repeat_at, stmt_by}
-use Rattle.st_statements.specs.StatementReading.{stmt_at, lines, line_at, stmts_at}
-use Rattle.st_statements.specs.Expressions.{IsVariable, selected, IsSelectors}
+use Rattle.st_statements.specs.StatementReading.{named_at, by_at, step_at, bounds_at, arm_at, elsif_at, otherwise_at}
+use Rattle.st_statements.specs.StatementReading.{else_at, if_at, choices_at, case_at, for_at, while_at, repeat_at}
+use Rattle.st_statements.specs.StatementReading.{stmt_by, stmt_at, lines, line_at, stmts_at, starts_label, starts_part}
+use Rattle.st_statements.specs.StatementReading.{ends_label, number_label_at, named_label_at, label_of, head_of}
+use Rattle.st_statements.specs.StatementReading.{head_at, Arms, first_arm, all_arms, with_arm, with_stmt, next_arm_of}
+use Rattle.st_statements.specs.StatementReading.{label_part, closed, named_of, named_line_of, named_line_part}
+use Rattle.st_statements.specs.StatementReading.{named_part, line_part, part_at, some_arms_at, case_arms_at}
+use Rattle.st_statements.specs.Expressions.{IsVariable, selected, IsSelectors, no_selector, selector, member, subscript}
 use Rattle.st_statements.specs.Statements.{IsArgument, given, copied, IsMoreArguments, no_more_arguments, next_argument}
-use Rattle.st_statements.specs.Statements.{IsArguments, no_argument, argument, IsLabel, single, range, IsMoreLabels}
-use Rattle.st_statements.specs.Statements.{no_more_labels, next_label, IsLabels, labels, IsStep, no_step, step, IsStmt}
-use Rattle.st_statements.specs.Statements.{empty, assign, invoke, choose, select, count, repeat_while, repeat_until}
-use Rattle.st_statements.specs.Statements.{exit, leave, IsStmts, no_stmt, stmt, IsElse, no_else, otherwise, IsArm, arm}
-use Rattle.st_statements.specs.Statements.{IsMoreArms, no_more_arms, elsif, IsCaseArm, case_arm, IsCaseArms}
+use Rattle.st_statements.specs.Statements.{IsArguments, no_argument, argument, IsLabel, single, range, named}
+use Rattle.st_statements.specs.Statements.{IsMoreLabels, no_more_labels, next_label, IsLabels, labels, IsStep, no_step}
+use Rattle.st_statements.specs.Statements.{step, IsStmt, empty, assign, invoke, choose, select, count, repeat_while}
+use Rattle.st_statements.specs.Statements.{repeat_until, exit, leave, IsStmts, no_stmt, stmt, IsElse, no_else}
+use Rattle.st_statements.specs.Statements.{otherwise, IsArm, arm, IsMoreArms, no_more_arms, elsif, case_arm, IsCaseArms}
 use Rattle.st_statements.specs.Statements.{no_case_arm, next_case_arm}
 use Rattle.st_statements.proofs.ExpressionFacts.{is_less}
-use Rattle.st_statements.proofs.StatementFacts.{argument_less, label_less, arm_less, case_arm_less, stmt_less}
-use Rattle.st_statements.proofs.StatementFacts.{stmt_some}
+use Rattle.st_statements.proofs.StatementFacts.{argument_less, arm_less, stmt_less, stmt_some, labels_less, label_less}
 use Rattle.st_statements.proofs.Complete.{one_complete, mark_kind, keyword_kind, name_in_is, mark_head, keyword_head}
 use Rattle.st_statements.proofs.Complete.{name_head, whole_head, number_complete, Repeats, repeats_halt, repeats_step}
 use Rattle.st_statements.proofs.Complete.{several_complete, after_comma_complete, comma_next, listed_complete}
 use Rattle.st_statements.proofs.CompleteExpressions.{Stops, stops_all, close_stops, comma_stops, open_first}
 use Rattle.st_statements.proofs.CompleteExpressions.{expr_complete, variable_of_complete}
+use Rattle.std.proofs.lemmas.Bool.{cases_Bool}
+use Rattle.std.proofs.lemmas.List.{append-nil}
+use Rattle.st_words.specs.declared.literal.EnumeratedValue.{EnumeratedValue}
+use Rattle.st_lex.specs.declared.token.Token.{Token}
+use Rattle.st_statements.proofs.SoundTurns.{halts, turn_is}
 
 -- ---- what stands after
 
@@ -71,27 +82,51 @@ step_stops (step x p i eq) d = keyword_stops w.By p refl
 
 -- ---- labels
 
-number_kind : (k : TokenKind) → is_number k ≡ true → (starts_number k ≡ true) × (starts_stmt k ≡ false)
-number_kind (Number x) eq = (refl, refl)
+-- one of two kinds
+pub or_left : (f g : TokenKind → Bool) (ts : Tokens) → next f ts ≡ true → next (λ k. f k || g k) ts ≡ true
+or_left f g [] eq = absurd cc
+or_left f g (t ∷ ts) eq = rw eq refl
+
+pub or_right : (f g : TokenKind → Bool) (ts : Tokens) → next g ts ≡ true → next (λ k. f k || g k) ts ≡ true
+or_right f g [] eq = absurd cc
+or_right f g (t ∷ ts) eq = other (f t.kind) (g t.kind) eq
+  where
+    other : (a b : Bool) → b ≡ true → a || b ≡ true
+    other true b eq = refl
+    other false b eq = eq
+
+number_kind : (k : TokenKind) → is_number k ≡ true
+    → (starts_number k ≡ true) × (is_value k ≡ false) × (is_name k ≡ false)
+number_kind (Number x) eq = (refl, refl, refl)
 number_kind _ eq = absurd cc
 
-number_next : (ts : Tokens) → next is_number ts ≡ true → (next starts_number ts ≡ true) × (next starts_stmt ts ≡ false)
+abbrev StartsNumber : Tokens → Type 0
+StartsNumber ts = (next starts_number ts ≡ true) × (next is_value ts ≡ false) × (next is_name ts ≡ false)
+
+number_next : (ts : Tokens) → next is_number ts ≡ true → StartsNumber ts
 number_next [] eq = absurd cc
 number_next (t ∷ ts) eq = number_kind t.kind eq
 
-number_head : {ts us : Tokens} {n : NumberLeaf} → IsNumber ts n us
-    → (next starts_number ts ≡ true) × (next starts_stmt ts ≡ false)
+number_head : {ts us : Tokens} {n : NumberLeaf} → IsNumber ts n us → StartsNumber ts
 unfolding same_mark
 number_head {ts = ts} (plain p) = number_next ts (whole_head p)
-number_head (negative at k p q eq) = (mark_head m.Minus starts_number p, mark_head m.Minus starts_stmt p)
+number_head (negative at k p q eq) =
+    (mark_head m.Minus starts_number p, mark_head m.Minus is_value p, mark_head m.Minus is_name p)
 
-label_head : {ts us : Tokens} {l : Label} → IsLabel ts l us
-    → (next starts_number ts ≡ true) × (next starts_stmt ts ≡ false)
-label_head (single n i eq) = number_head i
-label_head (range a b i o j eq) = number_head i
+value_kind : (at : ℕ) (k : TokenKind) (v : EnumeratedValue) → value_in at k ≡ Some v → is_value k ≡ true
+value_kind at (Name n) v eq = refl
+value_kind at (Enumerated t n) v eq = refl
+value_kind at _ v eq = absurd cc
 
-labels_head : {ts us : Tokens} {xs : List Label} → IsLabels ts xs us
-    → (next starts_number ts ≡ true) × (next starts_stmt ts ≡ false)
+value_head : {ts us : Tokens} {v : EnumeratedValue} → Is value ts v us → next is_value ts ≡ true
+value_head {v = v} (is {t} eq) = value_kind t.start t.kind v eq
+
+label_head : {ts us : Tokens} {l : Label} → IsLabel ts l us → next starts_label ts ≡ true
+label_head {ts = ts} (single n i eq) = let h = number_head i in or_left starts_number is_value ts h.0
+label_head {ts = ts} (range a b i o j eq) = let h = number_head i in or_left starts_number is_value ts h.0
+label_head {ts = ts} (named v i eq) = or_right starts_number is_value ts (value_head i)
+
+labels_head : {ts us : Tokens} {xs : List Label} → IsLabels ts xs us → next starts_label ts ≡ true
 labels_head (labels i r) = label_head i
 
 labels_plain : {us vs ws : Tokens} {xs : List Label} → IsMoreLabels us xs vs → Passes (mark m.Colon) vs ws
@@ -102,10 +137,13 @@ labels_plain (next_label p i r) c = mark_head m.Comma (is_mark m.Range) p.1
 
 label_complete : {ts us : Tokens} {l : Label} → IsLabel ts l us → next (is_mark m.Range) us ≡ false
     → label_at ts ≡ Ok (l, us)
-unfolding label_at range_of same_mark
-label_complete (single n i eq) bare = rw (number_complete i, bare, eq) refl
-label_complete (range a b i o j eq) bare = let h = mark_head m.Range (is_mark m.Range) o.1 in
-    rw (number_complete i, h, one_complete o.1, number_complete j, eq) refl
+unfolding label_at named_label_at number_label_at range_of same_mark
+label_complete (single n i eq) bare = let h = number_head i in rw (h.1, number_complete i, bare, eq) refl
+label_complete (range a b i o j eq) bare =
+    let h = number_head i in
+    let d = mark_head m.Range (is_mark m.Range) o.1 in
+    rw (h.1, number_complete i, d, one_complete o.1, number_complete j, eq) refl
+label_complete (named v i eq) bare = rw (value_head i, one_complete i, eq) refl
 
 colon_no_comma : {ts us : Tokens} → Passes (mark m.Colon) ts us → next (is_mark m.Comma) ts ≡ false
 unfolding same_mark
@@ -125,10 +163,107 @@ more_labels_complete (next_label {ts} {us} {vs} {ws} {x} {xs} p i r) c =
     repeats_step (is_mark m.Comma) (after_comma label_at) ts vs ws x xs (comma_next p)
     (after_comma_complete label_at p (label_complete i (labels_plain r c))) (omega arith) (more_labels_complete r c)
 
-labels_complete : {ts us vs : Tokens} {xs : List Label} → IsLabels ts xs us → Passes (mark m.Colon) us vs
-    → listed label_at ts ≡ Ok (xs, us)
-labels_complete (labels i r) c =
-    listed_complete label_at (label_complete i (labels_plain r c)) (more_labels_complete r c)
+head_of_complete : {us vs ws : Tokens} {ls : List Label} (l : Label) → IsMoreLabels us ls vs
+    → Passes (mark m.Colon) vs ws → head_of l us ≡ Ok (l ∷ ls, ws)
+unfolding head_of
+head_of_complete {us = us} {vs = vs} {ls = ls} l r c = rw (
+  several_complete (is_mark m.Comma) (after_comma label_at) us vs (l ∷ []) ls (more_labels_complete r c),
+  one_complete c.1,
+) refl
+
+head_complete : {ts us vs : Tokens} {ls : List Label} → IsLabels ts ls us → Passes (mark m.Colon) us vs
+    → head_at ts ≡ Ok (ls, vs)
+unfolding head_at
+head_complete (labels {x = l} i r) c = rw (label_complete i (labels_plain r c), head_of_complete l r c) refl
+
+-- ---- the arms of a CASE, part by part
+
+label_ends : {us vs ws : Tokens} {ls : List Label} → IsMoreLabels us ls vs → Passes (mark m.Colon) vs ws
+    → next ends_label us ≡ true
+unfolding same_mark
+label_ends no_more_labels c = mark_head m.Colon ends_label c.1
+label_ends (next_label p i r) c = mark_head m.Comma ends_label p.1
+
+-- a value that is a name alone
+abbrev Alone : Token → EnumeratedValue → Type 0
+Alone t v = (x : Identifier) × (name t ≡ Some x) × (v ≡ value_at x.place None x.name)
+
+alone : (t : Token) (v : EnumeratedValue) → value t ≡ Some v → is_name t.kind ≡ true → Alone t v
+alone t v eq hit = let a = by_kind_of t.start t.kind v eq hit in (a.0, a.1, a.2)
+  where
+    given : {a b : EnumeratedValue} → Some a ≡ Some b → a ≡ b
+    given eq = cc
+
+    by_kind_of : (at : ℕ) (k : TokenKind) (v : EnumeratedValue) → value_in at k ≡ Some v → is_name k ≡ true
+        → (x : Identifier) × (name_in at k ≡ Some x) × (v ≡ value_at x.place None x.name)
+    by_kind_of at (Name n) v eq hit = (record { name = n; place = at }, refl, sym (given eq))
+    by_kind_of at _ v eq hit = absurd cc
+
+named_label : {ts us : Tokens} {l : Label} → IsLabel ts l us → next is_name ts ≡ true
+    → (x : Identifier) × Is name ts x us × (l ≡ label_of x)
+named_label (single n i eq) hit = let h = number_head i in absurd (true≢false (sym hit ∙ h.2))
+named_label (range a b i o j eq) hit = let h = number_head i in absurd (true≢false (sym hit ∙ h.2))
+named_label (named v (is {t} o) eq) hit =
+    let a = alone t v o hit in
+    (a.0, is a.1, eq ∙ ap label_forms.Enumerated a.2)
+
+selectors_end : {us vs ws : Tokens} {xs : List Selector} → IsSelectors us xs vs → Passes (mark m.Assign) vs ws
+    → next ends_label us ≡ false
+unfolding same_mark
+selectors_end no_selector o = mark_head m.Assign ends_label o.1
+selectors_end (selector (member x p n eq) r) o = mark_head m.Dot ends_label p.1
+selectors_end (selector (subscript x p i c eq) r) o = mark_head m.OpenBracket ends_label p.1
+
+module _ (below : ℕ) (line : Parser Stmt) where
+  abbrev Arrives : Arms → Tokens → List CaseArm → Tokens → Type 0
+  Arrives a ts arms us = (n : ℕ) → length ts ≤ n
+      → (z : Arms) × (loops starts_part (part_at below line) n a ts ≡ Ok (z, us)) × (all_arms z ≡ arms)
+
+  arrived : (a : Arms) (ts : Tokens) → next starts_part ts ≡ false → Arrives a ts (all_arms a) ts
+  arrived a ts eq n le = (a, halts starts_part (part_at below line) n a ts eq, refl)
+
+  onward : (a a' : Arms) (ts us vs : Tokens) (arms : List CaseArm) → next starts_part ts ≡ true
+      → part_at below line a ts ≡ Ok (a', us) → length us < length ts → Arrives a' us arms vs → Arrives a ts arms vs
+  onward a a' ts us vs arms hit eq less others zero le = absurd (omega arith)
+  onward a a' ts us vs arms hit eq less others (suc n) le =
+      let o = others n (omega arith) in (
+        o.0,
+        turn_is starts_part (part_at below line) n a ts hit
+            ∙ (ap (λ (r : Outcome Arms). and_then r (loops starts_part (part_at below line) n)) eq ∙ o.1),
+        o.2,
+      )
+
+  headed_by_name : (a : Arms) {ts us vs ws : Tokens} {x : Identifier} {ls : List Label} → Is name ts x us
+      → IsMoreLabels us ls vs → Passes (mark m.Colon) vs ws
+      → part_at below line a ts ≡ Ok (with_arm a (label_of x ∷ ls), ws)
+  unfolding part_at named_part next_arm_of
+  headed_by_name a {x = x} n r c =
+      rw (name_head is_name n, one_complete n, label_ends r c, head_of_complete (label_of x) r c) refl
+
+  headed_by_other : (a : Arms) {ts us vs ws : Tokens} {l : Label} {ls : List Label} → next is_name ts ≡ false
+      → IsLabel ts l us → IsMoreLabels us ls vs → Passes (mark m.Colon) vs ws
+      → part_at below line a ts ≡ Ok (with_arm a (l ∷ ls), ws)
+  unfolding part_at label_part next_arm_of
+  headed_by_other a {l = l} miss i r c =
+      rw (miss, label_head i, label_complete i (labels_plain r c), head_of_complete l r c) refl
+
+  headed_is : (a : Arms) {ts us vs : Tokens} {ls : List Label} → IsLabels ts ls us → Passes (mark m.Colon) us vs
+      → part_at below line a ts ≡ Ok (with_arm a ls, vs)
+  headed_is a {ts = ts} (labels {x = l} i r) c = elim (cases_Bool (next is_name ts)) [
+    | inl hit ↦ (let n = named_label i hit in rw n.2 (headed_by_name a n.1 r c))
+    | inr miss ↦ headed_by_other a miss i r c
+  ]
+
+  lined_is : (a : Arms) {ts us : Tokens} {x : Stmt} → next is_name ts ≡ false → next starts_label ts ≡ false
+      → line ts ≡ Ok (x, us) → part_at below line a ts ≡ Ok (with_stmt a x, us)
+  unfolding part_at line_part
+  lined_is a miss none eq = rw (miss, none, eq) refl
+
+  named_line_is : (a : Arms) {ts us vs : Tokens} {f : Identifier} {x : Stmt} → Is name ts f us
+      → next ends_label us ≡ false → named_line_of below f us ≡ Ok (x, vs)
+      → part_at below line a ts ≡ Ok (with_stmt a x, vs)
+  unfolding part_at named_part named_line_part
+  named_line_is a n none eq = rw (name_head is_name n, one_complete n, none, eq) refl
 
 -- ---- arguments
 
@@ -226,102 +361,99 @@ step_complete below (step {ts} {us} {vs} {o} x p i eq) d low =
     let h = keyword_head w.By (is_keyword w.By) p.1 in
     rw (h, one_complete p.1, expr_complete below i low' (do_stops d), eq) refl
 
-module _ (below : ℕ) (stmts : Parser (List Stmt)) where
+module _ (below : ℕ) (line : Parser Stmt) where
   assign_complete : {ts us vs ws zs : Tokens} {x : Identifier} {xs : List Selector} {value : Expr} → Is name ts x us
       → IsSelectors us xs vs → deepest_subscript (selectors_of xs) ≤ below - 1 → Passes (mark m.Assign) vs ws
       → expr_at below 1 ws ≡ Ok (value, zs)
-      → stmt_at below stmts ts ≡ Ok (s.assign (e.variable x (selectors_of xs)) value, zs)
-  unfolding stmt_at named_at assign_of same_mark
+      → stmt_at below line ts ≡ Ok (s.assign (e.variable x (selectors_of xs)) value, zs)
+  unfolding stmt_at named_at named_of assign_of same_mark
   assign_complete {us = us} {vs = vs} {x = x} {xs = xs} n i low o eq =
       let bare = open_first i (mark_head m.Assign (is_mark m.Open) o.1) in
       let stop = mark_head m.Assign starts_selector o.1 in
-      by_name (stmt_by below stmts) n
+      by_name (stmt_by below line) n
       ∙ rw (one_complete n, bare, variable_of_complete (below - 1) us vs x xs i low stop, one_complete o.1, eq) refl
 
   invoke_complete : {ts us vs ws zs : Tokens} {f : Identifier} {xs : List Argument} → Is name ts f us
       → Passes (mark m.Open) us vs → arguments_at below vs ≡ Ok (xs, ws) → Passes (mark m.Close) ws zs
-      → stmt_at below stmts ts ≡ Ok (s.invoke f xs, zs)
-  unfolding stmt_at named_at invoke_of same_mark
+      → stmt_at below line ts ≡ Ok (s.invoke f xs, zs)
+  unfolding stmt_at named_at named_of invoke_of same_mark
   invoke_complete n o eq c = let h = mark_head m.Open (is_mark m.Open) o.1 in
-      by_name (stmt_by below stmts) n ∙ rw (one_complete n, h, one_complete o.1, eq, one_complete c.1) refl
+      by_name (stmt_by below line) n ∙ rw (one_complete n, h, one_complete o.1, eq, one_complete c.1) refl
 
-  empty_complete : {ts us : Tokens} → Passes (mark m.Semicolon) ts us → stmt_at below stmts ts ≡ Ok (s.empty, ts)
+  empty_complete : {ts us : Tokens} → Passes (mark m.Semicolon) ts us → stmt_at below line ts ≡ Ok (s.empty, ts)
   unfolding stmt_at
-  empty_complete o = by_semicolon (stmt_by below stmts) o
+  empty_complete o = by_semicolon (stmt_by below line) o
 
-  exit_complete : {ts us : Tokens} {at : ℕ} → Is (keyword w.Exit) ts at us → stmt_at below stmts ts ≡ Ok (s.EXIT at, us)
+  exit_complete : {ts us : Tokens} {at : ℕ} → Is (keyword w.Exit) ts at us → stmt_at below line ts ≡ Ok (s.EXIT at, us)
   unfolding stmt_at exit_at
-  exit_complete {at = at} o = by_keyword (stmt_by below stmts) w.Exit (at, o) ∙ rw (one_complete o) refl
+  exit_complete {at = at} o = by_keyword (stmt_by below line) w.Exit (at, o) ∙ rw (one_complete o) refl
 
-  return_complete : {ts us : Tokens} → Passes (keyword w.Return) ts us → stmt_at below stmts ts ≡ Ok (s.RETURN, us)
+  return_complete : {ts us : Tokens} → Passes (keyword w.Return) ts us → stmt_at below line ts ≡ Ok (s.RETURN, us)
   unfolding stmt_at return_at
-  return_complete o = by_keyword (stmt_by below stmts) w.Return o ∙ rw (one_complete o.1) refl
+  return_complete o = by_keyword (stmt_by below line) w.Return o ∙ rw (one_complete o.1) refl
 
   -- ---- statements that hold statements
 
   arm_is : (ts us vs ws : Tokens) (x : Expr) (body : List Stmt) → expr_at below 1 ts ≡ Ok (x, us)
-      → Passes (keyword w.Then) us vs → stmts vs ≡ Ok (body, ws) → arm_at below stmts ts ≡ Ok ((x, stmts_of body), ws)
+      → Passes (keyword w.Then) us vs → lines line vs ≡ Ok (body, ws) → arm_at below line ts ≡ Ok ((x, stmts_of body), ws)
   unfolding arm_at
   arm_is ts us vs ws x body eq t same = rw (eq, one_complete t.1, same) refl
 
-  elsif_is : {ts us vs : Tokens} {a : Arm} → Passes (keyword w.Elsif) ts us → arm_at below stmts us ≡ Ok (a, vs)
-      → elsif_at below stmts ts ≡ Ok (a, vs)
+  elsif_is : {ts us vs : Tokens} {a : Arm} → Passes (keyword w.Elsif) ts us → arm_at below line us ≡ Ok (a, vs)
+      → elsif_at below line ts ≡ Ok (a, vs)
   unfolding elsif_at
   elsif_is p eq = rw (one_complete p.1) eq
 
-  otherwise_is : {ts us vs : Tokens} {xs : List Stmt} → Passes (keyword w.Else) ts us → stmts us ≡ Ok (xs, vs)
-      → else_at below stmts ts ≡ Ok (xs, vs)
+  otherwise_is : {ts us vs : Tokens} {xs : List Stmt} → Passes (keyword w.Else) ts us → lines line us ≡ Ok (xs, vs)
+      → else_at below line ts ≡ Ok (xs, vs)
   unfolding else_at otherwise_at same_keyword
   otherwise_is p eq = let h = keyword_head w.Else (is_keyword w.Else) p.1 in rw (h, one_complete p.1) eq
 
-  no_else_is : {ts : Tokens} → next (is_keyword w.Else) ts ≡ false → else_at below stmts ts ≡ Ok ([], ts)
+  no_else_is : {ts : Tokens} → next (is_keyword w.Else) ts ≡ false → else_at below line ts ≡ Ok ([], ts)
   unfolding else_at
   no_else_is other = rw other refl
 
   if_is : {ts us vs ws zs qs : Tokens} {a : Arm} {arms : List Arm} {other : List Stmt} → Passes (keyword w.If) ts us
-      → arm_at below stmts us ≡ Ok (a, vs) → Repeats (is_keyword w.Elsif) (elsif_at below stmts) vs arms ws
-      → else_at below stmts ws ≡ Ok (other, zs)
-      → Passes (keyword w.EndIf) zs qs → stmt_at below stmts ts ≡ Ok (s.IF (arms_of (a ∷ arms)) (stmts_of other), qs)
+      → arm_at below line us ≡ Ok (a, vs) → Repeats (is_keyword w.Elsif) (elsif_at below line) vs arms ws
+      → else_at below line ws ≡ Ok (other, zs)
+      → Passes (keyword w.EndIf) zs qs → stmt_at below line ts ≡ Ok (s.IF (arms_of (a ∷ arms)) (stmts_of other), qs)
   unfolding stmt_at if_at
   if_is {vs = vs} {ws = ws} {a = a} {arms = arms} o eq r same c =
-      by_keyword (stmt_by below stmts) w.If o ∙ rw (
+      by_keyword (stmt_by below line) w.If o ∙ rw (
         one_complete o.1,
         eq,
-        several_complete (is_keyword w.Elsif) (elsif_at below stmts) vs ws (a ∷ []) arms r,
+        several_complete (is_keyword w.Elsif) (elsif_at below line) vs ws (a ∷ []) arms r,
         same,
         one_complete c.1,
       ) refl
 
-  case_arm_is : (ts us vs ws : Tokens) (ls : List Label) (body : List Stmt) → listed label_at ts ≡ Ok (ls, us)
-      → Passes (mark m.Colon) us vs → stmts vs ≡ Ok (body, ws)
-      → case_arm_at below stmts ts ≡ Ok ((ls, stmts_of body), ws)
-  unfolding case_arm_at
-  case_arm_is ts us vs ws ls body eq c same = rw (eq, one_complete c.1, same) refl
+  some_arms_is : (ts us vs : Tokens) (ls : List Label) (arms : List CaseArm) → next starts_label ts ≡ true
+      → head_at ts ≡ Ok (ls, us) → Arrives below line (first_arm ls) us arms vs
+      → case_arms_at below line ts ≡ Ok (arms, vs)
+  unfolding case_arms_at some_arms_at turns
+  some_arms_is ts us vs ls arms hit eq others = let o = others (length us) (omega arith) in rw (hit, eq, o.1, o.2) refl
+
+  no_arms_is : {ts : Tokens} → next starts_label ts ≡ false → case_arms_at below line ts ≡ Ok ([], ts)
+  unfolding case_arms_at
+  no_arms_is miss = rw miss refl
 
   case_is : {ts us vs ws zs qs rs : Tokens} {x : Expr} {arms : List CaseArm} {other : List Stmt}
       → Passes (keyword w.Case) ts us → expr_at below 1 us ≡ Ok (x, vs) → Passes (keyword w.Of) vs ws
-      → Repeats starts_number (case_arm_at below stmts) ws arms zs
-      → else_at below stmts zs ≡ Ok (other, qs) → Passes (keyword w.EndCase) qs rs
-      → stmt_at below stmts ts ≡ Ok (s.CASE x (case_arms_of arms) (stmts_of other), rs)
+      → case_arms_at below line ws ≡ Ok (arms, zs)
+      → else_at below line zs ≡ Ok (other, qs) → Passes (keyword w.EndCase) qs rs
+      → stmt_at below line ts ≡ Ok (s.CASE x (case_arms_of arms) (stmts_of other), rs)
   unfolding stmt_at choices_at case_at
-  case_is {ws = ws} {zs = zs} {arms = arms} o eq p r same c =
-      by_keyword (stmt_by below stmts) w.Case o ∙ rw (
-        one_complete o.1,
-        eq,
-        one_complete p.1,
-        several_complete starts_number (case_arm_at below stmts) ws zs [] arms r,
-        same,
-        one_complete c.1,
-      ) refl
+  case_is o eq p arms same c = by_keyword (stmt_by below line) w.Case o
+      ∙ rw (one_complete o.1, eq, one_complete p.1, arms, same, one_complete c.1) refl
 
   for_is : {ts us vs ws zs qs rs ns os ps ms : Tokens} {x : Identifier} {start limit : Expr} {by : Option Expr}
       {body : List Stmt} → Passes (keyword w.For) ts us → Is name us x vs → Passes (mark m.Assign) vs ws
       → expr_at below 1 ws ≡ Ok (start, zs)
       → Passes (keyword w.To) zs qs → expr_at below 1 qs ≡ Ok (limit, rs) → step_at below rs ≡ Ok (by, ns)
-      → Passes (keyword w.Do) ns os → stmts os ≡ Ok (body, ps) → Passes (keyword w.EndFor) ps ms
-      → stmt_at below stmts ts ≡ Ok (s.FOR x start limit by (stmts_of body), ms)
+      → Passes (keyword w.Do) ns os → lines line os ≡ Ok (body, ps) → Passes (keyword w.EndFor) ps ms
+      → stmt_at below line ts ≡ Ok (s.FOR x start limit by (stmts_of body), ms)
   unfolding stmt_at bounds_at between for_at
-  for_is o n p eq t eq' st d same c = by_keyword (stmt_by below stmts) w.For o ∙ rw (
+  for_is o n p eq t eq' st d same c = by_keyword (stmt_by below line) w.For o ∙ rw (
     one_complete o.1,
     one_complete n,
     one_complete p.1,
@@ -335,19 +467,19 @@ module _ (below : ℕ) (stmts : Parser (List Stmt)) where
   ) refl
 
   while_is : {ts us vs ws zs qs : Tokens} {x : Expr} {body : List Stmt} → Passes (keyword w.While) ts us
-      → expr_at below 1 us ≡ Ok (x, vs) → Passes (keyword w.Do) vs ws → stmts ws ≡ Ok (body, zs)
+      → expr_at below 1 us ≡ Ok (x, vs) → Passes (keyword w.Do) vs ws → lines line ws ≡ Ok (body, zs)
       → Passes (keyword w.EndWhile) zs qs
-      → stmt_at below stmts ts ≡ Ok (s.WHILE x (stmts_of body), qs)
+      → stmt_at below line ts ≡ Ok (s.WHILE x (stmts_of body), qs)
   unfolding stmt_at between while_at
-  while_is o eq d same c = by_keyword (stmt_by below stmts) w.While o
+  while_is o eq d same c = by_keyword (stmt_by below line) w.While o
       ∙ rw (one_complete o.1, eq, one_complete d.1, same, one_complete c.1) refl
 
   repeat_is : {ts us vs ws zs qs : Tokens} {x : Expr} {body : List Stmt} → Passes (keyword w.Repeat) ts us
-      → stmts us ≡ Ok (body, vs) → Passes (keyword w.Until) vs ws → expr_at below 1 ws ≡ Ok (x, zs)
+      → lines line us ≡ Ok (body, vs) → Passes (keyword w.Until) vs ws → expr_at below 1 ws ≡ Ok (x, zs)
       → Passes (keyword w.EndRepeat) zs qs
-      → stmt_at below stmts ts ≡ Ok (s.REPEAT (stmts_of body) x, qs)
+      → stmt_at below line ts ≡ Ok (s.REPEAT (stmts_of body) x, qs)
   unfolding stmt_at repeat_at
-  repeat_is o same u eq c = by_keyword (stmt_by below stmts) w.Repeat o
+  repeat_is o same u eq c = by_keyword (stmt_by below line) w.Repeat o
       ∙ rw (one_complete o.1, same, one_complete u.1, eq, one_complete c.1) refl
 
 -- ---- where lists of statements end
@@ -363,14 +495,6 @@ arms_next : (f : TokenKind → Bool) {ts us vs ws : Tokens} {arms : List Arm} {x
 arms_next f no_more_arms i c a b d = else_next f w.EndIf i c b d
 arms_next f (elsif p x r) i c a b d = keyword_head w.Elsif f p.1 ∙ a
 
-case_arms_next : {ts us vs ws : Tokens} {arms : List CaseArm} {xs : List Stmt} → IsCaseArms ts arms us → IsElse us xs vs
-    → Passes (keyword w.EndCase) vs ws → next starts_stmt ts ≡ false
-case_arms_next no_case_arm i c = else_next starts_stmt w.EndCase i c refl refl
-case_arms_next (next_case_arm (case_arm ls body j p b q) r) i c = let h = labels_head j in h.1
-
-case_arm_next : {ts us : Tokens} {a : CaseArm} → IsCaseArm ts a us → next starts_number ts ≡ true
-case_arm_next (case_arm ls body j p b q) = let h = labels_head j in h.0
-
 pub stmt_next : {ts us vs : Tokens} {x : Stmt} → IsStmt ts x us → Passes (mark m.Semicolon) us vs
     → next starts_stmt ts ≡ true
 unfolding same_mark
@@ -378,14 +502,14 @@ stmt_next (empty q) o = mark_head m.Semicolon starts_stmt o.1
 stmt_next (assign v value (selected x xs n i r) p j q) o = name_head starts_stmt n
 stmt_next (invoke f xs n p i c q) o = name_head starts_stmt n
 stmt_next (choose arm' arms other p a b c d q) o = keyword_head w.If starts_stmt p.1
-stmt_next (select selector arms other p i r a b c q) o = keyword_head w.Case starts_stmt p.1
+stmt_next (select chosen arms other p i r a b c q) o = keyword_head w.Case starts_stmt p.1
 stmt_next (count control start limit by body p n r i t j st d b f q) o = keyword_head w.For starts_stmt p.1
 stmt_next (repeat_while condition body p i d b f q) o = keyword_head w.While starts_stmt p.1
 stmt_next (repeat_until body condition p b u i f q) o = keyword_head w.Repeat starts_stmt p.1
 stmt_next (exit at p q) o = keyword_head w.Exit starts_stmt p
 stmt_next (leave p q) o = keyword_head w.Return starts_stmt p.1
 
-line_complete : (below : ℕ) (ts us vs : Tokens) (x : Stmt) → stmt_at below (stmts_at below) ts ≡ Ok (x, us)
+line_complete : (below : ℕ) (ts us vs : Tokens) (x : Stmt) → stmt_at below (line_at below) ts ≡ Ok (x, us)
     → Passes (mark m.Semicolon) us vs → line_at (suc below) ts ≡ Ok (x, vs)
 unfolding line_at
 line_complete below ts us vs x eq o = rw (eq, one_complete o.1) refl
@@ -421,47 +545,86 @@ end_case_word : is_keyword w.Else (Keyword w.EndCase) ≡ false
 unfolding same_keyword
 end_case_word = refl
 
+-- an arm with other statements, and with more of them
+abbrev with_body : Arms → List Stmt → Arms
+with_body a xs = record { before = a.before; labels = a.labels; body = xs }
+
+abbrev with_stmts : Arms → List Stmt → Arms
+with_stmts a xs = with_body a (a.body ++ xs)
+
+line_named : (below : ℕ) {ts us : Tokens} {f : Identifier} → Is name ts f us
+    → line_at (suc below) ts ≡ named_line_of (suc below) f us
+unfolding line_at stmt_at named_at named_line_of
+line_named below n =
+    ap (λ (r : Outcome Stmt). and_then r closed) (by_name (stmt_by below (line_at below)) n) ∙ rw (one_complete n) refl
+
+-- a line in an arm
+line_part_is : {ts us vs : Tokens} {x : Stmt} → IsStmt ts x us → Passes (mark m.Semicolon) us vs → (below : ℕ)
+    → line_at (suc below) ts ≡ Ok (x, vs) → (a : Arms)
+    → part_at (suc below) (line_at (suc below)) a ts ≡ Ok (with_stmt a x, vs)
+unfolding same_mark
+line_part_is (empty q) o below eq a = lined_is (suc below) (line_at (suc below)) a
+    (mark_head m.Semicolon is_name o.1) (mark_head m.Semicolon starts_label o.1) eq
+line_part_is (assign v value (selected y xs n i r) p j q) o below eq a =
+    named_line_is (suc below) (line_at (suc below)) a n (selectors_end i p) (sym (line_named below n) ∙ eq)
+line_part_is (invoke f xs n p i c q) o below eq a = named_line_is (suc below) (line_at (suc below)) a n
+    (mark_head m.Open ends_label p.1) (sym (line_named below n) ∙ eq)
+line_part_is (choose y ys other p i r j c q) o below eq a = lined_is (suc below) (line_at (suc below)) a
+    (keyword_head w.If is_name p.1) (keyword_head w.If starts_label p.1) eq
+line_part_is (select chosen arms other p i d r j c q) o below eq a = lined_is (suc below) (line_at (suc below)) a
+    (keyword_head w.Case is_name p.1) (keyword_head w.Case starts_label p.1) eq
+line_part_is (count control start limit by body p n k i t j st d b c q) o below eq a =
+    lined_is (suc below) (line_at (suc below)) a (keyword_head w.For is_name p.1) (keyword_head w.For starts_label p.1) eq
+line_part_is (repeat_while condition body p i d b c q) o below eq a = lined_is (suc below) (line_at (suc below)) a
+    (keyword_head w.While is_name p.1) (keyword_head w.While starts_label p.1) eq
+line_part_is (repeat_until body condition p b u i c q) o below eq a = lined_is (suc below) (line_at (suc below)) a
+    (keyword_head w.Repeat is_name p.1) (keyword_head w.Repeat starts_label p.1) eq
+line_part_is (exit at p q) o below eq a = lined_is (suc below) (line_at (suc below)) a
+    (keyword_head w.Exit is_name p) (keyword_head w.Exit starts_label p) eq
+line_part_is (leave p q) o below eq a = lined_is (suc below) (line_at (suc below)) a
+    (keyword_head w.Return is_name p.1) (keyword_head w.Return starts_label p.1) eq
+
 mutual
   pub stmt_complete : {ts us vs : Tokens} {x : Stmt} → IsStmt ts x us → Passes (mark m.Semicolon) us vs → (below : ℕ)
-      → depth_of_stmt x ≤ below + 1 → stmt_at below (stmts_at below) ts ≡ Ok (x, us)
-  stmt_complete (empty {ts} {x} q) o below low = rw q (empty_complete below (stmts_at below) o)
+      → depth_of_stmt x ≤ below + 1 → stmt_at below (line_at below) ts ≡ Ok (x, us)
+  stmt_complete (empty {ts} {x} q) o below low = rw q (empty_complete below (line_at below) o)
   stmt_complete (assign {ts} {us} {vs} {ws} {x} v value (selected {v = v'} y xs n i r) p j q) o below low =
       let low' = lower x (s.assign v value) (below + 1) q low in
       let low'' : depth_of_variable (e.variable y (selectors_of xs)) ≤ below =
       subst (λ (z : Variable). depth_of_variable z ≤ below) r (omega arith) in
-      rw (q, r) (assign_complete below (stmts_at below) n i (omega arith) p
+      rw (q, r) (assign_complete below (line_at below) n i (omega arith) p
       (expr_complete below j (omega arith) (semicolon_stops o)))
   stmt_complete (invoke {ts} {us} {vs} {ws} {zs} {x} f xs n p i c q) o below low =
       let low' = lower x (s.invoke f xs) (below + 1) q low in
-      rw q (invoke_complete below (stmts_at below) n p (arguments_complete below i c (omega arith)) c)
+      rw q (invoke_complete below (line_at below) n p (arguments_complete below i c (omega arith)) c)
   stmt_complete (choose {ts} {us} {vs} {ws} {zs} {qs} {x} a arms other p i r j c q) o below low =
       let low' = lower x (s.IF (arms_of (a ∷ arms)) (stmts_of other)) (below + 1) q low in
       rw q
-      (if_is below (stmts_at below) p (arm_complete i below (omega arith) (arms_next starts_stmt r j c refl refl refl))
+      (if_is below (line_at below) p (arm_complete i below (omega arith) (arms_next starts_stmt r j c refl refl refl))
       (more_arms_complete r j c below (omega arith)) (else_complete w.EndIf j c refl end_if_word below (omega arith)) c)
-  stmt_complete (select {ts} {us} {vs} {ws} {zs} {qs} {rs} {x} selector arms other p i d r j c q) o below low =
-      let low' = lower x (s.CASE selector (case_arms_of arms) (stmts_of other)) (below + 1) q low in
-      rw q (case_is below (stmts_at below) p (expr_complete below i (omega arith) (of_stops d)) d
+  stmt_complete (select {ts} {us} {vs} {ws} {zs} {qs} {rs} {x} chosen arms other p i d r j c q) o below low =
+      let low' = lower x (s.CASE chosen (case_arms_of arms) (stmts_of other)) (below + 1) q low in
+      rw q (case_is below (line_at below) p (expr_complete below i (omega arith) (of_stops d)) d
       (case_arms_complete r j c below (omega arith))
       (else_complete w.EndCase j c refl end_case_word below (omega arith)) c)
   stmt_complete (count {ts} {us} {vs} {ws} {zs} {qs} {rs} {ns} {os} {ps} {ms} {x} control start limit by body p n a i t
       j st d b c q) o below low =
       let low' = lower x (s.FOR control start limit by (stmts_of body)) (below + 1) q low in
-      rw q (for_is below (stmts_at below) p n a (expr_complete below i (omega arith) (to_stops t)) t
+      rw q (for_is below (line_at below) p n a (expr_complete below i (omega arith) (to_stops t)) t
       (expr_complete below j (omega arith) (step_stops st d)) (step_complete below st d (omega arith)) d
       (lines_complete below os ps body
       (stmts_complete b below (omega arith) (keyword_head w.EndFor starts_stmt c.1))) c)
   stmt_complete (repeat_while {ts} {us} {vs} {ws} {zs} {qs} {x} condition body p i d b c q) o below low =
       let low' = lower x (s.WHILE condition (stmts_of body)) (below + 1) q low in
-      rw q (while_is below (stmts_at below) p (expr_complete below i (omega arith) (do_stops d)) d
+      rw q (while_is below (line_at below) p (expr_complete below i (omega arith) (do_stops d)) d
       (lines_complete below ws zs body
       (stmts_complete b below (omega arith) (keyword_head w.EndWhile starts_stmt c.1))) c)
   stmt_complete (repeat_until {ts} {us} {vs} {ws} {zs} {qs} {x} body condition p b u i c q) o below low =
       let low' = lower x (s.REPEAT (stmts_of body) condition) (below + 1) q low in
-      rw q (repeat_is below (stmts_at below) p (lines_complete below us vs body (stmts_complete b below (omega arith)
+      rw q (repeat_is below (line_at below) p (lines_complete below us vs body (stmts_complete b below (omega arith)
       (keyword_head w.Until starts_stmt u.1))) u (expr_complete below i (omega arith) (end_repeat_stops c)) c)
-  stmt_complete (exit {ts} {us} {x} at p q) o below low = rw q (exit_complete below (stmts_at below) p)
-  stmt_complete (leave {ts} {us} {x} p q) o below low = rw q (return_complete below (stmts_at below) p)
+  stmt_complete (exit {ts} {us} {x} at p q) o below low = rw q (exit_complete below (line_at below) p)
+  stmt_complete (leave {ts} {us} {x} p q) o below low = rw q (return_complete below (line_at below) p)
 
   pub stmts_complete : {ts us : Tokens} {xs : List Stmt} → IsStmts ts xs us → (depth : ℕ)
       → deepest_stmt (stmts_of xs) ≤ depth → next starts_stmt us ≡ false → Repeats starts_stmt (line_at depth) ts xs us
@@ -476,51 +639,82 @@ mutual
 
   arm_complete : {ts us : Tokens} {a : Arm} → IsArm ts a us → (below : ℕ)
       → max (depth_of a.0) (deepest_stmt a.1) ≤ below
-      → next starts_stmt us ≡ false → arm_at below (stmts_at below) ts ≡ Ok (a, us)
+      → next starts_stmt us ≡ false → arm_at below (line_at below) ts ≡ Ok (a, us)
   arm_complete (arm {ts} {us} {vs} {ws} {a} condition body i t b q) below low stop =
       let low' : max (depth_of condition) (deepest_stmt (stmts_of body)) ≤ below =
       subst (λ (z : Arm). max (depth_of z.0) (deepest_stmt z.1) ≤ below) q low in
-      rw q (arm_is below (stmts_at below) ts us vs ws condition body
+      rw q (arm_is below (line_at below) ts us vs ws condition body
       (expr_complete below i (omega arith) (then_stops t)) t
       (lines_complete below vs ws body (stmts_complete b below (omega arith) stop)))
 
   more_arms_complete : {ts us vs ws : Tokens} {arms : List Arm} {other : List Stmt} → IsMoreArms ts arms us
       → IsElse us other vs → Passes (keyword w.EndIf) vs ws → (below : ℕ) → deepest_arm (arms_of arms) ≤ below
-      → Repeats (is_keyword w.Elsif) (elsif_at below (stmts_at below)) ts arms us
+      → Repeats (is_keyword w.Elsif) (elsif_at below (line_at below)) ts arms us
   more_arms_complete (no_more_arms {ts}) j c below low =
-      repeats_halt (is_keyword w.Elsif) (elsif_at below (stmts_at below)) ts (no_elsif j c)
+      repeats_halt (is_keyword w.Elsif) (elsif_at below (line_at below)) ts (no_elsif j c)
   more_arms_complete (elsif {ts} {us} {vs} {ws} {x} {xs} p a r) j c below low =
       let less = is_less p.1 in
       let less' = arm_less a in
-      repeats_step (is_keyword w.Elsif) (elsif_at below (stmts_at below)) ts vs ws x xs (elsif_word p) (elsif_is below
-      (stmts_at below) p (arm_complete a below (omega arith) (arms_next starts_stmt r j c refl refl refl)))
+      repeats_step (is_keyword w.Elsif) (elsif_at below (line_at below)) ts vs ws x xs (elsif_word p) (elsif_is below
+      (line_at below) p (arm_complete a below (omega arith) (arms_next starts_stmt r j c refl refl refl)))
       (omega arith) (more_arms_complete r j c below (omega arith))
 
   else_complete : (x : KeywordType) {ts us vs : Tokens} {xs : List Stmt} → IsElse ts xs us → Passes (keyword x) us vs
       → starts_stmt (Keyword x) ≡ false → is_keyword w.Else (Keyword x) ≡ false → (below : ℕ)
-      → deepest_stmt (stmts_of xs) ≤ below → else_at below (stmts_at below) ts ≡ Ok (xs, us)
-  else_complete x no_else c a b below low = no_else_is below (stmts_at below) (no_else_word x c b)
-  else_complete x (otherwise {ts} {us} {vs} {xs} p i) c a b below low = otherwise_is below (stmts_at below) p
+      → deepest_stmt (stmts_of xs) ≤ below → else_at below (line_at below) ts ≡ Ok (xs, us)
+  else_complete x no_else c a b below low = no_else_is below (line_at below) (no_else_word x c b)
+  else_complete x (otherwise {ts} {us} {vs} {xs} p i) c a b below low = otherwise_is below (line_at below) p
       (lines_complete below us vs xs (stmts_complete i below low (keyword_head x starts_stmt c.1 ∙ a)))
 
-  case_arm_complete : {ts us : Tokens} {a : CaseArm} → IsCaseArm ts a us → (below : ℕ) → deepest_stmt a.1 ≤ below
-      → next starts_stmt us ≡ false → case_arm_at below (stmts_at below) ts ≡ Ok (a, us)
-  case_arm_complete (case_arm {ts} {us} {vs} {ws} {a} ls body i c b q) below low stop =
-      let low' : deepest_stmt (stmts_of body) ≤ below = subst (λ (z : CaseArm). deepest_stmt z.1 ≤ below) q low in
-      rw q (case_arm_is below (stmts_at below) ts us vs ws ls body (labels_complete i c) c
-      (lines_complete below vs ws body (stmts_complete b below low' stop)))
+  -- the statements of the last arm, and then what follows
+  arm_arrives : {ts us : Tokens} {xs : List Stmt} → IsStmts ts xs us → (depth : ℕ)
+      → deepest_stmt (stmts_of xs) ≤ depth → (a : Arms) (arms : List CaseArm) (vs : Tokens)
+      → Arrives depth (line_at depth) (with_stmts a xs) us arms vs → Arrives depth (line_at depth) a ts arms vs
+  arm_arrives (no_stmt {ts}) depth low a arms vs others = subst
+      (λ (ys : List Stmt). Arrives depth (line_at depth) (with_body a ys) ts arms vs) (append-nil a.body) others
+  arm_arrives (stmt {ts} {us} {vs} {ws} {x} {xs} i o r) zero low a arms zs others =
+      let some = stmt_some x in absurd (omega arith)
+  arm_arrives (stmt {ts} {us} {vs} {ws} {x} {xs} i o r) (suc below) low a arms zs others =
+      let less = stmt_less i in
+      let less' = is_less o.1 in
+      onward (suc below) (line_at (suc below)) a (with_stmt a x) ts vs zs arms
+      (or_right starts_label starts_stmt ts (stmt_next i o))
+      (line_part_is i o below (line_complete below ts us vs x (stmt_complete i o below (omega arith)) o) a) (omega arith)
+      (arm_arrives r (suc below) (omega arith) (with_stmt a x) arms zs
+      (subst (λ (ys : List Stmt). Arrives (suc below) (line_at (suc below)) (with_body a ys) ws arms zs)
+      (sym (append_assoc a.body (x ∷ []) xs)) others))
+
+  -- other arms behind those so far
+  arms_arrive : {ts us vs ws : Tokens} {arms : List CaseArm} {other : List Stmt} → IsCaseArms ts arms us
+      → IsElse us other vs → Passes (keyword w.EndCase) vs ws → (below : ℕ) → deepest_case_arm (case_arms_of arms)
+      ≤ below → (a : Arms) → Arrives below (line_at below) a ts (all_arms a ++ arms) us
+  arms_arrive (no_case_arm {ts}) j c below low a =
+      subst (λ (ys : List CaseArm). Arrives below (line_at below) a ts ys ts) (sym (append-nil (all_arms a)))
+      (arrived below (line_at below) a ts (else_next starts_part w.EndCase j c refl refl))
+  arms_arrive (next_case_arm {ts} {us} {vs} {x} {xs} (case_arm {us = ks} {vs = os} ls body i d b q) r) j c below low a =
+      let low' : deepest_stmt (stmts_of body) ≤ below =
+      subst (λ (z : CaseArm). deepest_stmt z.1 ≤ below) q (omega arith) in
+      let less = labels_less i in
+      let less' = is_less d.1 in
+      onward below (line_at below) a (with_arm a ls) ts os vs (all_arms a ++ x ∷ xs)
+      (or_left starts_label starts_stmt ts (labels_head i)) (headed_is below (line_at below) a i d) (omega arith)
+      (arm_arrives b below low' (with_arm a ls) (all_arms a ++ x ∷ xs) vs
+      (subst (λ (ys : List CaseArm). Arrives below (line_at below) (with_stmts (with_arm a ls) body) us ys vs)
+      (rw q (append_assoc (all_arms a) ((ls, stmts_of body) ∷ []) xs))
+      (arms_arrive r j c below (omega arith) (with_stmts (with_arm a ls) body))))
 
   case_arms_complete : {ts us vs ws : Tokens} {arms : List CaseArm} {other : List Stmt} → IsCaseArms ts arms us
       → IsElse us other vs → Passes (keyword w.EndCase) vs ws → (below : ℕ) → deepest_case_arm (case_arms_of arms)
-      ≤ below → Repeats starts_number (case_arm_at below (stmts_at below)) ts arms us
+      ≤ below → case_arms_at below (line_at below) ts ≡ Ok (arms, us)
   case_arms_complete (no_case_arm {ts}) j c below low =
-      repeats_halt starts_number (case_arm_at below (stmts_at below)) ts
-      (else_next starts_number w.EndCase j c refl refl)
-  case_arms_complete (next_case_arm {ts} {us} {vs} {x} {xs} a r) j c below low =
-      let less = case_arm_less a in
-      repeats_step starts_number (case_arm_at below (stmts_at below)) ts us vs x xs (case_arm_next a)
-      (case_arm_complete a below (omega arith) (case_arms_next r j c)) less
-      (case_arms_complete r j c below (omega arith))
+      no_arms_is below (line_at below) (else_next starts_label w.EndCase j c refl refl)
+  case_arms_complete (next_case_arm {ts} {us} {vs} {x} {xs} (case_arm {us = ks} {vs = os} ls body i d b q) r) j c below
+      low =
+      let low' : deepest_stmt (stmts_of body) ≤ below =
+      subst (λ (z : CaseArm). deepest_stmt z.1 ≤ below) q (omega arith) in
+      some_arms_is below (line_at below) ts os vs ls (x ∷ xs) (labels_head i) (head_complete i d)
+      (arm_arrives b below low' (first_arm ls) (x ∷ xs) vs
+      (rw q (arms_arrive r j c below (omega arith) (with_stmts (first_arm ls) body))))
 
 pub all_complete : (depth : ℕ) {ts us : Tokens} {xs : List Stmt} → IsStmts ts xs us → deepest_stmt (stmts_of xs) ≤ depth
     → next starts_stmt us ≡ false → stmts_at depth ts ≡ Ok (xs, us)

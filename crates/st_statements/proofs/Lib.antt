@@ -7,6 +7,8 @@ pub mod ExpressionFacts
 pub mod SoundExpressions
 pub mod SoundInitials
 pub mod StatementFacts
+pub mod SoundSimple
+pub mod SoundChoices
 pub mod SoundStatements
 pub mod Complete
 pub mod CompleteExpressions

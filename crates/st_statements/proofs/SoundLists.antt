@@ -16,7 +16,7 @@ abbrev pub Each : {A : Type 0} → (A → Type 0) → List A → Type 0
 Each L [] = Unit {0}
 Each L (x ∷ xs) = L x × Each L xs
 
-each_push : {A : Type 0} (L : A → Type 0) (found : List A) (x : A) → Each L found → L x → Each L (found ++ x ∷ [])
+pub each_push : {A : Type 0} (L : A → Type 0) (found : List A) (x : A) → Each L found → L x → Each L (found ++ x ∷ [])
 each_push L [] x all l = (l, tt)
 each_push L (y ∷ found) x all l = (all.0, each_push L found x all.1 l)
 
@@ -99,10 +99,16 @@ module _ {A : Type 0} (P : Family A) (One : Grammar A) (Rest List1 : Grammar (Li
   all_listed : (ts : Tokens) (ys : List A) (vs : Tokens) → Seq One (λ x. Others (x ∷ [])) ts ys vs → List1 ts ys vs
   all_listed ts ys vs s = subst (λ (zs : List A). List1 ts zs vs) (sym s.3.2) (make ts s.0 s.1 s.3.0 vs s.2 s.3.1)
 
+  -- items behind a first one
+  pub sound_more : {C : Type 0} (x : A) → (C → L x) → Sound C P One (λ x us. L x)
+      → Sound C (λ e. several (is_mark m.Comma) (after_comma (P e)) (x ∷ []))
+      (λ ts ys us. (xs : List A) × Rest ts xs us × (ys ≡ (x ∷ []) ++ xs))
+      (λ xs us. Each L xs × (next (is_mark m.Comma) us ≡ false))
+  sound_more x low p = sound_several (is_mark m.Comma) (λ e. after_comma (P e)) Comma Rest L nil rest_cons
+      (λ ts x us c. comma_less ts c.0 c.1 x us c.2 c.3) (x ∷ []) (λ c. (low c, tt)) (sound_after_comma p)
+
   pub sound_listed : {C : Type 0} → Sound C P One (λ x us. L x)
       → Sound C (λ e. listed (P e)) List1 (λ xs us. Each L xs × (next (is_mark m.Comma) us ≡ false))
   unfolding listed
   sound_listed p = sound_as all_listed (λ x us d. d) (sound_then p (λ x.
-      sound_several (is_mark m.Comma) (λ e. after_comma (P e)) Comma Rest L nil rest_cons
-      (λ ts x us c. comma_less ts c.0 c.1 x us c.2 c.3) (x ∷ []) (λ c. (c.1.1, tt))
-      (sound_after_comma (sound_under (λ c. c.0) p))))
+      sound_as (λ ts ys us r. r) (λ x us d. d) (sound_more x (λ c. c.1.1) (sound_under (λ c. c.0) p))))

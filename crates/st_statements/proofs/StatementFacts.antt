@@ -10,12 +10,12 @@ use Rattle.st_trees.specs.Depths.{depth_of, depth_of_argument, deepest_argument,
 use Rattle.st_trees.specs.Depths.{deepest_arm, deepest_case_arm}
 use Rattle.st_statements.specs.Tokens.{Tokens, Is, mark, IsNumber, plain, negative}
 use Rattle.st_statements.specs.Statements.{IsArgument, given, copied, IsMoreArguments, no_more_arguments, next_argument}
-use Rattle.st_statements.specs.Statements.{IsArguments, no_argument, argument, IsLabel, single, range, IsMoreLabels}
-use Rattle.st_statements.specs.Statements.{no_more_labels, next_label, IsLabels, labels, IsStep, no_step, step, IsStmt}
-use Rattle.st_statements.specs.Statements.{empty, assign, invoke, choose, select, count, repeat_while, repeat_until}
-use Rattle.st_statements.specs.Statements.{exit, leave, IsStmts, no_stmt, stmt, IsElse, no_else, otherwise, IsArm, arm}
-use Rattle.st_statements.specs.Statements.{IsMoreArms, no_more_arms, elsif, IsCaseArm, case_arm, IsCaseArms}
-use Rattle.st_statements.specs.Statements.{no_case_arm, next_case_arm}
+use Rattle.st_statements.specs.Statements.{IsArguments, no_argument, argument, IsLabel, single, range, named}
+use Rattle.st_statements.specs.Statements.{IsMoreLabels, no_more_labels, next_label, IsLabels, labels, IsStep, no_step}
+use Rattle.st_statements.specs.Statements.{step, IsStmt, empty, assign, invoke, choose, select, count, repeat_while}
+use Rattle.st_statements.specs.Statements.{repeat_until, exit, leave, IsStmts, no_stmt, stmt, IsElse, no_else}
+use Rattle.st_statements.specs.Statements.{otherwise, IsArm, arm, IsMoreArms, no_more_arms, elsif, IsCaseArm, case_arm}
+use Rattle.st_statements.specs.Statements.{IsCaseArms, no_case_arm, next_case_arm}
 use Rattle.st_statements.specs.Laws.{Grammar}
 use Rattle.st_statements.proofs.Sound.{Seq, Made, made}
 use Rattle.st_statements.proofs.SoundLists.{Each}
@@ -40,6 +40,7 @@ arguments_less (argument i r) = let a = argument_less i in let b = more_argument
 
 pub label_less : {ts us : Tokens} {l : Label} → IsLabel ts l us → length us < length ts
 label_less (single n i eq) = number_less i
+label_less (named v i eq) = is_less i
 label_less (range a b i o j eq) = let a' = number_less i in let b' = is_less o.1 in let c' = number_less j in
     omega arith
 

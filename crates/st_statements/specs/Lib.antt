@@ -10,4 +10,5 @@ pub mod Initials
 pub mod InitialReading
 pub mod Statements
 pub mod StatementReading
+pub mod ArmsView
 pub mod Limits

@@ -1,6 +1,7 @@
 -- The grammar of statements.
 use Rattle.std.specs.Prelude.{◌≡◌, ℕ, List, [], ◌∷◌, Option, Some, None}
 use Rattle.st_words.specs.declared.identifier.Identifier.{Identifier}
+use Rattle.st_words.specs.declared.literal.EnumeratedValue.{EnumeratedValue}
 use Rattle.st_words.specs.declared.literal.Number.{Number}
 use Rattle.st_lex.specs.declared.mark.Mark.TheVariants as m
 use Rattle.st_lex.specs.declared.keyword.Keyword.TheVariants as w
@@ -9,7 +10,7 @@ use Rattle.st_trees.specs.declared.statement.Label.TheVariants as label_forms
 use Rattle.st_trees.specs.Expressions.{Expr, Variable}
 use Rattle.st_trees.specs.Statements.{Argument, Stmt, Arm, CaseArm, stmts_of, arms_of, case_arms_of}
 use Rattle.st_trees.specs.Statements as s
-use Rattle.st_statements.specs.Tokens.{Tokens, mark, keyword, name, Is, Passes, IsNumber}
+use Rattle.st_statements.specs.Tokens.{Tokens, mark, keyword, name, value, Is, Passes, IsNumber}
 use Rattle.st_statements.specs.Expressions.{IsExpr, IsVariable}
 
 pub data IsArgument : Tokens → Argument → Tokens → Type 0 where
@@ -32,6 +33,8 @@ pub data IsLabel : Tokens → Label → Tokens → Type 0 where
   single : {ts us : Tokens} {l : Label} (n : Number) → IsNumber ts n us → l ≡ label_forms.Single n → IsLabel ts l us
   range : {ts us vs ws : Tokens} {l : Label} (least greatest : Number) → IsNumber ts least us
       → Passes (mark m.Range) us vs → IsNumber vs greatest ws → l ≡ label_forms.Range least greatest → IsLabel ts l ws
+  named : {ts us : Tokens} {l : Label} (v : EnumeratedValue) → Is value ts v us → l ≡ label_forms.Enumerated v
+      → IsLabel ts l us
 
 pub data IsMoreLabels : Tokens → List Label → Tokens → Type 0 where
   no_more_labels : {ts : Tokens} → IsMoreLabels ts [] ts

@@ -46,6 +46,12 @@ abbrev pub is_number : TokenKind → Bool
 is_number (Number n) = true
 is_number k = false
 
+-- whether it may be a value of an enumerated type
+abbrev pub is_value : TokenKind → Bool
+is_value (Name x) = true
+is_value (Enumerated t x) = true
+is_value k = false
+
 -- What one token stands for. A mark or a keyword stands for its place.
 abbrev pub mark : MarkType → Token → Option ℕ
 mark x t = if is_mark x t.kind then Some t.start else None
@@ -94,6 +100,14 @@ whole t = whole_in t.start t.kind
 -- a value of an enumerated type, with its type or alone
 abbrev pub value_at : ℕ → Option (List ℕ) → List ℕ → EnumeratedValue
 value_at at t x = record { place = at; type_name = t; name = x }
+
+abbrev pub value_in : ℕ → TokenKind → Option EnumeratedValue
+value_in at (Name x) = Some (value_at at None x)
+value_in at (Enumerated t x) = Some (value_at at (Some t) x)
+value_in at k = None
+
+abbrev pub value : Token → Option EnumeratedValue
+value t = value_in t.start t.kind
 
 abbrev pub literal_in : ℕ → TokenKind → Option Literal
 literal_in at (Number n) = Some (literals.Number (unsigned at n))

@@ -9,6 +9,8 @@
 #![tactic(auto)]
 
 mod argument;
+mod arms;
+mod choice;
 mod expression;
 mod fault;
 mod initial;

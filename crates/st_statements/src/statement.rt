@@ -1,34 +1,33 @@
 //! Statements.
 
-ghost use Rattle.std.specs.Prelude.{◌≡◌, ◌≤◌, ◌<◌, [], ◌∷◌, List, option_map};
+ghost use Rattle.std.specs.Prelude.{◌≡◌, ◌≤◌, ◌<◌, [], ◌∷◌, option_map};
 ghost use Rattle.st_words.specs.declared.limits.TheConstants.{MAX_DEPTH};
 ghost use Rattle.st_lex.specs.declared.keyword.Keyword.TheVariants as words;
 ghost use Rattle.st_trees.specs.ExpressionViews.{expr_view};
-ghost use Rattle.st_trees.specs.Statements as statements;
-ghost use Rattle.st_trees.specs.StatementViews.{stmt_view, arm_view, case_arm_view};
+ghost use Rattle.st_trees.specs.StatementViews.{stmt_view, arm_view};
 ghost use Rattle.st_statements.specs.Tokens.{next, is_keyword};
-ghost use Rattle.st_statements.specs.Parsers.{Reads, each, Parser, between};
+ghost use Rattle.st_statements.specs.Parsers.{Reads, each, between};
 ghost use Rattle.st_statements.specs.Parsers as parsers;
 ghost use Rattle.st_statements.specs.Calls.{CallsRead};
 ghost use Rattle.st_statements.specs.StatementReading as reading;
 
 use crate::argument::arguments;
+use crate::choice::case_stmt;
 use crate::expression::{expr, variable_of};
 use crate::fault::ReadError;
-use crate::label::labels;
 use crate::list::several;
 use crate::pair::beside;
-use crate::tokens::{begins, is_mark, keyword, leads, mark, name, refused, sunk};
+use crate::tokens::{begins, keyword, leads, mark, name, refused, sunk};
 use st_lex::{Keyword, Mark, Token, TokenKind};
-use st_trees::{Arm, CaseArm, Expr, Stmt};
+use st_trees::{Arm, Expr, Stmt};
 use st_words::Identifier;
 use std::alloc::Global;
 
 /// A statement and the tokens after it.
-type Found<'a> = Result<(Stmt, &'a [Token]), ReadError>;
+pub type Found<'a> = Result<(Stmt, &'a [Token]), ReadError>;
 
 /// Statements and the tokens after them.
-type Block<'a> = Result<(Vec<Stmt>, &'a [Token]), ReadError>;
+pub type Block<'a> = Result<(Vec<Stmt>, &'a [Token]), ReadError>;
 
 /// A condition with its statements and the tokens after them.
 type FoundArm<'a> = Result<(Arm, &'a [Token]), ReadError>;
@@ -36,25 +35,7 @@ type FoundArm<'a> = Result<(Arm, &'a [Token]), ReadError>;
 /// Where a FOR begins and ends, its step, and the tokens after them.
 type FoundBounds<'a> = Result<((Expr, Expr, Option<Expr>), &'a [Token]), ReadError>;
 
-/// The arms of a CASE with the statements behind its ELSE, and the tokens after them.
-type FoundChoices<'a> = Result<((Vec<CaseArm>, Vec<Stmt>), &'a [Token]), ReadError>;
-
-/// Labels with their statements and the tokens after them.
-type FoundCaseArm<'a> = Result<(CaseArm, &'a [Token]), ReadError>;
-
-fn starts_number(tokens: &[Token]) -> bool
-    ensures { result ≡ next reading.starts_number tokens.now }
-{
-    match tokens {
-        [t, ..] => match &t.kind {
-            TokenKind::Number(_) => true,
-            _ => is_mark(Mark::Minus, &t.kind),
-        },
-        [] => false,
-    }
-}
-
-fn starts_stmt(tokens: &[Token]) -> bool
+pub fn starts_stmt(tokens: &[Token]) -> bool
     ensures { result ≡ next reading.starts_stmt tokens.now }
 {
     match tokens {
@@ -72,6 +53,16 @@ fn starts_stmt(tokens: &[Token]) -> bool
         ),
         [] => false,
     }
+}
+
+/// Whether what goes on after the first name of a statement comes next.
+fn goes_on_named(tokens: &[Token]) -> bool
+    ensures { result ≡ next reading.goes_on_named tokens.now }
+{
+    begins(Mark::Open, tokens)
+        || begins(Mark::Assign, tokens)
+        || begins(Mark::Dot, tokens)
+        || begins(Mark::OpenBracket, tokens)
 }
 
 /// `exit_stmt = "EXIT" .`
@@ -121,17 +112,55 @@ fn invoke_of<'a>(
     Ok((Stmt::invoke(instance, found), rest))
 }
 
-/// `named = name, ( invoke_of | assign_of ) .`
+/// `named_of = invoke_of | assign_of .`
+/// A statement after its first name.
+#[tactic(auto, unfolding(crate::specs::StatementReading::named_of))]
+fn named_of<'a>(alloc: Global, below: usize, first: Identifier, tokens: &'a [Token]) -> Found<'a>
+    requires { below < MAX_DEPTH }
+    ensures { Reads stmt_view result (reading.named_of below first tokens.now) }
+{
+    if begins(Mark::Open, tokens) {
+        return invoke_of(alloc, below, first, tokens);
+    }
+    assign_of(alloc, below, first, tokens)
+}
+
+/// `named = name, named_of .`
 #[tactic(auto, unfolding(crate::specs::StatementReading::named_at))]
 fn named(alloc: Global, below: usize, tokens: &[Token]) -> Found<'_>
     requires { below < MAX_DEPTH }
     ensures { Reads stmt_view result (reading.named_at below tokens.now) }
 {
-    let (found, rest) = name(alloc, tokens)?;
-    if begins(Mark::Open, rest) {
-        return invoke_of(alloc, below, found, rest);
+    let (first, rest) = name(alloc, tokens)?;
+    named_of(alloc, below, first, rest)
+}
+
+/// `closed = ";" .`
+/// A statement with the semicolon behind it.
+fn closed(found: Stmt, tokens: &[Token]) -> Found<'_>
+    ensures { Reads stmt_view result (reading.closed (stmt_view found) tokens.now) }
+{
+    let ((found, _), rest) = beside(found, mark(Mark::Semicolon, tokens))?;
+    Ok((found, rest))
+}
+
+/// `named_line_of = named_of, ";" .`
+/// A statement of at most a depth with its semicolon, after its first name.
+#[tactic(auto, unfolding(crate::specs::StatementReading::named_line_of))]
+pub fn named_line_of<'a>(
+    alloc: Global,
+    depth: usize,
+    first: Identifier,
+    tokens: &'a [Token],
+) -> Found<'a>
+    requires { depth ≤ MAX_DEPTH }
+    ensures { Reads stmt_view result (reading.named_line_of depth first tokens.now) }
+{
+    if depth == 0 {
+        return Err(sunk(goes_on_named(tokens), tokens));
     }
-    assign_of(alloc, below, found, rest)
+    let (found, rest) = named_of(alloc, depth - 1, first, tokens)?;
+    closed(found, rest)
 }
 
 /// `step = [ "BY", expr ] .`
@@ -166,74 +195,91 @@ fn bounds(alloc: Global, below: usize, tokens: &[Token]) -> FoundBounds<'_>
     Ok(((start, limit, by), rest))
 }
 
-/// `block(first, last) = first, stmts, last .`
+/// `lines = { line } .`
+/// Statements, each with its semicolon.
+pub fn lines<'a, L: Fn(&[Token]) -> Found<'_>>(
+    alloc: Global,
+    below: usize,
+    tokens: &'a [Token],
+    line: &L,
+) -> Block<'a>
+    requires line { L.IsAlwaysCallable line.now }
+    requires reads { CallsRead stmt_view (L.post line.now) (reading.line_at below) }
+    ensures { Reads (each stmt_view) result (reading.stmts_at below tokens.now) }
+{
+    several(Vec::new(alloc), tokens, starts_stmt, |tokens| line(tokens))
+}
+
+/// `block(first, last) = first, lines, last .`
 #[tactic(auto, unfolding(crate::specs::Parsers::between))]
-fn block<'a, I: Fn(&[Token]) -> Block<'_>>(
+fn block<'a, L: Fn(&[Token]) -> Found<'_>>(
+    alloc: Global,
+    below: usize,
     first: Keyword,
     last: Keyword,
     tokens: &'a [Token],
-    inner: &I,
+    line: &L,
 ) -> Block<'a>
-    requires inner { I.IsAlwaysCallable inner.now }
-    ensures { (p : Parser (List statements.Stmt)) → CallsRead (each stmt_view) (I.post inner.now) p
-        → Reads (each stmt_view) result (between first last p tokens.now) }
+    requires line { L.IsAlwaysCallable line.now }
+    requires reads { CallsRead stmt_view (L.post line.now) (reading.line_at below) }
+    ensures { Reads (each stmt_view) result (between first last (reading.stmts_at below) tokens.now) }
 {
     let (_, rest) = keyword(first, tokens)?;
-    let (body, rest) = inner(rest)?;
+    let (body, rest) = lines(alloc, below, rest, line)?;
     let (_, rest) = keyword(last, rest)?;
     Ok((body, rest))
 }
 
-/// `arm = expr, "THEN", stmts .`
+/// `arm = expr, "THEN", lines .`
 #[tactic(auto, unfolding(crate::specs::StatementReading::arm_at))]
-fn arm<'a, I: Fn(&[Token]) -> Block<'_>>(
+fn arm<'a, L: Fn(&[Token]) -> Found<'_>>(
     alloc: Global,
     below: usize,
     tokens: &'a [Token],
-    inner: &I,
+    line: &L,
 ) -> FoundArm<'a>
     requires below { below < MAX_DEPTH }
-    requires inner { I.IsAlwaysCallable inner.now }
-    requires reads { CallsRead (each stmt_view) (I.post inner.now) (reading.stmts_at below) }
-    ensures { Reads arm_view result (reading.arm_at below (reading.stmts_at below) tokens.now) }
+    requires line { L.IsAlwaysCallable line.now }
+    requires reads { CallsRead stmt_view (L.post line.now) (reading.line_at below) }
+    ensures { Reads arm_view result (reading.arm_at below (reading.line_at below) tokens.now) }
 {
     let (condition, rest) = expr(alloc, below, 1, tokens)?;
     let ((condition, _), rest) = beside(condition, keyword(Keyword::Then, rest))?;
-    let ((condition, body), rest) = beside(condition, inner(rest))?;
+    let ((condition, body), rest) = beside(condition, lines(alloc, below, rest, line))?;
     Ok((Arm { condition, body }, rest))
 }
 
 /// `elsif = "ELSIF", arm .`
 #[tactic(auto, unfolding(crate::specs::StatementReading::elsif_at))]
-fn elsif<'a, I: Fn(&[Token]) -> Block<'_>>(
+fn elsif<'a, L: Fn(&[Token]) -> Found<'_>>(
     alloc: Global,
     below: usize,
     tokens: &'a [Token],
-    inner: &I,
+    line: &L,
 ) -> FoundArm<'a>
     requires below { below < MAX_DEPTH }
-    requires inner { I.IsAlwaysCallable inner.now }
-    requires reads { CallsRead (each stmt_view) (I.post inner.now) (reading.stmts_at below) }
-    ensures { Reads arm_view result (reading.elsif_at below (reading.stmts_at below) tokens.now) }
+    requires line { L.IsAlwaysCallable line.now }
+    requires reads { CallsRead stmt_view (L.post line.now) (reading.line_at below) }
+    ensures { Reads arm_view result (reading.elsif_at below (reading.line_at below) tokens.now) }
 {
     let (_, rest) = keyword(Keyword::Elsif, tokens)?;
-    arm(alloc, below, rest, inner)
+    arm(alloc, below, rest, line)
 }
 
 /// `more_arms = { elsif } .`
 /// Arms behind a first one.
-fn arms_behind<'a, I: Fn(&[Token]) -> Block<'_>>(
+fn arms_behind<'a, L: Fn(&[Token]) -> Found<'_>>(
     alloc: Global,
     below: usize,
     first: Arm,
     tokens: &'a [Token],
-    inner: &I,
+    line: &L,
 ) -> Result<(Vec<Arm>, &'a [Token]), ReadError>
     requires below { below < MAX_DEPTH }
-    requires inner { I.IsAlwaysCallable inner.now }
-    requires reads { CallsRead (each stmt_view) (I.post inner.now) (reading.stmts_at below) }
+    requires line { L.IsAlwaysCallable line.now }
+    requires reads { CallsRead stmt_view (L.post line.now) (reading.line_at below) }
     ensures { Reads (each arm_view) result
-        (parsers.several (is_keyword words.Elsif) (reading.elsif_at below (reading.stmts_at below))
+        (parsers.several (is_keyword words.Elsif) (reading.elsif_at below (reading.line_at below))
         (arm_view first ∷ []) tokens.now) }
 {
     let mut found = Vec::new(alloc);
@@ -242,143 +288,63 @@ fn arms_behind<'a, I: Fn(&[Token]) -> Block<'_>>(
         found,
         tokens,
         |tokens| leads(Keyword::Elsif, tokens),
-        |tokens| elsif(alloc, below, tokens, inner),
+        |tokens| elsif(alloc, below, tokens, line),
     )
 }
 
-/// `else = [ "ELSE", stmts ] .`
+/// `else = [ "ELSE", lines ] .`
 #[tactic(auto, unfolding(crate::specs::StatementReading::else_at, crate::specs::StatementReading::otherwise_at))]
-fn else_part<'a, I: Fn(&[Token]) -> Block<'_>>(
+pub fn else_part<'a, L: Fn(&[Token]) -> Found<'_>>(
     alloc: Global,
     below: usize,
     tokens: &'a [Token],
-    inner: &I,
+    line: &L,
 ) -> Block<'a>
     requires below { below < MAX_DEPTH }
-    requires inner { I.IsAlwaysCallable inner.now }
-    requires reads { CallsRead (each stmt_view) (I.post inner.now) (reading.stmts_at below) }
-    ensures { Reads (each stmt_view) result (reading.else_at below (reading.stmts_at below) tokens.now) }
+    requires line { L.IsAlwaysCallable line.now }
+    requires reads { CallsRead stmt_view (L.post line.now) (reading.line_at below) }
+    ensures { Reads (each stmt_view) result (reading.else_at below (reading.line_at below) tokens.now) }
 {
     if leads(Keyword::Else, tokens) {
         let (_, rest) = keyword(Keyword::Else, tokens)?;
-        return inner(rest);
+        return lines(alloc, below, rest, line);
     }
     Ok((Vec::new(alloc), tokens))
 }
 
 /// `if_stmt = "IF", arm, more_arms, else, "END_IF" .`
 #[tactic(auto, unfolding(crate::specs::StatementReading::if_at))]
-fn if_stmt<'a, I: Fn(&[Token]) -> Block<'_>>(
+fn if_stmt<'a, L: Fn(&[Token]) -> Found<'_>>(
     alloc: Global,
     below: usize,
     tokens: &'a [Token],
-    inner: &I,
+    line: &L,
 ) -> Found<'a>
     requires below { below < MAX_DEPTH }
-    requires inner { I.IsAlwaysCallable inner.now }
-    requires reads { CallsRead (each stmt_view) (I.post inner.now) (reading.stmts_at below) }
-    ensures { Reads stmt_view result (reading.if_at below (reading.stmts_at below) tokens.now) }
+    requires line { L.IsAlwaysCallable line.now }
+    requires reads { CallsRead stmt_view (L.post line.now) (reading.line_at below) }
+    ensures { Reads stmt_view result (reading.if_at below (reading.line_at below) tokens.now) }
 {
     let (_, rest) = keyword(Keyword::If, tokens)?;
-    let (first, rest) = arm(alloc, below, rest, inner)?;
-    let (arms, rest) = arms_behind(alloc, below, first, rest, inner)?;
-    let (other, rest) = else_part(alloc, below, rest, inner)?;
+    let (first, rest) = arm(alloc, below, rest, line)?;
+    let (arms, rest) = arms_behind(alloc, below, first, rest, line)?;
+    let (other, rest) = else_part(alloc, below, rest, line)?;
     let (_, rest) = keyword(Keyword::EndIf, rest)?;
     Ok((Stmt::choose(arms, other), rest))
 }
 
-/// `case_arm = labels, ":", stmts .`
-#[tactic(auto, unfolding(crate::specs::StatementReading::case_arm_at))]
-fn case_arm<'a, I: Fn(&[Token]) -> Block<'_>>(
-    alloc: Global,
-    below: usize,
-    tokens: &'a [Token],
-    inner: &I,
-) -> FoundCaseArm<'a>
-    requires below { below < MAX_DEPTH }
-    requires inner { I.IsAlwaysCallable inner.now }
-    requires reads { CallsRead (each stmt_view) (I.post inner.now) (reading.stmts_at below) }
-    ensures { Reads case_arm_view result (reading.case_arm_at below (reading.stmts_at below) tokens.now) }
-{
-    let (labels, rest) = labels(alloc, tokens)?;
-    let (_, rest) = mark(Mark::Colon, rest)?;
-    let (body, rest) = inner(rest)?;
-    Ok((CaseArm { labels, body }, rest))
-}
-
-/// `case_arms = { case_arm } .`
-fn case_arms<'a, I: Fn(&[Token]) -> Block<'_>>(
-    alloc: Global,
-    below: usize,
-    tokens: &'a [Token],
-    inner: &I,
-) -> Result<(Vec<CaseArm>, &'a [Token]), ReadError>
-    requires below { below < MAX_DEPTH }
-    requires inner { I.IsAlwaysCallable inner.now }
-    requires reads { CallsRead (each stmt_view) (I.post inner.now) (reading.stmts_at below) }
-    ensures { Reads (each case_arm_view) result
-        (parsers.several reading.starts_number (reading.case_arm_at below (reading.stmts_at below)) [] tokens.now) }
-{
-    several(
-        Vec::new(alloc),
-        tokens,
-        starts_number,
-        |tokens| case_arm(alloc, below, tokens, inner),
-    )
-}
-
-/// `choices = "OF", case_arms, else, "END_CASE" .`
-#[tactic(auto, unfolding(crate::specs::StatementReading::choices_at))]
-fn choices<'a, I: Fn(&[Token]) -> Block<'_>>(
-    alloc: Global,
-    below: usize,
-    tokens: &'a [Token],
-    inner: &I,
-) -> FoundChoices<'a>
-    requires below { below < MAX_DEPTH }
-    requires inner { I.IsAlwaysCallable inner.now }
-    requires reads { CallsRead (each stmt_view) (I.post inner.now) (reading.stmts_at below) }
-    ensures { Reads (λ c. (each case_arm_view c.0, each stmt_view c.1)) result
-        (reading.choices_at below (reading.stmts_at below) tokens.now) }
-{
-    let (_, rest) = keyword(Keyword::Of, tokens)?;
-    let (arms, rest) = case_arms(alloc, below, rest, inner)?;
-    let (other, rest) = else_part(alloc, below, rest, inner)?;
-    let (_, rest) = keyword(Keyword::EndCase, rest)?;
-    Ok(((arms, other), rest))
-}
-
-/// `case_stmt = "CASE", expr, choices .`
-#[tactic(auto, unfolding(crate::specs::StatementReading::case_at))]
-fn case_stmt<'a, I: Fn(&[Token]) -> Block<'_>>(
-    alloc: Global,
-    below: usize,
-    tokens: &'a [Token],
-    inner: &I,
-) -> Found<'a>
-    requires below { below < MAX_DEPTH }
-    requires inner { I.IsAlwaysCallable inner.now }
-    requires reads { CallsRead (each stmt_view) (I.post inner.now) (reading.stmts_at below) }
-    ensures { Reads stmt_view result (reading.case_at below (reading.stmts_at below) tokens.now) }
-{
-    let (_, rest) = keyword(Keyword::Case, tokens)?;
-    let (selector, rest) = expr(alloc, below, 1, rest)?;
-    let ((arms, other), rest) = choices(alloc, below, rest, inner)?;
-    Ok((Stmt::select(selector, arms, other), rest))
-}
-
 /// `for_stmt = "FOR", name, ":=", bounds, block("DO", "END_FOR") .`
 #[tactic(auto, unfolding(crate::specs::StatementReading::for_at))]
-fn for_stmt<'a, I: Fn(&[Token]) -> Block<'_>>(
+fn for_stmt<'a, L: Fn(&[Token]) -> Found<'_>>(
     alloc: Global,
     below: usize,
     tokens: &'a [Token],
-    inner: &I,
+    line: &L,
 ) -> Found<'a>
     requires below { below < MAX_DEPTH }
-    requires inner { I.IsAlwaysCallable inner.now }
-    requires reads { CallsRead (each stmt_view) (I.post inner.now) (reading.stmts_at below) }
-    ensures { Reads stmt_view result (reading.for_at below (reading.stmts_at below) tokens.now) }
+    requires line { L.IsAlwaysCallable line.now }
+    requires reads { CallsRead stmt_view (L.post line.now) (reading.line_at below) }
+    ensures { Reads stmt_view result (reading.for_at below (reading.line_at below) tokens.now) }
 {
     let (_, rest) = keyword(Keyword::For, tokens)?;
     let (control, rest) = name(alloc, rest)?;
@@ -386,46 +352,46 @@ fn for_stmt<'a, I: Fn(&[Token]) -> Block<'_>>(
     let (bounds, rest) = bounds(alloc, below, rest)?;
     let (((start, limit, step), body), rest) = beside(
         bounds,
-        block(Keyword::Do, Keyword::EndFor, rest, inner),
+        block(alloc, below, Keyword::Do, Keyword::EndFor, rest, line),
     )?;
     Ok((Stmt::count(control, start, limit, step, body), rest))
 }
 
 /// `while_stmt = "WHILE", expr, block("DO", "END_WHILE") .`
 #[tactic(auto, unfolding(crate::specs::StatementReading::while_at))]
-fn while_stmt<'a, I: Fn(&[Token]) -> Block<'_>>(
+fn while_stmt<'a, L: Fn(&[Token]) -> Found<'_>>(
     alloc: Global,
     below: usize,
     tokens: &'a [Token],
-    inner: &I,
+    line: &L,
 ) -> Found<'a>
     requires below { below < MAX_DEPTH }
-    requires inner { I.IsAlwaysCallable inner.now }
-    requires reads { CallsRead (each stmt_view) (I.post inner.now) (reading.stmts_at below) }
-    ensures { Reads stmt_view result (reading.while_at below (reading.stmts_at below) tokens.now) }
+    requires line { L.IsAlwaysCallable line.now }
+    requires reads { CallsRead stmt_view (L.post line.now) (reading.line_at below) }
+    ensures { Reads stmt_view result (reading.while_at below (reading.line_at below) tokens.now) }
 {
     let (_, rest) = keyword(Keyword::While, tokens)?;
     let (condition, rest) = expr(alloc, below, 1, rest)?;
-    let body = block(Keyword::Do, Keyword::EndWhile, rest, inner);
+    let body = block(alloc, below, Keyword::Do, Keyword::EndWhile, rest, line);
     let ((condition, body), rest) = beside(condition, body)?;
     Ok((Stmt::repeat_while(condition, body), rest))
 }
 
-/// `repeat_stmt = "REPEAT", stmts, "UNTIL", expr, "END_REPEAT" .`
+/// `repeat_stmt = "REPEAT", lines, "UNTIL", expr, "END_REPEAT" .`
 #[tactic(auto, unfolding(crate::specs::StatementReading::repeat_at))]
-fn repeat_stmt<'a, I: Fn(&[Token]) -> Block<'_>>(
+fn repeat_stmt<'a, L: Fn(&[Token]) -> Found<'_>>(
     alloc: Global,
     below: usize,
     tokens: &'a [Token],
-    inner: &I,
+    line: &L,
 ) -> Found<'a>
     requires below { below < MAX_DEPTH }
-    requires inner { I.IsAlwaysCallable inner.now }
-    requires reads { CallsRead (each stmt_view) (I.post inner.now) (reading.stmts_at below) }
-    ensures { Reads stmt_view result (reading.repeat_at below (reading.stmts_at below) tokens.now) }
+    requires line { L.IsAlwaysCallable line.now }
+    requires reads { CallsRead stmt_view (L.post line.now) (reading.line_at below) }
+    ensures { Reads stmt_view result (reading.repeat_at below (reading.line_at below) tokens.now) }
 {
     let (_, rest) = keyword(Keyword::Repeat, tokens)?;
-    let (body, rest) = inner(rest)?;
+    let (body, rest) = lines(alloc, below, rest, line)?;
     let (_, rest) = keyword(Keyword::Until, rest)?;
     let (condition, rest) = expr(alloc, below, 1, rest)?;
     let ((condition, _), rest) = beside(condition, keyword(Keyword::EndRepeat, rest))?;
@@ -434,16 +400,16 @@ fn repeat_stmt<'a, I: Fn(&[Token]) -> Block<'_>>(
 
 /// `stmt = [ named | if_stmt | case_stmt | for_stmt | while_stmt | repeat_stmt | exit_stmt | return_stmt ] .`
 #[tactic(auto, unfolding(crate::specs::StatementReading::stmt_at))]
-fn stmt<'a, I: Fn(&[Token]) -> Block<'_>>(
+fn stmt<'a, L: Fn(&[Token]) -> Found<'_>>(
     alloc: Global,
     below: usize,
     tokens: &'a [Token],
-    inner: &I,
+    line: &L,
 ) -> Found<'a>
     requires below { below < MAX_DEPTH }
-    requires inner { I.IsAlwaysCallable inner.now }
-    requires reads { CallsRead (each stmt_view) (I.post inner.now) (reading.stmts_at below) }
-    ensures { Reads stmt_view result (reading.stmt_at below (reading.stmts_at below) tokens.now) }
+    requires line { L.IsAlwaysCallable line.now }
+    requires reads { CallsRead stmt_view (L.post line.now) (reading.line_at below) }
+    ensures { Reads stmt_view result (reading.stmt_at below (reading.line_at below) tokens.now) }
 {
     let [t, ..] = tokens else {
         return Err(refused(tokens));
@@ -451,24 +417,15 @@ fn stmt<'a, I: Fn(&[Token]) -> Block<'_>>(
     match &t.kind {
         TokenKind::Name(_) => named(alloc, below, tokens),
         TokenKind::Mark(Mark::Semicolon) => Ok((Stmt::empty(), tokens)),
-        TokenKind::Keyword(Keyword::If) => if_stmt(alloc, below, tokens, inner),
-        TokenKind::Keyword(Keyword::Case) => case_stmt(alloc, below, tokens, inner),
-        TokenKind::Keyword(Keyword::For) => for_stmt(alloc, below, tokens, inner),
-        TokenKind::Keyword(Keyword::While) => while_stmt(alloc, below, tokens, inner),
-        TokenKind::Keyword(Keyword::Repeat) => repeat_stmt(alloc, below, tokens, inner),
+        TokenKind::Keyword(Keyword::If) => if_stmt(alloc, below, tokens, line),
+        TokenKind::Keyword(Keyword::Case) => case_stmt(alloc, below, tokens, line),
+        TokenKind::Keyword(Keyword::For) => for_stmt(alloc, below, tokens, line),
+        TokenKind::Keyword(Keyword::While) => while_stmt(alloc, below, tokens, line),
+        TokenKind::Keyword(Keyword::Repeat) => repeat_stmt(alloc, below, tokens, line),
         TokenKind::Keyword(Keyword::Exit) => exit_stmt(tokens),
         TokenKind::Keyword(Keyword::Return) => return_stmt(tokens),
         _ => Err(refused(tokens)),
     }
-}
-
-/// `closed = ";" .`
-/// A statement with the semicolon behind it.
-fn closed(found: Stmt, tokens: &[Token]) -> Found<'_>
-    ensures { Reads stmt_view result (reading.closed (stmt_view found) tokens.now) }
-{
-    let ((found, _), rest) = beside(found, mark(Mark::Semicolon, tokens))?;
-    Ok((found, rest))
 }
 
 /// `line = stmt, ";" .`
@@ -487,26 +444,25 @@ fn line(alloc: Global, depth: usize, tokens: &[Token]) -> Found<'_>
         alloc,
         below,
         tokens,
-        &|tokens: &[Token]| -> Block<'_>
+        &|tokens: &[Token]| -> Found<'_>
             requires { below < MAX_DEPTH }
-            ensures { Reads (each stmt_view) result (reading.stmts_at below tokens.now) }
-        { stmts(alloc, below, tokens) },
+            ensures { Reads stmt_view result (reading.line_at below tokens.now) }
+        { line(alloc, below, tokens) },
     )?;
     closed(found, rest)
 }
 
-/// `stmts = { line } .`
+/// `stmts = lines .`
 /// Statements of at most a depth.
-#[cycle(line)]
 pub fn stmts(alloc: Global, depth: usize, tokens: &[Token]) -> Block<'_>
     requires { depth ≤ MAX_DEPTH }
     ensures { Reads (each stmt_view) result (reading.stmts_at depth tokens.now) }
 {
-    several(
-        Vec::new(alloc),
+    lines(
+        alloc,
+        depth,
         tokens,
-        starts_stmt,
-        |tokens: &[Token]| -> Found<'_>
+        &|tokens: &[Token]| -> Found<'_>
             requires { depth ≤ MAX_DEPTH }
             ensures { Reads stmt_view result (reading.line_at depth tokens.now) }
         { line(alloc, depth, tokens) },

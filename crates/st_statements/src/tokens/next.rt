@@ -80,6 +80,23 @@ pub fn begins_name(tokens: &[Token]) -> bool
     }
 }
 
+/// Whether a token may be a value of an enumerated type.
+pub fn is_value(kind: &TokenKind) -> bool
+    ensures { result ≡ specs.is_value kind.now }
+{
+    matches!(kind, TokenKind::Name(_) | TokenKind::Enumerated(_, _))
+}
+
+/// Whether what may be a value of an enumerated type comes next.
+pub fn begins_value(tokens: &[Token]) -> bool
+    ensures { result ≡ specs.next specs.is_value tokens.now }
+{
+    match tokens {
+        [t, ..] => is_value(&t.kind),
+        [] => false,
+    }
+}
+
 /// The next token is unexpected.
 pub fn refused(tokens: &[Token]) -> ReadError
     ensures { result ≡ Refused (Unexpected (length tokens.now)) }

@@ -93,6 +93,35 @@ pub fn whole(tokens: &[Token]) -> Result<(Number, &[Token]), ReadError>
     }
 }
 
+/// `value = Name | Enumerated .`
+/// A value of an enumerated type, with its type or alone, and the tokens after it.
+pub fn value(alloc: Global, tokens: &[Token]) -> Result<(EnumeratedValue, &[Token]), ReadError>
+    ensures { Reads as_is result (one specs.value tokens.now) }
+{
+    let [t, rest @ ..] = tokens else {
+        return Err(refused(tokens));
+    };
+    match &t.kind {
+        TokenKind::Name(name) => {
+            let value = EnumeratedValue {
+                place: t.start,
+                type_name: None,
+                name: name.copied(alloc)?,
+            };
+            Ok((value, rest))
+        }
+        TokenKind::Enumerated(type_name, name) => {
+            let value = EnumeratedValue {
+                place: t.start,
+                type_name: Some(type_name.copied(alloc)?),
+                name: name.copied(alloc)?,
+            };
+            Ok((value, rest))
+        }
+        _ => Err(refused(tokens)),
+    }
+}
+
 /// `literal = Number | Truth | Duration | Enumerated .`
 /// A literal without a sign, and the tokens after it.
 pub fn literal(alloc: Global, tokens: &[Token]) -> Result<(Literal, &[Token]), ReadError>
@@ -105,13 +134,9 @@ pub fn literal(alloc: Global, tokens: &[Token]) -> Result<(Literal, &[Token]), R
         TokenKind::Number(found) => Ok((Literal::Number(unsigned(t.start, *found)), rest)),
         TokenKind::Truth(truth) => Ok((Literal::Truth(t.start, *truth), rest)),
         TokenKind::Duration(duration) => Ok((Literal::Duration(t.start, *duration), rest)),
-        TokenKind::Enumerated(type_name, name) => {
-            let value = EnumeratedValue {
-                place: t.start,
-                type_name: Some(type_name.copied(alloc)?),
-                name: name.copied(alloc)?,
-            };
-            Ok((Literal::Enumerated(value), rest))
+        TokenKind::Enumerated(_, _) => {
+            let (found, rest) = value(alloc, tokens)?;
+            Ok((Literal::Enumerated(found), rest))
         }
         _ => Err(refused(tokens)),
     }
@@ -122,17 +147,13 @@ pub fn literal(alloc: Global, tokens: &[Token]) -> Result<(Literal, &[Token]), R
 pub fn constant(alloc: Global, tokens: &[Token]) -> Result<(Literal, &[Token]), ReadError>
     ensures { Reads as_is result (one specs.constant tokens.now) }
 {
-    let [t, rest @ ..] = tokens else {
+    let [t, ..] = tokens else {
         return Err(refused(tokens));
     };
     match &t.kind {
-        TokenKind::Name(name) => {
-            let value = EnumeratedValue {
-                place: t.start,
-                type_name: None,
-                name: name.copied(alloc)?,
-            };
-            Ok((Literal::Enumerated(value), rest))
+        TokenKind::Name(_) => {
+            let (found, rest) = value(alloc, tokens)?;
+            Ok((Literal::Enumerated(found), rest))
         }
         _ => literal(alloc, tokens),
     }

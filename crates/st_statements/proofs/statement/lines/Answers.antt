@@ -1,10 +1,10 @@
 use Rattle.std.proofs.Common.{rules}
 use Rattle.st_statements.specs.StatementReading.{line_at, lines, starts_stmt}
-use Rattle.st_statements.proofs.statement.+line.Goals as goal
+use Rattle.st_statements.proofs.statement.lines.Goals as goal
 
-pub stmts-returns : goal.stmts-returns
+pub returns : goal.returns
 unfolding lines
-stmts-returns t c =
-    let read = c.several.ensures starts_stmt (line_at c.args.depth)
+returns g c =
+    let read = c.several.ensures starts_stmt (line_at c.args.below)
     (λ ts r e. search rules) (λ ts r e. search rules) in
     search rules
