@@ -11,10 +11,11 @@ use Rattle.st_words.specs.Values.{Datum, IsHeld}
 use Rattle.st_plans.specs.declared.plan.PlanVariable.{PlanVariable}
 use Rattle.st_types.specs.Scopes.{Name, contains_name}
 use Rattle.st_plans.specs.Layouts.{path_text, line_of, layout_text, values_length, record_length}
-use Rattle.config.specs.Sound.{are_different, is_spelled}
+use Rattle.config.specs.Sound.{are_different, is_spelled, has_line}
 use Rattle.st_plans.specs.Restarts.{line_with, lines_with}
 use Rattle.config.specs.declared.plan.Plan.{Plan}
-use Rattle.retain_store.specs.Records.{Content, Line, line_text, text_of, is_path_text, is_visible, IsLayoutText}
+use Rattle.retain_store.specs.Records.{Content, Line, line_text, text_of, is_path_text, is_visible, has_keyword}
+use Rattle.retain_store.specs.Records.{is_line, IsLayoutText}
 use Rattle.retain_store.specs.Records.{IsRecordable}
 use Rattle.retain_store.specs.Records.{value_bytes, record_bytes}
 use Rattle.retain_store.specs.Reading.{line_at}
@@ -54,18 +55,23 @@ path_spelled : (x : Name) → is_spelled x ≡ true → is_path_text x ≡ true
 path_spelled [] e = e
 path_spelled (b ∷ bs) e = (and_parts _ (list_all is_visible (b ∷ bs)) e).1
 
-spelled_first : (v : PlanVariable) (r : Bool) (ls : List Line) → is_path_text (path_text v.path) ≡ true
-    → AllByRecursion (λ l. is_path_text l.path ≡ true) ls
-    → AllByRecursion (λ l. is_path_text l.path ≡ true) (if r then line_for v ∷ ls else ls)
+line_spelled : (v : PlanVariable) → has_line v ≡ true → is_line (line_for v) ≡ true
+line_spelled v e =
+    let p = and_parts (is_spelled (path_text v.path)) (is_spelled (row_of v.initial.kind).keyword) e in
+    rw (path_spelled (path_text v.path) p.0, path_spelled (row_of v.initial.kind).keyword p.1) refl
+
+spelled_first : (v : PlanVariable) (r : Bool) (ls : List Line) → is_line (line_for v) ≡ true
+    → AllByRecursion (λ l. is_line l ≡ true) ls
+    → AllByRecursion (λ l. is_line l ≡ true) (if r then line_for v ∷ ls else ls)
 spelled_first v true ls h rest = (h, rest)
 spelled_first v false ls h rest = rest
 
-spelled_are : (vs : List PlanVariable) → list_all (λ v. is_spelled (path_text v.path)) vs ≡ true
-    → AllByRecursion (λ l. is_path_text l.path ≡ true) (lines_for vs)
+spelled_are : (vs : List PlanVariable) → list_all has_line vs ≡ true
+    → AllByRecursion (λ l. is_line l ≡ true) (lines_for vs)
 spelled_are [] e = tt
 spelled_are (v ∷ vs) e =
-    let p = and_parts (is_spelled (path_text v.path)) (list_all (λ u. is_spelled (path_text u.path)) vs) e in
-    spelled_first v v.retained (lines_for vs) (path_spelled (path_text v.path) p.0) (spelled_are vs p.1)
+    let p = and_parts (has_line v) (list_all has_line vs) e in
+    spelled_first v v.retained (lines_for vs) (line_spelled v p.0) (spelled_are vs p.1)
 
 -- each path stands once
 abbrev texts : List PlanVariable → List Name
@@ -103,11 +109,11 @@ once_are (v ∷ vs) d =
     (none_is (path_text v.path) vs (not-true (contains_name (texts vs) (path_text v.path)) p.0)) (once_are vs p.1)
 
 -- the layout text of a plan is one of a record
-pub layout_is : (vs : List PlanVariable) (ks : List Kind) → list_all (λ v. is_spelled (path_text v.path)) vs ≡ true
+pub layout_is : (vs : List PlanVariable) (ks : List Kind) → list_all has_line vs ≡ true
     → are_different (texts vs) ≡ true → ks ≡ retained_kinds vs → IsLayoutText (layout_text vs) ks
 layout_is vs ks spelled d is = record {
   lines = lines_for vs;
-  paths = spelled_are vs spelled;
+  sound = spelled_are vs spelled;
   once = once_are vs d;
   spelled = sym (text_is vs);
   typed = is ∙ sym (kinds_are vs);
@@ -120,7 +126,7 @@ some_lines : (l m : Line) (s t : List ℕ) → ◌≡◌ {A = Option (Line × Li
 some_lines l m s t e = let same = some_is (l, s) (m, t) e in
     (ap (λ (p : Line × List ℕ). p.0) same, ap (λ (p : Line × List ℕ). p.1) same)
 
-no_line : (l : Line) (rest : List ℕ) → is_path_text l.path ≡ true → [] ≡ line_text l ++ rest → ⊥
+no_line : (l : Line) (rest : List ℕ) → is_line l ≡ true → [] ≡ line_text l ++ rest → ⊥
 no_line l rest h e = absurd (omega (
   arith,
   ap length e,
@@ -128,8 +134,8 @@ no_line l rest h e = absurd (omega (
   length-append (l.path ++ codes " " ++ (row_of l.kind).keyword) (10 ∷ []),
 ))
 
-lines_once : (ls ms : List Line) → AllByRecursion (λ l. is_path_text l.path ≡ true) ls
-    → AllByRecursion (λ l. is_path_text l.path ≡ true) ms → text_of ls ≡ text_of ms
+lines_once : (ls ms : List Line) → AllByRecursion (λ l. is_line l ≡ true) ls
+    → AllByRecursion (λ l. is_line l ≡ true) ms → text_of ls ≡ text_of ms
     → map (λ l. l.kind) ls ≡ map (λ l. l.kind) ms
 lines_once [] [] h k e = refl
 lines_once [] (m ∷ ms) h k e = absurd (no_line m (text_of ms) k.0 e)
@@ -141,24 +147,25 @@ lines_once (l ∷ ls) (m ∷ ms) h k e =
     rw (kind, lines_once ls ms h.1 k.1 same.1) refl
 
 pub kinds_told : (vs : List PlanVariable) (text : List ℕ) (ks : List Kind)
-    → list_all (λ v. is_spelled (path_text v.path)) vs ≡ true → text ≡ layout_text vs → IsLayoutText text ks
+    → list_all has_line vs ≡ true → text ≡ layout_text vs → IsLayoutText text ks
     → ks ≡ retained_kinds vs
 kinds_told vs text ks spelled is layout =
-    layout.typed ∙ lines_once layout.lines (lines_for vs) layout.paths (spelled_are vs spelled)
+    layout.typed ∙ lines_once layout.lines (lines_for vs) layout.sound (spelled_are vs spelled)
     (sym layout.spelled ∙ is ∙ sym (text_is vs)) ∙ kinds_are vs
 
 -- ---- what a record tells
 
-words_again : (l : Line) (rest : List ℕ) → is_path_text l.path ≡ true → words_at (line_text l ++ rest)
+words_again : (l : Line) (rest : List ℕ) → is_line l ≡ true → words_at (line_text l ++ rest)
     ≡ Some (record { path = l.path; spelling = (row_of l.kind).keyword; behind = rest })
 words_again l rest sound = ap words_at (line_parts l rest)
     ∙ rw (
-      cut_again 32 l.path ((row_of l.kind).keyword ++ 10 ∷ rest) (path_has_no_space l.path sound),
+      cut_again 32 l.path ((row_of l.kind).keyword ++ 10 ∷ rest) (path_has_no_space l.path
+      (and_parts (is_path_text l.path) (has_keyword l.kind) sound).0),
       cut_again 10 (row_of l.kind).keyword rest (keyword_in_line l.kind),
     ) refl
 
 told_first : (v : PlanVariable) (r : Bool) (vs : List PlanVariable) (ws : List Datum)
-    → is_path_text (path_text v.path) ≡ true
+    → is_line (line_for v) ≡ true
     → ((us : List Datum) → map (λ d. d.kind) us ≡ retained_kinds vs
     → lines_in (layout_text vs) us ≡ lines_with (paired (retained_paths vs) us))
     → map (λ d. d.kind) ws ≡ (if r then v.initial.kind ∷ retained_kinds vs else retained_kinds vs)
@@ -181,13 +188,13 @@ told_first v false vs ws sound again e = again ws e
 
 -- the layout text of a plan tells its retained variables, whatever values stand behind it
 pub lines_told : (vs : List PlanVariable) (ws : List Datum)
-    → list_all (λ v. is_spelled (path_text v.path)) vs ≡ true → map (λ d. d.kind) ws ≡ retained_kinds vs
+    → list_all has_line vs ≡ true → map (λ d. d.kind) ws ≡ retained_kinds vs
     → lines_in (layout_text vs) ws ≡ lines_with (paired (retained_paths vs) ws)
 lines_told [] [] spelled e = refl
 lines_told [] (w ∷ ws) spelled e = absurd (omega (arith, ap length e))
 lines_told (v ∷ vs) ws spelled e =
-    let p = and_parts (is_spelled (path_text v.path)) (list_all (λ u. is_spelled (path_text u.path)) vs) spelled in
-    told_first v v.retained vs ws (path_spelled (path_text v.path) p.0) (λ us. lines_told vs us p.1) e
+    let p = and_parts (has_line v) (list_all has_line vs) spelled in
+    told_first v v.retained vs ws (line_spelled v p.0) (λ us. lines_told vs us p.1) e
 
 -- a warm start from a record of the plan's layout text takes its values in order
 pub told_in_order : (plan : Plan) (content : Content) → content.layout ≡ layout_text plan.variables.items
@@ -232,7 +239,7 @@ record_long vs ws moment text is e = body_length moment text (flat_map value_byt
     ∙ omega (arith, values_long vs ws e, ap length is)
 
 pub record_sound : (vs : List PlanVariable) (ws : List Datum) (moment : Option ℕ) (text : List ℕ)
-    → list_all (λ v. is_spelled (path_text v.path)) vs ≡ true → are_different (texts vs) ≡ true → text ≡ layout_text vs
+    → list_all has_line vs ≡ true → are_different (texts vs) ≡ true → text ≡ layout_text vs
     → IfSome moment (λ t. t < MOMENT_LIMIT) → map (λ d. d.kind) ws ≡ retained_kinds vs → AllByRecursion IsHeld ws
     → IsRecordable (record { moment = moment; layout = text; values = ws })
 record_sound vs ws moment text spelled d is early e held = record {

@@ -32,6 +32,7 @@ use Rattle.slot_code.proofs.TableLemmas.{listed_found, listed_name}
 use Rattle.config.specs.Thin.{is_variable_of, is_thin_block, kind_in, is_of, is_typed, is_typed_for, is_typed_stmt}
 use Rattle.config.specs.Thin.{is_program, is_short, is_undeclared, is_thin_unit}
 use Rattle.config.proofs.ExternalLemmas.{absent}
+use Rattle.config.proofs.ResolveLemmas.{Agrees, read_is_read, agrees_in}
 
 -- a name that has a type is an external
 external_if : (t : Bool) (o : Option VariableType) (k : Kind) → (t ≡ false → o ≡ None)
@@ -58,23 +59,25 @@ named_globals variables inputs blocks globals thin names k x h =
     (absent variables inputs x blocks thin) h)
 
 sum_plain : (text : Declared) (u : OrganisationUnit) (variables : List PlanVariable) (globals : List PathSlot)
-    (k : Kind) (o : Option Kind) (e : Expr) → AreGlobals variables u.blocks globals → is_typed u.blocks k e ≡ true
+    (k : Kind) (o : Option Kind) (e : Expr) → Agrees text u → AreGlobals variables u.blocks globals → is_typed u.blocks k e ≡ true
     → is_sum globals (resolved_expr text u o e) ≡ true
-sum_plain text u variables globals k o (literal (literals.Number n)) are h = refl
-sum_plain text u variables globals k o (literal (literals.Truth at b)) are h = absurd (cc)
-sum_plain text u variables globals k o (literal (literals.Duration at n)) are h = absurd (cc)
-sum_plain text u variables globals k o (read (variable x no_selectors)) are h = are.known k x.name h
-sum_plain text u variables globals k o (read (variable x (selector_then y ys))) are h = absurd (cc)
-sum_plain text u variables globals k o (call f es) are h = absurd (cc)
-sum_plain text u variables globals k o (parenthesis at e) are h = absurd (cc)
-sum_plain text u variables globals k o (unary op at e) are h = absurd (cc)
-sum_plain text u variables globals k o (binary Add l r) are h =
+sum_plain text u variables globals k o (literal (literals.Number n)) agrees are h = refl
+sum_plain text u variables globals k o (literal (literals.Truth at b)) agrees are h = absurd (cc)
+sum_plain text u variables globals k o (literal (literals.Duration at n)) agrees are h = absurd (cc)
+sum_plain text u variables globals k o (literal (literals.Enumerated v)) agrees are h = absurd (cc)
+sum_plain text u variables globals k o (read (variable x no_selectors)) agrees are h =
+    ap (is_sum globals) (read_is_read text u k o x agrees h) ∙ are.known k x.name h
+sum_plain text u variables globals k o (read (variable x (selector_then y ys))) agrees are h = absurd (cc)
+sum_plain text u variables globals k o (call f es) agrees are h = absurd (cc)
+sum_plain text u variables globals k o (parenthesis at e) agrees are h = absurd (cc)
+sum_plain text u variables globals k o (unary op at e) agrees are h = absurd (cc)
+sum_plain text u variables globals k o (binary Add l r) agrees are h =
     let p = and_parts (is_typed u.blocks k l) (is_typed u.blocks k r) h in
     rw (
-      sum_plain text u variables globals k (operand_kind text u o Add l r) l are p.0,
-      sum_plain text u variables globals k (operand_kind text u o Add l r) r are p.1,
+      sum_plain text u variables globals k (operand_kind text u o Add l r) l agrees are p.0,
+      sum_plain text u variables globals k (operand_kind text u o Add l r) r agrees are p.1,
     ) refl
-sum_plain text u variables globals k o (binary op l r) are h = absurd (cc)
+sum_plain text u variables globals k o (binary op l r) agrees are h = absurd (cc)
 
 assignable_by : (o : Option PathSlot) → is_known o ≡ true → ((g : PathSlot) → o ≡ Some g → g.is_input ≡ false)
     → is_assignable o ≡ true
@@ -85,32 +88,32 @@ same_itself : (k : Kind) → same_kind k k ≡ true
 same_itself k = grind (arith, nat_tests)
 
 for_plain : (text : Declared) (u : OrganisationUnit) (variables : List PlanVariable) (globals : List PathSlot)
-    (x : Name) (e : Expr) (o place : Option Kind) → AreGlobals variables u.blocks globals → kind_in u.blocks x ≡ o
+    (x : Name) (e : Expr) (o place : Option Kind) → Agrees text u → AreGlobals variables u.blocks globals → kind_in u.blocks x ≡ o
     → is_typed_for variables u.blocks x e o ≡ true
     → (is_assignable (global_named globals x) && is_sum globals (resolved_expr text u place e)) ≡ true
-for_plain text u variables globals x e None place are is h = absurd (cc)
-for_plain text u variables globals x e (Some k) place are is h =
+for_plain text u variables globals x e None place agrees are is h = absurd (cc)
+for_plain text u variables globals x e (Some k) place agrees are is h =
     let p = and_parts (is_variable_of variables k x) (is_typed u.blocks k e) h in
     let of_kind : is_of k (kind_in u.blocks x) ≡ true = ap (is_of k) is ∙ same_itself k in
     let a =
     assignable_by (global_named globals x) (are.known k x of_kind) (λ g there. are.assignable k x g p.0 there) in
-    rw (a, sum_plain text u variables globals k place e are p.1) refl
+    rw (a, sum_plain text u variables globals k place e agrees are p.1) refl
 
 stmt_plain : (text : Declared) (u : OrganisationUnit) (variables : List PlanVariable) (globals : List PathSlot)
-    (s : Stmt) → AreGlobals variables u.blocks globals → is_typed_stmt variables u.blocks s ≡ true
+    (s : Stmt) → Agrees text u → AreGlobals variables u.blocks globals → is_typed_stmt variables u.blocks s ≡ true
     → is_plain globals (resolved_stmt text u s) ≡ true
-stmt_plain text u variables globals (assign (variable x no_selectors) e) are h = for_plain text u variables globals
-    x.name e (kind_in u.blocks x.name) (kind_of_variable text u (variable x no_selectors)) are refl h
-stmt_plain text u variables globals (assign (variable x (selector_then y ys)) e) are h = absurd (cc)
-stmt_plain text u variables globals s are h = absurd (cc)
+stmt_plain text u variables globals (assign (variable x no_selectors) e) agrees are h = for_plain text u variables globals
+    x.name e (kind_in u.blocks x.name) (kind_of_variable text u (variable x no_selectors)) agrees are refl h
+stmt_plain text u variables globals (assign (variable x (selector_then y ys)) e) agrees are h = absurd (cc)
+stmt_plain text u variables globals s agrees are h = absurd (cc)
 
 body_plain : (text : Declared) (u : OrganisationUnit) (variables : List PlanVariable) (globals : List PathSlot)
-    (xs : List Stmt) → AreGlobals variables u.blocks globals → list_all (is_typed_stmt variables u.blocks) xs ≡ true
+    (xs : List Stmt) → Agrees text u → AreGlobals variables u.blocks globals → list_all (is_typed_stmt variables u.blocks) xs ≡ true
     → are_plain globals (map (resolved_stmt text u) xs) ≡ true
-body_plain text u variables globals [] are h = refl
-body_plain text u variables globals (s ∷ xs) are h =
+body_plain text u variables globals [] agrees are h = refl
+body_plain text u variables globals (s ∷ xs) agrees are h =
     let p = and_parts (is_typed_stmt variables u.blocks s) (list_all (is_typed_stmt variables u.blocks) xs) h in
-    rw (stmt_plain text u variables globals s are p.0, body_plain text u variables globals xs are p.1) refl
+    rw (stmt_plain text u variables globals s agrees are p.0, body_plain text u variables globals xs agrees are p.1) refl
 
 -- the resolved body of a thin unit is plain
 pub unit_plain : (text : Declared) (u : OrganisationUnit) (variables : List PlanVariable) (inputs : List PlanInput)
@@ -127,6 +130,8 @@ unit_plain text u variables inputs globals h names out =
     let p = and_parts (is_program u.sort && is_short u.name.name) (thin && (other && (typed && low))) h in
     let q = and_parts thin (other && (typed && low)) p.1 in
     let r = and_parts other (typed && low) q.1 in
-    body_plain text u variables globals u.body
+    let agrees =
+    agrees_in text u variables inputs (and_parts (is_program u.sort) (is_short u.name.name) p.0).0 q.0 r.0 in
+    body_plain text u variables globals u.body agrees
     (record { known = named_globals variables inputs u.blocks globals q.0 names; assignable = out })
     (and_parts typed low r.1).0

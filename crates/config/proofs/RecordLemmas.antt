@@ -7,7 +7,7 @@ use Rattle.std.proofs.Math.Numerals.{suc-eq-add-one}
 use Rattle.st_words.specs.declared.limits.TheConstants.{MAX_NAME_LENGTH}
 use Rattle.st_words.specs.declared.kind.Kind.{Kind}
 use Rattle.st_words.specs.declared.kind.Kind.TheVariants.{Sint, Int, Dint, Lint, Usint, Uint, Udint, Ulint, Byte, Word}
-use Rattle.st_words.specs.declared.kind.Kind.TheVariants.{Dword, Lword, Time, Bool as Boolean}
+use Rattle.st_words.specs.declared.kind.Kind.TheVariants.{Dword, Lword, Time, Bool as Boolean, Enumerated}
 use Rattle.st_words.specs.Kinds.{row_of, width_of}
 use Rattle.st_plans.specs.declared.plan.PlanVariable.{PlanVariable}
 use Rattle.st_plans.specs.Layouts.{line_of, path_text, owner_text, steps_text, layout_text, values_length}
@@ -38,6 +38,7 @@ keyword_short Dword = omega arith
 keyword_short Lword = omega arith
 keyword_short Time = omega arith
 keyword_short Boolean = omega arith
+keyword_short (Enumerated names number) = omega arith
 
 pub width_small : (k : Kind) → width_of k ≤ 8
 width_small Sint = omega arith
@@ -54,6 +55,7 @@ width_small Dword = omega arith
 width_small Lword = omega arith
 width_small Time = omega arith
 width_small Boolean = omega arith
+width_small (Enumerated names number) = omega arith
 
 pub both : (a b : Bool) → (a && b) ≡ true → (a ≡ true) × (b ≡ true)
 both true true h = (refl, refl)

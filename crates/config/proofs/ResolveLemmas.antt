@@ -1,8 +1,8 @@
 -- In a thin unit the type of an assigned variable is what each untyped literal takes.
-use Rattle.std.proofs.Common.{◌≡◌, Bool, true, false, ◌&&◌, if◌then◌else◌, List, [], ◌∷◌, map, Option, Some, None}
+use Rattle.std.proofs.Common.{◌≡◌, ℕ, Bool, true, false, ◌&&◌, if◌then◌else◌, List, [], ◌∷◌, map, Option, Some, None}
 use Rattle.std.proofs.Common.{option_map, nat_le, refl, ap, sym, ◌∙◌}
-use Rattle.std.specs.Prelude.{option_and_then}
-use Rattle.std.specs.List.{list_all}
+use Rattle.std.specs.Prelude.{option_and_then, is_some}
+use Rattle.std.specs.List.{list_all, list_any}
 use Rattle.std.proofs.lemmas.Bool.{and_parts}
 use Rattle.std.proofs.lemmas.Slice.Eq.{bytes_eq-Decides}
 use Rattle.st_words.specs.declared.limits.TheConstants.{MAX_DEPTH}
@@ -16,10 +16,11 @@ use Rattle.st_trees.specs.declared.unit.UnitSort.TheVariants.{Function, Function
 use Rattle.st_trees.specs.declared.declaration.Section.{Section}
 use Rattle.st_trees.specs.declared.data_type.VariableType.{VariableType}
 use Rattle.st_trees.specs.declared.data_type.VariableType.TheVariants as types
-use Rattle.st_trees.specs.Expressions.{Expr, literal, read, call, parenthesis, unary, binary, variable, no_selectors}
+use Rattle.st_trees.specs.declared.data_type.SimpleType.TheVariants.{Elementary, Named}
+use Rattle.st_trees.specs.Expressions.{Expr, Variable, literal, read, call, parenthesis, unary, binary, variable, no_selectors}
 use Rattle.st_trees.specs.Expressions.{selector_then}
 use Rattle.st_trees.specs.Statements.{Stmt, assign}
-use Rattle.st_trees.specs.Declarations.{Declaration, VariableBlock}
+use Rattle.st_trees.specs.Declarations.{TypeDeclaration, Declaration, VariableBlock}
 use Rattle.st_trees.specs.Initials.{Initial}
 use Rattle.st_trees.specs.Depths.{depth_of_stmt}
 use Rattle.st_trees.specs.Units.{OrganisationUnit}
@@ -27,9 +28,10 @@ use Rattle.st_plans.specs.declared.plan.PlanVariable.{PlanVariable}
 use Rattle.st_plans.specs.declared.plan.PlanInput.{PlanInput}
 use Rattle.st_types.specs.Operators.{number_of, or_kind}
 use Rattle.st_types.specs.Scopes.{Name}
-use Rattle.st_types.specs.NameTypes.{Declared, is_named, elementary, result_kind, type_in_blocks, type_behind}
-use Rattle.st_types.specs.NameTypes.{kind_of_type, kind_of_variable}
-use Rattle.st_types.specs.Resolution.{own_kind, is_untyped, expected_of_both, operand_kind, taken_kind, resolved_expr}
+use Rattle.st_types.specs.NameTypes.{Declared, is_named, result_type, type_in, or_type, type_in_blocks, type_behind}
+use Rattle.st_types.specs.NameTypes.{variable_type, kind_among, kind_of_type, kind_of_variable}
+use Rattle.st_types.specs.Enumerations.{Member, number_of_member}
+use Rattle.st_types.specs.Resolution.{member_read, own_kind, is_untyped, expected_of_both, operand_kind, taken_kind, resolved_expr}
 use Rattle.st_types.specs.ResolvedUnits.{resolved, resolved_stmt, resolved_type, resolved_initial, resolved_declaration}
 use Rattle.st_types.specs.ResolvedUnits.{resolved_block}
 use Rattle.st_words.proofs.KindLemmas.{same_kind_is}
@@ -39,8 +41,38 @@ use Rattle.config.specs.Thin.{is_short, is_undeclared, is_thin_unit}
 use Rattle.config.specs.Filled.{filled, filled_for, filled_stmt}
 
 -- the types of a unit's names are those of its externals
-abbrev Agrees : Declared → OrganisationUnit → Type 0
+abbrev pub Agrees : Declared → OrganisationUnit → Type 0
 Agrees text u = (x : Identifier) → kind_of_variable text u (variable x no_selectors) ≡ kind_in u.blocks x.name
+
+-- a name of a type that a unit's externals give it is one of its variables
+there_is : (f : VariableType → Option Kind) (g : VariableType → Option VariableType) (k : Kind)
+    (o : Option VariableType) (found : Option Kind)
+    → option_and_then f (option_and_then g o) ≡ found → is_of k found ≡ true → is_some o ≡ true
+there_is f g k None found is h = absurd (cc)
+there_is f g k (Some t) found is h = refl
+
+variable_is : (text : Declared) (u : OrganisationUnit) (k : Kind) (x : Identifier) → Agrees text u
+    → is_of k (kind_in u.blocks x.name) ≡ true → is_some (variable_type u x.name) ≡ true
+variable_is text u k x agrees h = there_is (kind_among text.types) (type_behind text no_selectors) k
+    (variable_type u x.name) (kind_in u.blocks x.name) (agrees x) h
+
+no_member : (text : Declared) (u : OrganisationUnit) (x : Identifier) → is_some (variable_type u x.name) ≡ true
+    → member_read text u (variable x no_selectors) ≡ None
+no_member text u x h = rw h refl
+
+abbrev read_or : Option Member → ℕ → Variable → Expr
+read_or o at v = elim o [ Some m ↦ literal (literals.Number (number_of_member at m)) | None ↦ read v ]
+
+read_stays : (o : Option Member) (at : ℕ) (v : Variable) → o ≡ None → read_or o at v ≡ read v
+read_stays None at v e = refl
+read_stays (Some m) at v e = absurd (cc)
+
+-- it is read as a variable
+pub read_is_read : (text : Declared) (u : OrganisationUnit) (k : Kind) (o : Option Kind) (x : Identifier)
+    → Agrees text u → is_of k (kind_in u.blocks x.name) ≡ true
+    → resolved_expr text u o (read (variable x no_selectors)) ≡ read (variable x no_selectors)
+read_is_read text u k o x agrees h = read_stays (member_read text u (variable x no_selectors)) x.place
+    (variable x no_selectors) (no_member text u x (variable_is text u k x agrees h))
 
 -- what an expression of a type is of its own: of that type, or untyped
 abbrev kind_if : Bool → Kind → Option Kind
@@ -67,7 +99,10 @@ own_is text u k (literal (literals.Number n)) agrees h =
     written_is k n.written (and_parts (is_of_or_none k n.written) (holds k (number_of n)) h).0
 own_is text u k (literal (literals.Truth at b)) agrees h = absurd (cc)
 own_is text u k (literal (literals.Duration at n)) agrees h = absurd (cc)
-own_is text u k (read (variable x no_selectors)) agrees h = agrees x ∙ read_is k (kind_in u.blocks x.name) h
+own_is text u k (literal (literals.Enumerated v)) agrees h = absurd (cc)
+own_is text u k (read (variable x no_selectors)) agrees h =
+    ap (λ o. or_kind o (option_map (λ m. m.kind) (member_read text u (variable x no_selectors))))
+    (agrees x ∙ read_is k (kind_in u.blocks x.name) h)
 own_is text u k (read (variable x (selector_then y ys))) agrees h = absurd (cc)
 own_is text u k (call f es) agrees h = absurd (cc)
 own_is text u k (parenthesis at e) agrees h = absurd (cc)
@@ -97,8 +132,11 @@ operand_is text u k l r agrees hl hr =
 
 resolved_is : (text : Declared) (u : OrganisationUnit) (k : Kind) (e : Expr) → Agrees text u
     → is_typed u.blocks k e ≡ true → resolved_expr text u (Some k) e ≡ filled (taken_kind (Some k)) e
-resolved_is text u k (literal l) agrees h = refl
-resolved_is text u k (read (variable x no_selectors)) agrees h = refl
+resolved_is text u k (literal (literals.Number n)) agrees h = refl
+resolved_is text u k (literal (literals.Truth at b)) agrees h = absurd (cc)
+resolved_is text u k (literal (literals.Duration at n)) agrees h = absurd (cc)
+resolved_is text u k (literal (literals.Enumerated v)) agrees h = absurd (cc)
+resolved_is text u k (read (variable x no_selectors)) agrees h = read_is_read text u k (Some k) x agrees h
 resolved_is text u k (read (variable x (selector_then y ys))) agrees h = absurd (cc)
 resolved_is text u k (call f es) agrees h = absurd (cc)
 resolved_is text u k (parenthesis at e) agrees h = absurd (cc)
@@ -184,24 +222,71 @@ undeclared : (o : Option VariableType) → is_undeclared o ≡ true → o ≡ No
 undeclared None h = refl
 undeclared (Some t) h = absurd (cc)
 
+-- the externals of a thin unit are of elementary types
+abbrev IsElementary : Option VariableType → Type 0
+IsElementary None = Unit {0}
+IsElementary (Some t) = (k : Kind) × (kind_of_type t ≡ Some k)
+
+has_kind : (variables : List PlanVariable) (inputs : List PlanInput) (section : Section) (names : List Identifier)
+    (o : Option Kind) → are_thin_externals variables inputs section o names ≡ true → (k : Kind) × (o ≡ Some k)
+has_kind variables inputs section names None h = absurd (cc)
+has_kind variables inputs section names (Some k) h = (k, refl)
+
+first_elementary : (b : Bool) (t : VariableType) (o : Option VariableType) → IsElementary (Some t) → IsElementary o
+    → IsElementary (if b then Some t else o)
+first_elementary true t o here later = here
+first_elementary false t o here later = later
+
+or_elementary : (a b : Option VariableType) → IsElementary a → IsElementary b → IsElementary (or_type a b)
+or_elementary None b here later = later
+or_elementary (Some t) b here later = here
+
+elementary_in : (variables : List PlanVariable) (inputs : List PlanInput) (section : Section) (ds : List Declaration)
+    (x : Name) → list_all (is_thin_declaration variables inputs section) ds ≡ true → IsElementary (type_in ds x)
+elementary_in variables inputs section [] x h = tt
+elementary_in variables inputs section (d ∷ ds) x h =
+    let p = and_parts (is_thin_declaration variables inputs section d)
+    (list_all (is_thin_declaration variables inputs section) ds) h in
+    let q = and_parts (is_absent d.initial)
+    (are_thin_externals variables inputs section (kind_of_type d.declared) d.names) p.0 in
+    first_elementary (list_any (is_named x) d.names) d.declared (type_in ds x)
+    (has_kind variables inputs section d.names (kind_of_type d.declared) q.1)
+    (elementary_in variables inputs section ds x p.1)
+
+elementary_blocks : (variables : List PlanVariable) (inputs : List PlanInput) (bs : List VariableBlock) (x : Name)
+    → list_all (is_thin_block variables inputs) bs ≡ true → IsElementary (type_in_blocks bs x)
+elementary_blocks variables inputs [] x h = tt
+elementary_blocks variables inputs (b ∷ bs) x h =
+    let p = and_parts (is_thin_block variables inputs b) (list_all (is_thin_block variables inputs) bs) h in
+    or_elementary (type_in b.declarations x) (type_in_blocks bs x)
+    (elementary_in variables inputs b.section b.declarations x p.0) (elementary_blocks variables inputs bs x p.1)
+
+-- such a type is the same with the types of the text
+kind_is : (ts : List TypeDeclaration) (t : VariableType) (k : Kind) → kind_of_type t ≡ Some k
+    → kind_among ts t ≡ kind_of_type t
+kind_is ts (types.Simple (Elementary l at)) k e = refl
+kind_is ts (types.Simple (Named x)) k e = absurd (cc)
+kind_is ts (types.Array a) k e = absurd (cc)
+
 -- a program's own name is no variable
 kind_at_name : (text : Declared) (sort : UnitSort) (o : Option VariableType) (own : Bool) → is_program sort ≡ true
-    → (own ≡ true → o ≡ None) → option_and_then kind_of_type
-    (option_and_then (type_behind text no_selectors) (if own then option_map elementary (result_kind sort) else o))
+    → (own ≡ true → o ≡ None) → IsElementary o → option_and_then (kind_among text.types)
+    (option_and_then (type_behind text no_selectors) (if own then result_type sort else o))
     ≡ option_and_then kind_of_type o
-kind_at_name text Program o true p none = sym (ap (option_and_then kind_of_type) (none refl))
-kind_at_name text FunctionBlock o true p none = absurd (cc)
-kind_at_name text (Function k at) o true p none = absurd (cc)
-kind_at_name text sort None false p none = refl
-kind_at_name text sort (Some t) false p none = refl
+kind_at_name text Program o true p none plain = sym (ap (option_and_then kind_of_type) (none refl))
+kind_at_name text FunctionBlock o true p none plain = absurd (cc)
+kind_at_name text (Function t) o true p none plain = absurd (cc)
+kind_at_name text sort None false p none plain = refl
+kind_at_name text sort (Some t) false p none plain = kind_is text.types t plain.0 plain.1
 
-agrees_in : (text : Declared) (u : OrganisationUnit) (variables : List PlanVariable) (inputs : List PlanInput)
+pub agrees_in : (text : Declared) (u : OrganisationUnit) (variables : List PlanVariable) (inputs : List PlanInput)
     → is_program u.sort ≡ true → list_all (is_thin_block variables inputs) u.blocks ≡ true
     → is_undeclared (type_in_blocks u.blocks u.name.name) ≡ true → Agrees text u
 agrees_in text u variables inputs program thin other x =
     kind_at_name text u.sort (type_in_blocks u.blocks x.name) (is_named x.name u.name) program
     (λ own. ap (type_in_blocks u.blocks) ((bytes_eq-Decides x.name u.name.name).0 own)
     ∙ undeclared (type_in_blocks u.blocks u.name.name) other)
+    (elementary_blocks variables inputs u.blocks x.name thin)
 
 -- a thin unit with its body filled is what the definitions resolve it to
 pub unit_resolved : (text : Declared) (u : OrganisationUnit) (variables : List PlanVariable) (inputs : List PlanInput)

@@ -11,6 +11,9 @@ use Rattle.std.proofs.lemmas.List.Folds.{list_any-append}
 use Rattle.std.proofs.lemmas.Option.{slice_get_within, get_or_from_slice_get}
 use Rattle.st_words.specs.declared.limits.TheConstants.{MAX_NAME_LENGTH, MAX_RESOURCES, MAX_TASKS, MAX_PROGRAMS}
 use Rattle.st_words.specs.declared.limits.TheConstants.{MAX_BUDGET, MAX_PATHS, MAX_RECORD_BODY}
+use Rattle.st_words.specs.declared.kind.Kind.{Kind}
+use Rattle.st_words.specs.declared.kind.Kind.TheVariants.{Enumerated}
+use Rattle.st_words.specs.Kinds.{row_of}
 use Rattle.st_trees.specs.Units.{OrganisationUnit}
 use Rattle.st_plans.specs.declared.plan.PlanVariable.{PlanVariable}
 use Rattle.st_plans.specs.declared.plan.PlanInput.{PlanInput}
@@ -21,7 +24,7 @@ use Rattle.config.specs.declared.task.Task.{Task}
 use Rattle.config.specs.declared.task.ProgramInstance.{ProgramInstance}
 use Rattle.config.specs.declared.thin_program.ThinProgram.{ThinProgram}
 use Rattle.slot_code.specs.Fitting.{HaveSlots}
-use Rattle.config.specs.Sound.{are_different, is_spelled, is_sound_trigger, is_of_resource, tasks_of, IsWithinLimits}
+use Rattle.config.specs.Sound.{are_different, is_spelled, has_line, is_sound_trigger, is_of_resource, tasks_of, IsWithinLimits}
 use Rattle.config.specs.Sound.{PlanInvariant}
 use Rattle.config.specs.PlanViews.{program_view, task_view}
 use Rattle.config.specs.declared.thin_unit.ThinUnit.{ThinUnit}
@@ -63,11 +66,17 @@ variable_spelled v h =
     ap is_spelled (text_is v h)
     ∙ name_spelled v.path.name (and_parts (is_name v.path.name) (length v.path.steps == 0) p.1).0
 
-all_spelled : (vs : List PlanVariable) → list_all is_thin_variable vs ≡ true
-    → list_all (λ v. is_spelled (path_text v.path)) vs ≡ true
+-- a thin type has a keyword
+kind_spelled : (k : Kind) → is_thin_kind k ≡ true → is_spelled (row_of k).keyword ≡ true
+kind_spelled (Enumerated names number) h = absurd (cc)
+kind_spelled _ h = refl
+
+all_spelled : (vs : List PlanVariable) → list_all is_thin_variable vs ≡ true → list_all has_line vs ≡ true
 all_spelled [] h = refl
-all_spelled (v ∷ vs) h = let p = and_parts (is_thin_variable v) (list_all is_thin_variable vs) h in
-    rw (variable_spelled v p.0, all_spelled vs p.1) refl
+all_spelled (v ∷ vs) h =
+    let p = and_parts (is_thin_variable v) (list_all is_thin_variable vs) h in
+    let k = and_parts (is_global v.path) (is_thin_kind v.initial.kind) p.0 in
+    rw (variable_spelled v p.0, kind_spelled v.initial.kind k.1, all_spelled vs p.1) refl
 
 -- what is different among more is different by itself
 neither : (a b : Bool) → not (a || b) ≡ true → not a ≡ true

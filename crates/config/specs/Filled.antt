@@ -1,15 +1,21 @@
 -- What the code gives the literals of an assignment: the type of the variable that is assigned.
 use Rattle.std.specs.Prelude.{List, Option, Some, None}
 use Rattle.st_words.specs.declared.kind.Kind.{Kind}
+use Rattle.st_words.specs.declared.literal.Literal.{Literal}
+use Rattle.st_words.specs.declared.literal.Literal.TheVariants as literals
 use Rattle.st_trees.specs.Expressions.{Expr, literal, read, call, parenthesis, unary, binary, variable}
 use Rattle.st_trees.specs.Statements.{Stmt, assign}
 use Rattle.st_trees.specs.Declarations.{VariableBlock}
-use Rattle.st_types.specs.Resolution.{taken_kind, taking_literal}
+use Rattle.st_types.specs.Resolution.{taken_kind, taking_number}
 use Rattle.config.specs.Thin.{kind_in}
+
+abbrev pub filled_literal : Kind → Literal → Literal
+filled_literal k (literals.Number n) = literals.Number (taking_number k n)
+filled_literal k l = l
 
 -- each untyped literal of a sum takes the type
 abbrev pub filled : Kind → Expr → Expr
-filled k (literal l) = literal (taking_literal k l)
+filled k (literal l) = literal (filled_literal k l)
 filled k (read v) = read v
 filled k (call f es) = call f es
 filled k (parenthesis at e) = parenthesis at e

@@ -5,7 +5,7 @@ use Rattle.std.specs.List.{list_all}
 use Rattle.st_words.specs.declared.limits.TheConstants.{MAX_BUDGET, MAX_PATHS, MAX_PROGRAMS, MAX_RECORD_BODY}
 use Rattle.st_words.specs.declared.limits.TheConstants.{MAX_RESOURCES, MAX_TASKS}
 use Rattle.st_words.specs.declared.kind.Kind.TheVariants.{Bool as Boolean}
-use Rattle.st_words.specs.Kinds.{same_kind}
+use Rattle.st_words.specs.Kinds.{row_of, same_kind}
 use Rattle.st_plans.specs.declared.plan.PlanVariable.{PlanVariable}
 use Rattle.st_plans.specs.declared.plan.PlanInput.{PlanInput}
 use Rattle.st_types.specs.Scopes.{Name, contains_name}
@@ -26,6 +26,10 @@ are_different (x ∷ xs) = not (contains_name xs x) && are_different xs
 -- the bytes that a path in a record's layout text may have
 abbrev pub is_spelled : Name → Bool
 is_spelled x = not (length x == 0) && list_all (λ b. nat_le 33 b && nat_le b 126) x
+
+-- a variable that may have a line in a record's layout text: its path may stand there, and its type has a keyword
+abbrev pub has_line : PlanVariable → Bool
+has_line v = is_spelled (path_text v.path) && is_spelled (row_of v.initial.kind).keyword
 
 abbrev pub is_boolean_variable : Option PlanVariable → Bool
 is_boolean_variable None = false
@@ -61,7 +65,7 @@ pub record IsWithinLimits (variables : List PlanVariable) (inputs : List PlanInp
   pub record_is : record_length variables ≤ MAX_RECORD_BODY
 
 -- Each path has one slot, and the code of each program fits the slots; each program runs in a
--- task of its resource; each path can be spelled in a record, and no two are spelled alike.
+-- task of its resource; each variable can have a line in a record, and no two paths are spelled alike.
 pub record PlanInvariant (variables : List PlanVariable) (inputs : List PlanInput) (resources : ℕ) (tasks : List Task)
     (programs : List ProgramInstance) (budget : ℕ) : Type 0 where
   pub layout : IsLayout (layout_of variables inputs)
@@ -71,6 +75,6 @@ pub record PlanInvariant (variables : List PlanVariable) (inputs : List PlanInpu
   pub places : (k : ℕ) (p : ProgramInstance) → slice_get programs k ≡ Some p
       → is_of_resource p.resource (slice_get tasks p.task) ≡ true
   pub singles : list_all (λ t. is_sound_trigger variables inputs t.single) tasks ≡ true
-  pub spelled : list_all (λ v. is_spelled (path_text v.path)) variables ≡ true
+  pub spelled : list_all has_line variables ≡ true
   pub different : are_different (map (λ v. path_text v.path) variables) ≡ true
   pub limits : IsWithinLimits variables inputs resources tasks (length programs) budget

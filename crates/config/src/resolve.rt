@@ -72,7 +72,7 @@ fn taken_kind(expected: Kind) -> Kind
     ensures { result ≡ taken_kind (Some expected) }
 {
     match expected {
-        Kind::Time | Kind::Bool => Kind::Lint,
+        Kind::Time | Kind::Bool | Kind::Enumerated { .. } => Kind::Lint,
         _ => expected,
     }
 }

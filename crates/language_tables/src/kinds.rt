@@ -37,6 +37,7 @@ fn sort_word(sort: Sort) -> &'static str {
         Sort::Bits => "bits",
         Sort::Duration => "a duration",
         Sort::Truth => "a truth value",
+        Sort::Place => "a place among names",
     }
 }
 

@@ -34,7 +34,7 @@ use crate::lexed::lexed;
 use crate::names::{name_of, name_of_bytes, write_identifier, write_name};
 use crate::parts::{shown_expression, shown_initial, shown_number, shown_statements};
 use crate::paths::{write_owner, write_path, write_step};
-use crate::printing::{print_path, print_value};
+use crate::printing::{print_named, print_path, print_value};
 use crate::sources::{prefixes, shown_source};
 use crate::terminals::{shown_each, shown_fault, shown_next, shown_refused};
 use crate::trees::{depth, sameness};
@@ -92,6 +92,7 @@ fn tell(out: &mut Answer, alloc: Global, asked: &str) -> Option<()> {
         "value" => write_value(out, given),
         "truth" => Some(show_value(out, Value::truth(given == "TRUE"))),
         "printed" => print_value(out, alloc, given),
+        "named" => print_named(out, alloc, given),
         "spelled" => print_path(out, alloc, given),
         "faults" => Some(write_faults(out)),
         "name" => write_name(out, alloc, name_of(alloc, given)),

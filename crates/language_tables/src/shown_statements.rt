@@ -2,7 +2,7 @@
 
 use crate::answer::Answer;
 use crate::shown_expressions::{expression_behind, variable};
-use crate::shown_words::{name, name_behind, number};
+use crate::shown_words::{name, name_behind, number, value};
 use st_trees::{Argument, Arm, CaseArm, Expr, Label, Stmt};
 use st_words::Identifier;
 
@@ -22,12 +22,13 @@ fn argument(out: &mut Answer, shown: &Argument) {
 
 fn label(out: &mut Answer, shown: &Label) {
     match shown {
-        Label::Single(value) => number(out, value),
+        Label::Single(found) => number(out, found),
         Label::Range(least, greatest) => {
             number(out, least);
             out.put("..");
             number(out, greatest)
         }
+        Label::Enumerated(found) => value(out, found),
     }
 }
 

@@ -6,14 +6,14 @@ use crate::shown_words::{name, name_behind, number};
 use st_trees::{
     ArrayType, Field, Initial, SimpleType, TypeDeclaration, TypeDefinition, VariableType,
 };
-use st_words::Kind;
+use st_words::{Identifier, Kind};
 
-pub fn elementary(out: &mut Answer, kind: Kind, place: usize) {
+fn elementary(out: &mut Answer, kind: Kind, place: usize) {
     out.put(kind.row().keyword);
     out.at(place);
 }
 
-fn simple(out: &mut Answer, shown: &SimpleType) {
+pub fn simple(out: &mut Answer, shown: &SimpleType) {
     match shown {
         SimpleType::Elementary(kind, place) => elementary(out, *kind, *place),
         SimpleType::Named(found) => name(out, found),
@@ -55,10 +55,18 @@ fn structure(out: &mut Answer, shown: &[Field]) {
     }
 }
 
+fn enumeration(out: &mut Answer, shown: &[Identifier]) {
+    out.put("one of");
+    for found in shown {
+        name_behind(out, " ", found);
+    }
+}
+
 fn definition(out: &mut Answer, shown: &TypeDefinition) {
     match shown {
         TypeDefinition::Array(found) => array(out, found),
         TypeDefinition::Structure(fields) => structure(out, fields),
+        TypeDefinition::Enumeration(names) => enumeration(out, names),
     }
 }
 

@@ -1,7 +1,7 @@
 //! Units with their blocks of variables as texts.
 
 use crate::answer::Answer;
-use crate::shown_types::{declared_as, elementary};
+use crate::shown_types::{declared_as, simple};
 use crate::shown_words::{name_behind, names};
 use st_trees::{Declaration, Retention, Section, Unit, UnitSort, VariableBlock};
 
@@ -40,11 +40,11 @@ fn block(out: &mut Answer, shown: &VariableBlock) {
 }
 
 fn heading(out: &mut Answer, shown: &Unit) {
-    match shown.sort {
-        UnitSort::Function(kind, place) => {
+    match &shown.sort {
+        UnitSort::Function(answer) => {
             name_behind(out, "FUNCTION ", &shown.name);
             out.put(" : ");
-            elementary(out, kind, place)
+            simple(out, answer)
         }
         UnitSort::FunctionBlock => name_behind(out, "FUNCTION_BLOCK ", &shown.name),
         UnitSort::Program => name_behind(out, "PROGRAM ", &shown.name),

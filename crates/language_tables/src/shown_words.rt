@@ -2,7 +2,7 @@
 
 use crate::answer::Answer;
 use st_trees::{Address, AddressWidth, Direction};
-use st_words::{Identifier, Literal, Number};
+use st_words::{EnumeratedValue, Identifier, Literal, Number};
 
 pub fn name(out: &mut Answer, shown: &Identifier) {
     out.name(shown.name.as_slice());
@@ -38,6 +38,16 @@ pub fn number(out: &mut Answer, shown: &Number) {
     out.at(shown.place);
 }
 
+/// A value of an enumerated type, with its type where that is written.
+pub fn value(out: &mut Answer, shown: &EnumeratedValue) {
+    if let Some(found) = &shown.type_name {
+        out.name(found.as_slice());
+        out.mark('#');
+    }
+    out.name(shown.name.as_slice());
+    out.at(shown.place);
+}
+
 pub fn literal(out: &mut Answer, shown: &Literal) {
     match shown {
         Literal::Number(found) => number(out, found),
@@ -50,6 +60,7 @@ pub fn literal(out: &mut Answer, shown: &Literal) {
             out.put(" ms");
             out.at(*place);
         }
+        Literal::Enumerated(found) => value(out, found),
     }
 }
 

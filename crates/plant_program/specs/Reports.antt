@@ -19,7 +19,7 @@ acked_line (Some n) = count_line (codes "acked") n
 
 -- PATH = VALUE and LF
 abbrev pub variable_line : Path → Datum → List ℕ
-variable_line path value = path_text path ++ codes " = " ++ value_text value ++ 10 ∷ []
+variable_line path value = path_text path ++ codes " = " ++ value_text [] value ++ 10 ∷ []
 
 -- the same of a value that may not be there
 abbrev pub value_line : Path → Option Datum → List ℕ

@@ -62,7 +62,7 @@ pub fn write_variable<W: Write>(out: &mut W, path: &Path, value: Value) -> io::R
 {
     write_path(out, path)?;
     out.write_all(b" = ")?;
-    write_value(out, value)?;
+    write_value(out, value, &[])?;
     out.write_all(b"\n")
 }
 

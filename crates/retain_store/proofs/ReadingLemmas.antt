@@ -1,5 +1,6 @@
 -- What a loop over the lines and their values keeps.
 use Rattle.std.proofs.Common.{◌≡◌, ℕ, zero, suc, ◌+◌, ◌-◌, ◌*◌, ◌<◌, ◌≤◌, Bool, true, false, List, [], ◌∷◌, ◌++◌}
+use Rattle.std.proofs.lemmas.Bool.{and_parts}
 use Rattle.std.proofs.Common.{length, map, drop, Option, Some, None, refl, sym, ap, ◌∙◌, arith, append_assoc, lit≤}
 use Rattle.std.specs.Prelude.{◌==◌}
 use Rattle.std.proofs.lemmas.Bool.{eqb-true, eqb-false}
@@ -7,10 +8,10 @@ use Rattle.std.proofs.lemmas.List.{length-append, append-nil, map_push, length_p
 use Rattle.retain_store.specs.declared.format.TheConstants.{MAX_LAYOUT_BYTES, MAX_LINES}
 use Rattle.st_words.specs.declared.kind.Kind.{Kind}
 use Rattle.st_words.specs.declared.kind.Kind.TheVariants.{Sint, Int, Dint, Lint, Usint, Uint, Udint, Ulint, Byte, Word}
-use Rattle.st_words.specs.declared.kind.Kind.TheVariants.{Dword, Lword, Time, Bool as Boolean}
+use Rattle.st_words.specs.declared.kind.Kind.TheVariants.{Dword, Lword, Time, Bool as Boolean, Enumerated}
 use Rattle.st_words.specs.Kinds.{row_of}
 use Rattle.st_words.specs.Values.{Datum}
-use Rattle.retain_store.specs.Records.{Line, line_text, is_path_text}
+use Rattle.retain_store.specs.Records.{Line, line_text, is_path_text, has_keyword, is_line}
 use Rattle.retain_store.specs.Reading.{◌>>=◌, cut, line_at, value_at, RecordedVariable, variable_at, variables_in}
 use Rattle.retain_store.specs.Reading.{path_from, first_word, AreVariables}
 use Rattle.retain_store.specs.FieldLaws.{bind_some, some_is, cut_again}
@@ -32,33 +33,35 @@ pub record Reads (text bytes left rest starts : List ℕ) (values : List Datum) 
   pub lines : 6 * length starts + length left ≤ length text
   pub counted : length values ≡ length starts
 
-keyword_long : (k : Kind) → 3 ≤ length (row_of k).keyword
-keyword_long Sint = lit≤ tt
-keyword_long Int = lit≤ tt
-keyword_long Dint = lit≤ tt
-keyword_long Lint = lit≤ tt
-keyword_long Usint = lit≤ tt
-keyword_long Uint = lit≤ tt
-keyword_long Udint = lit≤ tt
-keyword_long Ulint = lit≤ tt
-keyword_long Byte = lit≤ tt
-keyword_long Word = lit≤ tt
-keyword_long Dword = lit≤ tt
-keyword_long Lword = lit≤ tt
-keyword_long Time = lit≤ tt
-keyword_long Boolean = lit≤ tt
+keyword_long : (k : Kind) → has_keyword k ≡ true → 3 ≤ length (row_of k).keyword
+keyword_long Sint named = lit≤ tt
+keyword_long Int named = lit≤ tt
+keyword_long Dint named = lit≤ tt
+keyword_long Lint named = lit≤ tt
+keyword_long Usint named = lit≤ tt
+keyword_long Uint named = lit≤ tt
+keyword_long Udint named = lit≤ tt
+keyword_long Ulint named = lit≤ tt
+keyword_long Byte named = lit≤ tt
+keyword_long Word named = lit≤ tt
+keyword_long Dword named = lit≤ tt
+keyword_long Lword named = lit≤ tt
+keyword_long Time named = lit≤ tt
+keyword_long Boolean named = lit≤ tt
+keyword_long (Enumerated names number) named = absurd cc
 
 path_long : (path : List ℕ) → is_path_text path ≡ true → 1 ≤ length path
 path_long [] h = absurd cc
 path_long (b ∷ bytes) h = omega arith
 
 -- a line has at least six bytes
-pub line_long : (l : Line) (rest : List ℕ) → is_path_text l.path ≡ true → 6 + length rest ≤ length (line_text l ++ rest)
+pub line_long : (l : Line) (rest : List ℕ) → is_line l ≡ true → 6 + length rest ≤ length (line_text l ++ rest)
 line_long l rest sound =
+    let p = and_parts (is_path_text l.path) (has_keyword l.kind) sound in
     omega (
       arith,
-      keyword_long l.kind,
-      path_long l.path sound,
+      keyword_long l.kind p.1,
+      path_long l.path p.0,
       ap length (line_parts l rest),
       length-append l.path
           (32 ∷ ((row_of l.kind).keyword ++ 10 ∷ rest)),
@@ -67,7 +70,7 @@ line_long l rest sound =
 
 -- the line of a variable that is read
 pub variable_line : (text bytes : List ℕ) (p : RecordedVariable × List ℕ × List ℕ) → variable_at text bytes ≡ Some p
-    → (l : Line) × (text ≡ line_text l ++ p.1) × (is_path_text l.path ≡ true) × (p.0.path ≡ l.path)
+    → (l : Line) × (text ≡ line_text l ++ p.1) × (is_line l ≡ true) × (p.0.path ≡ l.path)
 unfolding variable_at
 variable_line text bytes p e =
     let a = bind_some (line_at text) (λ line. value_at line.0.kind bytes >>=
@@ -85,12 +88,13 @@ variable_line text bytes p e =
 
 -- the path where a line begins
 path_there : (text left behind : List ℕ) (start : ℕ) (l : Line) → left ≡ drop start text → left ≡ line_text l ++ behind
-    → is_path_text l.path ≡ true → path_from text start ≡ l.path
+    → is_line l ≡ true → path_from text start ≡ l.path
 path_there text left behind start l offset is sound =
     let line : drop start text ≡ l.path ++ 32 ∷ ((row_of l.kind).keyword ++ 10 ∷ behind) = sym offset ∙ is
     ∙ line_parts l behind in
     ap (λ (t : List ℕ). first_word (cut 32 t)) line
-    ∙ ap first_word (cut_again 32 l.path ((row_of l.kind).keyword ++ 10 ∷ behind) (path_has_no_space l.path sound))
+    ∙ ap first_word (cut_again 32 l.path ((row_of l.kind).keyword ++ 10 ∷ behind) (path_has_no_space l.path
+    (and_parts (is_path_text l.path) (has_keyword l.kind) sound).0))
 
 with_nothing : (o : Option (List RecordedVariable)) → with_front [] o ≡ o
 with_nothing None = refl

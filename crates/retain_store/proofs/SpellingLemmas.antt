@@ -1,5 +1,5 @@
 -- Writing a record's fields one after the other.
-use Rattle.std.proofs.Common.{◌≡◌, ℕ, suc, ◌+◌, ◌-◌, ◌<◌, ◌≤◌, ◌^◌, ◌++◌, [], List, length, take, drop, get_or, refl}
+use Rattle.std.proofs.Common.{subst, ◌≡◌, ℕ, suc, ◌+◌, ◌-◌, ◌<◌, ◌≤◌, ◌^◌, ◌++◌, [], List, length, take, drop, get_or, refl}
 use Rattle.std.proofs.Common.{sym, ap, ◌∙◌, arith, append_assoc}
 use Rattle.std.specs.Int.{Width, w64, w128, to_be_bytes, cast_unsigned}
 use Rattle.std.specs.Prelude.{ℤ, pos, negsuc, ◌+ℤ◌, ◌<ℤ◌, ◌≤ℤ◌, neg_ℤ, true}
@@ -12,10 +12,10 @@ use Rattle.std.proofs.lemmas.Int.{ints, to_z-of_z}
 use Rattle.std.proofs.lemmas.List.Concat.{flat_map-append}
 use Rattle.st_words.specs.declared.kind.Kind.{Kind}
 use Rattle.st_words.specs.declared.kind.Kind.TheVariants.{Sint, Int, Dint, Lint, Usint, Uint, Udint, Ulint, Byte, Word}
-use Rattle.st_words.specs.declared.kind.Kind.TheVariants.{Dword, Lword, Time, Bool as Boolean}
+use Rattle.st_words.specs.declared.kind.Kind.TheVariants.{Dword, Lword, Time, Bool as Boolean, Enumerated}
 use Rattle.st_words.specs.Values.{Datum}
 use Rattle.st_words.specs.Kinds.{holds, width_of}
-use Rattle.retain_store.specs.LineLaws.{type_of}
+use Rattle.retain_store.specs.LineLaws.{near_of}
 use Rattle.retain_store.specs.Records.{wide_of, value_bytes}
 
 -- the last bytes of eight
@@ -35,6 +35,7 @@ last_bytes Dword n = refl
 last_bytes Lword n = refl
 last_bytes Time n = refl
 last_bytes Boolean n = refl
+last_bytes (Enumerated names number) n = refl
 
 pub value_written : (d : Datum) (k : Kind) (width n : ℕ) (bytes before after : List ℕ) → k ≡ d.kind → width ≡ width_of k
     → n ≡ cast_unsigned (wide_of d.kind) d.number → bytes ≡ to_be_bytes w64 n
@@ -96,7 +97,7 @@ bits_are d k number span is held kind exact low high number_fits span_fits test 
     let negative : number <ℤ pos 0 = negative_from number (ap (λ (z : ℤ). lt_z z (pos 0)) (sym plain) ∙ test) in
     let up : pos 0 ≤ℤ span = rw exact (omega (arith, ints)) in
     let sum : SFits w128 (number +ℤ span) = sum_fits number span low negative up high in
-    let near : mag number < 2 ^ bits (wide_of d.kind) = rw is ((type_of d.kind).near d.number held) in
+    let near : mag number < 2 ^ bits (wide_of d.kind) = rw is (near_of d.kind d.number held (subst (λ (z : ℤ). z <ℤ pos 0) is negative)) in
     let whole : nat_abs (to_z w128 (of_z w128 (to_z w128 (of_z w128 number) +ℤ to_z w128 (of_z w128 span))))
     ≡ nat_abs (number +ℤ span) = rw (plain, plain_span, to_z-of_z w128 (number +ℤ span) sum) refl in
     let wide : nat_abs (number +ℤ span) ≡ nat_abs (number +ℤ pos (2 ^ bits (wide_of d.kind))) =

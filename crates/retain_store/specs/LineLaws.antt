@@ -5,19 +5,20 @@ use Rattle.std.specs.Prelude.{◌==◌, ◌&&◌, ℤ, pos, negsuc, bytes_eq, na
 use Rattle.std.specs.List.{find, list_all, flat_map, AllByRecursion}
 use Rattle.std.specs.Int.{Width, w8, w16, w32, w64, byte_len, to_be_bytes, cast_signed, cast_unsigned}
 use Rattle.std.proofs.lemmas.Bool.{and_parts, leb-true, ne_eqb}
-use Rattle.std.proofs.lemmas.Int.{to_z-of_z, of_z-to_z}
+use Rattle.std.proofs.lemmas.Int.{to_z-of_z, of_z-to_z, ints}
 use Rattle.std.proofs.Common.{lit<}
-use Rattle.std.specs.Prelude.{int_le}
+use Rattle.std.specs.Prelude.{int_le, ◌<ℤ◌}
 use lib.Signed.{mag}
 use mir.Val.{bits, hbits}
 use Rattle.std.proofs.lemmas.Slice.Eq.{bytes_eq-Decides}
 use Rattle.std.proofs.lemmas.List.{length-append}
 use Rattle.st_words.specs.declared.kind.Kind.{Kind}
 use Rattle.st_words.specs.declared.kind.Kind.TheVariants.{Sint, Int, Dint, Lint, Usint, Uint, Udint, Ulint, Byte, Word}
-use Rattle.st_words.specs.declared.kind.Kind.TheVariants.{Dword, Lword, Time, Bool as Boolean}
+use Rattle.st_words.specs.declared.kind.Kind.TheVariants.{Dword, Lword, Time, Bool as Boolean, Enumerated}
 use Rattle.st_words.specs.Kinds.{row_of, holds, width_of}
 use Rattle.st_words.specs.Values.{Datum, IsHeld}
-use Rattle.retain_store.specs.Records.{Line, line_text, text_of, is_visible, is_path_text, wide_of, value_bytes}
+use Rattle.retain_store.specs.Records.{Line, line_text, text_of, is_visible, is_path_text, has_keyword, is_line}
+use Rattle.retain_store.specs.Records.{wide_of, value_bytes}
 use Rattle.retain_store.specs.Reading.{◌>>=◌, number_at, cut, all_kinds, kind_of, line_at, number_of, value_at}
 use Rattle.retain_store.specs.Reading.{RecordedVariable, variable_at, variables_in}
 use Rattle.retain_store.specs.FieldLaws.{IsBytes, bind_some, some_is, when_some, TakesBytes, IsWide, wide8, wide16}
@@ -34,27 +35,43 @@ found_passes {X} test (y ∷ ys) x e = elim (chosen (test y) (Some y) (find test
   | inr later ↦ found_passes test ys x later.1
 ]
 
-pub kind_of_keyword : (k : Kind) → kind_of (row_of k).keyword ≡ Some k
+pub kind_of_keyword : (k : Kind) → has_keyword k ≡ true → kind_of (row_of k).keyword ≡ Some k
 unfolding kind_of
-kind_of_keyword Sint = refl
-kind_of_keyword Int = refl
-kind_of_keyword Dint = refl
-kind_of_keyword Lint = refl
-kind_of_keyword Usint = refl
-kind_of_keyword Uint = refl
-kind_of_keyword Udint = refl
-kind_of_keyword Ulint = refl
-kind_of_keyword Byte = refl
-kind_of_keyword Word = refl
-kind_of_keyword Dword = refl
-kind_of_keyword Lword = refl
-kind_of_keyword Time = refl
-kind_of_keyword Boolean = refl
+kind_of_keyword Sint named = refl
+kind_of_keyword Int named = refl
+kind_of_keyword Dint named = refl
+kind_of_keyword Lint named = refl
+kind_of_keyword Usint named = refl
+kind_of_keyword Uint named = refl
+kind_of_keyword Udint named = refl
+kind_of_keyword Ulint named = refl
+kind_of_keyword Byte named = refl
+kind_of_keyword Word named = refl
+kind_of_keyword Dword named = refl
+kind_of_keyword Lword named = refl
+kind_of_keyword Time named = refl
+kind_of_keyword Boolean named = refl
+kind_of_keyword (Enumerated names number) named = absurd cc
 
 pub kind_of_takes : (word : List ℕ) (k : Kind) → kind_of word ≡ Some k → word ≡ (row_of k).keyword
 unfolding kind_of
 kind_of_takes word k e = sym
     ((bytes_eq-Decides (row_of k).keyword word).0 (found_passes (λ l. bytes_eq (row_of l).keyword word) all_kinds k e))
+
+-- what is found is one of the list
+found_among : {X : Type 0} (P : X → Type 0) (test : X → Bool) (xs : List X) (x : X) → AllByRecursion P xs
+    → find test xs ≡ Some x → P x
+found_among P test [] x all e = absurd cc
+found_among {X} P test (y ∷ ys) x all e = elim (chosen (test y) (Some y) (find test ys) (Some x) e) [
+  | inl here ↦ subst P (some_is y x here.1) all.0
+  | inr later ↦ found_among P test ys x all.1 later.1
+]
+
+pub kind_of_named : (word : List ℕ) (k : Kind) → kind_of word ≡ Some k → has_keyword k ≡ true
+unfolding kind_of
+kind_of_named word k e =
+    found_among (λ (l : Kind). has_keyword l ≡ true) (λ l. bytes_eq (row_of l).keyword word) all_kinds k
+    (refl, (refl, (refl, (refl, (refl, (refl, (refl, (refl, (refl, (refl, (refl, (refl, (refl, (refl, tt)))))))))))))) e
 
 pub keyword_in_line : (k : Kind) → has_no 10 (row_of k).keyword ≡ true
 keyword_in_line Sint = refl
@@ -71,6 +88,7 @@ keyword_in_line Dword = refl
 keyword_in_line Lword = refl
 keyword_in_line Time = refl
 keyword_in_line Boolean = refl
+keyword_in_line (Enumerated names number) = refl
 
 -- ---- lines
 
@@ -94,7 +112,7 @@ line_parts l rest = simp append_assoc
 line_made : (text path after word rest : List ℕ) (k : Kind) (p : Line × List ℕ) → cut 32 text ≡ Some (path, after)
     → cut 10 after ≡ Some (word, rest) → kind_of word ≡ Some k → is_path_text path ≡ true
     → (record { path = path; kind = k }, rest) ≡ p
-    → (text ≡ line_text p.0 ++ p.1) × (is_path_text p.0.path ≡ true)
+    → (text ≡ line_text p.0 ++ p.1) × (is_line p.0 ≡ true)
 line_made text path after word rest k p first second named sound is =
     let inner : after ≡ (row_of k).keyword ++ 10 ∷ rest = cut_takes 10 after (word, rest) second
     ∙ ap (λ (w : List ℕ). w ++ 10 ∷ rest) (kind_of_takes word k named) in
@@ -102,10 +120,11 @@ line_made text path after word rest k p first second named sound is =
     line_parts (record { path = path; kind = k }) rest in
     let whole : text ≡ line_text (record { path = path; kind = k }) ++ rest = cut_takes 32 text (path, after) first
     ∙ ap (λ (r : List ℕ). path ++ 32 ∷ r) inner ∙ sym parts in
-    subst (λ (q : Line × List ℕ). (text ≡ line_text q.0 ++ q.1) × (is_path_text q.0.path ≡ true)) is (whole, sound)
+    subst (λ (q : Line × List ℕ). (text ≡ line_text q.0 ++ q.1) × (is_line q.0 ≡ true)) is
+    (whole, rw (sound, kind_of_named word k named) refl)
 
 pub line_takes : (text : List ℕ) (p : Line × List ℕ) → line_at text ≡ Some p
-    → (text ≡ line_text p.0 ++ p.1) × (is_path_text p.0.path ≡ true)
+    → (text ≡ line_text p.0 ++ p.1) × (is_line p.0 ≡ true)
 unfolding line_at
 line_takes text p e =
     let a = bind_some (cut 32 text) (λ word. cut 10 word.1 >>= λ line. kind_of line.0 >>=
@@ -117,16 +136,16 @@ line_takes text p e =
     let d = when_some (is_path_text a.0.0) (record { path = a.0.0; kind = c.0 }, b.0.1) p c.2 in
     line_made text a.0.0 a.0.1 b.0.0 b.0.1 c.0 p a.1 b.1 c.1 d.0 d.1
 
-pub line_again : (l : Line) (rest : List ℕ) → is_path_text l.path ≡ true
-    → line_at (line_text l ++ rest) ≡ Some (l, rest)
+pub line_again : (l : Line) (rest : List ℕ) → is_line l ≡ true → line_at (line_text l ++ rest) ≡ Some (l, rest)
 unfolding line_at
 line_again l rest sound =
+    let p = and_parts (is_path_text l.path) (has_keyword l.kind) sound in
     ap line_at (line_parts l rest)
     ∙ rw (
-      cut_again 32 l.path ((row_of l.kind).keyword ++ 10 ∷ rest) (path_has_no_space l.path sound),
+      cut_again 32 l.path ((row_of l.kind).keyword ++ 10 ∷ rest) (path_has_no_space l.path p.0),
       cut_again 10 (row_of l.kind).keyword rest (keyword_in_line l.kind),
-      kind_of_keyword l.kind,
-      sound,
+      kind_of_keyword l.kind p.1,
+      p.0,
     ) refl
 
 -- ---- values
@@ -197,34 +216,72 @@ unsigned_type k w n limit is wide len same lt range sign = record {
   near = λ z h. rw is (natural_near n limit (2 ^ bits w) z lt same (unsigned_natural n z (sym (range z) ∙ h)));
 }
 
-pub type_of : (k : Kind) → IsSpelledType k
-type_of Sint = signed_type Sint w8 (2 ^ 7 - 1) (2 ^ 8) refl wide8 refl refl (lit< tt) (lit< tt) (λ z. refl) (λ m. refl)
-type_of Int =
+pub type_of : (k : Kind) → has_keyword k ≡ true → IsSpelledType k
+type_of Sint named = signed_type Sint w8 (2 ^ 7 - 1) (2 ^ 8) refl wide8 refl refl (lit< tt) (lit< tt) (λ z. refl) (λ m. refl)
+type_of Int named =
     signed_type Int w16 (2 ^ 15 - 1) (2 ^ 16) refl wide16 refl refl (lit< tt) (lit< tt) (λ z. refl) (λ m. refl)
-type_of Dint =
+type_of Dint named =
     signed_type Dint w32 (2 ^ 31 - 1) (2 ^ 32) refl wide32 refl refl (lit< tt) (lit< tt) (λ z. refl) (λ m. refl)
-type_of Lint =
+type_of Lint named =
     signed_type Lint w64 (2 ^ 63 - 1) (2 ^ 64) refl wide64 refl refl (lit< tt) (lit< tt) (λ z. refl) (λ m. refl)
-type_of Usint = unsigned_type Usint w8 (2 ^ 8 - 1) (2 ^ 8) refl wide8 refl refl (lit< tt) (λ z. refl) (λ m. refl)
-type_of Uint = unsigned_type Uint w16 (2 ^ 16 - 1) (2 ^ 16) refl wide16 refl refl (lit< tt) (λ z. refl) (λ m. refl)
-type_of Udint = unsigned_type Udint w32 (2 ^ 32 - 1) (2 ^ 32) refl wide32 refl refl (lit< tt) (λ z. refl) (λ m. refl)
-type_of Ulint = unsigned_type Ulint w64 (2 ^ 64 - 1) (2 ^ 64) refl wide64 refl refl (lit< tt) (λ z. refl) (λ m. refl)
-type_of Byte = unsigned_type Byte w8 (2 ^ 8 - 1) (2 ^ 8) refl wide8 refl refl (lit< tt) (λ z. refl) (λ m. refl)
-type_of Word = unsigned_type Word w16 (2 ^ 16 - 1) (2 ^ 16) refl wide16 refl refl (lit< tt) (λ z. refl) (λ m. refl)
-type_of Dword = unsigned_type Dword w32 (2 ^ 32 - 1) (2 ^ 32) refl wide32 refl refl (lit< tt) (λ z. refl) (λ m. refl)
-type_of Lword = unsigned_type Lword w64 (2 ^ 64 - 1) (2 ^ 64) refl wide64 refl refl (lit< tt) (λ z. refl) (λ m. refl)
-type_of Time =
+type_of Usint named = unsigned_type Usint w8 (2 ^ 8 - 1) (2 ^ 8) refl wide8 refl refl (lit< tt) (λ z. refl) (λ m. refl)
+type_of Uint named = unsigned_type Uint w16 (2 ^ 16 - 1) (2 ^ 16) refl wide16 refl refl (lit< tt) (λ z. refl) (λ m. refl)
+type_of Udint named = unsigned_type Udint w32 (2 ^ 32 - 1) (2 ^ 32) refl wide32 refl refl (lit< tt) (λ z. refl) (λ m. refl)
+type_of Ulint named = unsigned_type Ulint w64 (2 ^ 64 - 1) (2 ^ 64) refl wide64 refl refl (lit< tt) (λ z. refl) (λ m. refl)
+type_of Byte named = unsigned_type Byte w8 (2 ^ 8 - 1) (2 ^ 8) refl wide8 refl refl (lit< tt) (λ z. refl) (λ m. refl)
+type_of Word named = unsigned_type Word w16 (2 ^ 16 - 1) (2 ^ 16) refl wide16 refl refl (lit< tt) (λ z. refl) (λ m. refl)
+type_of Dword named = unsigned_type Dword w32 (2 ^ 32 - 1) (2 ^ 32) refl wide32 refl refl (lit< tt) (λ z. refl) (λ m. refl)
+type_of Lword named = unsigned_type Lword w64 (2 ^ 64 - 1) (2 ^ 64) refl wide64 refl refl (lit< tt) (λ z. refl) (λ m. refl)
+type_of Time named =
     signed_type Time w64 (2 ^ 63 - 1) (2 ^ 64) refl wide64 refl refl (lit< tt) (lit< tt) (λ z. refl) (λ m. refl)
-type_of Boolean = unsigned_type Boolean w8 1 (2 ^ 8) refl wide8 refl refl (lit< tt) (λ z. refl) (λ m. refl)
+type_of Boolean named = unsigned_type Boolean w8 1 (2 ^ 8) refl wide8 refl refl (lit< tt) (λ z. refl) (λ m. refl)
+type_of (Enumerated names number) named = absurd cc
+
+-- a negative number of a type has fewer bits than the type
+pub near_of : (k : Kind) (z : ℤ) → holds k z ≡ true → z <ℤ pos 0 → mag z < 2 ^ bits (wide_of k)
+near_of (Enumerated names number) z held below =
+    let n = unsigned_natural (names - 1) z held in absurd (omega (arith, ints, n.1))
+near_of Sint z held below = (type_of Sint refl).near z held
+near_of Int z held below = (type_of Int refl).near z held
+near_of Dint z held below = (type_of Dint refl).near z held
+near_of Lint z held below = (type_of Lint refl).near z held
+near_of Usint z held below = (type_of Usint refl).near z held
+near_of Uint z held below = (type_of Uint refl).near z held
+near_of Udint z held below = (type_of Udint refl).near z held
+near_of Ulint z held below = (type_of Ulint refl).near z held
+near_of Byte z held below = (type_of Byte refl).near z held
+near_of Word z held below = (type_of Word refl).near z held
+near_of Dword z held below = (type_of Dword refl).near z held
+near_of Lword z held below = (type_of Lword refl).near z held
+near_of Time z held below = (type_of Time refl).near z held
+near_of Boolean z held below = (type_of Boolean refl).near z held
+
+length_by_kind : (k : Kind) (z : ℤ) → length (to_be_bytes (wide_of k) (cast_unsigned (wide_of k) z)) ≡ width_of k
+length_by_kind Sint z = wide8.len (cast_unsigned w8 z)
+length_by_kind Int z = wide16.len (cast_unsigned w16 z)
+length_by_kind Dint z = wide32.len (cast_unsigned w32 z)
+length_by_kind Lint z = wide64.len (cast_unsigned w64 z)
+length_by_kind Usint z = wide8.len (cast_unsigned w8 z)
+length_by_kind Uint z = wide16.len (cast_unsigned w16 z)
+length_by_kind Udint z = wide32.len (cast_unsigned w32 z)
+length_by_kind Ulint z = wide64.len (cast_unsigned w64 z)
+length_by_kind Byte z = wide8.len (cast_unsigned w8 z)
+length_by_kind Word z = wide16.len (cast_unsigned w16 z)
+length_by_kind Dword z = wide32.len (cast_unsigned w32 z)
+length_by_kind Lword z = wide64.len (cast_unsigned w64 z)
+length_by_kind Time z = wide64.len (cast_unsigned w64 z)
+length_by_kind Boolean z = wide8.len (cast_unsigned w8 z)
+length_by_kind (Enumerated names number) z = wide8.len (cast_unsigned w8 z)
 
 pub value_length : (d : Datum) → length (value_bytes d) ≡ width_of d.kind
-value_length d = (type_of d.kind).wide.len (cast_unsigned (wide_of d.kind) d.number) ∙ (type_of d.kind).len
+value_length d = length_by_kind d.kind d.number
 
-pub value_takes : (k : Kind) (bytes : List ℕ) (p : Datum × List ℕ) → IsBytes bytes → value_at k bytes ≡ Some p
+pub value_takes : (k : Kind) (bytes : List ℕ) (p : Datum × List ℕ) → has_keyword k ≡ true → IsBytes bytes
+    → value_at k bytes ≡ Some p
     → TakesBytes bytes (value_bytes p.0) p.1 × (p.0.kind ≡ k) × IsHeld p.0
 unfolding value_at
-value_takes k bytes p fits e =
-    let t = type_of k in
+value_takes k bytes p named fits e =
+    let t = type_of k named in
     let a = bind_some (number_at (wide_of k) bytes)
     (λ n. cond (holds k (number_of k n.0)) (Some (record { kind = k; number = number_of k n.0 }, n.1)) None) p e in
     let b = when_some (holds k (number_of k a.0.0)) (record { kind = k; number = number_of k a.0.0 }, a.0.1) p a.2 in
@@ -234,10 +291,11 @@ value_takes k bytes p fits e =
     subst (λ (q : Datum × List ℕ). TakesBytes bytes (value_bytes q.0) q.1 × (q.0.kind ≡ k) × IsHeld q.0) b.1
     (made, refl, b.0)
 
-pub value_again : (d : Datum) (rest : List ℕ) → IsHeld d → value_at d.kind (value_bytes d ++ rest) ≡ Some (d, rest)
+pub value_again : (d : Datum) (rest : List ℕ) → has_keyword d.kind ≡ true → IsHeld d
+    → value_at d.kind (value_bytes d ++ rest) ≡ Some (d, rest)
 unfolding value_at
-value_again d rest held =
-    let t = type_of d.kind in
+value_again d rest named held =
+    let t = type_of d.kind named in
     rw (
       number_again (wide_of d.kind) t.limit t.wide (cast_unsigned (wide_of d.kind) d.number) rest
           (t.fits d.number held),
@@ -253,7 +311,7 @@ line_of v = record { path = v.path; kind = v.value.kind }
 
 -- what a variable of a record may be
 pub record IsSoundVariable (v : RecordedVariable) : Type 0 where
-  pub path : is_path_text v.path ≡ true
+  pub line : is_line (line_of v) ≡ true
   pub value : IsHeld v.value
 
 abbrev pub made : Line → Datum → RecordedVariable
@@ -269,18 +327,20 @@ variable_takes text bytes p fits e =
     let b = bind_some (value_at a.0.0.kind bytes)
     (λ value. Some (record { path = a.0.0.path; value = value.0 }, a.0.1, value.1)) p a.2 in
     let l = line_takes text a.0 a.1 in
-    let v = value_takes a.0.0.kind bytes b.0 fits b.1 in
+    let named = and_parts (is_path_text a.0.0.path) (has_keyword a.0.0.kind) l.1 in
+    let v = value_takes a.0.0.kind bytes b.0 named.1 fits b.1 in
     let whole : text ≡ line_text (line_of (made a.0.0 b.0.0)) ++ a.0.1 = l.0
     ∙ ap (λ (k : Kind). line_text (record { path = a.0.0.path; kind = k }) ++ a.0.1) (sym v.1) in
     subst (λ (q : RecordedVariable × List ℕ × List ℕ). (text ≡ line_text (line_of q.0) ++ q.1)
     × TakesBytes bytes (value_bytes q.0.value) q.2 × IsSoundVariable q.0)
-    (some_is (made a.0.0 b.0.0, a.0.1, b.0.1) p b.2) (whole, v.0, record { path = l.1; value = v.2 })
+    (some_is (made a.0.0 b.0.0, a.0.1, b.0.1) p b.2) (whole, v.0, record { line = rw (named.0, v.1, named.1) refl; value = v.2 })
 
-pub variable_again : (l : Line) (d : Datum) (text bytes : List ℕ) → is_path_text l.path ≡ true → IsHeld d
+pub variable_again : (l : Line) (d : Datum) (text bytes : List ℕ) → is_line l ≡ true → IsHeld d
     → l.kind ≡ d.kind → variable_at (line_text l ++ text) (value_bytes d ++ bytes) ≡ Some (made l d, text, bytes)
 unfolding variable_at
 variable_again l d text bytes sound held same =
-    rw (line_again l text sound, same, value_again d bytes held) refl
+    let named = and_parts (is_path_text l.path) (has_keyword l.kind) sound in
+    rw (line_again l text sound, same, value_again d bytes (sym (ap has_keyword same) ∙ named.1) held) refl
 
 -- a line is not empty: what is after it is shorter than the text
 line_is_some : (l : Line) (rest : List ℕ)
@@ -350,7 +410,7 @@ heads_alike : (k l : Kind) (ks ls : List Kind) → k ∷ ks ≡ l ∷ ls → (k 
 heads_alike k l ks ls e = (cc, cc)
 
 variables_again_at : (l : Line) (d : Datum) (lines : List Line) (values : List Datum) (most : ℕ)
-    → is_path_text l.path ≡ true → IsHeld d → l.kind ≡ d.kind → AreRead most lines values
+    → is_line l ≡ true → IsHeld d → l.kind ≡ d.kind → AreRead most lines values
     → AreRead (suc most) (l ∷ lines) (d ∷ values)
 unfolding variables_in
 variables_again_at l d lines values most sound held same rest =
@@ -368,7 +428,7 @@ variables_again_at l d lines values most sound held same rest =
     }
 
 pub variables_again : (lines : List Line) (values : List Datum) (most : ℕ)
-    → map (λ d. d.kind) values ≡ map (λ l. l.kind) lines → AllByRecursion (λ l. is_path_text l.path ≡ true) lines
+    → map (λ d. d.kind) values ≡ map (λ l. l.kind) lines → AllByRecursion (λ l. is_line l ≡ true) lines
     → AllByRecursion IsHeld values → length (text_of lines) ≤ most → AreRead most lines values
 unfolding variables_in
 variables_again [] [] most same sound held fits = record { vs = []; read = refl; paths = refl; found = refl }

@@ -11,7 +11,7 @@ use Rattle.std.proofs.lemmas.List.{take_at, drop_at, take-append-drop, length-ap
 use Rattle.st_words.specs.declared.limits.TheConstants.{MAX_RECORD_BODY, MOMENT_LIMIT}
 use Rattle.st_words.specs.declared.kind.Kind.{Kind}
 use Rattle.st_words.specs.Values.{IsHeld}
-use Rattle.retain_store.specs.Records.{Content, line_text, text_of, is_path_text, IsLayoutText, moment_code}
+use Rattle.retain_store.specs.Records.{Content, line_text, text_of, is_line, IsLayoutText, moment_code}
 use Rattle.retain_store.specs.Records.{value_bytes, record_bytes, IsRecord}
 use Rattle.retain_store.specs.Reading.{◌>>=◌, number_at, RecordedVariable, variables_in, are_distinct, moment_of, Parts}
 use Rattle.retain_store.specs.Reading.{parts_at, decoded}
@@ -155,10 +155,10 @@ lines_kinds : (vs : List RecordedVariable)
 lines_kinds [] = refl
 lines_kinds (v ∷ vs) = ap (λ (x : List Kind). v.value.kind ∷ x) (lines_kinds vs)
 
-paths_sound : (vs : List RecordedVariable) → AllByRecursion IsSoundVariable vs
-    → AllByRecursion (λ l. is_path_text l.path ≡ true) (map line_of vs)
-paths_sound [] h = tt
-paths_sound (v ∷ vs) h = (h.0.path, paths_sound vs h.1)
+lines_sound : (vs : List RecordedVariable) → AllByRecursion IsSoundVariable vs
+    → AllByRecursion (λ l. is_line l ≡ true) (map line_of vs)
+lines_sound [] h = tt
+lines_sound (v ∷ vs) h = (h.0.line, lines_sound vs h.1)
 
 values_held : (vs : List RecordedVariable) → AllByRecursion IsSoundVariable vs
     → AllByRecursion IsHeld (map (λ v. v.value) vs)
@@ -169,7 +169,7 @@ pub layout_of : (text : List ℕ) (vs : List RecordedVariable) → text ≡ text
     → are_distinct (paths_of vs) ≡ true → IsLayoutText text (map (λ d. d.kind) (map (λ v. v.value) vs))
 layout_of text vs is all once = record {
   lines = map line_of vs;
-  paths = paths_sound vs all;
+  sound = lines_sound vs all;
   once = rw (lines_paths vs) (distinct_is (paths_of vs) once);
   spelled = is ∙ texts_are vs;
   typed = lines_kinds vs;
@@ -220,7 +220,7 @@ decoded_of body c h =
     let first : parts_at body
     ≡ Some (record { moment = c.moment; layout = c.layout; rest = flat_map value_bytes c.values }) =
     ap parts_at same ∙ parts_again c.moment c.layout (flat_map value_bytes c.values) h.sound.moment long in
-    let all = variables_again layout.lines c.values (length c.layout) layout.typed layout.paths h.sound.values
+    let all = variables_again layout.lines c.values (length c.layout) layout.typed layout.sound h.sound.values
     (omega (arith, ap length layout.spelled)) in
     let second : variables_in (length c.layout) c.layout (flat_map value_bytes c.values) ≡ Some all.vs =
     ap (λ (t : List ℕ). variables_in (length c.layout) t (flat_map value_bytes c.values)) layout.spelled

@@ -34,10 +34,18 @@ abbrev pub is_path_text : List ℕ → Bool
 is_path_text [] = false
 is_path_text (b ∷ bs) = list_all is_visible (b ∷ bs)
 
--- a text that is lines for variables of these types: each path is sound, and none stands twice
+-- a type with a keyword: an elementary one
+abbrev pub has_keyword : Kind → Bool
+has_keyword k = is_path_text (row_of k).keyword
+
+-- a line that a layout text may have
+abbrev pub is_line : Line → Bool
+is_line l = is_path_text l.path && has_keyword l.kind
+
+-- a text that is lines for variables of these types: each line is sound, and no path stands twice
 pub record IsLayoutText (text : List ℕ) (kinds : List Kind) : Type 0 where
   pub lines : List Line
-  pub paths : AllByRecursion (λ l. is_path_text l.path ≡ true) lines
+  pub sound : AllByRecursion (λ l. is_line l ≡ true) lines
   pub once : IsDistinct bytes_eq (map (λ l. l.path) lines)
   pub spelled : text ≡ text_of lines
   pub typed : kinds ≡ map (λ l. l.kind) lines

@@ -4,7 +4,7 @@ use Rattle.std.specs.List.{flat_map}
 use Rattle.std.proofs.lemmas.List.{length-append}
 use Rattle.st_words.specs.declared.kind.Kind.{Kind}
 use Rattle.st_words.specs.declared.kind.Kind.TheVariants.{Sint, Int, Dint, Lint, Usint, Uint, Udint, Ulint, Byte, Word}
-use Rattle.st_words.specs.declared.kind.Kind.TheVariants.{Dword, Lword, Time, Bool as Boolean}
+use Rattle.st_words.specs.declared.kind.Kind.TheVariants.{Dword, Lword, Time, Bool as Boolean, Enumerated}
 use Rattle.st_words.specs.Values.{Datum}
 use Rattle.st_words.specs.Kinds.{width_of}
 use Rattle.retain_store.specs.Records.{value_bytes, record_bytes}
@@ -27,6 +27,7 @@ width_small Dword = lit≤ tt
 width_small Lword = lit≤ tt
 width_small Time = lit≤ tt
 width_small Boolean = lit≤ tt
+width_small (Enumerated names number) = lit≤ tt
 
 values_small : (values : List Datum) → length (flat_map value_bytes values) ≤ 8 * length values
 values_small [] = omega arith

@@ -124,6 +124,9 @@ is_empty ts y us (made eq) = empty eq
 pub stmt_begins : Begins IsStmt []
 stmt_begins = record { more = []; tree = s.empty; whole = λ after. empty refl }
 
+pub stmts_begins : Begins IsStmts []
+stmts_begins = record { more = []; tree = []; whole = λ after. no_stmt }
+
 module _ (depth : ℕ) (line : ℕ → Parser Stmt) (tells : Tells line IsLine (LowStmt depth)) where
   pub sound_lines : {C : Type 0}
       → Sound C (λ n. lines (line n)) IsStmts (λ xs us. LowStmts depth xs us × (next starts_stmt us ≡ false))
