@@ -1,5 +1,5 @@
 -- Decimal numbers, read and spelled.
-use Rattle.std.proofs.Common.{◌≡◌, ◌≢◌, ◌∙◌, sym, refl, ap, ℕ, suc, zero, ◌+◌, ◌-◌, ◌<◌, ◌≤◌, ◌^◌, ℤ, pos, negsuc, List}
+use Rattle.std.proofs.Common.{◌≡◌, ◌≢◌, ◌∙◌, subst, sym, refl, ap, ℕ, suc, zero, ◌+◌, ◌-◌, ◌<◌, ◌≤◌, ◌^◌, ℤ, pos, negsuc, List}
 use Rattle.std.proofs.Common.{[], ◌∷◌, length, take, drop, get_or, Bool, true, false, ◌&&◌, ◌==◌, Option, Some, None}
 use Rattle.std.proofs.Common.{IfSome, IfNone, Result, Ok, Err, IfOk, arith, unsigned_abs}
 use Rattle.std.specs.Result.{result_ok}
@@ -10,10 +10,10 @@ use Rattle.std.proofs.lemmas.Bool.{and_parts}
 use Rattle.std.proofs.lemmas.Float.{T_from_true}
 use Rattle.st_words.specs.declared.kind.Kind.{Kind}
 use Rattle.st_words.specs.declared.kind.Kind.TheVariants.{Sint, Int, Dint, Lint, Usint, Uint, Udint, Ulint, Byte, Word}
-use Rattle.st_words.specs.declared.kind.Kind.TheVariants.{Dword, Lword, Time, Bool as Boolean}
+use Rattle.st_words.specs.declared.kind.Kind.TheVariants.{Dword, Lword, Time, Bool as Boolean, Enumerated}
 use Rattle.st_words.specs.declared.fault.Fault.{Fault}
 use Rattle.st_words.specs.declared.fault.Fault.TheVariants.{Range}
-use Rattle.st_words.specs.Kinds.{holds, least, greatest, same_kind}
+use Rattle.st_words.specs.Kinds.{holds, least, greatest, names_in, same_kind}
 use Rattle.st_words.proofs.KindLemmas.{same_kind_is, same_kind-refl}
 use Rattle.st_words.specs.Values.{Datum}
 use Rattle.std.specs.Str.{IsUtf8}
@@ -134,25 +134,27 @@ least_is Dword = le_z_yes tt
 least_is Lword = le_z_yes tt
 least_is Time = le_z_yes tt
 least_is Boolean = le_z_yes tt
+least_is (Enumerated names number) = le_z_yes tt
 
-greatest_is : (k : Kind) → greatest k ≤ℤ pos (2 ^ 64 - 1)
-greatest_is Sint = le_z_yes tt
-greatest_is Int = le_z_yes tt
-greatest_is Dint = le_z_yes tt
-greatest_is Lint = le_z_yes tt
-greatest_is Usint = le_z_yes tt
-greatest_is Uint = le_z_yes tt
-greatest_is Udint = le_z_yes tt
-greatest_is Ulint = le_z_yes tt
-greatest_is Byte = le_z_yes tt
-greatest_is Word = le_z_yes tt
-greatest_is Dword = le_z_yes tt
-greatest_is Lword = le_z_yes tt
-greatest_is Time = le_z_yes tt
-greatest_is Boolean = le_z_yes tt
+greatest_is : (k : Kind) → names_in k < 2 ^ 16 → greatest k ≤ℤ pos (2 ^ 64 - 1)
+greatest_is Sint few = le_z_yes tt
+greatest_is Int few = le_z_yes tt
+greatest_is Dint few = le_z_yes tt
+greatest_is Lint few = le_z_yes tt
+greatest_is Usint few = le_z_yes tt
+greatest_is Uint few = le_z_yes tt
+greatest_is Udint few = le_z_yes tt
+greatest_is Ulint few = le_z_yes tt
+greatest_is Byte few = le_z_yes tt
+greatest_is Word few = le_z_yes tt
+greatest_is Dword few = le_z_yes tt
+greatest_is Lword few = le_z_yes tt
+greatest_is Time few = le_z_yes tt
+greatest_is Boolean few = le_z_yes tt
+greatest_is (Enumerated names number) few = omega (arith, ints)
 
-pub held_short : (k : Kind) (z : ℤ) → holds k z ≡ true → unsigned_abs z < 2 ^ 64
-held_short k z h = held_within (least k) (greatest k) z (least_is k) (greatest_is k) h
+pub held_short : (k : Kind) (z : ℤ) → names_in k < 2 ^ 16 → holds k z ≡ true → unsigned_abs z < 2 ^ 64
+held_short k z few h = held_within (least k) (greatest k) z (least_is k) (greatest_is k few) h
 
 -- a spelling spells one number
 pub one_number : (y z : ℤ) → unsigned_abs y < 2 ^ 64 → unsigned_abs z < 2 ^ 64 → signed_decimal y ≡ signed_decimal z
@@ -174,12 +176,12 @@ pub value_spelled : (k : Kind) (field : List ℕ) (z : ℤ) (b : Bool) → b ≡
 value_spelled k field z true h e = (same_kind-refl k, sym h, e)
 value_spelled k field z false h e = tt
 
-pub value_refused : (k : Kind) (field : List ℕ) (z : ℤ) (b : Bool) → b ≡ holds k z → unsigned_abs z < 2 ^ 64
+pub value_refused : (k : Kind) (field : List ℕ) (z : ℤ) (b : Bool) → names_in k < 2 ^ 16 → b ≡ holds k z → unsigned_abs z < 2 ^ 64
     → field ≡ signed_decimal z
     → IfNone (result_ok (made k z b)) ((v : Datum) → SpellsValue k field v → ⊥)
-value_refused k field z true h short e = tt
-value_refused k field z false h short e = λ v spells.
+value_refused k field z true few h short e = tt
+value_refused k field z false few h short e = λ v spells.
     let kind = same_kind_is k v.kind spells.0 in
-    let number = one_number z v.number short (held_short v.kind v.number spells.1) (sym e ∙ spells.2) in
+    let number = one_number z v.number short (held_short v.kind v.number (subst (λ (l : Kind). names_in l < 2 ^ 16) kind few) spells.1) (sym e ∙ spells.2) in
     let held : holds k z ≡ true = rw (kind, number) spells.1 in
     cc

@@ -2,6 +2,7 @@
 
 ghost use Rattle.std.specs.Prelude.{◌≡◌, ◌≢◌, ◌^◌, ◌<◌, ◌+◌, ◌∷◌, ℕ, ℤ, IfSome, IfNone};
 ghost use Rattle.std.specs.Fmt.{decimal, signed_decimal};
+ghost use Rattle.st_words.specs.Kinds.{names_in};
 ghost use Rattle.st_words.specs.Values.{Datum};
 ghost use Rattle.image.specs.Numbers.{IsShort, SpellsValue, may_begin};
 
@@ -72,11 +73,22 @@ pub(crate) fn moment(field: &[u8]) -> Option<u64>
     }
 }
 
+/// How many names a type has: fewer than 65,536, so that its greatest number is short.
+fn names(kind: Kind) -> u16
+    ensures { result ≡ names_in kind }
+{
+    match kind {
+        Kind::Enumerated { names, .. } => names,
+        _ => 0,
+    }
+}
+
 /// The value of the type that the field spells.
 pub(crate) fn value(kind: Kind, field: &[u8]) -> Option<Value>
     ensures spelled { IfSome result (SpellsValue kind field.now) }
     ensures none { IfNone result ((v : Datum) → ¬ (SpellsValue kind field.now v)) }
 {
+    let _few = names(kind);
     let number = whole_number(field)?;
     Value::new(kind, number).ok()
 }

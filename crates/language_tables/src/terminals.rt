@@ -11,7 +11,7 @@ use st_words::{Literal, Number};
 use std::alloc::Global;
 
 /// An opening parenthesis, a number and a literal, which follow one another.
-#[derive(Clone, Copy)]
+#[derive(Drop)]
 struct Given {
     opened: usize,
     number: Number,
@@ -20,10 +20,10 @@ struct Given {
     left: usize,
 }
 
-fn read_given(tokens: &[Token]) -> Result<Given, ReadError> {
+fn read_given(alloc: Global, tokens: &[Token]) -> Result<Given, ReadError> {
     let (opened, rest) = mark(Mark::Open, tokens)?;
     let (number, rest) = whole(rest)?;
-    let (constant, rest) = literal(rest)?;
+    let (constant, rest) = literal(alloc, rest)?;
     Ok(Given {
         opened,
         number,
@@ -48,7 +48,7 @@ fn shown_given(out: &mut Answer, given: &Given) {
 fn read_each(out: &mut Answer, alloc: Global, tokens: &[Token]) -> Result<(), ReadError> {
     let (first, rest) = keyword(Keyword::Task, tokens)?;
     let (found, rest) = name(alloc, rest)?;
-    let given = read_given(rest)?;
+    let given = read_given(alloc, rest)?;
     out.put("TASK");
     out.at(first);
     out.mark(' ');
@@ -93,7 +93,7 @@ fn is_each_refused(alloc: Global, tokens: &[Token]) -> bool {
     is_refused(mark(Mark::Close, tokens), unexpected)
         && is_refused(keyword(Keyword::With, tokens), unexpected)
         && is_refused(whole(tokens), unexpected)
-        && is_refused(literal(tokens), unexpected)
+        && is_refused(literal(alloc, tokens), unexpected)
         && is_refused(name(alloc, tokens), unexpected)
         && refused(tokens) == unexpected
 }
