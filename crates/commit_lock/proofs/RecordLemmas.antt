@@ -160,7 +160,7 @@ words_again : (l : Line) (rest : List ℕ) → is_line l ≡ true → words_at (
 words_again l rest sound = ap words_at (line_parts l rest)
     ∙ rw (
       cut_again 32 l.path ((row_of l.kind).keyword ++ 10 ∷ rest) (path_has_no_space l.path
-      (and_parts (is_path_text l.path) (has_keyword l.kind) sound).0),
+          (and_parts (is_path_text l.path) (has_keyword l.kind) sound).0),
       cut_again 10 (row_of l.kind).keyword rest (keyword_in_line l.kind),
     ) refl
 

@@ -25,7 +25,6 @@ number_text Unsigned bits z = signed_decimal z
 number_text Bits bits z = codes "16#" ++ hexadecimal (bits / 4) (unsigned_abs z)
 number_text Duration bits z = signed_decimal z ++ codes "ms"
 number_text Truth bits z = truth_text (unsigned_abs z)
-
 -- the place of a name is a number like any other
 number_text Place bits z = signed_decimal z
 
