@@ -1,0 +1,6 @@
+pub mod Shapes
+pub mod Types
+pub mod Sites
+pub mod Roots
+pub mod TextLayouts
+pub mod Libraries
