@@ -4,3 +4,4 @@ pub mod Sites
 pub mod Roots
 pub mod TextLayouts
 pub mod Libraries
+pub mod LayoutExamples

@@ -7,6 +7,7 @@
 //! examples, by contracts of functions that do nothing.
 #![tactic(auto)]
 
+pub mod examples;
 mod limits;
 
 pub use limits::MAX_TYPE_DEPTH;

@@ -1,0 +1,152 @@
+-- Words for worked examples of layouts: declarations, units and configurations as trees without places.
+use Rattle.std.specs.Prelude.{ℕ, ℤ, pos, neg_ℤ, List, [], ◌∷◌, map, Bool, true, false, Option, Some, None, codes}
+use Rattle.st_words.specs.declared.kind.Kind.{Kind}
+use Rattle.st_words.specs.declared.kind.Kind.TheVariants.{Int, Time, Word, Bool as Boolean}
+use Rattle.st_words.specs.declared.literal.Literal.TheVariants as literals
+use Rattle.st_words.specs.Values.{Datum}
+use Rattle.st_trees.specs.declared.configuration.Address.{Address}
+use Rattle.st_trees.specs.declared.configuration.AddressWidth.TheVariants.{Bit, Word as WholeWord}
+use Rattle.st_trees.specs.declared.configuration.Direction.{Direction}
+use Rattle.st_trees.specs.declared.configuration.GlobalQualifier.{GlobalQualifier}
+use Rattle.st_trees.specs.declared.configuration.Instance.{Instance}
+use Rattle.st_trees.specs.declared.data_type.SimpleType.{SimpleType}
+use Rattle.st_trees.specs.declared.data_type.SimpleType.TheVariants.{Elementary, Named}
+use Rattle.st_trees.specs.declared.data_type.VariableType.{VariableType}
+use Rattle.st_trees.specs.declared.data_type.VariableType.TheVariants as types
+use Rattle.st_trees.specs.declared.declaration.Retention.TheVariants.{Retain, NonRetain}
+use Rattle.st_trees.specs.declared.declaration.Section.{Section}
+use Rattle.st_trees.specs.declared.declaration.Section.TheVariants as sections
+use Rattle.st_trees.specs.declared.unit.UnitSort.{UnitSort}
+use Rattle.st_trees.specs.declared.unit.UnitSort.TheVariants as sorts
+use Rattle.st_trees.specs.Declarations.{Field, TypeDeclaration, Declaration, VariableBlock}
+use Rattle.st_trees.specs.Declarations as declarations
+use Rattle.st_trees.specs.Configurations.{GlobalDeclaration, GlobalBlock, Resource, Configuration, listed, located}
+use Rattle.st_trees.specs.Initials.{Initial, constant, list, structure, Element, elements_of, members_of}
+use Rattle.st_trees.specs.Statements.{Stmt}
+use Rattle.st_trees.specs.Units.{OrganisationUnit}
+use Rattle.st_trees.specs.Sources.{Source}
+use Rattle.st_trees.specs.Sources as sources
+use Rattle.st_types.specs.Scopes.{Name}
+use Rattle.st_types.specs.Examples.{identifier}
+use Rattle.st_types.specs.ResolutionExamples.{of_type, plain_number, initially}
+use Rattle.st_plans.specs.declared.plan.PlanVariable.{PlanVariable}
+use Rattle.st_plans.specs.Layouts.{path_text}
+use Rattle.st_layouts.specs.TextLayouts.{variables_of_text}
+
+-- an elementary type, and ARRAY [m..n] OF a type
+abbrev pub plain : Kind → VariableType
+plain k = types.Simple (Elementary k 0)
+
+abbrev pub array_of : ℕ → ℕ → SimpleType → VariableType
+array_of m n element = types.Array (record {
+  place = 0;
+  lower = plain_number None m;
+  upper = plain_number None n;
+  element = element;
+})
+
+abbrev pub named : Name → SimpleType
+named x = Named (identifier x)
+
+-- x : t; and x : t := i;
+abbrev pub without_initial : Name → VariableType → Declaration
+without_initial x t = record { names = identifier x ∷ []; declared = t; initial = None }
+
+abbrev pub with_initial : Name → VariableType → Initial → Declaration
+with_initial x t i = record { names = identifier x ∷ []; declared = t; initial = Some i }
+
+-- initial values: a number, a list and a structure
+abbrev pub amount : ℕ → Initial
+amount n = initially None n
+
+abbrev pub listing : List Element → Initial
+listing xs = list 0 (elements_of xs)
+
+abbrev pub with_fields : List (Name × Initial) → Initial
+with_fields xs = structure 0 (members_of (map (λ e. (identifier e.0, e.1)) xs))
+
+-- fields of a structure
+abbrev pub field : Name → VariableType → Field
+field x t = record { name = identifier x; declared = t; initial = None }
+
+abbrev pub field_with : Name → VariableType → Initial → Field
+field_with x t i = record { name = identifier x; declared = t; initial = Some i }
+
+abbrev pub structure_of : Name → List Field → TypeDeclaration
+structure_of x fields = record { name = identifier x; definition = declarations.structure fields }
+
+-- a unit without statements, and one with a body
+abbrev pub variables_in : Section → List Declaration → VariableBlock
+variables_in s ds = record { section = s; declarations = ds }
+
+abbrev pub unit_with : UnitSort → Name → List VariableBlock → List Stmt → OrganisationUnit
+unit_with sort x blocks body = record { sort = sort; name = identifier x; blocks = blocks; body = body }
+
+-- globals of one block, and one of them at an address
+abbrev pub global : Name → VariableType → Option Initial → GlobalDeclaration
+global x t i = record { names = listed (identifier x ∷ []); declared = t; initial = i }
+
+abbrev pub global_at : Name → Address → VariableType → GlobalDeclaration
+global_at x a t = record { names = located (identifier x) a; declared = t; initial = None }
+
+abbrev pub globals_of : Option GlobalQualifier → List GlobalDeclaration → GlobalBlock
+globals_of q ds = record { qualifier = q; declarations = ds }
+
+abbrev pub bit_at : Direction → ℕ → Address
+bit_at d n = record { direction = d; width = Bit; number = n }
+
+-- PROGRAM x : y; and RESOURCE x ON CPU .. END_RESOURCE
+abbrev pub instance : Name → Name → Instance
+instance x y = record { name = identifier x; task = None; program = identifier y }
+
+abbrev pub resource : Name → List Instance → Resource
+resource x is = record { name = identifier x; processor = identifier (codes "CPU"); tasks = []; instances = is }
+
+abbrev pub configured : List GlobalBlock → List Resource → Configuration
+configured globals resources =
+    record { name = identifier (codes "C"); globals = globals; resources = resources }
+
+-- a text of types, units and one configuration; and one with a program's variables as its only declarations, in the
+-- instance R/P
+abbrev pub text_of : List TypeDeclaration → List OrganisationUnit → Configuration → Source
+text_of ts us c = sources.types ts ∷ append_units us (sources.configuration c ∷ [])
+  where
+    append_units : List OrganisationUnit → Source → Source
+    append_units [] rest = rest
+    append_units (u ∷ us) rest = sources.unit u ∷ append_units us rest
+
+abbrev pub instance_p : Configuration
+instance_p = configured [] (resource (codes "R") (instance (codes "P") (codes "PR") ∷ []) ∷ [])
+
+abbrev pub program_with : List VariableBlock → OrganisationUnit
+program_with blocks = unit_with sorts.Program (codes "PR") blocks []
+
+abbrev pub variables_text : List TypeDeclaration → List Declaration → Source
+variables_text ts ds = text_of ts (program_with (variables_in (sections.Local None) ds ∷ []) ∷ []) instance_p
+
+-- what the layout of a text has: paths as they are written, with retention and with initial values
+abbrev pub retentions_in : Source → List (List ℕ × Bool)
+retentions_in source = map (λ v. (path_text v.path, v.retained)) (variables_of_text source)
+
+abbrev pub values_in : Source → List (List ℕ × Datum)
+values_in source = map (λ v. (path_text v.path, v.initial)) (variables_of_text source)
+
+abbrev pub int : ℕ → Datum
+int n = record { kind = Int; number = pos n }
+
+-- FUNCTION_BLOCK Fb VAR_INPUT a : INT; END_VAR VAR_OUTPUT RETAIN b : INT; END_VAR VAR NON_RETAIN c : INT; END_VAR
+-- END_FUNCTION_BLOCK
+abbrev pub fb : OrganisationUnit
+fb = unit_with sorts.FunctionBlock (codes "FB") (
+  variables_in (sections.Input None) (without_initial (codes "A") (plain Int) ∷ [])
+  ∷ variables_in (sections.Output (Some Retain)) (without_initial (codes "B") (plain Int) ∷ [])
+  ∷ variables_in (sections.Local (Some NonRetain)) (without_initial (codes "C") (plain Int) ∷ [])
+  ∷ []) []
+
+-- PROGRAM Pr VAR RETAIN f : Fb; t : TON; END_VAR VAR k : Fb; END_VAR END_PROGRAM
+abbrev pub instances_of_blocks : Source
+instances_of_blocks = text_of [] (fb ∷ program_with (
+  variables_in (sections.Local (Some Retain)) (without_initial (codes "F") (of_type (codes "FB"))
+  ∷ without_initial (codes "T") (of_type (codes "TON")) ∷ [])
+  ∷ variables_in (sections.Local None) (without_initial (codes "K") (of_type (codes "FB")) ∷ [])
+  ∷ []) ∷ []) instance_p

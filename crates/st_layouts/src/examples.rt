@@ -1,0 +1,3 @@
+//! Worked examples of layouts and of texts in the meaning's words, by topic, each proved by computation.
+
+pub mod layouts;
