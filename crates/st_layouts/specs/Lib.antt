@@ -5,3 +5,4 @@ pub mod Roots
 pub mod TextLayouts
 pub mod Libraries
 pub mod LayoutExamples
+pub mod Places
