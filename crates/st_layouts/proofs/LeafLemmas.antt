@@ -142,7 +142,7 @@ mutual
       (λ p i. at_shape sh xs p i) (λ p i. at_parts ps x xs p i) h
 
 -- and only there
-abbrev position : ℕ → Kind → Position
+abbrev pub position : ℕ → Kind → Position
 position n k = record { number = n; kind = k }
 
 record InElements (z : ℤ) (c : ℕ) (inner : List Leaf) (o : ℕ) (l : Leaf) : Type 0 where

@@ -1,2 +1,3 @@
 pub mod ListLemmas
 pub mod LeafLemmas
+pub mod RootLemmas
