@@ -1,3 +1,5 @@
 pub mod ListLemmas
 pub mod LeafLemmas
 pub mod RootLemmas
+pub mod SiteLemmas
+pub mod OwnPaths

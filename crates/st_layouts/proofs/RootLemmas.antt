@@ -33,7 +33,7 @@ owner_is o p h = ap (λ q. q.owner)
     (same_path_is (path_to o []) (path_to p [])
     (both_are (same_owner o p && true) true (both_are (same_owner o p) true h refl) refl))
 
-root_is : (o : Option Owner) (x : Name) (v : Root) → is_root o x v ≡ true → path_to o x ≡ root_path v
+pub root_is : (o : Option Owner) (x : Name) (v : Root) → is_root o x v ≡ true → path_to o x ≡ root_path v
 root_is o x v h =
     let b = both (same_owner o v.owner) (bytes_eq x v.name) h in
     ap₂ path_to (owner_is o v.owner b.0) (same_name x v.name b.1)
