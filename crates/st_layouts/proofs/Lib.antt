@@ -3,3 +3,4 @@ pub mod LeafLemmas
 pub mod RootLemmas
 pub mod SiteLemmas
 pub mod OwnPaths
+pub mod NameLemmas

@@ -22,7 +22,7 @@ use Rattle.st_layouts.proofs.ListLemmas.{get_left, get_right, get_split, get_map
 use Rattle.st_layouts.proofs.ListLemmas.{same_name, name_itself, neither, or_here, or_later, or_false, any_append}
 use Rattle.st_layouts.proofs.LeafLemmas.{leaf, position, begin, length_leaves, at_shape, of_shape, begin_shape}
 
-owner_itself : (o : Option Owner) → same_owner o o ≡ true
+pub owner_itself : (o : Option Owner) → same_owner o o ≡ true
 owner_itself o = (both (same_owner o o) true (both (same_owner o o && true) true (whole o)).0).0
   where
     whole : (o : Option Owner) → ((same_owner o o && true) && true) ≡ true

@@ -4,5 +4,6 @@ pub mod Sites
 pub mod Roots
 pub mod TextLayouts
 pub mod Libraries
+pub mod Names
 pub mod LayoutExamples
 pub mod Places
