@@ -4,3 +4,4 @@ pub mod RootLemmas
 pub mod SiteLemmas
 pub mod OwnPaths
 pub mod NameLemmas
+pub mod StoreLemmas

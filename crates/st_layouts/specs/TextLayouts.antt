@@ -1,6 +1,7 @@
 -- The layout of a text: its slots, what a plan has of them, and how many instances of blocks it has.
-use Rattle.std.specs.Prelude.{ℕ, ◌+◌, List, [], ◌∷◌, ◌++◌, map, Bool, if◌then◌else◌}
+use Rattle.std.specs.Prelude.{ℕ, ◌+◌, List, [], ◌∷◌, ◌++◌, map, Bool, not, if◌then◌else◌, filter}
 use Rattle.st_words.specs.declared.path.Step.{Step}
+use Rattle.st_words.specs.declared.kind.Kind.{Kind}
 use Rattle.st_words.specs.Paths.{Path}
 use Rattle.st_trees.specs.Sources.{Source}
 use Rattle.st_types.specs.NameTypes.{Declared}
@@ -65,6 +66,16 @@ inputs_of text (v ∷ vs) = if v.is_input
 abbrev pub instances_of : Declared → List Root → ℕ
 instances_of text [] = 0
 instances_of text (v ∷ vs) = instance_count (root_shape text v) + instances_of text vs
+
+-- of slots, those of variables and those of inputs, and what stands there: paths with their types
+abbrev pub variable_slots : List Slot → List Slot
+variable_slots ls = filter (λ l. not l.is_input) ls
+
+abbrev pub input_slots : List Slot → List Slot
+input_slots ls = filter (λ l. l.is_input) ls
+
+abbrev pub types_of_slots : List Slot → List (Path × Kind)
+types_of_slots ls = map (λ l. (l.path, l.kind)) ls
 
 -- variables as they start, and inputs as a life starts: 0 or FALSE
 abbrev pub initial_values : List PlanVariable → Store

@@ -8,6 +8,11 @@
 #![tactic(auto)]
 
 pub mod examples;
+mod laws;
 mod limits;
 
+pub use laws::{
+    initial_values_fill_the_layout, layouts_of_declared_variables, layouts_of_texts,
+    parts_are_declared,
+};
 pub use limits::MAX_TYPE_DEPTH;
