@@ -7,3 +7,4 @@ pub mod Libraries
 pub mod Names
 pub mod LayoutExamples
 pub mod Places
+pub mod InitialExamples
