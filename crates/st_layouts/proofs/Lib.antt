@@ -5,3 +5,4 @@ pub mod SiteLemmas
 pub mod OwnPaths
 pub mod NameLemmas
 pub mod StoreLemmas
+pub mod ValueLemmas
