@@ -6,3 +6,4 @@ pub mod OwnPaths
 pub mod NameLemmas
 pub mod StoreLemmas
 pub mod ValueLemmas
+pub mod LibraryLemmas

@@ -1,5 +1,5 @@
 -- From a text to what its runs need: its functions and blocks, and the programs of its instances.
-use Rattle.std.specs.Prelude.{List, [], ◌∷◌, ◌++◌, map, if◌then◌else◌, Option, Some, None}
+use Rattle.std.specs.Prelude.{List, [], ◌∷◌, ◌++◌, map, Bool, true, false, if◌then◌else◌, Option, Some, None}
 use Rattle.st_words.specs.declared.path.Owner.{Owner}
 use Rattle.st_trees.specs.declared.configuration.Instance.{Instance}
 use Rattle.st_trees.specs.declared.data_type.SimpleType.{SimpleType}
@@ -114,6 +114,12 @@ programs_of_resources text (r ∷ rs) =
 abbrev pub programs_of_configuration : Declared → Option Configuration → List Program
 programs_of_configuration text None = []
 programs_of_configuration text (Some c) = programs_of_resources text c.resources
+
+-- a unit that no other one calls
+abbrev pub is_program : UnitSort → Bool
+is_program units.Program = true
+is_program units.FunctionBlock = false
+is_program (units.Function t) = false
 
 -- of a text, all of it over the literals as they are resolved: its functions and blocks
 abbrev pub library_of_text : Source → Library
