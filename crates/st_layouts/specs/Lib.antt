@@ -8,3 +8,4 @@ pub mod Names
 pub mod LayoutExamples
 pub mod Places
 pub mod InitialExamples
+pub mod LibraryExamples

@@ -2,3 +2,5 @@
 
 pub mod initial_values;
 pub mod layouts;
+pub mod libraries;
+pub mod runs;

@@ -1,6 +1,6 @@
 //! Laws of layouts.
 
-ghost use Rattle.std.specs.Prelude.{◌≡◌, ℕ, List, [], ◌∷◌, map, filter, Option, Some, true, slice_get};
+ghost use Rattle.std.specs.Prelude.{◌≡◌, ℕ, List, [], ◌∷◌, map, filter, Option, Some, true, false, slice_get};
 ghost use Rattle.st_words.specs.declared.path.Owner.{Owner};
 ghost use Rattle.st_words.specs.declared.path.Step.{Step};
 ghost use Rattle.st_words.specs.Paths.{is_within};
@@ -8,12 +8,14 @@ ghost use Rattle.st_trees.specs.Sources.{Source};
 ghost use Rattle.st_types.specs.NameTypes.{Declared};
 ghost use Rattle.st_types.specs.Scopes.{Name};
 ghost use Rattle.st_types.specs.Slots.{Slot, IsLayout};
-ghost use Rattle.st_types.specs.Stores.{IsStore, shape_of, all_held};
+ghost use Rattle.st_types.specs.Stores.{IsStore, get, shape_of, all_held};
 ghost use Rattle.st_plans.specs.Layouts.{variable_slot, input_slot};
+ghost use Rattle.st_plans.specs.Plans.{Plan, is_retained};
 ghost use Rattle.st_layouts.specs.Shapes.{Position, position_of};
 ghost use Rattle.st_layouts.specs.Types.{Site, shape_of_type};
+ghost use Rattle.st_layouts.specs.Sites.{initial_at, retained_at};
 ghost use Rattle.st_layouts.specs.Roots.{Root, roots_of, declared_of};
-ghost use Rattle.st_layouts.specs.TextLayouts.{root_shape, slots_of, slots_of_root, variables_of, inputs_of};
+ghost use Rattle.st_layouts.specs.TextLayouts.{further, root_shape, slots_of, slots_of_root, variables_of, inputs_of};
 ghost use Rattle.st_layouts.specs.TextLayouts.{variable_slots, input_slots, types_of_slots, initial_values};
 ghost use Rattle.st_layouts.specs.TextLayouts.{initial_image, slots_of_text, variables_of_text, inputs_of_text};
 ghost use Rattle.st_layouts.specs.Places.{path_to, are_declared_once, root_at, position_among, Stands, IsDeclared};
@@ -39,6 +41,20 @@ pub fn layouts_of_declared_variables()
 pub fn parts_are_declared()
     ensures { (text : Declared) (s : Site) (xs : List Step) (o : Position)
         → position_of (shape_of_type text s.declared) xs ≡ Some o → IsDeclared text s xs o.kind }
+{}
+
+/// Each part of a variable starts with the value that its declarations tell, and is retained as they tell.
+pub fn variables_start_as_declared()
+    ensures value { (text : Declared) (vs : List Root) → are_declared_once text vs ≡ true → (o : Option Owner)
+        (x : Name) (k : ℕ) (v : Root) → root_at text vs o x ≡ Some (k, v) → v.is_input ≡ false
+        → (xs : List Step) (p : Position) → position_of (root_shape text v) xs ≡ Some p
+        → get (initial_values (variables_of text vs)) (further (path_to o x) xs)
+        ≡ Some (initial_at text v.site xs p.kind) }
+    ensures retention { (text : Declared) (vs : List Root) → are_declared_once text vs ≡ true → (o : Option Owner)
+        (x : Name) (k : ℕ) (v : Root) → root_at text vs o x ≡ Some (k, v) → v.is_input ≡ false
+        → (xs : List Step) (p : Position) → position_of (root_shape text v) xs ≡ Some p
+        → (plan : Plan) → plan.variables ≡ variables_of text vs
+        → is_retained plan (further (path_to o x) xs) ≡ retained_at text v.site xs }
 {}
 
 /// The variables and the inputs of a plan have the slots of the layout, in its order, with their types; and each initial

@@ -1,0 +1,12 @@
+use Rattle.std.proofs.Common.{◌≡◌, ap, ◌∙◌}
+use Rattle.st_layouts.specs.TextLayouts.{further}
+use Rattle.st_layouts.specs.Places.{path_to}
+use Rattle.st_layouts.proofs.ValueLemmas.{retained_among, value_told, retention_told}
+use Rattle.st_layouts.proofs.laws.variables_start_as_declared.Goals as goal
+
+pub returns-clause-value : goal.returns-clause-value
+returns-clause-value c = λ text vs once o x k v h i xs p g. value_told text o x xs vs once (k, v) h i p g
+
+pub returns-clause-retention : goal.returns-clause-retention
+returns-clause-retention c = λ text vs once o x k v h i xs p g plan e.
+    ap (λ ws. retained_among ws (further (path_to o x) xs)) e ∙ retention_told text o x xs vs once (k, v) h i p g
