@@ -8,10 +8,11 @@ use Rattle.std.specs.List.{list_any}
 use Rattle.st_words.specs.declared.kind.Kind.{Kind}
 use Rattle.st_words.specs.declared.kind.Kind.TheVariants.{Sint, Int, Dint, Lint, Usint, Uint, Udint, Ulint, Byte, Word}
 use Rattle.st_words.specs.declared.kind.Kind.TheVariants.{Dword, Lword, Time, Bool as Boolean, Enumerated}
+use Rattle.st_words.specs.declared.literal.Literal.{Literal}
 use Rattle.st_words.specs.Kinds.{holds, same_kind}
 use Rattle.st_words.specs.Values.{Datum}
 use Rattle.st_words.specs.Paths.{Path, same_path}
-use Rattle.st_words.proofs.KindLemmas.{same_kind_is}
+use Rattle.st_words.proofs.KindLemmas.{same_kind_is, same_kind-refl}
 use Rattle.st_trees.specs.Initials.{Initial, constant, list, structure}
 use Rattle.st_types.specs.Failures.{Failure}
 use Rattle.st_types.specs.NameTypes.{Declared}
@@ -87,6 +88,22 @@ value_is k (Some v) h = h
 initial_is : (text : Declared) (l : Leaf) (s : Site) → IsOf l.kind (initial_at text s l.steps l.kind)
 initial_is text l s = value_is l.kind (option_and_then (λ u. constant_of l.kind u.initial) (site_at text s l.steps))
     (site_constant_is l.kind (site_at text s l.steps))
+
+-- a written constant of the type is the value
+fits_itself : (v : Datum) → holds v.kind v.number ≡ true → fitting v.kind (Ok v) ≡ Some v
+fits_itself v h =
+    let k = same_kind-refl v.kind in
+    let t : may_replace (default_of v.kind) v ≡ true = both_are (same_kind v.kind v.kind) (holds v.kind v.number) k h in
+    ap (λ b. if b then Some v else None) t
+
+pub written_value : (text : Declared) (s : Site) (l : Literal) (v : Datum) → s.initial ≡ Some (constant l)
+    → value_of_literal l ≡ Ok v → holds v.kind v.number ≡ true → initial_at text s [] v.kind ≡ v
+written_value text s l v e f h =
+    ap (initial_value v.kind) (ap (constant_of v.kind) e ∙ ap (fitting v.kind) f ∙ fits_itself v h)
+
+pub unwritten_value : (text : Declared) (s : Site) (k : Kind) → s.initial ≡ None
+    → initial_at text s [] k ≡ default_of k
+unwritten_value text s k e = ap (initial_value k) (ap (constant_of k) e)
 
 -- variables and inputs by their slots
 map_append : {A B : Type 0} (f : A → B) (xs ys : List A) → map f (xs ++ ys) ≡ map f xs ++ map f ys

@@ -1,5 +1,5 @@
 -- Words for worked examples of initial values: texts with structures, arrays and an enumerated type.
-use Rattle.std.specs.Prelude.{List, [], ◌∷◌, map, codes}
+use Rattle.std.specs.Prelude.{ℕ, zero, suc, ◌+◌, List, [], ◌∷◌, map, codes}
 use Rattle.st_words.specs.declared.kind.Kind.{Kind}
 use Rattle.st_words.specs.declared.kind.Kind.TheVariants.{Int, Bool as Boolean, Enumerated}
 use Rattle.st_trees.specs.declared.data_type.ArrayType.{ArrayType}
@@ -8,13 +8,14 @@ use Rattle.st_trees.specs.declared.data_type.SimpleType.TheVariants.{Elementary}
 use Rattle.st_trees.specs.Declarations as declarations
 use Rattle.st_trees.specs.Declarations.{TypeDeclaration}
 use Rattle.st_trees.specs.Initials.{single}
+use Rattle.st_trees.specs.Sources.{Source}
 use Rattle.st_types.specs.Examples.{identifier}
 use Rattle.st_types.specs.EnumerationExamples.{enumerated, MODE, STOPPED, RUNNING, FAULT}
 use Rattle.st_types.specs.ResolutionExamples.{of_type, plain_number}
 use Rattle.st_types.specs.Scopes.{Name}
 use Rattle.st_layouts.specs.LayoutExamples.{plain, array_of, named, amount, listing, with_fields, field}
 use Rattle.st_layouts.specs.LayoutExamples.{field_with, named_value}
-use Rattle.st_layouts.specs.LayoutExamples.{structure_of, array_type}
+use Rattle.st_layouts.specs.LayoutExamples.{structure_of, array_type, without_initial, variables_text}
 
 -- TYPE
 -- Pair : STRUCT u : INT := 1; v : ARRAY [0..1] OF INT := [7, 8]; w : BOOL; END_STRUCT;
@@ -45,3 +46,16 @@ modes =
 
 abbrev pub mode : Kind
 mode = Enumerated 3 0
+
+-- TYPE T0 : STRUCT x : INT; END_STRUCT; T1 : STRUCT x : T0; END_STRUCT; .. END_TYPE, so many of them, with names of one
+-- byte each
+abbrev pub byte_name : ℕ → Name
+byte_name n = (128 + n) ∷ []
+
+abbrev pub deep_types : ℕ → List TypeDeclaration
+deep_types zero = structure_of (byte_name 0) (field (codes "X") (plain Int) ∷ []) ∷ []
+deep_types (suc n) = structure_of (byte_name (suc n)) (field (codes "X") (of_type (byte_name n)) ∷ []) ∷ deep_types n
+
+-- x : Tn; in a program
+abbrev pub one_deep_variable : ℕ → Source
+one_deep_variable n = variables_text (deep_types n) (without_initial (codes "X") (of_type (byte_name n)) ∷ [])

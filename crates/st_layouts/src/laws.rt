@@ -1,11 +1,18 @@
 //! Laws of layouts.
 
-ghost use Rattle.std.specs.Prelude.{◌≡◌, ℕ, List, [], ◌∷◌, map, filter, Option, Some, true, false, slice_get};
+ghost use Rattle.std.specs.Prelude.{◌≡◌, ℕ, List, [], ◌∷◌, map, filter, Option, Some, None, true, false, slice_get, Ok};
+ghost use Rattle.std.specs.Prelude.{pos};
+ghost use Rattle.st_words.specs.declared.kind.Kind.{Kind};
+ghost use Rattle.st_words.specs.declared.literal.Literal.{Literal};
 ghost use Rattle.st_words.specs.declared.path.Owner.{Owner};
 ghost use Rattle.st_words.specs.declared.path.Step.{Step};
+ghost use Rattle.st_words.specs.Kinds.{holds};
+ghost use Rattle.st_words.specs.Values.{Datum};
 ghost use Rattle.st_words.specs.Paths.{is_within};
+ghost use Rattle.st_trees.specs.Initials.{constant};
 ghost use Rattle.st_trees.specs.Sources.{Source};
 ghost use Rattle.st_types.specs.NameTypes.{Declared};
+ghost use Rattle.st_types.specs.Operators.{value_of_literal};
 ghost use Rattle.st_types.specs.Scopes.{Name};
 ghost use Rattle.st_types.specs.Slots.{Slot, IsLayout};
 ghost use Rattle.st_types.specs.Stores.{IsStore, get, shape_of, all_held};
@@ -43,8 +50,13 @@ pub fn parts_are_declared()
         → position_of (shape_of_type text s.declared) xs ≡ Some o → IsDeclared text s xs o.kind }
 {}
 
-/// Each part of a variable starts with the value that its declarations tell, and is retained as they tell.
+/// Each part of a variable starts with the value that its declarations tell, and is retained as they tell. A written
+/// constant that is one of the type is the value; where none is written it is 0, FALSE, T#0s or the first name.
 pub fn variables_start_as_declared()
+    ensures written { (text : Declared) (s : Site) (l : Literal) (v : Datum) → s.initial ≡ Some (constant l)
+        → value_of_literal l ≡ Ok v → holds v.kind v.number ≡ true → initial_at text s [] v.kind ≡ v }
+    ensures unwritten { (text : Declared) (s : Site) (k : Kind) → s.initial ≡ None
+        → initial_at text s [] k ≡ record { kind = k; number = pos 0 } }
     ensures value { (text : Declared) (vs : List Root) → are_declared_once text vs ≡ true → (o : Option Owner)
         (x : Name) (k : ℕ) (v : Root) → root_at text vs o x ≡ Some (k, v) → v.is_input ≡ false
         → (xs : List Step) (p : Position) → position_of (root_shape text v) xs ≡ Some p

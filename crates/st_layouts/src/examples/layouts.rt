@@ -1,10 +1,11 @@
 //! Worked examples of the layout of a whole text, each proved by computation.
 
-ghost use Rattle.std.specs.Prelude.{◌≡◌, ◌∷◌, [], true, false, codes};
+ghost use Rattle.std.specs.Prelude.{◌≡◌, ◌∷◌, [], true, false, map, length, codes};
 ghost use Rattle.st_words.specs.declared.kind.Kind.TheVariants.{Int, Time, Word, Bool as Boolean};
 ghost use Rattle.st_layouts.specs.TextLayouts.{instances_of_text, slots_of_text, variables_of_text};
 ghost use Rattle.st_layouts.specs.LayoutExamples.{instances_of_blocks, block_in_a_block, input_between_globals};
 ghost use Rattle.st_layouts.specs.LayoutExamples.{unconfigured, configured_twice, instances_of_no_program};
+ghost use Rattle.st_layouts.specs.InitialExamples.{one_deep_variable};
 ghost use Rattle.st_layouts.specs.LayoutExamples.{retentions_in, values_in, slots_in, inputs_in, int, datum};
 
 /// Two instances of a block of the text and one of a standard block: 12 paths in the order of their declarations, of
@@ -63,4 +64,11 @@ pub fn texts_without_a_layout()
     ensures two_configurations { slots_of_text configured_twice ≡ [] }
     ensures no_variables { variables_of_text configured_twice ≡ [] }
     ensures no_program { slots_in instances_of_no_program ≡ (codes "R/P.K", Int, false) ∷ [] }
+{}
+
+/// A type that is 64 deep has its part. What is deeper has none: no well-typed text has it.
+#[tactic(auto, unfolding(crate::specs::Types::shape_within, st_types::specs::StandardBlocks::block_of))]
+pub fn depth_of_types()
+    ensures greatest { map (λ l. length l.path.steps) (slots_of_text (one_deep_variable 62)) ≡ 63 ∷ [] }
+    ensures too_deep { slots_of_text (one_deep_variable 63) ≡ [] }
 {}
