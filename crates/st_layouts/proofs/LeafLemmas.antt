@@ -1,6 +1,6 @@
 -- The elementary parts of a shape, and where each stands among them.
 use Rattle.std.proofs.Common.{◌≡◌, inl, inr, ℕ, zero, suc, ◌+◌, ◌*◌, ℤ, pos, ◌+ℤ◌, Bool, true, false, not, ◌&&◌, ◌||◌}
-use Rattle.std.proofs.Common.{if◌then◌else◌, List, [], ◌∷◌, ◌++◌, length, map, slice_get, Option, Some, None, option_map}
+use Rattle.std.proofs.Common.{if◌then◌else◌, List, [], ◌∷◌, ◌++◌, length, map, slice_get, Option, Some, option_map}
 use Rattle.std.proofs.Common.{refl, sym, ap, ap₂, ◌∙◌, length-append, arith}
 use Rattle.std.specs.Prelude.{bytes_eq, nat_lt}
 use Rattle.std.specs.Ordering.{int_eq}
@@ -11,7 +11,7 @@ use Rattle.st_words.specs.declared.path.Step.{Step}
 use Rattle.st_words.specs.declared.path.Step.TheVariants.{Member, Element}
 use Rattle.st_words.specs.Paths.{begins_with, same_step}
 use Rattle.st_types.specs.Scopes.{Name}
-use Rattle.st_layouts.specs.Shapes.{Whole, Shape, plain, array, parts, Parts, no_parts, part_then, size, sizes, Leaf}
+use Rattle.st_layouts.specs.Shapes.{Shape, plain, array, parts, Parts, no_parts, part_then, size, sizes, Leaf}
 use Rattle.st_layouts.specs.Shapes.{below, leaves_of_elements, leaves_of, leaves_of_parts, in_bounds, distance, Position}
 use Rattle.st_layouts.specs.Shapes.{beyond, position_of, position_in, leads_on, leads_in, has_name, is_sound, are_sound}
 use Rattle.st_layouts.proofs.ListLemmas.{get_left, get_right, get_split, get_map, length_map, same_int, same_name}
@@ -79,9 +79,9 @@ elements_at z (suc c) inner n o l b g =
     by_test true e ih =
         let s = same_int z n e in
         let d : distance z n * length inner + o ≡ o =
-            ap (λ k. k * length inner + o) (ap (λ m. distance z m) (sym s) ∙ distance_here z) ∙ omega arith in
+        ap (λ k. k * length inner + o) (ap (λ m. distance z m) (sym s) ∙ distance_here z) ∙ omega arith in
         let m : slice_get (map (below (Element z)) inner) o ≡ Some (below (Element z) l) =
-            get_map (below (Element z)) inner o ∙ ap (option_map (below (Element z))) g in
+        get_map (below (Element z)) inner o ∙ ap (option_map (below (Element z))) g in
         ap (slice_get (leaves_of_elements z (suc c) inner)) d
         ∙ get_left (map (below (Element z)) inner) (leaves_of_elements (z +ℤ pos 1) c inner) o
         (below (Element z) l) m
@@ -90,8 +90,8 @@ elements_at z (suc c) inner n o l b g =
         let d = distance_next z n c e b in
         let l = length_map (below (Element z)) inner in
         let k : distance z n * length inner + o
-            ≡ length (map (below (Element z)) inner) + (distance (z +ℤ pos 1) n * length inner + o) =
-            rw d (omega arith) in
+        ≡ length (map (below (Element z)) inner) + (distance (z +ℤ pos 1) n * length inner + o) =
+        rw d (omega arith) in
         get_right (map (below (Element z)) inner) (leaves_of_elements (z +ℤ pos 1) c inner)
         (distance (z +ℤ pos 1) n * length inner + o) (distance z n * length inner + o) k
         ∙ ih (sym (bounds_next z n c e) ∙ b)
@@ -104,7 +104,7 @@ part_at_cases : (t : Bool) (x y : Name) (sh : Shape) (rest : List Leaf) (inner :
     → slice_get (map (below (Member y)) (leaves_of sh) ++ rest) o.number ≡ Some (leaf (Member x ∷ xs) o.kind)
 part_at_cases true x y sh rest inner xs o same here later h =
     let m : slice_get (map (below (Member y)) (leaves_of sh)) o.number ≡ Some (leaf (Member y ∷ xs) o.kind) =
-        get_map (below (Member y)) (leaves_of sh) o.number ∙ ap (option_map (below (Member y))) (here o h) in
+    get_map (below (Member y)) (leaves_of sh) o.number ∙ ap (option_map (below (Member y))) (here o h) in
     get_left (map (below (Member y)) (leaves_of sh)) rest o.number (leaf (Member y ∷ xs) o.kind) m
     ∙ ap (λ n. Some (leaf (Member n ∷ xs) o.kind)) (sym (same refl))
 part_at_cases false x y sh rest inner xs o same here later h =
@@ -124,7 +124,7 @@ mutual
   at_shape (array lower count sh) (Member x ∷ xs) o h = absurd (cc)
   at_shape (array lower count sh) (Element n ∷ xs) o h =
       let b = if_some (in_bounds lower count n)
-          (option_map (beyond (distance lower n * size sh)) (position_of sh xs)) o h in
+      (option_map (beyond (distance lower n * size sh)) (position_of sh xs)) o h in
       let i = map_some (beyond (distance lower n * size sh)) (position_of sh xs) o b.1 in
       ap (slice_get (leaves_of_elements lower count (leaves_of sh)))
       (sym (ap (λ q. q.number) i.2) ∙ ap (λ l. distance lower n * l + i.0.number) (sym (length_leaves sh)))
@@ -161,7 +161,7 @@ elements_of z (suc c) inner o l h =
     elim (get_split (map (below (Element z)) inner) (leaves_of_elements (z +ℤ pos 1) c inner) o l h) [
       | inl g ↦
           let i = map_some (below (Element z)) (slice_get inner o) l
-              (sym (get_map (below (Element z)) inner o) ∙ g) in
+          (sym (get_map (below (Element z)) inner o) ∙ g) in
           let d = distance_here z in
           record {
             number = z;
@@ -213,7 +213,7 @@ mutual
       let r = of_shape sh s i.offset i.rest i.there in
       let w = i.within in let is = i.is in let m = length_leaves sh in
       let e : distance lower i.number * size sh + i.offset ≡ o =
-          ap (λ n. distance lower i.number * n + i.offset) (sym m) ∙ sym i.sum in
+      ap (λ n. distance lower i.number * n + i.offset) (sym m) ∙ sym i.sum in
       rw (is, w, r, e) refl
   of_shape (parts x ps) s o l h = let i = of_parts ps s o l h in let is = i.is in rw is i.there
 
@@ -226,7 +226,7 @@ mutual
       elim (get_split (map (below (Member y)) (leaves_of sh)) (leaves_of_parts ps) o l h) [
         | inl g ↦
             let i = map_some (below (Member y)) (slice_get (leaves_of sh) o) l
-                (sym (get_map (below (Member y)) (leaves_of sh) o) ∙ g) in
+            (sym (get_map (below (Member y)) (leaves_of sh) o) ∙ g) in
             let t = name_itself y in
             record {
               name = y;

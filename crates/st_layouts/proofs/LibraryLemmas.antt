@@ -1,10 +1,9 @@
 -- What calls find in the library of a text, and what instances and functions are made of.
-use Rattle.std.proofs.Common.{◌≡◌, ℕ, ◌+◌, Bool, true, false, not, ◌&&◌, if◌then◌else◌, List, [], ◌∷◌, ◌++◌, map, Option, Some}
+use Rattle.std.proofs.Common.{◌≡◌, ℕ, ◌+◌, Bool, true, false, if◌then◌else◌, List, [], ◌∷◌, map, Option, Some}
 use Rattle.std.proofs.Common.{None, option_map, refl, sym, ap, ap₂, ◌∙◌}
 use Rattle.std.specs.Prelude.{bytes_eq, is_none}
 use Rattle.std.specs.List.{list_all}
 use Rattle.st_words.specs.declared.identifier.Identifier.{Identifier}
-use Rattle.st_words.specs.declared.kind.Kind.{Kind}
 use Rattle.st_words.specs.declared.path.Owner.{Owner}
 use Rattle.st_trees.specs.declared.data_type.SimpleType.{SimpleType}
 use Rattle.st_trees.specs.declared.data_type.SimpleType.TheVariants.{Elementary, Named}
@@ -12,25 +11,25 @@ use Rattle.st_trees.specs.declared.data_type.VariableType.{VariableType}
 use Rattle.st_trees.specs.declared.data_type.VariableType.TheVariants as types
 use Rattle.st_trees.specs.declared.unit.UnitSort.{UnitSort}
 use Rattle.st_trees.specs.declared.unit.UnitSort.TheVariants as sorts
-use Rattle.st_trees.specs.Declarations.{TypeDefinition, TypeDeclaration}
+use Rattle.st_trees.specs.Declarations.{TypeDeclaration}
 use Rattle.st_trees.specs.Units.{OrganisationUnit}
-use Rattle.st_types.specs.Enumerations.{enumerated_names, enumerations_from, enumerations_of, enumeration_named}
+use Rattle.st_types.specs.Enumerations.{enumerated_names, enumerations_from, enumeration_named}
 use Rattle.st_types.specs.Enumerations.{kind_of_enumeration}
 use Rattle.st_types.specs.NameTypes.{Declared, is_named, type_named, unit_named, definition_of, kind_among}
 use Rattle.st_types.specs.Bodies.{plain_program, externals_in}
 use Rattle.st_types.specs.Scopes.{Name, Function, Block, function_in, block_in}
 use Rattle.st_types.specs.Runs.{Program}
-use Rattle.st_types.specs.Stores.{Store, IsStore}
+use Rattle.st_types.specs.Stores.{IsStore}
 use Rattle.st_trees.specs.Statements.{stmts_of}
 use Rattle.st_layouts.specs.Shapes.{of_instance}
-use Rattle.st_layouts.specs.Types.{NamedSite, sites_of_blocks, BlockType, block_type_named, instance_of, Composition}
+use Rattle.st_layouts.specs.Types.{NamedSite, sites_of_blocks, BlockType, block_type_named, instance_of}
 use Rattle.st_layouts.specs.Types.{of_kind, of_parts, instance_parts, defined_composition, composition_of}
-use Rattle.st_layouts.specs.Roots.{Root, variable_root}
-use Rattle.st_layouts.specs.TextLayouts.{slots_of, variables_of, inputs_of, initial_values, initial_image}
+use Rattle.st_layouts.specs.Roots.{variable_root}
+use Rattle.st_layouts.specs.TextLayouts.{inputs_of, initial_image}
 use Rattle.st_layouts.specs.Names
 use Rattle.st_layouts.specs.Names.{are_different, names_of_sites, variable_names, has_different_variables}
 use Rattle.st_layouts.specs.Names.{are_types_and_units_different}
-use Rattle.st_layouts.specs.Libraries.{instances_among, body_of_unit, result_site, fresh_values, function_of_unit}
+use Rattle.st_layouts.specs.Libraries.{instances_among, result_site, fresh_values, function_of_unit}
 use Rattle.st_layouts.specs.Libraries.{function_then, functions_among, block_of_unit, block_then, blocks_among, library_of}
 use Rattle.st_layouts.specs.Libraries.{program_of_unit, is_program}
 use Rattle.st_layouts.proofs.ListLemmas.{both, if_some, some_is}
@@ -73,7 +72,7 @@ instance_made text (types.Simple (Named x)) b h =
     let i = if_some (is_none (type_named text.types x.name)) (block_type_named text x.name) b h in
     let n = not_there (type_named text.types x.name) i.0 in
     let e : kind_among text.types (types.Simple (Named x)) ≡ None =
-        ap (option_map kind_of_enumeration) (no_enumeration 0 text.types x.name n) in
+    ap (option_map kind_of_enumeration) (no_enumeration 0 text.types x.name n) in
     ap (λ m. elim m [
       | Some k ↦ of_kind k
       | None ↦ defined_composition text (types.Simple (Named x)) (definition_of text (types.Simple (Named x)))
@@ -153,7 +152,7 @@ fresh_is_store : (text : Declared) → are_types_and_units_different text ≡ tr
 fresh_is_store text differ ds h =
     let e : initial_image (inputs_of text (map (variable_root None) ds)) ≡ [] = ap initial_image (no_inputs_among text ds) in
     let s = initial_store_is text (map (variable_root None) ds)
-        (roots_layout text (map (variable_root None) ds) (variables_once text differ ds h)) in
+    (roots_layout text (map (variable_root None) ds) (variables_once text differ ds h)) in
     rw e at s
 
 fresh_by_sort : (text : Declared) → are_types_and_units_different text ≡ true → (s : UnitSort) (v : OrganisationUnit)

@@ -2,7 +2,7 @@
 use Rattle.std.proofs.Common.{◌≡◌, ℕ, zero, suc, Bool, true, false, not, ◌&&◌, ◌||◌, if◌then◌else◌, List, [], ◌∷◌, ◌++◌, map}
 use Rattle.std.proofs.Common.{Option, Some, None, refl, sym, ap, ap₂, ◌∙◌}
 use Rattle.std.specs.Prelude.{bytes_eq, is_none}
-use Rattle.std.specs.List.{list_any, list_all}
+use Rattle.std.specs.List.{list_all}
 use Rattle.st_words.specs.declared.identifier.Identifier.{Identifier}
 use Rattle.st_words.specs.declared.kind.Kind.{Kind}
 use Rattle.st_words.specs.declared.path.Owner.{Owner}
@@ -24,11 +24,11 @@ use Rattle.st_types.specs.Scopes.{Name, contains_name}
 use Rattle.st_types.specs.StandardBlocks.{StandardBlock, SR, RS, R_TRIG, F_TRIG, CTU, CTD, CTUD, TON, TOF, TP, block_of}
 use Rattle.st_types.specs.StandardBlocks.{members_of}
 use Rattle.st_layouts.specs.declared.limits.TheConstants.{MAX_TYPE_DEPTH}
-use Rattle.st_layouts.specs.Shapes.{Shape, Parts, has_name, is_sound, are_sound}
-use Rattle.st_layouts.specs.Types.{Site, NamedSite, sites_of_blocks, site_of_field, site_of_member, BlockType}
+use Rattle.st_layouts.specs.Shapes.{Shape, has_name, is_sound, are_sound}
+use Rattle.st_layouts.specs.Types.{Site, NamedSite, site_of_member, BlockType}
 use Rattle.st_layouts.specs.Types.{block_type_of, own_block_type, block_type_named, instance_of, Composition, of_kind}
 use Rattle.st_layouts.specs.Types.{of_elements, of_parts, instance_parts, defined_composition, composition_of, parts_of}
-use Rattle.st_layouts.specs.Types.{composed_shape, shape_within, shape_of_type}
+use Rattle.st_layouts.specs.Types.{composed_shape, shape_within}
 use Rattle.st_layouts.specs.Roots.{Root, variable_root, global_root, roots_of_names, roots_of_declarations}
 use Rattle.st_layouts.specs.Roots.{retention_of_globals, site_of_global, roots_of_globals, sites_of_program, program_sites}
 use Rattle.st_layouts.specs.Roots.{owner_in, roots_of_instances, roots_of_resources, roots_of_configuration}
@@ -369,7 +369,7 @@ module _ (text : Declared) where
     instances_differ r [] rest d others h = h
     instances_differ r (i ∷ is) rest d others h =
         let b = both (not (contains_name (map (λ i. i.name.name) is) i.name.name))
-            (are_different (map (λ i. i.name.name) is)) d in
+        (are_different (map (λ i. i.name.name) is)) d in
         ap roots_differ (append_again (variables_at r i) (roots_of_instances text r is) rest)
         ∙ joined (Some (owner_in r i)) (variables_at r i) (roots_of_instances text r is ++ rest)
         (owned_variables (Some (owner_in r i)) (program_sites (unit_named text.units i.program.name)))
@@ -390,7 +390,7 @@ module _ (text : Declared) where
     resources_differ [] d h = refl
     resources_differ (r ∷ rs) d h =
         let b = both (not (contains_name (map (λ r. r.name.name) rs) r.name.name))
-            (are_different (map (λ r. r.name.name) rs)) d in
+        (are_different (map (λ r. r.name.name) rs)) d in
         let c = both (has_different_instances r) (list_all has_different_instances rs) h in
         instances_differ r.name.name r.instances (roots_of_resources text rs) c.0
         (λ i x. other_resources r.name.name i rs (turned (contains_name (map (λ r. r.name.name) rs) r.name.name) b.0) x)
@@ -401,7 +401,7 @@ module _ (text : Declared) where
     configuration_differs None h = refl
     configuration_differs (Some c) h =
         let b = both (are_different (names_of_roots (roots_of_globals c.globals)))
-            (are_different (map (λ r. r.name.name) c.resources) && list_all has_different_instances c.resources) h in
+        (are_different (map (λ r. r.name.name) c.resources) && list_all has_different_instances c.resources) h in
         let d = both (are_different (map (λ r. r.name.name) c.resources)) (list_all has_different_instances c.resources) b.1 in
         joined None (roots_of_globals c.globals) (roots_of_resources text c.resources) (owned_globals c.globals)
         (unowned_resources c.resources)

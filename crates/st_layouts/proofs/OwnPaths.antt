@@ -1,16 +1,15 @@
 -- The slots of a variable are exactly those whose paths begin with its name.
 use Rattle.std.proofs.Common.{◌≡◌, ℕ, ◌+◌, Bool, true, false, not, ◌&&◌, if◌then◌else◌, List, [], ◌∷◌, ◌++◌, map, Option, Some}
-use Rattle.std.proofs.Common.{option_map, refl, sym, ap, ap₂, ◌∙◌}
+use Rattle.std.proofs.Common.{option_map, refl, ap, ap₂, ◌∙◌}
 use Rattle.std.specs.Prelude.{filter}
-use Rattle.std.specs.List.{list_any}
 use Rattle.st_words.specs.declared.path.Owner.{Owner}
-use Rattle.st_words.specs.Paths.{Path, is_within}
+use Rattle.st_words.specs.Paths.{is_within}
 use Rattle.st_types.specs.NameTypes.{Declared}
 use Rattle.st_types.specs.Scopes.{Name}
 use Rattle.st_types.specs.Slots.{Slot}
 use Rattle.st_layouts.specs.Shapes.{size, Leaf, is_sound}
 use Rattle.st_layouts.specs.Roots.{Root}
-use Rattle.st_layouts.specs.TextLayouts.{root_path, root_shape, leaves_of_root, slot_of_leaf, slots_of_root, slots_of}
+use Rattle.st_layouts.specs.TextLayouts.{root_shape, leaves_of_root, slot_of_leaf, slots_of_root, slots_of}
 use Rattle.st_layouts.specs.Places.{path_to, is_root, has_root, are_declared_once, root_at}
 use Rattle.st_layouts.proofs.ListLemmas.{map_some, both, turned, neither}
 use Rattle.st_layouts.proofs.RootLemmas.{root_is}
@@ -58,7 +57,7 @@ module _ (text : Declared) where
   own_cases v vs o x e new ih true r h =
       let q : ◌≡◌ {A = ℕ × Root} (0, v) e = cc in
       let n : own_among o x (slots_of text vs) ≡ [] =
-          none_own vs o x (ap (λ p. has_root vs p.owner p.name) (root_is o x v r) ∙ new) in
+      none_own vs o x (ap (λ p. has_root vs p.owner p.name) (root_is o x v r) ∙ new) in
       filter_append (λ l. is_within (path_to o x) l.path) (slots_of_root text v) (slots_of text vs)
       ∙ ap₂ (λ a b. a ++ b) (own_leaves o x v true r (leaves_of_root text v)) n
       ∙ nothing_behind (slots_of_root text v) ∙ ap (λ d. slots_of_root text d.1) q

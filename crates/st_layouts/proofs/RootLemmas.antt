@@ -3,17 +3,16 @@
 use Rattle.std.proofs.Common.{◌≡◌, inl, inr, ℕ, zero, suc, ◌+◌, Bool, true, false, not, ◌&&◌, ◌||◌, if◌then◌else◌, List, []}
 use Rattle.std.proofs.Common.{◌∷◌, ◌++◌, length, map, slice_get, Option, Some, option_map, refl, sym, ap, ap₂, ◌∙◌, subst}
 use Rattle.std.proofs.Common.{arith}
-use Rattle.std.specs.Prelude.{bytes_eq, filter}
+use Rattle.std.specs.Prelude.{bytes_eq}
 use Rattle.std.specs.List.{list_any}
 use Rattle.st_words.specs.declared.path.Owner.{Owner}
 use Rattle.st_words.specs.declared.path.Step.{Step}
-use Rattle.st_words.specs.declared.kind.Kind.{Kind}
-use Rattle.st_words.specs.Paths.{Path, same_owner, same_path, begins_with, is_within}
+use Rattle.st_words.specs.Paths.{Path, same_owner, same_path, is_within}
 use Rattle.st_types.specs.NameTypes.{Declared}
 use Rattle.st_types.specs.Scopes.{Name}
 use Rattle.st_types.specs.Slots.{Slot, slot_of, IsLayout}
 use Rattle.st_types.proofs.SlotLemmas.{same_path_is, same_path_itself}
-use Rattle.st_layouts.specs.Shapes.{size, Leaf, leaves_of, Position, beyond, position_of, leads_on, is_sound}
+use Rattle.st_layouts.specs.Shapes.{size, Leaf, Position, position_of, leads_on, is_sound}
 use Rattle.st_layouts.specs.Roots.{Root}
 use Rattle.st_layouts.specs.TextLayouts.{further, root_path, root_shape, leaves_of_root, slot_of_leaf, slots_of_root, slots_of}
 use Rattle.st_layouts.specs.Places.{path_to, is_root, has_root, are_declared_once, root_at, position_among, has_slot_within}
@@ -82,8 +81,8 @@ module _ (text : Declared) where
       let q : ◌≡◌ {A = ℕ × Root} (0, v) e = cc in
       let s = root_is o x v r in
       let n : has_slot_within (slots_of text vs) (further (path_to o x) xs) ≡ false =
-          ap (λ p. has_slot_within (slots_of text vs) (further p xs)) s
-          ∙ none_within vs v.owner v.name xs new in
+      ap (λ p. has_slot_within (slots_of text vs) (further p xs)) s
+      ∙ none_within vs v.owner v.name xs new in
       any_append (λ l. is_within (further (path_to o x) xs) l.path) (slots_of_root text v) (slots_of text vs)
       ∙ or_is (list_any (λ l. is_within (further (path_to o x) xs) l.path) (slots_of_root text v))
       (has_slot_within (slots_of text vs) (further (path_to o x) xs)) (begin (leaves_of_root text v) xs) false
@@ -126,8 +125,8 @@ module _ (text : Declared) where
       let z : 0 ≡ e.0 = ap (λ d. d.0) q in
       let k : e.0 + n.number ≡ n.number = omega arith in
       let m : slice_get (slots_of_root text v) n.number ≡ Some (slot_of_leaf v (leaf xs n.kind)) =
-          get_map (slot_of_leaf v) (leaves_of_root text v) n.number
-          ∙ ap (option_map (slot_of_leaf v)) (at_shape (root_shape text v) xs n g') in
+      get_map (slot_of_leaf v) (leaves_of_root text v) n.number
+      ∙ ap (option_map (slot_of_leaf v)) (at_shape (root_shape text v) xs n g') in
       ap (slice_get (slots_of_root text v ++ slots_of text vs)) k
       ∙ get_left (slots_of_root text v) (slots_of text vs) n.number (slot_of_leaf v (leaf xs n.kind)) m
       ∙ ap₂ (λ p i. Some (slot (further p xs) n.kind i)) (sym s) (ap (λ d. d.1.is_input) q)
@@ -178,7 +177,7 @@ module _ (text : Declared) where
       elim (get_split (slots_of_root text v) (slots_of text vs) k l h) [
         | inl g ↦
             let i = map_some (slot_of_leaf v) (slice_get (leaves_of_root text v) k) l
-                (sym (get_map (slot_of_leaf v) (leaves_of_root text v) k) ∙ g) in
+            (sym (get_map (slot_of_leaf v) (leaves_of_root text v) k) ∙ g) in
             let o = of_shape (root_shape text v) b.0 k i.0 i.1 in
             let r = root_itself v in
             subst (λ m. IsLocated (v ∷ vs) k m) i.2 (record {
@@ -189,7 +188,7 @@ module _ (text : Declared) where
             let i = located vs b.1 g.0 l g.2 in
             let n = i.number in
             let t = other_root v vs l.path (is_root l.path.owner l.path.name v) refl
-                (turned (has_root vs v.owner v.name) a.0) i.rooted in
+            (turned (has_root vs v.owner v.name) a.0) i.rooted in
             let s = length_slots v in let e = g.1 in
             let f : size (root_shape text v) + g.0 ≡ k = omega arith in
             record {

@@ -1,6 +1,6 @@
 -- Each elementary part of a shape has a declaration of its type.
 use Rattle.std.proofs.Common.{◌≡◌, ℕ, zero, suc, ◌*◌, Bool, true, false, if◌then◌else◌, List, [], ◌∷◌, Option, Some, None}
-use Rattle.std.proofs.Common.{option_map, option_and_then, refl, sym, ap, ◌∙◌}
+use Rattle.std.proofs.Common.{option_map, option_and_then, refl, ap, ◌∙◌}
 use Rattle.std.specs.Prelude.{bytes_eq}
 use Rattle.st_words.specs.declared.kind.Kind.{Kind}
 use Rattle.st_words.specs.declared.path.Step.{Step}
@@ -104,10 +104,10 @@ module _ (text : Declared) (n : ℕ)
   by_elements s a (Member x ∷ xs) o e h = absurd (cc)
   by_elements s a (Element z ∷ xs) o e h =
       let b = if_some (in_bounds (lower_of a) (count_of a) z)
-          (option_map (beyond (distance (lower_of a) z * size (shape_within n text (element_of a))))
-          (position_of (shape_within n text (element_of a)) xs)) o h in
+      (option_map (beyond (distance (lower_of a) z * size (shape_within n text (element_of a))))
+      (position_of (shape_within n text (element_of a)) xs)) o h in
       let i = map_some (beyond (distance (lower_of a) z * size (shape_within n text (element_of a))))
-          (position_of (shape_within n text (element_of a)) xs) o b.1 in
+      (position_of (shape_within n text (element_of a)) xs) o b.1 in
       let t = b.0 in
       step_on text s (element_site s a (distance (lower_of a) z)) (Element z) xs o.kind
       (ap (λ c. site_behind s c (Element z)) e ∙ rw t refl)

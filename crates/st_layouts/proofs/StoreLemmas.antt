@@ -1,8 +1,8 @@
 -- The store of the initial values: what it has, and that each value is one that its type holds.
-use Rattle.std.proofs.Common.{◌≡◌, ℕ, zero, suc, ℤ, pos, Bool, true, false, not, ◌&&◌, ◌||◌, if◌then◌else◌, List, [], ◌∷◌}
+use Rattle.std.proofs.Common.{◌≡◌, ℕ, suc, pos, Bool, true, false, not, ◌||◌, if◌then◌else◌, List, [], ◌∷◌}
 use Rattle.std.proofs.Common.{◌++◌, map, slice_get, Option, Some, None, option_map, option_and_then, Result, Ok, Err, refl}
 use Rattle.std.proofs.Common.{sym, ap, ap₂, ◌∙◌, arith}
-use Rattle.std.specs.Prelude.{filter, int_le}
+use Rattle.std.specs.Prelude.{filter}
 use Rattle.std.proofs.lemmas.Int.{ints}
 use Rattle.std.specs.List.{list_any}
 use Rattle.st_words.specs.declared.kind.Kind.{Kind}
@@ -294,7 +294,7 @@ between (c ∷ es) fs e h g d =
     let n = neither (same_path e.0 c.0) (stands_in e.0 es) h in
     let b = both (not (stands_in c.0 (es ++ fs))) (is_distinct (es ++ fs)) d in
     let a : (stands_in c.0 es || stands_in c.0 fs) ≡ false =
-        sym (any_append (λ q. same_path c.0 q.0) es fs) ∙ turned (stands_in c.0 (es ++ fs)) b.0 in
+    sym (any_append (λ q. same_path c.0 q.0) es fs) ∙ turned (stands_in c.0 (es ++ fs)) b.0 in
     let m = neither (stands_in c.0 es) (stands_in c.0 fs) a in
     both_are (not (stands_in c.0 (es ++ e ∷ fs))) (is_distinct (es ++ e ∷ fs))
     (turned_back (stands_in c.0 (es ++ e ∷ fs))

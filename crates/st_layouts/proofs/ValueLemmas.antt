@@ -1,19 +1,17 @@
 -- What a plan has at the path of a part: the initial value and the retention that the declarations tell.
 use Rattle.std.proofs.Common.{◌≡◌, ℕ, zero, suc, ◌+◌, Bool, true, false, not, ◌&&◌, ◌||◌, if◌then◌else◌, List, [], ◌∷◌, ◌++◌}
-use Rattle.std.proofs.Common.{map, slice_get, Option, Some, None, option_map, refl, sym, ap, ap₂, ◌∙◌}
-use Rattle.std.specs.Prelude.{bytes_eq}
+use Rattle.std.proofs.Common.{map, slice_get, Option, Some, option_map, refl, sym, ap, ap₂, ◌∙◌}
 use Rattle.std.specs.List.{list_any}
 use Rattle.st_words.specs.declared.kind.Kind.{Kind}
 use Rattle.st_words.specs.declared.path.Owner.{Owner}
 use Rattle.st_words.specs.declared.path.Step.{Step}
-use Rattle.st_words.specs.Values.{Datum}
-use Rattle.st_words.specs.Paths.{Path, same_owner, same_steps, same_path}
+use Rattle.st_words.specs.Paths.{Path, same_steps, same_path}
 use Rattle.st_types.specs.NameTypes.{Declared}
 use Rattle.st_types.specs.Scopes.{Name}
 use Rattle.st_types.specs.Stores.{get}
 use Rattle.st_types.proofs.SlotLemmas.{same_path_is, same_path_itself}
 use Rattle.st_plans.specs.declared.plan.PlanVariable.{PlanVariable}
-use Rattle.st_layouts.specs.Shapes.{size, Leaf, leaves_of, Position, position_of, is_sound}
+use Rattle.st_layouts.specs.Shapes.{size, Leaf, Position, position_of, is_sound}
 use Rattle.st_layouts.specs.Sites.{initial_at, retained_at}
 use Rattle.st_layouts.specs.Roots.{Root}
 use Rattle.st_layouts.specs.TextLayouts.{further, root_path, root_shape, leaves_of_root, variable_of_leaf, variables_of}
@@ -52,7 +50,7 @@ module _ (text : Declared) (v : Root) (xs : List Step) (k : Kind) where
       let q : l ≡ leaf xs k = some_is h in
       let i = same_path_itself its_path in
       let j : same_path its_path (further (root_path v) l.steps) ≡ true =
-          ap (λ m. same_path its_path (further (root_path v) m.steps)) q ∙ i in
+      ap (λ m. same_path its_path (further (root_path v) m.steps)) q ∙ i in
       absurd (cc)
 
   value_among : (ls : List Leaf) (n : ℕ) (rest : List PlanVariable) → slice_get ls n ≡ Some (leaf xs k)
@@ -161,7 +159,7 @@ module _ (text : Declared) (o : Option Owner) (x : Name) (xs : List Step) where
   kind_of_steps v sound p h m l g e =
       let a = of_shape (root_shape text v) sound m l g in
       let b : ◌≡◌ {A = Option Position} (Some (position m l.kind)) (Some p) =
-          sym a ∙ ap (position_of (root_shape text v)) e ∙ h in
+      sym a ∙ ap (position_of (root_shape text v)) e ∙ h in
       ap (λ q. q.kind) (some_is b)
 
   -- each part has the initial value that its declarations tell

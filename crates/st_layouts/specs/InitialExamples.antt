@@ -1,17 +1,13 @@
 -- Words for worked examples of initial values: texts with structures, arrays and an enumerated type.
-use Rattle.std.specs.Prelude.{ℕ, zero, suc, ◌+◌, List, [], ◌∷◌, map, codes}
+use Rattle.std.specs.Prelude.{ℕ, zero, suc, ◌+◌, List, [], ◌∷◌, codes}
 use Rattle.st_words.specs.declared.kind.Kind.{Kind}
 use Rattle.st_words.specs.declared.kind.Kind.TheVariants.{Int, Bool as Boolean, Enumerated}
-use Rattle.st_trees.specs.declared.data_type.ArrayType.{ArrayType}
-use Rattle.st_trees.specs.declared.data_type.SimpleType.{SimpleType}
 use Rattle.st_trees.specs.declared.data_type.SimpleType.TheVariants.{Elementary}
-use Rattle.st_trees.specs.Declarations as declarations
 use Rattle.st_trees.specs.Declarations.{TypeDeclaration}
 use Rattle.st_trees.specs.Initials.{single}
 use Rattle.st_trees.specs.Sources.{Source}
-use Rattle.st_types.specs.Examples.{identifier}
 use Rattle.st_types.specs.EnumerationExamples.{enumerated, MODE, STOPPED, RUNNING, FAULT}
-use Rattle.st_types.specs.ResolutionExamples.{of_type, plain_number}
+use Rattle.st_types.specs.ResolutionExamples.{of_type}
 use Rattle.st_types.specs.Scopes.{Name}
 use Rattle.st_layouts.specs.LayoutExamples.{plain, array_of, named, amount, listing, with_fields, field}
 use Rattle.st_layouts.specs.LayoutExamples.{field_with, named_value}

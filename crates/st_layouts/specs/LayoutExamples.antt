@@ -1,15 +1,15 @@
 -- Words for worked examples of layouts: declarations, units and configurations as trees without places.
-use Rattle.std.specs.Prelude.{ℕ, suc, ◌+◌, ℤ, pos, negsuc, List, [], ◌∷◌, ◌++◌, map, Bool, true, false, Option, Some}
+use Rattle.std.specs.Prelude.{ℕ, suc, ◌+◌, ℤ, pos, negsuc, List, [], ◌∷◌, ◌++◌, map, Bool, true, Option, Some}
 use Rattle.std.specs.Prelude.{None, codes}
 use Rattle.st_words.specs.declared.kind.Kind.{Kind}
-use Rattle.st_words.specs.declared.kind.Kind.TheVariants.{Int, Time, Word, Bool as Boolean}
+use Rattle.st_words.specs.declared.kind.Kind.TheVariants.{Int, Word, Bool as Boolean}
 use Rattle.st_words.specs.declared.literal.Literal.TheVariants as literals
 use Rattle.st_words.specs.declared.path.Step.{Step}
 use Rattle.st_words.specs.declared.path.Step.TheVariants.{Member, Element as PathElement}
 use Rattle.st_words.specs.Paths.{Path}
 use Rattle.st_words.specs.Values.{Datum}
 use Rattle.st_trees.specs.declared.configuration.Address.{Address}
-use Rattle.st_trees.specs.declared.configuration.AddressWidth.TheVariants.{Bit, Word as WholeWord}
+use Rattle.st_trees.specs.declared.configuration.AddressWidth.TheVariants.{Bit}
 use Rattle.st_trees.specs.declared.configuration.Direction.{Direction}
 use Rattle.st_trees.specs.declared.configuration.Direction.TheVariants.{Input, Output}
 use Rattle.st_trees.specs.declared.configuration.GlobalQualifier.{GlobalQualifier}
@@ -36,7 +36,6 @@ use Rattle.st_trees.specs.Sources as sources
 use Rattle.st_types.specs.Scopes.{Name}
 use Rattle.st_types.specs.Examples.{identifier}
 use Rattle.st_types.specs.ResolutionExamples.{of_type, plain_number, initially}
-use Rattle.st_plans.specs.declared.plan.PlanVariable.{PlanVariable}
 use Rattle.st_plans.specs.Layouts.{owner_text}
 use Rattle.st_layouts.specs.TextLayouts.{slots_of_text, variables_of_text, inputs_of_text}
 
@@ -189,53 +188,53 @@ int n = record { kind = Int; number = pos n }
 -- END_FUNCTION_BLOCK
 abbrev pub fb : OrganisationUnit
 fb = unit_with sorts.FunctionBlock (codes "FB") (
-  variables_in (sections.Input None) (without_initial (codes "A") (plain Int) ∷ [])
-  ∷ variables_in (sections.Output (Some Retain)) (without_initial (codes "B") (plain Int) ∷ [])
-  ∷ variables_in (sections.Local (Some NonRetain)) (without_initial (codes "C") (plain Int) ∷ [])
-  ∷ []) []
+    variables_in (sections.Input None) (without_initial (codes "A") (plain Int) ∷ [])
+    ∷ variables_in (sections.Output (Some Retain)) (without_initial (codes "B") (plain Int) ∷ [])
+    ∷ variables_in (sections.Local (Some NonRetain)) (without_initial (codes "C") (plain Int) ∷ [])
+    ∷ []) []
 
 -- PROGRAM Pr VAR RETAIN f : Fb; t : TON; END_VAR VAR k : Fb; END_VAR END_PROGRAM
 abbrev pub instances_of_blocks : Source
 instances_of_blocks = text_of [] (fb ∷ program_with (
-  variables_in (sections.Local (Some Retain)) (without_initial (codes "F") (of_type (codes "FB"))
-  ∷ without_initial (codes "T") (of_type (codes "TON")) ∷ [])
-  ∷ variables_in (sections.Local None) (without_initial (codes "K") (of_type (codes "FB")) ∷ [])
-  ∷ []) ∷ []) instance_p
+    variables_in (sections.Local (Some Retain)) (without_initial (codes "F") (of_type (codes "FB"))
+    ∷ without_initial (codes "T") (of_type (codes "TON")) ∷ [])
+    ∷ variables_in (sections.Local None) (without_initial (codes "K") (of_type (codes "FB")) ∷ [])
+    ∷ []) ∷ []) instance_p
 
 -- FUNCTION_BLOCK Outer VAR NON_RETAIN t : TON; END_VAR VAR s : SR; f : Fb; END_VAR VAR CONSTANT n : INT := 5; END_VAR
 -- VAR_EXTERNAL g : INT; END_VAR END_FUNCTION_BLOCK
 abbrev pub outer : OrganisationUnit
 outer = unit_with sorts.FunctionBlock (codes "OUTER") (
-  variables_in (sections.Local (Some NonRetain)) (without_initial (codes "T") (of_type (codes "TON")) ∷ [])
-  ∷ variables_in (sections.Local None) (without_initial (codes "S") (of_type (codes "SR"))
-  ∷ without_initial (codes "F") (of_type (codes "FB")) ∷ [])
-  ∷ variables_in sections.Constant (with_initial (codes "N") (plain Int) (amount 5) ∷ [])
-  ∷ variables_in sections.External (without_initial (codes "G") (plain Int) ∷ [])
-  ∷ []) []
+    variables_in (sections.Local (Some NonRetain)) (without_initial (codes "T") (of_type (codes "TON")) ∷ [])
+    ∷ variables_in (sections.Local None) (without_initial (codes "S") (of_type (codes "SR"))
+    ∷ without_initial (codes "F") (of_type (codes "FB")) ∷ [])
+    ∷ variables_in sections.Constant (with_initial (codes "N") (plain Int) (amount 5) ∷ [])
+    ∷ variables_in sections.External (without_initial (codes "G") (plain Int) ∷ [])
+    ∷ []) []
 
 -- PROGRAM Pr VAR RETAIN o : Outer; END_VAR END_PROGRAM
 abbrev pub block_in_a_block : Source
 block_in_a_block = text_of [] (fb ∷ outer ∷ program_with (
-  variables_in (sections.Local (Some Retain)) (without_initial (codes "O") (of_type (codes "OUTER")) ∷ [])
-  ∷ []) ∷ []) instance_p
+    variables_in (sections.Local (Some Retain)) (without_initial (codes "O") (of_type (codes "OUTER")) ∷ [])
+    ∷ []) ∷ []) instance_p
 
 -- VAR_GLOBAL RETAIN a : INT := 7; END_VAR VAR_GLOBAL x AT %IX0 : BOOL; q AT %QX0 : BOOL; END_VAR
 -- VAR_GLOBAL CONSTANT n : INT := 9; END_VAR VAR_GLOBAL w : ARRAY [0..1] OF WORD; END_VAR
 -- with two instances P and Q of a program with VAR k : INT; END_VAR VAR_EXTERNAL a : INT; END_VAR
 abbrev pub input_between_globals : Source
 input_between_globals = text_of [] (program_with (
-  variables_in (sections.Local None) (without_initial (codes "K") (plain Int) ∷ [])
-  ∷ variables_in sections.External (without_initial (codes "A") (plain Int) ∷ [])
-  ∷ []) ∷ []) (configured (
-  globals_of (Some qualifiers.Retain) (global (codes "A") (plain Int) (Some (amount 7)) ∷ [])
-  ∷ globals_of None (global_at (codes "X") (bit_at Input 0) (plain Boolean)
-  ∷ global_at (codes "Q") (bit_at Output 0) (plain Boolean) ∷ [])
-  ∷ globals_of (Some qualifiers.Constant) (global (codes "N") (plain Int) (Some (amount 9)) ∷ [])
-  ∷ globals_of None (global (codes "W") (array_of 0 1 (Elementary Word 0)) None ∷ [])
-  ∷ []) (
-  resource (codes "R") (instance (codes "P") (codes "PR") ∷ instance (codes "Q") (codes "PR") ∷ [])
-  ∷ resource (codes "S") (instance (codes "P") (codes "PR") ∷ [])
-  ∷ []))
+    variables_in (sections.Local None) (without_initial (codes "K") (plain Int) ∷ [])
+    ∷ variables_in sections.External (without_initial (codes "A") (plain Int) ∷ [])
+    ∷ []) ∷ []) (configured (
+    globals_of (Some qualifiers.Retain) (global (codes "A") (plain Int) (Some (amount 7)) ∷ [])
+    ∷ globals_of None (global_at (codes "X") (bit_at Input 0) (plain Boolean)
+    ∷ global_at (codes "Q") (bit_at Output 0) (plain Boolean) ∷ [])
+    ∷ globals_of (Some qualifiers.Constant) (global (codes "N") (plain Int) (Some (amount 9)) ∷ [])
+    ∷ globals_of None (global (codes "W") (array_of 0 1 (Elementary Word 0)) None ∷ [])
+    ∷ []) (
+    resource (codes "R") (instance (codes "P") (codes "PR") ∷ instance (codes "Q") (codes "PR") ∷ [])
+    ∷ resource (codes "S") (instance (codes "P") (codes "PR") ∷ [])
+    ∷ []))
 
 -- Pr as a text without a configuration, and with two of them
 abbrev pub one_variable : OrganisationUnit
@@ -251,7 +250,7 @@ configured_twice =
 -- instances of Pr, of a block and of what is not there
 abbrev pub instances_of_no_program : Source
 instances_of_no_program = text_of [] (fb ∷ one_variable ∷ []) (configured [] (resource (codes "R") (
-  instance (codes "P") (codes "PR")
-  ∷ instance (codes "F") (codes "FB")
-  ∷ instance (codes "N") (codes "NOTHING")
-  ∷ []) ∷ []))
+    instance (codes "P") (codes "PR")
+    ∷ instance (codes "F") (codes "FB")
+    ∷ instance (codes "N") (codes "NOTHING")
+    ∷ []) ∷ []))

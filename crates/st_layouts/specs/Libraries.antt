@@ -17,7 +17,7 @@ use Rattle.st_types.specs.Scopes.{Name, Body, Function, Block, Library}
 use Rattle.st_types.specs.Runs.{Program}
 use Rattle.st_types.specs.Stores.{Store}
 use Rattle.st_layouts.specs.Types.{NamedSite, sites_of_blocks, BlockType, instance_of}
-use Rattle.st_layouts.specs.Roots.{Root, variable_root, owner_in, declared_of, configuration_of}
+use Rattle.st_layouts.specs.Roots.{variable_root, owner_in, declared_of, configuration_of}
 use Rattle.st_layouts.specs.TextLayouts.{variables_of, initial_values}
 
 -- the instances among variables, each with the name of its block

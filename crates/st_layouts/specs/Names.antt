@@ -1,17 +1,16 @@
 -- What is asked of a text's names, so that each path stands once: in each scope of variables no name stands twice.
 use Rattle.std.specs.Prelude.{List, [], ◌∷◌, map, Bool, true, not, ◌&&◌, Option, Some, None}
 use Rattle.std.specs.List.{list_all}
-use Rattle.st_trees.specs.declared.configuration.Instance.{Instance}
 use Rattle.st_trees.specs.declared.unit.UnitSort.{UnitSort}
 use Rattle.st_trees.specs.declared.unit.UnitSort.TheVariants.{Function, FunctionBlock, Program}
-use Rattle.st_trees.specs.Declarations.{TypeDefinition, array, structure, enumeration, TypeDeclaration}
+use Rattle.st_trees.specs.Declarations.{TypeDefinition, array, structure, enumeration}
 use Rattle.st_trees.specs.Configurations.{Resource, Configuration}
 use Rattle.st_trees.specs.Units.{OrganisationUnit}
 use Rattle.st_trees.specs.Sources.{Source}
 use Rattle.st_types.specs.NameTypes.{Declared}
 use Rattle.st_types.specs.Scopes.{Name, contains_name}
 use Rattle.st_layouts.specs.Types.{NamedSite, sites_of_blocks, site_of_field}
-use Rattle.st_layouts.specs.Roots.{Root, roots_of_globals, declared_of, configuration_of}
+use Rattle.st_layouts.specs.Roots.{roots_of_globals, declared_of, configuration_of}
 
 -- no name stands twice
 abbrev pub are_different : List Name → Bool

@@ -1,5 +1,5 @@
 -- Where the variables of a layout stand, and when each is declared once.
-use Rattle.std.specs.Prelude.{◌≡◌, ℕ, ◌+◌, List, [], ◌∷◌, Bool, true, false, not, ◌&&◌, ◌||◌, if◌then◌else◌, Option, Some}
+use Rattle.std.specs.Prelude.{◌≡◌, ℕ, ◌+◌, List, [], ◌∷◌, Bool, true, not, ◌&&◌, if◌then◌else◌, Option, Some}
 use Rattle.std.specs.Prelude.{None, option_map, bytes_eq, slice_get}
 use Rattle.std.specs.List.{list_any}
 use Rattle.st_words.specs.declared.kind.Kind.{Kind}

@@ -3,7 +3,6 @@
 use Rattle.std.specs.Prelude.{List, [], ◌∷◌, ◌++◌, map, Bool, true, false, Option, Some, None}
 use Rattle.st_words.specs.declared.identifier.Identifier.{Identifier}
 use Rattle.st_words.specs.declared.path.Owner.{Owner}
-use Rattle.st_trees.specs.declared.configuration.Address.{Address}
 use Rattle.st_trees.specs.declared.configuration.Direction.{Direction}
 use Rattle.st_trees.specs.declared.configuration.Direction.TheVariants.{Input, Output}
 use Rattle.st_trees.specs.declared.configuration.GlobalQualifier.{GlobalQualifier}

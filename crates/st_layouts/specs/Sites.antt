@@ -15,7 +15,7 @@ use Rattle.st_types.specs.Scopes.{Name}
 use Rattle.st_types.specs.Stores.{may_replace}
 use Rattle.st_plans.specs.Plans.{initial_value, is_retained_by}
 use Rattle.st_layouts.specs.Shapes.{in_bounds, distance}
-use Rattle.st_layouts.specs.Types.{Site, site_named, Composition, of_kind, of_elements, of_parts, composition_of}
+use Rattle.st_layouts.specs.Types.{Site, site_named, Composition, of_elements, of_parts, composition_of}
 use Rattle.st_layouts.specs.Types.{lower_of, count_of, element_of}
 
 -- the initial value that a list gives the element of a place, from 0; none where it leaves the default

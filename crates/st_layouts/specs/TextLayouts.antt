@@ -1,5 +1,5 @@
 -- The layout of a text: its slots, what a plan has of them, and how many instances of blocks it has.
-use Rattle.std.specs.Prelude.{ℕ, ◌+◌, List, [], ◌∷◌, ◌++◌, map, Bool, not, if◌then◌else◌, filter}
+use Rattle.std.specs.Prelude.{ℕ, ◌+◌, List, [], ◌∷◌, ◌++◌, map, not, if◌then◌else◌, filter}
 use Rattle.st_words.specs.declared.path.Step.{Step}
 use Rattle.st_words.specs.declared.kind.Kind.{Kind}
 use Rattle.st_words.specs.Paths.{Path}

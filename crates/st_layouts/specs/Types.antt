@@ -1,7 +1,7 @@
 -- What a declared type is made of, and its shape. Every declared thing, whether a variable, a field or a member of a
 -- block's instance, has a site: what its declaration says of it.
 use Rattle.std.specs.Prelude.{ℕ, zero, suc, ℤ, pos, ◌+ℤ◌, ◌-ℤ◌, List, [], ◌∷◌, ◌++◌, map, if◌then◌else◌, is_none}
-use Rattle.std.specs.Prelude.{Option, Some, None, option_map, bytes_eq}
+use Rattle.std.specs.Prelude.{Option, Some, None, bytes_eq}
 use Rattle.st_words.specs.declared.identifier.Identifier.{Identifier}
 use Rattle.st_words.specs.declared.kind.Kind.{Kind}
 use Rattle.st_trees.specs.declared.data_type.ArrayType.{ArrayType}

@@ -1,4 +1,4 @@
-use Rattle.std.proofs.Common.{◌≡◌, ap, ◌∙◌}
+use Rattle.std.proofs.Common.{ap, ◌∙◌}
 use Rattle.st_layouts.specs.TextLayouts.{further}
 use Rattle.st_layouts.specs.Places.{path_to}
 use Rattle.st_layouts.proofs.StoreLemmas.{written_value, unwritten_value}
