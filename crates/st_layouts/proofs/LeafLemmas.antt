@@ -12,7 +12,8 @@ use Rattle.st_words.specs.declared.path.Step.TheVariants.{Member, Element}
 use Rattle.st_words.specs.Paths.{begins_with, same_step}
 use Rattle.st_types.specs.Scopes.{Name}
 use Rattle.st_layouts.specs.Shapes.{Shape, plain, array, parts, Parts, no_parts, part_then, size, sizes, Leaf}
-use Rattle.st_layouts.specs.Shapes.{below, leaves_of_elements, leaves_of, leaves_of_parts, in_bounds, distance, Position}
+use Rattle.st_layouts.specs.Shapes.{below, leaves_of_elements, leaves_of, leaves_of_parts, in_bounds, distance}
+use Rattle.st_layouts.specs.Shapes.{Position}
 use Rattle.st_layouts.specs.Shapes.{beyond, position_of, position_in, leads_on, leads_in, has_name, is_sound, are_sound}
 use Rattle.st_layouts.proofs.ListLemmas.{get_left, get_right, get_split, get_map, length_map, same_int, same_name}
 use Rattle.st_layouts.proofs.ListLemmas.{name_itself, name_turned, map_some, if_some, both, turned, or_later, or_false}

@@ -30,7 +30,8 @@ use Rattle.st_layouts.specs.Names
 use Rattle.st_layouts.specs.Names.{are_different, names_of_sites, variable_names, has_different_variables}
 use Rattle.st_layouts.specs.Names.{are_types_and_units_different}
 use Rattle.st_layouts.specs.Libraries.{instances_among, result_site, fresh_values, function_of_unit}
-use Rattle.st_layouts.specs.Libraries.{function_then, functions_among, block_of_unit, block_then, blocks_among, library_of}
+use Rattle.st_layouts.specs.Libraries.{function_then, functions_among, block_of_unit, block_then, blocks_among}
+use Rattle.st_layouts.specs.Libraries.{library_of}
 use Rattle.st_layouts.specs.Libraries.{program_of_unit, is_program}
 use Rattle.st_layouts.proofs.ListLemmas.{both, if_some, some_is}
 use Rattle.st_layouts.proofs.NameLemmas.{variables_once}
@@ -150,7 +151,8 @@ no_inputs_among text (d ∷ ds) = no_inputs_among text ds
 fresh_is_store : (text : Declared) → are_types_and_units_different text ≡ true → (ds : List NamedSite)
     → are_different (names_of_sites ds) ≡ true → IsStore [] (fresh_values text ds)
 fresh_is_store text differ ds h =
-    let e : initial_image (inputs_of text (map (variable_root None) ds)) ≡ [] = ap initial_image (no_inputs_among text ds) in
+    let e : initial_image (inputs_of text (map (variable_root None) ds)) ≡ [] =
+    ap initial_image (no_inputs_among text ds) in
     let s = initial_store_is text (map (variable_root None) ds)
     (roots_layout text (map (variable_root None) ds) (variables_once text differ ds h)) in
     rw e at s
@@ -225,7 +227,8 @@ pub plain_program_is : (text : Declared) (owner : Owner) (u : OrganisationUnit)
     → list_all (λ v. is_program v.sort) text.units ≡ true → instances_among text (sites_of_blocks u.blocks) ≡ []
     → program_of_unit text owner u ≡ plain_program owner u
 plain_program_is text owner u h g =
-    ap (λ fs. program_of_parts fs (blocks_among text text.units) (instances_among text (sites_of_blocks u.blocks)) owner u)
+    ap (λ fs. program_of_parts fs (blocks_among text text.units) (instances_among text (sites_of_blocks u.blocks))
+    owner u)
     (no_functions text text.units h)
     ∙ ap (λ bs. program_of_parts [] bs (instances_among text (sites_of_blocks u.blocks)) owner u)
     (no_blocks text text.units h)

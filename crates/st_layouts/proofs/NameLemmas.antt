@@ -1,5 +1,6 @@
 -- Where names stand once in their scopes, each path of the layout stands once.
-use Rattle.std.proofs.Common.{◌≡◌, ℕ, zero, suc, Bool, true, false, not, ◌&&◌, ◌||◌, if◌then◌else◌, List, [], ◌∷◌, ◌++◌, map}
+use Rattle.std.proofs.Common.{◌≡◌, ℕ, zero, suc, Bool, true, false, not, ◌&&◌, ◌||◌, if◌then◌else◌, List, [], ◌∷◌, ◌++◌}
+use Rattle.std.proofs.Common.{map}
 use Rattle.std.proofs.Common.{Option, Some, None, refl, sym, ap, ap₂, ◌∙◌}
 use Rattle.std.specs.Prelude.{bytes_eq, is_none}
 use Rattle.std.specs.List.{list_all}
@@ -30,7 +31,8 @@ use Rattle.st_layouts.specs.Types.{block_type_of, own_block_type, block_type_nam
 use Rattle.st_layouts.specs.Types.{of_elements, of_parts, instance_parts, defined_composition, composition_of, parts_of}
 use Rattle.st_layouts.specs.Types.{composed_shape, shape_within}
 use Rattle.st_layouts.specs.Roots.{Root, variable_root, global_root, roots_of_names, roots_of_declarations}
-use Rattle.st_layouts.specs.Roots.{retention_of_globals, site_of_global, roots_of_globals, sites_of_program, program_sites}
+use Rattle.st_layouts.specs.Roots.{retention_of_globals, site_of_global, roots_of_globals, sites_of_program}
+use Rattle.st_layouts.specs.Roots.{program_sites}
 use Rattle.st_layouts.specs.Roots.{owner_in, roots_of_instances, roots_of_resources, roots_of_configuration}
 use Rattle.st_layouts.specs.TextLayouts.{root_shape}
 use Rattle.st_layouts.specs.Places.{is_root, has_root, are_declared_once}
@@ -168,7 +170,8 @@ module _ (inner : VariableType → Shape) (ih : (t : VariableType) → is_sound 
   sound_parts [] h = refl
   sound_parts (d ∷ ds) h =
       let b = both (not (contains_name (names_of_sites ds) d.name)) (are_different (names_of_sites ds)) h in
-      both_are (not (has_name (parts_of inner ds) d.name)) (is_sound (inner d.site.declared) && are_sound (parts_of inner ds))
+      both_are (not (has_name (parts_of inner ds) d.name))
+      (is_sound (inner d.site.declared) && are_sound (parts_of inner ds))
       (ap not (has_name_of ds d.name) ∙ b.0)
       (both_are (is_sound (inner d.site.declared)) (are_sound (parts_of inner ds)) (ih d.site.declared)
       (sound_parts ds b.1))
@@ -334,7 +337,8 @@ module _ (text : Declared) where
       (roots_of_resources text rs)
       ∙ ap₂ (λ a b. a || b) (other_resource r.name.name r' i' n.0 r.instances x) (other_resources r' i' rs n.1 x)
 
-  unowned_instances : (r : Name) (is : List Instance) (x : Name) → has_root (roots_of_instances text r is) None x ≡ false
+  unowned_instances : (r : Name) (is : List Instance) (x : Name)
+      → has_root (roots_of_instances text r is) None x ≡ false
   unowned_instances r [] x = refl
   unowned_instances r (i ∷ is) x = not_in None x r i (roots_of_instances text r is) refl (unowned_instances r is x)
 
@@ -402,7 +406,8 @@ module _ (text : Declared) where
     configuration_differs (Some c) h =
         let b = both (are_different (names_of_roots (roots_of_globals c.globals)))
         (are_different (map (λ r. r.name.name) c.resources) && list_all has_different_instances c.resources) h in
-        let d = both (are_different (map (λ r. r.name.name) c.resources)) (list_all has_different_instances c.resources) b.1 in
+        let d = both (are_different (map (λ r. r.name.name) c.resources))
+        (list_all has_different_instances c.resources) b.1 in
         joined None (roots_of_globals c.globals) (roots_of_resources text c.resources) (owned_globals c.globals)
         (unowned_resources c.resources)
         (one_owner None (roots_of_globals c.globals) (owned_globals c.globals) b.0)

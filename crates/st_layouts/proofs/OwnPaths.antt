@@ -1,5 +1,6 @@
 -- The slots of a variable are exactly those whose paths begin with its name.
-use Rattle.std.proofs.Common.{◌≡◌, ℕ, ◌+◌, Bool, true, false, not, ◌&&◌, if◌then◌else◌, List, [], ◌∷◌, ◌++◌, map, Option, Some}
+use Rattle.std.proofs.Common.{◌≡◌, ℕ, ◌+◌, Bool, true, false, not, ◌&&◌, if◌then◌else◌, List, [], ◌∷◌, ◌++◌, map}
+use Rattle.std.proofs.Common.{Option, Some}
 use Rattle.std.proofs.Common.{option_map, refl, ap, ap₂, ◌∙◌}
 use Rattle.std.specs.Prelude.{filter}
 use Rattle.st_words.specs.declared.path.Owner.{Owner}
@@ -71,7 +72,8 @@ module _ (text : Declared) where
       → root_at text vs o x ≡ Some e → own_among o x (slots_of text vs) ≡ slots_of_root text e.1
   own_slots [] once o x e h = absurd (cc)
   own_slots (v ∷ vs) once o x e h =
-      let a = both (not (has_root vs v.owner v.name)) (is_sound (root_shape text v) && are_declared_once text vs) once in
+      let a = both (not (has_root vs v.owner v.name))
+      (is_sound (root_shape text v) && are_declared_once text vs) once in
       let b = both (is_sound (root_shape text v)) (are_declared_once text vs) a.1 in
       own_cases v vs o x e (turned (has_root vs v.owner v.name) a.0) (λ f g. own_slots vs b.1 o x f g)
       (is_root o x v) refl h

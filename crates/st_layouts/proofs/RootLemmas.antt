@@ -1,7 +1,9 @@
 -- In the layout of variables that are declared once each path has one slot, and each variable stands where its
 -- declaration says.
-use Rattle.std.proofs.Common.{◌≡◌, inl, inr, ℕ, zero, suc, ◌+◌, Bool, true, false, not, ◌&&◌, ◌||◌, if◌then◌else◌, List, []}
-use Rattle.std.proofs.Common.{◌∷◌, ◌++◌, length, map, slice_get, Option, Some, option_map, refl, sym, ap, ap₂, ◌∙◌, subst}
+use Rattle.std.proofs.Common.{◌≡◌, inl, inr, ℕ, zero, suc, ◌+◌, Bool, true, false, not, ◌&&◌, ◌||◌, if◌then◌else◌, List}
+use Rattle.std.proofs.Common.{[]}
+use Rattle.std.proofs.Common.{◌∷◌, ◌++◌, length, map, slice_get, Option, Some, option_map, refl, sym, ap, ap₂, ◌∙◌}
+use Rattle.std.proofs.Common.{subst}
 use Rattle.std.proofs.Common.{arith}
 use Rattle.std.specs.Prelude.{bytes_eq}
 use Rattle.std.specs.List.{list_any}
@@ -14,10 +16,13 @@ use Rattle.st_types.specs.Slots.{Slot, slot_of, IsLayout}
 use Rattle.st_types.proofs.SlotLemmas.{same_path_is, same_path_itself}
 use Rattle.st_layouts.specs.Shapes.{size, Leaf, Position, position_of, leads_on, is_sound}
 use Rattle.st_layouts.specs.Roots.{Root}
-use Rattle.st_layouts.specs.TextLayouts.{further, root_path, root_shape, leaves_of_root, slot_of_leaf, slots_of_root, slots_of}
-use Rattle.st_layouts.specs.Places.{path_to, is_root, has_root, are_declared_once, root_at, position_among, has_slot_within}
+use Rattle.st_layouts.specs.TextLayouts.{further, root_path, root_shape, leaves_of_root, slot_of_leaf, slots_of_root}
+use Rattle.st_layouts.specs.TextLayouts.{slots_of}
+use Rattle.st_layouts.specs.Places.{path_to, is_root, has_root, are_declared_once, root_at, position_among}
+use Rattle.st_layouts.specs.Places.{has_slot_within}
 use Rattle.st_layouts.specs.Places.{slot, Stands}
-use Rattle.st_layouts.proofs.ListLemmas.{get_left, get_right, get_split, get_map, length_map, map_some, both, both_are, turned}
+use Rattle.st_layouts.proofs.ListLemmas.{get_left, get_right, get_split, get_map, length_map, map_some, both, both_are}
+use Rattle.st_layouts.proofs.ListLemmas.{turned}
 use Rattle.st_layouts.proofs.ListLemmas.{same_name, name_itself, neither, or_here, or_later, or_false, any_append}
 use Rattle.st_layouts.proofs.LeafLemmas.{leaf, position, begin, length_leaves, at_shape, of_shape, begin_shape}
 
@@ -38,7 +43,8 @@ root_is o x v h =
     ap₂ path_to (owner_is o v.owner b.0) (same_name x v.name b.1)
 
 root_itself : (v : Root) → is_root v.owner v.name v ≡ true
-root_itself v = both_are (same_owner v.owner v.owner) (bytes_eq v.name v.name) (owner_itself v.owner) (name_itself v.name)
+root_itself v =
+    both_are (same_owner v.owner v.owner) (bytes_eq v.name v.name) (owner_itself v.owner) (name_itself v.name)
 
 or_is : (a b c d : Bool) → a ≡ c → b ≡ d → (a || b) ≡ (c || d)
 or_is a b c d h g = ap₂ (λ x y. x || y) h g
@@ -102,7 +108,8 @@ module _ (text : Declared) where
       → has_slot_within (slots_of text vs) (further (path_to o x) xs) ≡ leads_on (root_shape text e.1) xs
   only_declared [] once o x e xs h = absurd (cc)
   only_declared (v ∷ vs) once o x e xs h =
-      let a = both (not (has_root vs v.owner v.name)) (is_sound (root_shape text v) && are_declared_once text vs) once in
+      let a = both (not (has_root vs v.owner v.name))
+      (is_sound (root_shape text v) && are_declared_once text vs) once in
       let b = both (is_sound (root_shape text v)) (are_declared_once text vs) a.1 in
       only_cases v vs o x xs e (turned (has_root vs v.owner v.name) a.0) b.0
       (λ f g. only_declared vs b.1 o x f xs g) (is_root o x v) refl h
@@ -172,7 +179,8 @@ module _ (text : Declared) where
       → slice_get (slots_of text vs) k ≡ Some l → IsLocated vs k l
   located [] once k l h = absurd (cc)
   located (v ∷ vs) once k l h =
-      let a = both (not (has_root vs v.owner v.name)) (is_sound (root_shape text v) && are_declared_once text vs) once in
+      let a = both (not (has_root vs v.owner v.name))
+      (is_sound (root_shape text v) && are_declared_once text vs) once in
       let b = both (is_sound (root_shape text v)) (are_declared_once text vs) a.1 in
       elim (get_split (slots_of_root text v) (slots_of text vs) k l h) [
         | inl g ↦

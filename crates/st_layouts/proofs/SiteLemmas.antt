@@ -1,5 +1,6 @@
 -- Each elementary part of a shape has a declaration of its type.
-use Rattle.std.proofs.Common.{◌≡◌, ℕ, zero, suc, ◌*◌, Bool, true, false, if◌then◌else◌, List, [], ◌∷◌, Option, Some, None}
+use Rattle.std.proofs.Common.{◌≡◌, ℕ, zero, suc, ◌*◌, Bool, true, false, if◌then◌else◌, List, [], ◌∷◌, Option, Some}
+use Rattle.std.proofs.Common.{None}
 use Rattle.std.proofs.Common.{option_map, option_and_then, refl, ap, ◌∙◌}
 use Rattle.std.specs.Prelude.{bytes_eq}
 use Rattle.st_words.specs.declared.kind.Kind.{Kind}
@@ -13,7 +14,8 @@ use Rattle.st_types.specs.NameTypes.{Declared, definition_of, kind_among}
 use Rattle.st_types.specs.Scopes.{Name}
 use Rattle.st_layouts.specs.Shapes.{Whole, Shape, plain, array, parts, size, in_bounds, distance, Position, beyond}
 use Rattle.st_layouts.specs.Shapes.{position_of, position_in}
-use Rattle.st_layouts.specs.Types.{Site, NamedSite, site_named, BlockType, instance_of, Composition, of_kind, of_elements}
+use Rattle.st_layouts.specs.Types.{Site, NamedSite, site_named, BlockType, instance_of, Composition, of_kind}
+use Rattle.st_layouts.specs.Types.{of_elements}
 use Rattle.st_layouts.specs.Types.{of_parts, instance_parts, defined_composition, composition_of, lower_of, count_of}
 use Rattle.st_layouts.specs.Types.{element_of, parts_of, composed_shape, shape_within}
 use Rattle.st_layouts.specs.Sites.{element_site, member_site, site_behind, site_at}
@@ -43,7 +45,8 @@ kind_of_composition : (text : Declared) (t : VariableType) (k : Kind) → compos
 kind_of_composition text t k h = kind_made text t (kind_among text.types t) k h
 
 -- the declaration of a part in which the steps lead on
-record LeadsTo (inner : VariableType → Shape) (ds : List NamedSite) (x : Name) (xs : List Step) (k : Kind) : Type 0 where
+record LeadsTo (inner : VariableType → Shape) (ds : List NamedSite) (x : Name) (xs : List Step) (k : Kind)
+    : Type 0 where
   own : Site
   is : site_named ds x ≡ Some own
   position : Position

@@ -1,6 +1,7 @@
 -- The store of the initial values: what it has, and that each value is one that its type holds.
 use Rattle.std.proofs.Common.{◌≡◌, ℕ, suc, pos, Bool, true, false, not, ◌||◌, if◌then◌else◌, List, [], ◌∷◌}
-use Rattle.std.proofs.Common.{◌++◌, map, slice_get, Option, Some, None, option_map, option_and_then, Result, Ok, Err, refl}
+use Rattle.std.proofs.Common.{◌++◌, map, slice_get, Option, Some, None, option_map, option_and_then, Result, Ok, Err}
+use Rattle.std.proofs.Common.{refl}
 use Rattle.std.proofs.Common.{sym, ap, ap₂, ◌∙◌, arith}
 use Rattle.std.specs.Prelude.{filter}
 use Rattle.std.proofs.lemmas.Int.{ints}
@@ -135,13 +136,15 @@ no_inputs v e [] = refl
 no_inputs v e (l ∷ ls) = let h = no_inputs v e ls in rw (e, h) refl
 
 module _ (text : Declared) where
-  pub variables_by_slots : (vs : List Root) → map variable_slot (variables_of text vs) ≡ variable_slots (slots_of text vs)
+  pub variables_by_slots : (vs : List Root)
+      → map variable_slot (variables_of text vs) ≡ variable_slots (slots_of text vs)
   variables_by_slots [] = refl
   variables_by_slots (v ∷ vs) =
       by_test v.is_input refl (variables_by_slots vs)
       ∙ sym (filter_append (λ l. not l.is_input) (slots_of_root text v) (slots_of text vs))
     where
-      by_test : (b : Bool) → v.is_input ≡ b → map variable_slot (variables_of text vs) ≡ variable_slots (slots_of text vs)
+      by_test : (b : Bool) → v.is_input ≡ b
+          → map variable_slot (variables_of text vs) ≡ variable_slots (slots_of text vs)
           → map variable_slot (if b then variables_of text vs
           else map (variable_of_leaf text v) (leaves_of_root text v) ++ variables_of text vs)
           ≡ variable_slots (slots_of_root text v) ++ variable_slots (slots_of text vs)
@@ -201,7 +204,8 @@ pub initial_values_held : (text : Declared) (vs : List Root)
 initial_values_held text [] = refl
 initial_values_held text (v ∷ vs) = by_test v.is_input (initial_values_held text vs)
   where
-    by_test : (b : Bool) → all_held (initial_values (variables_of text vs)) ≡ true → all_held (initial_values (if b then variables_of text vs
+    by_test : (b : Bool) → all_held (initial_values (variables_of text vs)) ≡ true
+        → all_held (initial_values (if b then variables_of text vs
         else map (variable_of_leaf text v) (leaves_of_root text v) ++ variables_of text vs)) ≡ true
     by_test true h = h
     by_test false h = held_leaves text v (leaves_of_root text v) (variables_of text vs) h

@@ -1,5 +1,6 @@
 -- What a plan has at the path of a part: the initial value and the retention that the declarations tell.
-use Rattle.std.proofs.Common.{◌≡◌, ℕ, zero, suc, ◌+◌, Bool, true, false, not, ◌&&◌, ◌||◌, if◌then◌else◌, List, [], ◌∷◌, ◌++◌}
+use Rattle.std.proofs.Common.{◌≡◌, ℕ, zero, suc, ◌+◌, Bool, true, false, not, ◌&&◌, ◌||◌, if◌then◌else◌, List, [], ◌∷◌}
+use Rattle.std.proofs.Common.{◌++◌}
 use Rattle.std.proofs.Common.{map, slice_get, Option, Some, option_map, refl, sym, ap, ap₂, ◌∙◌}
 use Rattle.std.specs.List.{list_any}
 use Rattle.st_words.specs.declared.kind.Kind.{Kind}
@@ -168,7 +169,8 @@ module _ (text : Declared) (o : Option Owner) (x : Name) (xs : List Step) where
       → get (initial_values (variables_of text vs)) path ≡ Some (initial_at text e.1.site xs p.kind)
   value_told [] once e h i p g = absurd (cc)
   value_told (v ∷ vs) once e h i p g =
-      let a = both (not (has_root vs v.owner v.name)) (is_sound (root_shape text v) && are_declared_once text vs) once in
+      let a = both (not (has_root vs v.owner v.name))
+      (is_sound (root_shape text v) && are_declared_once text vs) once in
       let b = both (is_sound (root_shape text v)) (are_declared_once text vs) a.1 in
       by_root (is_root o x v) refl v.is_input refl h b.0
       (λ f j n q. value_told vs b.1 f j n p q)
@@ -214,7 +216,8 @@ module _ (text : Declared) (o : Option Owner) (x : Name) (xs : List Step) where
       → retained_among (variables_of text vs) path ≡ retained_at text e.1.site xs
   retention_told [] once e h i p g = absurd (cc)
   retention_told (v ∷ vs) once e h i p g =
-      let a = both (not (has_root vs v.owner v.name)) (is_sound (root_shape text v) && are_declared_once text vs) once in
+      let a = both (not (has_root vs v.owner v.name))
+      (is_sound (root_shape text v) && are_declared_once text vs) once in
       let b = both (is_sound (root_shape text v)) (are_declared_once text vs) a.1 in
       by_root (is_root o x v) refl v.is_input refl h (turned (has_root vs v.owner v.name) a.0)
       (λ f j n q. retention_told vs b.1 f j n p q)

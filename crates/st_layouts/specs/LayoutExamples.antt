@@ -28,7 +28,8 @@ use Rattle.st_trees.specs.declared.unit.UnitSort.TheVariants as sorts
 use Rattle.st_trees.specs.Declarations.{Field, TypeDeclaration, Declaration, VariableBlock}
 use Rattle.st_trees.specs.Declarations as declarations
 use Rattle.st_trees.specs.Configurations.{GlobalDeclaration, GlobalBlock, Resource, Configuration, listed, located}
-use Rattle.st_trees.specs.Initials.{Initial, constant, list, structure, Element, repeated, defaults, elements_of, members_of}
+use Rattle.st_trees.specs.Initials.{Initial, constant, list, structure, Element, repeated, defaults, elements_of}
+use Rattle.st_trees.specs.Initials.{members_of}
 use Rattle.st_trees.specs.Statements.{Stmt}
 use Rattle.st_trees.specs.Units.{OrganisationUnit}
 use Rattle.st_trees.specs.Sources.{Source}

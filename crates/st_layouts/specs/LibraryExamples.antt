@@ -18,7 +18,8 @@ use Rattle.st_types.specs.Runs.{Program, store_after}
 use Rattle.st_types.specs.Stores.{Store}
 use Rattle.st_layouts.specs.TextLayouts.{variables_of_text, initial_values}
 use Rattle.st_layouts.specs.Libraries.{programs_of_text}
-use Rattle.st_layouts.specs.LayoutExamples.{plain, array_of, without_initial, with_initial, amount, listing, variables_in}
+use Rattle.st_layouts.specs.LayoutExamples.{plain, array_of, without_initial, with_initial, amount, listing}
+use Rattle.st_layouts.specs.LayoutExamples.{variables_in}
 use Rattle.st_layouts.specs.LayoutExamples.{unit_with, text_of, global, globals_of, configured, resource, instance}
 use Rattle.st_layouts.specs.LayoutExamples.{path_shown}
 

@@ -48,8 +48,8 @@ is_configuration_different None = true
 is_configuration_different (Some c) = are_different (map (λ v. v.name) (roots_of_globals c.globals))
     && (are_different (map (λ r. r.name.name) c.resources) && list_all has_different_instances c.resources)
 
--- No two fields of one structure have one name, no two variables of one unit, no two globals, no two resources and no two
--- instances of one resource.
+-- No two fields of one structure have one name, no two variables of one unit, no two globals, no two resources and no
+-- two instances of one resource.
 abbrev pub has_different_names : Source → Bool
 has_different_names source =
     are_types_and_units_different (declared_of source) && is_configuration_different (configuration_of source)

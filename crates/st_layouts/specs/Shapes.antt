@@ -1,5 +1,6 @@
 -- Shapes of variables: their elementary parts in the order of the layout, and where each of them stands.
-use Rattle.std.specs.Prelude.{ℕ, zero, suc, ◌+◌, ◌*◌, nat_lt, ℤ, pos, ◌+ℤ◌, ◌-ℤ◌, int_le, int_lt, List, [], ◌∷◌, ◌++◌, map}
+use Rattle.std.specs.Prelude.{ℕ, zero, suc, ◌+◌, ◌*◌, nat_lt, ℤ, pos, ◌+ℤ◌, ◌-ℤ◌, int_le, int_lt, List, [], ◌∷◌, ◌++◌}
+use Rattle.std.specs.Prelude.{map}
 use Rattle.std.specs.Prelude.{Bool, true, false, not, ◌&&◌, ◌||◌, if◌then◌else◌, Option, Some, None, option_map}
 use Rattle.std.specs.Prelude.{bytes_eq}
 use Rattle.st_words.specs.declared.kind.Kind.{Kind}
@@ -13,8 +14,8 @@ pub data Whole : Type 0 where
   of_structure : Whole
   of_instance : Whole
 
--- a variable of an elementary or enumerated type; an array, by its lower bound, the number of its elements and what they
--- are; the parts of a structure or of a block's instance
+-- a variable of an elementary or enumerated type; an array, by its lower bound, the number of its elements and what
+-- they are; the parts of a structure or of a block's instance
 mutual
   pub data Shape : Type 0 where
     plain : Kind → Shape

@@ -6,7 +6,8 @@ use Rattle.st_words.specs.declared.path.Step.{Step}
 use Rattle.st_words.specs.declared.path.Step.TheVariants.{Member, Element}
 use Rattle.st_words.specs.Values.{Datum}
 use Rattle.st_trees.specs.declared.data_type.ArrayType.{ArrayType}
-use Rattle.st_trees.specs.Initials.{Initial, constant, list, structure, single, repeated, defaults, Elements, no_elements}
+use Rattle.st_trees.specs.Initials.{Initial, constant, list, structure, single, repeated, defaults, Elements}
+use Rattle.st_trees.specs.Initials.{no_elements}
 use Rattle.st_trees.specs.Initials.{element_then, Members, no_members, member_then}
 use Rattle.st_types.specs.Failures.{Failure}
 use Rattle.st_types.specs.NameTypes.{Declared, is_named}

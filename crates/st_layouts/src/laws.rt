@@ -69,8 +69,8 @@ pub fn variables_start_as_declared()
         → is_retained plan (further (path_to o x) xs) ≡ retained_at text v.site xs }
 {}
 
-/// The variables and the inputs of a plan have the slots of the layout, in its order, with their types; and each initial
-/// value is one that its type holds.
+/// The variables and the inputs of a plan have the slots of the layout, in its order, with their types; and each
+/// initial value is one that its type holds.
 pub fn initial_values_fill_the_layout()
     ensures variables { (text : Declared) (vs : List Root) → map variable_slot (variables_of text vs)
         ≡ variable_slots (slots_of text vs) }

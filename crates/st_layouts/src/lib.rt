@@ -3,8 +3,8 @@
 //! From the declarations of a text in which each literal has its type follow: the shape of each declared type, with its
 //! elementary parts in the order of the layout; what the declarations say of each of them, its type, its initial value
 //! and its retention; the layout of the whole text, its slots, variables and inputs; and the functions, blocks and
-//! programs whose runs the meaning speaks of. All this stands in `specs/`. The functions here hold it to laws and worked
-//! examples, by contracts of functions that do nothing.
+//! programs whose runs the meaning speaks of. All this stands in `specs/`. The functions here hold it to laws and
+//! worked examples, by contracts of functions that do nothing.
 #![tactic(auto)]
 
 pub mod examples;

@@ -83,9 +83,9 @@ pub fn fields_of_structures()
 #[tactic(auto, unfolding(crate::specs::Types::shape_within, st_types::specs::StandardBlocks::block_of))]
 pub fn arrays_of_structures()
     // a : ARRAY [1..4] OF Point := [(x := 6), 1(), (y := 7)];
-    ensures of_a_structure { values_in (variables_text nested_types (with_initial (codes "A") (array_of 1 4 (named (codes "POINT")))
-        (listing (single (with_fields ((codes "X", amount 6) ∷ [])) ∷ default_times 1
-        ∷ single (with_fields ((codes "Y", amount 7) ∷ [])) ∷ [])) ∷ []))
+    ensures of_a_structure { values_in (variables_text nested_types (with_initial (codes "A")
+        (array_of 1 4 (named (codes "POINT"))) (listing (single (with_fields ((codes "X", amount 6) ∷ []))
+        ∷ default_times 1 ∷ single (with_fields ((codes "Y", amount 7) ∷ [])) ∷ [])) ∷ []))
         ≡ (codes "R/P.A[1].X", int 6) ∷ (codes "R/P.A[1].Y", int 2) ∷ (codes "R/P.A[2].X", int 1)
         ∷ (codes "R/P.A[2].Y", int 2) ∷ (codes "R/P.A[3].X", int 1) ∷ (codes "R/P.A[3].Y", int 7)
         ∷ (codes "R/P.A[4].X", int 1) ∷ (codes "R/P.A[4].Y", int 2) ∷ [] }

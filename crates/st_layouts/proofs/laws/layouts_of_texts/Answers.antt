@@ -12,7 +12,8 @@ use Rattle.st_layouts.proofs.laws.layouts_of_texts.Goals as goal
 declared_once : (source : Source) → has_different_names source ≡ true
     → are_declared_once (declared_of source) (roots_of source) ≡ true
 declared_once source h =
-    let b = both (are_types_and_units_different (declared_of source)) (is_configuration_different (configuration_of source)) h in
+    let b = both (are_types_and_units_different (declared_of source))
+    (is_configuration_different (configuration_of source)) h in
     configuration_once (declared_of source) b.0 (configuration_of source) b.1
 
 pub returns-clause-once : goal.returns-clause-once
