@@ -1,6 +1,6 @@
 pub mod ListLemmas
 pub mod LeafLemmas
-pub mod RootLemmas
+pub mod VariableLemmas
 pub mod SiteLemmas
 pub mod OwnPaths
 pub mod NameLemmas

@@ -24,8 +24,8 @@ use Rattle.st_trees.specs.Statements.{stmts_of}
 use Rattle.st_layouts.specs.Shapes.{of_instance}
 use Rattle.st_layouts.specs.Types.{NamedSite, sites_of_blocks, BlockType, block_type_named, instance_of}
 use Rattle.st_layouts.specs.Types.{of_kind, of_parts, instance_parts, defined_composition, composition_of}
-use Rattle.st_layouts.specs.Roots.{variable_root}
-use Rattle.st_layouts.specs.TextLayouts.{inputs_of, initial_image}
+use Rattle.st_layouts.specs.LayoutVariables.{owned_variable}
+use Rattle.st_layouts.specs.TextLayouts.{plan_inputs_of, initial_image}
 use Rattle.st_layouts.specs.Names
 use Rattle.st_layouts.specs.Names.{are_different, names_of_sites, variable_names, has_different_variables}
 use Rattle.st_layouts.specs.Names.{are_types_and_units_different}
@@ -35,7 +35,7 @@ use Rattle.st_layouts.specs.Libraries.{library_of}
 use Rattle.st_layouts.specs.Libraries.{program_of_unit, is_program}
 use Rattle.st_layouts.proofs.ListLemmas.{both, if_some, some_is}
 use Rattle.st_layouts.proofs.NameLemmas.{variables_once}
-use Rattle.st_layouts.proofs.RootLemmas.{roots_layout}
+use Rattle.st_layouts.proofs.VariableLemmas.{variables_layout}
 use Rattle.st_layouts.proofs.StoreLemmas.{initial_store_is}
 
 -- an enumerated type is a type of its name
@@ -144,17 +144,17 @@ pub block_found : (text : Declared) (x : Name) (u : OrganisationUnit) → unit_n
 block_found text x u h e = block_among text text.units x u h e
 
 -- the variables of a call are a store
-no_inputs_among : (text : Declared) (ds : List NamedSite) → inputs_of text (map (variable_root None) ds) ≡ []
+no_inputs_among : (text : Declared) (ds : List NamedSite) → plan_inputs_of text (map (owned_variable None) ds) ≡ []
 no_inputs_among text [] = refl
 no_inputs_among text (d ∷ ds) = no_inputs_among text ds
 
 fresh_is_store : (text : Declared) → are_types_and_units_different text ≡ true → (ds : List NamedSite)
     → are_different (names_of_sites ds) ≡ true → IsStore [] (fresh_values text ds)
 fresh_is_store text differ ds h =
-    let e : initial_image (inputs_of text (map (variable_root None) ds)) ≡ [] =
+    let e : initial_image (plan_inputs_of text (map (owned_variable None) ds)) ≡ [] =
     ap initial_image (no_inputs_among text ds) in
-    let s = initial_store_is text (map (variable_root None) ds)
-    (roots_layout text (map (variable_root None) ds) (variables_once text differ ds h)) in
+    let s = initial_store_is text (map (owned_variable None) ds)
+    (variables_layout text (map (owned_variable None) ds) (variables_once text differ ds h)) in
     rw e at s
 
 fresh_by_sort : (text : Declared) → are_types_and_units_different text ≡ true → (s : UnitSort) (v : OrganisationUnit)

@@ -30,17 +30,20 @@ use Rattle.st_layouts.specs.Types.{Site, NamedSite, site_of_member, BlockType}
 use Rattle.st_layouts.specs.Types.{block_type_of, own_block_type, block_type_named, instance_of, Composition, of_kind}
 use Rattle.st_layouts.specs.Types.{of_elements, of_parts, instance_parts, defined_composition, composition_of, parts_of}
 use Rattle.st_layouts.specs.Types.{composed_shape, shape_within}
-use Rattle.st_layouts.specs.Roots.{Root, variable_root, global_root, roots_of_names, roots_of_declarations}
-use Rattle.st_layouts.specs.Roots.{retention_of_globals, site_of_global, roots_of_globals, sites_of_program}
-use Rattle.st_layouts.specs.Roots.{program_sites}
-use Rattle.st_layouts.specs.Roots.{owner_in, roots_of_instances, roots_of_resources, roots_of_configuration}
-use Rattle.st_layouts.specs.TextLayouts.{root_shape}
-use Rattle.st_layouts.specs.Places.{is_root, has_root, are_declared_once}
+use Rattle.st_layouts.specs.LayoutVariables.{Owned, owned_variable, global_variable, variables_of_names}
+use Rattle.st_layouts.specs.LayoutVariables.{variables_of_declarations}
+use Rattle.st_layouts.specs.LayoutVariables.{retention_of_globals, site_of_global, variables_of_globals}
+use Rattle.st_layouts.specs.LayoutVariables.{sites_of_program}
+use Rattle.st_layouts.specs.LayoutVariables.{program_sites}
+use Rattle.st_layouts.specs.LayoutVariables.{owner_in, variables_of_instances, variables_of_resources}
+use Rattle.st_layouts.specs.LayoutVariables.{variables_of_configuration}
+use Rattle.st_layouts.specs.TextLayouts.{variable_shape}
+use Rattle.st_layouts.specs.Standing.{is_named_so, has_variable, are_declared_once}
 use Rattle.st_layouts.specs.Names.{are_different, names_of_sites, has_different_fields, variable_names}
 use Rattle.st_layouts.specs.Names.{has_different_variables, are_types_and_units_different, has_different_instances}
 use Rattle.st_layouts.specs.Names.{is_configuration_different}
 use Rattle.st_layouts.proofs.ListLemmas.{both, both_are, turned, turned_back, neither, any_append}
-use Rattle.st_layouts.proofs.RootLemmas.{owner_itself}
+use Rattle.st_layouts.proofs.VariableLemmas.{owner_itself}
 
 -- what is looked up is one of the list
 found_type : (ts : List TypeDeclaration) → list_all (λ t. has_different_fields t.definition) ts ≡ true → (x : Name)
@@ -190,101 +193,103 @@ sound_within text differ (suc n) t =
     (parts_different text differ t)
 
 -- no two variables of one owner have one name
-abbrev roots_differ : List Root → Bool
-roots_differ [] = true
-roots_differ (v ∷ vs) = not (has_root vs v.owner v.name) && roots_differ vs
+abbrev are_apart : List Owned → Bool
+are_apart [] = true
+are_apart (v ∷ vs) = not (has_variable vs v.owner v.name) && are_apart vs
 
-once_if_sound : (text : Declared) → are_types_and_units_different text ≡ true → (vs : List Root)
-    → roots_differ vs ≡ true → are_declared_once text vs ≡ true
+once_if_sound : (text : Declared) → are_types_and_units_different text ≡ true → (vs : List Owned)
+    → are_apart vs ≡ true → are_declared_once text vs ≡ true
 once_if_sound text differ [] h = refl
 once_if_sound text differ (v ∷ vs) h =
-    let b = both (not (has_root vs v.owner v.name)) (roots_differ vs) h in
-    both_are (not (has_root vs v.owner v.name)) (is_sound (root_shape text v) && are_declared_once text vs) b.0
-    (both_are (is_sound (root_shape text v)) (are_declared_once text vs)
+    let b = both (not (has_variable vs v.owner v.name)) (are_apart vs) h in
+    both_are (not (has_variable vs v.owner v.name)) (is_sound (variable_shape text v) && are_declared_once text vs) b.0
+    (both_are (is_sound (variable_shape text v)) (are_declared_once text vs)
     (sound_within text differ MAX_TYPE_DEPTH v.site.declared) (once_if_sound text differ vs b.1))
 
 -- variables of one owner
-abbrev AreOwnedBy : Option Owner → List Root → Type 0
+abbrev AreOwnedBy : Option Owner → List Owned → Type 0
 AreOwnedBy o [] = Unit {0}
 AreOwnedBy o (v ∷ vs) = (v.owner ≡ o) × AreOwnedBy o vs
 
-abbrev names_of_roots : List Root → List Name
-names_of_roots vs = map (λ v. v.name) vs
+abbrev names_among : List Owned → List Name
+names_among vs = map (λ v. v.name) vs
 
-has_root_of : (o : Option Owner) (vs : List Root) → AreOwnedBy o vs → (x : Name)
-    → has_root vs o x ≡ contains_name (names_of_roots vs) x
-has_root_of o [] h x = refl
-has_root_of o (v ∷ vs) h x =
+has_variable_of : (o : Option Owner) (vs : List Owned) → AreOwnedBy o vs → (x : Name)
+    → has_variable vs o x ≡ contains_name (names_among vs) x
+has_variable_of o [] h x = refl
+has_variable_of o (v ∷ vs) h x =
     let i = owner_itself o in let e : same_owner o v.owner ≡ true = ap (same_owner o) h.0 ∙ i in
-    ap₂ (λ a b. a || b) (ap (λ a. a && bytes_eq x v.name) e) (has_root_of o vs h.1 x)
+    ap₂ (λ a b. a || b) (ap (λ a. a && bytes_eq x v.name) e) (has_variable_of o vs h.1 x)
 
-has_no_root : (o p : Option Owner) → same_owner o p ≡ false → (vs : List Root) → AreOwnedBy p vs → (x : Name)
-    → has_root vs o x ≡ false
-has_no_root o p d [] h x = refl
-has_no_root o p d (v ∷ vs) h x =
+has_no_variable : (o p : Option Owner) → same_owner o p ≡ false → (vs : List Owned) → AreOwnedBy p vs → (x : Name)
+    → has_variable vs o x ≡ false
+has_no_variable o p d [] h x = refl
+has_no_variable o p d (v ∷ vs) h x =
     let e : same_owner o v.owner ≡ false = ap (same_owner o) h.0 ∙ d in
-    ap₂ (λ a b. a || b) (ap (λ a. a && bytes_eq x v.name) e) (has_no_root o p d vs h.1 x)
+    ap₂ (λ a b. a || b) (ap (λ a. a && bytes_eq x v.name) e) (has_no_variable o p d vs h.1 x)
 
-one_owner : (o : Option Owner) (vs : List Root) → AreOwnedBy o vs → are_different (names_of_roots vs) ≡ true
-    → roots_differ vs ≡ true
+one_owner : (o : Option Owner) (vs : List Owned) → AreOwnedBy o vs → are_different (names_among vs) ≡ true
+    → are_apart vs ≡ true
 one_owner o [] h d = refl
 one_owner o (v ∷ vs) h d =
-    let b = both (not (contains_name (names_of_roots vs) v.name)) (are_different (names_of_roots vs)) d in
-    both_are (not (has_root vs v.owner v.name)) (roots_differ vs)
-    (ap (λ p. not (has_root vs p v.name)) h.0 ∙ ap not (has_root_of o vs h.1 v.name) ∙ b.0) (one_owner o vs h.1 b.1)
+    let b = both (not (contains_name (names_among vs) v.name)) (are_different (names_among vs)) d in
+    both_are (not (has_variable vs v.owner v.name)) (are_apart vs)
+    (ap (λ p. not (has_variable vs p v.name)) h.0 ∙ ap not (has_variable_of o vs h.1 v.name) ∙ b.0)
+    (one_owner o vs h.1 b.1)
 
 -- variables of one owner before variables of others
-joined : (o : Option Owner) (vs ws : List Root) → AreOwnedBy o vs → ((x : Name) → has_root ws o x ≡ false)
-    → roots_differ vs ≡ true → roots_differ ws ≡ true → roots_differ (vs ++ ws) ≡ true
+joined : (o : Option Owner) (vs ws : List Owned) → AreOwnedBy o vs → ((x : Name) → has_variable ws o x ≡ false)
+    → are_apart vs ≡ true → are_apart ws ≡ true → are_apart (vs ++ ws) ≡ true
 joined o [] ws h others d e = e
 joined o (v ∷ vs) ws h others d e =
-    let b = both (not (has_root vs v.owner v.name)) (roots_differ vs) d in
-    let n : has_root ws v.owner v.name ≡ false = ap (λ p. has_root ws p v.name) h.0 ∙ others v.name in
-    both_are (not (has_root (vs ++ ws) v.owner v.name)) (roots_differ (vs ++ ws))
-    (turned_back (has_root (vs ++ ws) v.owner v.name)
-    (any_append (is_root v.owner v.name) vs ws
-    ∙ ap₂ (λ a b. a || b) (turned (has_root vs v.owner v.name) b.0) n))
+    let b = both (not (has_variable vs v.owner v.name)) (are_apart vs) d in
+    let n : has_variable ws v.owner v.name ≡ false = ap (λ p. has_variable ws p v.name) h.0 ∙ others v.name in
+    both_are (not (has_variable (vs ++ ws) v.owner v.name)) (are_apart (vs ++ ws))
+    (turned_back (has_variable (vs ++ ws) v.owner v.name)
+    (any_append (is_named_so v.owner v.name) vs ws
+    ∙ ap₂ (λ a b. a || b) (turned (has_variable vs v.owner v.name) b.0) n))
     (joined o vs ws h.1 others b.1 e)
 
 -- the variables of a unit
-owned_variables : (o : Option Owner) (ds : List NamedSite) → AreOwnedBy o (map (variable_root o) ds)
+owned_variables : (o : Option Owner) (ds : List NamedSite) → AreOwnedBy o (map (owned_variable o) ds)
 owned_variables o [] = tt
 owned_variables o (d ∷ ds) = (refl, owned_variables o ds)
 
 names_of_variables : (o : Option Owner) (ds : List NamedSite)
-    → names_of_roots (map (variable_root o) ds) ≡ names_of_sites ds
+    → names_among (map (owned_variable o) ds) ≡ names_of_sites ds
 names_of_variables o [] = refl
 names_of_variables o (d ∷ ds) = ap (λ xs. d.name ∷ xs) (names_of_variables o ds)
 
 variables_differ : (o : Option Owner) (ds : List NamedSite) → are_different (names_of_sites ds) ≡ true
-    → roots_differ (map (variable_root o) ds) ≡ true
+    → are_apart (map (owned_variable o) ds) ≡ true
 variables_differ o ds h =
-    one_owner o (map (variable_root o) ds) (owned_variables o ds) (ap are_different (names_of_variables o ds) ∙ h)
+    one_owner o (map (owned_variable o) ds) (owned_variables o ds) (ap are_different (names_of_variables o ds) ∙ h)
 
 -- globals
-owned_append : (o : Option Owner) (vs ws : List Root) → AreOwnedBy o vs → AreOwnedBy o ws → AreOwnedBy o (vs ++ ws)
+owned_append : (o : Option Owner) (vs ws : List Owned) → AreOwnedBy o vs → AreOwnedBy o ws → AreOwnedBy o (vs ++ ws)
 owned_append o [] ws h g = g
 owned_append o (v ∷ vs) ws h g = (h.0, owned_append o vs ws h.1 g)
 
-owned_listed : (s : Site) (xs : List Identifier) → AreOwnedBy None (map (global_root s false) xs)
+owned_listed : (s : Site) (xs : List Identifier) → AreOwnedBy None (map (global_variable s false) xs)
 owned_listed s [] = tt
 owned_listed s (x ∷ xs) = (refl, owned_listed s xs)
 
-owned_names : (s : Site) (xs : GlobalNames) → AreOwnedBy None (roots_of_names s xs)
+owned_names : (s : Site) (xs : GlobalNames) → AreOwnedBy None (variables_of_names s xs)
 owned_names s (located x a) = (refl, tt)
 owned_names s (listed xs) = owned_listed s xs
 
 owned_declarations : (keep : Option Retention) (ds : List GlobalDeclaration)
-    → AreOwnedBy None (roots_of_declarations keep ds)
+    → AreOwnedBy None (variables_of_declarations keep ds)
 owned_declarations keep [] = tt
 owned_declarations keep (d ∷ ds) =
-    owned_append None (roots_of_names (site_of_global keep d) d.names) (roots_of_declarations keep ds)
+    owned_append None (variables_of_names (site_of_global keep d) d.names) (variables_of_declarations keep ds)
     (owned_names (site_of_global keep d) d.names) (owned_declarations keep ds)
 
-owned_globals : (bs : List GlobalBlock) → AreOwnedBy None (roots_of_globals bs)
+owned_globals : (bs : List GlobalBlock) → AreOwnedBy None (variables_of_globals bs)
 owned_globals [] = tt
 owned_globals (b ∷ bs) =
-    owned_append None (roots_of_declarations (retention_of_globals b.qualifier) b.declarations) (roots_of_globals bs)
+    owned_append None (variables_of_declarations (retention_of_globals b.qualifier) b.declarations)
+    (variables_of_globals bs)
     (owned_declarations (retention_of_globals b.qualifier) b.declarations) (owned_globals bs)
 
 -- instances
@@ -300,52 +305,53 @@ no_instance true b h = h
 no_instance false b h = refl
 
 module _ (text : Declared) where
-  abbrev variables_at : Name → Instance → List Root
+  abbrev variables_at : Name → Instance → List Owned
   variables_at r i =
-      map (variable_root (Some (owner_in r i))) (program_sites (unit_named text.units i.program.name))
+      map (owned_variable (Some (owner_in r i))) (program_sites (unit_named text.units i.program.name))
 
-  not_in : (o : Option Owner) (x : Name) (r : Name) (i : Instance) (rest : List Root)
-      → same_owner o (Some (owner_in r i)) ≡ false → has_root rest o x ≡ false
-      → has_root (variables_at r i ++ rest) o x ≡ false
+  not_in : (o : Option Owner) (x : Name) (r : Name) (i : Instance) (rest : List Owned)
+      → same_owner o (Some (owner_in r i)) ≡ false → has_variable rest o x ≡ false
+      → has_variable (variables_at r i ++ rest) o x ≡ false
   not_in o x r i rest d h =
-      any_append (is_root o x) (variables_at r i) rest
-      ∙ ap₂ (λ a b. a || b) (has_no_root o (Some (owner_in r i)) d (variables_at r i)
+      any_append (is_named_so o x) (variables_at r i) rest
+      ∙ ap₂ (λ a b. a || b) (has_no_variable o (Some (owner_in r i)) d (variables_at r i)
       (owned_variables (Some (owner_in r i)) (program_sites (unit_named text.units i.program.name))) x) h
 
   -- an instance of another name, or of another resource, has other variables
   other_instances : (r r' i' : Name) (is : List Instance) → contains_name (map (λ i. i.name.name) is) i' ≡ false
-      → (x : Name) → has_root (roots_of_instances text r is) (Some (owner r' i')) x ≡ false
+      → (x : Name) → has_variable (variables_of_instances text r is) (Some (owner r' i')) x ≡ false
   other_instances r r' i' [] h x = refl
   other_instances r r' i' (i ∷ is) h x =
       let n = neither (bytes_eq i' i.name.name) (contains_name (map (λ i. i.name.name) is) i') h in
-      not_in (Some (owner r' i')) x r i (roots_of_instances text r is)
+      not_in (Some (owner r' i')) x r i (variables_of_instances text r is)
       (no_instance (bytes_eq r' r) (bytes_eq i' i.name.name) n.0) (other_instances r r' i' is n.1 x)
 
   other_resource : (r r' i' : Name) → bytes_eq r' r ≡ false → (is : List Instance) (x : Name)
-      → has_root (roots_of_instances text r is) (Some (owner r' i')) x ≡ false
+      → has_variable (variables_of_instances text r is) (Some (owner r' i')) x ≡ false
   other_resource r r' i' d [] x = refl
   other_resource r r' i' d (i ∷ is) x =
-      not_in (Some (owner r' i')) x r i (roots_of_instances text r is)
+      not_in (Some (owner r' i')) x r i (variables_of_instances text r is)
       (no_owner (bytes_eq r' r) (bytes_eq i' i.name.name) d) (other_resource r r' i' d is x)
 
   other_resources : (r' i' : Name) (rs : List Resource) → contains_name (map (λ r. r.name.name) rs) r' ≡ false
-      → (x : Name) → has_root (roots_of_resources text rs) (Some (owner r' i')) x ≡ false
+      → (x : Name) → has_variable (variables_of_resources text rs) (Some (owner r' i')) x ≡ false
   other_resources r' i' [] h x = refl
   other_resources r' i' (r ∷ rs) h x =
       let n = neither (bytes_eq r' r.name.name) (contains_name (map (λ r. r.name.name) rs) r') h in
-      any_append (is_root (Some (owner r' i')) x) (roots_of_instances text r.name.name r.instances)
-      (roots_of_resources text rs)
+      any_append (is_named_so (Some (owner r' i')) x) (variables_of_instances text r.name.name r.instances)
+      (variables_of_resources text rs)
       ∙ ap₂ (λ a b. a || b) (other_resource r.name.name r' i' n.0 r.instances x) (other_resources r' i' rs n.1 x)
 
   unowned_instances : (r : Name) (is : List Instance) (x : Name)
-      → has_root (roots_of_instances text r is) None x ≡ false
+      → has_variable (variables_of_instances text r is) None x ≡ false
   unowned_instances r [] x = refl
-  unowned_instances r (i ∷ is) x = not_in None x r i (roots_of_instances text r is) refl (unowned_instances r is x)
+  unowned_instances r (i ∷ is) x = not_in None x r i (variables_of_instances text r is) refl (unowned_instances r is x)
 
-  unowned_resources : (rs : List Resource) (x : Name) → has_root (roots_of_resources text rs) None x ≡ false
+  unowned_resources : (rs : List Resource) (x : Name) → has_variable (variables_of_resources text rs) None x ≡ false
   unowned_resources [] x = refl
   unowned_resources (r ∷ rs) x =
-      any_append (is_root None x) (roots_of_instances text r.name.name r.instances) (roots_of_resources text rs)
+      any_append (is_named_so None x) (variables_of_instances text r.name.name r.instances)
+      (variables_of_resources text rs)
       ∙ ap₂ (λ a b. a || b) (unowned_instances r.name.name r.instances x) (unowned_resources rs x)
 
   module _ (differ : are_types_and_units_different text ≡ true) where
@@ -366,18 +372,18 @@ module _ (text : Declared) where
         (λ u e. found_unit text.units (units_differ text differ) x u e)
 
     -- the instances of a resource, before others
-    instances_differ : (r : Name) (is : List Instance) (rest : List Root)
+    instances_differ : (r : Name) (is : List Instance) (rest : List Owned)
         → are_different (map (λ i. i.name.name) is) ≡ true
-        → ((i x : Name) → has_root rest (Some (owner r i)) x ≡ false)
-        → roots_differ rest ≡ true → roots_differ (roots_of_instances text r is ++ rest) ≡ true
+        → ((i x : Name) → has_variable rest (Some (owner r i)) x ≡ false)
+        → are_apart rest ≡ true → are_apart (variables_of_instances text r is ++ rest) ≡ true
     instances_differ r [] rest d others h = h
     instances_differ r (i ∷ is) rest d others h =
         let b = both (not (contains_name (map (λ i. i.name.name) is) i.name.name))
         (are_different (map (λ i. i.name.name) is)) d in
-        ap roots_differ (append_again (variables_at r i) (roots_of_instances text r is) rest)
-        ∙ joined (Some (owner_in r i)) (variables_at r i) (roots_of_instances text r is ++ rest)
+        ap are_apart (append_again (variables_at r i) (variables_of_instances text r is) rest)
+        ∙ joined (Some (owner_in r i)) (variables_at r i) (variables_of_instances text r is ++ rest)
         (owned_variables (Some (owner_in r i)) (program_sites (unit_named text.units i.program.name)))
-        (λ x. any_append (is_root (Some (owner_in r i)) x) (roots_of_instances text r is) rest
+        (λ x. any_append (is_named_so (Some (owner_in r i)) x) (variables_of_instances text r is) rest
         ∙ ap₂ (λ a b. a || b)
         (other_instances r r i.name.name is (turned (contains_name (map (λ i. i.name.name) is) i.name.name) b.0) x)
         (others i.name.name x))
@@ -385,39 +391,39 @@ module _ (text : Declared) where
         (program_differs i.program.name))
         (instances_differ r is rest b.1 others h)
       where
-        append_again : (us vs ws : List Root) → (us ++ vs) ++ ws ≡ us ++ (vs ++ ws)
+        append_again : (us vs ws : List Owned) → (us ++ vs) ++ ws ≡ us ++ (vs ++ ws)
         append_again [] vs ws = refl
         append_again (u ∷ us) vs ws = ap (λ ts. u ∷ ts) (append_again us vs ws)
 
     resources_differ : (rs : List Resource) → are_different (map (λ r. r.name.name) rs) ≡ true
-        → list_all has_different_instances rs ≡ true → roots_differ (roots_of_resources text rs) ≡ true
+        → list_all has_different_instances rs ≡ true → are_apart (variables_of_resources text rs) ≡ true
     resources_differ [] d h = refl
     resources_differ (r ∷ rs) d h =
         let b = both (not (contains_name (map (λ r. r.name.name) rs) r.name.name))
         (are_different (map (λ r. r.name.name) rs)) d in
         let c = both (has_different_instances r) (list_all has_different_instances rs) h in
-        instances_differ r.name.name r.instances (roots_of_resources text rs) c.0
+        instances_differ r.name.name r.instances (variables_of_resources text rs) c.0
         (λ i x. other_resources r.name.name i rs (turned (contains_name (map (λ r. r.name.name) rs) r.name.name) b.0) x)
         (resources_differ rs b.1 c.1)
 
     configuration_differs : (c : Option Configuration) → is_configuration_different c ≡ true
-        → roots_differ (roots_of_configuration text c) ≡ true
+        → are_apart (variables_of_configuration text c) ≡ true
     configuration_differs None h = refl
     configuration_differs (Some c) h =
-        let b = both (are_different (names_of_roots (roots_of_globals c.globals)))
+        let b = both (are_different (names_among (variables_of_globals c.globals)))
         (are_different (map (λ r. r.name.name) c.resources) && list_all has_different_instances c.resources) h in
         let d = both (are_different (map (λ r. r.name.name) c.resources))
         (list_all has_different_instances c.resources) b.1 in
-        joined None (roots_of_globals c.globals) (roots_of_resources text c.resources) (owned_globals c.globals)
+        joined None (variables_of_globals c.globals) (variables_of_resources text c.resources) (owned_globals c.globals)
         (unowned_resources c.resources)
-        (one_owner None (roots_of_globals c.globals) (owned_globals c.globals) b.0)
+        (one_owner None (variables_of_globals c.globals) (owned_globals c.globals) b.0)
         (resources_differ c.resources d.0 d.1)
 
     pub configuration_once : (c : Option Configuration) → is_configuration_different c ≡ true
-        → are_declared_once text (roots_of_configuration text c) ≡ true
-    configuration_once c h = once_if_sound text differ (roots_of_configuration text c) (configuration_differs c h)
+        → are_declared_once text (variables_of_configuration text c) ≡ true
+    configuration_once c h = once_if_sound text differ (variables_of_configuration text c) (configuration_differs c h)
 
     -- the variables of a call of a function
     pub variables_once : (ds : List NamedSite) → are_different (names_of_sites ds) ≡ true
-        → are_declared_once text (map (variable_root None) ds) ≡ true
-    variables_once ds h = once_if_sound text differ (map (variable_root None) ds) (variables_differ None ds h)
+        → are_declared_once text (map (owned_variable None) ds) ≡ true
+    variables_once ds h = once_if_sound text differ (map (owned_variable None) ds) (variables_differ None ds h)

@@ -9,11 +9,11 @@ use Rattle.st_types.specs.NameTypes.{Declared}
 use Rattle.st_types.specs.Scopes.{Name}
 use Rattle.st_types.specs.Slots.{Slot}
 use Rattle.st_layouts.specs.Shapes.{size, Leaf, is_sound}
-use Rattle.st_layouts.specs.Roots.{Root}
-use Rattle.st_layouts.specs.TextLayouts.{root_shape, leaves_of_root, slot_of_leaf, slots_of_root, slots_of}
-use Rattle.st_layouts.specs.Places.{path_to, is_root, has_root, are_declared_once, root_at}
+use Rattle.st_layouts.specs.LayoutVariables.{Owned}
+use Rattle.st_layouts.specs.TextLayouts.{variable_shape, leaves_of_variable, slot_of_leaf, slots_of_variable, slots_of}
+use Rattle.st_layouts.specs.Standing.{path_to, is_named_so, has_variable, are_declared_once, variable_at, later}
 use Rattle.st_layouts.proofs.ListLemmas.{map_some, both, turned, neither}
-use Rattle.st_layouts.proofs.RootLemmas.{root_is}
+use Rattle.st_layouts.proofs.VariableLemmas.{variable_is}
 
 abbrev pub own_among : Option Owner → Name → List Slot → List Slot
 own_among o x ls = filter (λ l. is_within (path_to o x) l.path) ls
@@ -32,7 +32,7 @@ nothing_behind : {A : Type 0} (xs : List A) → xs ++ [] ≡ xs
 nothing_behind [] = refl
 nothing_behind (x ∷ xs) = ap (λ ys. x ∷ ys) (nothing_behind xs)
 
-own_leaves : (o : Option Owner) (x : Name) (v : Root) (b : Bool) → is_root o x v ≡ b → (ls : List Leaf)
+own_leaves : (o : Option Owner) (x : Name) (v : Owned) (b : Bool) → is_named_so o x v ≡ b → (ls : List Leaf)
     → own_among o x (map (slot_of_leaf v) ls) ≡ (if b then map (slot_of_leaf v) ls else [])
 own_leaves o x v true e [] = refl
 own_leaves o x v false e [] = refl
@@ -40,40 +40,41 @@ own_leaves o x v true e (l ∷ ls) = let h = own_leaves o x v true e ls in rw (e
 own_leaves o x v false e (l ∷ ls) = let h = own_leaves o x v false e ls in rw (e, h) refl
 
 module _ (text : Declared) where
-  none_own : (vs : List Root) (o : Option Owner) (x : Name) → has_root vs o x ≡ false
+  none_own : (vs : List Owned) (o : Option Owner) (x : Name) → has_variable vs o x ≡ false
       → own_among o x (slots_of text vs) ≡ []
   none_own [] o x h = refl
   none_own (v ∷ vs) o x h =
-      let n = neither (is_root o x v) (has_root vs o x) h in
-      filter_append (λ l. is_within (path_to o x) l.path) (slots_of_root text v) (slots_of text vs)
-      ∙ ap₂ (λ a b. a ++ b) (own_leaves o x v false n.0 (leaves_of_root text v)) (none_own vs o x n.1)
+      let n = neither (is_named_so o x v) (has_variable vs o x) h in
+      filter_append (λ l. is_within (path_to o x) l.path) (slots_of_variable text v) (slots_of text vs)
+      ∙ ap₂ (λ a b. a ++ b) (own_leaves o x v false n.0 (leaves_of_variable text v)) (none_own vs o x n.1)
 
-  own_cases : (v : Root) (vs : List Root) (o : Option Owner) (x : Name) (e : ℕ × Root)
-      → has_root vs v.owner v.name ≡ false
-      → ((f : ℕ × Root) → root_at text vs o x ≡ Some f → own_among o x (slots_of text vs) ≡ slots_of_root text f.1)
-      → (b : Bool) → is_root o x v ≡ b
-      → (if b then Some (0, v) else option_map (λ e. (size (root_shape text v) + e.0, e.1)) (root_at text vs o x))
+  own_cases : (v : Owned) (vs : List Owned) (o : Option Owner) (x : Name) (e : ℕ × Owned)
+      → has_variable vs v.owner v.name ≡ false
+      → ((f : ℕ × Owned) → variable_at text vs o x ≡ Some f → own_among o x (slots_of text vs)
+      ≡ slots_of_variable text f.1)
+      → (b : Bool) → is_named_so o x v ≡ b
+      → (if b then Some (0, v) else option_map (later text v) (variable_at text vs o x))
       ≡ Some e
-      → own_among o x (slots_of_root text v ++ slots_of text vs) ≡ slots_of_root text e.1
+      → own_among o x (slots_of_variable text v ++ slots_of text vs) ≡ slots_of_variable text e.1
   own_cases v vs o x e new ih true r h =
-      let q : ◌≡◌ {A = ℕ × Root} (0, v) e = cc in
+      let q : ◌≡◌ {A = ℕ × Owned} (0, v) e = cc in
       let n : own_among o x (slots_of text vs) ≡ [] =
-      none_own vs o x (ap (λ p. has_root vs p.owner p.name) (root_is o x v r) ∙ new) in
-      filter_append (λ l. is_within (path_to o x) l.path) (slots_of_root text v) (slots_of text vs)
-      ∙ ap₂ (λ a b. a ++ b) (own_leaves o x v true r (leaves_of_root text v)) n
-      ∙ nothing_behind (slots_of_root text v) ∙ ap (λ d. slots_of_root text d.1) q
+      none_own vs o x (ap (λ p. has_variable vs p.owner p.name) (variable_is o x v r) ∙ new) in
+      filter_append (λ l. is_within (path_to o x) l.path) (slots_of_variable text v) (slots_of text vs)
+      ∙ ap₂ (λ a b. a ++ b) (own_leaves o x v true r (leaves_of_variable text v)) n
+      ∙ nothing_behind (slots_of_variable text v) ∙ ap (λ d. slots_of_variable text d.1) q
   own_cases v vs o x e new ih false r h =
-      let i = map_some (λ e. (size (root_shape text v) + e.0, e.1)) (root_at text vs o x) e h in
-      filter_append (λ l. is_within (path_to o x) l.path) (slots_of_root text v) (slots_of text vs)
-      ∙ ap₂ (λ a b. a ++ b) (own_leaves o x v false r (leaves_of_root text v)) (ih i.0 i.1)
-      ∙ ap (λ d. slots_of_root text d.1) i.2
+      let i = map_some (later text v) (variable_at text vs o x) e h in
+      filter_append (λ l. is_within (path_to o x) l.path) (slots_of_variable text v) (slots_of text vs)
+      ∙ ap₂ (λ a b. a ++ b) (own_leaves o x v false r (leaves_of_variable text v)) (ih i.0 i.1)
+      ∙ ap (λ d. slots_of_variable text d.1) i.2
 
-  pub own_slots : (vs : List Root) → are_declared_once text vs ≡ true → (o : Option Owner) (x : Name) (e : ℕ × Root)
-      → root_at text vs o x ≡ Some e → own_among o x (slots_of text vs) ≡ slots_of_root text e.1
+  pub own_slots : (vs : List Owned) → are_declared_once text vs ≡ true → (o : Option Owner) (x : Name) (e : ℕ × Owned)
+      → variable_at text vs o x ≡ Some e → own_among o x (slots_of text vs) ≡ slots_of_variable text e.1
   own_slots [] once o x e h = absurd (cc)
   own_slots (v ∷ vs) once o x e h =
-      let a = both (not (has_root vs v.owner v.name))
-      (is_sound (root_shape text v) && are_declared_once text vs) once in
-      let b = both (is_sound (root_shape text v)) (are_declared_once text vs) a.1 in
-      own_cases v vs o x e (turned (has_root vs v.owner v.name) a.0) (λ f g. own_slots vs b.1 o x f g)
-      (is_root o x v) refl h
+      let a = both (not (has_variable vs v.owner v.name))
+      (is_sound (variable_shape text v) && are_declared_once text vs) once in
+      let b = both (is_sound (variable_shape text v)) (are_declared_once text vs) a.1 in
+      own_cases v vs o x e (turned (has_variable vs v.owner v.name) a.0) (λ f g. own_slots vs b.1 o x f g)
+      (is_named_so o x v) refl h

@@ -19,7 +19,7 @@ use Rattle.st_layouts.specs.Types.{of_elements}
 use Rattle.st_layouts.specs.Types.{of_parts, instance_parts, defined_composition, composition_of, lower_of, count_of}
 use Rattle.st_layouts.specs.Types.{element_of, parts_of, composed_shape, shape_within}
 use Rattle.st_layouts.specs.Sites.{element_site, member_site, site_behind, site_at}
-use Rattle.st_layouts.specs.Places.{IsDeclared}
+use Rattle.st_layouts.specs.Standing.{IsDeclared}
 use Rattle.st_layouts.proofs.ListLemmas.{map_some, if_some, some_is}
 
 -- only an elementary or an enumerated type is made of itself

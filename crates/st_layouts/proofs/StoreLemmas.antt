@@ -28,9 +28,10 @@ use Rattle.st_plans.specs.Plans.{initial_value}
 use Rattle.st_layouts.specs.Shapes.{Leaf}
 use Rattle.st_layouts.specs.Types.{Site}
 use Rattle.st_layouts.specs.Sites.{site_at, default_of, fitting, constant_of, initial_at}
-use Rattle.st_layouts.specs.Roots.{Root}
-use Rattle.st_layouts.specs.TextLayouts.{leaves_of_root, slot_of_leaf, slots_of_root, slots_of, variable_of_leaf}
-use Rattle.st_layouts.specs.TextLayouts.{variables_of, input_of_leaf, inputs_of, variable_slots, input_slots}
+use Rattle.st_layouts.specs.LayoutVariables.{Owned}
+use Rattle.st_layouts.specs.TextLayouts.{leaves_of_variable, slot_of_leaf, slots_of_variable, slots_of}
+use Rattle.st_layouts.specs.TextLayouts.{variable_of_leaf}
+use Rattle.st_layouts.specs.TextLayouts.{plan_variables_of, input_of_leaf, plan_inputs_of, variable_slots, input_slots}
 use Rattle.st_layouts.specs.TextLayouts.{types_of_slots, initial_values, initial_image}
 use Rattle.st_layouts.proofs.ListLemmas.{both, both_are, turned, turned_back, neither, some_is, any_append}
 use Rattle.st_layouts.proofs.OwnPaths.{filter_append}
@@ -114,7 +115,7 @@ map_append f (x ∷ xs) ys = ap (λ zs. f x ∷ zs) (map_append f xs ys)
 abbrev slot : Path → Kind → Bool → Slot
 slot p k input = record { path = p; kind = k; is_input = input }
 
-variable_leaves : (text : Declared) (v : Root) → v.is_input ≡ false → (ls : List Leaf)
+variable_leaves : (text : Declared) (v : Owned) → v.is_input ≡ false → (ls : List Leaf)
     → map variable_slot (map (variable_of_leaf text v) ls) ≡ variable_slots (map (slot_of_leaf v) ls)
 variable_leaves text v e [] = refl
 variable_leaves text v e (l ∷ ls) =
@@ -122,55 +123,56 @@ variable_leaves text v e (l ∷ ls) =
     let k = (initial_is text l v.site).kind in
     rw (e, k, h) refl
 
-no_variables : (v : Root) → v.is_input ≡ true → (ls : List Leaf) → variable_slots (map (slot_of_leaf v) ls) ≡ []
+no_variables : (v : Owned) → v.is_input ≡ true → (ls : List Leaf) → variable_slots (map (slot_of_leaf v) ls) ≡ []
 no_variables v e [] = refl
 no_variables v e (l ∷ ls) = let h = no_variables v e ls in rw (e, h) refl
 
-input_leaves : (v : Root) → v.is_input ≡ true → (ls : List Leaf)
+input_leaves : (v : Owned) → v.is_input ≡ true → (ls : List Leaf)
     → map input_slot (map (input_of_leaf v) ls) ≡ input_slots (map (slot_of_leaf v) ls)
 input_leaves v e [] = refl
 input_leaves v e (l ∷ ls) = let h = input_leaves v e ls in rw (e, h) refl
 
-no_inputs : (v : Root) → v.is_input ≡ false → (ls : List Leaf) → input_slots (map (slot_of_leaf v) ls) ≡ []
+no_inputs : (v : Owned) → v.is_input ≡ false → (ls : List Leaf) → input_slots (map (slot_of_leaf v) ls) ≡ []
 no_inputs v e [] = refl
 no_inputs v e (l ∷ ls) = let h = no_inputs v e ls in rw (e, h) refl
 
 module _ (text : Declared) where
-  pub variables_by_slots : (vs : List Root)
-      → map variable_slot (variables_of text vs) ≡ variable_slots (slots_of text vs)
+  pub variables_by_slots : (vs : List Owned)
+      → map variable_slot (plan_variables_of text vs) ≡ variable_slots (slots_of text vs)
   variables_by_slots [] = refl
   variables_by_slots (v ∷ vs) =
       by_test v.is_input refl (variables_by_slots vs)
-      ∙ sym (filter_append (λ l. not l.is_input) (slots_of_root text v) (slots_of text vs))
+      ∙ sym (filter_append (λ l. not l.is_input) (slots_of_variable text v) (slots_of text vs))
     where
       by_test : (b : Bool) → v.is_input ≡ b
-          → map variable_slot (variables_of text vs) ≡ variable_slots (slots_of text vs)
-          → map variable_slot (if b then variables_of text vs
-          else map (variable_of_leaf text v) (leaves_of_root text v) ++ variables_of text vs)
-          ≡ variable_slots (slots_of_root text v) ++ variable_slots (slots_of text vs)
+          → map variable_slot (plan_variables_of text vs) ≡ variable_slots (slots_of text vs)
+          → map variable_slot (if b then plan_variables_of text vs
+          else map (variable_of_leaf text v) (leaves_of_variable text v) ++ plan_variables_of text vs)
+          ≡ variable_slots (slots_of_variable text v) ++ variable_slots (slots_of text vs)
       by_test true e h =
           h
-          ∙ ap (λ xs. xs ++ variable_slots (slots_of text vs)) (sym (no_variables v e (leaves_of_root text v)))
+          ∙ ap (λ xs. xs ++ variable_slots (slots_of text vs)) (sym (no_variables v e (leaves_of_variable text v)))
       by_test false e h =
-          map_append variable_slot (map (variable_of_leaf text v) (leaves_of_root text v)) (variables_of text vs)
-          ∙ ap₂ (λ xs ys. xs ++ ys) (variable_leaves text v e (leaves_of_root text v)) h
+          map_append variable_slot (map (variable_of_leaf text v) (leaves_of_variable text v))
+          (plan_variables_of text vs)
+          ∙ ap₂ (λ xs ys. xs ++ ys) (variable_leaves text v e (leaves_of_variable text v)) h
 
-  pub inputs_by_slots : (vs : List Root) → map input_slot (inputs_of text vs) ≡ input_slots (slots_of text vs)
+  pub inputs_by_slots : (vs : List Owned) → map input_slot (plan_inputs_of text vs) ≡ input_slots (slots_of text vs)
   inputs_by_slots [] = refl
   inputs_by_slots (v ∷ vs) =
       by_test v.is_input refl (inputs_by_slots vs)
-      ∙ sym (filter_append (λ l. l.is_input) (slots_of_root text v) (slots_of text vs))
+      ∙ sym (filter_append (λ l. l.is_input) (slots_of_variable text v) (slots_of text vs))
     where
-      by_test : (b : Bool) → v.is_input ≡ b → map input_slot (inputs_of text vs) ≡ input_slots (slots_of text vs)
-          → map input_slot (if b then map (input_of_leaf v) (leaves_of_root text v) ++ inputs_of text vs
-          else inputs_of text vs)
-          ≡ input_slots (slots_of_root text v) ++ input_slots (slots_of text vs)
+      by_test : (b : Bool) → v.is_input ≡ b → map input_slot (plan_inputs_of text vs) ≡ input_slots (slots_of text vs)
+          → map input_slot (if b then map (input_of_leaf v) (leaves_of_variable text v) ++ plan_inputs_of text vs
+          else plan_inputs_of text vs)
+          ≡ input_slots (slots_of_variable text v) ++ input_slots (slots_of text vs)
       by_test true e h =
-          map_append input_slot (map (input_of_leaf v) (leaves_of_root text v)) (inputs_of text vs)
-          ∙ ap₂ (λ xs ys. xs ++ ys) (input_leaves v e (leaves_of_root text v)) h
+          map_append input_slot (map (input_of_leaf v) (leaves_of_variable text v)) (plan_inputs_of text vs)
+          ∙ ap₂ (λ xs ys. xs ++ ys) (input_leaves v e (leaves_of_variable text v)) h
       by_test false e h =
           h
-          ∙ ap (λ xs. xs ++ input_slots (slots_of text vs)) (sym (no_inputs v e (leaves_of_root text v)))
+          ∙ ap (λ xs. xs ++ input_slots (slots_of text vs)) (sym (no_inputs v e (leaves_of_variable text v)))
 
 -- what the stores have
 variable_types : (vs : List PlanVariable) → shape_of (initial_values vs) ≡ types_of_slots (map variable_slot vs)
@@ -181,16 +183,17 @@ input_types : (is : List PlanInput) → shape_of (initial_image is) ≡ types_of
 input_types [] = refl
 input_types (i ∷ is) = ap (λ xs. (i.path, i.kind) ∷ xs) (input_types is)
 
-pub types_of_variables : (text : Declared) (vs : List Root)
-    → shape_of (initial_values (variables_of text vs)) ≡ types_of_slots (variable_slots (slots_of text vs))
-types_of_variables text vs = variable_types (variables_of text vs) ∙ ap types_of_slots (variables_by_slots text vs)
+pub types_of_plan_variables : (text : Declared) (vs : List Owned)
+    → shape_of (initial_values (plan_variables_of text vs)) ≡ types_of_slots (variable_slots (slots_of text vs))
+types_of_plan_variables text vs = variable_types (plan_variables_of text vs)
+    ∙ ap types_of_slots (variables_by_slots text vs)
 
-pub types_of_inputs : (text : Declared) (vs : List Root)
-    → shape_of (initial_image (inputs_of text vs)) ≡ types_of_slots (input_slots (slots_of text vs))
-types_of_inputs text vs = input_types (inputs_of text vs) ∙ ap types_of_slots (inputs_by_slots text vs)
+pub types_of_inputs : (text : Declared) (vs : List Owned)
+    → shape_of (initial_image (plan_inputs_of text vs)) ≡ types_of_slots (input_slots (slots_of text vs))
+types_of_inputs text vs = input_types (plan_inputs_of text vs) ∙ ap types_of_slots (inputs_by_slots text vs)
 
 -- each value is held
-held_leaves : (text : Declared) (v : Root) (ls : List Leaf) (rest : List PlanVariable)
+held_leaves : (text : Declared) (v : Owned) (ls : List Leaf) (rest : List PlanVariable)
     → all_held (initial_values rest) ≡ true
     → all_held (initial_values (map (variable_of_leaf text v) ls ++ rest)) ≡ true
 held_leaves text v [] rest h = h
@@ -199,16 +202,16 @@ held_leaves text v (l ∷ ls) rest h =
     (all_held (initial_values (map (variable_of_leaf text v) ls ++ rest))) (initial_is text l v.site).held
     (held_leaves text v ls rest h)
 
-pub initial_values_held : (text : Declared) (vs : List Root)
-    → all_held (initial_values (variables_of text vs)) ≡ true
+pub initial_values_held : (text : Declared) (vs : List Owned)
+    → all_held (initial_values (plan_variables_of text vs)) ≡ true
 initial_values_held text [] = refl
 initial_values_held text (v ∷ vs) = by_test v.is_input (initial_values_held text vs)
   where
-    by_test : (b : Bool) → all_held (initial_values (variables_of text vs)) ≡ true
-        → all_held (initial_values (if b then variables_of text vs
-        else map (variable_of_leaf text v) (leaves_of_root text v) ++ variables_of text vs)) ≡ true
+    by_test : (b : Bool) → all_held (initial_values (plan_variables_of text vs)) ≡ true
+        → all_held (initial_values (if b then plan_variables_of text vs
+        else map (variable_of_leaf text v) (leaves_of_variable text v) ++ plan_variables_of text vs)) ≡ true
     by_test true h = h
-    by_test false h = held_leaves text v (leaves_of_root text v) (variables_of text vs) h
+    by_test false h = held_leaves text v (leaves_of_variable text v) (plan_variables_of text vs) h
 
 pub initial_image_held : (is : List PlanInput) → all_held (initial_image is) ≡ true
 initial_image_held [] = refl
@@ -331,10 +334,10 @@ parted_distinct (l ∷ ls) h =
         between (types_of_slots (input_slots ls)) (types_of_slots (variable_slots ls)) (l.path, l.kind) i v d
 
 -- the initial values are a store, with the inputs as a life starts
-pub initial_store_is : (text : Declared) (vs : List Root) → IsLayout (slots_of text vs)
-    → IsStore (initial_image (inputs_of text vs)) (initial_values (variables_of text vs))
+pub initial_store_is : (text : Declared) (vs : List Owned) → IsLayout (slots_of text vs)
+    → IsStore (initial_image (plan_inputs_of text vs)) (initial_values (plan_variables_of text vs))
 initial_store_is text vs h = record {
-  once = ap is_distinct (ap₂ (λ xs ys. xs ++ ys) (types_of_inputs text vs) (types_of_variables text vs))
+  once = ap is_distinct (ap₂ (λ xs ys. xs ++ ys) (types_of_inputs text vs) (types_of_plan_variables text vs))
       ∙ parted_distinct (slots_of text vs) (layout_distinct (slots_of text vs) h);
   held = initial_values_held text vs;
 }

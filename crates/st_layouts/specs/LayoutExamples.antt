@@ -38,7 +38,7 @@ use Rattle.st_types.specs.Scopes.{Name}
 use Rattle.st_types.specs.Examples.{identifier}
 use Rattle.st_types.specs.ResolutionExamples.{of_type, plain_number, initially}
 use Rattle.st_plans.specs.Layouts.{owner_text}
-use Rattle.st_layouts.specs.TextLayouts.{slots_of_text, variables_of_text, inputs_of_text}
+use Rattle.st_layouts.specs.TextLayouts.{slots_of_text, plan_variables_of_text, plan_inputs_of_text}
 
 -- an elementary type, and ARRAY [m..n] OF a type
 abbrev pub plain : Kind → VariableType
@@ -167,17 +167,17 @@ path_shown p = owner_text p.owner ++ p.name ++ steps_shown p.steps
 
 -- what the layout of a text has: paths with retention and with initial values
 abbrev pub retentions_in : Source → List (List ℕ × Bool)
-retentions_in source = map (λ v. (path_shown v.path, v.retained)) (variables_of_text source)
+retentions_in source = map (λ v. (path_shown v.path, v.retained)) (plan_variables_of_text source)
 
 abbrev pub values_in : Source → List (List ℕ × Datum)
-values_in source = map (λ v. (path_shown v.path, v.initial)) (variables_of_text source)
+values_in source = map (λ v. (path_shown v.path, v.initial)) (plan_variables_of_text source)
 
 -- its slots: paths as they are written, types, and whether they are inputs
 abbrev pub slots_in : Source → List (List ℕ × Kind × Bool)
 slots_in source = map (λ l. (path_shown l.path, l.kind, l.is_input)) (slots_of_text source)
 
 abbrev pub inputs_in : Source → List (List ℕ × Kind)
-inputs_in source = map (λ i. (path_shown i.path, i.kind)) (inputs_of_text source)
+inputs_in source = map (λ i. (path_shown i.path, i.kind)) (plan_inputs_of_text source)
 
 abbrev pub datum : Kind → ℕ → Datum
 datum k n = record { kind = k; number = pos n }

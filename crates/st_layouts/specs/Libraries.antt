@@ -17,8 +17,8 @@ use Rattle.st_types.specs.Scopes.{Name, Body, Function, Block, Library}
 use Rattle.st_types.specs.Runs.{Program}
 use Rattle.st_types.specs.Stores.{Store}
 use Rattle.st_layouts.specs.Types.{NamedSite, sites_of_blocks, BlockType, instance_of}
-use Rattle.st_layouts.specs.Roots.{variable_root, owner_in, declared_of, configuration_of}
-use Rattle.st_layouts.specs.TextLayouts.{variables_of, initial_values}
+use Rattle.st_layouts.specs.LayoutVariables.{owned_variable, owner_in, declared_of, configuration_of}
+use Rattle.st_layouts.specs.TextLayouts.{plan_variables_of, initial_values}
 
 -- the instances among variables, each with the name of its block
 abbrev pub instance_then : Name → Option BlockType → List (Name × Name) → List (Name × Name)
@@ -51,7 +51,7 @@ result_site t x = record {
 
 -- a function's variables as a call begins: its result and all others, with their initial values
 abbrev pub fresh_values : Declared → List NamedSite → Store
-fresh_values text ds = initial_values (variables_of text (map (variable_root None) ds))
+fresh_values text ds = initial_values (plan_variables_of text (map (owned_variable None) ds))
 
 abbrev pub function_of_unit : Declared → SimpleType → OrganisationUnit → Function
 function_of_unit text t u = record {

@@ -16,7 +16,7 @@ use Rattle.st_types.specs.Examples.{identifier, declared, name, set, untyped}
 use Rattle.st_types.specs.ResolutionExamples.{of_type}
 use Rattle.st_types.specs.Runs.{Program, store_after}
 use Rattle.st_types.specs.Stores.{Store}
-use Rattle.st_layouts.specs.TextLayouts.{variables_of_text, initial_values}
+use Rattle.st_layouts.specs.TextLayouts.{plan_variables_of_text, initial_values}
 use Rattle.st_layouts.specs.Libraries.{programs_of_text}
 use Rattle.st_layouts.specs.LayoutExamples.{plain, array_of, without_initial, with_initial, amount, listing}
 use Rattle.st_layouts.specs.LayoutExamples.{variables_in}
@@ -100,4 +100,4 @@ owners_in source = map owner_names (programs_of_text source)
 -- the variables of a text after one run of each of its programs, each from the initial values
 abbrev pub stores_after_one_run : Source → List (List (List ℕ × Datum))
 stores_after_one_run source =
-    map (λ p. shown (store_after p 100 (initial_values (variables_of_text source)) [] 0)) (programs_of_text source)
+    map (λ p. shown (store_after p 100 (initial_values (plan_variables_of_text source)) [] 0)) (programs_of_text source)

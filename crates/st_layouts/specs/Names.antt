@@ -10,7 +10,7 @@ use Rattle.st_trees.specs.Sources.{Source}
 use Rattle.st_types.specs.NameTypes.{Declared}
 use Rattle.st_types.specs.Scopes.{Name, contains_name}
 use Rattle.st_layouts.specs.Types.{NamedSite, sites_of_blocks, site_of_field}
-use Rattle.st_layouts.specs.Roots.{roots_of_globals, declared_of, configuration_of}
+use Rattle.st_layouts.specs.LayoutVariables.{variables_of_globals, declared_of, configuration_of}
 
 -- no name stands twice
 abbrev pub are_different : List Name → Bool
@@ -45,7 +45,7 @@ has_different_instances r = are_different (map (λ i. i.name.name) r.instances)
 
 abbrev pub is_configuration_different : Option Configuration → Bool
 is_configuration_different None = true
-is_configuration_different (Some c) = are_different (map (λ v. v.name) (roots_of_globals c.globals))
+is_configuration_different (Some c) = are_different (map (λ v. v.name) (variables_of_globals c.globals))
     && (are_different (map (λ r. r.name.name) c.resources) && list_all has_different_instances c.resources)
 
 -- No two fields of one structure have one name, no two variables of one unit, no two globals, no two resources and no

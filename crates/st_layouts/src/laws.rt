@@ -21,27 +21,31 @@ ghost use Rattle.st_plans.specs.Plans.{Plan, is_retained};
 ghost use Rattle.st_layouts.specs.Shapes.{Position, position_of};
 ghost use Rattle.st_layouts.specs.Types.{Site, shape_of_type};
 ghost use Rattle.st_layouts.specs.Sites.{initial_at, retained_at};
-ghost use Rattle.st_layouts.specs.Roots.{Root, roots_of, declared_of};
-ghost use Rattle.st_layouts.specs.TextLayouts.{further, root_shape, slots_of, slots_of_root, variables_of, inputs_of};
+ghost use Rattle.st_layouts.specs.LayoutVariables.{Owned, layout_variables, declared_of};
+ghost use Rattle.st_layouts.specs.TextLayouts.{further, variable_shape, slots_of, slots_of_variable, plan_variables_of};
+ghost use Rattle.st_layouts.specs.TextLayouts.{plan_inputs_of};
 ghost use Rattle.st_layouts.specs.TextLayouts.{variable_slots, input_slots, types_of_slots, initial_values};
-ghost use Rattle.st_layouts.specs.TextLayouts.{initial_image, slots_of_text, variables_of_text, inputs_of_text};
-ghost use Rattle.st_layouts.specs.Places.{path_to, are_declared_once, root_at, position_among, Stands, IsDeclared};
+ghost use Rattle.st_layouts.specs.TextLayouts.{initial_image, slots_of_text, plan_variables_of_text};
+ghost use Rattle.st_layouts.specs.TextLayouts.{plan_inputs_of_text};
+ghost use Rattle.st_layouts.specs.Standing.{path_to, are_declared_once, variable_at, position_among, Stands};
+ghost use Rattle.st_layouts.specs.Standing.{IsDeclared};
 ghost use Rattle.st_layouts.specs.Names.{has_different_names};
 
 /// In the layout of variables that are declared once each path has one slot, which its declaration and its steps tell
 /// with its type. Each variable stands with all its parts from its own first slot on, and its slots are exactly those
 /// whose paths begin with its name.
 pub fn layouts_of_declared_variables()
-    ensures once { (text : Declared) (vs : List Root) → are_declared_once text vs ≡ true → IsLayout (slots_of text vs) }
-    ensures number { (text : Declared) (vs : List Root) → are_declared_once text vs ≡ true → (k : ℕ) (l : Slot)
+    ensures once { (text : Declared) (vs : List Owned) → are_declared_once text vs ≡ true
+        → IsLayout (slots_of text vs) }
+    ensures number { (text : Declared) (vs : List Owned) → are_declared_once text vs ≡ true → (k : ℕ) (l : Slot)
         → slice_get (slots_of text vs) k ≡ Some l
         → position_among text vs l.path ≡ Some record { number = k; kind = l.kind } }
-    ensures stands { (text : Declared) (vs : List Root) → are_declared_once text vs ≡ true → (o : Option Owner)
-        (x : Name) (k : ℕ) (v : Root) → root_at text vs o x ≡ Some (k, v)
-        → Stands (slots_of text vs) v.is_input (path_to o x) (root_shape text v) k }
-    ensures own { (text : Declared) (vs : List Root) → are_declared_once text vs ≡ true → (o : Option Owner)
-        (x : Name) (k : ℕ) (v : Root) → root_at text vs o x ≡ Some (k, v)
-        → filter (λ l. is_within (path_to o x) l.path) (slots_of text vs) ≡ slots_of_root text v }
+    ensures stands { (text : Declared) (vs : List Owned) → are_declared_once text vs ≡ true → (o : Option Owner)
+        (x : Name) (k : ℕ) (v : Owned) → variable_at text vs o x ≡ Some (k, v)
+        → Stands (slots_of text vs) v.is_input (path_to o x) (variable_shape text v) k }
+    ensures own { (text : Declared) (vs : List Owned) → are_declared_once text vs ≡ true → (o : Option Owner)
+        (x : Name) (k : ℕ) (v : Owned) → variable_at text vs o x ≡ Some (k, v)
+        → filter (λ l. is_within (path_to o x) l.path) (slots_of text vs) ≡ slots_of_variable text v }
 {}
 
 /// Each elementary part of a declared type is declared, with its type; so it has an initial value and a retention.
@@ -57,36 +61,36 @@ pub fn variables_start_as_declared()
         → value_of_literal l ≡ Ok v → holds v.kind v.number ≡ true → initial_at text s [] v.kind ≡ v }
     ensures unwritten { (text : Declared) (s : Site) (k : Kind) → s.initial ≡ None
         → initial_at text s [] k ≡ record { kind = k; number = pos 0 } }
-    ensures value { (text : Declared) (vs : List Root) → are_declared_once text vs ≡ true → (o : Option Owner)
-        (x : Name) (k : ℕ) (v : Root) → root_at text vs o x ≡ Some (k, v) → v.is_input ≡ false
-        → (xs : List Step) (p : Position) → position_of (root_shape text v) xs ≡ Some p
-        → get (initial_values (variables_of text vs)) (further (path_to o x) xs)
+    ensures value { (text : Declared) (vs : List Owned) → are_declared_once text vs ≡ true → (o : Option Owner)
+        (x : Name) (k : ℕ) (v : Owned) → variable_at text vs o x ≡ Some (k, v) → v.is_input ≡ false
+        → (xs : List Step) (p : Position) → position_of (variable_shape text v) xs ≡ Some p
+        → get (initial_values (plan_variables_of text vs)) (further (path_to o x) xs)
         ≡ Some (initial_at text v.site xs p.kind) }
-    ensures retention { (text : Declared) (vs : List Root) → are_declared_once text vs ≡ true → (o : Option Owner)
-        (x : Name) (k : ℕ) (v : Root) → root_at text vs o x ≡ Some (k, v) → v.is_input ≡ false
-        → (xs : List Step) (p : Position) → position_of (root_shape text v) xs ≡ Some p
-        → (plan : Plan) → plan.variables ≡ variables_of text vs
+    ensures retention { (text : Declared) (vs : List Owned) → are_declared_once text vs ≡ true → (o : Option Owner)
+        (x : Name) (k : ℕ) (v : Owned) → variable_at text vs o x ≡ Some (k, v) → v.is_input ≡ false
+        → (xs : List Step) (p : Position) → position_of (variable_shape text v) xs ≡ Some p
+        → (plan : Plan) → plan.variables ≡ plan_variables_of text vs
         → is_retained plan (further (path_to o x) xs) ≡ retained_at text v.site xs }
 {}
 
 /// The variables and the inputs of a plan have the slots of the layout, in its order, with their types; and each
 /// initial value is one that its type holds.
 pub fn initial_values_fill_the_layout()
-    ensures variables { (text : Declared) (vs : List Root) → map variable_slot (variables_of text vs)
+    ensures variables { (text : Declared) (vs : List Owned) → map variable_slot (plan_variables_of text vs)
         ≡ variable_slots (slots_of text vs) }
-    ensures inputs { (text : Declared) (vs : List Root) → map input_slot (inputs_of text vs)
+    ensures inputs { (text : Declared) (vs : List Owned) → map input_slot (plan_inputs_of text vs)
         ≡ input_slots (slots_of text vs) }
-    ensures types { (text : Declared) (vs : List Root) → shape_of (initial_values (variables_of text vs))
+    ensures types { (text : Declared) (vs : List Owned) → shape_of (initial_values (plan_variables_of text vs))
         ≡ types_of_slots (variable_slots (slots_of text vs)) }
-    ensures held { (text : Declared) (vs : List Root) → all_held (initial_values (variables_of text vs)) ≡ true }
+    ensures held { (text : Declared) (vs : List Owned) → all_held (initial_values (plan_variables_of text vs)) ≡ true }
 {}
 
 /// In a text whose names stand once in their scopes each path of the layout stands once, and the initial values are a
 /// store.
 pub fn layouts_of_texts()
     ensures once { (source : Source) → has_different_names source ≡ true
-        → are_declared_once (declared_of source) (roots_of source) ≡ true }
+        → are_declared_once (declared_of source) (layout_variables source) ≡ true }
     ensures slots { (source : Source) → has_different_names source ≡ true → IsLayout (slots_of_text source) }
     ensures store { (source : Source) → has_different_names source ≡ true
-        → IsStore (initial_image (inputs_of_text source)) (initial_values (variables_of_text source)) }
+        → IsStore (initial_image (plan_inputs_of_text source)) (initial_values (plan_variables_of_text source)) }
 {}

@@ -2,7 +2,7 @@
 
 ghost use Rattle.std.specs.Prelude.{◌≡◌, ◌∷◌, [], true, false, map, length, codes};
 ghost use Rattle.st_words.specs.declared.kind.Kind.TheVariants.{Int, Time, Word, Bool as Boolean};
-ghost use Rattle.st_layouts.specs.TextLayouts.{instances_of_text, slots_of_text, variables_of_text};
+ghost use Rattle.st_layouts.specs.TextLayouts.{instances_of_text, slots_of_text, plan_variables_of_text};
 ghost use Rattle.st_layouts.specs.LayoutExamples.{instances_of_blocks, block_in_a_block, input_between_globals};
 ghost use Rattle.st_layouts.specs.LayoutExamples.{unconfigured, configured_twice, instances_of_no_program};
 ghost use Rattle.st_layouts.specs.InitialExamples.{one_deep_variable};
@@ -62,7 +62,7 @@ pub fn an_input_between_globals()
 pub fn texts_without_a_layout()
     ensures no_configuration { slots_of_text unconfigured ≡ [] }
     ensures two_configurations { slots_of_text configured_twice ≡ [] }
-    ensures no_variables { variables_of_text configured_twice ≡ [] }
+    ensures no_variables { plan_variables_of_text configured_twice ≡ [] }
     ensures no_program { slots_in instances_of_no_program ≡ (codes "R/P.K", Int, false) ∷ [] }
 {}
 

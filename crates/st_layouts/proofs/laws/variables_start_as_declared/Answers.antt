@@ -1,6 +1,6 @@
 use Rattle.std.proofs.Common.{ap, ◌∙◌}
 use Rattle.st_layouts.specs.TextLayouts.{further}
-use Rattle.st_layouts.specs.Places.{path_to}
+use Rattle.st_layouts.specs.Standing.{path_to}
 use Rattle.st_layouts.proofs.StoreLemmas.{written_value, unwritten_value}
 use Rattle.st_layouts.proofs.ValueLemmas.{retained_among, value_told, retention_told}
 use Rattle.st_layouts.proofs.laws.variables_start_as_declared.Goals as goal

@@ -12,37 +12,41 @@ use Rattle.st_types.specs.Slots.{Slot}
 use Rattle.st_layouts.specs.Shapes.{Shape, size, is_sound, Position, beyond, position_of, leads_on}
 use Rattle.st_layouts.specs.Types.{Site}
 use Rattle.st_layouts.specs.Sites.{site_at}
-use Rattle.st_layouts.specs.Roots.{Root}
-use Rattle.st_layouts.specs.TextLayouts.{further, root_shape}
+use Rattle.st_layouts.specs.LayoutVariables.{Owned}
+use Rattle.st_layouts.specs.TextLayouts.{further, variable_shape}
 
 -- the variable of an instance, or of nobody
 abbrev pub path_to : Option Owner → Name → Path
 path_to o x = record { owner = o; name = x; steps = [] }
 
-abbrev pub is_root : Option Owner → Name → Root → Bool
-is_root o x v = same_owner o v.owner && bytes_eq x v.name
+abbrev pub is_named_so : Option Owner → Name → Owned → Bool
+is_named_so o x v = same_owner o v.owner && bytes_eq x v.name
 
-abbrev pub has_root : List Root → Option Owner → Name → Bool
-has_root vs o x = list_any (is_root o x) vs
+abbrev pub has_variable : List Owned → Option Owner → Name → Bool
+has_variable vs o x = list_any (is_named_so o x) vs
 
 -- No two variables of one owner have one name, and no two parts of one structure or instance.
-abbrev pub are_declared_once : Declared → List Root → Bool
+abbrev pub are_declared_once : Declared → List Owned → Bool
 are_declared_once text [] = true
 are_declared_once text (v ∷ vs) =
-    not (has_root vs v.owner v.name) && (is_sound (root_shape text v) && are_declared_once text vs)
+    not (has_variable vs v.owner v.name) && (is_sound (variable_shape text v) && are_declared_once text vs)
+
+-- the same slot and variable, where this variable stands before
+abbrev pub later : Declared → Owned → ℕ × Owned → ℕ × Owned
+later text v e = (size (variable_shape text v) + e.0, e.1)
 
 -- the first slot of a variable, and the variable
-abbrev pub root_at : Declared → List Root → Option Owner → Name → Option (ℕ × Root)
-root_at text [] o x = None
-root_at text (v ∷ vs) o x = if is_root o x v
-    then Some (0, v) else option_map (λ e. (size (root_shape text v) + e.0, e.1)) (root_at text vs o x)
+abbrev pub variable_at : Declared → List Owned → Option Owner → Name → Option (ℕ × Owned)
+variable_at text [] o x = None
+variable_at text (v ∷ vs) o x = if is_named_so o x v
+    then Some (0, v) else option_map (later text v) (variable_at text vs o x)
 
 -- the slot and the type of a path, which its declaration and its steps tell
-abbrev pub position_among : Declared → List Root → Path → Option Position
+abbrev pub position_among : Declared → List Owned → Path → Option Position
 position_among text [] p = None
-position_among text (v ∷ vs) p = if is_root p.owner p.name v
-    then position_of (root_shape text v) p.steps
-    else option_map (beyond (size (root_shape text v))) (position_among text vs p)
+position_among text (v ∷ vs) p = if is_named_so p.owner p.name v
+    then position_of (variable_shape text v) p.steps
+    else option_map (beyond (size (variable_shape text v))) (position_among text vs p)
 
 -- some slot is of this path or of a part of it
 abbrev pub has_slot_within : List Slot → Path → Bool

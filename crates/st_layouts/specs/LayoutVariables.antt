@@ -23,16 +23,16 @@ use Rattle.st_types.specs.ResolvedUnits.{resolved_source}
 use Rattle.st_types.specs.Scopes.{Name}
 use Rattle.st_layouts.specs.Types.{Site, NamedSite, sites_of_blocks}
 
--- a variable of a layout: the instance that it belongs to, or nobody; what its declaration says of it; and whether its
--- value comes from the plant
-pub record Root : Type 0 where
+-- a variable of a layout: the program's instance that it belongs to, or nobody; its name; what its declaration says of
+-- it; and whether its value comes from the plant
+pub record Owned : Type 0 where
   pub owner : Option Owner
   pub name : Name
   pub site : Site
   pub is_input : Bool
 
-abbrev pub variable_root : Option Owner → NamedSite → Root
-variable_root o d = record { owner = o; name = d.name; site = d.site; is_input = false }
+abbrev pub owned_variable : Option Owner → NamedSite → Owned
+owned_variable o d = record { owner = o; name = d.name; site = d.site; is_input = false }
 
 -- VAR_GLOBAL RETAIN
 abbrev pub retention_of_globals : Option GlobalQualifier → Option Retention
@@ -47,23 +47,23 @@ abbrev pub is_input_address : Direction → Bool
 is_input_address Input = true
 is_input_address Output = false
 
-abbrev pub global_root : Site → Bool → Identifier → Root
-global_root s input x = record { owner = None; name = x.name; site = s; is_input = input }
+abbrev pub global_variable : Site → Bool → Identifier → Owned
+global_variable s input x = record { owner = None; name = x.name; site = s; is_input = input }
 
 -- a global at the address of an input is one; one at the address of an output is a global as others
-abbrev pub roots_of_names : Site → GlobalNames → List Root
-roots_of_names s (located x a) = global_root s (is_input_address a.direction) x ∷ []
-roots_of_names s (listed xs) = map (global_root s false) xs
+abbrev pub variables_of_names : Site → GlobalNames → List Owned
+variables_of_names s (located x a) = global_variable s (is_input_address a.direction) x ∷ []
+variables_of_names s (listed xs) = map (global_variable s false) xs
 
-abbrev pub roots_of_declarations : Option Retention → List GlobalDeclaration → List Root
-roots_of_declarations keep [] = []
-roots_of_declarations keep (d ∷ ds) =
-    roots_of_names (site_of_global keep d) d.names ++ roots_of_declarations keep ds
+abbrev pub variables_of_declarations : Option Retention → List GlobalDeclaration → List Owned
+variables_of_declarations keep [] = []
+variables_of_declarations keep (d ∷ ds) =
+    variables_of_names (site_of_global keep d) d.names ++ variables_of_declarations keep ds
 
-abbrev pub roots_of_globals : List GlobalBlock → List Root
-roots_of_globals [] = []
-roots_of_globals (b ∷ bs) =
-    roots_of_declarations (retention_of_globals b.qualifier) b.declarations ++ roots_of_globals bs
+abbrev pub variables_of_globals : List GlobalBlock → List Owned
+variables_of_globals [] = []
+variables_of_globals (b ∷ bs) =
+    variables_of_declarations (retention_of_globals b.qualifier) b.declarations ++ variables_of_globals bs
 
 -- the variables of a program; none where the unit is no program, or where there is none of the name
 abbrev pub sites_of_program : UnitSort → List VariableBlock → List NamedSite
@@ -78,15 +78,16 @@ program_sites (Some u) = sites_of_program u.sort u.blocks
 abbrev pub owner_in : Name → Instance → Owner
 owner_in resource i = record { resource = resource; instance = i.name.name }
 
-abbrev pub roots_of_instances : Declared → Name → List Instance → List Root
-roots_of_instances text resource [] = []
-roots_of_instances text resource (i ∷ is) =
-    map (variable_root (Some (owner_in resource i))) (program_sites (unit_named text.units i.program.name))
-    ++ roots_of_instances text resource is
+abbrev pub variables_of_instances : Declared → Name → List Instance → List Owned
+variables_of_instances text resource [] = []
+variables_of_instances text resource (i ∷ is) =
+    map (owned_variable (Some (owner_in resource i))) (program_sites (unit_named text.units i.program.name))
+    ++ variables_of_instances text resource is
 
-abbrev pub roots_of_resources : Declared → List Resource → List Root
-roots_of_resources text [] = []
-roots_of_resources text (r ∷ rs) = roots_of_instances text r.name.name r.instances ++ roots_of_resources text rs
+abbrev pub variables_of_resources : Declared → List Resource → List Owned
+variables_of_resources text [] = []
+variables_of_resources text (r ∷ rs) =
+    variables_of_instances text r.name.name r.instances ++ variables_of_resources text rs
 
 -- a text has a layout where it has exactly one configuration
 abbrev pub configurations_in : Source → List Configuration
@@ -99,9 +100,9 @@ abbrev pub only_configuration : List Configuration → Option Configuration
 only_configuration (c ∷ []) = Some c
 only_configuration _ = None
 
-abbrev pub roots_of_configuration : Declared → Option Configuration → List Root
-roots_of_configuration text None = []
-roots_of_configuration text (Some c) = roots_of_globals c.globals ++ roots_of_resources text c.resources
+abbrev pub variables_of_configuration : Declared → Option Configuration → List Owned
+variables_of_configuration text None = []
+variables_of_configuration text (Some c) = variables_of_globals c.globals ++ variables_of_resources text c.resources
 
 -- the types and units of a text in which each literal has its type, and its configuration
 abbrev pub declared_of : Source → Declared
@@ -111,5 +112,5 @@ abbrev pub configuration_of : Source → Option Configuration
 configuration_of source = only_configuration (configurations_in (resolved_source source))
 
 -- the variables of a text's layout
-abbrev pub roots_of : Source → List Root
-roots_of source = roots_of_configuration (declared_of source) (configuration_of source)
+abbrev pub layout_variables : Source → List Owned
+layout_variables source = variables_of_configuration (declared_of source) (configuration_of source)
