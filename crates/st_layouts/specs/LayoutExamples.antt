@@ -255,3 +255,40 @@ instances_of_no_program = text_of [] (fb ∷ one_variable ∷ []) (configured []
     ∷ instance (codes "F") (codes "FB")
     ∷ instance (codes "N") (codes "NOTHING")
     ∷ []) ∷ []))
+
+-- TYPE Point : STRUCT x : INT; y : INT; END_STRUCT; END_TYPE
+-- FUNCTION_BLOCK Words VAR_INPUT RETAIN a : INT; END_VAR VAR_OUTPUT NON_RETAIN b : INT; END_VAR
+-- VAR RETAIN c : Point; END_VAR VAR d : ARRAY [0..1] OF INT; END_VAR END_FUNCTION_BLOCK
+-- PROGRAM Pr VAR NON_RETAIN f : Words; END_VAR VAR RETAIN g : Words; s : Point; END_VAR VAR n : INT; END_VAR END_PROGRAM
+abbrev pub point : TypeDeclaration
+point = structure_of (codes "POINT") (field (codes "X") (plain Int) ∷ field (codes "Y") (plain Int) ∷ [])
+
+abbrev pub words : OrganisationUnit
+words = unit_with sorts.FunctionBlock (codes "WORDS") (
+    variables_in (sections.Input (Some Retain)) (without_initial (codes "A") (plain Int) ∷ [])
+    ∷ variables_in (sections.Output (Some NonRetain)) (without_initial (codes "B") (plain Int) ∷ [])
+    ∷ variables_in (sections.Local (Some Retain)) (without_initial (codes "C") (of_type (codes "POINT")) ∷ [])
+    ∷ variables_in (sections.Local None) (without_initial (codes "D") (array_of 0 1 (Elementary Int 0)) ∷ [])
+    ∷ []) []
+
+abbrev pub words_of_retention : Source
+words_of_retention = text_of (point ∷ []) (words ∷ program_with (
+    variables_in (sections.Local (Some NonRetain)) (without_initial (codes "F") (of_type (codes "WORDS")) ∷ [])
+    ∷ variables_in (sections.Local (Some Retain)) (without_initial (codes "G") (of_type (codes "WORDS"))
+    ∷ without_initial (codes "S") (of_type (codes "POINT")) ∷ [])
+    ∷ variables_in (sections.Local None) (without_initial (codes "N") (plain Int) ∷ [])
+    ∷ []) ∷ []) instance_p
+
+-- variables of types that are none: the program's own, a function, a standard function, and a name that is not there
+abbrev pub types_that_are_none : Source
+types_that_are_none = text_of [] (
+    unit_with (sorts.Function (Elementary Int 0)) (codes "HALF")
+    (variables_in (sections.Input None) (without_initial (codes "X") (plain Int) ∷ []) ∷ []) []
+    ∷ program_with (variables_in (sections.Local None) (
+    without_initial (codes "A") (of_type (codes "PR"))
+    ∷ without_initial (codes "B") (of_type (codes "HALF"))
+    ∷ without_initial (codes "C") (of_type (codes "ABS"))
+    ∷ without_initial (codes "D") (of_type (codes "NOTHING"))
+    ∷ without_initial (codes "N") (plain Int)
+    ∷ []) ∷ [])
+    ∷ []) instance_p

@@ -1,14 +1,13 @@
 -- What the declarations say of a part of a variable: its type, its initial value, and whether it is retained.
-use Rattle.std.specs.Prelude.{ℕ, zero, suc, ◌-◌, nat_lt, List, [], ◌∷◌, ◌++◌, Bool, false, if◌then◌else◌, pos}
-use Rattle.std.specs.Prelude.{Option, Some, None, option_map, option_and_then, Result, Ok, Err}
+use Rattle.std.specs.Prelude.{ℕ, List, [], ◌∷◌, ◌++◌, replicate, slice_get, Bool, false, if◌then◌else◌, pos, Option}
+use Rattle.std.specs.Prelude.{Some, None, option_map, option_and_then, Result, Ok, Err}
 use Rattle.st_words.specs.declared.kind.Kind.{Kind}
 use Rattle.st_words.specs.declared.path.Step.{Step}
 use Rattle.st_words.specs.declared.path.Step.TheVariants.{Member, Element}
 use Rattle.st_words.specs.Values.{Datum}
 use Rattle.st_trees.specs.declared.data_type.ArrayType.{ArrayType}
 use Rattle.st_trees.specs.Initials.{Initial, constant, list, structure, single, repeated, defaults, Elements}
-use Rattle.st_trees.specs.Initials.{no_elements}
-use Rattle.st_trees.specs.Initials.{element_then, Members, no_members, member_then}
+use Rattle.st_trees.specs.Initials.{no_elements, element_then, Members, no_members, member_then}
 use Rattle.st_types.specs.Failures.{Failure}
 use Rattle.st_types.specs.NameTypes.{Declared, is_named}
 use Rattle.st_types.specs.Operators.{number_of, natural, value_of_literal}
@@ -19,15 +18,17 @@ use Rattle.st_layouts.specs.Shapes.{in_bounds, distance}
 use Rattle.st_layouts.specs.Types.{Site, site_named, Composition, of_elements, of_parts, composition_of}
 use Rattle.st_layouts.specs.Types.{lower_of, count_of, element_of}
 
--- the initial value that a list gives the element of a place, from 0; none where it leaves the default
-abbrev pub nth_initial : Elements → ℕ → Option Initial
-nth_initial no_elements n = None
-nth_initial (element_then (single i) xs) zero = Some i
-nth_initial (element_then (single i) xs) (suc n) = nth_initial xs n
-nth_initial (element_then (repeated c i) xs) n =
-    if nat_lt n (natural (number_of c)) then Some i else nth_initial xs (n - natural (number_of c))
-nth_initial (element_then (defaults c) xs) n =
-    if nat_lt n (natural (number_of c)) then None else nth_initial xs (n - natural (number_of c))
+-- the elements that a list stands for, each with its initial value, or with none where it has the default of its type
+abbrev pub listed_elements : Elements → List (Option Initial)
+listed_elements no_elements = []
+listed_elements (element_then (single i) xs) = Some i ∷ listed_elements xs
+listed_elements (element_then (repeated n i) xs) = replicate (natural (number_of n)) (Some i) ++ listed_elements xs
+listed_elements (element_then (defaults n) xs) = replicate (natural (number_of n)) None ++ listed_elements xs
+
+-- the initial value that stands at a place of a list, from 0; what a list leaves out has none
+abbrev pub given : Option (Option Initial) → Option Initial
+given None = None
+given (Some i) = i
 
 -- the initial value that a structure gives a field; none where it leaves the field out
 abbrev pub field_initial : Members → Name → Option Initial
@@ -35,7 +36,7 @@ field_initial no_members x = None
 field_initial (member_then y i rest) x = if is_named x y then Some i else field_initial rest x
 
 abbrev pub element_initial : Option Initial → ℕ → Option Initial
-element_initial (Some (list at xs)) n = nth_initial xs n
+element_initial (Some (list at xs)) n = given (slice_get (listed_elements xs) n)
 element_initial _ n = None
 
 abbrev pub member_initial : Option Initial → Name → Option Initial

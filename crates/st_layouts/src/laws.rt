@@ -1,14 +1,15 @@
 //! Laws of layouts.
 
 ghost use Rattle.std.specs.Prelude.{◌≡◌, ℕ, List, [], ◌∷◌, map, filter, Option, Some, None, true, false, slice_get, Ok};
-ghost use Rattle.std.specs.Prelude.{pos};
+ghost use Rattle.std.specs.Prelude.{pos, length};
+ghost use Rattle.std.specs.List.{list_any};
 ghost use Rattle.st_words.specs.declared.kind.Kind.{Kind};
 ghost use Rattle.st_words.specs.declared.literal.Literal.{Literal};
 ghost use Rattle.st_words.specs.declared.path.Owner.{Owner};
 ghost use Rattle.st_words.specs.declared.path.Step.{Step};
 ghost use Rattle.st_words.specs.Kinds.{holds};
 ghost use Rattle.st_words.specs.Values.{Datum};
-ghost use Rattle.st_words.specs.Paths.{is_within};
+ghost use Rattle.st_words.specs.Paths.{begins_with, is_within};
 ghost use Rattle.st_trees.specs.Initials.{constant};
 ghost use Rattle.st_trees.specs.Sources.{Source};
 ghost use Rattle.st_types.specs.NameTypes.{Declared};
@@ -18,7 +19,7 @@ ghost use Rattle.st_types.specs.Slots.{Slot, IsLayout};
 ghost use Rattle.st_types.specs.Stores.{IsStore, get, shape_of, all_held};
 ghost use Rattle.st_plans.specs.Layouts.{variable_slot, input_slot};
 ghost use Rattle.st_plans.specs.Plans.{Plan, is_retained};
-ghost use Rattle.st_layouts.specs.Shapes.{Position, position_of};
+ghost use Rattle.st_layouts.specs.Shapes.{Shape, Leaf, size, leaves_of, Position, position_of, leads_on, is_sound};
 ghost use Rattle.st_layouts.specs.Types.{Site, shape_of_type};
 ghost use Rattle.st_layouts.specs.Sites.{initial_at, retained_at};
 ghost use Rattle.st_layouts.specs.LayoutVariables.{Owned, layout_variables, declared_of};
@@ -30,6 +31,18 @@ ghost use Rattle.st_layouts.specs.TextLayouts.{plan_inputs_of_text};
 ghost use Rattle.st_layouts.specs.Standing.{path_to, are_declared_once, variable_at, position_among, Stands};
 ghost use Rattle.st_layouts.specs.Standing.{IsDeclared};
 ghost use Rattle.st_layouts.specs.Names.{has_different_names};
+
+/// A shape has as many leaves as its size says. A part stands among them where its position says, and nowhere else where
+/// no two parts of one whole have one name; then steps lead on exactly where those to some leaf begin so.
+pub fn leaves_of_shapes()
+    ensures count { (sh : Shape) → length (leaves_of sh) ≡ size sh }
+    ensures there { (sh : Shape) (xs : List Step) (o : Position) → position_of sh xs ≡ Some o
+        → slice_get (leaves_of sh) o.number ≡ Some record { steps = xs; kind = o.kind } }
+    ensures nowhere_else { (sh : Shape) → is_sound sh ≡ true → (n : ℕ) (l : Leaf) → slice_get (leaves_of sh) n ≡ Some l
+        → position_of sh l.steps ≡ Some record { number = n; kind = l.kind } }
+    ensures beginnings { (sh : Shape) → is_sound sh ≡ true → (xs : List Step)
+        → list_any (λ l. begins_with l.steps xs) (leaves_of sh) ≡ leads_on sh xs }
+{}
 
 /// In the layout of variables that are declared once each path has one slot, which its declaration and its steps tell
 /// with its type. Each variable stands with all its parts from its own first slot on, and its slots are exactly those

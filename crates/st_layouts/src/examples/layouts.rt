@@ -5,6 +5,7 @@ ghost use Rattle.st_words.specs.declared.kind.Kind.TheVariants.{Int, Time, Word,
 ghost use Rattle.st_layouts.specs.TextLayouts.{instances_of_text, slots_of_text, plan_variables_of_text};
 ghost use Rattle.st_layouts.specs.LayoutExamples.{instances_of_blocks, block_in_a_block, input_between_globals};
 ghost use Rattle.st_layouts.specs.LayoutExamples.{unconfigured, configured_twice, instances_of_no_program};
+ghost use Rattle.st_layouts.specs.LayoutExamples.{words_of_retention, types_that_are_none};
 ghost use Rattle.st_layouts.specs.InitialExamples.{one_deep_variable};
 ghost use Rattle.st_layouts.specs.LayoutExamples.{retentions_in, values_in, slots_in, inputs_in, int, datum};
 
@@ -36,6 +37,26 @@ pub fn instances_in_instances()
         ∷ (codes "R/P.O.F.A", true) ∷ (codes "R/P.O.F.B", true) ∷ (codes "R/P.O.F.C", false)
         ∷ (codes "R/P.O.N", true) ∷ [] }
     ensures instances { instances_of_text block_in_a_block ≡ 4 }
+{}
+
+/// RETAIN and NON_RETAIN of inputs, outputs and variables of a block, inside and outside of other words. All parts of a
+/// variable follow its declaration.
+#[tactic(auto, unfolding(crate::specs::Types::shape_within, st_types::specs::StandardBlocks::block_of))]
+pub fn words_on_the_way()
+    ensures paths { retentions_in words_of_retention
+        ≡ (codes "R/P.F.A", true) ∷ (codes "R/P.F.B", false) ∷ (codes "R/P.F.C.X", true) ∷ (codes "R/P.F.C.Y", true)
+        ∷ (codes "R/P.F.D[0]", false) ∷ (codes "R/P.F.D[1]", false)
+        ∷ (codes "R/P.G.A", true) ∷ (codes "R/P.G.B", false) ∷ (codes "R/P.G.C.X", true) ∷ (codes "R/P.G.C.Y", true)
+        ∷ (codes "R/P.G.D[0]", true) ∷ (codes "R/P.G.D[1]", true)
+        ∷ (codes "R/P.S.X", true) ∷ (codes "R/P.S.Y", true) ∷ (codes "R/P.N", false) ∷ [] }
+    ensures instances { instances_of_text words_of_retention ≡ 2 }
+{}
+
+/// A program, a function and an unknown name are no types of variables.
+#[tactic(auto, unfolding(crate::specs::Types::shape_within, st_types::specs::StandardBlocks::block_of))]
+pub fn variables_without_a_type()
+    ensures paths { slots_in types_that_are_none ≡ (codes "R/P.N", Int, false) ∷ [] }
+    ensures instances { instances_of_text types_that_are_none ≡ 0 }
 {}
 
 /// An input stands where it stands among the globals; a global at the address of an output is one as others. Then come
