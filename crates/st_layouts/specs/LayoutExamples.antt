@@ -8,6 +8,8 @@ use Rattle.st_words.specs.declared.path.Step.{Step}
 use Rattle.st_words.specs.declared.path.Step.TheVariants.{Member, Element as PathElement}
 use Rattle.st_words.specs.Paths.{Path}
 use Rattle.st_words.specs.Values.{Datum}
+use Rattle.st_words.specs.declared.operator.BinaryOperator.TheVariants.{Add}
+use Rattle.st_trees.specs.Expressions.{binary}
 use Rattle.st_trees.specs.declared.configuration.Address.{Address}
 use Rattle.st_trees.specs.declared.configuration.AddressWidth.TheVariants.{Bit}
 use Rattle.st_trees.specs.declared.configuration.Direction.{Direction}
@@ -35,9 +37,9 @@ use Rattle.st_trees.specs.Units.{OrganisationUnit}
 use Rattle.st_trees.specs.Sources.{Source}
 use Rattle.st_trees.specs.Sources as sources
 use Rattle.st_types.specs.Scopes.{Name}
-use Rattle.st_types.specs.Examples.{identifier}
+use Rattle.st_types.specs.Examples.{identifier, name, set, untyped}
 use Rattle.st_types.specs.ResolutionExamples.{of_type, plain_number, initially}
-use Rattle.st_plans.specs.Layouts.{owner_text}
+use Rattle.st_plans.specs.Layouts.{owner_text, layout_text}
 use Rattle.st_layouts.specs.TextLayouts.{slots_of_text, plan_variables_of_text, plan_inputs_of_text}
 
 -- an elementary type, and ARRAY [m..n] OF a type
@@ -259,7 +261,8 @@ instances_of_no_program = text_of [] (fb ∷ one_variable ∷ []) (configured []
 -- TYPE Point : STRUCT x : INT; y : INT; END_STRUCT; END_TYPE
 -- FUNCTION_BLOCK Words VAR_INPUT RETAIN a : INT; END_VAR VAR_OUTPUT NON_RETAIN b : INT; END_VAR
 -- VAR RETAIN c : Point; END_VAR VAR d : ARRAY [0..1] OF INT; END_VAR END_FUNCTION_BLOCK
--- PROGRAM Pr VAR NON_RETAIN f : Words; END_VAR VAR RETAIN g : Words; s : Point; END_VAR VAR n : INT; END_VAR END_PROGRAM
+-- PROGRAM Pr VAR NON_RETAIN f : Words; END_VAR VAR RETAIN g : Words; s : Point; END_VAR VAR n : INT; END_VAR
+-- END_PROGRAM
 abbrev pub point : TypeDeclaration
 point = structure_of (codes "POINT") (field (codes "X") (plain Int) ∷ field (codes "Y") (plain Int) ∷ [])
 
@@ -292,3 +295,24 @@ types_that_are_none = text_of [] (
     ∷ without_initial (codes "N") (plain Int)
     ∷ []) ∷ [])
     ∷ []) instance_p
+
+-- PROGRAM Add VAR_EXTERNAL n : INT; END_VAR n := n + 1; END_PROGRAM with VAR_GLOBAL RETAIN n : INT; END_VAR and
+-- VAR_GLOBAL k : INT := 7; END_VAR, and the instance P of Add on R
+abbrev pub adding : Source
+adding = text_of [] (
+    unit_with sorts.Program (codes "ADD")
+    (variables_in sections.External (without_initial (codes "N") (plain Int) ∷ []) ∷ [])
+    (set (codes "N") (binary Add (name (codes "N")) (untyped (pos 1))) ∷ [])
+    ∷ []) (configured (
+    globals_of (Some qualifiers.Retain) (global (codes "N") (plain Int) None ∷ [])
+    ∷ globals_of None (global (codes "K") (plain Int) (Some (amount 7)) ∷ [])
+    ∷ []) (resource (codes "R") (instance (codes "P") (codes "ADD") ∷ []) ∷ []))
+
+-- the layout text of a record
+abbrev pub text_in : Source → List ℕ
+text_in source = layout_text (plan_variables_of_text source)
+
+-- lines, each with its LF
+abbrev pub lines_of : List (List ℕ) → List ℕ
+lines_of [] = []
+lines_of (x ∷ xs) = x ++ 10 ∷ lines_of xs

@@ -32,8 +32,8 @@ ghost use Rattle.st_layouts.specs.Standing.{path_to, are_declared_once, variable
 ghost use Rattle.st_layouts.specs.Standing.{IsDeclared};
 ghost use Rattle.st_layouts.specs.Names.{has_different_names};
 
-/// A shape has as many leaves as its size says. A part stands among them where its position says, and nowhere else where
-/// no two parts of one whole have one name; then steps lead on exactly where those to some leaf begin so.
+/// A shape has as many leaves as its size says. A part stands among them where its position says, and nowhere else
+/// where no two parts of one whole have one name; then steps lead on exactly where those to some leaf begin so.
 pub fn leaves_of_shapes()
     ensures count { (sh : Shape) → length (leaves_of sh) ≡ size sh }
     ensures there { (sh : Shape) (xs : List Step) (o : Position) → position_of sh xs ≡ Some o

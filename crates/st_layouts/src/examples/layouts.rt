@@ -5,7 +5,7 @@ ghost use Rattle.st_words.specs.declared.kind.Kind.TheVariants.{Int, Time, Word,
 ghost use Rattle.st_layouts.specs.TextLayouts.{instances_of_text, slots_of_text, plan_variables_of_text};
 ghost use Rattle.st_layouts.specs.LayoutExamples.{instances_of_blocks, block_in_a_block, input_between_globals};
 ghost use Rattle.st_layouts.specs.LayoutExamples.{unconfigured, configured_twice, instances_of_no_program};
-ghost use Rattle.st_layouts.specs.LayoutExamples.{words_of_retention, types_that_are_none};
+ghost use Rattle.st_layouts.specs.LayoutExamples.{words_of_retention, types_that_are_none, adding, text_in, lines_of};
 ghost use Rattle.st_layouts.specs.InitialExamples.{one_deep_variable};
 ghost use Rattle.st_layouts.specs.LayoutExamples.{retentions_in, values_in, slots_in, inputs_in, int, datum};
 
@@ -24,6 +24,18 @@ pub fn retention_of_instances()
         ∷ (codes "R/P.T.ET", Time, false) ∷ (codes "R/P.T.RUN", Boolean, false) ∷ (codes "R/P.T.START", Time, false)
         ∷ (codes "R/P.K.A", Int, false) ∷ (codes "R/P.K.B", Int, false) ∷ (codes "R/P.K.C", Int, false) ∷ [] }
     ensures instances { instances_of_text instances_of_blocks ≡ 3 }
+    ensures text { text_in instances_of_blocks ≡ lines_of (codes "R/P.F.A INT" ∷ codes "R/P.F.B INT"
+        ∷ codes "R/P.T.IN BOOL" ∷ codes "R/P.T.PT TIME" ∷ codes "R/P.T.Q BOOL" ∷ codes "R/P.T.ET TIME"
+        ∷ codes "R/P.T.RUN BOOL" ∷ codes "R/P.T.START TIME" ∷ codes "R/P.K.B INT" ∷ []) }
+{}
+
+/// A program that adds to a retained global, beside one that is not retained.
+#[tactic(auto, unfolding(crate::specs::Types::shape_within, st_types::specs::StandardBlocks::block_of))]
+pub fn two_globals()
+    ensures values { values_in adding ≡ (codes "N", int 0) ∷ (codes "K", int 7) ∷ [] }
+    ensures retention { retentions_in adding ≡ (codes "N", true) ∷ (codes "K", false) ∷ [] }
+    ensures text { text_in adding ≡ lines_of (codes "N INT" ∷ []) }
+    ensures instances { instances_of_text adding ≡ 0 }
 {}
 
 /// A standard block and a block of the text in a block in a program: the innermost word on the way decides. A constant
