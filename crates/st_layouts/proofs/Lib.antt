@@ -7,3 +7,4 @@ pub mod NameLemmas
 pub mod StoreLemmas
 pub mod ValueLemmas
 pub mod LibraryLemmas
+pub mod DepthLemmas

@@ -1,7 +1,8 @@
 -- What a declared type is made of, and its shape. Every declared thing, whether a variable, a field or a member of a
 -- block's instance, has a site: what its declaration says of it.
 use Rattle.std.specs.Prelude.{ℕ, zero, suc, ℤ, pos, ◌+ℤ◌, ◌-ℤ◌, List, [], ◌∷◌, ◌++◌, map, if◌then◌else◌, is_none}
-use Rattle.std.specs.Prelude.{Option, Some, None, bytes_eq}
+use Rattle.std.specs.Prelude.{Bool, true, false, Option, Some, None, bytes_eq}
+use Rattle.std.specs.List.{list_all}
 use Rattle.st_words.specs.declared.identifier.Identifier.{Identifier}
 use Rattle.st_words.specs.declared.kind.Kind.{Kind}
 use Rattle.st_trees.specs.declared.data_type.ArrayType.{ArrayType}
@@ -164,3 +165,13 @@ shape_within (suc n) text t = composed_shape (shape_within n text) (composition_
 -- the shape of a type of the text
 abbrev pub shape_of_type : Declared → VariableType → Shape
 shape_of_type text t = shape_within MAX_TYPE_DEPTH text t
+
+-- A type is at most so many deep: each type that it is made of is at most one less.
+abbrev pub parts_within : (VariableType → Bool) → Composition → Bool
+parts_within inner (of_kind k) = true
+parts_within inner (of_elements a) = inner (element_of a)
+parts_within inner (of_parts w ds) = list_all (λ d. inner d.site.declared) ds
+
+unfoldable pub is_within_depth : ℕ → Declared → VariableType → Bool
+is_within_depth zero text t = false
+is_within_depth (suc n) text t = parts_within (is_within_depth n text) (composition_of text t)

@@ -1,7 +1,7 @@
 //! Laws of layouts.
 
 ghost use Rattle.std.specs.Prelude.{◌≡◌, ℕ, List, [], ◌∷◌, map, filter, Option, Some, None, true, false, slice_get, Ok};
-ghost use Rattle.std.specs.Prelude.{pos, length};
+ghost use Rattle.std.specs.Prelude.{pos, length, ◌≤◌};
 ghost use Rattle.std.specs.List.{list_any};
 ghost use Rattle.st_words.specs.declared.kind.Kind.{Kind};
 ghost use Rattle.st_words.specs.declared.literal.Literal.{Literal};
@@ -11,6 +11,7 @@ ghost use Rattle.st_words.specs.Kinds.{holds};
 ghost use Rattle.st_words.specs.Values.{Datum};
 ghost use Rattle.st_words.specs.Paths.{begins_with, is_within};
 ghost use Rattle.st_trees.specs.Initials.{constant};
+ghost use Rattle.st_trees.specs.declared.data_type.VariableType.{VariableType};
 ghost use Rattle.st_trees.specs.Sources.{Source};
 ghost use Rattle.st_types.specs.NameTypes.{Declared};
 ghost use Rattle.st_types.specs.Operators.{value_of_literal};
@@ -20,7 +21,8 @@ ghost use Rattle.st_types.specs.Stores.{IsStore, get, shape_of, all_held};
 ghost use Rattle.st_plans.specs.Layouts.{variable_slot, input_slot};
 ghost use Rattle.st_plans.specs.Plans.{Plan, is_retained};
 ghost use Rattle.st_layouts.specs.Shapes.{Shape, Leaf, size, leaves_of, Position, position_of, leads_on, is_sound};
-ghost use Rattle.st_layouts.specs.Types.{Site, shape_of_type};
+ghost use Rattle.st_layouts.specs.declared.limits.TheConstants.{MAX_TYPE_DEPTH};
+ghost use Rattle.st_layouts.specs.Types.{Site, shape_of_type, shape_within, is_within_depth};
 ghost use Rattle.st_layouts.specs.Sites.{initial_at, retained_at};
 ghost use Rattle.st_layouts.specs.LayoutVariables.{Owned, layout_variables, declared_of};
 ghost use Rattle.st_layouts.specs.TextLayouts.{further, variable_shape, slots_of, slots_of_variable, plan_variables_of};
@@ -65,6 +67,12 @@ pub fn layouts_of_declared_variables()
 pub fn parts_are_declared()
     ensures { (text : Declared) (s : Site) (xs : List Step) (o : Position)
         → position_of (shape_of_type text s.declared) xs ≡ Some o → IsDeclared text s xs o.kind }
+{}
+
+/// The shape of a type that is at most 64 deep is the same however far it is expanded.
+pub fn types_are_expanded_whole()
+    ensures { (text : Declared) (t : VariableType) (n : ℕ) → is_within_depth MAX_TYPE_DEPTH text t ≡ true
+        → MAX_TYPE_DEPTH ≤ n → shape_within n text t ≡ shape_of_type text t }
 {}
 
 /// Each part of a variable starts with the value that its declarations tell, and is retained as they tell. A written
