@@ -43,7 +43,7 @@ kind_of_named : (text : Declared) (x : Name) (o : Option Enumeration)
 kind_of_named text x (Some e) = refl
 kind_of_named text x None = kind_of_other _
 
-kind_of_declared : (text : Declared) (o : Option VariableType)
+pub kind_of_declared : (text : Declared) (o : Option VariableType)
     → option_and_then (kind_among text.types) o ≡ kind_of (typing_of_type text o)
 kind_of_declared text None = refl
 kind_of_declared text (Some (types.Simple (Elementary k at))) = refl
@@ -167,7 +167,7 @@ untyped_named : (text : Declared) (x : Name) (o : Option Enumeration)
 untyped_named text x (Some e) = refl
 untyped_named text x None = untyped_other _
 
-untyped_declared : (text : Declared) (o : Option VariableType) → false ≡ is_untyped_typing (typing_of_type text o)
+pub untyped_declared : (text : Declared) (o : Option VariableType) → false ≡ is_untyped_typing (typing_of_type text o)
 untyped_declared text None = refl
 untyped_declared text (Some (types.Simple (Elementary k at))) = refl
 untyped_declared text (Some (types.Simple (Named x))) =

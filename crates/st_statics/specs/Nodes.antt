@@ -1,12 +1,11 @@
 -- The parts of an expression, each with what its place asks.
-use Rattle.std.specs.Prelude.{List, [], ◌∷◌, ◌++◌, ◌&&◌, if◌then◌else◌, Option, None}
+use Rattle.std.specs.Prelude.{List, [], ◌∷◌, ◌++◌, if◌then◌else◌, Option, None}
 use Rattle.st_words.specs.declared.kind.Kind.{Kind}
 use Rattle.st_words.specs.declared.operator.BinaryOperator.{BinaryOperator}
 use Rattle.st_trees.specs.Expressions.{Expr, literal, read, call, parenthesis, unary, binary, Exprs, no_exprs}
 use Rattle.st_trees.specs.Expressions.{expr_then, Variable, variable, Selector, member, subscript, Selectors}
 use Rattle.st_trees.specs.Expressions.{no_selectors, selector_then}
-use Rattle.st_types.specs.Operators.{or_kind}
-use Rattle.st_types.specs.Resolution.{is_joining}
+use Rattle.st_types.specs.Resolution.{is_joining, expected_of_both}
 use Rattle.st_statics.specs.Environments.{Environment, Callee, callee_of}
 use Rattle.st_statics.specs.declared.demand.Sorts.TheVariants.{Whole as whole}
 use Rattle.st_statics.specs.declared.demand.Demand.{Demand}
@@ -20,11 +19,11 @@ pub record Node : Type 0 where
   pub tree : Expr
 
 -- what the operands of an operator are offered: where both are untyped, what the whole place expects, and a comparison
--- expects nothing; else the type of the typed one
+-- expects nothing; where one is, the type of the other
 abbrev pub offered : Option Kind → BinaryOperator → Typing → Typing → Option Kind
 offered k op t u =
-    if is_untyped_typing t && is_untyped_typing u then (if is_joining op then k else None)
-    else or_kind (kind_of t) (kind_of u)
+    expected_of_both (if is_joining op then k else None) (kind_of t) (kind_of u) (is_untyped_typing t)
+    (is_untyped_typing u)
 
 abbrev pub first_demand : List Demand → Demand
 first_demand [] = operand None
