@@ -1,0 +1,6 @@
+pub mod Alikes
+pub mod OperatorLemmas
+pub mod StandardLemmas
+pub mod ValueLaw
+pub mod AssignmentLaw
+pub mod KnownLemmas

@@ -1,0 +1,33 @@
+use Rattle.std.proofs.Common.{refl}
+use Rattle.st_types.specs.StandardFunctions.{standard_of, standard_functions}
+use Rattle.st_types.specs.StandardBlocks.{block_of}
+use Rattle.st_statics.specs.Containment.{has_chain, leads_to}
+use Rattle.st_statics.proofs.examples.containment.cycles.Goals as goal
+
+pub returns-clause-program : goal.returns-clause-program
+unfolding standard_of standard_functions block_of has_chain leads_to
+returns-clause-program c = refl
+
+pub returns-clause-structure : goal.returns-clause-structure
+unfolding standard_of standard_functions block_of has_chain leads_to
+returns-clause-structure c = refl
+
+pub returns-clause-by_an_array : goal.returns-clause-by_an_array
+unfolding standard_of standard_functions block_of has_chain leads_to
+returns-clause-by_an_array c = refl
+
+pub returns-clause-function : goal.returns-clause-function
+unfolding standard_of standard_functions block_of has_chain leads_to
+returns-clause-function c = refl
+
+pub returns-clause-two_functions : goal.returns-clause-two_functions
+unfolding standard_of standard_functions block_of has_chain leads_to
+returns-clause-two_functions c = refl
+
+pub returns-clause-blocks : goal.returns-clause-blocks
+unfolding standard_of standard_functions block_of has_chain leads_to
+returns-clause-blocks c = refl
+
+pub returns-clause-no_cycle : goal.returns-clause-no_cycle
+unfolding standard_of standard_functions block_of has_chain leads_to
+returns-clause-no_cycle c = refl

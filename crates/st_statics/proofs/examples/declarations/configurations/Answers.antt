@@ -1,0 +1,17 @@
+use Rattle.std.proofs.Common.{refl}
+use Rattle.st_types.specs.StandardFunctions.{standard_of, standard_functions}
+use Rattle.st_types.specs.StandardBlocks.{block_of}
+use Rattle.st_statics.specs.Containment.{has_chain, leads_to}
+use Rattle.st_statics.proofs.examples.declarations.configurations.Goals as goal
+
+pub returns-clause-retained_address : goal.returns-clause-retained_address
+unfolding standard_of standard_functions block_of has_chain leads_to
+returns-clause-retained_address c = refl
+
+pub returns-clause-address : goal.returns-clause-address
+unfolding standard_of standard_functions block_of has_chain leads_to
+returns-clause-address c = refl
+
+pub returns-clause-priority : goal.returns-clause-priority
+unfolding standard_of standard_functions block_of has_chain leads_to
+returns-clause-priority c = refl

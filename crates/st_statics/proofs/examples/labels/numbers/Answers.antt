@@ -1,0 +1,45 @@
+use Rattle.std.proofs.Common.{refl}
+use Rattle.st_types.specs.StandardFunctions.{standard_of, standard_functions}
+use Rattle.st_types.specs.StandardBlocks.{block_of}
+use Rattle.st_statics.specs.Containment.{has_chain, leads_to}
+use Rattle.st_statics.proofs.examples.labels.numbers.Goals as goal
+
+pub returns-clause-apart : goal.returns-clause-apart
+unfolding standard_of standard_functions block_of has_chain leads_to
+returns-clause-apart c = refl
+
+pub returns-clause-overlap : goal.returns-clause-overlap
+unfolding standard_of standard_functions block_of has_chain leads_to
+returns-clause-overlap c = refl
+
+pub returns-clause-twice : goal.returns-clause-twice
+unfolding standard_of standard_functions block_of has_chain leads_to
+returns-clause-twice c = refl
+
+pub returns-clause-reversed : goal.returns-clause-reversed
+unfolding standard_of standard_functions block_of has_chain leads_to
+returns-clause-reversed c = refl
+
+pub returns-clause-too_great : goal.returns-clause-too_great
+unfolding standard_of standard_functions block_of has_chain leads_to
+returns-clause-too_great c = refl
+
+pub returns-clause-typed : goal.returns-clause-typed
+unfolding standard_of standard_functions block_of has_chain leads_to
+returns-clause-typed c = refl
+
+pub returns-clause-untyped_selector : goal.returns-clause-untyped_selector
+unfolding standard_of standard_functions block_of has_chain leads_to
+returns-clause-untyped_selector c = refl
+
+pub returns-clause-truth_selects : goal.returns-clause-truth_selects
+unfolding standard_of standard_functions block_of has_chain leads_to
+returns-clause-truth_selects c = refl
+
+pub returns-clause-bits_select : goal.returns-clause-bits_select
+unfolding standard_of standard_functions block_of has_chain leads_to
+returns-clause-bits_select c = refl
+
+pub returns-clause-unknown_selects : goal.returns-clause-unknown_selects
+unfolding standard_of standard_functions block_of has_chain leads_to
+returns-clause-unknown_selects c = refl

@@ -1,0 +1,10 @@
+//! Worked examples of broken rules, by topic, each proved by computation: the whole list of what is wrong in a text.
+
+pub mod assignments;
+pub mod containment;
+pub mod declarations;
+pub mod enumerations;
+pub mod expressions;
+pub mod initials;
+pub mod labels;
+pub mod statements;

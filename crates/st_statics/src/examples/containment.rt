@@ -1,0 +1,51 @@
+//! What contains itself, or is too deep.
+
+ghost use Rattle.std.specs.Prelude.{◌≡◌, ◌∷◌, ◌++◌, [], pos, codes, None, Some, true, false};
+ghost use Rattle.st_words.specs.declared.kind.Kind.TheVariants.{Int};
+ghost use Rattle.st_trees.specs.declared.data_type.SimpleType.TheVariants.{Elementary, Named};
+ghost use Rattle.st_trees.specs.declared.data_type.VariableType.TheVariants.{Array};
+ghost use Rattle.st_trees.specs.declared.declaration.Section.TheVariants.{Local, External};
+ghost use Rattle.st_trees.specs.declared.unit.UnitSort.TheVariants.{Function, FunctionBlock, Program};
+ghost use Rattle.st_trees.specs.Declarations.{structure};
+ghost use Rattle.st_trees.specs.Statements.{assign};
+ghost use Rattle.st_trees.specs.Sources.{types};
+ghost use Rattle.st_statics.specs.declared.rule.Rule.TheVariants.{WrongType, TooDeep};
+ghost use Rattle.st_statics.specs.Rules.{broken};
+ghost use Rattle.st_statics.specs.ExampleWords.{breaks, at, name, calling, elementary, named, array_of, declaring, block};
+ghost use Rattle.st_statics.specs.ExampleWords.{organised, defining, field_of, local, chain_of_types, N, M, F, X, P};
+
+/// What contains itself.
+pub fn cycles()
+    // PROGRAM P VAR x : P; END_VAR: of its own type
+    ensures program { broken (local (declaring (at 14 X) (named 18 P) ∷ [])) ≡ breaks TooDeep 8 ∷ breaks WrongType 18 ∷ [] }
+    // TYPE x : STRUCT n : x; END_STRUCT; END_TYPE
+    ensures structure { broken (types (defining (at 5 X) (structure (field_of (at 16 N) (named 20 X) ∷ [])) ∷ []) ∷ [])
+        ≡ breaks TooDeep 5 ∷ [] }
+    // the same by an array without a name
+    ensures by_an_array { broken (types (defining (at 5 X)
+        (structure (field_of (at 16 N) (Array (array_of 20 (pos 1) (pos 2) (Named (at 40 X)))) ∷ [])) ∷ []) ∷ [])
+        ≡ breaks TooDeep 5 ∷ breaks TooDeep 20 ∷ [] }
+    // FUNCTION F : INT F := F() ..: it calls itself
+    ensures function { broken (organised (Function (Elementary Int 13)) (at 9 F) [] (assign (name 17 F) (calling 22 F []) ∷ []) ∷ [])
+        ≡ breaks TooDeep 9 ∷ [] }
+    // two functions that call one another
+    ensures two_functions { broken (organised (Function (Elementary Int 13)) (at 9 F) [] (assign (name 17 F) (calling 22 M []) ∷ [])
+        ∷ organised (Function (Elementary Int 13)) (at 59 M) [] (assign (name 67 M) (calling 72 F []) ∷ []) ∷ [])
+        ≡ breaks TooDeep 9 ∷ breaks TooDeep 59 ∷ [] }
+    // a block that contains a block that contains the first
+    ensures blocks { broken (organised FunctionBlock (at 15 F) (block (Local None) (declaring (at 20 N) (named 24 M) ∷ []) ∷ []) []
+        ∷ organised FunctionBlock (at 65 M) (block (Local None) (declaring (at 70 N) (named 74 F) ∷ []) ∷ []) [] ∷ [])
+        ≡ breaks TooDeep 15 ∷ breaks TooDeep 65 ∷ [] }
+    // A block that calls a function is no part of it, and externals are no parts.
+    ensures no_cycle { broken (organised (Function (Elementary Int 13)) (at 9 F) [] []
+        ∷ organised FunctionBlock (at 65 M) (block External (declaring (at 70 N) (elementary Int) ∷ []) ∷ [])
+        (assign (name 87 N) (calling 92 F []) ∷ []) ∷ []) ≡ [] }
+{}
+
+/// A chain of structures, the last of which has an INT, each told with its length.
+pub fn depths()
+    // with the INT 64 deep
+    ensures deepest { broken (types (chain_of_types 63) ∷ []) ≡ [] }
+    // one more, and the first is too deep
+    ensures too_deep { broken (types (chain_of_types 64) ∷ []) ≡ breaks TooDeep 64 ∷ [] }
+{}

@@ -1,0 +1,111 @@
+//! Names, types and bounds of declarations.
+
+ghost use Rattle.std.specs.Prelude.{◌≡◌, ◌∷◌, [], pos, negsuc, codes, None, Some};
+ghost use Rattle.st_words.specs.declared.kind.Kind.TheVariants.{Int, Sint};
+ghost use Rattle.st_trees.specs.declared.data_type.SimpleType.TheVariants.{Elementary, Named};
+ghost use Rattle.st_trees.specs.declared.data_type.VariableType.TheVariants.{Array};
+ghost use Rattle.st_trees.specs.declared.declaration.Section.TheVariants.{Local, Input, Output, Constant, External};
+ghost use Rattle.st_trees.specs.declared.unit.UnitSort.TheVariants.{Function, FunctionBlock, Program};
+ghost use Rattle.st_trees.specs.declared.configuration.GlobalQualifier.TheVariants.{Retain, Constant as ConstantGlobal};
+ghost use Rattle.st_trees.specs.Declarations.{structure, array};
+ghost use Rattle.st_trees.specs.Sources.{types};
+ghost use Rattle.st_statics.specs.declared.rule.Rule.TheVariants.{UnknownName, DeclaredTwice, WrongType, OutOfRange};
+ghost use Rattle.st_statics.specs.declared.rule.Rule.TheVariants.{TooDeep, WrongBounds, RetainedAddress};
+ghost use Rattle.st_statics.specs.Rules.{broken};
+ghost use Rattle.st_statics.specs.ExampleWords.{breaks, at, digits, typed_digits, elementary, named, array_of, declaring};
+ghost use Rattle.st_statics.specs.ExampleWords.{starting, start_of, block, organised, defining, field_of, declares, local};
+ghost use Rattle.st_statics.specs.ExampleWords.{configured, located_at, tasked, N, M, B, F, X, P};
+ghost use Rattle.st_statics.specs.ExampleWords as words;
+
+/// Names that are declared twice, or taken.
+pub fn names()
+    // PROGRAM P VAR n : INT; n : INT; END_VAR
+    ensures again { broken (local (declaring (at 14 N) (elementary Int) ∷ declaring (at 24 N) (elementary Int) ∷ []))
+        ≡ breaks DeclaredTwice 24 ∷ [] }
+    // .. in another block of the unit
+    ensures in_another_block { broken (declares (block (Local None) (declaring (at 14 N) (elementary Int) ∷ [])
+        ∷ block External (declaring (at 44 N) (elementary Int) ∷ []) ∷ []))
+        ≡ breaks DeclaredTwice 44 ∷ [] }
+    // PROGRAM P VAR ABS : INT; p : INT; END_VAR
+    ensures taken { broken (local (declaring (at 14 (codes "ABS")) (elementary Int) ∷ declaring (at 24 P) (elementary Int) ∷ []))
+        ≡ breaks DeclaredTwice 14 ∷ breaks DeclaredTwice 24 ∷ [] }
+    // PROGRAM P VAR int_to_int : INT; END_VAR: no standard function
+    ensures free { broken (local (declaring (at 14 (codes "INT_TO_INT")) (elementary Int) ∷ [])) ≡ [] }
+    // a program and a block of one name
+    ensures two_units { broken (organised Program (at 8 P) [] [] ∷ organised FunctionBlock (at 50 P) [] [] ∷ [])
+        ≡ breaks DeclaredTwice 50 ∷ [] }
+    // PROGRAM TON END_PROGRAM
+    ensures standard { broken (organised Program (at 8 (codes "TON")) [] [] ∷ []) ≡ breaks DeclaredTwice 8 ∷ [] }
+    // TYPE x : STRUCT n : INT; n : INT; END_STRUCT; END_TYPE, and fields have a scope of their own
+    ensures fields { broken (types (defining (at 5 X) (structure (field_of (at 16 N) (elementary Int) ∷ field_of (at 26 N) (elementary Int)
+        ∷ field_of (at 36 X) (elementary Int) ∷ [])) ∷ []) ∷ []) ≡ breaks DeclaredTwice 26 ∷ [] }
+{}
+
+/// Types of declarations.
+pub fn kinds()
+    // PROGRAM P VAR n : foo; END_VAR
+    ensures unknown { broken (local (declaring (at 14 N) (named 18 (codes "FOO")) ∷ [])) ≡ breaks UnknownName 18 ∷ [] }
+    // PROGRAM P VAR n : ABS; END_VAR
+    ensures function { broken (local (declaring (at 14 N) (named 18 (codes "ABS")) ∷ [])) ≡ breaks WrongType 18 ∷ [] }
+    // PROGRAM P VAR f : TON; END_VAR
+    ensures instance { broken (local (declaring (at 14 F) (named 18 (codes "TON")) ∷ [])) ≡ [] }
+    // PROGRAM P VAR CONSTANT f : TON; END_VAR
+    ensures constant_instance { broken (declares (block Constant (declaring (at 24 F) (named 28 (codes "TON")) ∷ []) ∷ []))
+        ≡ breaks WrongType 28 ∷ [] }
+    // PROGRAM P VAR f : TON := 5; END_VAR
+    ensures instance_with_value { broken (local (starting (at 14 F) (named 18 (codes "TON")) (start_of 25 (pos 5)) ∷ []))
+        ≡ breaks WrongType 18 ∷ [] }
+    // PROGRAM P VAR a : ARRAY [1..2] OF TON; END_VAR
+    ensures array_of_instances { broken (local (declaring (at 14 N) (Array (array_of 18 (pos 1) (pos 2) (Named (at 34 (codes "TON"))))) ∷ []))
+        ≡ breaks WrongType 34 ∷ [] }
+    // TYPE x : STRUCT f : TON; END_STRUCT; END_TYPE
+    ensures field_instance { broken (types (defining (at 5 X) (structure (field_of (at 16 F) (named 20 (codes "TON")) ∷ [])) ∷ []) ∷ [])
+        ≡ breaks WrongType 20 ∷ [] }
+    // FUNCTION_BLOCK F VAR_INPUT f : TON; END_VAR, VAR_OUTPUT a : ARRAY [1..2] OF INT; END_VAR
+    ensures inputs_and_outputs { broken (organised FunctionBlock (at 15 F) (block (Input None) (declaring (at 30 N) (named 34 (codes "TON")) ∷ [])
+        ∷ block (Output None) (declaring (at 60 M) (words.array 64 (pos 1) (pos 2)) ∷ []) ∷ []) [] ∷ [])
+        ≡ breaks WrongType 34 ∷ breaks WrongType 34 ∷ breaks WrongType 64 ∷ [] }
+    // FUNCTION F : x .. where x is a structure, FUNCTION M : foo, FUNCTION N : TON
+    ensures results { broken (types (defining (at 5 X) (structure (field_of (at 16 N) (elementary Int) ∷ [])) ∷ [])
+        ∷ organised (Function (Named (at 53 X))) (at 50 F) [] []
+        ∷ organised (Function (Named (at 83 (codes "FOO")))) (at 80 M) [] []
+        ∷ organised (Function (Named (at 113 (codes "TON")))) (at 110 N) [] [] ∷ [])
+        ≡ breaks WrongType 53 ∷ breaks UnknownName 83 ∷ breaks WrongType 113 ∷ breaks WrongType 113 ∷ [] }
+    // FUNCTION F : INT VAR f : TON; END_VAR
+    ensures function_with_instance { broken (organised (Function (Elementary Int 0)) (at 9 F)
+        (block (Local None) (declaring (at 20 N) (named 24 (codes "TON")) ∷ []) ∷ []) [] ∷ [])
+        ≡ breaks WrongType 24 ∷ [] }
+{}
+
+/// Bounds of arrays.
+pub fn bounds()
+    // ARRAY [3..1]
+    ensures reversed { broken (local (declaring (at 14 N) (words.array 18 (pos 3) (pos 1)) ∷ [])) ≡ breaks WrongBounds 25 ∷ [] }
+    // ARRAY [1..4096]
+    ensures widest { broken (local (declaring (at 14 N) (words.array 18 (pos 1) (pos 4096)) ∷ [])) ≡ [] }
+    // ARRAY [0..4096]
+    ensures too_wide { broken (local (declaring (at 14 N) (words.array 18 (pos 0) (pos 4096)) ∷ [])) ≡ breaks WrongBounds 25 ∷ [] }
+    // ARRAY [-1..-1]
+    ensures one_element { broken (local (declaring (at 14 N) (words.array 18 (negsuc 0) (negsuc 0)) ∷ [])) ≡ [] }
+    // ARRAY [SINT#1..SINT#200]: judged within its own type
+    ensures typed { broken (local (declaring (at 14 N) (Array (record {
+      place = 18;
+      lower = typed_digits 25 Sint (pos 1);
+      upper = typed_digits 33 Sint (pos 200);
+      element = Elementary Int 0;
+    })) ∷ []))
+        ≡ breaks OutOfRange 33 ∷ [] }
+    // TYPE x : ARRAY [3..1] OF INT; END_TYPE
+    ensures named_type { broken (types (defining (at 5 X) (array (array_of 9 (pos 3) (pos 1) (Elementary Int 0))) ∷ []) ∷ [])
+        ≡ breaks WrongBounds 16 ∷ [] }
+{}
+
+/// Configurations.
+pub fn configurations()
+    // VAR_GLOBAL RETAIN s AT %IX0 : BOOL; END_VAR
+    ensures retained_address { broken (configured (Some Retain) (located_at 40 N ∷ []) (tasked 5)) ≡ breaks RetainedAddress 40 ∷ [] }
+    // VAR_GLOBAL s AT %IX0 : BOOL; END_VAR
+    ensures address { broken (configured None (located_at 40 N ∷ []) (tasked 65535)) ≡ [] }
+    // PRIORITY := 65536
+    ensures priority { broken (configured None [] (tasked 65536)) ≡ breaks OutOfRange 90 ∷ [] }
+{}
