@@ -27,7 +27,7 @@ module _ (inner other : VariableType → Shape) (within : VariableType → Bool)
 
 pub expanded_whole : (text : Declared) (n m : ℕ) (t : VariableType) → is_within_depth n text t ≡ true → n ≤ m
     → shape_within m text t ≡ shape_within n text t
-unfolding shape_within, is_within_depth
+unfolding shape_within is_within_depth
 expanded_whole text zero m t h le = absurd (cc)
 expanded_whole text (suc n) zero t h le = absurd (omega arith)
 expanded_whole text (suc n) (suc m) t h le =

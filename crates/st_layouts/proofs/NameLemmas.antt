@@ -24,7 +24,7 @@ use Rattle.st_types.specs.NameTypes.{Declared, is_named, type_named, unit_named,
 use Rattle.st_types.specs.Scopes.{Name, contains_name}
 use Rattle.st_types.specs.StandardBlocks.{StandardBlock, SR, RS, R_TRIG, F_TRIG, CTU, CTD, CTUD, TON, TOF, TP, block_of}
 use Rattle.st_types.specs.StandardBlocks.{members_of}
-use Rattle.st_layouts.specs.declared.limits.TheConstants.{MAX_TYPE_DEPTH}
+use Rattle.st_statics.specs.declared.limits.TheConstants.{MAX_TYPE_DEPTH}
 use Rattle.st_layouts.specs.Shapes.{Shape, has_name, is_sound, are_sound}
 use Rattle.st_layouts.specs.Types.{Site, NamedSite, site_of_member, BlockType}
 use Rattle.st_layouts.specs.Types.{block_type_of, own_block_type, block_type_named, instance_of, Composition, of_kind}

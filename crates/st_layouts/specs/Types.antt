@@ -23,7 +23,7 @@ use Rattle.st_types.specs.NameTypes.{Declared, type_named, unit_named, definitio
 use Rattle.st_types.specs.Operators.{number_of, natural}
 use Rattle.st_types.specs.Scopes.{Name}
 use Rattle.st_types.specs.StandardBlocks.{BlockMember, block_of, members_of}
-use Rattle.st_layouts.specs.declared.limits.TheConstants.{MAX_TYPE_DEPTH}
+use Rattle.st_statics.specs.declared.limits.TheConstants.{MAX_TYPE_DEPTH}
 use Rattle.st_layouts.specs.Shapes.{Whole, of_structure, of_instance, Shape, Parts, plain, array, parts, no_parts}
 use Rattle.st_layouts.specs.Shapes.{part_then}
 

@@ -21,7 +21,7 @@ ghost use Rattle.st_types.specs.Stores.{IsStore, get, shape_of, all_held};
 ghost use Rattle.st_plans.specs.Layouts.{variable_slot, input_slot};
 ghost use Rattle.st_plans.specs.Plans.{Plan, is_retained};
 ghost use Rattle.st_layouts.specs.Shapes.{Shape, Leaf, size, leaves_of, Position, position_of, leads_on, is_sound};
-ghost use Rattle.st_layouts.specs.declared.limits.TheConstants.{MAX_TYPE_DEPTH};
+ghost use Rattle.st_statics.specs.declared.limits.TheConstants.{MAX_TYPE_DEPTH};
 ghost use Rattle.st_layouts.specs.Types.{Site, shape_of_type, shape_within, is_within_depth};
 ghost use Rattle.st_layouts.specs.Sites.{initial_at, retained_at};
 ghost use Rattle.st_layouts.specs.LayoutVariables.{Owned, layout_variables, declared_of};

@@ -10,7 +10,6 @@
 pub mod examples;
 mod laws;
 mod libraries;
-mod limits;
 
 pub use laws::{
     initial_values_fill_the_layout, layouts_of_declared_variables, layouts_of_texts,
@@ -20,4 +19,3 @@ pub use libraries::{
     calls_find_the_units_of_a_text, functions_start_with_a_store,
     instances_have_the_members_of_their_blocks, programs_that_call_nothing,
 };
-pub use limits::MAX_TYPE_DEPTH;

@@ -1,4 +1,4 @@
-use Rattle.st_layouts.specs.declared.limits.TheConstants.{MAX_TYPE_DEPTH}
+use Rattle.st_statics.specs.declared.limits.TheConstants.{MAX_TYPE_DEPTH}
 use Rattle.st_layouts.proofs.SiteLemmas.{part_declared}
 use Rattle.st_layouts.proofs.laws.parts_are_declared.Goals as goal
 

@@ -1,4 +1,4 @@
-use Rattle.st_layouts.specs.declared.limits.TheConstants.{MAX_TYPE_DEPTH}
+use Rattle.st_statics.specs.declared.limits.TheConstants.{MAX_TYPE_DEPTH}
 use Rattle.st_layouts.proofs.DepthLemmas.{expanded_whole}
 use Rattle.st_layouts.proofs.laws.types_are_expanded_whole.Goals as goal
 
