@@ -1,0 +1,2 @@
+pub mod ShapeLemmas
+pub mod SeenLemmas

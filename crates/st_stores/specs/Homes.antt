@@ -1,0 +1,63 @@
+-- Where the names of a unit's body stand in a layout, and the values of its slots.
+use Rattle.std.specs.Prelude.{◌≡◌, ℕ, List, [], ◌∷◌, map, Bool, true, false, ◌&&◌, if◌then◌else◌, Option, Some, None}
+use Rattle.std.specs.Prelude.{option_and_then}
+use Rattle.std.specs.List.{list_all}
+use Rattle.st_words.specs.declared.path.Owner.{Owner}
+use Rattle.st_words.specs.declared.path.Step.{Step}
+use Rattle.st_words.specs.declared.path.Step.TheVariants.{Member, Element}
+use Rattle.st_words.specs.Kinds.{holds}
+use Rattle.st_words.specs.Values.{Datum}
+use Rattle.st_words.specs.Paths.{Path}
+use Rattle.st_trees.specs.declared.data_type.VariableType.{VariableType}
+use Rattle.st_types.specs.NameTypes.{Declared}
+use Rattle.st_types.specs.Scopes.{Name, Scope, path_in}
+use Rattle.st_types.specs.Slots.{Slot, AreOfTypes}
+use Rattle.st_statics.specs.Environments.{Environment, type_of_name, section_of}
+use Rattle.st_statics.specs.TargetRules.{is_fixed}
+use Rattle.st_layouts.specs.Shapes.{Shape, plain, array, parts, in_bounds, part_named}
+use Rattle.st_layouts.specs.Types.{shape_within, is_within_depth}
+use Rattle.st_layouts.specs.LayoutVariables.{Owned}
+use Rattle.st_layouts.specs.TextLayouts.{further, variable_shape}
+use Rattle.st_layouts.specs.Standing.{path_to, variable_at}
+use Rattle.st_layouts.specs.Names.{are_different, are_types_and_units_different}
+
+-- the shape of the part that steps lead to
+abbrev pub shape_behind : Shape → List Step → Option Shape
+shape_behind sh [] = Some sh
+shape_behind (plain k) (x ∷ xs) = None
+shape_behind (array lower count sh) (Member x ∷ xs) = None
+shape_behind (array lower count sh) (Element z ∷ xs) = if in_bounds lower count z then shape_behind sh xs else None
+shape_behind (parts w ps) (Member x ∷ xs) = option_and_then (λ sh. shape_behind sh xs) (part_named ps x)
+shape_behind (parts w ps) (Element z ∷ xs) = None
+
+-- The path leads to a part of a variable of the layout, which has the shape of the type; where it isn't fixed, this
+-- variable is no input of the plant.
+pub record IsHome (text : Declared) (variables : List Owned) (fixed : Bool) (p : Path) (t : VariableType)
+    : Type 0 where
+  pub owner : Option Owner
+  pub name : Name
+  pub steps : List Step
+  pub first : ℕ
+  pub variable : Owned
+  pub depth : ℕ
+  pub path : p ≡ further (path_to owner name) steps
+  pub there : variable_at text variables owner name ≡ Some (first, variable)
+  pub free : fixed ≡ false → variable.is_input ≡ false
+  pub within : is_within_depth depth text t ≡ true
+  pub shape : shape_behind (variable_shape text variable) steps ≡ Some (shape_within depth text t)
+
+-- each name of the unit stands for a part of the layout
+abbrev pub HasHomes : Environment → List Owned → Scope → Type 0
+HasHomes env variables w =
+    (x : Name) (t : VariableType) → type_of_name env x ≡ Some t
+    → IsHome env.text variables (is_fixed (section_of env x)) (path_in w.frame w.body x) t
+
+-- no two types of a text have one name, nor two fields of one structure or two variables of one unit
+abbrev pub are_names_different : Declared → Bool
+are_names_different text =
+    are_different (map (λ t. t.name.name) text.types) && are_types_and_units_different text
+
+-- values of slots, each of its slot's type and one that this type holds
+pub record AreValuesOf (layout : List Slot) (vs : List Datum) : Type 0 where
+  pub types : AreOfTypes layout vs
+  pub held : list_all (λ v. holds v.kind v.number) vs ≡ true
