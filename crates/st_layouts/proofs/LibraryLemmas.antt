@@ -39,7 +39,7 @@ use Rattle.st_layouts.proofs.VariableLemmas.{variables_layout}
 use Rattle.st_layouts.proofs.StoreLemmas.{initial_store_is}
 
 -- an enumerated type is a type of its name
-no_enumeration : (n : ℕ) (ts : List TypeDeclaration) (x : Name) → type_named ts x ≡ None
+pub no_enumeration : (n : ℕ) (ts : List TypeDeclaration) (x : Name) → type_named ts x ≡ None
     → enumeration_named (enumerations_from n ts) x ≡ None
 no_enumeration n [] x h = refl
 no_enumeration n (t ∷ ts) x h =

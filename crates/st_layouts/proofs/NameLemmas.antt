@@ -59,7 +59,7 @@ found_type (t ∷ ts) all x d h =
     by_test true g here ih = let e : t.definition ≡ d = cc in ap has_different_fields (sym e) ∙ here
     by_test false g here ih = ih g
 
-found_unit : (us : List OrganisationUnit) → list_all has_different_variables us ≡ true → (x : Name)
+pub found_unit : (us : List OrganisationUnit) → list_all has_different_variables us ≡ true → (x : Name)
     → (u : OrganisationUnit) → unit_named us x ≡ Some u → has_different_variables u ≡ true
 found_unit [] all x u h = absurd (cc)
 found_unit (v ∷ us) all x u h =
@@ -81,7 +81,7 @@ abbrev members_differ : Option BlockType → Bool
 members_differ None = true
 members_differ (Some b) = are_different (names_of_sites b.members)
 
-standard_members : (b : StandardBlock) → are_different (names_of_sites (map site_of_member (members_of b))) ≡ true
+pub standard_members : (b : StandardBlock) → are_different (names_of_sites (map site_of_member (members_of b))) ≡ true
 standard_members SR = refl
 standard_members RS = refl
 standard_members R_TRIG = refl

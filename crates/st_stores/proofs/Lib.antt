@@ -1,2 +1,3 @@
 pub mod ShapeLemmas
 pub mod SeenLemmas
+pub mod MemberLemmas
