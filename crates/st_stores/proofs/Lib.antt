@@ -1,3 +1,4 @@
 pub mod ShapeLemmas
 pub mod SeenLemmas
 pub mod MemberLemmas
+pub mod AgreementLemmas
