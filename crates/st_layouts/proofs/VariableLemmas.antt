@@ -44,7 +44,7 @@ variable_is o x v h =
     let b = both (same_owner o v.owner) (bytes_eq x v.name) h in
     ap₂ path_to (owner_is o v.owner b.0) (same_name x v.name b.1)
 
-variable_itself : (v : Owned) → is_named_so v.owner v.name v ≡ true
+pub variable_itself : (v : Owned) → is_named_so v.owner v.name v ≡ true
 variable_itself v =
     both_are (same_owner v.owner v.owner) (bytes_eq v.name v.name) (owner_itself v.owner) (name_itself v.name)
 

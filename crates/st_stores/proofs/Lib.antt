@@ -2,3 +2,4 @@ pub mod ShapeLemmas
 pub mod SeenLemmas
 pub mod MemberLemmas
 pub mod AgreementLemmas
+pub mod HomeLemmas

@@ -93,7 +93,7 @@ found_later (a ∷ cs) bs d x s h =
         absurd (cc)
     by_test false e absent present f = f
 
-found_first : (cs bs : List NamedSite) (x : Name) (s : Site) → site_named cs x ≡ Some s
+pub found_first : (cs bs : List NamedSite) (x : Name) (s : Site) → site_named cs x ≡ Some s
     → site_named (cs ++ bs) x ≡ Some s
 found_first [] bs x s h = absurd (cc)
 found_first (a ∷ cs) bs x s h = by_test (bytes_eq x a.name) h (found_first cs bs x s)
@@ -169,7 +169,7 @@ named_declared s (y ∷ ys) x h = by_test (is_named x y) h (named_declared s ys 
     by_test true e ih = refl
     by_test false e ih = ih e
 
-not_named : (s : Site) (xs : List Identifier) (rest : List NamedSite) (x : Name) → list_any (is_named x) xs ≡ false
+pub not_named : (s : Site) (xs : List Identifier) (rest : List NamedSite) (x : Name) → list_any (is_named x) xs ≡ false
     → site_named (map (with_site s) xs ++ rest) x ≡ site_named rest x
 not_named s [] rest x h = refl
 not_named s (y ∷ ys) rest x h =

@@ -8,15 +8,22 @@ use Rattle.st_words.specs.declared.path.Step.TheVariants.{Member, Element}
 use Rattle.st_words.specs.Kinds.{holds}
 use Rattle.st_words.specs.Values.{Datum}
 use Rattle.st_words.specs.Paths.{Path}
+use Rattle.st_trees.specs.declared.configuration.Instance.{Instance}
 use Rattle.st_trees.specs.declared.data_type.VariableType.{VariableType}
-use Rattle.st_types.specs.NameTypes.{Declared}
-use Rattle.st_types.specs.Scopes.{Name, Scope, path_in}
+use Rattle.st_trees.specs.declared.unit.UnitSort.TheVariants.{Program}
+use Rattle.st_trees.specs.Configurations.{Resource, Configuration}
+use Rattle.st_trees.specs.Units.{OrganisationUnit}
+use Rattle.st_types.specs.Bodies.{externals_in}
+use Rattle.st_types.specs.NameTypes.{Declared, unit_named, variable_type}
+use Rattle.st_types.specs.Scopes.{Name, Frame, Scope, path_in, unowned, contains_name}
 use Rattle.st_types.specs.Slots.{Slot, AreOfTypes}
 use Rattle.st_statics.specs.Environments.{Environment, type_of_name, section_of}
 use Rattle.st_statics.specs.TargetRules.{is_fixed}
 use Rattle.st_layouts.specs.Shapes.{Shape, plain, array, parts, in_bounds, part_named}
 use Rattle.st_layouts.specs.Types.{shape_within, is_within_depth}
-use Rattle.st_layouts.specs.LayoutVariables.{Owned}
+use Rattle.st_statics.specs.declared.limits.TheConstants.{MAX_TYPE_DEPTH}
+use Rattle.st_layouts.specs.LayoutVariables.{Owned, owner_in}
+use Rattle.st_layouts.specs.Libraries.{body_of_unit}
 use Rattle.st_layouts.specs.TextLayouts.{further, variable_shape}
 use Rattle.st_layouts.specs.Standing.{path_to, variable_at}
 use Rattle.st_layouts.specs.Names.{are_different, are_types_and_units_different}
@@ -61,3 +68,34 @@ are_names_different text =
 pub record AreValuesOf (layout : List Slot) (vs : List Datum) : Type 0 where
   pub types : AreOfTypes layout vs
   pub held : list_all (λ v. holds v.kind v.number) vs ≡ true
+
+-- one of a list
+pub data IsAmong {A : Type 0} : A → List A → Type 0 where
+  here : {a : A} {rest : List A} → IsAmong a (a ∷ rest)
+  further_on : {a b : A} {rest : List A} → IsAmong a rest → IsAmong a (b ∷ rest)
+
+-- an instance of a configuration, whose program is this unit
+pub record IsInstanceOf (text : Declared) (c : Configuration) (owner : Owner) (u : OrganisationUnit) : Type 0 where
+  pub resource : Resource
+  pub instance : Instance
+  pub is_resource : IsAmong resource c.resources
+  pub is_instance : IsAmong instance resource.instances
+  pub owned : owner ≡ owner_in resource.name.name instance
+  pub named : unit_named text.units instance.program.name ≡ Some u
+  pub program : u.sort ≡ Program
+
+abbrev pub environment_of : Declared → OrganisationUnit → Environment
+environment_of text u = record { text = text; unit = u }
+
+-- No type of the unit's variables is too deep, and each external stands for a global of its type.
+pub record IsGrounded (text : Declared) (variables : List Owned) (u : OrganisationUnit) : Type 0 where
+  pub depths : (x : Name) (t : VariableType) → variable_type u x ≡ Some t
+      → is_within_depth MAX_TYPE_DEPTH text t ≡ true
+  pub externals : (x : Name) (t : VariableType) → contains_name (externals_in u.blocks) x ≡ true
+      → variable_type u x ≡ Some t
+      → IsHome text variables (is_fixed (section_of (environment_of text u) x)) (unowned x) t
+
+-- where a body runs: the names of this frame and of the unit's body, whatever the units do and the moment is
+pub record RunsIn (text : Declared) (u : OrganisationUnit) (frame : Frame) (w : Scope) : Type 0 where
+  pub names_of : w.frame ≡ frame
+  pub body : w.body ≡ body_of_unit text u

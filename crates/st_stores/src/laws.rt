@@ -1,0 +1,37 @@
+//! Laws of stores over the slots of a layout.
+
+ghost use Rattle.std.specs.Prelude.{◌≡◌, List, Option, Some, true};
+ghost use Rattle.st_words.specs.Values.{Datum};
+ghost use Rattle.st_words.specs.declared.path.Owner.{Owner};
+ghost use Rattle.st_trees.specs.Configurations.{Configuration};
+ghost use Rattle.st_trees.specs.Units.{OrganisationUnit};
+ghost use Rattle.st_types.specs.NameTypes.{Declared};
+ghost use Rattle.st_types.specs.Scopes.{Scope, of_program};
+ghost use Rattle.st_types.specs.Slots.{variables_in, inputs_in};
+ghost use Rattle.st_statics.specs.Environments.{Environment};
+ghost use Rattle.st_sound.specs.Soundness.{Agrees};
+ghost use Rattle.st_layouts.specs.LayoutVariables.{Owned, variables_of_configuration};
+ghost use Rattle.st_layouts.specs.Names.{are_types_and_units_different, is_configuration_different};
+ghost use Rattle.st_layouts.specs.TextLayouts.{slots_of};
+ghost use Rattle.st_layouts.specs.Standing.{are_declared_once};
+ghost use Rattle.st_stores.specs.Homes.{HasHomes, are_names_different, AreValuesOf, IsInstanceOf, IsGrounded};
+ghost use Rattle.st_stores.specs.Homes.{RunsIn, environment_of};
+
+/// Where the names of a unit stand for parts of a layout, each place of the unit that has an elementary or enumerated
+/// type has a value of it, over all values of the layout's slots that are of their types.
+pub fn values_of_slots_agree()
+    ensures { (env : Environment) (variables : List Owned) (w : Scope) (vs : List Datum)
+        → are_names_different env.text ≡ true → are_declared_once env.text variables ≡ true
+        → AreValuesOf (slots_of env.text variables) vs → w.image ≡ inputs_in (slots_of env.text variables) vs
+        → HasHomes env variables w → Agrees env w (variables_in (slots_of env.text variables) vs) }
+{}
+
+/// The names of a program's body stand for the variables of its instance and for globals: where names differ, no type is
+/// too deep and each external stands for a global of its type.
+pub fn programs_stand_in_their_layout()
+    ensures { (text : Declared) (c : Configuration) (owner : Owner) (u : OrganisationUnit) (w : Scope)
+        → are_types_and_units_different text ≡ true → is_configuration_different (Some c) ≡ true
+        → IsInstanceOf text c owner u → IsGrounded text (variables_of_configuration text (Some c)) u
+        → RunsIn text u (of_program owner) w
+        → HasHomes (environment_of text u) (variables_of_configuration text (Some c)) w }
+{}
