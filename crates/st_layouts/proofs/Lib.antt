@@ -8,3 +8,4 @@ pub mod StoreLemmas
 pub mod ValueLemmas
 pub mod LibraryLemmas
 pub mod DepthLemmas
+pub mod ResolvedLemmas

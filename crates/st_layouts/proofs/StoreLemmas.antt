@@ -108,7 +108,7 @@ pub unwritten_value : (text : Declared) (s : Site) (k : Kind) → s.initial ≡ 
 unwritten_value text s k e = ap (initial_value k) (ap (constant_of k) e)
 
 -- variables and inputs by their slots
-map_append : {A B : Type 0} (f : A → B) (xs ys : List A) → map f (xs ++ ys) ≡ map f xs ++ map f ys
+pub map_append : {A B : Type 0} (f : A → B) (xs ys : List A) → map f (xs ++ ys) ≡ map f xs ++ map f ys
 map_append f [] ys = refl
 map_append f (x ∷ xs) ys = ap (λ zs. f x ∷ zs) (map_append f xs ys)
 
