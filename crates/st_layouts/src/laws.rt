@@ -13,7 +13,7 @@ ghost use Rattle.st_words.specs.Paths.{begins_with, is_within};
 ghost use Rattle.st_trees.specs.Initials.{constant};
 ghost use Rattle.st_trees.specs.declared.data_type.VariableType.{VariableType};
 ghost use Rattle.st_trees.specs.Sources.{Source};
-ghost use Rattle.st_types.specs.NameTypes.{Declared};
+ghost use Rattle.st_types.specs.NameTypes.{Declared, declared_in};
 ghost use Rattle.st_types.specs.Operators.{value_of_literal};
 ghost use Rattle.st_types.specs.Scopes.{Name};
 ghost use Rattle.st_types.specs.Slots.{Slot, IsLayout};
@@ -24,7 +24,8 @@ ghost use Rattle.st_layouts.specs.Shapes.{Shape, Leaf, size, leaves_of, Position
 ghost use Rattle.st_statics.specs.declared.limits.TheConstants.{MAX_TYPE_DEPTH};
 ghost use Rattle.st_layouts.specs.Types.{Site, shape_of_type, shape_within, is_within_depth};
 ghost use Rattle.st_layouts.specs.Sites.{initial_at, retained_at};
-ghost use Rattle.st_layouts.specs.LayoutVariables.{Owned, layout_variables, declared_of};
+ghost use Rattle.st_layouts.specs.LayoutVariables.{Owned, layout_variables, declared_of, configurations_in};
+ghost use Rattle.st_layouts.specs.LayoutVariables.{only_configuration, variables_of_configuration};
 ghost use Rattle.st_layouts.specs.TextLayouts.{further, variable_shape, slots_of, slots_of_variable, plan_variables_of};
 ghost use Rattle.st_layouts.specs.TextLayouts.{plan_inputs_of};
 ghost use Rattle.st_layouts.specs.TextLayouts.{variable_slots, input_slots, types_of_slots, initial_values};
@@ -104,6 +105,12 @@ pub fn initial_values_fill_the_layout()
     ensures types { (text : Declared) (vs : List Owned) → shape_of (initial_values (plan_variables_of text vs))
         ≡ types_of_slots (variable_slots (slots_of text vs)) }
     ensures held { (text : Declared) (vs : List Owned) → all_held (initial_values (plan_variables_of text vs)) ≡ true }
+{}
+
+/// Slots hang on no literal: those of a text are the ones that it has as it is parsed.
+pub fn slots_hang_on_no_literal()
+    ensures { (source : Source) → slots_of_text source ≡ slots_of (declared_in source)
+        (variables_of_configuration (declared_in source) (only_configuration (configurations_in source))) }
 {}
 
 /// In a text whose names stand once in their scopes each path of the layout stands once, and the initial values are a

@@ -29,7 +29,6 @@ use Rattle.st_layouts.specs.LayoutVariables.{owner_in, variables_of_instances, v
 use Rattle.st_layouts.specs.LayoutVariables.{variables_of_configuration}
 use Rattle.st_layouts.specs.TextLayouts.{further, variable_shape}
 use Rattle.st_layouts.specs.Standing.{path_to, is_named_so, has_variable, are_declared_once, later, variable_at}
-use Rattle.st_layouts.specs.Libraries.{body_of_unit}
 use Rattle.st_layouts.proofs.ListLemmas.{same_name, some_is, both, turned, neither, or_later, any_append}
 use Rattle.st_layouts.proofs.VariableLemmas.{variable_is, variable_itself}
 use Rattle.st_stores.specs.Homes.{IsHome, HasHomes, IsAmong, here, further_on, IsInstanceOf, environment_of, IsGrounded}
@@ -222,7 +221,7 @@ module _ (text : Declared) (c : Configuration) (owner : Owner) (u : Organisation
 
   module _ (once : are_declared_once text (variables_of_configuration text (Some c)) ≡ true)
       (grounded : IsGrounded text (variables_of_configuration text (Some c)) u) (w : Scope)
-      (runs : RunsIn text u (of_program owner) w) where
+      (runs : RunsIn u (of_program owner) w) where
     own_home : (x : Name) (t : VariableType) (fixed : Bool) → variable_type u x ≡ Some t
         → contains_name (externals_in u.blocks) x ≡ false
         → IsHome text (variables_of_configuration text (Some c)) fixed (own_path (of_program owner) x) t
@@ -247,7 +246,7 @@ module _ (text : Declared) (c : Configuration) (owner : Owner) (u : Organisation
     path_of : (x : Name) (b : Bool) → contains_name (externals_in u.blocks) x ≡ b
         → path_in w.frame w.body x ≡ (if b then unowned x else own_path (of_program owner) x)
     path_of x b e =
-        ap₂ (λ f body. path_in f body x) runs.names_of runs.body
+        ap₂ (λ f xs. if contains_name xs x then unowned x else own_path f x) runs.names_of runs.externals
         ∙ ap (λ c. if c then unowned x else own_path (of_program owner) x) e
 
     pub program_homes : HasHomes (environment_of text u) (variables_of_configuration text (Some c)) w

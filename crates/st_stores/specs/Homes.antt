@@ -13,20 +13,21 @@ use Rattle.st_trees.specs.declared.data_type.VariableType.{VariableType}
 use Rattle.st_trees.specs.declared.unit.UnitSort.TheVariants.{Program}
 use Rattle.st_trees.specs.Configurations.{Resource, Configuration}
 use Rattle.st_trees.specs.Units.{OrganisationUnit}
+use Rattle.st_trees.specs.Sources.{Source}
 use Rattle.st_types.specs.Bodies.{externals_in}
-use Rattle.st_types.specs.NameTypes.{Declared, unit_named, variable_type}
-use Rattle.st_types.specs.Scopes.{Name, Frame, Scope, path_in, unowned, contains_name}
+use Rattle.st_types.specs.NameTypes.{Declared, declared_in, unit_named, variable_type}
+use Rattle.st_types.specs.Scopes.{Name, Frame, of_program, Scope, path_in, unowned, contains_name}
 use Rattle.st_types.specs.Slots.{Slot, AreOfTypes}
 use Rattle.st_statics.specs.Environments.{Environment, type_of_name, section_of}
 use Rattle.st_statics.specs.TargetRules.{is_fixed}
 use Rattle.st_layouts.specs.Shapes.{Shape, plain, array, parts, in_bounds, part_named}
 use Rattle.st_layouts.specs.Types.{shape_within, is_within_depth}
 use Rattle.st_statics.specs.declared.limits.TheConstants.{MAX_TYPE_DEPTH}
-use Rattle.st_layouts.specs.LayoutVariables.{Owned, owner_in}
-use Rattle.st_layouts.specs.Libraries.{body_of_unit}
+use Rattle.st_layouts.specs.LayoutVariables.{Owned, owner_in, configurations_in, only_configuration}
+use Rattle.st_layouts.specs.LayoutVariables.{variables_of_configuration}
 use Rattle.st_layouts.specs.TextLayouts.{further, variable_shape}
 use Rattle.st_layouts.specs.Standing.{path_to, variable_at}
-use Rattle.st_layouts.specs.Names.{are_different, are_types_and_units_different}
+use Rattle.st_layouts.specs.Names.{are_different, are_types_and_units_different, is_configuration_different}
 
 -- the shape of the part that steps lead to
 abbrev pub shape_behind : Shape → List Step → Option Shape
@@ -95,7 +96,19 @@ pub record IsGrounded (text : Declared) (variables : List Owned) (u : Organisati
       → variable_type u x ≡ Some t
       → IsHome text variables (is_fixed (section_of (environment_of text u) x)) (unowned x) t
 
--- where a body runs: the names of this frame and of the unit's body, whatever the units do and the moment is
-pub record RunsIn (text : Declared) (u : OrganisationUnit) (frame : Frame) (w : Scope) : Type 0 where
+-- where a body of the unit runs: its names are those of this frame and its externals, whatever the units do, the body is
+-- and the moment is
+pub record RunsIn (u : OrganisationUnit) (frame : Frame) (w : Scope) : Type 0 where
   pub names_of : w.frame ≡ frame
-  pub body : w.body ≡ body_of_unit text u
+  pub externals : w.body.externals ≡ externals_in u.blocks
+
+-- where an instance of a program of a text runs, whose names differ and whose variables and externals are in order
+pub record IsProgramRun (source : Source) (u : OrganisationUnit) (w : Scope) : Type 0 where
+  pub configuration : Configuration
+  pub owner : Owner
+  pub only : only_configuration (configurations_in source) ≡ Some configuration
+  pub names : are_names_different (declared_in source) ≡ true
+  pub scopes : is_configuration_different (Some configuration) ≡ true
+  pub instance : IsInstanceOf (declared_in source) configuration owner u
+  pub grounded : IsGrounded (declared_in source) (variables_of_configuration (declared_in source) (Some configuration)) u
+  pub runs : RunsIn u (of_program owner) w

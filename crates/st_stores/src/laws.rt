@@ -5,17 +5,18 @@ ghost use Rattle.st_words.specs.Values.{Datum};
 ghost use Rattle.st_words.specs.declared.path.Owner.{Owner};
 ghost use Rattle.st_trees.specs.Configurations.{Configuration};
 ghost use Rattle.st_trees.specs.Units.{OrganisationUnit};
-ghost use Rattle.st_types.specs.NameTypes.{Declared};
+ghost use Rattle.st_trees.specs.Sources.{Source};
+ghost use Rattle.st_types.specs.NameTypes.{Declared, declared_in};
 ghost use Rattle.st_types.specs.Scopes.{Scope, of_program};
 ghost use Rattle.st_types.specs.Slots.{variables_in, inputs_in};
 ghost use Rattle.st_statics.specs.Environments.{Environment};
 ghost use Rattle.st_sound.specs.Soundness.{Agrees};
 ghost use Rattle.st_layouts.specs.LayoutVariables.{Owned, variables_of_configuration};
 ghost use Rattle.st_layouts.specs.Names.{are_types_and_units_different, is_configuration_different};
-ghost use Rattle.st_layouts.specs.TextLayouts.{slots_of};
+ghost use Rattle.st_layouts.specs.TextLayouts.{slots_of, slots_of_text};
 ghost use Rattle.st_layouts.specs.Standing.{are_declared_once};
 ghost use Rattle.st_stores.specs.Homes.{HasHomes, are_names_different, AreValuesOf, IsInstanceOf, IsGrounded};
-ghost use Rattle.st_stores.specs.Homes.{RunsIn, environment_of};
+ghost use Rattle.st_stores.specs.Homes.{RunsIn, environment_of, IsProgramRun};
 
 /// Where the names of a unit stand for parts of a layout, each place of the unit that has an elementary or enumerated
 /// type has a value of it, over all values of the layout's slots that are of their types.
@@ -32,6 +33,14 @@ pub fn programs_stand_in_their_layout()
     ensures { (text : Declared) (c : Configuration) (owner : Owner) (u : OrganisationUnit) (w : Scope)
         → are_types_and_units_different text ≡ true → is_configuration_different (Some c) ≡ true
         → IsInstanceOf text c owner u → IsGrounded text (variables_of_configuration text (Some c)) u
-        → RunsIn text u (of_program owner) w
+        → RunsIn u (of_program owner) w
         → HasHomes (environment_of text u) (variables_of_configuration text (Some c)) w }
+{}
+
+/// Over any values of a text's slots, of their types, what a program of the text names has a value of its type. So the
+/// laws of well-typed expressions and assignments hold of its runs.
+pub fn programs_agree_with_their_layout()
+    ensures { (source : Source) (u : OrganisationUnit) (w : Scope) (vs : List Datum) → IsProgramRun source u w
+        → AreValuesOf (slots_of_text source) vs → w.image ≡ inputs_in (slots_of_text source) vs
+        → Agrees (environment_of (declared_in source) u) w (variables_in (slots_of_text source) vs) }
 {}

@@ -7,4 +7,6 @@
 
 mod laws;
 
-pub use laws::{programs_stand_in_their_layout, values_of_slots_agree};
+pub use laws::{
+    programs_agree_with_their_layout, programs_stand_in_their_layout, values_of_slots_agree,
+};
