@@ -1,5 +1,6 @@
 -- Slots hang on no literal: the layout of a text is that of the text as it was parsed, but for its initial values.
-use Rattle.std.proofs.Common.{◌≡◌, ℕ, zero, suc, ◌+◌, ℤ, pos, ◌+ℤ◌, ◌-ℤ◌, Bool, true, false, if◌then◌else◌, List, [], ◌∷◌, ◌++◌}
+use Rattle.std.proofs.Common.{◌≡◌, ℕ, zero, suc, ◌+◌, ℤ, pos, ◌+ℤ◌, ◌-ℤ◌, Bool, true, false, if◌then◌else◌, List, []}
+use Rattle.std.proofs.Common.{◌∷◌, ◌++◌}
 use Rattle.std.proofs.Common.{map, Option, Some, None, option_map, refl, sym, ap, ap₂, ◌∙◌}
 use Rattle.std.specs.Prelude.{bytes_eq, is_none}
 use Rattle.st_words.specs.declared.identifier.Identifier.{Identifier}
@@ -29,7 +30,8 @@ use Rattle.st_types.specs.NameTypes.{definition_of, kind_among}
 use Rattle.st_types.specs.Operators.{number_of, natural}
 use Rattle.st_types.specs.Resolution.{taken_kind, taking_number}
 use Rattle.st_types.specs.ResolvedUnits.{resolved_array, resolved_type, resolved_declaration, resolved_block, resolved}
-use Rattle.st_types.specs.ResolvedUnits.{resolved_field, resolved_definition, resolved_type_declaration, resolved_global}
+use Rattle.st_types.specs.ResolvedUnits.{resolved_field, resolved_definition, resolved_type_declaration}
+use Rattle.st_types.specs.ResolvedUnits.{resolved_global}
 use Rattle.st_types.specs.ResolvedUnits.{resolved_globals, resolved_element_of_text, resolved_source}
 use Rattle.st_types.specs.Scopes.{Name}
 use Rattle.st_types.specs.Slots.{Slot}

@@ -76,6 +76,9 @@ both_with_initial x y t i = record { names = identifier x ∷ identifier y ∷ [
 abbrev pub amount : ℕ → Initial
 amount n = initially None n
 
+abbrev pub typed_amount : Kind → ℕ → Initial
+typed_amount k n = constant (literals.Number (record (plain_number None n) { written = Some k }))
+
 abbrev pub named_value : Name → Initial
 named_value x = constant (literals.Enumerated (record { place = 0; type_name = None; name = x }))
 

@@ -6,7 +6,8 @@ ghost use Rattle.st_words.specs.declared.literal.Literal.TheVariants as literals
 ghost use Rattle.st_trees.specs.declared.data_type.SimpleType.TheVariants.{Elementary};
 ghost use Rattle.st_trees.specs.Initials.{constant, single, repeated};
 ghost use Rattle.st_types.specs.ResolutionExamples.{of_type, plain_number};
-ghost use Rattle.st_layouts.specs.LayoutExamples.{plain, array_of, array_from_below, named, without_initial};
+ghost use Rattle.st_layouts.specs.LayoutExamples.{typed_amount, plain, array_of, array_from_below, named};
+ghost use Rattle.st_layouts.specs.LayoutExamples.{without_initial};
 ghost use Rattle.st_layouts.specs.LayoutExamples.{with_initial, both_with_initial, amount, named_value, times};
 ghost use Rattle.st_layouts.specs.LayoutExamples.{default_times, listing, with_fields, field, field_with};
 ghost use Rattle.st_layouts.specs.LayoutExamples.{structure_of, variables_text, values_in, int, datum};
@@ -116,10 +117,10 @@ pub fn values_of_enumerated_types()
 /// What is no value of the variable's type is no initial value: no well-typed text has one.
 #[tactic(auto, unfolding(crate::specs::Types::shape_within, st_types::specs::StandardBlocks::block_of))]
 pub fn values_that_do_not_fit()
-    // n : INT := TRUE; m : INT := 40000; k : INT := [1]; a : ARRAY [0..0] OF INT := 1;
+    // n : INT := TRUE; m : INT := 40000; k : INT := [1]; a : ARRAY [0..0] OF INT := INT#1;
     ensures { values_in (variables_text [] (with_initial (codes "N") (plain Int) (constant (literals.Truth 0 true))
         ∷ with_initial (codes "M") (plain Int) (amount 40000)
         ∷ with_initial (codes "K") (plain Int) (listing (single (amount 1) ∷ []))
-        ∷ with_initial (codes "A") (array_of 0 0 (Elementary Int 0)) (amount 1) ∷ []))
+        ∷ with_initial (codes "A") (array_of 0 0 (Elementary Int 0)) (typed_amount Int 1) ∷ []))
         ≡ (codes "R/P.N", int 0) ∷ (codes "R/P.M", int 0) ∷ (codes "R/P.K", int 0) ∷ (codes "R/P.A[0]", int 0) ∷ [] }
 {}
