@@ -59,12 +59,12 @@ shape_named inner (d ∷ ds) x s h = by_test (bytes_eq x d.name) h (shape_named 
     by_test false e ih = ih e
 
 -- what stands behind a step, of a type that is at most so many deep
-record IsBehind (text : Declared) (sub : Shape) (x : Step) (u : VariableType) : Type 0 where
-  depth : ℕ
-  within : is_within_depth depth text u ≡ true
-  shape : shape_behind sub (x ∷ []) ≡ Some (shape_within depth text u)
+pub record IsBehind (text : Declared) (sub : Shape) (x : Step) (u : VariableType) : Type 0 where
+  pub depth : ℕ
+  pub within : is_within_depth depth text u ≡ true
+  pub shape : shape_behind sub (x ∷ []) ≡ Some (shape_within depth text u)
 
-behind_member : (text : Declared) (t : VariableType) (y : Name) (u : VariableType) → IsPart text t y u → (n : ℕ)
+pub behind_member : (text : Declared) (t : VariableType) (y : Name) (u : VariableType) → IsPart text t y u → (n : ℕ)
     → is_within_depth n text t ≡ true → IsBehind text (shape_within n text t) (Member y) u
 unfolding shape_within is_within_depth
 behind_member text t y u i zero h = absurd (cc)

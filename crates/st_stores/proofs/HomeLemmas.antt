@@ -45,7 +45,7 @@ among_right : {A : Type 0} {a : A} (cs ds : List A) → IsAmong a ds → IsAmong
 among_right [] ds i = i
 among_right (c ∷ cs) ds i = further_on (among_right cs ds i)
 
-among_map : {A B : Type 0} (f : A → B) {a : A} (cs : List A) → IsAmong a cs → IsAmong (f a) (map f cs)
+pub among_map : {A B : Type 0} (f : A → B) {a : A} (cs : List A) → IsAmong a cs → IsAmong (f a) (map f cs)
 among_map f [] i = elim i [ ]
 among_map f (c ∷ cs) here = here
 among_map f (c ∷ cs) (further_on i) = further_on (among_map f cs i)
@@ -156,7 +156,7 @@ own_site (b ∷ bs) x t h e = by_section (is_external b.section) e (own_site bs 
         in_block (retention_of b.section) (type_in b.declarations x) refl h (λ k. ih k g)
 
 -- which stands among the variables of the layout
-site_among : (ds : List NamedSite) (x : Name) (s : Site) → site_named ds x ≡ Some s
+pub site_among : (ds : List NamedSite) (x : Name) (s : Site) → site_named ds x ≡ Some s
     → IsAmong (record { name = x; site = s }) ds
 site_among [] x s h = absurd (cc)
 site_among (d ∷ ds) x s h = by_test (bytes_eq x d.name) refl h (site_among ds x s)

@@ -3,3 +3,4 @@ pub mod SeenLemmas
 pub mod MemberLemmas
 pub mod AgreementLemmas
 pub mod HomeLemmas
+pub mod UnitHomeLemmas

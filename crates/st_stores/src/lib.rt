@@ -8,5 +8,5 @@
 mod laws;
 
 pub use laws::{
-    programs_agree_with_their_layout, programs_stand_in_their_layout, values_of_slots_agree,
+    blocks_stand_in_their_instances, functions_stand_in_their_calls, programs_agree_with_their_layout, programs_stand_in_their_layout, values_of_slots_agree,
 };
