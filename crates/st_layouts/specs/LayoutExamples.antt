@@ -301,15 +301,19 @@ types_that_are_none = text_of [] (
 
 -- PROGRAM Add VAR_EXTERNAL n : INT; END_VAR n := n + 1; END_PROGRAM with VAR_GLOBAL RETAIN n : INT; END_VAR and
 -- VAR_GLOBAL k : INT := 7; END_VAR, and the instance P of Add on R
-abbrev pub adding : Source
-adding = text_of [] (
-    unit_with sorts.Program (codes "ADD")
+abbrev pub adder : OrganisationUnit
+adder = unit_with sorts.Program (codes "ADD")
     (variables_in sections.External (without_initial (codes "N") (plain Int) ∷ []) ∷ [])
     (set (codes "N") (binary Add (name (codes "N")) (untyped (pos 1))) ∷ [])
-    ∷ []) (configured (
-    globals_of (Some qualifiers.Retain) (global (codes "N") (plain Int) None ∷ [])
-    ∷ globals_of None (global (codes "K") (plain Int) (Some (amount 7)) ∷ [])
-    ∷ []) (resource (codes "R") (instance (codes "P") (codes "ADD") ∷ []) ∷ []))
+
+abbrev pub adder_configuration : Configuration
+adder_configuration = configured (
+  globals_of (Some qualifiers.Retain) (global (codes "N") (plain Int) None ∷ [])
+  ∷ globals_of None (global (codes "K") (plain Int) (Some (amount 7)) ∷ [])
+  ∷ []) (resource (codes "R") (instance (codes "P") (codes "ADD") ∷ []) ∷ [])
+
+abbrev pub adding : Source
+adding = text_of [] (adder ∷ []) adder_configuration
 
 -- the layout text of a record
 abbrev pub text_in : Source → List ℕ

@@ -5,6 +5,7 @@
 //! contracts are the laws.
 #![tactic(auto)]
 
+pub mod examples;
 mod laws;
 
 pub use laws::{
