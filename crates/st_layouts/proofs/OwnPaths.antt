@@ -1,5 +1,5 @@
 -- The slots of a variable are exactly those whose paths begin with its name.
-use Rattle.std.proofs.Common.{◌≡◌, ℕ, ◌+◌, Bool, true, false, not, ◌&&◌, if◌then◌else◌, List, [], ◌∷◌, ◌++◌, map}
+use Rattle.std.proofs.Common.{◌≡◌, ℕ, Bool, true, false, not, ◌&&◌, if◌then◌else◌, List, [], ◌∷◌, ◌++◌, map}
 use Rattle.std.proofs.Common.{Option, Some}
 use Rattle.std.proofs.Common.{option_map, refl, ap, ap₂, ◌∙◌}
 use Rattle.std.specs.Prelude.{filter}
@@ -8,7 +8,7 @@ use Rattle.st_words.specs.Paths.{is_within}
 use Rattle.st_types.specs.NameTypes.{Declared}
 use Rattle.st_types.specs.Scopes.{Name}
 use Rattle.st_types.specs.Slots.{Slot}
-use Rattle.st_layouts.specs.Shapes.{size, Leaf, is_sound}
+use Rattle.st_layouts.specs.Shapes.{Leaf, is_sound}
 use Rattle.st_layouts.specs.LayoutVariables.{Owned}
 use Rattle.st_layouts.specs.TextLayouts.{variable_shape, leaves_of_variable, slot_of_leaf, slots_of_variable, slots_of}
 use Rattle.st_layouts.specs.Standing.{path_to, is_named_so, has_variable, are_declared_once, variable_at, later}

@@ -1,8 +1,8 @@
 -- Slots hang on no literal: the layout of a text is that of the text as it was parsed, but for its initial values.
-use Rattle.std.proofs.Common.{◌≡◌, ℕ, zero, suc, ◌+◌, ℤ, pos, ◌+ℤ◌, ◌-ℤ◌, Bool, true, false, if◌then◌else◌, List, []}
+use Rattle.std.proofs.Common.{◌≡◌, ℕ, zero, suc, ◌+◌, pos, ◌+ℤ◌, ◌-ℤ◌, Bool, true, false, if◌then◌else◌, List, []}
 use Rattle.std.proofs.Common.{◌∷◌, ◌++◌}
 use Rattle.std.proofs.Common.{map, Option, Some, None, option_map, refl, sym, ap, ap₂, ◌∙◌}
-use Rattle.std.specs.Prelude.{bytes_eq, is_none}
+use Rattle.std.specs.Prelude.{is_none}
 use Rattle.st_words.specs.declared.identifier.Identifier.{Identifier}
 use Rattle.st_words.specs.declared.kind.Kind.{Kind}
 use Rattle.st_words.specs.declared.literal.Number.{Number}
@@ -23,7 +23,7 @@ use Rattle.st_trees.specs.Units.{OrganisationUnit}
 use Rattle.st_trees.specs.Sources as sources
 use Rattle.st_trees.specs.Sources.{LibraryElement, Source}
 use Rattle.st_types.specs.Bodies.{is_external}
-use Rattle.st_types.specs.Enumerations.{enumerated_names, enumerations_from, enumerations_of, enumeration_named}
+use Rattle.st_types.specs.Enumerations.{enumerated_names, enumerations_from, enumeration_named}
 use Rattle.st_types.specs.Enumerations.{kind_of_enumeration}
 use Rattle.st_types.specs.NameTypes.{Declared, types_in, units_in, declared_in, is_named, type_named, unit_named}
 use Rattle.st_types.specs.NameTypes.{definition_of, kind_among}
@@ -32,23 +32,23 @@ use Rattle.st_types.specs.Resolution.{taken_kind, taking_number}
 use Rattle.st_types.specs.ResolvedUnits.{resolved_array, resolved_type, resolved_declaration, resolved_block, resolved}
 use Rattle.st_types.specs.ResolvedUnits.{resolved_field, resolved_definition, resolved_type_declaration}
 use Rattle.st_types.specs.ResolvedUnits.{resolved_global}
-use Rattle.st_types.specs.ResolvedUnits.{resolved_globals, resolved_element_of_text, resolved_source}
+use Rattle.st_types.specs.ResolvedUnits.{resolved_globals, resolved_element_of_text}
 use Rattle.st_types.specs.Scopes.{Name}
 use Rattle.st_types.specs.Slots.{Slot}
 use Rattle.st_types.specs.StandardBlocks.{StandardBlock, BlockMember, block_of, members_of}
 use Rattle.st_statics.specs.declared.limits.TheConstants.{MAX_TYPE_DEPTH}
-use Rattle.st_layouts.specs.Shapes.{Shape, Leaf, leaves_of, array, parts, Parts, no_parts, part_then, plain, Whole}
+use Rattle.st_layouts.specs.Shapes.{Shape, Leaf, leaves_of, array, parts, Parts, no_parts, part_then, Whole}
 use Rattle.st_layouts.specs.Shapes.{of_structure, of_instance}
 use Rattle.st_layouts.specs.Types.{Site, NamedSite, with_site, site_of_declaration, sites_of_declarations, retention_of}
 use Rattle.st_layouts.specs.Types.{sites_of_blocks, site_of_field, site_of_member, BlockType, block_type_of}
-use Rattle.st_layouts.specs.Types.{own_block_type, block_type_named, instance_of, Composition, of_kind, of_elements}
-use Rattle.st_layouts.specs.Types.{of_parts, instance_parts, defined_composition, composition_of, lower_of, count_of}
+use Rattle.st_layouts.specs.Types.{own_block_type, block_type_named, instance_of, of_kind}
+use Rattle.st_layouts.specs.Types.{instance_parts, defined_composition, composition_of, lower_of, count_of}
 use Rattle.st_layouts.specs.Types.{element_of, parts_of, composed_shape, shape_within}
 use Rattle.st_layouts.specs.LayoutVariables.{Owned, owned_variable, global_variable, site_of_global, is_input_address}
 use Rattle.st_layouts.specs.LayoutVariables.{variables_of_names, variables_of_declarations, retention_of_globals}
 use Rattle.st_layouts.specs.LayoutVariables.{variables_of_globals, sites_of_program, program_sites, owner_in}
 use Rattle.st_layouts.specs.LayoutVariables.{variables_of_instances, variables_of_resources, configurations_in}
-use Rattle.st_layouts.specs.LayoutVariables.{only_configuration, variables_of_configuration, layout_variables}
+use Rattle.st_layouts.specs.LayoutVariables.{only_configuration, variables_of_configuration}
 use Rattle.st_layouts.specs.TextLayouts.{further, slots_of_variable, slots_of, slots_of_text}
 use Rattle.st_layouts.proofs.StoreLemmas.{map_append}
 
@@ -60,7 +60,8 @@ map_map f g (x ∷ xs) = ap (λ ys. f (g x) ∷ ys) (map_map f g xs)
 same_number : (k : Kind) (n : Number) → number_of (taking_number k n) ≡ number_of n
 same_number k n = by_written n.written
   where
-    by_written : (o : Option Kind) → number_of (elim o [ Some l ↦ n | None ↦ record n { taken = Some k } ]) ≡ number_of n
+    by_written : (o : Option Kind)
+        → number_of (elim o [ Some l ↦ n | None ↦ record n { taken = Some k } ]) ≡ number_of n
     by_written (Some l) = refl
     by_written None = refl
 
@@ -99,7 +100,8 @@ same_parts inner other same (e ∷ es) =
 
 module _ (text : Declared) where
   fields_typed : (fields : List Field)
-      → map typed (map site_of_field (map (resolved_field text) fields)) ≡ map taking (map typed (map site_of_field fields))
+      → map typed (map site_of_field (map (resolved_field text) fields))
+      ≡ map taking (map typed (map site_of_field fields))
   fields_typed [] = refl
   fields_typed (f ∷ fs) = ap (λ es. (f.name.name, resolved_type f.declared) ∷ es) (fields_typed fs)
 
@@ -226,7 +228,7 @@ module _ (text : Declared) where
         there = refl;
         members = λ b c e f.
             let q : ◌≡◌ {A = BlockType}
-                (record { name = u.name.name; members = sites_of_blocks (map (resolved_block text) u.blocks) }) b = cc in
+            (record { name = u.name.name; members = sites_of_blocks (map (resolved_block text) u.blocks) }) b = cc in
             let r : ◌≡◌ {A = BlockType} (record { name = u.name.name; members = sites_of_blocks u.blocks }) c = cc in
             sym (ap (λ b. map typed b.members) q) ∙ blocks_typed u.blocks
             ∙ ap (λ c. map taking (map typed c.members)) r;
@@ -290,7 +292,8 @@ module _ (text : Declared) where
         same_part_list of_instance c.members b.members (h.members b c refl refl)
 
     same_defined : (t : VariableType) (d : Option TypeDefinition)
-        → composed_shape other (defined_composition taken_text (resolved_type t) (option_map (resolved_definition text) d))
+        → composed_shape other
+        (defined_composition taken_text (resolved_type t) (option_map (resolved_definition text) d))
         ≡ composed_shape inner (defined_composition text t d)
     same_defined t None =
         same_instance_shape (instance_of taken_text (resolved_type t)) (instance_of text t) (same_instance t)
@@ -303,7 +306,8 @@ module _ (text : Declared) where
     same_defined t (Some (declarations.enumeration names)) = refl
 
     same_composed : (t : VariableType)
-        → composed_shape other (composition_of taken_text (resolved_type t)) ≡ composed_shape inner (composition_of text t)
+        → composed_shape other (composition_of taken_text (resolved_type t))
+        ≡ composed_shape inner (composition_of text t)
     same_composed t =
         ap (λ m. composed_shape other (elim m [
           | Some k ↦ of_kind k

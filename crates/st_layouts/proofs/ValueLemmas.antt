@@ -1,5 +1,5 @@
 -- What a plan has at the path of a part: the initial value and the retention that the declarations tell.
-use Rattle.std.proofs.Common.{◌≡◌, ℕ, zero, suc, ◌+◌, Bool, true, false, not, ◌&&◌, ◌||◌, if◌then◌else◌, List, [], ◌∷◌}
+use Rattle.std.proofs.Common.{◌≡◌, ℕ, zero, suc, Bool, true, false, not, ◌&&◌, ◌||◌, if◌then◌else◌, List, [], ◌∷◌}
 use Rattle.std.proofs.Common.{◌++◌}
 use Rattle.std.proofs.Common.{map, slice_get, Option, Some, option_map, refl, sym, ap, ap₂, ◌∙◌}
 use Rattle.std.specs.List.{list_any}
@@ -12,7 +12,7 @@ use Rattle.st_types.specs.Scopes.{Name}
 use Rattle.st_types.specs.Stores.{get}
 use Rattle.st_types.proofs.SlotLemmas.{same_path_is, same_path_itself}
 use Rattle.st_plans.specs.declared.plan.PlanVariable.{PlanVariable}
-use Rattle.st_layouts.specs.Shapes.{size, Leaf, Position, position_of, is_sound}
+use Rattle.st_layouts.specs.Shapes.{Leaf, Position, position_of, is_sound}
 use Rattle.st_layouts.specs.Sites.{initial_at, retained_at}
 use Rattle.st_layouts.specs.LayoutVariables.{Owned}
 use Rattle.st_layouts.specs.TextLayouts.{further, variable_path, variable_shape, leaves_of_variable, variable_of_leaf}

@@ -308,9 +308,9 @@ adder = unit_with sorts.Program (codes "ADD")
 
 abbrev pub adder_configuration : Configuration
 adder_configuration = configured (
-  globals_of (Some qualifiers.Retain) (global (codes "N") (plain Int) None ∷ [])
-  ∷ globals_of None (global (codes "K") (plain Int) (Some (amount 7)) ∷ [])
-  ∷ []) (resource (codes "R") (instance (codes "P") (codes "ADD") ∷ []) ∷ [])
+    globals_of (Some qualifiers.Retain) (global (codes "N") (plain Int) None ∷ [])
+    ∷ globals_of None (global (codes "K") (plain Int) (Some (amount 7)) ∷ [])
+    ∷ []) (resource (codes "R") (instance (codes "P") (codes "ADD") ∷ []) ∷ [])
 
 abbrev pub adding : Source
 adding = text_of [] (adder ∷ []) adder_configuration

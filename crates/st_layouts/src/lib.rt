@@ -13,8 +13,8 @@ mod libraries;
 
 pub use laws::{
     initial_values_fill_the_layout, layouts_of_declared_variables, layouts_of_texts,
-    leaves_of_shapes, parts_are_declared, slots_hang_on_no_literal,
-    types_are_expanded_whole, variables_start_as_declared,
+    leaves_of_shapes, parts_are_declared, slots_hang_on_no_literal, types_are_expanded_whole,
+    variables_start_as_declared,
 };
 pub use libraries::{
     calls_find_the_units_of_a_text, functions_start_with_a_store,

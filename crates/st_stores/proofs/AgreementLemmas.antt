@@ -1,7 +1,7 @@
 -- The values of a layout's slots agree with what a unit declares.
 use Rattle.std.proofs.Common.{◌≡◌, ℕ, zero, suc, ◌+◌, Bool, true, false, ◌&&◌, ◌||◌, if◌then◌else◌, List, [], ◌∷◌, ◌++◌}
-use Rattle.std.proofs.Common.{length, slice_get, Option, Some, None, option_map, option_and_then, refl, sym, ap, ap₂, ◌∙◌}
-use Rattle.std.proofs.Common.{subst, ℤ}
+use Rattle.std.proofs.Common.{length, slice_get, Option, Some, None, option_and_then, sym, ap, ◌∙◌}
+use Rattle.std.proofs.Common.{ℤ}
 use Rattle.std.specs.Prelude.{bytes_eq}
 use Rattle.std.specs.List.{list_all}
 use Rattle.st_words.specs.declared.kind.Kind.{Kind}
@@ -12,7 +12,7 @@ use Rattle.st_words.specs.Values.{Datum}
 use Rattle.st_words.specs.Paths.{Path}
 use Rattle.st_trees.specs.declared.data_type.VariableType.{VariableType}
 use Rattle.st_types.specs.Evaluation.{known, element_at}
-use Rattle.st_types.specs.NameTypes.{Declared, definition_of, member_type, element_type, kind_among}
+use Rattle.st_types.specs.NameTypes.{Declared, definition_of, kind_among}
 use Rattle.st_types.specs.Scopes.{Name, Scope, member_at, seen}
 use Rattle.st_types.specs.Slots.{Slot, IsLayout, variables_in, inputs_in}
 use Rattle.st_types.specs.Stores.{Store, get, has_part}
@@ -20,17 +20,17 @@ use Rattle.st_types.proofs.SlotLemmas.{seen_slot}
 use Rattle.st_statics.specs.Environments.{Environment, section_of}
 use Rattle.st_statics.specs.TargetRules.{is_fixed}
 use Rattle.st_sound.specs.Soundness.{HasKind, IsPlace, root, part, element, Agrees}
-use Rattle.st_layouts.specs.Shapes.{Shape, plain, array, parts, in_bounds, Position, position_of, leads_on, part_named}
-use Rattle.st_layouts.specs.Types.{NamedSite, Site, site_named, Composition, of_kind, of_elements, of_parts}
+use Rattle.st_layouts.specs.Shapes.{Shape, plain, array, parts, in_bounds, leads_on, part_named}
+use Rattle.st_layouts.specs.Types.{NamedSite, Site, site_named, of_kind}
 use Rattle.st_layouts.specs.Types.{defined_composition, composition_of, lower_of, count_of, element_of, parts_of}
 use Rattle.st_layouts.specs.Types.{composed_shape, shape_within, parts_within, is_within_depth}
 use Rattle.st_layouts.specs.LayoutVariables.{Owned}
 use Rattle.st_layouts.specs.TextLayouts.{further, variable_shape, slots_of}
-use Rattle.st_layouts.specs.Standing.{path_to, variable_at, are_declared_once, has_slot_within, slot, Stands}
+use Rattle.st_layouts.specs.Standing.{path_to, are_declared_once, has_slot_within, slot, Stands}
 use Rattle.st_layouts.proofs.ListLemmas.{both, some_is}
 use Rattle.st_layouts.proofs.VariableLemmas.{variables_layout, variable_stands}
 use Rattle.st_stores.specs.Homes.{shape_behind, IsHome, HasHomes, are_names_different, AreValuesOf}
-use Rattle.st_stores.proofs.ShapeLemmas.{HasPosition, leaf_has, leads_behind, behind_step}
+use Rattle.st_stores.proofs.ShapeLemmas.{leaf_has, leads_behind, behind_step}
 use Rattle.st_stores.proofs.SeenLemmas.{value_at, same_length, variable_there, parts_by_slots}
 use Rattle.st_stores.proofs.MemberLemmas.{IsPart, IsArray, member_part, element_part}
 
@@ -70,10 +70,10 @@ unfolding shape_within is_within_depth
 behind_member text t y u i zero h = absurd (cc)
 behind_member text t y u i (suc n) h =
     let a : list_all (λ d. is_within_depth n text d.site.declared) i.sites ≡ true =
-        ap (parts_within (is_within_depth n text)) (sym i.composition) ∙ h in
+    ap (parts_within (is_within_depth n text)) (sym i.composition) ∙ h in
     let s : composed_shape (shape_within n text) (composition_of text t)
-        ≡ parts i.whole (parts_of (shape_within n text) i.sites) =
-        ap (composed_shape (shape_within n text)) i.composition in
+    ≡ parts i.whole (parts_of (shape_within n text) i.sites) =
+    ap (composed_shape (shape_within n text)) i.composition in
     let d = i.declared in
     record {
       depth = n;
@@ -90,15 +90,15 @@ unfolding shape_within is_within_depth
 behind_element text t z u i zero h g = absurd (cc)
 behind_element text t z u i (suc n) h g =
     let a : is_within_depth n text (element_of i.array) ≡ true =
-        ap (parts_within (is_within_depth n text)) (sym i.composition) ∙ h in
+    ap (parts_within (is_within_depth n text)) (sym i.composition) ∙ h in
     let s : composed_shape (shape_within n text) (composition_of text t)
-        ≡ array (lower_of i.array) (count_of i.array) (shape_within n text (element_of i.array)) =
-        ap (composed_shape (shape_within n text)) i.composition in
+    ≡ array (lower_of i.array) (count_of i.array) (shape_within n text (element_of i.array)) =
+    ap (composed_shape (shape_within n text)) i.composition in
     let l : (in_bounds (lower_of i.array) (count_of i.array) z
-        && leads_on (shape_within n text (element_of i.array)) []) ≡ true =
-        ap (λ sh. leads_on sh (Element z ∷ [])) (sym s) ∙ g in
+    && leads_on (shape_within n text (element_of i.array)) []) ≡ true =
+    ap (λ sh. leads_on sh (Element z ∷ [])) (sym s) ∙ g in
     let b = (both (in_bounds (lower_of i.array) (count_of i.array) z)
-        (leads_on (shape_within n text (element_of i.array)) []) l).0 in
+    (leads_on (shape_within n text (element_of i.array)) []) l).0 in
     let d = i.element in
     record {
       depth = n;
@@ -160,10 +160,10 @@ module _ (env : Environment) (variables : List Owned) (w : Scope) (vs : List Dat
       → leads_on (shape_within h.depth env.text t) (Element z ∷ []) ≡ true
   leads_there {f} {p} {t} h z g =
       let e : element_at p z ≡ further (path_to h.owner h.name) (h.steps ++ Element z ∷ []) =
-          ap (λ q. element_at q z) h.path in
+      ap (λ q. element_at q z) h.path in
       let a : has_slot_within layout (element_at p z) ≡ true =
-          sym (parts_by_slots layout vs len (element_at p z))
-          ∙ ap (λ i. has_part i (element_at p z) || has_part store (element_at p z)) (sym image) ∙ g in
+      sym (parts_by_slots layout vs len (element_at p z))
+      ∙ ap (λ i. has_part i (element_at p z) || has_part store (element_at p z)) (sym image) ∙ g in
       sym (leads_behind (variable_shape env.text h.variable) (shape_within h.depth env.text t) h.steps (Element z ∷ [])
       h.shape)
       ∙ sym ((stands h).only (h.steps ++ Element z ∷ [])) ∙ ap (has_slot_within layout) (sym e) ∙ a
@@ -193,7 +193,7 @@ module _ (env : Environment) (variables : List Owned) (w : Scope) (vs : List Dat
       → kind_among env.text.types t ≡ Some k → HasSlotOf p f k
   slot_of_home {f} {p} {t} h k e =
       let i = leaf_has (variable_shape env.text h.variable) h.steps k
-          (h.shape ∙ ap Some (behind_kind env.text t k e h.depth h.within)) in
+      (h.shape ∙ ap Some (behind_kind env.text t k e h.depth h.within)) in
       record {
         number = h.first + i.position.number;
         slot = slot (further (path_to h.owner h.name) h.steps) i.position.kind h.variable.is_input;
@@ -212,8 +212,8 @@ module _ (env : Environment) (variables : List Owned) (w : Scope) (vs : List Dat
       let l = slot_of_home h k e in
       let v = value_at layout vs values l.number l.slot l.at in
       let a : seen w.image store p ≡ Some v.datum =
-          ap (λ i. seen i store p) image ∙ ap (seen (inputs_in layout vs) store) (sym l.path)
-          ∙ seen_slot layout vs distinct len l.number l.slot l.at ∙ v.is in
+      ap (λ i. seen i store p) image ∙ ap (seen (inputs_in layout vs) store) (sym l.path)
+      ∙ seen_slot layout vs distinct len l.number l.slot l.at ∙ v.is in
       let o = v.is_of in
       record {
         datum = v.datum;

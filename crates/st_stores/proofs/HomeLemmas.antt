@@ -1,6 +1,6 @@
 -- The names of a program's body stand for variables of its instance and for globals.
-use Rattle.std.proofs.Common.{◌≡◌, ℕ, zero, suc, ◌+◌, Bool, true, false, not, ◌&&◌, ◌||◌, if◌then◌else◌, List, [], ◌∷◌, ◌++◌}
-use Rattle.std.proofs.Common.{map, Option, Some, None, option_map, refl, sym, ap, ap₂, ◌∙◌}
+use Rattle.std.proofs.Common.{◌≡◌, ℕ, ◌+◌, Bool, true, false, not, ◌&&◌, ◌||◌, if◌then◌else◌, List, [], ◌∷◌, ◌++◌}
+use Rattle.std.proofs.Common.{map, Option, Some, None, refl, sym, ap, ap₂, ◌∙◌}
 use Rattle.std.specs.Prelude.{bytes_eq}
 use Rattle.std.specs.List.{list_any}
 use Rattle.st_words.specs.declared.identifier.Identifier.{Identifier}
@@ -9,7 +9,6 @@ use Rattle.st_words.specs.Paths.{Path}
 use Rattle.st_trees.specs.declared.configuration.Instance.{Instance}
 use Rattle.st_trees.specs.declared.data_type.VariableType.{VariableType}
 use Rattle.st_trees.specs.declared.declaration.Retention.{Retention}
-use Rattle.st_trees.specs.declared.unit.UnitSort.{UnitSort}
 use Rattle.st_trees.specs.declared.unit.UnitSort.TheVariants.{Program}
 use Rattle.st_trees.specs.Configurations.{Resource, Configuration}
 use Rattle.st_trees.specs.Declarations.{Declaration, VariableBlock}
@@ -17,18 +16,19 @@ use Rattle.st_trees.specs.Units.{OrganisationUnit}
 use Rattle.st_types.specs.Bodies.{is_external, names_of, declared_names, externals_in}
 use Rattle.st_types.specs.NameTypes.{Declared, is_named, unit_named, type_in, type_in_blocks, or_type, result_type}
 use Rattle.st_types.specs.NameTypes.{variable_type}
-use Rattle.st_types.specs.Scopes.{Name, Frame, of_program, Body, Scope, contains_name, unowned, own_path, path_in}
+use Rattle.st_types.specs.Scopes.{Name, of_program, Scope, contains_name, unowned, own_path, path_in}
 use Rattle.st_statics.specs.declared.limits.TheConstants.{MAX_TYPE_DEPTH}
-use Rattle.st_statics.specs.Environments.{Environment, section_of}
+use Rattle.st_statics.specs.Environments.{section_of}
 use Rattle.st_statics.specs.TargetRules.{is_fixed}
 use Rattle.st_layouts.specs.Shapes.{size, is_sound}
 use Rattle.st_layouts.specs.Types.{Site, NamedSite, site_named, with_site, site_of_declaration, sites_of_declarations}
-use Rattle.st_layouts.specs.Types.{retention_of, sites_of_blocks, shape_of_type, is_within_depth}
-use Rattle.st_layouts.specs.LayoutVariables.{Owned, owned_variable, variables_of_globals, sites_of_program, program_sites}
+use Rattle.st_layouts.specs.Types.{retention_of, sites_of_blocks, shape_of_type}
+use Rattle.st_layouts.specs.LayoutVariables.{Owned, owned_variable, variables_of_globals, sites_of_program}
+use Rattle.st_layouts.specs.LayoutVariables.{program_sites}
 use Rattle.st_layouts.specs.LayoutVariables.{owner_in, variables_of_instances, variables_of_resources}
 use Rattle.st_layouts.specs.LayoutVariables.{variables_of_configuration}
-use Rattle.st_layouts.specs.TextLayouts.{further, variable_shape}
-use Rattle.st_layouts.specs.Standing.{path_to, is_named_so, has_variable, are_declared_once, later, variable_at}
+use Rattle.st_layouts.specs.TextLayouts.{variable_shape}
+use Rattle.st_layouts.specs.Standing.{is_named_so, has_variable, are_declared_once, variable_at}
 use Rattle.st_layouts.proofs.ListLemmas.{same_name, some_is, both, turned, neither, or_later, any_append}
 use Rattle.st_layouts.proofs.VariableLemmas.{variable_is, variable_itself}
 use Rattle.st_stores.specs.Homes.{IsHome, HasHomes, IsAmong, here, further_on, IsInstanceOf, environment_of, IsGrounded}
@@ -67,7 +67,7 @@ found_at text [] once v i = elim i [ ]
 found_at text (u ∷ vs) once v here = let i = variable_itself v in record { first = 0; there = rw i refl }
 found_at text (u ∷ vs) once v (further_on i) =
     let a = both (not (has_variable vs u.owner u.name))
-        (is_sound (variable_shape text u) && are_declared_once text vs) once in
+    (is_sound (variable_shape text u) && are_declared_once text vs) once in
     let b = both (is_sound (variable_shape text u)) (are_declared_once text vs) a.1 in
     by_test (is_named_so v.owner v.name u) refl (turned (has_variable vs u.owner u.name) a.0) (has_among vs v i)
     (found_at text vs b.1 v i)
@@ -77,7 +77,7 @@ found_at text (u ∷ vs) once v (further_on i) =
     by_test true e absent present f =
         let q = variable_is v.owner v.name u e in
         let p : has_variable vs v.owner v.name ≡ has_variable vs u.owner u.name =
-            ap (λ p. has_variable vs p.owner p.name) q in
+        ap (λ p. has_variable vs p.owner p.name) q in
         absurd (cc)
     by_test false e absent present f =
         let t = f.there in
@@ -89,7 +89,7 @@ not_among_names : (ds : List Declaration) (x : Name) → contains_name (declared
 not_among_names [] x h = refl
 not_among_names (d ∷ ds) x h =
     let n = neither (contains_name (names_of d.names) x) (contains_name (declared_names ds) x)
-        (sym (any_append (λ y. bytes_eq x y) (names_of d.names) (declared_names ds)) ∙ h) in
+    (sym (any_append (λ y. bytes_eq x y) (names_of d.names) (declared_names ds)) ∙ h) in
     let a = same_test d.names ∙ n.0 in
     rw a (not_among_names ds x n.1)
   where
@@ -150,7 +150,7 @@ own_site (b ∷ bs) x t h e = by_section (is_external b.section) e (own_site bs 
         else sites_of_declarations (retention_of b.section) b.declarations ++ sites_of_blocks bs) x) t
     by_section true g ih =
         let n = neither (contains_name (declared_names b.declarations) x) (contains_name (externals_in bs) x)
-            (sym (any_append (λ y. bytes_eq x y) (declared_names b.declarations) (externals_in bs)) ∙ g) in
+        (sym (any_append (λ y. bytes_eq x y) (declared_names b.declarations) (externals_in bs)) ∙ g) in
         ih (sym (ap (λ o. or_type o (type_in_blocks bs x)) (not_among_names b.declarations x n.0)) ∙ h) n.1
     by_section false g ih =
         in_block (retention_of b.section) (type_in b.declarations x) refl h (λ k. ih k g)
@@ -166,19 +166,22 @@ site_among (d ∷ ds) x s h = by_test (bytes_eq x d.name) refl h (site_among ds 
         → IsAmong (record { name = x; site = s }) (d ∷ ds)
     by_test true e g ih =
         let q : d ≡ record { name = x; site = s } =
-            ap₂ (λ y r. record { name = y; site = r }) (sym (same_name x d.name e)) (some_is g) in
+        ap₂ (λ y r. record { name = y; site = r }) (sym (same_name x d.name e)) (some_is g) in
         rw (← q) here
     by_test false e g ih = further_on (ih g)
 
 among_instances : (text : Declared) (resource : Name) (is : List Instance) (i : Instance) → IsAmong i is → (v : Owned)
-    → IsAmong v (map (owned_variable (Some (owner_in resource i))) (program_sites (unit_named text.units i.program.name)))
+    → IsAmong v (map (owned_variable (Some (owner_in resource i)))
+    (program_sites (unit_named text.units i.program.name)))
     → IsAmong v (variables_of_instances text resource is)
 among_instances text resource [] i k v h = elim k [ ]
 among_instances text resource (j ∷ is) i here v h =
-    among_left (map (owned_variable (Some (owner_in resource i))) (program_sites (unit_named text.units i.program.name)))
+    among_left (map (owned_variable (Some (owner_in resource i)))
+    (program_sites (unit_named text.units i.program.name)))
     (variables_of_instances text resource is) h
 among_instances text resource (j ∷ is) i (further_on k) v h =
-    among_right (map (owned_variable (Some (owner_in resource j))) (program_sites (unit_named text.units j.program.name)))
+    among_right (map (owned_variable (Some (owner_in resource j)))
+    (program_sites (unit_named text.units j.program.name)))
     (variables_of_instances text resource is) (among_instances text resource is i k v h)
 
 among_resources : (text : Declared) (rs : List Resource) (r : Resource) → IsAmong r rs → (v : Owned)
@@ -199,11 +202,11 @@ module _ (text : Declared) (c : Configuration) (owner : Owner) (u : Organisation
       → IsAmong (owned_variable (Some owner) (record { name = x; site = s })) (variables_of_configuration text (Some c))
   variable_among x s h =
       let a = among_map (owned_variable (Some owner)) (sites_of_blocks u.blocks)
-          (site_among (sites_of_blocks u.blocks) x s h) in
+      (site_among (sites_of_blocks u.blocks) x s h) in
       let e : map (owned_variable (Some owner)) (sites_of_blocks u.blocks)
-          ≡ map (owned_variable (Some (owner_in instance.resource.name.name instance.instance)))
-          (program_sites (unit_named text.units instance.instance.program.name)) =
-          ap₂ (λ o ds. map (owned_variable (Some o)) ds) instance.owned (sym sites_are) in
+      ≡ map (owned_variable (Some (owner_in instance.resource.name.name instance.instance)))
+      (program_sites (unit_named text.units instance.instance.program.name)) =
+      ap₂ (λ o ds. map (owned_variable (Some o)) ds) instance.owned (sym sites_are) in
       among_right (variables_of_globals c.globals) (variables_of_resources text c.resources)
       (among_resources text c.resources instance.resource instance.is_resource
       (owned_variable (Some owner) (record { name = x; site = s }))
@@ -228,7 +231,7 @@ module _ (text : Declared) (c : Configuration) (owner : Owner) (u : Organisation
     own_home x t fixed h e =
         let d = own_site u.blocks x t (type_of_own x t h) e in
         let f = found_at text (variables_of_configuration text (Some c)) once
-            (owned_variable (Some owner) (record { name = x; site = d.site })) (variable_among x d.site d.is) in
+        (owned_variable (Some owner) (record { name = x; site = d.site })) (variable_among x d.site d.is) in
         record {
           owner = Some owner;
           name = x;

@@ -1,6 +1,6 @@
 -- What stands after a dot or a subscript by its type is the part that the layout has there.
-use Rattle.std.proofs.Common.{◌≡◌, ℕ, zero, suc, ◌+◌, Bool, true, false, not, ◌&&◌, ◌||◌, if◌then◌else◌, List, [], ◌∷◌, ◌++◌}
-use Rattle.std.proofs.Common.{map, Option, Some, None, option_map, option_and_then, refl, sym, ap, ap₂, ◌∙◌}
+use Rattle.std.proofs.Common.{◌≡◌, ℕ, ◌+◌, Bool, true, false, not, ◌||◌, if◌then◌else◌, List, [], ◌∷◌, ◌++◌}
+use Rattle.std.proofs.Common.{map, Option, Some, None, option_map, option_and_then, refl, sym, ap, ◌∙◌}
 use Rattle.std.specs.Prelude.{bytes_eq, is_none}
 use Rattle.std.specs.List.{list_any, list_all}
 use Rattle.st_words.specs.declared.identifier.Identifier.{Identifier}
@@ -19,7 +19,7 @@ use Rattle.st_trees.specs.Declarations as declarations
 use Rattle.st_trees.specs.Declarations.{Field, TypeDefinition, TypeDeclaration, Declaration, VariableBlock}
 use Rattle.st_trees.specs.Units.{OrganisationUnit}
 use Rattle.st_types.specs.Bodies.{is_external}
-use Rattle.st_types.specs.Enumerations.{enumerated_names, enumerations_from, enumerations_of, enumeration_named}
+use Rattle.st_types.specs.Enumerations.{enumerated_names, enumerations_from, enumeration_named}
 use Rattle.st_types.specs.Enumerations.{kind_of_enumeration}
 use Rattle.st_types.specs.NameTypes.{Declared, is_named, type_named, unit_named, type_in, or_type, field_type}
 use Rattle.st_types.specs.NameTypes.{member_kind, definition_of, element_type, is_output, type_in_sections, sections_of}
@@ -27,18 +27,19 @@ use Rattle.st_types.specs.NameTypes.{variable_of_block, block_variable, member_t
 use Rattle.st_types.specs.Scopes.{Name, contains_name}
 use Rattle.st_types.specs.StandardBlocks.{StandardBlock, BlockMember, block_of, inputs_of, outputs_of, hidden_of}
 use Rattle.st_types.specs.StandardBlocks.{members_of}
-use Rattle.st_layouts.specs.Shapes.{Whole, of_structure, of_instance, Shape, part_named}
+use Rattle.st_layouts.specs.Shapes.{Whole, of_structure, of_instance}
 use Rattle.st_layouts.specs.Types.{Site, NamedSite, site_named, with_site, site_of_declaration, sites_of_declarations}
-use Rattle.st_layouts.specs.Types.{retention_of, sites_of_blocks, site_of_field, site_of_member, BlockType, block_type_of}
-use Rattle.st_layouts.specs.Types.{own_block_type, block_type_named, instance_of, Composition, of_kind, of_elements}
-use Rattle.st_layouts.specs.Types.{of_parts, defined_composition, composition_of, element_of, parts_of}
+use Rattle.st_layouts.specs.Types.{retention_of, sites_of_blocks, site_of_field, site_of_member, BlockType}
+use Rattle.st_layouts.specs.Types.{block_type_of}
+use Rattle.st_layouts.specs.Types.{own_block_type, block_type_named, instance_of, of_kind, of_elements}
+use Rattle.st_layouts.specs.Types.{of_parts, defined_composition, composition_of, element_of}
 use Rattle.st_layouts.specs.Names
-use Rattle.st_layouts.specs.Names.{are_different, names_of_sites, has_different_variables, are_types_and_units_different}
-use Rattle.st_layouts.proofs.ListLemmas.{same_name, name_itself, some_is, both, turned, neither, or_later, any_append}
+use Rattle.st_layouts.specs.Names.{are_different, names_of_sites, has_different_variables}
+use Rattle.st_layouts.specs.Names.{are_types_and_units_different}
+use Rattle.st_layouts.proofs.ListLemmas.{same_name, some_is, both, turned, neither, or_later}
 use Rattle.st_layouts.proofs.LibraryLemmas.{no_enumeration, instance_made}
 use Rattle.st_layouts.proofs.NameLemmas.{standard_members, found_unit}
 use Rattle.st_stores.specs.Homes.{are_names_different}
-use Rattle.st_stores.proofs.ShapeLemmas.{then_some}
 
 -- a declaration of this type
 pub record Declares (o : Option Site) (u : VariableType) : Type 0 where
@@ -79,7 +80,8 @@ found_later : (cs bs : List NamedSite) → are_different (names_of_sites (cs ++ 
     → site_named bs x ≡ Some s → site_named (cs ++ bs) x ≡ Some s
 found_later [] bs d x s h = h
 found_later (a ∷ cs) bs d x s h =
-    let b = both (not (contains_name (names_of_sites (cs ++ bs)) a.name)) (are_different (names_of_sites (cs ++ bs))) d in
+    let b = both (not (contains_name (names_of_sites (cs ++ bs)) a.name))
+    (are_different (names_of_sites (cs ++ bs))) d in
     by_test (bytes_eq x a.name) refl (turned (contains_name (names_of_sites (cs ++ bs)) a.name) b.0)
     (contained_later cs bs x (found_name bs x s h)) (found_later cs bs b.1 x s h)
   where
@@ -89,7 +91,7 @@ found_later (a ∷ cs) bs d x s h =
     by_test true e absent present f =
         let q = same_name x a.name e in
         let i : contains_name (names_of_sites (cs ++ bs)) a.name ≡ true =
-            ap (contains_name (names_of_sites (cs ++ bs))) (sym q) ∙ present in
+        ap (contains_name (names_of_sites (cs ++ bs))) (sym q) ∙ present in
         absurd (cc)
     by_test false e absent present f = f
 
@@ -143,10 +145,10 @@ output_declared : (b : StandardBlock) (x : Name) (k : Kind) → member_kind (out
 output_declared b x k h =
     let m = member_declared (outputs_of b) x k h in
     let e : map site_of_member (members_of b)
-        ≡ map site_of_member (inputs_of b) ++ (map site_of_member (outputs_of b) ++ map site_of_member (hidden_of b)) =
-        ap (map site_of_member) (grouped (inputs_of b) (outputs_of b) (hidden_of b))
-        ∙ map_members (inputs_of b) (outputs_of b ++ hidden_of b)
-        ∙ ap (λ xs. map site_of_member (inputs_of b) ++ xs) (map_members (outputs_of b) (hidden_of b)) in
+    ≡ map site_of_member (inputs_of b) ++ (map site_of_member (outputs_of b) ++ map site_of_member (hidden_of b)) =
+    ap (map site_of_member) (grouped (inputs_of b) (outputs_of b) (hidden_of b))
+    ∙ map_members (inputs_of b) (outputs_of b ++ hidden_of b)
+    ∙ ap (λ xs. map site_of_member (inputs_of b) ++ xs) (map_members (outputs_of b) (hidden_of b)) in
     let d = ap (λ ds. are_different (names_of_sites ds)) (sym e) ∙ standard_members b in
     record {
       site = m.site;
@@ -185,7 +187,8 @@ declaration_declared keep (d ∷ ds) x u h =
   where
     by_test : (b : Bool) → list_any (is_named x) d.names ≡ b → (if b then Some d.declared else type_in ds x) ≡ Some u
         → (type_in ds x ≡ Some u → Declares (site_named (sites_of_declarations keep ds) x) u)
-        → Declares (site_named (map (with_site (site_of_declaration keep d)) d.names ++ sites_of_declarations keep ds) x) u
+        → Declares (site_named (map (with_site (site_of_declaration keep d)) d.names
+        ++ sites_of_declarations keep ds) x) u
     by_test true e g ih = record {
       site = site_of_declaration keep d;
       is = found_first (map (with_site (site_of_declaration keep d)) d.names) (sites_of_declarations keep ds) x
@@ -269,7 +272,7 @@ no_other_enumeration : (n : ℕ) (ts : List TypeDeclaration) → are_different (
 no_other_enumeration n [] differ x d h e = absurd (cc)
 no_other_enumeration n (t ∷ ts) differ x d h e =
     let b = both (not (contains_name (map (λ t. t.name.name) ts) t.name.name))
-        (are_different (map (λ t. t.name.name) ts)) differ in
+    (are_different (map (λ t. t.name.name) ts)) differ in
     by_test (is_named x t.name) refl h (turned (contains_name (map (λ t. t.name.name) ts) t.name.name) b.0)
     (λ m g. no_other_enumeration m ts b.1 x d g e)
   where
@@ -299,7 +302,7 @@ no_other_enumeration n (t ∷ ts) differ x d h e =
         let a : enumerated_names t.definition ≡ None = ap enumerated_names f ∙ e in
         let same = same_name x t.name.name q in
         let c : contains_name (map (λ t. t.name.name) ts) x ≡ false =
-            ap (contains_name (map (λ t. t.name.name) ts)) same ∙ new in
+        ap (contains_name (map (λ t. t.name.name) ts)) same ∙ new in
         none_here (enumerated_names t.definition) a (not_declared ts x c)
     by_test false q g new ih = by_names (enumerated_names t.definition) q (λ m. ih m g)
 
@@ -382,8 +385,7 @@ module _ (text : Declared) (differ : are_names_different text ≡ true) where
           → (b : BlockType) × (block_by x (Some k) ≡ Some b) × Declares (site_named b.members y) u
       standard None q g = absurd (cc)
       standard (Some l) q g =
-          let d = output_declared k y l q in
-          (
+          let d = output_declared k y l q in (
             record { name = x.name; members = map site_of_member (members_of k) },
             refl,
             record { site = d.site; is = d.is; declared = d.declared ∙ some_is g },

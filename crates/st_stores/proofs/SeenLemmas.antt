@@ -1,14 +1,14 @@
 -- What is found over the values of a layout's slots.
-use Rattle.std.proofs.Common.{◌≡◌, ℕ, zero, suc, Bool, true, false, ◌&&◌, ◌||◌, if◌then◌else◌, List, [], ◌∷◌, length, map}
-use Rattle.std.proofs.Common.{slice_get, Option, Some, None, option_map, refl, sym, ap, ap₂, ◌∙◌, arith}
-use Rattle.std.specs.List.{list_any, list_all}
+use Rattle.std.proofs.Common.{◌≡◌, ℕ, zero, suc, Bool, true, false, ◌||◌, if◌then◌else◌, List, [], ◌∷◌, length}
+use Rattle.std.proofs.Common.{slice_get, Some, None, option_map, refl, sym, ap, ◌∙◌, arith}
+use Rattle.std.specs.List.{list_all}
 use Rattle.st_words.specs.declared.kind.Kind.{Kind}
 use Rattle.st_words.specs.Kinds.{holds}
 use Rattle.st_words.specs.Values.{Datum}
 use Rattle.st_words.specs.Paths.{Path, is_within}
-use Rattle.st_types.specs.Stores.{Store, get, has_part}
-use Rattle.st_types.specs.Scopes.{seen, or_datum}
-use Rattle.st_types.specs.Slots.{Slot, slot_of, IsLayout, AreOfTypes, variables_in, inputs_in}
+use Rattle.st_types.specs.Stores.{get, has_part}
+use Rattle.st_types.specs.Scopes.{or_datum}
+use Rattle.st_types.specs.Slots.{Slot, slot_of, IsLayout, variables_in, inputs_in}
 use Rattle.st_types.proofs.SlotLemmas.{input_has, none_where, seen_slot}
 use Rattle.st_sound.specs.Soundness.{IsOf}
 use Rattle.st_layouts.specs.Standing.{has_slot_within}
@@ -34,8 +34,8 @@ pub value_at : (layout : List Slot) (vs : List Datum) → AreValuesOf layout vs 
     → slice_get layout k ≡ Some l → IsValueAt vs k l.kind
 value_at layout vs h k l at =
     let a : option_map (λ v. v.kind) (slice_get vs k) ≡ Some l.kind =
-        sym (get_map (λ v. v.kind) vs k) ∙ ap (λ ks. slice_get ks k) h.types ∙ get_map (λ l. l.kind) layout k
-        ∙ ap (option_map (λ l. l.kind)) at in
+    sym (get_map (λ v. v.kind) vs k) ∙ ap (λ ks. slice_get ks k) h.types ∙ get_map (λ l. l.kind) layout k
+    ∙ ap (option_map (λ l. l.kind)) at in
     let i = map_some (λ v. v.kind) (slice_get vs k) l.kind a in
     record {
       datum = i.0;
@@ -53,15 +53,15 @@ pub variable_there : (layout : List Slot) (vs : List Datum) → IsLayout layout 
     → get (variables_in layout vs) l.path ≡ slice_get vs k
 variable_there layout vs distinct len k l at e =
     let n : get (inputs_in layout vs) l.path ≡ None = none_where (inputs_in layout vs) l.path (λ w h.
-        let i = input_has layout vs l.path w h in
-        let a : slot_of layout l.path ≡ Some k = distinct k l at in
-        let b : slot_of layout i.slot.path ≡ Some i.number = distinct i.number i.slot i.at in
-        let c : slot_of layout l.path ≡ Some i.number = ap (slot_of layout) i.path ∙ b in
-        let m : k ≡ i.number = some_is (sym a ∙ c) in
-        let f : slice_get layout k ≡ Some i.slot = ap (slice_get layout) m ∙ i.at in
-        let g : l ≡ i.slot = some_is (sym at ∙ f) in
-        let j : l.is_input ≡ true = ap (λ x. x.is_input) g ∙ i.sort in
-        absurd (cc)) in
+    let i = input_has layout vs l.path w h in
+    let a : slot_of layout l.path ≡ Some k = distinct k l at in
+    let b : slot_of layout i.slot.path ≡ Some i.number = distinct i.number i.slot i.at in
+    let c : slot_of layout l.path ≡ Some i.number = ap (slot_of layout) i.path ∙ b in
+    let m : k ≡ i.number = some_is (sym a ∙ c) in
+    let f : slice_get layout k ≡ Some i.slot = ap (slice_get layout) m ∙ i.at in
+    let g : l ≡ i.slot = some_is (sym at ∙ f) in
+    let j : l.is_input ≡ true = ap (λ x. x.is_input) g ∙ i.sort in
+    absurd (cc)) in
     sym (ap (λ o. or_datum o (get (variables_in layout vs) l.path)) n) ∙ seen_slot layout vs distinct len k l at
 
 -- some variable or input is within a path exactly where some slot is

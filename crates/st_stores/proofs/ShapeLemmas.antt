@@ -1,13 +1,15 @@
 -- What stands behind steps in a shape.
-use Rattle.std.proofs.Common.{◌≡◌, ℕ, ◌*◌, Bool, true, false, ◌&&◌, if◌then◌else◌, List, [], ◌∷◌, ◌++◌, Option, Some, None}
+use Rattle.std.proofs.Common.{◌≡◌, ℕ, ◌*◌, Bool, true, false, ◌&&◌, if◌then◌else◌, List, [], ◌∷◌, ◌++◌, Option, Some}
+use Rattle.std.proofs.Common.{None}
 use Rattle.std.proofs.Common.{option_map, option_and_then, refl, ap, ◌∙◌}
 use Rattle.std.specs.Prelude.{bytes_eq}
 use Rattle.st_words.specs.declared.kind.Kind.{Kind}
 use Rattle.st_words.specs.declared.path.Step.{Step}
 use Rattle.st_words.specs.declared.path.Step.TheVariants.{Member, Element}
 use Rattle.st_types.specs.Scopes.{Name}
-use Rattle.st_layouts.specs.Shapes.{Whole, Shape, plain, array, parts, Parts, no_parts, part_then, size, in_bounds}
-use Rattle.st_layouts.specs.Shapes.{distance, Position, beyond, position_of, position_in, leads_on, leads_in, part_named}
+use Rattle.st_layouts.specs.Shapes.{Shape, plain, array, parts, Parts, no_parts, part_then, size, in_bounds}
+use Rattle.st_layouts.specs.Shapes.{distance, Position, beyond, position_of, position_in, leads_on, leads_in}
+use Rattle.st_layouts.specs.Shapes.{part_named}
 use Rattle.st_layouts.proofs.ListLemmas.{if_some, some_is}
 use Rattle.st_stores.specs.Homes.{shape_behind}
 

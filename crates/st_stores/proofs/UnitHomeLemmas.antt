@@ -1,7 +1,6 @@
 -- The names of a block's body stand for members of its instance, and those of a function's for variables of its call.
-use Rattle.std.proofs.Common.{◌≡◌, ℕ, suc, Bool, true, false, ◌&&◌, if◌then◌else◌, List, [], ◌∷◌, ◌++◌, map, Option, Some, None}
+use Rattle.std.proofs.Common.{◌≡◌, Bool, true, false, if◌then◌else◌, List, [], ◌∷◌, ◌++◌, map, Option, Some, None}
 use Rattle.std.proofs.Common.{refl, sym, ap, ap₂, ◌∙◌}
-use Rattle.std.specs.Prelude.{bytes_eq}
 use Rattle.st_words.specs.declared.path.Step.TheVariants.{Member}
 use Rattle.st_words.specs.Paths.{Path}
 use Rattle.st_trees.specs.declared.data_type.SimpleType.{SimpleType}
@@ -11,16 +10,17 @@ use Rattle.st_trees.specs.declared.unit.UnitSort.TheVariants as sorts
 use Rattle.st_trees.specs.Units.{OrganisationUnit}
 use Rattle.st_types.specs.Bodies.{externals_in}
 use Rattle.st_types.specs.NameTypes.{Declared, is_named, type_in_blocks, result_type, variable_type}
-use Rattle.st_types.specs.Scopes.{Name, Frame, of_block, of_call, Scope, contains_name, unowned, member_at, own_path, path_in}
+use Rattle.st_types.specs.Scopes.{Name, Frame, of_block, of_call, Scope, contains_name, unowned, member_at, own_path}
+use Rattle.st_types.specs.Scopes.{path_in}
 use Rattle.st_statics.specs.declared.limits.TheConstants.{MAX_TYPE_DEPTH}
 use Rattle.st_statics.specs.Environments.{section_of}
 use Rattle.st_statics.specs.TargetRules.{is_fixed}
 use Rattle.st_layouts.specs.Shapes.{of_instance}
-use Rattle.st_layouts.specs.Types.{Site, NamedSite, sites_of_blocks, BlockType, instance_of, shape_of_type}
-use Rattle.st_layouts.specs.Types.{shape_within, is_within_depth}
+use Rattle.st_layouts.specs.Types.{Site, sites_of_blocks, instance_of, shape_of_type}
+use Rattle.st_layouts.specs.Types.{shape_within}
 use Rattle.st_layouts.specs.LayoutVariables.{Owned, owned_variable}
-use Rattle.st_layouts.specs.TextLayouts.{further, variable_shape}
-use Rattle.st_layouts.specs.Standing.{path_to, are_declared_once, variable_at}
+use Rattle.st_layouts.specs.TextLayouts.{variable_shape}
+use Rattle.st_layouts.specs.Standing.{are_declared_once}
 use Rattle.st_layouts.specs.Libraries.{result_site}
 use Rattle.st_layouts.proofs.LibraryLemmas.{instance_made}
 use Rattle.st_layouts.proofs.ListLemmas.{same_name}
@@ -116,7 +116,8 @@ block_homes text variables u t at w sort instance home grounded runs =
           whole = of_instance;
           sites = sites_of_blocks u.blocks;
           own = d.site;
-          composition = instance_made text t (record { name = u.name.name; members = sites_of_blocks u.blocks }) instance;
+          composition =
+              instance_made text t (record { name = u.name.name; members = sites_of_blocks u.blocks }) instance;
           named = d.is;
           declared = d.declared;
         }) home
@@ -141,8 +142,8 @@ function_homes text u r w sort once grounded runs =
         (is_fixed (section_of (environment_of text u) x)) (unowned x) t
     at_variable x s t e h i =
         let f = found_at text (map (owned_variable None) (result_site r u.name.name ∷ sites_of_blocks u.blocks)) once
-            (owned_variable None (record { name = x; site = s }))
-            (among_map (owned_variable None) (result_site r u.name.name ∷ sites_of_blocks u.blocks) i) in
+        (owned_variable None (record { name = x; site = s }))
+        (among_map (owned_variable None) (result_site r u.name.name ∷ sites_of_blocks u.blocks) i) in
         record {
           owner = None;
           name = x;
@@ -162,7 +163,8 @@ function_homes text u r w sort once grounded runs =
         (is_fixed (section_of (environment_of text u) x)) (unowned x) t
     own x t h e = by_test (is_named x u.name) refl h
       where
-        result_among : (y : Name) → y ≡ u.name.name → IsAmong (record { name = y; site = (result_site r u.name.name).site })
+        result_among : (y : Name) → y ≡ u.name.name
+            → IsAmong (record { name = y; site = (result_site r u.name.name).site })
             (result_site r u.name.name ∷ sites_of_blocks u.blocks)
         result_among y q = rw q here
 

@@ -96,8 +96,8 @@ pub record IsGrounded (text : Declared) (variables : List Owned) (u : Organisati
       → variable_type u x ≡ Some t
       → IsHome text variables (is_fixed (section_of (environment_of text u) x)) (unowned x) t
 
--- where a body of the unit runs: its names are those of this frame and its externals, whatever the units do, the body is
--- and the moment is
+-- where a body of the unit runs: its names are those of this frame and its externals, whatever the units do, the body
+-- is and the moment is
 pub record RunsIn (u : OrganisationUnit) (frame : Frame) (w : Scope) : Type 0 where
   pub names_of : w.frame ≡ frame
   pub externals : w.body.externals ≡ externals_in u.blocks
@@ -110,5 +110,6 @@ pub record IsProgramRun (source : Source) (u : OrganisationUnit) (w : Scope) : T
   pub names : are_names_different (declared_in source) ≡ true
   pub scopes : is_configuration_different (Some configuration) ≡ true
   pub instance : IsInstanceOf (declared_in source) configuration owner u
-  pub grounded : IsGrounded (declared_in source) (variables_of_configuration (declared_in source) (Some configuration)) u
+  pub grounded : IsGrounded (declared_in source)
+      (variables_of_configuration (declared_in source) (Some configuration)) u
   pub runs : RunsIn u (of_program owner) w

@@ -33,8 +33,8 @@ pub fn values_of_slots_agree()
         → HasHomes env variables w → Agrees env w (variables_in (slots_of env.text variables) vs) }
 {}
 
-/// The names of a program's body stand for the variables of its instance and for globals: where names differ, no type is
-/// too deep and each external stands for a global of its type.
+/// The names of a program's body stand for the variables of its instance and for globals: where names differ, no type
+/// is too deep and each external stands for a global of its type.
 pub fn programs_stand_in_their_layout()
     ensures { (text : Declared) (c : Configuration) (owner : Owner) (u : OrganisationUnit) (w : Scope)
         → are_types_and_units_different text ≡ true → is_configuration_different (Some c) ≡ true

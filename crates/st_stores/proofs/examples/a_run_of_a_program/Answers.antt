@@ -1,20 +1,20 @@
-use Rattle.std.proofs.Common.{◌≡◌, [], ◌∷◌, Bool, true, false, ◌||◌, if◌then◌else◌, Option, Some, None, refl, sym, ap, ◌∙◌, subst}
+use Rattle.std.proofs.Common.{◌≡◌, [], ◌∷◌, Bool, true, false, ◌||◌, if◌then◌else◌, Some, None, refl, sym, ap, ◌∙◌}
+use Rattle.std.proofs.Common.{subst}
 use Rattle.std.specs.Prelude.{bytes_eq, codes}
 use Rattle.st_words.specs.declared.kind.Kind.TheVariants.{Int}
 use Rattle.st_words.specs.declared.path.Owner.{Owner}
 use Rattle.st_trees.specs.declared.data_type.VariableType.{VariableType}
-use Rattle.st_types.specs.Bodies.{externals_in}
 use Rattle.st_types.specs.NameTypes.{Declared, declared_in, or_type, variable_type}
-use Rattle.st_types.specs.Scopes.{Name, of_program, Scope, unowned, contains_name}
+use Rattle.st_types.specs.Scopes.{Name, unowned}
 use Rattle.st_statics.specs.declared.limits.TheConstants.{MAX_TYPE_DEPTH}
 use Rattle.st_statics.specs.Environments.{section_of}
 use Rattle.st_statics.specs.TargetRules.{is_fixed}
-use Rattle.st_layouts.specs.Types.{shape_within, is_within_depth}
+use Rattle.st_layouts.specs.Types.{is_within_depth}
 use Rattle.st_layouts.specs.LayoutVariables.{variables_of_configuration}
 use Rattle.st_trees.specs.declared.declaration.Retention.TheVariants.{Retain}
 use Rattle.st_layouts.specs.LayoutExamples.{plain, adder, adding, adder_configuration, resource, instance}
 use Rattle.st_layouts.proofs.ListLemmas.{same_name, or_false, some_is}
-use Rattle.st_stores.specs.Homes.{IsHome, here, environment_of, IsGrounded, RunsIn, IsProgramRun}
+use Rattle.st_stores.specs.Homes.{IsHome, here, environment_of, IsGrounded}
 use Rattle.st_stores.proofs.examples.a_run_of_a_program.Goals as goal
 
 abbrev text : Declared

@@ -1,4 +1,4 @@
-use Rattle.std.proofs.Common.{◌≡◌, true, List, map, Some, sym, ap, ◌∙◌, subst}
+use Rattle.std.proofs.Common.{◌≡◌, List, map, Some, sym, ap, ◌∙◌, subst}
 use Rattle.st_words.specs.Values.{Datum}
 use Rattle.st_trees.specs.Units.{OrganisationUnit}
 use Rattle.st_trees.specs.Sources.{Source}
@@ -32,7 +32,8 @@ module _ (source : Source) (u : OrganisationUnit) (w : Scope) (vs : List Datum) 
   over_its_slots values image =
       let b = both (are_different (map (λ t. t.name.name) text.types)) (are_types_and_units_different text) r.names in
       let once = configuration_once text b.1 (Some r.configuration) r.scopes in
-      slots_agree (environment_of text u) (variables_of_configuration text (Some r.configuration)) w vs r.names once values
+      slots_agree (environment_of text u) (variables_of_configuration text (Some r.configuration)) w vs r.names once
+      values
       image (program_homes text r.configuration r.owner u r.instance once r.grounded w r.runs)
 
   over_the_text : AreValuesOf (slots_of_text source) vs → w.image ≡ inputs_in (slots_of_text source) vs
