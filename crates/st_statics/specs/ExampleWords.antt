@@ -1,5 +1,6 @@
 -- Words for worked examples: texts as trees, each name and literal at its place.
-use Rattle.std.specs.Prelude.{ℕ, suc, zero, ℤ, pos, unsigned_abs, int_lt, List, [], ◌∷◌, Bool, true, false, ◌+◌, map, Option, Some, None}
+use Rattle.std.specs.Prelude.{ℕ, suc, zero, ℤ, pos, unsigned_abs, int_lt, List, [], ◌∷◌, Bool, true, false, ◌+◌, map}
+use Rattle.std.specs.Prelude.{Option, Some, None}
 use Rattle.std.specs.Prelude.{codes}
 use Rattle.st_words.specs.declared.identifier.Identifier.{Identifier}
 use Rattle.st_words.specs.declared.kind.Kind.{Kind}

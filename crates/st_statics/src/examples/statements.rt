@@ -2,7 +2,8 @@
 
 ghost use Rattle.std.specs.Prelude.{◌≡◌, ◌∷◌, [], pos, true, codes, None, Some};
 ghost use Rattle.st_trees.specs.Expressions.{read};
-ghost use Rattle.st_trees.specs.Statements.{assign, invoke, IF, FOR, WHILE, REPEAT, EXIT, RETURN, given, copied, arms_of};
+ghost use Rattle.st_trees.specs.Statements.{assign, invoke, IF, FOR, WHILE, REPEAT, EXIT, RETURN, given, copied};
+ghost use Rattle.st_trees.specs.Statements.{arms_of};
 ghost use Rattle.st_trees.specs.Statements.{no_stmts, stmts_of};
 ghost use Rattle.st_statics.specs.declared.rule.Rule.TheVariants.{UnknownName, WrongType, OutOfRange, NotAssignable};
 ghost use Rattle.st_statics.specs.declared.rule.Rule.TheVariants.{ExitOutsideLoop, WrongArguments};
@@ -38,7 +39,8 @@ pub fn instances()
     ensures copied_to_output { broken (wide (invoke (at 100 F) (copied (at 102 (codes "Q")) (part 107 F 109 (codes "Q")) ∷ []) ∷ []))
         ≡ breaks NotAssignable 107 ∷ [] }
     // `f(ET => a[b])`: the type of the target, and that of its subscript
-    ensures subscript_of_target { broken (wide (invoke (at 100 F) (copied (at 102 (codes "ET")) (element 108 (codes "A") (reading 110 B)) ∷ []) ∷ []))
+    ensures subscript_of_target { broken (wide (invoke (at 100 F) (copied (at 102 (codes "ET")) (element 108 (codes "A") (reading 110 B)) ∷ [])
+        ∷ []))
         ≡ breaks WrongType 110 ∷ breaks WrongType 108 ∷ [] }
     // `n()`
     ensures no_instance { broken (wide (invoke (at 100 N) [] ∷ [])) ≡ breaks WrongType 100 ∷ [] }
@@ -47,14 +49,16 @@ pub fn instances()
     // `f()`
     ensures nothing_given { broken (wide (invoke (at 100 F) [] ∷ [])) ≡ [] }
     // An input is fixed in its own block, an output isn't.
-    ensures own_input { broken (block_of_inputs (assign (name 100 N) (number 105 (pos 3)) ∷ assign (name 110 X) (number 115 (pos 3)) ∷ []))
+    ensures own_input { broken
+        (block_of_inputs (assign (name 100 N) (number 105 (pos 3)) ∷ assign (name 110 X) (number 115 (pos 3)) ∷ []))
         ≡ breaks NotAssignable 100 ∷ [] }
 {}
 
 /// Conditions and loops in the same program.
 pub fn loops()
     // `IF n THEN END_IF`
-    ensures number_as_condition { broken (wide (IF (arms_of ((reading 103 N, no_stmts) ∷ [])) no_stmts ∷ [])) ≡ breaks WrongType 103 ∷ [] }
+    ensures number_as_condition { broken (wide (IF (arms_of ((reading 103 N, no_stmts) ∷ [])) no_stmts ∷ []))
+        ≡ breaks WrongType 103 ∷ [] }
     // `IF b THEN ELSIF n THEN END_IF`
     ensures second_condition { broken (wide (IF (arms_of ((reading 103 B, no_stmts) ∷ (reading 113 N, no_stmts) ∷ [])) no_stmts ∷ []))
         ≡ breaks WrongType 113 ∷ [] }
@@ -62,7 +66,8 @@ pub fn loops()
     ensures literal_as_condition { broken (wide (WHILE (number 106 (pos 1)) no_stmts ∷ REPEAT no_stmts (reading 120 B) ∷ []))
         ≡ breaks WrongType 106 ∷ [] }
     // `FOR n := 1 TO 2 BY 3 DO EXIT; END_FOR`
-    ensures counting { broken (wide (FOR (at 104 N) (number 109 (pos 1)) (number 114 (pos 2)) (Some (number 119 (pos 3)))
+    ensures counting { broken
+        (wide (FOR (at 104 N) (number 109 (pos 1)) (number 114 (pos 2)) (Some (number 119 (pos 3)))
         (stmts_of (EXIT 127 ∷ [])) ∷ [])) ≡ [] }
     // `FOR n := 1 TO 2 DO n := 3; END_FOR`
     ensures control_assigned { broken (wide (FOR (at 104 N) (number 109 (pos 1)) (number 114 (pos 2)) None
