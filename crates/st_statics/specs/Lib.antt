@@ -21,4 +21,5 @@ pub mod InitialRules
 pub mod Containment
 pub mod Depths
 pub mod Rules
+pub mod ConfigurationRules
 pub mod ExampleWords
