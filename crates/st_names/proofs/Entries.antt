@@ -1,5 +1,6 @@
 -- Entries that are added.
-use Rattle.std.proofs.Common.{◌≡◌, ◌∙◌, ap, arith, ℕ, List, [], ◌∷◌, Bool, true, false, ◌&&◌, Option, Some, None, refl, bytes_eq, nat_eq}
+use Rattle.std.proofs.Common.{◌≡◌, ◌∙◌, ap, arith, ℕ, List, [], ◌∷◌, Bool, true, false, ◌&&◌, Option, Some, None, refl}
+use Rattle.std.proofs.Common.{bytes_eq, nat_eq}
 use Rattle.std.proofs.lemmas.Bool.Decides.{nat_tests}
 use Rattle.std.proofs.lemmas.Slice.Eq.{bytes_eq-Decides}
 use Rattle.std.specs.Bool.{Decides}
@@ -20,9 +21,11 @@ pub turned : (xs ys : List ℕ) → bytes_eq xs ys ≡ bytes_eq ys xs
 turned [] [] = refl
 turned [] (y ∷ ys) = refl
 turned (x ∷ xs) [] = refl
-turned (x ∷ xs) (y ∷ ys) = both (nat_eq x y) (nat_eq y x) (bytes_eq xs ys) (bytes_eq ys xs) (number_turned x y) (turned xs ys)
+turned (x ∷ xs) (y ∷ ys) =
+    both (nat_eq x y) (nat_eq y x) (bytes_eq xs ys) (bytes_eq ys xs) (number_turned x y) (turned xs ys)
 
-added : {T : Type 0} (b : Bool) (o p : Option T) (v : T) → p ≡ (if b then Some v else o) → (b ≡ true → o ≡ None) → p ≡ or_found o (if b then Some v else None)
+added : {T : Type 0} (b : Bool) (o p : Option T) (v : T) → p ≡ (if b then Some v else o) → (b ≡ true → o ≡ None)
+    → p ≡ or_found o (if b then Some v else None)
 added true o p v is h = rw (is, h refl) refl
 added false o p v is h = rw is (or_none o)
 
@@ -32,5 +35,6 @@ same_bytes r xs ys d h = grind (arith, d)
 pub one_added : {T : Type 0} (q x k : List ℕ) (old : List ℕ → Option T) (new : Option T) (v : T) → k ≡ x → old x ≡ None
     → new ≡ (if bytes_eq k q then Some v else old q) → new ≡ or_found (old q) (if bytes_eq q x then Some v else None)
 one_added q x k old new v same absent is =
-    added (bytes_eq q x) (old q) new v (is ∙ ap (λ b. if b then Some v else old q) (ap (λ w. bytes_eq w q) same ∙ turned x q))
+    added (bytes_eq q x) (old q) new v
+        (is ∙ ap (λ b. if b then Some v else old q) (ap (λ w. bytes_eq w q) same ∙ turned x q))
     (λ h. ap old (same_bytes (bytes_eq q x) q x (bytes_eq-Decides q x) h) ∙ absent)

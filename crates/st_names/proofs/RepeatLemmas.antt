@@ -1,11 +1,12 @@
 -- Names that stand again, from the front of a list on.
-use Rattle.std.proofs.Common.{◌≡◌, refl, sym, ap, ◌∙◌, ℕ, List, [], ◌∷◌, ◌++◌, Bool, true, false, ◌||◌, if◌then◌else◌, Option, Some}
-use Rattle.std.proofs.Common.{None, take, drop, length, ◌<◌, ◌+◌, slice_index_or, bytes_eq, append_assoc, arith}
+use Rattle.std.proofs.Common.{◌≡◌, refl, sym, ap, ◌∙◌, ℕ, List, [], ◌∷◌, ◌++◌, Bool, true, false, ◌||◌, if◌then◌else◌}
+use Rattle.std.proofs.Common.{Option, Some}
+use Rattle.std.proofs.Common.{None, take, drop, length, ◌<◌, ◌+◌, slice_index_or, append_assoc, arith}
 use Rattle.std.specs.Prelude.{map, filter, is_some}
 use Rattle.std.specs.List.{list_any, Contains}
-use Rattle.std.proofs.lemmas.List.Elements.{Contains-append_left, Contains-append_right, filter-append}
+use Rattle.std.proofs.lemmas.List.Elements.{Contains-append_left, Contains-append_right}
 use Rattle.std.proofs.lemmas.List.Folds.{list_any-append}
-use Rattle.std.proofs.lemmas.List.{map-append, take_more, take-append-drop}
+use Rattle.std.proofs.lemmas.List.{take_more, take-append-drop}
 use Rattle.st_words.specs.declared.identifier.Identifier.{Identifier}
 use Rattle.st_types.specs.Scopes.{Name}
 use Rattle.st_types.specs.NameTypes.{is_named}
@@ -31,7 +32,8 @@ place_there f [] post x h = rw h (contains_first x.place (places_where f post))
 place_there f (y ∷ pre) post x h = one_more (f y) (place_there f pre post x h)
   where
     one_more : (b : Bool) → Contains (places_where f (pre ++ x ∷ post)) x.place
-        → Contains (map (λ z. z.place) (if b then y ∷ filter f (pre ++ x ∷ post) else filter f (pre ++ x ∷ post))) x.place
+        → Contains (map (λ z. z.place) (if b then y ∷ filter f (pre ++ x ∷ post) else filter f (pre ++ x ∷ post)))
+            x.place
     one_more true c = Contains-append_right (y.place ∷ []) (places_where f (pre ++ x ∷ post)) x.place c
     one_more false c = c
 
@@ -55,7 +57,8 @@ repeated_here y x pre post true e k rest =
     Contains-append_left (places_where (is_named y.name) (pre ++ x ∷ post)) (repeats (pre ++ x ∷ post)) x.place
     (place_there (is_named y.name) pre post x (turned y.name x.name ∙ e))
 repeated_here y x pre post false e k rest =
-    Contains-append_right (places_where (is_named y.name) (pre ++ x ∷ post)) (repeats (pre ++ x ∷ post)) x.place (rest k)
+    Contains-append_right (places_where (is_named y.name) (pre ++ x ∷ post)) (repeats (pre ++ x ∷ post)) x.place
+        (rest k)
 
 pub repeated : (pre post : List Identifier) (x : Identifier) → list_any (is_named x.name) pre ≡ true
     → Contains (repeats (pre ++ x ∷ post)) x.place
@@ -92,7 +95,8 @@ parted xs i x h is =
     sym (append_assoc (take i xs) (x ∷ []) (drop (i + 1) xs))
     ∙ ap (λ ys. ys ++ drop (i + 1) xs) (sym (more_taken xs i x h is)) ∙ take-append-drop (i + 1) xs
 
-pub more_named : (xs : List Identifier) (i : ℕ) (x : Identifier) (q : Name) (o : Option (Unit {0})) (p : Option (Unit {0}))
+pub more_named : (xs : List Identifier) (i : ℕ) (x : Identifier) (q : Name) (o : Option (Unit {0}))
+    (p : Option (Unit {0}))
     → take (i + 1) xs ≡ take i xs ++ x ∷ [] → is_some o ≡ list_any (is_named q) (take i xs)
     → p ≡ or_found o (if is_named q x then Some tt else None) → is_some p ≡ list_any (is_named q) (take (i + 1) xs)
 more_named xs i x q o p taken h is =

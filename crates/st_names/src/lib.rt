@@ -6,6 +6,8 @@
 
 mod index;
 mod repeats;
+mod texts;
 
 pub use index::Index;
 pub use repeats::first_repeat;
+pub use texts::TextNames;

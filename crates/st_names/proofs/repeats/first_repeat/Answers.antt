@@ -1,5 +1,4 @@
-use Rattle.std.proofs.Common.{rules, ◌≡◌, sym, subst, ◌∙◌, ap, ℕ, ◌+◌, List, [], ◌∷◌, ◌++◌, take, drop, true, false, arith}
-use Rattle.std.specs.Prelude.{is_some}
+use Rattle.std.proofs.Common.{rules, ◌≡◌, sym, subst, ◌+◌, [], take, drop, true, false}
 use Rattle.std.specs.List.{list_any, Contains}
 use Rattle.st_types.specs.NameTypes.{is_named}
 use Rattle.st_statics.specs.Places.{repeats}
