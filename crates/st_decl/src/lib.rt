@@ -1,0 +1,9 @@
+//! The rules on declarations: names that are declared twice.
+#![tactic(auto)]
+
+mod initial_scopes;
+mod names;
+mod names_of;
+mod standard;
+
+pub use standard::is_standard;
