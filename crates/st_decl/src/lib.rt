@@ -4,6 +4,7 @@
 mod initial_scopes;
 mod names;
 mod names_of;
+mod scopes;
 mod standard;
 
 pub use standard::is_standard;
