@@ -1,1 +1,2 @@
 pub mod StandardLemmas
+pub mod FindLemmas

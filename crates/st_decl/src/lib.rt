@@ -6,5 +6,6 @@ mod names;
 mod names_of;
 mod scopes;
 mod standard;
+mod twice_declared;
 
-pub use standard::is_standard;
+pub use twice_declared::declared_twice;

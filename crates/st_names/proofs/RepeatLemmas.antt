@@ -6,13 +6,14 @@ use Rattle.std.specs.Prelude.{map, filter, is_some}
 use Rattle.std.specs.List.{list_any, Contains}
 use Rattle.std.proofs.lemmas.List.Elements.{Contains-append_left, Contains-append_right}
 use Rattle.std.proofs.lemmas.List.Folds.{list_any-append}
-use Rattle.std.proofs.lemmas.List.{take_more, take-append-drop}
+use Rattle.std.proofs.lemmas.List.{map-append, take_more, take-append-drop}
 use Rattle.st_words.specs.declared.identifier.Identifier.{Identifier}
 use Rattle.st_types.specs.Scopes.{Name}
 use Rattle.st_types.specs.NameTypes.{is_named}
 use Rattle.st_statics.specs.Places.{places_where, repeats}
 use Rattle.st_names.specs.Found.{or_found}
 use Rattle.st_names.proofs.Entries.{turned}
+use Rattle.st_names.proofs.TextLemmas.{more_mapped}
 
 -- an index that has the names of a list, and gets one more
 pub more_found : (b c : Bool) (o : Option (Unit {0})) → is_some o ≡ c
@@ -84,21 +85,17 @@ not_repeated (y ∷ pre) x h k =
     let rest = not_repeated pre x clean.1 parts.1 in
     rw (first, rest) refl
 
--- a list where a loop is in it
-pub more_taken : (xs : List Identifier) (i : ℕ) (x : Identifier) → i < length xs → x ≡ slice_index_or xs i x
-    → take (i + 1) xs ≡ take i xs ++ x ∷ []
-more_taken xs i x h is = take_more xs i x h ∙ ap (λ y. take i xs ++ y ∷ []) (sym is)
+-- a list where a loop is in it, through a view
+pub parted : {A : Type 0} (f : A → Identifier) (xs : List A) (i : ℕ) (x : A) → i < length xs → x ≡ slice_index_or xs i x
+    → map f (take i xs) ++ f x ∷ map f (drop (i + 1) xs) ≡ map f xs
+parted f xs i x h is =
+    sym (append_assoc (map f (take i xs)) (f x ∷ []) (map f (drop (i + 1) xs)))
+    ∙ ap (λ ys. ys ++ map f (drop (i + 1) xs)) (sym (more_mapped f xs i x h is))
+    ∙ sym (map-append f (take (i + 1) xs) (drop (i + 1) xs)) ∙ ap (map f) (take-append-drop (i + 1) xs)
 
-pub parted : (xs : List Identifier) (i : ℕ) (x : Identifier) → i < length xs → x ≡ slice_index_or xs i x
-    → take i xs ++ x ∷ drop (i + 1) xs ≡ xs
-parted xs i x h is =
-    sym (append_assoc (take i xs) (x ∷ []) (drop (i + 1) xs))
-    ∙ ap (λ ys. ys ++ drop (i + 1) xs) (sym (more_taken xs i x h is)) ∙ take-append-drop (i + 1) xs
-
-pub more_named : (xs : List Identifier) (i : ℕ) (x : Identifier) (q : Name) (o : Option (Unit {0}))
-    (p : Option (Unit {0}))
-    → take (i + 1) xs ≡ take i xs ++ x ∷ [] → is_some o ≡ list_any (is_named q) (take i xs)
-    → p ≡ or_found o (if is_named q x then Some tt else None) → is_some p ≡ list_any (is_named q) (take (i + 1) xs)
-more_named xs i x q o p taken h is =
-    ap is_some is ∙ more_found (is_named q x) (list_any (is_named q) (take i xs)) o h
-    ∙ sym (ap (list_any (is_named q)) taken ∙ list_any-append (is_named q) (take i xs) (x ∷ []))
+pub more_named : (before now : List Identifier) (x : Identifier) (q : Name) (o p : Option (Unit {0}))
+    → now ≡ before ++ x ∷ [] → is_some o ≡ list_any (is_named q) before
+    → p ≡ or_found o (if is_named q x then Some tt else None) → is_some p ≡ list_any (is_named q) now
+more_named before now x q o p taken h is =
+    ap is_some is ∙ more_found (is_named q x) (list_any (is_named q) before) o h
+    ∙ sym (ap (list_any (is_named q)) taken ∙ list_any-append (is_named q) before (x ∷ []))

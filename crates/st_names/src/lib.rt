@@ -9,5 +9,5 @@ mod repeats;
 mod texts;
 
 pub use index::Index;
-pub use repeats::first_repeat;
+pub use repeats::{first_repeat, index_of};
 pub use texts::TextNames;

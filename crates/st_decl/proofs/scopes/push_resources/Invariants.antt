@@ -1,5 +1,4 @@
-use Rattle.std.proofs.Common.{◌≡◌, ◌++◌, ◌∷◌, map, drop}
-use Rattle.std.specs.List.{flat_map}
+use Rattle.std.proofs.Common.{◌≡◌, ◌++◌, map, drop}
 use Rattle.st_trees.specs.ConfigurationViews.{resource_view}
 use Rattle.st_statics.specs.NameScopes.{names_in}
 use Rattle.st_decl.proofs.scopes.push_resources.Given as goal

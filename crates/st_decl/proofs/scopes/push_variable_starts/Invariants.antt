@@ -1,4 +1,4 @@
-use Rattle.std.proofs.Common.{◌≡◌, ◌++◌, ◌∷◌, map, drop}
+use Rattle.std.proofs.Common.{◌≡◌, ◌++◌, map, drop}
 use Rattle.std.specs.List.{flat_map}
 use Rattle.st_trees.specs.DeclarationViews.{variable_block_view}
 use Rattle.st_statics.specs.NameScopes.{scopes_in_variables}
