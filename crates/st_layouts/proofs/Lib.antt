@@ -1,0 +1,11 @@
+pub mod ListLemmas
+pub mod LeafLemmas
+pub mod VariableLemmas
+pub mod SiteLemmas
+pub mod OwnPaths
+pub mod NameLemmas
+pub mod StoreLemmas
+pub mod ValueLemmas
+pub mod LibraryLemmas
+pub mod DepthLemmas
+pub mod ResolvedLemmas

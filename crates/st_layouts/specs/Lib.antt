@@ -1,0 +1,11 @@
+pub mod Shapes
+pub mod Types
+pub mod Sites
+pub mod LayoutVariables
+pub mod TextLayouts
+pub mod Libraries
+pub mod Names
+pub mod LayoutExamples
+pub mod Standing
+pub mod InitialExamples
+pub mod LibraryExamples

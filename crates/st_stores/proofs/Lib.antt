@@ -1,0 +1,6 @@
+pub mod ShapeLemmas
+pub mod SeenLemmas
+pub mod MemberLemmas
+pub mod AgreementLemmas
+pub mod HomeLemmas
+pub mod UnitHomeLemmas

@@ -1,0 +1,72 @@
+//! Laws of stores over the slots of a layout.
+
+ghost use Rattle.std.specs.Prelude.{◌≡◌, List, ◌∷◌, map, Option, Some, None, true, false};
+ghost use Rattle.st_words.specs.Values.{Datum};
+ghost use Rattle.st_words.specs.Paths.{Path};
+ghost use Rattle.st_trees.specs.declared.data_type.SimpleType.{SimpleType};
+ghost use Rattle.st_trees.specs.declared.data_type.VariableType.{VariableType};
+ghost use Rattle.st_trees.specs.declared.unit.UnitSort.TheVariants as sorts;
+ghost use Rattle.st_words.specs.declared.path.Owner.{Owner};
+ghost use Rattle.st_trees.specs.Configurations.{Configuration};
+ghost use Rattle.st_trees.specs.Units.{OrganisationUnit};
+ghost use Rattle.st_trees.specs.Sources.{Source};
+ghost use Rattle.st_types.specs.NameTypes.{Declared, declared_in};
+ghost use Rattle.st_types.specs.Scopes.{Scope, of_program, of_block, of_call};
+ghost use Rattle.st_types.specs.Slots.{variables_in, inputs_in};
+ghost use Rattle.st_statics.specs.Environments.{Environment};
+ghost use Rattle.st_sound.specs.Soundness.{Agrees};
+ghost use Rattle.st_layouts.specs.LayoutVariables.{Owned, owned_variable, variables_of_configuration};
+ghost use Rattle.st_layouts.specs.Libraries.{result_site};
+ghost use Rattle.st_layouts.specs.Types.{sites_of_blocks, instance_of};
+ghost use Rattle.st_layouts.specs.Names.{are_types_and_units_different, is_configuration_different};
+ghost use Rattle.st_layouts.specs.TextLayouts.{slots_of, slots_of_text};
+ghost use Rattle.st_layouts.specs.Standing.{are_declared_once};
+ghost use Rattle.st_stores.specs.Homes.{HasHomes, are_names_different, AreValuesOf, IsInstanceOf, IsGrounded};
+ghost use Rattle.st_stores.specs.Homes.{RunsIn, environment_of, IsProgramRun, IsHome};
+
+/// Where the names of a unit stand for parts of a layout, each place of the unit that has an elementary or enumerated
+/// type has a value of it, over all values of the layout's slots that are of their types.
+pub fn values_of_slots_agree()
+    ensures { (env : Environment) (variables : List Owned) (w : Scope) (vs : List Datum)
+        → are_names_different env.text ≡ true → are_declared_once env.text variables ≡ true
+        → AreValuesOf (slots_of env.text variables) vs → w.image ≡ inputs_in (slots_of env.text variables) vs
+        → HasHomes env variables w → Agrees env w (variables_in (slots_of env.text variables) vs) }
+{}
+
+/// The names of a program's body stand for the variables of its instance and for globals: where names differ, no type is
+/// too deep and each external stands for a global of its type.
+pub fn programs_stand_in_their_layout()
+    ensures { (text : Declared) (c : Configuration) (owner : Owner) (u : OrganisationUnit) (w : Scope)
+        → are_types_and_units_different text ≡ true → is_configuration_different (Some c) ≡ true
+        → IsInstanceOf text c owner u → IsGrounded text (variables_of_configuration text (Some c)) u
+        → RunsIn u (of_program owner) w
+        → HasHomes (environment_of text u) (variables_of_configuration text (Some c)) w }
+{}
+
+/// Over any values of a text's slots, of their types, what a program of the text names has a value of its type. So the
+/// laws of well-typed expressions and assignments hold of its runs.
+pub fn programs_agree_with_their_layout()
+    ensures { (source : Source) (u : OrganisationUnit) (w : Scope) (vs : List Datum) → IsProgramRun source u w
+        → AreValuesOf (slots_of_text source) vs → w.image ≡ inputs_in (slots_of_text source) vs
+        → Agrees (environment_of (declared_in source) u) w (variables_in (slots_of_text source) vs) }
+{}
+
+/// The names of a block's body stand for the members of its instance and for globals.
+pub fn blocks_stand_in_their_instances()
+    ensures { (text : Declared) (variables : List Owned) (u : OrganisationUnit) (t : VariableType) (at : Path)
+        (w : Scope) → u.sort ≡ sorts.FunctionBlock
+        → instance_of text t ≡ Some record { name = u.name.name; members = sites_of_blocks u.blocks }
+        → IsHome text variables false at t → IsGrounded text variables u → RunsIn u (of_block at) w
+        → HasHomes (environment_of text u) variables w }
+{}
+
+/// The names of a function's body stand for the variables of its call.
+pub fn functions_stand_in_their_calls()
+    ensures { (text : Declared) (u : OrganisationUnit) (t : SimpleType) (w : Scope) → u.sort ≡ sorts.Function t
+        → are_declared_once text (map (owned_variable None) (result_site t u.name.name ∷ sites_of_blocks u.blocks))
+        ≡ true
+        → IsGrounded text (map (owned_variable None) (result_site t u.name.name ∷ sites_of_blocks u.blocks)) u
+        → RunsIn u of_call w
+        → HasHomes (environment_of text u)
+        (map (owned_variable None) (result_site t u.name.name ∷ sites_of_blocks u.blocks)) w }
+{}

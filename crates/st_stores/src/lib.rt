@@ -1,0 +1,13 @@
+//! What programs run on: the values of a layout's slots agree with what a text declares.
+//!
+//! The laws of well-typed expressions and statements speak of stores that agree with a unit's declarations. Here it is
+//! proved that the stores of a layout do, whatever values of their types its slots have. The functions do nothing: their
+//! contracts are the laws.
+#![tactic(auto)]
+
+pub mod examples;
+mod laws;
+
+pub use laws::{
+    blocks_stand_in_their_instances, functions_stand_in_their_calls, programs_agree_with_their_layout, programs_stand_in_their_layout, values_of_slots_agree,
+};
