@@ -1,5 +1,6 @@
 -- Well-typed assignments are done, or end with a fault of the run.
-use Rattle.std.proofs.Common.{◌≡◌, refl, sym, ap, subst, ◌∙◌, ℕ, zero, suc, Bool, true, false, ◌&&◌, not, if◌then◌else◌, List}
+use Rattle.std.proofs.Common.{◌≡◌, refl, sym, ap, subst, ◌∙◌, ℕ, zero, suc, Bool, true, false, ◌&&◌, not, if◌then◌else◌}
+use Rattle.std.proofs.Common.{List}
 use Rattle.std.proofs.Common.{[], ◌∷◌, ◌++◌, Option, Some, None, Result, Ok, Err}
 use Rattle.std.specs.Prelude.{is_some}
 use Rattle.std.specs.List.{flat_map}
@@ -124,8 +125,10 @@ assigning_alike env w s u v i j p x xs e there fixed parts (elementary k) is kno
     alike_then {A = Datum} {B = End} (IsOf k) (λ _. Unit {0})
     (value (standing u i w) s (resolved_expr env.text env.unit (Some k) e) b)
     (value (standing v j w) s (resolved_expr env.text env.unit (Some k) e) b)
-    (λ n c. follow (selected (standing u i w) s at ys c) (λ q d. follow (attempt i (assigned s q n) d) (λ r. give (goes_on r))))
-    (λ n c. follow (selected (standing v j w) s at ys c) (λ q d. follow (attempt j (assigned s q n) d) (λ r. give (goes_on r))))
+    (λ n c. follow (selected (standing u i w) s at ys c)
+    (λ q d. follow (attempt i (assigned s q n) d) (λ r. give (goes_on r))))
+    (λ n c. follow (selected (standing v j w) s at ys c)
+    (λ q d. follow (attempt j (assigned s q n) d) (λ r. give (goes_on r))))
     (value_alike env w s u v i j p (Some k) e (inside env d e h) k kind b)
     (λ n c of. alike_then {A = Path} {B = End} (λ q. IsPlace env w s x.name q t) (λ _. Unit {0})
     (selected (standing u i w) s at ys c) (selected (standing v j w) s at ys c)
@@ -204,12 +207,15 @@ assign_alike : (env : Environment) (w : Scope) (s : Store) (u v : Units) (i j : 
 assign_alike env w s u v i j p c x xs e target h parts b =
     let v' = variable x xs in
     let there = variable_is_there env p.known x xs (front_empty (wrong_variable env v')
-    (breaking NotAssignable (if is_some (type_of_place env v') then unless (is_assignable env c v') x.place else [])) target) in
+    (breaking NotAssignable (if is_some (type_of_place env v') then unless (is_assignable env c v') x.place else []))
+    target) in
     let is = type_there env x xs there in
     let assignable = assignable_there (type_of_place env v') there.behind.type_is (is_assignable env c v') x.place is
     (back_empty (wrong_variable env v')
-    (breaking NotAssignable (if is_some (type_of_place env v') then unless (is_assignable env c v') x.place else [])) target) in
-    let free = (and_parts (not (is_fixed (section_of env x.name))) _ (and_parts (not (is_fixed (section_of env x.name)) && _) _ assignable).0).0 in
+    (breaking NotAssignable (if is_some (type_of_place env v') then unless (is_assignable env c v') x.place else []))
+    target) in
+    let free = (and_parts (not (is_fixed (section_of env x.name))) _
+    (and_parts (not (is_fixed (section_of env x.name)) && _) _ assignable).0).0 in
     let kind : kind_of_variable env.text env.unit v' ≡ kind_of (typing_of_type env.text (Some there.behind.type_is)) =
     kind_of_declared env.text (type_of_place env v') ∙ ap (λ o. kind_of (typing_of_type env.text o)) is in
     subst (λ (k : Option Kind). Alike {A = End} (λ _. Unit {0})

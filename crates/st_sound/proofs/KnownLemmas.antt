@@ -55,7 +55,8 @@ literal_known text k (literals.Truth at b) env e h = refl
 literal_known text k (literals.Duration at n) env e h = refl
 literal_known text k (literals.Enumerated v) env e h = reading_known v.place (reading_written env.text v) h
 
-alone_known : (env : Environment) → AreKnown env → (at : ℕ) (x : Name) (o : Option VariableType) → type_of_name env x ≡ o
+alone_known : (env : Environment) → AreKnown env → (at : ℕ) (x : Name) (o : Option VariableType)
+    → type_of_name env x ≡ o
     → wrong_alone env at x o ≡ [] → is_nothing (typing_of_alone env x o) ≡ false
 alone_known env known at x None is h = reading_known at (reading_of_name env.text x) h
 alone_known env known at x (Some t) is h = known.variables x t is

@@ -89,12 +89,14 @@ converted_or_not : (l : Kind) (z : ℤ) (b : Bool) → holds l z ≡ b
 converted_or_not l z true h = record { kind = refl; held = h }
 converted_or_not l z false h = tt
 
-of_kind_gives : (k l : Kind) (x : Datum) (r : Result Datum Fault) → x.kind ≡ k → k ≡ l → Gives (IsOf x.kind) r → Succeeds (IsOf l) (failing r)
+of_kind_gives : (k l : Kind) (x : Datum) (r : Result Datum Fault) → x.kind ≡ k → k ≡ l → Gives (IsOf x.kind) r
+    → Succeeds (IsOf l) (failing r)
 of_kind_gives k l x r e f h = failed {A = Datum} (IsOf l) r (subst (λ m. Gives (IsOf m) r) (e ∙ f) h)
 
 converted : (k l : Kind) (x : Datum) (b : Bool) → b ≡ true
     → Succeeds (IsOf l) (if b then failing (conversion l x.number) else Err ill_typed)
-converted k l x true h = failed {A = Datum} (IsOf l) (conversion l x.number) (converted_or_not l x.number (holds l x.number) refl)
+converted k l x true h =
+    failed {A = Datum} (IsOf l) (conversion l x.number) (converted_or_not l x.number (holds l x.number) refl)
 converted k l x false h = absurd (cc)
 
 -- one operand, of which nothing is expected

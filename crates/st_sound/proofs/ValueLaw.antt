@@ -1,5 +1,6 @@
 -- Well-typed expressions have values of their types.
-use Rattle.std.proofs.Common.{◌≡◌, refl, sym, ap, subst, ◌∙◌, append_assoc, arith, ℕ, suc, ◌+◌, ◌==◌, Bool, true, false, ◌||◌}
+use Rattle.std.proofs.Common.{◌≡◌, refl, sym, ap, subst, ◌∙◌, append_assoc, arith, ℕ, suc, ◌+◌, ◌==◌, Bool, true, false}
+use Rattle.std.proofs.Common.{◌||◌}
 use Rattle.std.proofs.Common.{if◌then◌else◌, List, [], ◌∷◌, ◌++◌, length, Option, Some, None}
 use Rattle.std.specs.Prelude.{ℤ, pos, map, option_and_then, is_some}
 use Rattle.std.specs.List.{flat_map, list_all}
@@ -20,7 +21,8 @@ use Rattle.st_words.proofs.KindLemmas.{same_kind_is}
 use Rattle.st_words.specs.Values.{Datum, in_range}
 use Rattle.st_words.specs.Paths.{Path}
 use Rattle.st_trees.specs.declared.data_type.VariableType.{VariableType}
-use Rattle.st_trees.specs.Expressions.{Expr, literal, read, call, parenthesis, unary, binary, Exprs, no_exprs, expr_then}
+use Rattle.st_trees.specs.Expressions.{Expr, literal, read, call, parenthesis, unary, binary, Exprs, no_exprs}
+use Rattle.st_trees.specs.Expressions.{expr_then}
 use Rattle.st_trees.specs.Expressions.{variable, member, subscript, Selectors, no_selectors}
 use Rattle.st_trees.specs.Expressions.{selector_then}
 use Rattle.st_trees.specs.declared.unit.UnitSort.{UnitSort}
@@ -56,7 +58,8 @@ use Rattle.st_statics.specs.Readings.{Reading, reading_among, reading_of, readin
 use Rattle.st_statics.specs.Environments.{Environment, Callee, standard, own, callee_of, callee_of_sort, type_of_name}
 use Rattle.st_statics.specs.Demands.{expected_of, demands_of_standard, sorts_of_binary}
 use Rattle.st_statics.specs.Typings.{kind_of, kinds_of, is_untyped_typing, is_nothing, typing_of, typings_of}
-use Rattle.st_statics.specs.Typings.{typing_of_type, typing_of_literal, typing_of_number, typing_of_reading, typing_of_kind}
+use Rattle.st_statics.specs.Typings.{typing_of_type, typing_of_literal, typing_of_number, typing_of_reading}
+use Rattle.st_statics.specs.Typings.{typing_of_kind}
 use Rattle.st_statics.specs.Typings.{typing_of_callee, typing_of_alone, settled, meets, joined, are_operands}
 use Rattle.st_statics.specs.Nodes.{nodes_of, nodes_below, nodes_of_all, nodes_of_selectors, offered, demands_of}
 use Rattle.st_statics.specs.ExpressionRules.{first_byte, count_of, wrong_alone, wrong_call, wrong_part, wrong_node}
@@ -393,7 +396,8 @@ call_standard env w s u v i j k std f es l all n h t b =
     ≡ resolved_exprs env.text env.unit (map expected_of ds) es =
     ap (λ q. resolved_exprs env.text env.unit (expected_kinds std q) es) (all_kinds_told env es)
     ∙ standard_expected env.text env.unit std ks es in
-    subst (λ (q : Exprs). Alike (IsOf l) (follow (values (standing u i w) s q b) (λ vs. attempt i (standard_value std vs)))
+    subst (λ (q : Exprs). Alike (IsOf l)
+    (follow (values (standing u i w) s q b) (λ vs. attempt i (standard_value std vs)))
     (follow (values (standing v j w) s q b) (λ vs. attempt j (standard_value std vs)))) (sym same)
     (alike_then (FitPlaces env ds es) (IsOf l)
     (values (standing u i w) s (resolved_exprs env.text env.unit (map expected_of ds) es) b)
@@ -415,7 +419,8 @@ call_own : (env : Environment) (w : Scope) (s : Store) (u v : Units) (i j : Stan
 call_own env w s u v i j p k f inputs result es l is all n h t b =
     let ds = map (λ i. asked i any) inputs in
     let result_is = kind_given k result l t in
-    let callee : callee_of env f ≡ Some (own inputs (Some l)) = is ∙ ap (λ (r : Option Kind). Some (own inputs r)) result_is in
+    let callee : callee_of env f ≡ Some (own inputs (Some l)) =
+    is ∙ ap (λ (r : Option Kind). Some (own inputs r)) result_is in
     subst (λ (q : List (Option Kind)). Alike (IsOf l)
     (follow (values (standing u i w) s (resolved_exprs env.text env.unit q es) b) (λ vs. u.functions f vs))
     (follow (values (standing v j w) s (resolved_exprs env.text env.unit q es) b) (λ vs. v.functions f vs)))
@@ -515,7 +520,8 @@ mutual
       (own_part env k (read (variable x (selector_then y ys))) h) in
       let t = there.behind.type_is in
       let kind = kind_there env.text k (Some t) l
-      (subst (λ o. settled k (typing_of_type env.text o) ≡ elementary l) (type_there env x (selector_then y ys) there) is) in
+      (subst (λ o. settled k (typing_of_type env.text o) ≡ elementary l)
+      (type_there env x (selector_then y ys) there) is) in
       alike_then {A = Path} (λ q. IsPlace env w s x.name q t) (IsOf l)
       (selected (standing u i w) s (path_in w.frame w.body x.name)
       (resolved_selectors env.text env.unit (selector_then y ys)) b)
@@ -537,7 +543,8 @@ mutual
       alike_then (IsOf l) (IsOf l) (value (standing u i w) s (resolved_expr env.text env.unit k e) b)
       (value (standing v j w) s (resolved_expr env.text env.unit k e) b)
       (λ x. attempt i (failing (apply_unary op x))) (λ x. attempt j (failing (apply_unary op x)))
-      (value_alike env w s u v i j p k e (back_empty (wrong_part env k (unary op at e)) (wrong_within env k e) h) l is b)
+      (value_alike env w s u v i j p k e (back_empty (wrong_part env k (unary op at e)) (wrong_within env k e) h) l is
+      b)
       (λ x c of. attempted (IsOf l) i j (failing (apply_unary op x)) c
       (failed {A = Datum} (IsOf l) (apply_unary op x)
       (subst (λ m. Gives (IsOf m) (apply_unary op x)) of.kind (unary_gives op x))))
@@ -555,9 +562,11 @@ mutual
       let kind = operation_kind (is_joining op) k (typing_of env x) (typing_of env y) m l alike.2 one is in
       subst (λ (q : Option Kind). Alike (IsOf l)
       (follow (value (standing u i w) s (resolved_expr env.text env.unit q x) b)
-      (λ n c. follow (value (standing u i w) s (resolved_expr env.text env.unit q y) c) (λ r. attempt i (apply op n r))))
+      (λ n c. follow (value (standing u i w) s (resolved_expr env.text env.unit q y) c)
+      (λ r. attempt i (apply op n r))))
       (follow (value (standing v j w) s (resolved_expr env.text env.unit q x) b)
-      (λ n c. follow (value (standing v j w) s (resolved_expr env.text env.unit q y) c) (λ r. attempt j (apply op n r)))))
+      (λ n c. follow (value (standing v j w) s (resolved_expr env.text env.unit q y) c)
+      (λ r. attempt j (apply op n r)))))
       (sym (offers env k op x y))
       (alike_then (IsOf m) (IsOf l) (value (standing u i w) s (resolved_expr env.text env.unit o x) b)
       (value (standing v j w) s (resolved_expr env.text env.unit o x) b)

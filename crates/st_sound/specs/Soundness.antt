@@ -1,5 +1,6 @@
 -- What the values of well-typed expressions are, and that no fault of theirs stands for what is ill typed.
-use Rattle.std.specs.Prelude.{◌≡◌, ℕ, ℤ, List, [], ◌∷◌, ◌||◌, true, false, Option, Some, Result, Ok, Err, IsSome, is_some}
+use Rattle.std.specs.Prelude.{◌≡◌, ℕ, ℤ, List, [], ◌∷◌, ◌||◌, true, false, Option, Some, Result, Ok, Err, IsSome}
+use Rattle.std.specs.Prelude.{is_some}
 use Rattle.std.specs.List.{list_all}
 use Rattle.st_words.specs.declared.fault.Fault.{Fault}
 use Rattle.st_words.specs.declared.kind.Kind.{Kind}
@@ -50,7 +51,8 @@ Alike P (Err e) (Ok q) = ⊥
 abbrev pub standing : Units → StandIns → Scope → Scope
 standing u i w = record w { units = u; stand_ins = i }
 
--- A place that is reached from a variable of the unit by members and by elements that are there, with its declared type.
+-- A place that is reached from a variable of the unit by members and by elements that are there, with its declared
+-- type.
 pub data IsPlace (env : Environment) (w : Scope) (s : Store) : Name → Path → VariableType → Type 0 where
   root : {t : VariableType} (x : Name) → type_of_name env x ≡ Some t → IsPlace env w s x (path_in w.frame w.body x) t
   part : {x : Name} {p : Path} {t u : VariableType} (y : Name) → IsPlace env w s x p t
@@ -59,7 +61,8 @@ pub data IsPlace (env : Environment) (w : Scope) (s : Store) : Name → Path →
       → element_type (definition_of env.text t) ≡ Some u
       → (has_part w.image (element_at p z) || has_part s (element_at p z)) ≡ true → IsPlace env w s x (element_at p z) u
 
--- Each place of an elementary or enumerated type has a value of that type, and one that may be assigned has it among the
+-- Each place of an elementary or enumerated type has a value of that type, and one that may be assigned has it among
+-- the
 -- variables.
 pub record Agrees (env : Environment) (w : Scope) (s : Store) : Type 0 where
   pub values : {x : Name} {p : Path} {t : VariableType} (k : Kind) → IsPlace env w s x p t

@@ -1,1 +1,2 @@
 pub mod TypingLaws
+pub mod DepthLaws

@@ -1,5 +1,6 @@
 -- What units and types contain, and how deep they are.
-use Rattle.std.specs.Prelude.{ℕ, suc, zero, ◌+◌, ◌*◌, List, [], ◌∷◌, ◌++◌, map, length, Bool, true, false, ◌||◌, if◌then◌else◌}
+use Rattle.std.specs.Prelude.{ℕ, suc, zero, ◌+◌, ◌*◌, List, [], ◌∷◌, ◌++◌, map, length, Bool, true, false, ◌||◌}
+use Rattle.std.specs.Prelude.{if◌then◌else◌}
 use Rattle.std.specs.Prelude.{Option, Some, None, is_some, bytes_eq}
 use Rattle.std.specs.List.{flat_map, list_any, filter}
 use Rattle.st_trees.specs.declared.data_type.SimpleType.{SimpleType}

@@ -1,5 +1,6 @@
 -- Words for worked examples: texts as trees, each name and literal at its place.
-use Rattle.std.specs.Prelude.{ℕ, suc, zero, ℤ, pos, unsigned_abs, int_lt, List, [], ◌∷◌, Bool, true, false, ◌+◌, map, Option, Some, None}
+use Rattle.std.specs.Prelude.{ℕ, suc, zero, ℤ, pos, unsigned_abs, int_lt, List, [], ◌∷◌, Bool, true, false, ◌+◌, map}
+use Rattle.std.specs.Prelude.{Option, Some, None}
 use Rattle.std.specs.Prelude.{codes}
 use Rattle.st_words.specs.declared.identifier.Identifier.{Identifier}
 use Rattle.st_words.specs.declared.kind.Kind.{Kind}
@@ -28,7 +29,10 @@ use Rattle.st_trees.specs.declared.configuration.AddressWidth.TheVariants.{Bit}
 use Rattle.st_trees.specs.declared.configuration.Direction.TheVariants.{Input as FromPlant}
 use Rattle.st_trees.specs.declared.configuration.GlobalQualifier.{GlobalQualifier}
 use Rattle.st_trees.specs.declared.configuration.Task.{Task}
-use Rattle.st_trees.specs.Configurations.{GlobalDeclaration, located}
+use Rattle.st_trees.specs.declared.configuration.AddressWidth.{AddressWidth}
+use Rattle.st_trees.specs.declared.configuration.Direction.{Direction}
+use Rattle.st_trees.specs.Configurations.{GlobalDeclaration, located, listed, Resource, Configuration}
+use Rattle.st_types.specs.NameTypes.{Declared}
 use Rattle.st_trees.specs.Sources.{LibraryElement, unit, types, configuration, Source}
 use Rattle.st_types.specs.Scopes.{Name}
 use Rattle.st_statics.specs.declared.rule.Rule.{Rule}
@@ -276,3 +280,47 @@ chain_of_types (suc zero) =
 chain_of_types (suc (suc n)) =
     defining (at (suc (suc n)) (suc (suc n) ∷ []))
     (definitions.structure (field_of (at 1000 N) (named 1000 (suc n ∷ [])) ∷ [])) ∷ chain_of_types (suc n)
+
+-- TYPE x : ARRAY [1..2] OF INT; n : STRUCT m : INT; END_STRUCT; m : STRUCT m : INT; END_STRUCT; END_TYPE
+abbrev pub texts_with_types : Declared
+texts_with_types = record {
+  types = defining (at 0 X) (definitions.array (array_of 0 (pos 1) (pos 2) (Elementary Int 0)))
+      ∷ defining (at 0 N) (definitions.structure (field_of (at 0 M) (elementary Int) ∷ []))
+      ∷ defining (at 0 M) (definitions.structure (field_of (at 0 M) (elementary Int) ∷ [])) ∷ [];
+  units = [];
+}
+
+-- PROGRAM P with an external n : INT
+abbrev pub external_text : Section → Declared
+external_text section = record {
+  types = [];
+  units = record {
+    sort = Program;
+    name = at 8 P;
+    blocks = block section (declaring (at 20 N) (elementary Int) ∷ []) ∷ [];
+    body = [];
+  } ∷ [];
+}
+
+abbrev pub global : Name → VariableType → GlobalDeclaration
+global x t = record { names = listed (at 0 x ∷ []); declared = t; initial = None }
+
+abbrev pub addressed : Name → Direction → AddressWidth → ℕ → VariableType → GlobalDeclaration
+addressed x d w n t =
+    record { names = located (at 0 x) (record { direction = d; width = w; number = n }); declared = t; initial = None }
+
+-- RESOURCE R ON CPU TASK T (..); PROGRAM I WITH T : P; END_RESOURCE
+abbrev pub one_program : Resource
+one_program = record {
+  name = at 0 (codes "R");
+  processor = at 0 (codes "CPU");
+  tasks = tasked 0 ∷ [];
+  instances = record { name = at 0 (codes "I"); task = Some (at 0 (codes "T")); program = at 0 P } ∷ [];
+}
+
+abbrev pub globals_of : Option GlobalQualifier → List GlobalDeclaration → Resource → Configuration
+globals_of q ds r = record {
+  name = at 0 (codes "C");
+  globals = record { qualifier = q; declarations = ds } ∷ [];
+  resources = r ∷ [];
+}

@@ -1,5 +1,6 @@
 -- The labels of a CASE, of all its lists.
-use Rattle.std.specs.Prelude.{ℕ, ℤ, pos, int_lt, int_le, List, [], ◌∷◌, ◌++◌, Bool, true, ◌&&◌, not, if◌then◌else◌, Option, Some}
+use Rattle.std.specs.Prelude.{ℕ, ℤ, pos, int_lt, int_le, List, [], ◌∷◌, ◌++◌, Bool, true, ◌&&◌, not, if◌then◌else◌}
+use Rattle.std.specs.Prelude.{Option, Some}
 use Rattle.std.specs.Prelude.{None}
 use Rattle.std.specs.List.{flat_map, filter_map}
 use Rattle.st_words.specs.declared.kind.Kind.{Kind}

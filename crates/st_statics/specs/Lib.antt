@@ -19,5 +19,7 @@ pub mod DeclaredTypes
 pub mod TypeRules
 pub mod InitialRules
 pub mod Containment
+pub mod Depths
 pub mod Rules
+pub mod ConfigurationRules
 pub mod ExampleWords

@@ -1,5 +1,6 @@
 -- What may be assigned, and by which name a FOR counts.
-use Rattle.std.specs.Prelude.{List, [], ◌∷◌, ◌++◌, Bool, true, false, ◌&&◌, ◌||◌, not, if◌then◌else◌, Option, Some, None}
+use Rattle.std.specs.Prelude.{List, [], ◌∷◌, ◌++◌, Bool, true, false, ◌&&◌, ◌||◌, not, if◌then◌else◌, Option, Some}
+use Rattle.std.specs.Prelude.{None}
 use Rattle.std.specs.Prelude.{option_and_then, is_some}
 use Rattle.std.specs.List.{flat_map}
 use Rattle.st_words.specs.declared.identifier.Identifier.{Identifier}
@@ -45,7 +46,8 @@ is_assignable env c (variable x xs) =
 abbrev pub wrong_target : Environment → Context → Variable → List Broken
 wrong_target env c v =
     wrong_variable env v
-    ++ breaking NotAssignable (if is_some (type_of_place env v) then unless (is_assignable env c v) (place_of_variable v)
+    ++ breaking NotAssignable
+    (if is_some (type_of_place env v) then unless (is_assignable env c v) (place_of_variable v)
     else [])
 
 abbrev pub wrong_targets : Environment → Context → Stmt → List Broken

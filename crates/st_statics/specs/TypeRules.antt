@@ -1,5 +1,6 @@
 -- What is wrong in the types of declarations, and in the bounds of arrays.
-use Rattle.std.specs.Prelude.{ℕ, pos, ◌+ℤ◌, ◌-ℤ◌, int_lt, nat_le, nat_lt, List, [], ◌∷◌, ◌++◌, Bool, true, false, ◌&&◌, ◌||◌}
+use Rattle.std.specs.Prelude.{ℕ, pos, ◌+ℤ◌, ◌-ℤ◌, int_lt, nat_le, nat_lt, List, [], ◌∷◌, ◌++◌, Bool, true, false, ◌&&◌}
+use Rattle.std.specs.Prelude.{◌||◌}
 use Rattle.std.specs.Prelude.{if◌then◌else◌, Option, Some, None, is_some, slice_get}
 use Rattle.std.specs.List.{flat_map}
 use Rattle.st_words.specs.declared.identifier.Identifier.{Identifier}
@@ -45,7 +46,8 @@ abbrev pub wrong_named : Declared → Bool → Identifier → List Broken
 wrong_named text blocks x =
     if is_some (type_named text.types x.name) then []
     else if is_block text x.name then breaking WrongType (unless blocks x.place)
-    else if is_some (unit_named text.units x.name) || is_some (standard_of x.name) then breaking WrongType (x.place ∷ [])
+    else if is_some (unit_named text.units x.name) || is_some (standard_of x.name) then breaking WrongType
+    (x.place ∷ [])
     else breaking UnknownName (x.place ∷ [])
 
 abbrev pub wrong_simple : Declared → Bool → SimpleType → List Broken

@@ -1,6 +1,7 @@
 //! Worked examples of broken rules, by topic, each proved by computation: the whole list of what is wrong in a text.
 
 pub mod assignments;
+pub mod configurations;
 pub mod containment;
 pub mod declarations;
 pub mod enumerations;

@@ -13,6 +13,6 @@ mod rule;
 mod typings;
 
 pub use demand::{Demand, Sorts};
-pub use laws::typings_are_those_of_the_meaning;
+pub use laws::{chains_tell_depths, typings_are_those_of_the_meaning};
 pub use rule::{Broken, Rule};
 pub use typings::Typing;

@@ -30,26 +30,34 @@ pub fn one_statement()
 /// In `PROGRAM P VAR n : INT; b : BOOL; w : WORD; a : ARRAY [1..2] OF INT; f : TON; d : TIME; u : UINT; END_VAR`.
 pub fn targets()
     // `f.Q := TRUE`: an output from outside
-    ensures output { broken (wide (assign (part 100 F 102 (codes "Q")) (truth 107 true) ∷ [])) ≡ breaks NotAssignable 100 ∷ [] }
+    ensures output { broken (wide (assign (part 100 F 102 (codes "Q")) (truth 107 true) ∷ []))
+        ≡ breaks NotAssignable 100 ∷ [] }
     // `f.IN := TRUE`: an input can't be seen from outside
-    ensures input { broken (wide (assign (part 100 F 102 (codes "IN")) (truth 107 true) ∷ [])) ≡ breaks UnknownName 102 ∷ [] }
+    ensures input { broken (wide (assign (part 100 F 102 (codes "IN")) (truth 107 true) ∷ []))
+        ≡ breaks UnknownName 102 ∷ [] }
     // `a := a`: an array has no value as a whole
-    ensures whole_array { broken (wide (assign (name 100 (codes "A")) (reading 105 (codes "A")) ∷ [])) ≡ breaks WrongType 105 ∷ [] }
+    ensures whole_array { broken (wide (assign (name 100 (codes "A")) (reading 105 (codes "A")) ∷ []))
+        ≡ breaks WrongType 105 ∷ [] }
     // `a := m`: only the unknown name is told
-    ensures array_and_unknown { broken (wide (assign (name 100 (codes "A")) (reading 105 M) ∷ [])) ≡ breaks UnknownName 105 ∷ [] }
+    ensures array_and_unknown { broken (wide (assign (name 100 (codes "A")) (reading 105 M) ∷ []))
+        ≡ breaks UnknownName 105 ∷ [] }
     // `f := n`
     ensures instance { broken (wide (assign (name 100 F) (reading 105 N) ∷ [])) ≡ breaks WrongType 105 ∷ [] }
     // `a[b] := 1`
     ensures subscript { broken (wide (assign (element 100 (codes "A") (reading 102 B)) (number 108 (pos 1)) ∷ []))
         ≡ breaks WrongType 102 ∷ [] }
     // `a[1] := 1`
-    ensures element { broken (wide (assign (element 100 (codes "A") (number 102 (pos 1))) (number 108 (pos 1)) ∷ [])) ≡ [] }
+    ensures element { broken (wide (assign (element 100 (codes "A") (number 102 (pos 1))) (number 108 (pos 1)) ∷ []))
+        ≡ [] }
     // `n[1] := 1`: no array
-    ensures no_array { broken (wide (assign (element 100 N (number 102 (pos 1))) (number 108 (pos 1)) ∷ [])) ≡ breaks WrongType 100 ∷ [] }
+    ensures no_array { broken (wide (assign (element 100 N (number 102 (pos 1))) (number 108 (pos 1)) ∷ []))
+        ≡ breaks WrongType 100 ∷ [] }
     // `d := T#5ms`
     ensures duration { broken (wide (assign (name 100 (codes "D")) (duration 105 5) ∷ [])) ≡ [] }
     // `d := 5`: untyped beside a TIME is a LINT
-    ensures no_duration { broken (wide (assign (name 100 (codes "D")) (number 105 (pos 5)) ∷ [])) ≡ breaks WrongType 105 ∷ [] }
+    ensures no_duration { broken (wide (assign (name 100 (codes "D")) (number 105 (pos 5)) ∷ []))
+        ≡ breaks WrongType 105 ∷ [] }
     // `u := -1`
-    ensures below_nothing { broken (wide (assign (name 100 (codes "U")) (number 105 (negsuc 0)) ∷ [])) ≡ breaks OutOfRange 105 ∷ [] }
+    ensures below_nothing { broken (wide (assign (name 100 (codes "U")) (number 105 (negsuc 0)) ∷ []))
+        ≡ breaks OutOfRange 105 ∷ [] }
 {}

@@ -11,13 +11,15 @@ ghost use Rattle.st_trees.specs.Statements.{assign};
 ghost use Rattle.st_trees.specs.Sources.{types};
 ghost use Rattle.st_statics.specs.declared.rule.Rule.TheVariants.{WrongType, TooDeep};
 ghost use Rattle.st_statics.specs.Rules.{broken};
-ghost use Rattle.st_statics.specs.ExampleWords.{breaks, at, name, calling, elementary, named, array_of, declaring, block};
+ghost use Rattle.st_statics.specs.ExampleWords.{breaks, at, name, calling, elementary, named, array_of, declaring};
+ghost use Rattle.st_statics.specs.ExampleWords.{block};
 ghost use Rattle.st_statics.specs.ExampleWords.{organised, defining, field_of, local, chain_of_types, N, M, F, X, P};
 
 /// What contains itself.
 pub fn cycles()
     // PROGRAM P VAR x : P; END_VAR: of its own type
-    ensures program { broken (local (declaring (at 14 X) (named 18 P) ∷ [])) ≡ breaks TooDeep 8 ∷ breaks WrongType 18 ∷ [] }
+    ensures program { broken (local (declaring (at 14 X) (named 18 P) ∷ []))
+        ≡ breaks TooDeep 8 ∷ breaks WrongType 18 ∷ [] }
     // TYPE x : STRUCT n : x; END_STRUCT; END_TYPE
     ensures structure { broken (types (defining (at 5 X) (structure (field_of (at 16 N) (named 20 X) ∷ [])) ∷ []) ∷ [])
         ≡ breaks TooDeep 5 ∷ [] }
@@ -26,14 +28,17 @@ pub fn cycles()
         (structure (field_of (at 16 N) (Array (array_of 20 (pos 1) (pos 2) (Named (at 40 X)))) ∷ [])) ∷ []) ∷ [])
         ≡ breaks TooDeep 5 ∷ breaks TooDeep 20 ∷ [] }
     // FUNCTION F : INT F := F() ..: it calls itself
-    ensures function { broken (organised (Function (Elementary Int 13)) (at 9 F) [] (assign (name 17 F) (calling 22 F []) ∷ []) ∷ [])
+    ensures function { broken
+        (organised (Function (Elementary Int 13)) (at 9 F) [] (assign (name 17 F) (calling 22 F []) ∷ []) ∷ [])
         ≡ breaks TooDeep 9 ∷ [] }
     // two functions that call one another
-    ensures two_functions { broken (organised (Function (Elementary Int 13)) (at 9 F) [] (assign (name 17 F) (calling 22 M []) ∷ [])
+    ensures two_functions
+        { broken (organised (Function (Elementary Int 13)) (at 9 F) [] (assign (name 17 F) (calling 22 M []) ∷ [])
         ∷ organised (Function (Elementary Int 13)) (at 59 M) [] (assign (name 67 M) (calling 72 F []) ∷ []) ∷ [])
         ≡ breaks TooDeep 9 ∷ breaks TooDeep 59 ∷ [] }
     // a block that contains a block that contains the first
-    ensures blocks { broken (organised FunctionBlock (at 15 F) (block (Local None) (declaring (at 20 N) (named 24 M) ∷ []) ∷ []) []
+    ensures blocks { broken
+        (organised FunctionBlock (at 15 F) (block (Local None) (declaring (at 20 N) (named 24 M) ∷ []) ∷ []) []
         ∷ organised FunctionBlock (at 65 M) (block (Local None) (declaring (at 70 N) (named 74 F) ∷ []) ∷ []) [] ∷ [])
         ≡ breaks TooDeep 15 ∷ breaks TooDeep 65 ∷ [] }
     // A block that calls a function is no part of it, and externals are no parts.

@@ -12,8 +12,10 @@ ghost use Rattle.st_trees.specs.Sources.{types};
 ghost use Rattle.st_statics.specs.declared.rule.Rule.TheVariants.{UnknownName, DeclaredTwice, WrongType, OutOfRange};
 ghost use Rattle.st_statics.specs.declared.rule.Rule.TheVariants.{TooDeep, WrongBounds, RetainedAddress};
 ghost use Rattle.st_statics.specs.Rules.{broken};
-ghost use Rattle.st_statics.specs.ExampleWords.{breaks, at, digits, typed_digits, elementary, named, array_of, declaring};
-ghost use Rattle.st_statics.specs.ExampleWords.{starting, start_of, block, organised, defining, field_of, declares, local};
+ghost use Rattle.st_statics.specs.ExampleWords.{breaks, at, digits, typed_digits, elementary, named, array_of};
+ghost use Rattle.st_statics.specs.ExampleWords.{declaring};
+ghost use Rattle.st_statics.specs.ExampleWords.{starting, start_of, block, organised, defining, field_of, declares};
+ghost use Rattle.st_statics.specs.ExampleWords.{local};
 ghost use Rattle.st_statics.specs.ExampleWords.{configured, located_at, tasked, N, M, B, F, X, P};
 ghost use Rattle.st_statics.specs.ExampleWords as words;
 
@@ -27,7 +29,8 @@ pub fn names()
         ∷ block External (declaring (at 44 N) (elementary Int) ∷ []) ∷ []))
         ≡ breaks DeclaredTwice 44 ∷ [] }
     // PROGRAM P VAR ABS : INT; p : INT; END_VAR
-    ensures taken { broken (local (declaring (at 14 (codes "ABS")) (elementary Int) ∷ declaring (at 24 P) (elementary Int) ∷ []))
+    ensures taken { broken
+        (local (declaring (at 14 (codes "ABS")) (elementary Int) ∷ declaring (at 24 P) (elementary Int) ∷ []))
         ≡ breaks DeclaredTwice 14 ∷ breaks DeclaredTwice 24 ∷ [] }
     // PROGRAM P VAR int_to_int : INT; END_VAR: no standard function
     ensures free { broken (local (declaring (at 14 (codes "INT_TO_INT")) (elementary Int) ∷ [])) ≡ [] }
@@ -37,7 +40,8 @@ pub fn names()
     // PROGRAM TON END_PROGRAM
     ensures standard { broken (organised Program (at 8 (codes "TON")) [] [] ∷ []) ≡ breaks DeclaredTwice 8 ∷ [] }
     // TYPE x : STRUCT n : INT; n : INT; END_STRUCT; END_TYPE, and fields have a scope of their own
-    ensures fields { broken (types (defining (at 5 X) (structure (field_of (at 16 N) (elementary Int) ∷ field_of (at 26 N) (elementary Int)
+    ensures fields { broken
+        (types (defining (at 5 X) (structure (field_of (at 16 N) (elementary Int) ∷ field_of (at 26 N) (elementary Int)
         ∷ field_of (at 36 X) (elementary Int) ∷ [])) ∷ []) ∷ []) ≡ breaks DeclaredTwice 26 ∷ [] }
 {}
 
@@ -50,19 +54,24 @@ pub fn kinds()
     // PROGRAM P VAR f : TON; END_VAR
     ensures instance { broken (local (declaring (at 14 F) (named 18 (codes "TON")) ∷ [])) ≡ [] }
     // PROGRAM P VAR CONSTANT f : TON; END_VAR
-    ensures constant_instance { broken (declares (block Constant (declaring (at 24 F) (named 28 (codes "TON")) ∷ []) ∷ []))
+    ensures constant_instance
+        { broken (declares (block Constant (declaring (at 24 F) (named 28 (codes "TON")) ∷ []) ∷ []))
         ≡ breaks WrongType 28 ∷ [] }
     // PROGRAM P VAR f : TON := 5; END_VAR
-    ensures instance_with_value { broken (local (starting (at 14 F) (named 18 (codes "TON")) (start_of 25 (pos 5)) ∷ []))
+    ensures instance_with_value
+        { broken (local (starting (at 14 F) (named 18 (codes "TON")) (start_of 25 (pos 5)) ∷ []))
         ≡ breaks WrongType 18 ∷ [] }
     // PROGRAM P VAR a : ARRAY [1..2] OF TON; END_VAR
-    ensures array_of_instances { broken (local (declaring (at 14 N) (Array (array_of 18 (pos 1) (pos 2) (Named (at 34 (codes "TON"))))) ∷ []))
+    ensures array_of_instances
+        { broken (local (declaring (at 14 N) (Array (array_of 18 (pos 1) (pos 2) (Named (at 34 (codes "TON"))))) ∷ []))
         ≡ breaks WrongType 34 ∷ [] }
     // TYPE x : STRUCT f : TON; END_STRUCT; END_TYPE
-    ensures field_instance { broken (types (defining (at 5 X) (structure (field_of (at 16 F) (named 20 (codes "TON")) ∷ [])) ∷ []) ∷ [])
+    ensures field_instance
+        { broken (types (defining (at 5 X) (structure (field_of (at 16 F) (named 20 (codes "TON")) ∷ [])) ∷ []) ∷ [])
         ≡ breaks WrongType 20 ∷ [] }
     // FUNCTION_BLOCK F VAR_INPUT f : TON; END_VAR, VAR_OUTPUT a : ARRAY [1..2] OF INT; END_VAR
-    ensures inputs_and_outputs { broken (organised FunctionBlock (at 15 F) (block (Input None) (declaring (at 30 N) (named 34 (codes "TON")) ∷ [])
+    ensures inputs_and_outputs { broken (organised FunctionBlock (at 15 F)
+        (block (Input None) (declaring (at 30 N) (named 34 (codes "TON")) ∷ [])
         ∷ block (Output None) (declaring (at 60 M) (words.array 64 (pos 1) (pos 2)) ∷ []) ∷ []) [] ∷ [])
         ≡ breaks WrongType 34 ∷ breaks WrongType 34 ∷ breaks WrongType 64 ∷ [] }
     // FUNCTION F : x .. where x is a structure, FUNCTION M : foo, FUNCTION N : TON
@@ -80,11 +89,13 @@ pub fn kinds()
 /// Bounds of arrays.
 pub fn bounds()
     // ARRAY [3..1]
-    ensures reversed { broken (local (declaring (at 14 N) (words.array 18 (pos 3) (pos 1)) ∷ [])) ≡ breaks WrongBounds 25 ∷ [] }
+    ensures reversed { broken (local (declaring (at 14 N) (words.array 18 (pos 3) (pos 1)) ∷ []))
+        ≡ breaks WrongBounds 25 ∷ [] }
     // ARRAY [1..4096]
     ensures widest { broken (local (declaring (at 14 N) (words.array 18 (pos 1) (pos 4096)) ∷ [])) ≡ [] }
     // ARRAY [0..4096]
-    ensures too_wide { broken (local (declaring (at 14 N) (words.array 18 (pos 0) (pos 4096)) ∷ [])) ≡ breaks WrongBounds 25 ∷ [] }
+    ensures too_wide { broken (local (declaring (at 14 N) (words.array 18 (pos 0) (pos 4096)) ∷ []))
+        ≡ breaks WrongBounds 25 ∷ [] }
     // ARRAY [-1..-1]
     ensures one_element { broken (local (declaring (at 14 N) (words.array 18 (negsuc 0) (negsuc 0)) ∷ [])) ≡ [] }
     // ARRAY [SINT#1..SINT#200]: judged within its own type
@@ -96,14 +107,16 @@ pub fn bounds()
     })) ∷ []))
         ≡ breaks OutOfRange 33 ∷ [] }
     // TYPE x : ARRAY [3..1] OF INT; END_TYPE
-    ensures named_type { broken (types (defining (at 5 X) (array (array_of 9 (pos 3) (pos 1) (Elementary Int 0))) ∷ []) ∷ [])
+    ensures named_type { broken (types (defining (at 5 X) (array (array_of 9 (pos 3) (pos 1) (Elementary Int 0))) ∷ [])
+        ∷ [])
         ≡ breaks WrongBounds 16 ∷ [] }
 {}
 
 /// Configurations.
 pub fn configurations()
     // VAR_GLOBAL RETAIN s AT %IX0 : BOOL; END_VAR
-    ensures retained_address { broken (configured (Some Retain) (located_at 40 N ∷ []) (tasked 5)) ≡ breaks RetainedAddress 40 ∷ [] }
+    ensures retained_address { broken (configured (Some Retain) (located_at 40 N ∷ []) (tasked 5))
+        ≡ breaks RetainedAddress 40 ∷ [] }
     // VAR_GLOBAL s AT %IX0 : BOOL; END_VAR
     ensures address { broken (configured None (located_at 40 N ∷ []) (tasked 65535)) ≡ [] }
     // PRIORITY := 65536

@@ -5,7 +5,8 @@ ghost use Rattle.st_words.specs.declared.kind.Kind.TheVariants.{Int, Sint};
 ghost use Rattle.st_trees.specs.declared.statement.Label.TheVariants.{Single};
 ghost use Rattle.st_statics.specs.declared.rule.Rule.TheVariants.{UnknownName, WrongType, OutOfRange, WrongLabel};
 ghost use Rattle.st_statics.specs.Rules.{broken};
-ghost use Rattle.st_statics.specs.ExampleWords.{breaks, number, typed_digits, reading, single, between, case_of, wide, N, M};
+ghost use Rattle.st_statics.specs.ExampleWords.{breaks, number, typed_digits, reading, single, between, case_of, wide};
+ghost use Rattle.st_statics.specs.ExampleWords.{N, M};
 ghost use Rattle.st_statics.specs.ExampleWords.{B};
 
 /// In `PROGRAM P VAR n : INT; b : BOOL; w : WORD; a : ARRAY [1..2] OF INT; f : TON; d : TIME; u : UINT; END_VAR`.
@@ -26,13 +27,15 @@ pub fn numbers()
         ((between 110 (pos 9) 113 (pos 8) ∷ []) ∷ (single 117 (pos 9) ∷ []) ∷ []) ∷ []))
         ≡ breaks WrongLabel 110 ∷ [] }
     // `CASE n OF 40000 : END_CASE`
-    ensures too_great { broken (wide (case_of (reading 105 N) ((single 110 (pos 40000) ∷ []) ∷ []) ∷ [])) ≡ breaks OutOfRange 110 ∷ [] }
+    ensures too_great { broken (wide (case_of (reading 105 N) ((single 110 (pos 40000) ∷ []) ∷ []) ∷ []))
+        ≡ breaks OutOfRange 110 ∷ [] }
     // `CASE n OF SINT#1 : INT#2 : END_CASE`
     ensures typed { broken (wide (case_of (reading 105 N)
         ((Single (typed_digits 110 Sint (pos 1)) ∷ []) ∷ (Single (typed_digits 120 Int (pos 2)) ∷ []) ∷ []) ∷ []))
         ≡ breaks WrongType 110 ∷ [] }
     // `CASE 5 OF 40000 : END_CASE`: an untyped selector is a LINT
-    ensures untyped_selector { broken (wide (case_of (number 105 (pos 5)) ((single 110 (pos 40000) ∷ []) ∷ []) ∷ [])) ≡ [] }
+    ensures untyped_selector { broken (wide (case_of (number 105 (pos 5)) ((single 110 (pos 40000) ∷ []) ∷ []) ∷ []))
+        ≡ [] }
     // `CASE b OF 1 : END_CASE`: the selector, and that the label is none of its values
     ensures truth_selects { broken (wide (case_of (reading 105 B) ((single 110 (pos 1) ∷ []) ∷ []) ∷ []))
         ≡ breaks WrongType 105 ∷ breaks WrongType 110 ∷ [] }
@@ -40,5 +43,6 @@ pub fn numbers()
     ensures bits_select { broken (wide (case_of (reading 105 (codes "W")) ((single 110 (pos 1) ∷ []) ∷ []) ∷ []))
         ≡ breaks WrongType 105 ∷ [] }
     // `CASE m OF 1 : 1 : END_CASE`
-    ensures unknown_selects { broken (wide (case_of (reading 105 M) ((single 110 (pos 1) ∷ []) ∷ []) ∷ [])) ≡ breaks UnknownName 105 ∷ [] }
+    ensures unknown_selects { broken (wide (case_of (reading 105 M) ((single 110 (pos 1) ∷ []) ∷ []) ∷ []))
+        ≡ breaks UnknownName 105 ∷ [] }
 {}

@@ -4,7 +4,7 @@ use crate::calls::events_of;
 use crate::row_error::RowError;
 use crate::telling::{write_fault, write_outcomes, write_overruns, write_replies};
 use crate::words::write_number;
-use commit_lock::{Core, StartFault, StartMode, drive};
+use commit_lock::{Core, StartMode, drive};
 use disk::{Disk, SimDisk};
 use st_build::{Plan, build};
 use st_words::limits::MAX_LOG_ROOM;
@@ -44,28 +44,9 @@ pub struct Life<'a> {
     pub calls: &'a str,
 }
 
-/// How far a life came.
-#[derive(Clone, Copy)]
-pub struct Course {
-    /// The number of the global N at its begin.
-    pub began: i128,
-    /// How many entries are acknowledged at its end.
-    pub acked: usize,
-    /// How many entries its log has at its end.
-    pub len: usize,
-}
-
-/// What became of a life.
-#[derive(Clone, Copy)]
-pub enum Told {
-    NotStarted(StartFault),
-    Started(Course),
-}
-
 /// A life that was lived.
 #[derive(Drop)]
 pub struct Lived {
-    pub told: Told,
     /// How many of its device steps failed.
     pub failures: u64,
     /// The file that it leaves.
@@ -120,15 +101,14 @@ fn answer_calls(
 
 /// Makes the calls of a life on a core of so many programs, and tells the globals before and after them, and how much
 /// of the log is acknowledged.
-fn course_of(
+fn tell_course(
     text: &mut String,
     core: &mut Core<SimDisk>,
     alloc: Global,
     globals: &str,
     programs: usize,
     life: Life<'_>,
-) -> Result<Course, RowError> {
-    let began = number_of(core, alloc, "N")?;
+) -> Result<(), RowError> {
     write_globals(text, core, alloc, globals)?;
     answer_calls(text, core, alloc, life)?;
     if matches!(life.telling, Telling::Whole) {
@@ -137,36 +117,14 @@ fn course_of(
     }
     write_globals(text, core, alloc, globals)?;
     write_number(text, "acked ", core.acked() as i128)?;
-    write_number(text, " of ", core.len() as i128)?;
-    Ok(Course {
-        began,
-        acked: core.acked(),
-        len: core.len(),
-    })
+    Ok(write_number(text, " of ", core.len() as i128)?)
 }
 
-/// What a life leaves of its disk.
-#[derive(Drop)]
-struct Remains {
-    failures: u64,
-    file: Vec<u8>,
-}
-
-fn remains_of(disk: SimDisk) -> Remains {
-    Remains {
+fn left_of(disk: SimDisk) -> Lived {
+    Lived {
         failures: disk.failures(),
-        file: disk.left(),
+        left: disk.left(),
     }
-}
-
-/// The end of a life, which tells how often the device failed.
-fn ended(text: &mut String, told: Told, remains: Remains) -> Result<Lived, AllocError> {
-    write_number(text, "; failures ", i128::from(remains.failures))?;
-    Ok(Lived {
-        told,
-        failures: remains.failures,
-        left: remains.file,
-    })
 }
 
 /// Lives a life over the disk, and tells it.
@@ -179,17 +137,20 @@ pub fn live(
 ) -> Result<Lived, RowError> {
     let plan = plan_of(alloc, setting.text)?;
     let programs = plan.programs();
-    match Core::start(alloc, plan, disk, life.mode, life.room.min(MAX_LOG_ROOM)) {
+    let left = match Core::start(alloc, plan, disk, life.mode, life.room.min(MAX_LOG_ROOM)) {
         Ok(core) => {
             let mut core = core;
-            let course = course_of(text, &mut core, alloc, setting.globals, programs, life);
-            let remains = remains_of(core.stop());
-            Ok(ended(text, Told::Started(course?), remains)?)
+            let told = tell_course(text, &mut core, alloc, setting.globals, programs, life);
+            let left = left_of(core.stop());
+            told?;
+            left
         }
         Err((fault, disk)) => {
-            let remains = remains_of(disk);
+            let left = left_of(disk);
             write_fault(text, fault)?;
-            Ok(ended(text, Told::NotStarted(fault), remains)?)
+            left
         }
-    }
+    };
+    write_number(text, "; failures ", i128::from(left.failures))?;
+    Ok(left)
 }

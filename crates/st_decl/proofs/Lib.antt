@@ -1,0 +1,2 @@
+pub mod StandardLemmas
+pub mod FindLemmas

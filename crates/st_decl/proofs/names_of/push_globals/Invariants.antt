@@ -1,0 +1,10 @@
+use Rattle.std.proofs.Common.{◌≡◌, ◌++◌, map, drop}
+use Rattle.std.specs.List.{flat_map}
+use Rattle.st_trees.specs.ConfigurationViews.{global_declaration_view}
+use Rattle.st_statics.specs.NameScopes.{listed_names}
+use Rattle.st_decl.proofs.names_of.push_globals.Given as goal
+
+abbrev pub invariant-loop-declaration : goal.invariant-loop-declaration
+invariant-loop-declaration l = map (λ x. x.now) l.scope.items ++ flat_map (λ d. listed_names d.names)
+    (map global_declaration_view (drop l.declaration-index l.declarations)) ≡ map (λ x. x.now) l.initial.scope.items
+    ++ flat_map (λ d. listed_names d.names) (map global_declaration_view l.declarations)

@@ -1,0 +1,11 @@
+use Rattle.std.proofs.Common.{◌≡◌, ◌++◌, map, drop}
+use Rattle.std.specs.List.{flat_map}
+use Rattle.st_trees.specs.DeclarationViews.{variable_block_view}
+use Rattle.st_statics.specs.NameScopes.{scopes_in_variables}
+use Rattle.st_decl.proofs.scopes.push_variable_starts.Given as goal
+
+abbrev pub invariant-loop-block : goal.invariant-loop-block
+invariant-loop-block l = map (λ s. map (λ x. x.now) s.items) l.scopes.items
+    ++ flat_map scopes_in_variables (map variable_block_view (drop l.block-index l.blocks))
+    ≡ map (λ s. map (λ x. x.now) s.items) l.initial.scopes.items
+    ++ flat_map scopes_in_variables (map variable_block_view l.blocks)

@@ -1,0 +1,2 @@
+pub mod Backs
+pub mod Places

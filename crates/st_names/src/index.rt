@@ -1,0 +1,43 @@
+//! A table of names.
+
+ghost use Rattle.std.specs.Prelude.{◌≡◌, List, ℕ, Option, Some, None, if◌then◌else◌, bytes_eq, OnOk};
+ghost use Rattle.st_names.specs.Found.{found, or_found};
+
+use st_words::Name;
+use std::alloc::{AllocError, Global};
+use std::collections::BTreeMap;
+
+/// What each name stands for; of several entries of one name the first.
+#[derive(Drop)]
+pub struct Index<'a, T> {
+    map: BTreeMap<&'a [u8], T>,
+}
+
+impl<'a, T: Copy> Index<'a, T> {
+    /// An index without names.
+    pub fn new(alloc: Global) -> Index<'a, T>
+        ensures { (q : List ℕ) → found result q ≡ None }
+    {
+        Index {
+            map: BTreeMap::new(alloc),
+        }
+    }
+
+    /// What the name stands for.
+    pub fn find(&self, name: &Name) -> Option<T>
+        ensures { result ≡ found self.now name.now }
+    {
+        self.map.get(name.as_slice()).copied()
+    }
+
+    /// Adds an entry behind the others.
+    pub fn add(&mut self, name: &'a Name, value: T) -> Result<(), AllocError>
+        ensures { OnOk result ((q : List ℕ) → found self.new q
+            ≡ or_found (found self.old q) (if bytes_eq q name.now then Some value else None)) }
+    {
+        if self.find(name).is_none() {
+            self.map.insert(name.as_slice(), value)?;
+        }
+        Ok(())
+    }
+}
