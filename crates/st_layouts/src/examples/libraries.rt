@@ -9,7 +9,7 @@ ghost use Rattle.st_types.specs.CallExamples.{dotted, giving, copying, invoked};
 ghost use Rattle.st_types.specs.Examples.{identifier, name, number, set};
 ghost use Rattle.st_types.specs.Scopes.{function_in, block_in};
 ghost use Rattle.st_layouts.specs.Libraries.{library_of_text, programs_of_text};
-ghost use Rattle.st_layouts.specs.LayoutExamples.{int, datum};
+ghost use Rattle.st_layouts.specs.LayoutExamples.{int, datum, instances_of_no_program};
 ghost use Rattle.st_layouts.specs.LibraryExamples.{text_of_calls, shown, owners_in};
 
 /// A function has its inputs in order, and starts with its result and all variables at their initial values.
@@ -52,6 +52,8 @@ pub fn a_library()
 pub fn programs_of_instances()
     ensures owners { owners_in text_of_calls
         ≡ (codes "R", codes "P") ∷ (codes "R", codes "Q") ∷ [] }
+    // an instance of a block, and one of what is not there, have none
+    ensures no_programs { owners_in instances_of_no_program ≡ (codes "R", codes "P") ∷ [] }
     ensures bodies { map (λ p. p.body) (programs_of_text text_of_calls)
         ≡ replicate 2 record {
           externals = codes "G" ∷ codes "H" ∷ [];
