@@ -52,7 +52,7 @@ use Rattle.st_layouts.specs.LayoutVariables.{only_configuration, variables_of_co
 use Rattle.st_layouts.specs.TextLayouts.{further, slots_of_variable, slots_of, slots_of_text}
 use Rattle.st_layouts.proofs.StoreLemmas.{map_append}
 
-map_map : {A B C : Type 0} (f : B → C) (g : A → B) (xs : List A) → map f (map g xs) ≡ map (λ x. f (g x)) xs
+pub map_map : {A B C : Type 0} (f : B → C) (g : A → B) (xs : List A) → map f (map g xs) ≡ map (λ x. f (g x)) xs
 map_map f g [] = refl
 map_map f g (x ∷ xs) = ap (λ ys. f (g x) ∷ ys) (map_map f g xs)
 

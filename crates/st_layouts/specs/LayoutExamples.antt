@@ -323,3 +323,8 @@ text_in source = layout_text (plan_variables_of_text source)
 abbrev pub lines_of : List (List ℕ) → List ℕ
 lines_of [] = []
 lines_of (x ∷ xs) = x ++ 10 ∷ lines_of xs
+
+-- FUNCTION F : INT VAR f : INT; END_VAR END_FUNCTION
+abbrev pub result_and_variable : OrganisationUnit
+result_and_variable = unit_with (sorts.Function (Elementary Int 0)) (codes "F")
+    (variables_in (sections.Local None) (without_initial (codes "F") (plain Int) ∷ []) ∷ []) []

@@ -4,3 +4,4 @@ pub mod MemberLemmas
 pub mod AgreementLemmas
 pub mod HomeLemmas
 pub mod UnitHomeLemmas
+pub mod DifferentNames

@@ -59,7 +59,7 @@ found_name (d ∷ ds) x s h = by_test (bytes_eq x d.name) h (found_name ds x s)
     by_test true e ih = refl
     by_test false e ih = ih e
 
-names_append : (cs bs : List NamedSite) → names_of_sites (cs ++ bs) ≡ names_of_sites cs ++ names_of_sites bs
+pub names_append : (cs bs : List NamedSite) → names_of_sites (cs ++ bs) ≡ names_of_sites cs ++ names_of_sites bs
 names_append [] bs = refl
 names_append (a ∷ cs) bs = ap (λ xs. a.name ∷ xs) (names_append cs bs)
 

@@ -1,6 +1,6 @@
 //! Laws of stores over the slots of a layout.
 
-ghost use Rattle.std.specs.Prelude.{◌≡◌, List, ◌∷◌, map, Option, Some, None, true, false};
+ghost use Rattle.std.specs.Prelude.{◌≡◌, List, [], ◌∷◌, map, Option, Some, None, true, false};
 ghost use Rattle.st_words.specs.Values.{Datum};
 ghost use Rattle.st_words.specs.Paths.{Path};
 ghost use Rattle.st_trees.specs.declared.data_type.SimpleType.{SimpleType};
@@ -12,10 +12,12 @@ ghost use Rattle.st_trees.specs.Units.{OrganisationUnit};
 ghost use Rattle.st_trees.specs.Sources.{Source};
 ghost use Rattle.st_types.specs.NameTypes.{Declared, declared_in};
 ghost use Rattle.st_types.specs.Scopes.{Scope, of_program, of_block, of_call};
-ghost use Rattle.st_types.specs.Slots.{variables_in, inputs_in};
+ghost use Rattle.st_types.specs.Slots.{IsLayout, variables_in, inputs_in};
 ghost use Rattle.st_statics.specs.Environments.{Environment};
 ghost use Rattle.st_sound.specs.Soundness.{Agrees};
 ghost use Rattle.st_layouts.specs.LayoutVariables.{Owned, owned_variable, variables_of_configuration};
+ghost use Rattle.st_layouts.specs.LayoutVariables.{configurations_in, only_configuration};
+ghost use Rattle.st_statics.specs.TwiceDeclared.{twice_declared};
 ghost use Rattle.st_layouts.specs.Libraries.{result_site};
 ghost use Rattle.st_layouts.specs.Types.{sites_of_blocks, instance_of};
 ghost use Rattle.st_layouts.specs.Names.{are_types_and_units_different, is_configuration_different};
@@ -69,4 +71,13 @@ pub fn functions_stand_in_their_calls()
         → RunsIn u of_call w
         → HasHomes (environment_of text u)
         (map (owned_variable None) (result_site t u.name.name ∷ sites_of_blocks u.blocks)) w }
+{}
+
+/// In a text that declares no name twice names differ in all scopes that a layout asks for, so each path of its layout
+/// stands once.
+pub fn names_differ_where_none_is_declared_twice()
+    ensures names { (source : Source) → twice_declared source ≡ [] → are_names_different (declared_in source) ≡ true }
+    ensures scopes { (source : Source) → twice_declared source ≡ []
+        → is_configuration_different (only_configuration (configurations_in source)) ≡ true }
+    ensures layout { (source : Source) → twice_declared source ≡ [] → IsLayout (slots_of_text source) }
 {}

@@ -10,5 +10,6 @@ mod laws;
 
 pub use laws::{
     blocks_stand_in_their_instances, functions_stand_in_their_calls,
-    programs_agree_with_their_layout, programs_stand_in_their_layout, values_of_slots_agree,
+    names_differ_where_none_is_declared_twice, programs_agree_with_their_layout,
+    programs_stand_in_their_layout, values_of_slots_agree,
 };

@@ -1,10 +1,14 @@
 //! Worked examples of the layout of a whole text, each proved by computation.
 
-ghost use Rattle.std.specs.Prelude.{◌≡◌, ◌∷◌, [], true, false, map, length, codes};
+ghost use Rattle.std.specs.Prelude.{◌≡◌, ◌∷◌, [], true, false, map, length, None, codes};
 ghost use Rattle.st_words.specs.declared.kind.Kind.TheVariants.{Int, Time, Word, Bool as Boolean};
 ghost use Rattle.st_layouts.specs.TextLayouts.{instances_of_text, slots_of_text, plan_variables_of_text};
 ghost use Rattle.st_layouts.specs.LayoutExamples.{instances_of_blocks, block_in_a_block, input_between_globals};
 ghost use Rattle.st_layouts.specs.LayoutExamples.{unconfigured, configured_twice, instances_of_no_program};
+ghost use Rattle.st_layouts.specs.Names.{has_different_names};
+ghost use Rattle.st_layouts.specs.LayoutExamples.{plain, without_initial, variables_text, text_of, structure_of, field};
+ghost use Rattle.st_layouts.specs.LayoutExamples.{configured, resource, instance, globals_of, global};
+ghost use Rattle.st_layouts.specs.LayoutExamples.{result_and_variable, adder_configuration};
 ghost use Rattle.st_layouts.specs.LayoutExamples.{words_of_retention, types_that_are_none, adding, text_in, lines_of};
 ghost use Rattle.st_layouts.specs.InitialExamples.{one_deep_variable};
 ghost use Rattle.st_layouts.specs.LayoutExamples.{retentions_in, values_in, slots_in, inputs_in, int, datum};
@@ -97,6 +101,27 @@ pub fn texts_without_a_layout()
     ensures two_configurations { slots_of_text configured_twice ≡ [] }
     ensures no_variables { plan_variables_of_text configured_twice ≡ [] }
     ensures no_program { slots_in instances_of_no_program ≡ (codes "R/P.K", Int, false) ∷ [] }
+{}
+
+/// Names that differ in their scopes, and names that stand twice: of variables, of a function's result, of fields, of
+/// instances and of resources. Scopes of their own may have one name.
+#[tactic(auto, unfolding(crate::specs::Types::shape_within, st_types::specs::StandardBlocks::block_of))]
+pub fn names_in_their_scopes()
+    ensures differ { has_different_names instances_of_blocks ≡ true }
+    ensures differ_in_resources { has_different_names input_between_globals ≡ true }
+    ensures variables { has_different_names (variables_text [] (without_initial (codes "N") (plain Int)
+        ∷ without_initial (codes "N") (plain Boolean) ∷ [])) ≡ false }
+    ensures result { has_different_names (text_of [] (result_and_variable ∷ []) adder_configuration) ≡ false }
+    ensures fields { has_different_names (variables_text (structure_of (codes "S") (field (codes "X") (plain Int)
+        ∷ field (codes "X") (plain Int) ∷ []) ∷ []) []) ≡ false }
+    ensures instances { has_different_names (text_of [] [] (configured [] (resource (codes "R")
+        (instance (codes "P") (codes "A") ∷ instance (codes "P") (codes "B") ∷ []) ∷ []))) ≡ false }
+    ensures resources { has_different_names (text_of [] [] (configured []
+        (resource (codes "R") [] ∷ resource (codes "R") [] ∷ []))) ≡ false }
+    ensures globals { has_different_names (text_of [] [] (configured (
+        globals_of None (global (codes "N") (plain Int) None ∷ [])
+        ∷ globals_of None (global (codes "N") (plain Int) None ∷ [])
+        ∷ []) [])) ≡ false }
 {}
 
 /// A type that is 64 deep has its part. What is deeper has none: no well-typed text has it.
