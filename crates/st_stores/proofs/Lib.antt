@@ -5,3 +5,4 @@ pub mod AgreementLemmas
 pub mod HomeLemmas
 pub mod UnitHomeLemmas
 pub mod DifferentNames
+pub mod ChainLemmas

@@ -1,6 +1,6 @@
 //! Laws of stores over the slots of a layout.
 
-ghost use Rattle.std.specs.Prelude.{◌≡◌, List, [], ◌∷◌, map, Option, Some, None, true, false};
+ghost use Rattle.std.specs.Prelude.{◌≡◌, List, [], ◌∷◌, map, Option, Some, None, true, false, is_some, ◌+◌};
 ghost use Rattle.st_words.specs.Values.{Datum};
 ghost use Rattle.st_words.specs.Paths.{Path};
 ghost use Rattle.st_trees.specs.declared.data_type.SimpleType.{SimpleType};
@@ -10,16 +10,19 @@ ghost use Rattle.st_words.specs.declared.path.Owner.{Owner};
 ghost use Rattle.st_trees.specs.Configurations.{Configuration};
 ghost use Rattle.st_trees.specs.Units.{OrganisationUnit};
 ghost use Rattle.st_trees.specs.Sources.{Source};
-ghost use Rattle.st_types.specs.NameTypes.{Declared, declared_in};
-ghost use Rattle.st_types.specs.Scopes.{Scope, of_program, of_block, of_call};
+ghost use Rattle.st_types.specs.NameTypes.{Declared, declared_in, unit_named};
+ghost use Rattle.st_types.specs.StandardBlocks.{block_of};
+ghost use Rattle.st_types.specs.Scopes.{Name, Scope, of_program, of_block, of_call};
 ghost use Rattle.st_types.specs.Slots.{IsLayout, variables_in, inputs_in};
 ghost use Rattle.st_statics.specs.Environments.{Environment};
 ghost use Rattle.st_sound.specs.Soundness.{Agrees};
 ghost use Rattle.st_layouts.specs.LayoutVariables.{Owned, owned_variable, variables_of_configuration};
 ghost use Rattle.st_layouts.specs.LayoutVariables.{configurations_in, only_configuration};
 ghost use Rattle.st_statics.specs.TwiceDeclared.{twice_declared};
+ghost use Rattle.st_statics.specs.Containment.{part_of_type, has_chain};
+ghost use Rattle.st_statics.specs.declared.limits.TheConstants.{MAX_TYPE_DEPTH};
 ghost use Rattle.st_layouts.specs.Libraries.{result_site};
-ghost use Rattle.st_layouts.specs.Types.{sites_of_blocks, instance_of};
+ghost use Rattle.st_layouts.specs.Types.{sites_of_blocks, instance_of, is_within_depth};
 ghost use Rattle.st_layouts.specs.Names.{are_types_and_units_different, is_configuration_different};
 ghost use Rattle.st_layouts.specs.TextLayouts.{slots_of, slots_of_text};
 ghost use Rattle.st_layouts.specs.Standing.{are_declared_once};
@@ -80,4 +83,11 @@ pub fn names_differ_where_none_is_declared_twice()
     ensures scopes { (source : Source) → twice_declared source ≡ []
         → is_configuration_different (only_configuration (configurations_in source)) ≡ true }
     ensures layout { (source : Source) → twice_declared source ≡ [] → IsLayout (slots_of_text source) }
+{}
+
+/// A type at which no chain of 65 parts begins is at most 64 deep, where no unit bears the name of a standard block.
+pub fn types_without_long_chains_are_within_depth()
+    ensures { (text : Declared) → ((x : Name) → is_some (unit_named text.units x) ≡ true → block_of x ≡ None)
+        → (t : VariableType) → has_chain text (MAX_TYPE_DEPTH + 1) (part_of_type t) ≡ false
+        → is_within_depth MAX_TYPE_DEPTH text t ≡ true }
 {}
