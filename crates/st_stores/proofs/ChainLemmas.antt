@@ -1,5 +1,5 @@
 -- A type at which no chain of so many parts begins is at most so many deep.
-use Rattle.std.proofs.Common.{◌≡◌, ℕ, zero, suc, Bool, true, false, ◌&&◌, ◌||◌, if◌then◌else◌, List, [], ◌∷◌, ◌++◌, map}
+use Rattle.std.proofs.Common.{◌≡◌, ℕ, zero, suc, Bool, true, false, ◌&&◌, if◌then◌else◌, List, [], ◌∷◌, ◌++◌, map}
 use Rattle.std.proofs.Common.{Option, Some, None, refl, sym, ap, ◌∙◌}
 use Rattle.std.specs.Prelude.{is_none, is_some}
 use Rattle.std.specs.List.{list_any, list_all, flat_map, filter}
@@ -18,12 +18,12 @@ use Rattle.st_types.specs.Bodies.{is_external}
 use Rattle.st_types.specs.NameTypes.{Declared, type_named, unit_named, definition_of, kind_among}
 use Rattle.st_types.specs.Scopes.{Name}
 use Rattle.st_types.specs.StandardBlocks.{StandardBlock, BlockMember, block_of, members_of}
-use Rattle.st_statics.specs.Containment.{Part, elementary, named, row, part_of_type, parts_of_block, part_of_result}
+use Rattle.st_statics.specs.Containment.{Part, elementary, named, part_of_type, parts_of_block, part_of_result}
 use Rattle.st_statics.specs.Containment.{calls_of, is_function, parts_of_unit, parts_of_definition, parts_of_standard}
 use Rattle.st_statics.specs.Containment.{parts_named, parts_of, has_chain}
 use Rattle.st_layouts.specs.Types.{Site, NamedSite, with_site, site_of_declaration, sites_of_declarations, retention_of}
-use Rattle.st_layouts.specs.Types.{sites_of_blocks, site_of_field, site_of_member, BlockType, block_type_of}
-use Rattle.st_layouts.specs.Types.{own_block_type, block_type_named, instance_of, Composition, of_kind, instance_parts}
+use Rattle.st_layouts.specs.Types.{sites_of_blocks, site_of_field, site_of_member, block_type_of}
+use Rattle.st_layouts.specs.Types.{own_block_type, block_type_named, of_kind, instance_parts}
 use Rattle.st_layouts.specs.Types.{defined_composition, composition_of, parts_within, is_within_depth}
 use Rattle.st_layouts.proofs.ListLemmas.{both_are, neither, any_append}
 
@@ -50,7 +50,7 @@ module _ (text : Declared) (m : ℕ)
   fields_within [] h = refl
   fields_within (f ∷ fs) h =
       let n = neither (has_chain text (suc m) (part_of_type f.declared))
-          (chains (map (λ f. part_of_type f.declared) fs)) h in
+      (chains (map (λ f. part_of_type f.declared) fs)) h in
       both_are (is_within_depth m text f.declared) (list_all within (map site_of_field fs)) (ih f.declared n.0)
       (fields_within fs n.1)
 
@@ -66,7 +66,7 @@ module _ (text : Declared) (m : ℕ)
   declarations_within keep [] h = refl
   declarations_within keep (d ∷ ds) h =
       let n = neither (has_chain text (suc m) (part_of_type d.declared))
-          (chains (map (λ d. part_of_type d.declared) ds)) h in
+      (chains (map (λ d. part_of_type d.declared) ds)) h in
       all_append within (map (with_site (site_of_declaration keep d)) d.names) (sites_of_declarations keep ds)
       (names_within (site_of_declaration keep d) (ih d.declared n.0) d.names) (declarations_within keep ds n.1)
 
@@ -75,7 +75,7 @@ module _ (text : Declared) (m : ℕ)
   blocks_within [] h = refl
   blocks_within (b ∷ bs) h =
       let n = neither (chains (parts_of_block b)) (chains (flat_map parts_of_block bs))
-          (sym (any_append (has_chain text (suc m)) (parts_of_block b) (flat_map parts_of_block bs)) ∙ h) in
+      (sym (any_append (has_chain text (suc m)) (parts_of_block b) (flat_map parts_of_block bs)) ∙ h) in
       by_section (is_external b.section) n.0 (blocks_within bs n.1)
     where
       by_section : (external : Bool)
@@ -102,11 +102,11 @@ module _ (text : Declared) (m : ℕ)
   unit_within u h Program = refl
   unit_within u h FunctionBlock =
       let a = neither (chains (flat_map parts_of_block u.blocks ++ part_of_result u.sort))
-          (chains (map named (filter (is_function text) (calls_of u))))
-          (sym (any_append (has_chain text (suc m)) (flat_map parts_of_block u.blocks ++ part_of_result u.sort)
-          (map named (filter (is_function text) (calls_of u)))) ∙ h) in
+      (chains (map named (filter (is_function text) (calls_of u))))
+      (sym (any_append (has_chain text (suc m)) (flat_map parts_of_block u.blocks ++ part_of_result u.sort)
+      (map named (filter (is_function text) (calls_of u)))) ∙ h) in
       let b = neither (chains (flat_map parts_of_block u.blocks)) (chains (part_of_result u.sort))
-          (sym (any_append (has_chain text (suc m)) (flat_map parts_of_block u.blocks) (part_of_result u.sort)) ∙ a.0) in
+      (sym (any_append (has_chain text (suc m)) (flat_map parts_of_block u.blocks) (part_of_result u.sort)) ∙ a.0) in
       blocks_within u.blocks b.0
 
   own_within : (x : Identifier) (o : Option OrganisationUnit)
@@ -132,7 +132,7 @@ module _ (text : Declared) (m : ℕ)
         absurd (cc)
     block_within x b e None q h =
         let g : chains (if is_some (Some b) then elementary ∷ [] else []) ≡ false =
-            ap (λ k. chains (if is_some k then elementary ∷ [] else [])) (sym e) ∙ h in
+        ap (λ k. chains (if is_some k then elementary ∷ [] else [])) (sym e) ∙ h in
         let n = neither (has_chain text (suc m) elementary) false g in
         let k = more_than_one m refl n.0 in
         members_within k.0 k.1 (members_of b)

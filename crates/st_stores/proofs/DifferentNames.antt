@@ -1,7 +1,7 @@
 -- Where no name is declared twice, names differ in the scopes that a layout asks for.
-use Rattle.std.proofs.Common.{◌≡◌, ℕ, Bool, true, false, not, ◌&&◌, ◌||◌, if◌then◌else◌, List, [], ◌∷◌, ◌++◌, map}
+use Rattle.std.proofs.Common.{◌≡◌, Bool, true, false, not, ◌&&◌, ◌||◌, if◌then◌else◌, List, [], ◌∷◌, ◌++◌, map}
 use Rattle.std.proofs.Common.{Option}
-use Rattle.std.proofs.Common.{Some, None, refl, sym, ap, ap₂, ◌∙◌}
+use Rattle.std.proofs.Common.{Some, refl, sym, ap, ap₂, ◌∙◌}
 use Rattle.std.specs.Prelude.{bytes_eq, filter}
 use Rattle.std.specs.List.{list_any, list_all, flat_map}
 use Rattle.st_words.specs.declared.identifier.Identifier.{Identifier}
@@ -12,7 +12,6 @@ use Rattle.st_trees.specs.Declarations as declarations
 use Rattle.st_trees.specs.Declarations.{Field, TypeDefinition, TypeDeclaration, Declaration, VariableBlock}
 use Rattle.st_trees.specs.Configurations.{GlobalNames, located, listed, GlobalDeclaration, GlobalBlock, Resource}
 use Rattle.st_trees.specs.Configurations.{Configuration}
-use Rattle.st_trees.specs.Units.{OrganisationUnit}
 use Rattle.st_trees.specs.Sources as sources
 use Rattle.st_trees.specs.Sources.{LibraryElement, Source}
 use Rattle.st_types.specs.Bodies.{is_external, names_of}
@@ -32,7 +31,7 @@ use Rattle.st_layouts.specs.Types.{sites_of_blocks, site_of_field}
 use Rattle.st_layouts.specs.LayoutVariables.{Owned, global_variable, site_of_global, variables_of_names}
 use Rattle.st_layouts.specs.LayoutVariables.{variables_of_declarations, retention_of_globals, variables_of_globals}
 use Rattle.st_layouts.specs.LayoutVariables.{configurations_in, only_configuration, variables_of_configuration}
-use Rattle.st_layouts.specs.TextLayouts.{slots_of, slots_of_text}
+use Rattle.st_layouts.specs.TextLayouts.{slots_of_text}
 use Rattle.st_layouts.specs.Names.{are_different, names_of_sites, has_different_fields, variable_names}
 use Rattle.st_layouts.specs.Names.{has_different_variables, are_types_and_units_different, has_different_instances}
 use Rattle.st_layouts.specs.Names.{is_configuration_different}
@@ -107,7 +106,7 @@ fewer_differ [] ys zs h d fewer = d
 fewer_differ (x ∷ xs) ys zs h d fewer =
     let b = both (not (contains_name (xs ++ ys) x)) (are_different (xs ++ ys)) h in
     let n = neither (contains_name xs x) (contains_name ys x)
-        (sym (any_append (λ y. bytes_eq x y) xs ys) ∙ turned (contains_name (xs ++ ys) x) b.0) in
+    (sym (any_append (λ y. bytes_eq x y) xs ys) ∙ turned (contains_name (xs ++ ys) x) b.0) in
     both_are (not (contains_name (xs ++ zs) x)) (are_different (xs ++ zs))
     (turned_back (contains_name (xs ++ zs) x)
     (any_append (λ y. bytes_eq x y) xs zs ∙ ap₂ (λ a b. a || b) n.0 (fewer x n.1)))
@@ -137,7 +136,7 @@ fewer_types : (source : Source) (x : Name) → contains_name (names_of (names_of
 fewer_types [] x h = refl
 fewer_types (sources.types ts ∷ rest) x h =
     let n = apart x (type_names ts) (names_of (names_of_text rest))
-        (ap (λ ns. contains_name ns x) (sym (type_names_are ts rest)) ∙ h) in
+    (ap (λ ns. contains_name ns x) (sym (type_names_are ts rest)) ∙ h) in
     ap (λ ns. contains_name ns x) (map_append (λ t. t.name.name) ts (types_in rest))
     ∙ together x (type_names ts) (type_names (types_in rest)) n.0 (fewer_types rest x n.1)
 fewer_types (sources.unit u ∷ rest) x h =
@@ -149,7 +148,7 @@ types_differ : (source : Source) → are_different (names_of (names_of_text sour
 types_differ [] h = refl
 types_differ (sources.types ts ∷ rest) h =
     let d : are_different (type_names ts ++ names_of (names_of_text rest)) ≡ true =
-        ap are_different (sym (type_names_are ts rest)) ∙ h in
+    ap are_different (sym (type_names_are ts rest)) ∙ h in
     ap are_different (map_append (λ t. t.name.name) ts (types_in rest))
     ∙ fewer_differ (type_names ts) (names_of (names_of_text rest)) (type_names (types_in rest)) d
     (types_differ rest (later_differ (type_names ts) (names_of (names_of_text rest)) d)) (fewer_types rest)
@@ -176,7 +175,7 @@ fields_differ (t ∷ ts) h =
     by_definition (declarations.enumeration names) g = refl
     by_definition (declarations.structure fields) g =
         let e = empty_parts (repeats (map (λ f. f.name) fields))
-            (flat_map repeats (flat_map (λ f. scopes_in_optional f.initial) fields)) g in
+        (flat_map repeats (flat_map (λ f. scopes_in_optional f.initial) fields)) g in
         ap are_different (field_names fields) ∙ repeats_differ (map (λ f. f.name) fields) e.0
 
 -- variables of a unit
@@ -210,8 +209,8 @@ fewer_variables : (bs : List VariableBlock) (x : Name)
 fewer_variables [] x h = refl
 fewer_variables (b ∷ bs) x h =
     let n = apart x (names_of (variables_of_block b)) (names_of (flat_map variables_of_block bs))
-        (ap (λ ns. contains_name ns x) (sym (names_apart (variables_of_block b) (flat_map variables_of_block bs)))
-        ∙ h) in
+    (ap (λ ns. contains_name ns x) (sym (names_apart (variables_of_block b) (flat_map variables_of_block bs)))
+    ∙ h) in
     by_section (is_external b.section) n.0 (fewer_variables bs x n.1)
   where
     by_section : (external : Bool) → contains_name (names_of (variables_of_block b)) x ≡ false
@@ -227,7 +226,7 @@ variables_differ : (bs : List VariableBlock) → are_different (names_of (flat_m
 variables_differ [] h = refl
 variables_differ (b ∷ bs) h =
     let d : are_different (names_of (variables_of_block b) ++ names_of (flat_map variables_of_block bs)) ≡ true =
-        ap are_different (sym (names_apart (variables_of_block b) (flat_map variables_of_block bs))) ∙ h in
+    ap are_different (sym (names_apart (variables_of_block b) (flat_map variables_of_block bs))) ∙ h in
     by_section (is_external b.section) d (variables_differ bs (later_differ (names_of (variables_of_block b))
     (names_of (flat_map variables_of_block bs)) d))
   where
@@ -271,7 +270,7 @@ units_differ names (sources.unit u ∷ rest) among taken h =
     let t = places_parts (is_taken names) (variables_of u) (variables_of_text rest) taken in
     let d = variables_differ u.blocks (repeats_differ (variables_of u) r.0) in
     let own : (x : Name) → list_any (is_named x) names ≡ false → bytes_eq x u.name.name ≡ false =
-        λ x g. (neither (is_named x u.name) (list_any (is_named x) (names_of_text rest)) (among x g)).0 in
+    λ x g. (neither (is_named x u.name) (list_any (is_named x) (names_of_text rest)) (among x g)).0 in
     let n = fewer_variables u.blocks u.name.name (none_bears names u.name.name own (variables_of u) t.0) in
     both_are (has_different_variables u) (list_all has_different_variables (units_in rest))
     (by_sort u.sort d n)
@@ -338,8 +337,8 @@ instances_differ [] h = refl
 instances_differ (r ∷ rs) h =
     let e = empty_parts (repeats (names_in r)) (flat_map repeats (map names_in rs)) h in
     let d : are_different (names_of (map (λ t. t.name) r.tasks) ++ names_of (map (λ i. i.name) r.instances)) ≡ true =
-        ap are_different (sym (names_apart (map (λ t. t.name) r.tasks) (map (λ i. i.name) r.instances)))
-        ∙ repeats_differ (names_in r) e.0 in
+    ap are_different (sym (names_apart (map (λ t. t.name) r.tasks) (map (λ i. i.name) r.instances)))
+    ∙ repeats_differ (names_in r) e.0 in
     both_are (has_different_instances r) (list_all has_different_instances rs)
     (ap are_different (sym (map_map (λ x. x.name) (λ i. i.name) r.instances))
     ∙ later_differ (names_of (map (λ t. t.name) r.tasks)) (names_of (map (λ i. i.name) r.instances)) d)
@@ -349,7 +348,7 @@ configuration_differs : (c : Configuration) → flat_map repeats (scopes_of_elem
     → is_configuration_different (Some c) ≡ true
 configuration_differs c h =
     let e = flat_parts repeats (globals_of c ∷ flat_map scopes_in_globals c.globals)
-        (map (λ r. r.name) c.resources ∷ map names_in c.resources) h in
+    (map (λ r. r.name) c.resources ∷ map names_in c.resources) h in
     let g = empty_parts (repeats (globals_of c)) (flat_map repeats (flat_map scopes_in_globals c.globals)) e.0 in
     let r = empty_parts (repeats (map (λ r. r.name) c.resources)) (flat_map repeats (map names_in c.resources)) e.1 in
     both_are (are_different (names_among (variables_of_globals c.globals)))
@@ -390,10 +389,10 @@ record AreScopesEmpty (source : Source) : Type 0 where
 scopes_empty : (source : Source) → twice_declared source ≡ [] → AreScopesEmpty source
 scopes_empty source h =
     let a = empty_parts (flat_map repeats (scopes_of source)
-        ++ places_where (λ x. is_standard x.name) (names_of_text source))
-        (places_where (is_taken (names_of_text source)) (variables_of_text source)) h in
+    ++ places_where (λ x. is_standard x.name) (names_of_text source))
+    (places_where (is_taken (names_of_text source)) (variables_of_text source)) h in
     let b = empty_parts (flat_map repeats (scopes_of source))
-        (places_where (λ x. is_standard x.name) (names_of_text source)) a.0 in
+    (places_where (λ x. is_standard x.name) (names_of_text source)) a.0 in
     let c = empty_parts (repeats (names_of_text source)) (flat_map repeats (flat_map scopes_of_element source)) b.0 in
     record { text = c.0; elements = c.1; variables = a.1 }
 
@@ -416,7 +415,7 @@ pub text_layout : (source : Source) → twice_declared source ≡ [] → IsLayou
 text_layout source h =
     let c = only_configuration (configurations_in source) in
     let d = (both (are_different (type_names (types_in source))) (are_types_and_units_different (declared_in source))
-        (names_differ source h)).1 in
+    (names_differ source h)).1 in
     let s = slots_taken source in
     rw s (variables_layout (declared_in source) (variables_of_configuration (declared_in source) c)
     (configuration_once (declared_in source) d c (scopes_differ source h)))
