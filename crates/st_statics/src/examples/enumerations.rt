@@ -38,8 +38,7 @@ pub fn values()
     ensures unknown { broken (step (assign (name 140 M) (literal (Enumerated (of_type 145 MODE (codes "OPEN")))) ∷ []))
         ≡ breaks UnknownName 145 ∷ [] }
     // `m := Foo#Fault`
-    ensures unknown_type
-        { broken (step (assign (name 140 M) (literal (Enumerated (of_type 145 (codes "FOO") FAULT))) ∷ []))
+    ensures unknown_type { broken (step (assign (name 140 M) (literal (Enumerated (of_type 145 (codes "FOO") FAULT))) ∷ []))
         ≡ breaks UnknownName 145 ∷ [] }
     // `m := Fault`: two types have it
     ensures ambiguous { broken (step (assign (name 140 M) (reading 145 FAULT) ∷ [])) ≡ breaks WrongType 145 ∷ [] }
@@ -62,8 +61,7 @@ pub fn values()
         (step (IF (arms_of ((binary Equal (reading 145 M) (literal (Enumerated (of_type 150 MODE FAULT))), no_stmts)
         ∷ [])) no_stmts ∷ [])) ≡ [] }
     // `IF m = k THEN END_IF`
-    ensures of_two_types
-        { broken (step (IF (arms_of ((binary Equal (reading 145 M) (reading 150 (codes "K")), no_stmts) ∷ [])) no_stmts
+    ensures of_two_types { broken (step (IF (arms_of ((binary Equal (reading 145 M) (reading 150 (codes "K")), no_stmts) ∷ [])) no_stmts
         ∷ []))
         ≡ breaks WrongType 145 ∷ [] }
     // `IF m < Mode#Fault THEN END_IF`: names have no order
@@ -93,8 +91,7 @@ pub fn labels()
         ∷ (labels.Enumerated (of_type 160 ALARM CLEAR) ∷ []) ∷ []) ∷ []))
         ≡ breaks WrongType 160 ∷ [] }
     // `CASE m OF Clear : END_CASE`: the value of the other type, whatever variables there are
-    ensures variable_of_the_name
-        { broken (step (case_of (reading 145 M) ((labels.Enumerated (bare 150 CLEAR) ∷ []) ∷ []) ∷ []))
+    ensures variable_of_the_name { broken (step (case_of (reading 145 M) ((labels.Enumerated (bare 150 CLEAR) ∷ []) ∷ []) ∷ []))
         ≡ breaks WrongType 150 ∷ [] }
     // `CASE m OF n : END_CASE`: a variable is no label
     ensures variable { broken (step (case_of (reading 145 M) ((labels.Enumerated (bare 150 N) ∷ []) ∷ []) ∷ []))

@@ -19,8 +19,7 @@ ghost use Rattle.st_statics.specs.ExampleWords.{B, F, P};
 /// In `PROGRAM P VAR n : INT; b : BOOL; w : WORD; a : ARRAY [1..2] OF INT; f : TON; d : TIME; u : UINT; END_VAR`.
 pub fn operators()
     // `b := b = 1`: an untyped operand beside a BOOL is a LINT
-    ensures truth_and_number
-        { broken (wide (assign (name 100 B) (binary Equal (reading 105 B) (number 109 (pos 1))) ∷ []))
+    ensures truth_and_number { broken (wide (assign (name 100 B) (binary Equal (reading 105 B) (number 109 (pos 1))) ∷ []))
         ≡ breaks WrongType 105 ∷ [] }
     // `b := n = 1`
     ensures whole_numbers { broken (wide (assign (name 100 B) (binary Equal (reading 105 N) (number 109 (pos 1))) ∷ []))
@@ -36,8 +35,7 @@ pub fn operators()
         (binary Multiply (reading 105 (codes "D")) (reading 109 (codes "D")))
         ∷ [])) ≡ breaks WrongType 105 ∷ [] }
     // `d := d + T#1ms`
-    ensures durations_added
-        { broken (wide (assign (name 100 (codes "D")) (binary Add (reading 105 (codes "D")) (duration 109 1)) ∷ []))
+    ensures durations_added { broken (wide (assign (name 100 (codes "D")) (binary Add (reading 105 (codes "D")) (duration 109 1)) ∷ []))
         ≡ [] }
     // `w := NOT w`
     ensures bits_turned { broken (wide (assign (name 100 (codes "W")) (unary Not 105 (reading 109 (codes "W"))) ∷ []))
@@ -46,8 +44,7 @@ pub fn operators()
     ensures number_turned { broken (wide (assign (name 100 N) (unary Not 105 (reading 109 N)) ∷ []))
         ≡ breaks WrongType 105 ∷ [] }
     // `u := -u`: without a sign
-    ensures without_sign
-        { broken (wide (assign (name 100 (codes "U")) (unary Negate 105 (reading 106 (codes "U"))) ∷ []))
+    ensures without_sign { broken (wide (assign (name 100 (codes "U")) (unary Negate 105 (reading 106 (codes "U"))) ∷ []))
         ≡ breaks WrongType 105 ∷ [] }
     // `n := (2 + 3) * n`: the untyped part takes INT
     ensures untyped_part { broken (wide (assign (name 100 N) (binary Multiply
@@ -77,8 +74,7 @@ pub fn standard_functions()
     ensures shift { broken (wide (assign (name 100 (codes "W")) (calling 105 (codes "SHL") (reading 109 (codes "W")
         ∷ number 112 (pos 2) ∷ [])) ∷ [])) ≡ [] }
     // `w := SHL(w, w)`: a count is a whole number
-    ensures count_of_bits
-        { broken (wide (assign (name 100 (codes "W")) (calling 105 (codes "SHL") (reading 109 (codes "W")
+    ensures count_of_bits { broken (wide (assign (name 100 (codes "W")) (calling 105 (codes "SHL") (reading 109 (codes "W")
         ∷ reading 112 (codes "W") ∷ [])) ∷ [])) ≡ breaks WrongType 112 ∷ [] }
     // `n := ABS(n, n)`
     ensures too_many { broken
@@ -108,24 +104,20 @@ pub fn standard_functions()
     ensures conversion { broken
         (wide (assign (name 100 N) (calling 105 (codes "UINT_TO_INT") (number 117 (pos 5) ∷ [])) ∷ [])) ≡ [] }
     // `n := UINT_TO_INT(-5)`
-    ensures conversion_of_less
-        { broken (wide (assign (name 100 N) (calling 105 (codes "UINT_TO_INT") (number 117 (negsuc 4) ∷ [])) ∷ []))
+    ensures conversion_of_less { broken (wide (assign (name 100 N) (calling 105 (codes "UINT_TO_INT") (number 117 (negsuc 4) ∷ [])) ∷ []))
         ≡ breaks OutOfRange 117 ∷ [] }
     // `n := INT_TO_INT(n)`: no standard function
-    ensures conversion_to_itself
-        { broken (wide (assign (name 100 N) (calling 105 (codes "INT_TO_INT") (reading 116 N ∷ [])) ∷ []))
+    ensures conversion_to_itself { broken (wide (assign (name 100 N) (calling 105 (codes "INT_TO_INT") (reading 116 N ∷ [])) ∷ []))
         ≡ breaks UnknownName 105 ∷ [] }
 {}
 
 /// Parts of variables in the same program.
 pub fn places()
     // `n := a[TRUE]`
-    ensures subscript_of_truth
-        { broken (wide (assign (name 100 N) (read (element 105 (codes "A") (truth 107 true))) ∷ []))
+    ensures subscript_of_truth { broken (wide (assign (name 100 N) (read (element 105 (codes "A") (truth 107 true))) ∷ []))
         ≡ breaks WrongType 107 ∷ [] }
     // `n := a[w]`: bits are no whole number
-    ensures subscript_of_bits
-        { broken (wide (assign (name 100 N) (read (element 105 (codes "A") (reading 107 (codes "W")))) ∷ []))
+    ensures subscript_of_bits { broken (wide (assign (name 100 N) (read (element 105 (codes "A") (reading 107 (codes "W")))) ∷ []))
         ≡ breaks WrongType 107 ∷ [] }
     // `n := a[u]`
     ensures subscript { broken
@@ -136,8 +128,7 @@ pub fn places()
     ensures hidden { broken (wide (assign (name 100 B) (read (part 105 F 107 (codes "RUN"))) ∷ []))
         ≡ breaks UnknownName 107 ∷ [] }
     // `n := n + a`: an array is no operand
-    ensures array_as_operand
-        { broken (wide (assign (name 100 N) (binary Add (reading 105 N) (reading 109 (codes "A"))) ∷ []))
+    ensures array_as_operand { broken (wide (assign (name 100 N) (binary Add (reading 105 N) (reading 109 (codes "A"))) ∷ []))
         ≡ breaks WrongType 105 ∷ [] }
     // `n := P`: a unit is no variable
     ensures unit { broken (wide (assign (name 100 N) (reading 105 P) ∷ [])) ≡ breaks UnknownName 105 ∷ [] }
@@ -156,8 +147,7 @@ pub fn functions()
         (calls_sq (assign (name 100 N) (calling 105 (codes "SQ") (number 108 (pos 40000) ∷ [])) ∷ []))
         ≡ breaks OutOfRange 108 ∷ [] }
     // `b := Sq(3)`
-    ensures other_result
-        { broken (calls_sq (assign (name 100 B) (calling 105 (codes "SQ") (number 108 (pos 3) ∷ [])) ∷ []))
+    ensures other_result { broken (calls_sq (assign (name 100 B) (calling 105 (codes "SQ") (number 108 (pos 3) ∷ [])) ∷ []))
         ≡ breaks WrongType 105 ∷ [] }
     // `n := Sq(1, 2)`
     ensures too_many { broken
