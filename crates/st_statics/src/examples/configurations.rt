@@ -11,7 +11,7 @@ ghost use Rattle.st_trees.specs.declared.declaration.Section.TheVariants.{Extern
 ghost use Rattle.st_trees.specs.Declarations.{structure, array};
 ghost use Rattle.st_statics.specs.ConfigurationRules.{same_type, are_known, has_sound_addresses, has_one_configuration};
 ghost use Rattle.st_statics.specs.ConfigurationRules.{has_too_many, have_tasks};
-ghost use Rattle.st_statics.specs.ExampleWords.{at, elementary, named, array_of, defining, field_of, add, N, M, X, P};
+ghost use Rattle.st_statics.specs.ExampleWords.{elementary, named, array_of, add, N, M, X};
 ghost use Rattle.st_statics.specs.ExampleWords.{texts_with_types, external_text, globals_of, global, addressed};
 ghost use Rattle.st_statics.specs.ExampleWords.{one_program};
 ghost use Rattle.st_statics.specs.ExampleWords as words;

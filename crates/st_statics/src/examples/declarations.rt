@@ -12,11 +12,11 @@ ghost use Rattle.st_trees.specs.Sources.{types};
 ghost use Rattle.st_statics.specs.declared.rule.Rule.TheVariants.{UnknownName, DeclaredTwice, WrongType, OutOfRange};
 ghost use Rattle.st_statics.specs.declared.rule.Rule.TheVariants.{TooDeep, WrongBounds, RetainedAddress};
 ghost use Rattle.st_statics.specs.Rules.{broken};
-ghost use Rattle.st_statics.specs.ExampleWords.{breaks, at, digits, typed_digits, elementary, named, array_of};
+ghost use Rattle.st_statics.specs.ExampleWords.{breaks, at, typed_digits, elementary, named, array_of};
 ghost use Rattle.st_statics.specs.ExampleWords.{declaring};
 ghost use Rattle.st_statics.specs.ExampleWords.{starting, start_of, block, organised, defining, field_of, declares};
 ghost use Rattle.st_statics.specs.ExampleWords.{local};
-ghost use Rattle.st_statics.specs.ExampleWords.{configured, located_at, tasked, N, M, B, F, X, P};
+ghost use Rattle.st_statics.specs.ExampleWords.{configured, located_at, tasked, N, M, F, X, P};
 ghost use Rattle.st_statics.specs.ExampleWords as words;
 
 /// Names that are declared twice, or taken.

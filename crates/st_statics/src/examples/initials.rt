@@ -10,7 +10,7 @@ ghost use Rattle.st_statics.specs.declared.rule.Rule.TheVariants.{WrongBounds};
 ghost use Rattle.st_statics.specs.Rules.{broken};
 ghost use Rattle.st_statics.specs.ExampleWords.{breaks, at, digits, typed_digits, elementary, named, starting};
 ghost use Rattle.st_statics.specs.ExampleWords.{start_of, local};
-ghost use Rattle.st_statics.specs.ExampleWords.{with_pair, N, M, B, X};
+ghost use Rattle.st_statics.specs.ExampleWords.{with_pair, N, M, B};
 ghost use Rattle.st_statics.specs.ExampleWords as words;
 
 /// Constants and lists.
