@@ -36,5 +36,5 @@ pub one_added : {T : Type 0} (q x k : List ℕ) (old : List ℕ → Option T) (n
     → new ≡ (if bytes_eq k q then Some v else old q) → new ≡ or_found (old q) (if bytes_eq q x then Some v else None)
 one_added q x k old new v same absent is =
     added (bytes_eq q x) (old q) new v
-        (is ∙ ap (λ b. if b then Some v else old q) (ap (λ w. bytes_eq w q) same ∙ turned x q))
+    (is ∙ ap (λ b. if b then Some v else old q) (ap (λ w. bytes_eq w q) same ∙ turned x q))
     (λ h. ap old (same_bytes (bytes_eq q x) q x (bytes_eq-Decides q x) h) ∙ absent)

@@ -34,7 +34,7 @@ place_there f (y ∷ pre) post x h = one_more (f y) (place_there f pre post x h)
   where
     one_more : (b : Bool) → Contains (places_where f (pre ++ x ∷ post)) x.place
         → Contains (map (λ z. z.place) (if b then y ∷ filter f (pre ++ x ∷ post) else filter f (pre ++ x ∷ post)))
-            x.place
+        x.place
     one_more true c = Contains-append_right (y.place ∷ []) (places_where f (pre ++ x ∷ post)) x.place c
     one_more false c = c
 
@@ -59,7 +59,7 @@ repeated_here y x pre post true e k rest =
     (place_there (is_named y.name) pre post x (turned y.name x.name ∙ e))
 repeated_here y x pre post false e k rest =
     Contains-append_right (places_where (is_named y.name) (pre ++ x ∷ post)) (repeats (pre ++ x ∷ post)) x.place
-        (rest k)
+    (rest k)
 
 pub repeated : (pre post : List Identifier) (x : Identifier) → list_any (is_named x.name) pre ≡ true
     → Contains (repeats (pre ++ x ∷ post)) x.place

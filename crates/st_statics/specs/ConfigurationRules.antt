@@ -152,7 +152,7 @@ is_known_instance text tasks i = is_known_task tasks i.task && is_program_unit (
 abbrev pub is_known_resource : Declared → List GlobalBlock → Resource → Bool
 is_known_resource text blocks r =
     list_all (is_known_instance text r.tasks) r.instances && list_all
-        (λ t. is_known_single text blocks t.single) r.tasks
+    (λ t. is_known_single text blocks t.single) r.tasks
 
 -- Tasks, programs, globals and SINGLEs are known, and externals are of their globals' types.
 abbrev pub are_known : Declared → Configuration → Bool

@@ -21,7 +21,7 @@ use Rattle.st_trees.specs.declared.unit.UnitSort.{UnitSort}
 use Rattle.st_trees.specs.declared.unit.UnitSort.TheVariants.{Function, FunctionBlock, Program}
 use Rattle.st_trees.specs.Expressions.{Expr, literal, read, call, exprs_of, Variable, variable, member, subscript}
 use Rattle.st_trees.specs.Expressions.{selectors_of, no_selectors}
-use Rattle.st_trees.specs.Statements.{Stmt, CASE, case_arms_of, no_stmts}
+use Rattle.st_trees.specs.Statements.{Argument, given, copied, Stmt, assign, invoke, CASE, case_arms_of, no_stmts}
 use Rattle.st_trees.specs.Initials.{Initial, constant}
 use Rattle.st_trees.specs.Declarations.{Declaration, VariableBlock, TypeDefinition, TypeDeclaration, Field}
 use Rattle.st_trees.specs.Declarations as definitions
@@ -92,6 +92,20 @@ part place x behind y = variable (at place x) (selectors_of (member (at behind y
 
 abbrev pub calling : ℕ → Name → List Expr → Expr
 calling place f es = call (at place f) (exprs_of es)
+
+-- arguments of a call of an instance
+abbrev pub giving : ℕ → Name → Expr → Argument
+giving place x e = given (at place x) e
+
+abbrev pub copying : ℕ → Name → Variable → Argument
+copying place x v = copied (at place x) v
+
+-- an assignment, and a call of an instance
+abbrev pub setting : ℕ → Name → Expr → Stmt
+setting place x e = assign (name place x) e
+
+abbrev pub invoking : ℕ → Name → List Argument → Stmt
+invoking place x arguments = invoke (at place x) arguments
 
 -- types and declarations; an elementary type stands at 0 where its place says nothing
 abbrev pub elementary : Kind → VariableType

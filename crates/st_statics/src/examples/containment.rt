@@ -7,11 +7,11 @@ ghost use Rattle.st_trees.specs.declared.data_type.VariableType.TheVariants.{Arr
 ghost use Rattle.st_trees.specs.declared.declaration.Section.TheVariants.{Local, External};
 ghost use Rattle.st_trees.specs.declared.unit.UnitSort.TheVariants.{Function, FunctionBlock, Program};
 ghost use Rattle.st_trees.specs.Declarations.{structure};
-ghost use Rattle.st_trees.specs.Statements.{assign};
 ghost use Rattle.st_trees.specs.Sources.{types};
 ghost use Rattle.st_statics.specs.declared.rule.Rule.TheVariants.{WrongType, TooDeep};
 ghost use Rattle.st_statics.specs.Rules.{broken};
-ghost use Rattle.st_statics.specs.ExampleWords.{breaks, at, name, calling, elementary, named, array_of, declaring};
+ghost use Rattle.st_statics.specs.ExampleWords.{setting, breaks, at, name, calling, elementary, named, array_of};
+ghost use Rattle.st_statics.specs.ExampleWords.{declaring};
 ghost use Rattle.st_statics.specs.ExampleWords.{block};
 ghost use Rattle.st_statics.specs.ExampleWords.{organised, defining, field_of, local, chain_of_types, N, M, F, X, P};
 
@@ -29,12 +29,11 @@ pub fn cycles()
         ≡ breaks TooDeep 5 ∷ breaks TooDeep 20 ∷ [] }
     // FUNCTION F : INT F := F() ..: it calls itself
     ensures function { broken
-        (organised (Function (Elementary Int 13)) (at 9 F) [] (assign (name 17 F) (calling 22 F []) ∷ []) ∷ [])
+        (organised (Function (Elementary Int 13)) (at 9 F) [] (setting 17 F (calling 22 F []) ∷ []) ∷ [])
         ≡ breaks TooDeep 9 ∷ [] }
     // two functions that call one another
-    ensures two_functions
-        { broken (organised (Function (Elementary Int 13)) (at 9 F) [] (assign (name 17 F) (calling 22 M []) ∷ [])
-        ∷ organised (Function (Elementary Int 13)) (at 59 M) [] (assign (name 67 M) (calling 72 F []) ∷ []) ∷ [])
+    ensures two_functions { broken (organised (Function (Elementary Int 13)) (at 9 F) [] (setting 17 F (calling 22 M []) ∷ [])
+        ∷ organised (Function (Elementary Int 13)) (at 59 M) [] (setting 67 M (calling 72 F []) ∷ []) ∷ [])
         ≡ breaks TooDeep 9 ∷ breaks TooDeep 59 ∷ [] }
     // a block that contains a block that contains the first
     ensures blocks { broken
@@ -44,7 +43,7 @@ pub fn cycles()
     // A block that calls a function is no part of it, and externals are no parts.
     ensures no_cycle { broken (organised (Function (Elementary Int 13)) (at 9 F) [] []
         ∷ organised FunctionBlock (at 65 M) (block External (declaring (at 70 N) (elementary Int) ∷ []) ∷ [])
-        (assign (name 87 N) (calling 92 F []) ∷ []) ∷ []) ≡ [] }
+        (setting 87 N (calling 92 F []) ∷ []) ∷ []) ≡ [] }
 {}
 
 /// A chain of structures, the last of which has an INT, each told with its length.

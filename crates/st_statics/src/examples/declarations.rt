@@ -12,11 +12,11 @@ ghost use Rattle.st_trees.specs.Sources.{types};
 ghost use Rattle.st_statics.specs.declared.rule.Rule.TheVariants.{UnknownName, DeclaredTwice, WrongType, OutOfRange};
 ghost use Rattle.st_statics.specs.declared.rule.Rule.TheVariants.{TooDeep, WrongBounds, RetainedAddress};
 ghost use Rattle.st_statics.specs.Rules.{broken};
-ghost use Rattle.st_statics.specs.ExampleWords.{breaks, at, digits, typed_digits, elementary, named, array_of};
+ghost use Rattle.st_statics.specs.ExampleWords.{breaks, at, typed_digits, elementary, named, array_of};
 ghost use Rattle.st_statics.specs.ExampleWords.{declaring};
 ghost use Rattle.st_statics.specs.ExampleWords.{starting, start_of, block, organised, defining, field_of, declares};
 ghost use Rattle.st_statics.specs.ExampleWords.{local};
-ghost use Rattle.st_statics.specs.ExampleWords.{configured, located_at, tasked, N, M, B, F, X, P};
+ghost use Rattle.st_statics.specs.ExampleWords.{configured, located_at, tasked, N, M, F, X, P};
 ghost use Rattle.st_statics.specs.ExampleWords as words;
 
 /// Names that are declared twice, or taken.
@@ -54,20 +54,16 @@ pub fn kinds()
     // PROGRAM P VAR f : TON; END_VAR
     ensures instance { broken (local (declaring (at 14 F) (named 18 (codes "TON")) ∷ [])) ≡ [] }
     // PROGRAM P VAR CONSTANT f : TON; END_VAR
-    ensures constant_instance
-        { broken (declares (block Constant (declaring (at 24 F) (named 28 (codes "TON")) ∷ []) ∷ []))
+    ensures constant_instance { broken (declares (block Constant (declaring (at 24 F) (named 28 (codes "TON")) ∷ []) ∷ []))
         ≡ breaks WrongType 28 ∷ [] }
     // PROGRAM P VAR f : TON := 5; END_VAR
-    ensures instance_with_value
-        { broken (local (starting (at 14 F) (named 18 (codes "TON")) (start_of 25 (pos 5)) ∷ []))
+    ensures instance_with_value { broken (local (starting (at 14 F) (named 18 (codes "TON")) (start_of 25 (pos 5)) ∷ []))
         ≡ breaks WrongType 18 ∷ [] }
     // PROGRAM P VAR a : ARRAY [1..2] OF TON; END_VAR
-    ensures array_of_instances
-        { broken (local (declaring (at 14 N) (Array (array_of 18 (pos 1) (pos 2) (Named (at 34 (codes "TON"))))) ∷ []))
+    ensures array_of_instances { broken (local (declaring (at 14 N) (Array (array_of 18 (pos 1) (pos 2) (Named (at 34 (codes "TON"))))) ∷ []))
         ≡ breaks WrongType 34 ∷ [] }
     // TYPE x : STRUCT f : TON; END_STRUCT; END_TYPE
-    ensures field_instance
-        { broken (types (defining (at 5 X) (structure (field_of (at 16 F) (named 20 (codes "TON")) ∷ [])) ∷ []) ∷ [])
+    ensures field_instance { broken (types (defining (at 5 X) (structure (field_of (at 16 F) (named 20 (codes "TON")) ∷ [])) ∷ []) ∷ [])
         ≡ breaks WrongType 20 ∷ [] }
     // FUNCTION_BLOCK F VAR_INPUT f : TON; END_VAR, VAR_OUTPUT a : ARRAY [1..2] OF INT; END_VAR
     ensures inputs_and_outputs { broken (organised FunctionBlock (at 15 F)

@@ -9,7 +9,7 @@ ghost use Rattle.st_trees.specs.declared.data_type.SimpleType.TheVariants.{Eleme
 ghost use Rattle.st_trees.specs.declared.declaration.Section.TheVariants.{Input};
 ghost use Rattle.st_trees.specs.declared.unit.UnitSort.TheVariants.{Function};
 ghost use Rattle.st_trees.specs.Expressions.{literal, binary};
-ghost use Rattle.st_trees.specs.Statements.{assign, IF, arms_of, no_stmts};
+ghost use Rattle.st_trees.specs.Statements.{IF, arms_of, no_stmts};
 ghost use Rattle.st_trees.specs.Declarations.{enumeration};
 ghost use Rattle.st_trees.specs.Initials.{constant};
 ghost use Rattle.st_trees.specs.Sources.{types};
@@ -18,11 +18,12 @@ ghost use Rattle.st_statics.specs.declared.rule.Rule.TheVariants.{TooManyNames};
 ghost use Rattle.st_statics.specs.Rules.{broken};
 ghost use Rattle.st_statics.specs.TypeRules.{surplus_name};
 ghost use Rattle.st_statics.specs.ExampleWords as words;
-ghost use Rattle.st_statics.specs.ExampleWords.{breaks, at, number, name, reading, bare, of_type, calling, named};
+ghost use Rattle.st_statics.specs.ExampleWords.{setting, breaks, at, number, name, reading, bare, of_type, calling};
+ghost use Rattle.st_statics.specs.ExampleWords.{named};
 ghost use Rattle.st_statics.specs.ExampleWords.{declaring};
 ghost use Rattle.st_statics.specs.ExampleWords.{starting, block, organised, defining, step, starting_mode, many_names};
 ghost use Rattle.st_statics.specs.ExampleWords.{single};
-ghost use Rattle.st_statics.specs.ExampleWords.{case_of, between, modes, STOPPED, RUNNING, FAULT, CLEAR, MODE, ALARM};
+ghost use Rattle.st_statics.specs.ExampleWords.{case_of, modes, STOPPED, RUNNING, FAULT, CLEAR, MODE, ALARM};
 ghost use Rattle.st_statics.specs.ExampleWords.{N, M, F};
 
 /// In `PROGRAM Step VAR m : Mode; k : Alarm; n : INT; clear : Mode; END_VAR`, with `Mode : (Stopped, Running, Fault)`
@@ -30,40 +31,38 @@ ghost use Rattle.st_statics.specs.ExampleWords.{N, M, F};
 /// `Alarm : (Clear, Fault)`.
 pub fn values()
     // `m := Running`
-    ensures fitting { broken (step (assign (name 140 M) (reading 145 RUNNING) ∷ [])) ≡ [] }
+    ensures fitting { broken (step (setting 140 M (reading 145 RUNNING) ∷ [])) ≡ [] }
     // `m := Mode#Fault`
-    ensures with_its_type { broken (step (assign (name 140 M) (literal (Enumerated (of_type 145 MODE FAULT))) ∷ []))
+    ensures with_its_type { broken (step (setting 140 M (literal (Enumerated (of_type 145 MODE FAULT))) ∷ []))
         ≡ [] }
     // `m := Mode#Open`
-    ensures unknown { broken (step (assign (name 140 M) (literal (Enumerated (of_type 145 MODE (codes "OPEN")))) ∷ []))
+    ensures unknown { broken (step (setting 140 M (literal (Enumerated (of_type 145 MODE (codes "OPEN")))) ∷ []))
         ≡ breaks UnknownName 145 ∷ [] }
     // `m := Foo#Fault`
-    ensures unknown_type
-        { broken (step (assign (name 140 M) (literal (Enumerated (of_type 145 (codes "FOO") FAULT))) ∷ []))
+    ensures unknown_type { broken (step (setting 140 M (literal (Enumerated (of_type 145 (codes "FOO") FAULT))) ∷ []))
         ≡ breaks UnknownName 145 ∷ [] }
     // `m := Fault`: two types have it
-    ensures ambiguous { broken (step (assign (name 140 M) (reading 145 FAULT) ∷ [])) ≡ breaks WrongType 145 ∷ [] }
+    ensures ambiguous { broken (step (setting 140 M (reading 145 FAULT) ∷ [])) ≡ breaks WrongType 145 ∷ [] }
     // `m := Alarm#Fault`
-    ensures other_type { broken (step (assign (name 140 M) (literal (Enumerated (of_type 145 ALARM FAULT))) ∷ []))
+    ensures other_type { broken (step (setting 140 M (literal (Enumerated (of_type 145 ALARM FAULT))) ∷ []))
         ≡ breaks WrongType 145 ∷ [] }
     // `k := clear`: the variable hides the name, and is a Mode
-    ensures hidden { broken (step (assign (name 140 (codes "K")) (reading 145 CLEAR) ∷ []))
+    ensures hidden { broken (step (setting 140 (codes "K") (reading 145 CLEAR) ∷ []))
         ≡ breaks WrongType 145 ∷ [] }
     // `m := clear`
-    ensures variable { broken (step (assign (name 140 M) (reading 145 CLEAR) ∷ [])) ≡ [] }
+    ensures variable { broken (step (setting 140 M (reading 145 CLEAR) ∷ [])) ≡ [] }
     // `m := 1`
-    ensures number { broken (step (assign (name 140 M) (number 145 (pos 1)) ∷ [])) ≡ breaks WrongType 145 ∷ [] }
+    ensures number { broken (step (setting 140 M (number 145 (pos 1)) ∷ [])) ≡ breaks WrongType 145 ∷ [] }
     // `n := Running`
-    ensures to_a_number { broken (step (assign (name 140 N) (reading 145 RUNNING) ∷ [])) ≡ breaks WrongType 145 ∷ [] }
+    ensures to_a_number { broken (step (setting 140 N (reading 145 RUNNING) ∷ [])) ≡ breaks WrongType 145 ∷ [] }
     // `Running := m`: a value is no variable
-    ensures assigned { broken (step (assign (name 140 RUNNING) (reading 145 M) ∷ [])) ≡ breaks UnknownName 140 ∷ [] }
+    ensures assigned { broken (step (setting 140 RUNNING (reading 145 M) ∷ [])) ≡ breaks UnknownName 140 ∷ [] }
     // `IF m = Mode#Fault THEN END_IF`
     ensures compared { broken
         (step (IF (arms_of ((binary Equal (reading 145 M) (literal (Enumerated (of_type 150 MODE FAULT))), no_stmts)
         ∷ [])) no_stmts ∷ [])) ≡ [] }
     // `IF m = k THEN END_IF`
-    ensures of_two_types
-        { broken (step (IF (arms_of ((binary Equal (reading 145 M) (reading 150 (codes "K")), no_stmts) ∷ [])) no_stmts
+    ensures of_two_types { broken (step (IF (arms_of ((binary Equal (reading 145 M) (reading 150 (codes "K")), no_stmts) ∷ [])) no_stmts
         ∷ []))
         ≡ breaks WrongType 145 ∷ [] }
     // `IF m < Mode#Fault THEN END_IF`: names have no order
@@ -71,11 +70,11 @@ pub fn values()
         (step (IF (arms_of ((binary Less (reading 145 M) (literal (Enumerated (of_type 150 MODE FAULT))), no_stmts)
         ∷ [])) no_stmts ∷ [])) ≡ breaks WrongType 145 ∷ [] }
     // `m := SEL(m = Stopped, m, Running)`
-    ensures selected { broken (step (assign (name 140 M) (calling 145 (codes "SEL")
+    ensures selected { broken (step (setting 140 M (calling 145 (codes "SEL")
         (binary Equal (reading 149 M) (reading 153 STOPPED) ∷ reading 162 M ∷ reading 165 RUNNING ∷ [])) ∷ [])) ≡ [] }
     // `m := MAX(m, m)`
     ensures greater { broken
-        (step (assign (name 140 M) (calling 145 (codes "MAX") (reading 149 M ∷ reading 152 M ∷ [])) ∷ []))
+        (step (setting 140 M (calling 145 (codes "MAX") (reading 149 M ∷ reading 152 M ∷ [])) ∷ []))
         ≡ breaks WrongType 149 ∷ breaks WrongType 152 ∷ [] }
 {}
 
@@ -93,8 +92,7 @@ pub fn labels()
         ∷ (labels.Enumerated (of_type 160 ALARM CLEAR) ∷ []) ∷ []) ∷ []))
         ≡ breaks WrongType 160 ∷ [] }
     // `CASE m OF Clear : END_CASE`: the value of the other type, whatever variables there are
-    ensures variable_of_the_name
-        { broken (step (case_of (reading 145 M) ((labels.Enumerated (bare 150 CLEAR) ∷ []) ∷ []) ∷ []))
+    ensures variable_of_the_name { broken (step (case_of (reading 145 M) ((labels.Enumerated (bare 150 CLEAR) ∷ []) ∷ []) ∷ []))
         ≡ breaks WrongType 150 ∷ [] }
     // `CASE m OF n : END_CASE`: a variable is no label
     ensures variable { broken (step (case_of (reading 145 M) ((labels.Enumerated (bare 150 N) ∷ []) ∷ []) ∷ []))
@@ -121,7 +119,7 @@ pub fn declarations()
     ensures number_as_start { broken (starting_mode (words.start_of 100 (pos 1))) ≡ breaks WrongType 100 ∷ [] }
     // FUNCTION F : Mode VAR_INPUT m : Mode; END_VAR F := m; END_FUNCTION
     ensures function { broken (types (modes ∷ []) ∷ organised (Function (Named (at 63 MODE))) (at 60 F)
-        (block (Input None) (declaring (at 70 M) (named 74 MODE) ∷ []) ∷ []) (assign (name 90 F) (reading 95 M) ∷ [])
+        (block (Input None) (declaring (at 70 M) (named 74 MODE) ∷ []) ∷ []) (setting 90 F (reading 95 M) ∷ [])
         ∷ [])
         ≡ [] }
     // TYPE Mode : (Stopped, Stopped); END_TYPE

@@ -11,53 +11,51 @@ ghost use Rattle.st_trees.specs.Expressions.{read, unary, binary, parenthesis};
 ghost use Rattle.st_trees.specs.Statements.{assign};
 ghost use Rattle.st_statics.specs.declared.rule.Rule.TheVariants.{UnknownName, WrongType, OutOfRange, WrongArguments};
 ghost use Rattle.st_statics.specs.Rules.{broken};
-ghost use Rattle.st_statics.specs.ExampleWords.{breaks, at, number, typed, truth, duration, name, reading, element};
+ghost use Rattle.st_statics.specs.ExampleWords.{setting, breaks, number, typed, truth, duration, name, reading};
+ghost use Rattle.st_statics.specs.ExampleWords.{element};
 ghost use Rattle.st_statics.specs.ExampleWords.{part};
-ghost use Rattle.st_statics.specs.ExampleWords.{calling, elementary, declaring, block, organised, wide, calls_sq, N, M};
+ghost use Rattle.st_statics.specs.ExampleWords.{calling, wide, calls_sq, N, M};
 ghost use Rattle.st_statics.specs.ExampleWords.{B, F, P};
 
 /// In `PROGRAM P VAR n : INT; b : BOOL; w : WORD; a : ARRAY [1..2] OF INT; f : TON; d : TIME; u : UINT; END_VAR`.
 pub fn operators()
     // `b := b = 1`: an untyped operand beside a BOOL is a LINT
-    ensures truth_and_number
-        { broken (wide (assign (name 100 B) (binary Equal (reading 105 B) (number 109 (pos 1))) ∷ []))
+    ensures truth_and_number { broken (wide (setting 100 B (binary Equal (reading 105 B) (number 109 (pos 1))) ∷ []))
         ≡ breaks WrongType 105 ∷ [] }
     // `b := n = 1`
-    ensures whole_numbers { broken (wide (assign (name 100 B) (binary Equal (reading 105 N) (number 109 (pos 1))) ∷ []))
+    ensures whole_numbers { broken (wide (setting 100 B (binary Equal (reading 105 N) (number 109 (pos 1))) ∷ []))
         ≡ [] }
     // `b := b < b`
-    ensures truths_in_order { broken (wide (assign (name 100 B) (binary Less (reading 105 B) (reading 109 B)) ∷ []))
+    ensures truths_in_order { broken (wide (setting 100 B (binary Less (reading 105 B) (reading 109 B)) ∷ []))
         ≡ breaks WrongType 105 ∷ [] }
     // `n := n + w`
-    ensures two_types { broken (wide (assign (name 100 N) (binary Add (reading 105 N) (reading 109 (codes "W"))) ∷ []))
+    ensures two_types { broken (wide (setting 100 N (binary Add (reading 105 N) (reading 109 (codes "W"))) ∷ []))
         ≡ breaks WrongType 105 ∷ [] }
     // `d := d * d`
     ensures durations_multiplied { broken (wide (assign (name 100 (codes "D"))
         (binary Multiply (reading 105 (codes "D")) (reading 109 (codes "D")))
         ∷ [])) ≡ breaks WrongType 105 ∷ [] }
     // `d := d + T#1ms`
-    ensures durations_added
-        { broken (wide (assign (name 100 (codes "D")) (binary Add (reading 105 (codes "D")) (duration 109 1)) ∷ []))
+    ensures durations_added { broken (wide (setting 100 (codes "D") (binary Add (reading 105 (codes "D")) (duration 109 1)) ∷ []))
         ≡ [] }
     // `w := NOT w`
-    ensures bits_turned { broken (wide (assign (name 100 (codes "W")) (unary Not 105 (reading 109 (codes "W"))) ∷ []))
+    ensures bits_turned { broken (wide (setting 100 (codes "W") (unary Not 105 (reading 109 (codes "W"))) ∷ []))
         ≡ [] }
     // `n := NOT n`
-    ensures number_turned { broken (wide (assign (name 100 N) (unary Not 105 (reading 109 N)) ∷ []))
+    ensures number_turned { broken (wide (setting 100 N (unary Not 105 (reading 109 N)) ∷ []))
         ≡ breaks WrongType 105 ∷ [] }
     // `u := -u`: without a sign
-    ensures without_sign
-        { broken (wide (assign (name 100 (codes "U")) (unary Negate 105 (reading 106 (codes "U"))) ∷ []))
+    ensures without_sign { broken (wide (setting 100 (codes "U") (unary Negate 105 (reading 106 (codes "U"))) ∷ []))
         ≡ breaks WrongType 105 ∷ [] }
     // `n := (2 + 3) * n`: the untyped part takes INT
-    ensures untyped_part { broken (wide (assign (name 100 N) (binary Multiply
+    ensures untyped_part { broken (wide (setting 100 N (binary Multiply
         (parenthesis 105 (binary Add (number 106 (pos 2)) (number 110 (pos 3)))) (reading 115 N)) ∷ [])) ≡ [] }
     // `n := (2 + 40000) * n`
-    ensures untyped_part_too_great { broken (wide (assign (name 100 N) (binary Multiply
+    ensures untyped_part_too_great { broken (wide (setting 100 N (binary Multiply
         (parenthesis 105 (binary Add (number 106 (pos 2)) (number 110 (pos 40000)))) (reading 115 N)) ∷ []))
         ≡ breaks OutOfRange 110 ∷ [] }
     // `n := SINT#200`
-    ensures typed_literal { broken (wide (assign (name 100 N) (typed 105 Sint (pos 200)) ∷ []))
+    ensures typed_literal { broken (wide (setting 100 N (typed 105 Sint (pos 200)) ∷ []))
         ≡ breaks WrongType 105 ∷ breaks OutOfRange 105 ∷ [] }
     // `w := w AND 16#FFFF`
     ensures bits { broken (wide (assign (name 100 (codes "W"))
@@ -74,22 +72,21 @@ pub fn standard_functions()
         (calling 105 (codes "SHL") (number 109 (pos 1) ∷ number 112 (pos 2)
         ∷ [])) ∷ [])) ≡ breaks WrongType 105 ∷ breaks WrongType 109 ∷ [] }
     // `w := SHL(w, 2)`
-    ensures shift { broken (wide (assign (name 100 (codes "W")) (calling 105 (codes "SHL") (reading 109 (codes "W")
+    ensures shift { broken (wide (setting 100 (codes "W") (calling 105 (codes "SHL") (reading 109 (codes "W")
         ∷ number 112 (pos 2) ∷ [])) ∷ [])) ≡ [] }
     // `w := SHL(w, w)`: a count is a whole number
-    ensures count_of_bits
-        { broken (wide (assign (name 100 (codes "W")) (calling 105 (codes "SHL") (reading 109 (codes "W")
+    ensures count_of_bits { broken (wide (setting 100 (codes "W") (calling 105 (codes "SHL") (reading 109 (codes "W")
         ∷ reading 112 (codes "W") ∷ [])) ∷ [])) ≡ breaks WrongType 112 ∷ [] }
     // `n := ABS(n, n)`
     ensures too_many { broken
-        (wide (assign (name 100 N) (calling 105 (codes "ABS") (reading 109 N ∷ reading 112 N ∷ [])) ∷ []))
+        (wide (setting 100 N (calling 105 (codes "ABS") (reading 109 N ∷ reading 112 N ∷ [])) ∷ []))
         ≡ breaks WrongArguments 105 ∷ [] }
     // `n := ABS(m)`, m unknown: it is told, and that the call is a LINT
-    ensures of_unknown { broken (wide (assign (name 100 N) (calling 105 (codes "ABS") (reading 109 M ∷ [])) ∷ []))
+    ensures of_unknown { broken (wide (setting 100 N (calling 105 (codes "ABS") (reading 109 M ∷ [])) ∷ []))
         ≡ breaks WrongType 105 ∷ breaks UnknownName 109 ∷ [] }
     // `n := MAX(1, n)`
     ensures greater { broken
-        (wide (assign (name 100 N) (calling 105 (codes "MAX") (number 109 (pos 1) ∷ reading 112 N ∷ [])) ∷ []))
+        (wide (setting 100 N (calling 105 (codes "MAX") (number 109 (pos 1) ∷ reading 112 N ∷ [])) ∷ []))
         ≡ [] }
     // `n := MAX(w, w)`
     ensures greater_of_bits { broken (wide (assign (name 100 N)
@@ -98,7 +95,7 @@ pub fn standard_functions()
         ≡ breaks WrongType 105 ∷ breaks WrongType 109 ∷ breaks WrongType 112 ∷ [] }
     // `d := LIMIT(T#1ms, d, T#9ms)`
     ensures limits { broken
-        (wide (assign (name 100 (codes "D")) (calling 105 (codes "LIMIT") (duration 111 1 ∷ reading 118 (codes "D")
+        (wide (setting 100 (codes "D") (calling 105 (codes "LIMIT") (duration 111 1 ∷ reading 118 (codes "D")
         ∷ duration 121 9 ∷ [])) ∷ [])) ≡ [] }
     // `n := SEL(n, 1, 2)`: no condition
     ensures no_condition { broken (wide (assign (name 100 N)
@@ -106,64 +103,58 @@ pub fn standard_functions()
         ∷ [])) ∷ [])) ≡ breaks WrongType 109 ∷ [] }
     // `n := UINT_TO_INT(5)`: the literal is a UINT
     ensures conversion { broken
-        (wide (assign (name 100 N) (calling 105 (codes "UINT_TO_INT") (number 117 (pos 5) ∷ [])) ∷ [])) ≡ [] }
+        (wide (setting 100 N (calling 105 (codes "UINT_TO_INT") (number 117 (pos 5) ∷ [])) ∷ [])) ≡ [] }
     // `n := UINT_TO_INT(-5)`
-    ensures conversion_of_less
-        { broken (wide (assign (name 100 N) (calling 105 (codes "UINT_TO_INT") (number 117 (negsuc 4) ∷ [])) ∷ []))
+    ensures conversion_of_less { broken (wide (setting 100 N (calling 105 (codes "UINT_TO_INT") (number 117 (negsuc 4) ∷ [])) ∷ []))
         ≡ breaks OutOfRange 117 ∷ [] }
     // `n := INT_TO_INT(n)`: no standard function
-    ensures conversion_to_itself
-        { broken (wide (assign (name 100 N) (calling 105 (codes "INT_TO_INT") (reading 116 N ∷ [])) ∷ []))
+    ensures conversion_to_itself { broken (wide (setting 100 N (calling 105 (codes "INT_TO_INT") (reading 116 N ∷ [])) ∷ []))
         ≡ breaks UnknownName 105 ∷ [] }
 {}
 
 /// Parts of variables in the same program.
 pub fn places()
     // `n := a[TRUE]`
-    ensures subscript_of_truth
-        { broken (wide (assign (name 100 N) (read (element 105 (codes "A") (truth 107 true))) ∷ []))
+    ensures subscript_of_truth { broken (wide (setting 100 N (read (element 105 (codes "A") (truth 107 true))) ∷ []))
         ≡ breaks WrongType 107 ∷ [] }
     // `n := a[w]`: bits are no whole number
-    ensures subscript_of_bits
-        { broken (wide (assign (name 100 N) (read (element 105 (codes "A") (reading 107 (codes "W")))) ∷ []))
+    ensures subscript_of_bits { broken (wide (setting 100 N (read (element 105 (codes "A") (reading 107 (codes "W")))) ∷ []))
         ≡ breaks WrongType 107 ∷ [] }
     // `n := a[u]`
     ensures subscript { broken
-        (wide (assign (name 100 N) (read (element 105 (codes "A") (reading 107 (codes "U")))) ∷ [])) ≡ [] }
+        (wide (setting 100 N (read (element 105 (codes "A") (reading 107 (codes "U")))) ∷ [])) ≡ [] }
     // `b := f.Q`
-    ensures output { broken (wide (assign (name 100 B) (read (part 105 F 107 (codes "Q"))) ∷ [])) ≡ [] }
+    ensures output { broken (wide (setting 100 B (read (part 105 F 107 (codes "Q"))) ∷ [])) ≡ [] }
     // `b := f.RUN`: hidden from texts
-    ensures hidden { broken (wide (assign (name 100 B) (read (part 105 F 107 (codes "RUN"))) ∷ []))
+    ensures hidden { broken (wide (setting 100 B (read (part 105 F 107 (codes "RUN"))) ∷ []))
         ≡ breaks UnknownName 107 ∷ [] }
     // `n := n + a`: an array is no operand
-    ensures array_as_operand
-        { broken (wide (assign (name 100 N) (binary Add (reading 105 N) (reading 109 (codes "A"))) ∷ []))
+    ensures array_as_operand { broken (wide (setting 100 N (binary Add (reading 105 N) (reading 109 (codes "A"))) ∷ []))
         ≡ breaks WrongType 105 ∷ [] }
     // `n := P`: a unit is no variable
-    ensures unit { broken (wide (assign (name 100 N) (reading 105 P) ∷ [])) ≡ breaks UnknownName 105 ∷ [] }
+    ensures unit { broken (wide (setting 100 N (reading 105 P) ∷ [])) ≡ breaks UnknownName 105 ∷ [] }
 {}
 
 /// Calls of `FUNCTION Sq : DINT VAR_INPUT x : INT; END_VAR` in a program with a DINT n and a BOOL b.
 pub fn functions()
     // `n := Sq(3)`
-    ensures fitting { broken (calls_sq (assign (name 100 N) (calling 105 (codes "SQ") (number 108 (pos 3) ∷ [])) ∷ []))
+    ensures fitting { broken (calls_sq (setting 100 N (calling 105 (codes "SQ") (number 108 (pos 3) ∷ [])) ∷ []))
         ≡ [] }
     // `n := Sq(n)`: INT is wanted
-    ensures other_type { broken (calls_sq (assign (name 100 N) (calling 105 (codes "SQ") (reading 108 N ∷ [])) ∷ []))
+    ensures other_type { broken (calls_sq (setting 100 N (calling 105 (codes "SQ") (reading 108 N ∷ [])) ∷ []))
         ≡ breaks WrongType 108 ∷ [] }
     // `n := Sq(40000)`
     ensures too_great { broken
-        (calls_sq (assign (name 100 N) (calling 105 (codes "SQ") (number 108 (pos 40000) ∷ [])) ∷ []))
+        (calls_sq (setting 100 N (calling 105 (codes "SQ") (number 108 (pos 40000) ∷ [])) ∷ []))
         ≡ breaks OutOfRange 108 ∷ [] }
     // `b := Sq(3)`
-    ensures other_result
-        { broken (calls_sq (assign (name 100 B) (calling 105 (codes "SQ") (number 108 (pos 3) ∷ [])) ∷ []))
+    ensures other_result { broken (calls_sq (setting 100 B (calling 105 (codes "SQ") (number 108 (pos 3) ∷ [])) ∷ []))
         ≡ breaks WrongType 105 ∷ [] }
     // `n := Sq(1, 2)`
     ensures too_many { broken
-        (calls_sq (assign (name 100 N) (calling 105 (codes "SQ") (number 108 (pos 1) ∷ number 111 (pos 2) ∷ [])) ∷ []))
+        (calls_sq (setting 100 N (calling 105 (codes "SQ") (number 108 (pos 1) ∷ number 111 (pos 2) ∷ [])) ∷ []))
         ≡ breaks WrongArguments 105 ∷ [] }
     // `n := P(1)`: a program is no function
-    ensures of_a_program { broken (calls_sq (assign (name 100 N) (calling 105 P (number 107 (pos 1) ∷ [])) ∷ []))
+    ensures of_a_program { broken (calls_sq (setting 100 N (calling 105 P (number 107 (pos 1) ∷ [])) ∷ []))
         ≡ breaks UnknownName 105 ∷ [] }
 {}

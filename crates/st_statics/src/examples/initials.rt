@@ -10,7 +10,7 @@ ghost use Rattle.st_statics.specs.declared.rule.Rule.TheVariants.{WrongBounds};
 ghost use Rattle.st_statics.specs.Rules.{broken};
 ghost use Rattle.st_statics.specs.ExampleWords.{breaks, at, digits, typed_digits, elementary, named, starting};
 ghost use Rattle.st_statics.specs.ExampleWords.{start_of, local};
-ghost use Rattle.st_statics.specs.ExampleWords.{with_pair, N, M, B, X};
+ghost use Rattle.st_statics.specs.ExampleWords.{with_pair, N, M, B};
 ghost use Rattle.st_statics.specs.ExampleWords as words;
 
 /// Constants and lists.
@@ -25,8 +25,7 @@ pub fn values()
         (local (starting (at 14 N) (elementary Int) (constant (Number (typed_digits 25 Sint (pos 5)))) ∷ []))
         ≡ breaks WrongType 25 ∷ [] }
     // n : foo := TRUE: the type alone is told
-    ensures of_unknown_type
-        { broken (local (starting (at 14 N) (named 18 (codes "FOO")) (constant (Truth 25 true)) ∷ []))
+    ensures of_unknown_type { broken (local (starting (at 14 N) (named 18 (codes "FOO")) (constant (Truth 25 true)) ∷ []))
         ≡ breaks UnknownName 18 ∷ [] }
     // n : ARRAY [1..2] OF INT := [1, 2]
     ensures all_elements { broken (local (starting (at 14 N) (words.array 18 (pos 1) (pos 2))
@@ -49,8 +48,7 @@ pub fn values()
     // .. := 5, and n : INT := [5]
     ensures no_list { broken (local (starting (at 14 N) (words.array 18 (pos 1) (pos 2)) (start_of 40 (pos 5)) ∷ []))
         ≡ breaks WrongType 40 ∷ [] }
-    ensures list_for_a_number
-        { broken (local (starting (at 14 N) (elementary Int) (list 25 (elements_of (single (start_of 26 (pos 5)) ∷ [])))
+    ensures list_for_a_number { broken (local (starting (at 14 N) (elementary Int) (list 25 (elements_of (single (start_of 26 (pos 5)) ∷ [])))
         ∷ []))
         ≡ breaks WrongType 25 ∷ [] }
 {}
@@ -70,8 +68,7 @@ pub fn structures()
         (with_pair (structure 80 (members_of ((at 81 N, start_of 86 (pos 5)) ∷ (at 92 N, start_of 97 (pos 6)) ∷ []))))
         ≡ breaks DeclaredTwice 92 ∷ [] }
     // (n := TRUE)
-    ensures field_of_other_type
-        { broken (with_pair (structure 80 (members_of ((at 81 N, constant (Truth 86 true)) ∷ []))))
+    ensures field_of_other_type { broken (with_pair (structure 80 (members_of ((at 81 N, constant (Truth 86 true)) ∷ []))))
         ≡ breaks WrongType 86 ∷ [] }
     // 5, and [5]
     ensures no_structure { broken (with_pair (start_of 80 (pos 5))) ≡ breaks WrongType 80 ∷ [] }

@@ -1,58 +1,56 @@
 //! Calls of instances, conditions and loops.
 
 ghost use Rattle.std.specs.Prelude.{◌≡◌, ◌∷◌, [], pos, true, codes, None, Some};
-ghost use Rattle.st_trees.specs.Expressions.{read};
-ghost use Rattle.st_trees.specs.Statements.{assign, invoke, IF, FOR, WHILE, REPEAT, EXIT, RETURN, given, copied};
+ghost use Rattle.st_trees.specs.Statements.{IF, FOR, WHILE, REPEAT, EXIT, RETURN, given, copied};
 ghost use Rattle.st_trees.specs.Statements.{arms_of};
 ghost use Rattle.st_trees.specs.Statements.{no_stmts, stmts_of};
 ghost use Rattle.st_statics.specs.declared.rule.Rule.TheVariants.{UnknownName, WrongType, OutOfRange, NotAssignable};
 ghost use Rattle.st_statics.specs.declared.rule.Rule.TheVariants.{ExitOutsideLoop, WrongArguments};
 ghost use Rattle.st_statics.specs.Rules.{broken};
-ghost use Rattle.st_statics.specs.ExampleWords.{breaks, at, number, truth, duration, name, reading, element, part};
+ghost use Rattle.st_statics.specs.ExampleWords.{setting, invoking, copying, giving, breaks, at, number, duration, name};
+ghost use Rattle.st_statics.specs.ExampleWords.{reading, element, part};
 ghost use Rattle.st_statics.specs.ExampleWords.{wide, block_of_inputs, N, M, B, F, X};
 
 /// In `PROGRAM P VAR n : INT; b : BOOL; w : WORD; a : ARRAY [1..2] OF INT; f : TON; d : TIME; u : UINT; END_VAR`.
 pub fn instances()
     // `f(IN := b, PT := T#5ms, Q => b)`
-    ensures fitting { broken (wide (invoke (at 100 F) (given (at 102 (codes "IN")) (reading 108 B)
-        ∷ given (at 111 (codes "PT")) (duration 117 5) ∷ copied (at 124 (codes "Q")) (name 129 B) ∷ []) ∷ [])) ≡ [] }
+    ensures fitting { broken (wide (invoking 100 F (giving 102 (codes "IN") (reading 108 B)
+        ∷ giving 111 (codes "PT") (duration 117 5) ∷ copying 124 (codes "Q") (name 129 B) ∷ []) ∷ [])) ≡ [] }
     // `f(IN := b, IN := b)`
-    ensures given_twice { broken (wide (invoke (at 100 F) (given (at 102 (codes "IN")) (reading 108 B)
-        ∷ given (at 111 (codes "IN")) (reading 117 B) ∷ []) ∷ [])) ≡ breaks WrongArguments 111 ∷ [] }
+    ensures given_twice { broken (wide (invoking 100 F (giving 102 (codes "IN") (reading 108 B)
+        ∷ giving 111 (codes "IN") (reading 117 B) ∷ []) ∷ [])) ≡ breaks WrongArguments 111 ∷ [] }
     // `f(Q => b, Q => b)`
-    ensures copied_twice { broken (wide (invoke (at 100 F) (copied (at 102 (codes "Q")) (name 107 B)
-        ∷ copied (at 110 (codes "Q")) (name 115 B) ∷ []) ∷ [])) ≡ breaks WrongArguments 110 ∷ [] }
+    ensures copied_twice { broken (wide (invoking 100 F (copying 102 (codes "Q") (name 107 B)
+        ∷ copying 110 (codes "Q") (name 115 B) ∷ []) ∷ [])) ≡ breaks WrongArguments 110 ∷ [] }
     // `f(Q := b)`: an output is not given
-    ensures output_given { broken (wide (invoke (at 100 F) (given (at 102 (codes "Q")) (reading 107 B) ∷ []) ∷ []))
+    ensures output_given { broken (wide (invoking 100 F (giving 102 (codes "Q") (reading 107 B) ∷ []) ∷ []))
         ≡ breaks WrongArguments 102 ∷ [] }
     // `f(IN => b)`: an input is not copied
-    ensures input_copied { broken (wide (invoke (at 100 F) (copied (at 102 (codes "IN")) (name 108 B) ∷ []) ∷ []))
+    ensures input_copied { broken (wide (invoking 100 F (copying 102 (codes "IN") (name 108 B) ∷ []) ∷ []))
         ≡ breaks WrongArguments 102 ∷ [] }
     // `f(IN := 1, Q => n)`
-    ensures of_other_types { broken (wide (invoke (at 100 F) (given (at 102 (codes "IN")) (number 108 (pos 1))
-        ∷ copied (at 111 (codes "Q")) (name 116 N) ∷ []) ∷ []))
+    ensures of_other_types { broken (wide (invoking 100 F (giving 102 (codes "IN") (number 108 (pos 1))
+        ∷ copying 111 (codes "Q") (name 116 N) ∷ []) ∷ []))
         ≡ breaks WrongType 108 ∷ breaks WrongType 116 ∷ [] }
     // `f(Q => m)`
-    ensures copied_to_unknown { broken (wide (invoke (at 100 F) (copied (at 102 (codes "Q")) (name 107 M) ∷ []) ∷ []))
+    ensures copied_to_unknown { broken (wide (invoking 100 F (copying 102 (codes "Q") (name 107 M) ∷ []) ∷ []))
         ≡ breaks UnknownName 107 ∷ [] }
     // `f(Q => f.Q)`
-    ensures copied_to_output
-        { broken (wide (invoke (at 100 F) (copied (at 102 (codes "Q")) (part 107 F 109 (codes "Q")) ∷ []) ∷ []))
+    ensures copied_to_output { broken (wide (invoking 100 F (copying 102 (codes "Q") (part 107 F 109 (codes "Q")) ∷ []) ∷ []))
         ≡ breaks NotAssignable 107 ∷ [] }
     // `f(ET => a[b])`: the type of the target, and that of its subscript
-    ensures subscript_of_target
-        { broken (wide (invoke (at 100 F) (copied (at 102 (codes "ET")) (element 108 (codes "A") (reading 110 B)) ∷ [])
+    ensures subscript_of_target { broken (wide (invoking 100 F (copying 102 (codes "ET") (element 108 (codes "A") (reading 110 B)) ∷ [])
         ∷ []))
         ≡ breaks WrongType 110 ∷ breaks WrongType 108 ∷ [] }
     // `n()`
-    ensures no_instance { broken (wide (invoke (at 100 N) [] ∷ [])) ≡ breaks WrongType 100 ∷ [] }
+    ensures no_instance { broken (wide (invoking 100 N [] ∷ [])) ≡ breaks WrongType 100 ∷ [] }
     // `m()`
-    ensures unknown { broken (wide (invoke (at 100 M) [] ∷ [])) ≡ breaks UnknownName 100 ∷ [] }
+    ensures unknown { broken (wide (invoking 100 M [] ∷ [])) ≡ breaks UnknownName 100 ∷ [] }
     // `f()`
-    ensures nothing_given { broken (wide (invoke (at 100 F) [] ∷ [])) ≡ [] }
+    ensures nothing_given { broken (wide (invoking 100 F [] ∷ [])) ≡ [] }
     // An input is fixed in its own block, an output isn't.
     ensures own_input { broken
-        (block_of_inputs (assign (name 100 N) (number 105 (pos 3)) ∷ assign (name 110 X) (number 115 (pos 3)) ∷ []))
+        (block_of_inputs (setting 100 N (number 105 (pos 3)) ∷ setting 110 X (number 115 (pos 3)) ∷ []))
         ≡ breaks NotAssignable 100 ∷ [] }
 {}
 
@@ -62,12 +60,10 @@ pub fn loops()
     ensures number_as_condition { broken (wide (IF (arms_of ((reading 103 N, no_stmts) ∷ [])) no_stmts ∷ []))
         ≡ breaks WrongType 103 ∷ [] }
     // `IF b THEN ELSIF n THEN END_IF`
-    ensures second_condition
-        { broken (wide (IF (arms_of ((reading 103 B, no_stmts) ∷ (reading 113 N, no_stmts) ∷ [])) no_stmts ∷ []))
+    ensures second_condition { broken (wide (IF (arms_of ((reading 103 B, no_stmts) ∷ (reading 113 N, no_stmts) ∷ [])) no_stmts ∷ []))
         ≡ breaks WrongType 113 ∷ [] }
     // `WHILE 1 DO END_WHILE`, `REPEAT UNTIL b END_REPEAT`
-    ensures literal_as_condition
-        { broken (wide (WHILE (number 106 (pos 1)) no_stmts ∷ REPEAT no_stmts (reading 120 B) ∷ []))
+    ensures literal_as_condition { broken (wide (WHILE (number 106 (pos 1)) no_stmts ∷ REPEAT no_stmts (reading 120 B) ∷ []))
         ≡ breaks WrongType 106 ∷ [] }
     // `FOR n := 1 TO 2 BY 3 DO EXIT; END_FOR`
     ensures counting { broken
@@ -75,34 +71,28 @@ pub fn loops()
         (stmts_of (EXIT 127 ∷ [])) ∷ [])) ≡ [] }
     // `FOR n := 1 TO 2 DO n := 3; END_FOR`
     ensures control_assigned { broken (wide (FOR (at 104 N) (number 109 (pos 1)) (number 114 (pos 2)) None
-        (stmts_of (assign (name 119 N) (number 124 (pos 3)) ∷ [])) ∷ [])) ≡ breaks NotAssignable 119 ∷ [] }
+        (stmts_of (setting 119 N (number 124 (pos 3)) ∷ [])) ∷ [])) ≡ breaks NotAssignable 119 ∷ [] }
     // `FOR n := 1 TO 2 DO END_FOR; n := 3`: after its loop it may be
-    ensures control_assigned_later
-        { broken (wide (FOR (at 104 N) (number 109 (pos 1)) (number 114 (pos 2)) None no_stmts
-        ∷ assign (name 130 N) (number 135 (pos 3)) ∷ [])) ≡ [] }
+    ensures control_assigned_later { broken (wide (FOR (at 104 N) (number 109 (pos 1)) (number 114 (pos 2)) None no_stmts
+        ∷ setting 130 N (number 135 (pos 3)) ∷ [])) ≡ [] }
     // `FOR n := 1 TO 2 DO FOR n := 1 TO 2 DO END_FOR; END_FOR`
     ensures control_counts_again { broken (wide (FOR (at 104 N) (number 109 (pos 1)) (number 114 (pos 2)) None
         (stmts_of (FOR (at 123 N) (number 128 (pos 1)) (number 133 (pos 2)) None no_stmts ∷ [])) ∷ []))
         ≡ breaks NotAssignable 123 ∷ [] }
     // `FOR n := 1 TO 40000 DO END_FOR`: the limit takes INT
-    ensures limit_too_great
-        { broken (wide (FOR (at 104 N) (number 109 (pos 1)) (number 114 (pos 40000)) None no_stmts ∷ []))
+    ensures limit_too_great { broken (wide (FOR (at 104 N) (number 109 (pos 1)) (number 114 (pos 40000)) None no_stmts ∷ []))
         ≡ breaks OutOfRange 114 ∷ [] }
     // `FOR n := 1 TO u DO END_FOR`
-    ensures limit_of_other_type
-        { broken (wide (FOR (at 104 N) (number 109 (pos 1)) (reading 114 (codes "U")) None no_stmts ∷ []))
+    ensures limit_of_other_type { broken (wide (FOR (at 104 N) (number 109 (pos 1)) (reading 114 (codes "U")) None no_stmts ∷ []))
         ≡ breaks WrongType 114 ∷ [] }
     // `FOR b := 1 TO 2 DO END_FOR`: the control variable, and what is offered to the literals is no whole number
-    ensures control_of_truth
-        { broken (wide (FOR (at 104 B) (number 109 (pos 1)) (number 114 (pos 2)) None no_stmts ∷ []))
+    ensures control_of_truth { broken (wide (FOR (at 104 B) (number 109 (pos 1)) (number 114 (pos 2)) None no_stmts ∷ []))
         ≡ breaks WrongType 109 ∷ breaks WrongType 114 ∷ breaks WrongType 104 ∷ [] }
     // `FOR m := 1 TO 2 DO END_FOR`
-    ensures control_unknown
-        { broken (wide (FOR (at 104 M) (number 109 (pos 1)) (number 114 (pos 2)) None no_stmts ∷ []))
+    ensures control_unknown { broken (wide (FOR (at 104 M) (number 109 (pos 1)) (number 114 (pos 2)) None no_stmts ∷ []))
         ≡ breaks UnknownName 104 ∷ [] }
     // In a block, FOR over an input is both of a wrong sort and assigned; over an output it is of a wrong sort.
-    ensures control_is_input
-        { broken (block_of_inputs (FOR (at 104 N) (number 109 (pos 1)) (number 114 (pos 2)) None no_stmts
+    ensures control_is_input { broken (block_of_inputs (FOR (at 104 N) (number 109 (pos 1)) (number 114 (pos 2)) None no_stmts
         ∷ FOR (at 124 X) (number 129 (pos 1)) (number 134 (pos 2)) None no_stmts ∷ []))
         ≡ breaks WrongType 104 ∷ breaks NotAssignable 104 ∷ breaks WrongType 124 ∷ [] }
     // `EXIT` inside an IF inside a WHILE; behind it, one in no loop; RETURN stands anywhere

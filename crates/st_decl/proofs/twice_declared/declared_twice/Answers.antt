@@ -31,5 +31,6 @@ returns c =
     let none = subst (λ o. FindsPlace (flat_map repeats (scopes_of source)) o) c.in_default.is told in
     record {
       finds = ok_rest (flat_map repeats (scopes_of source)) (places_where (λ x. is_standard x.name) names)
-          (places_where (is_taken names) (variables_of_text source)) c.first_refused.result none c.first_refused.ensures;
+          (places_where (is_taken names) (variables_of_text source)) c.first_refused.result none
+          c.first_refused.ensures;
     }

@@ -8,5 +8,6 @@ use Rattle.st_names.proofs.repeats.first_repeat.Given as goal
 
 abbrev pub invariant-loop-identifier : goal.invariant-loop-identifier
 invariant-loop-identifier l =
-    ((q : List ℕ) → is_some (found l.seen q) ≡ list_any (is_named q) (map (λ x. x.now) (take l.identifier-index l.names)))
+    ((q : List ℕ) → is_some (found l.seen q)
+    ≡ list_any (is_named q) (map (λ x. x.now) (take l.identifier-index l.names)))
     × (repeats (map (λ x. x.now) (take l.identifier-index l.names)) ≡ [])

@@ -12,4 +12,5 @@ loop-identifier-preserved c q =
     let y = c.identifier-item.result in
     more_named (map (λ x. x.now) (take i xs)) (map (λ x. x.now) (take (i + 1) xs)) y.now q
     (found c.loop-identifier.index q) (found c.add.new.self q)
-    (more_mapped (λ x. x.now) xs i y (search rules) (search rules)) (c.loop-identifier.invariant q) (c.in_ok-add.ensures q)
+    (more_mapped (λ x. x.now) xs i y (search rules) (search rules)) (c.loop-identifier.invariant q)
+    (c.in_ok-add.ensures q)

@@ -7,6 +7,8 @@ use Rattle.st_names.proofs.index.Index.add.Goals as goal
 
 pub returns-in_ok-insert : goal.returns-in_ok-insert
 returns-in_ok-insert g c q =
-    let u = btree_map_updates_str c.as_slice.result.now c.args.self.now.map c.insert.new.self (Some c.args.value) c.in_ok-insert.ensures.updates q in
+    let u = btree_map_updates_str c.as_slice.result.now c.args.self.now.map c.insert.new.self
+    (Some c.args.value) c.in_ok-insert.ensures.updates q in
     let absent : found c.args.self.now c.args.name.now ≡ None = grind (arith, common_steps) in
-    one_added q c.args.name.now c.as_slice.result.now (found c.args.self.now) (found (record { map = c.insert.new.self }) q) c.args.value c.as_slice.ensures absent u
+    one_added q c.args.name.now c.as_slice.result.now (found c.args.self.now)
+    (found (record { map = c.insert.new.self }) q) c.args.value c.as_slice.ensures absent u
