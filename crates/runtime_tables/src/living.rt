@@ -3,6 +3,7 @@
 use crate::calls::events_of;
 use crate::row_error::RowError;
 use crate::telling::{write_fault, write_outcomes, write_overruns, write_replies};
+use crate::trace_texts::{write_short_trace, write_trace_of};
 use crate::words::write_number;
 use commit_lock::{Core, StartMode, drive};
 use disk::{Disk, SimDisk};
@@ -33,6 +34,10 @@ pub enum Telling {
     Replies,
     /// That, how each entry of the log ended, and the overruns of each program.
     Whole,
+    /// Its trace alone.
+    Trace,
+    /// What a writer gets of its trace that takes 40 bytes.
+    ShortTrace,
 }
 
 /// A life over a disk.
@@ -93,10 +98,24 @@ fn answer_calls(
     let events = events_of(alloc, life.calls)?;
     let replies = drive(core, alloc, events)?;
     match life.telling {
-        Telling::Nothing | Telling::Numbers => {}
+        Telling::Nothing | Telling::Numbers | Telling::Trace | Telling::ShortTrace => {}
         Telling::Replies | Telling::Whole => write_replies(text, &replies)?,
     }
     Ok(())
+}
+
+/// Makes the calls of a life, and tells its trace.
+fn tell_trace(
+    text: &mut String,
+    core: &mut Core<SimDisk>,
+    alloc: Global,
+    life: Life<'_>,
+) -> Result<(), RowError> {
+    answer_calls(text, core, alloc, life)?;
+    match life.telling {
+        Telling::ShortTrace => Ok(write_short_trace(text, core)?),
+        _ => Ok(write_trace_of(text, alloc, core)?),
+    }
 }
 
 /// Makes the calls of a life on a core of so many programs, and tells the globals before and after them, and how much
@@ -140,7 +159,10 @@ pub fn live(
     let left = match Core::start(alloc, plan, disk, life.mode, life.room.min(MAX_LOG_ROOM)) {
         Ok(core) => {
             let mut core = core;
-            let told = tell_course(text, &mut core, alloc, setting.globals, programs, life);
+            let told = match life.telling {
+                Telling::Trace | Telling::ShortTrace => tell_trace(text, &mut core, alloc, life),
+                _ => tell_course(text, &mut core, alloc, setting.globals, programs, life),
+            };
             let left = left_of(core.stop());
             told?;
             left

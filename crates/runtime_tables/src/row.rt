@@ -14,6 +14,7 @@
 //!   machine stops within, the bytes that it leaves in turn, or `written`, and the length; the room in the log
 //! - `untold`, `numbers`, `whole`: of the next life nothing is told; no replies; also how each entry of the log ended, and
 //!   the overruns
+//! - `trace`, `short`: of the next life its trace alone is told, `\0A` for LF; what a writer gets of it that takes 40 bytes
 //!
 //! The parts that are answered:
 //!

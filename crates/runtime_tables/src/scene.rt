@@ -232,6 +232,8 @@ impl<'a> Scene<'a> {
             "untold" => self.terms.telling = Telling::Nothing,
             "numbers" => self.terms.telling = Telling::Numbers,
             "whole" => self.terms.telling = Telling::Whole,
+            "trace" => self.terms.telling = Telling::Trace,
+            "short" => self.terms.telling = Telling::ShortTrace,
             _ => self.answer(word, given)?,
         }
         Ok(())
