@@ -4,6 +4,7 @@ ghost use Rattle.std.specs.Prelude.{◌≡◌, ◌∷◌, [], pos, negsuc, true,
 ghost use Rattle.st_words.specs.declared.kind.Kind.TheVariants.{Int, Dint, Sint, Word, Byte};
 ghost use Rattle.st_words.specs.declared.operator.UnaryOperator.TheVariants.{Negate, Not};
 ghost use Rattle.st_words.specs.declared.operator.BinaryOperator.TheVariants.{Equal, Add, Less, Multiply, And};
+ghost use Rattle.st_words.specs.declared.operator.BinaryOperator.TheVariants.{Or, NotEqual, Modulo};
 ghost use Rattle.st_trees.specs.declared.data_type.SimpleType.TheVariants.{Elementary};
 ghost use Rattle.st_trees.specs.declared.declaration.Section.TheVariants.{Input, Local};
 ghost use Rattle.st_trees.specs.declared.unit.UnitSort.TheVariants.{Function, Program};
@@ -63,6 +64,18 @@ pub fn operators()
     // `w := w AND 16#10000`
     ensures too_many_bits { broken (wide (assign (name 100 (codes "W"))
         (binary And (reading 105 (codes "W")) (number 111 (pos 65536))) ∷ [])) ≡ breaks OutOfRange 111 ∷ [] }
+    // `b := w < w`: bit strings have an order
+    ensures bits_in_order { broken (wide (setting 100 B (binary Less (reading 105 (codes "W")) (reading 109 (codes "W"))) ∷ []))
+        ≡ [] }
+    // `n := n OR n`
+    ensures numbers_joined { broken (wide (setting 100 N (binary Or (reading 105 N) (reading 110 N)) ∷ []))
+        ≡ breaks WrongType 105 ∷ [] }
+    // `b := b <> b`
+    ensures truths_compared { broken (wide (setting 100 B (binary NotEqual (reading 105 B) (reading 110 B)) ∷ []))
+        ≡ [] }
+    // `d := d MOD d`
+    ensures durations_divided { broken (wide (setting 100 (codes "D")
+        (binary Modulo (reading 105 (codes "D")) (reading 111 (codes "D"))) ∷ [])) ≡ breaks WrongType 105 ∷ [] }
 {}
 
 /// Calls of standard functions in the same program.
@@ -110,6 +123,12 @@ pub fn standard_functions()
     // `n := INT_TO_INT(n)`: no standard function
     ensures conversion_to_itself { broken (wide (setting 100 N (calling 105 (codes "INT_TO_INT") (reading 116 N ∷ [])) ∷ []))
         ≡ breaks UnknownName 105 ∷ [] }
+    // `n := ROR(n, 1)`: no bit string
+    ensures number_turned { broken (wide (setting 100 N (calling 105 (codes "ROR") (reading 109 N ∷ number 112 (pos 1) ∷ [])) ∷ []))
+        ≡ breaks WrongType 109 ∷ [] }
+    // `d := ABS(d)`: a duration is no whole number
+    ensures of_duration { broken (wide (setting 100 (codes "D") (calling 105 (codes "ABS") (reading 109 (codes "D") ∷ [])) ∷ []))
+        ≡ breaks WrongType 109 ∷ [] }
 {}
 
 /// Parts of variables in the same program.
@@ -157,4 +176,7 @@ pub fn functions()
     // `n := P(1)`: a program is no function
     ensures of_a_program { broken (calls_sq (setting 100 N (calling 105 P (number 107 (pos 1) ∷ [])) ∷ []))
         ≡ breaks UnknownName 105 ∷ [] }
+    // `n := Sq()`
+    ensures too_few { broken (calls_sq (setting 100 N (calling 105 (codes "SQ") []) ∷ []))
+        ≡ breaks WrongArguments 105 ∷ [] }
 {}

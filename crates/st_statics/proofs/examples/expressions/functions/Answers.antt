@@ -27,3 +27,7 @@ returns-clause-too_many c = refl
 pub returns-clause-of_a_program : goal.returns-clause-of_a_program
 unfolding standard_of standard_functions block_of has_chain leads_to
 returns-clause-of_a_program c = refl
+
+pub returns-clause-too_few : goal.returns-clause-too_few
+unfolding standard_of standard_functions block_of has_chain leads_to
+returns-clause-too_few c = refl

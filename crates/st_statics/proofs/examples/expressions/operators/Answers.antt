@@ -59,3 +59,19 @@ returns-clause-bits c = refl
 pub returns-clause-too_many_bits : goal.returns-clause-too_many_bits
 unfolding standard_of standard_functions block_of has_chain leads_to
 returns-clause-too_many_bits c = refl
+
+pub returns-clause-bits_in_order : goal.returns-clause-bits_in_order
+unfolding standard_of standard_functions block_of has_chain leads_to
+returns-clause-bits_in_order c = refl
+
+pub returns-clause-numbers_joined : goal.returns-clause-numbers_joined
+unfolding standard_of standard_functions block_of has_chain leads_to
+returns-clause-numbers_joined c = refl
+
+pub returns-clause-truths_compared : goal.returns-clause-truths_compared
+unfolding standard_of standard_functions block_of has_chain leads_to
+returns-clause-truths_compared c = refl
+
+pub returns-clause-durations_divided : goal.returns-clause-durations_divided
+unfolding standard_of standard_functions block_of has_chain leads_to
+returns-clause-durations_divided c = refl

@@ -51,3 +51,11 @@ returns-clause-conversion_of_less c = refl
 pub returns-clause-conversion_to_itself : goal.returns-clause-conversion_to_itself
 unfolding standard_of standard_functions block_of has_chain leads_to
 returns-clause-conversion_to_itself c = refl
+
+pub returns-clause-number_turned : goal.returns-clause-number_turned
+unfolding standard_of standard_functions block_of has_chain leads_to
+returns-clause-number_turned c = refl
+
+pub returns-clause-of_duration : goal.returns-clause-of_duration
+unfolding standard_of standard_functions block_of has_chain leads_to
+returns-clause-of_duration c = refl
