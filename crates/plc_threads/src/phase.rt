@@ -21,10 +21,8 @@ pub enum RunFault {
     NotSettled,
 }
 
-impl RunFault {
-    /// Out of memory.
-    pub const NO_MEMORY: RunFault = RunFault::Refused(Refusal::Serial(SerialRefusal::NoMemory));
-}
+/// Out of memory.
+pub const NO_MEMORY: RunFault = RunFault::Refused(Refusal::Serial(SerialRefusal::NoMemory));
 
 #[derive(Clone, Copy, Debug, PartialEq, Eq)]
 pub enum Phase {

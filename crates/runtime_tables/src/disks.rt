@@ -28,7 +28,7 @@ impl<'a> Cut<'a> {
         })
     }
 
-    pub fn stop(self, alloc: Global) -> Result<Stop, AllocError> {
+    fn stop(self, alloc: Global) -> Result<Stop, AllocError> {
         let torn = match self.torn {
             "written" => Vec::new(alloc),
             bytes => unescaped(alloc, bytes)?,

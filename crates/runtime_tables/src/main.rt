@@ -8,8 +8,7 @@ mod disk_calls;
 mod disks;
 mod executions;
 mod files;
-mod lives_in_turn;
-mod living;
+mod lives;
 mod numbers;
 mod odd_file;
 mod plants;
@@ -20,7 +19,6 @@ mod row;
 mod row_error;
 mod scene;
 mod telling;
-mod trace_texts;
 mod words;
 
 use crate::row::answer;

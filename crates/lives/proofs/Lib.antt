@@ -1,3 +1,0 @@
-mod LogLemmas
-mod AckedLemmas
-mod LifeLemmas

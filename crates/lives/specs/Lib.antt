@@ -1,2 +1,0 @@
-pub mod LogsOfLives
-pub mod Lives
