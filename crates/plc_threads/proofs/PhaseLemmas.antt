@@ -3,6 +3,7 @@ use Rattle.std.proofs.Common.{◌≡◌, refl, List, Some}
 use Rattle.st_plans.specs.Rows.{Latch}
 use Rattle.commit_lock.specs.declared.refusal.Refusal.{Refusal}
 use Rattle.plc_threads.specs.declared.phase.Phase.{Phase}
+use Rattle.plc_threads.specs.declared.phase.RunFault.{RunFault}
 use Rattle.plc_threads.specs.declared.phase.Phase.TheVariants.{Running, Ended, Stopped}
 use Rattle.plc_threads.specs.Phases.{ended_by, phase_after, unless_stopped}
 
@@ -17,3 +18,9 @@ same_ended (Stopped fault) end xs ys e = refl
 pub same_refused : (now : Phase) (refusal : Refusal) (xs ys : List Latch)
     → unless_stopped (phase_after now (Some refusal)) xs ≡ unless_stopped (phase_after now (Some refusal)) ys
 same_refused now refusal xs ys = refl
+
+pub whole_unless_stopped : (now : Phase) (xs ys : List Latch) → ((fault : RunFault) → now ≡ Stopped fault → ⊥)
+    → unless_stopped now xs ≡ unless_stopped now ys → xs ≡ ys
+whole_unless_stopped Running xs ys not e = e
+whole_unless_stopped Ended xs ys not e = e
+whole_unless_stopped (Stopped fault) xs ys not e = absurd (not fault refl)

@@ -21,8 +21,10 @@ pub enum RunFault {
     NotSettled,
 }
 
-/// Out of memory.
-pub const NO_MEMORY: RunFault = RunFault::Refused(Refusal::Serial(SerialRefusal::NoMemory));
+impl RunFault {
+    /// Out of memory.
+    pub const NO_MEMORY: RunFault = RunFault::Refused(Refusal::Serial(SerialRefusal::NoMemory));
+}
 
 #[derive(Clone, Copy, Debug, PartialEq, Eq)]
 pub enum Phase {

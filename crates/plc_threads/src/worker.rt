@@ -5,7 +5,7 @@ ghost use Rattle.std.specs.Prelude.{◌≡◌, ◌+◌};
 use crate::gate::Gate;
 use crate::locked::Run;
 use crate::mark::Mark;
-use crate::phase::{NO_MEMORY, Phase, RunFault};
+use crate::phase::{Phase, RunFault};
 use crate::shared::{Served, Shared};
 use crate::tally::Tally;
 use commit_lock::Answer;
@@ -52,7 +52,7 @@ pub fn work<J: Run, D: Disk + Drop, G: Gate, R: Wait>(
         }
         let activation = snapshot.activation;
         let Ok(execution) = run(alloc, snapshot) else {
-            shared.end(rt, Phase::Stopped(NO_MEMORY));
+            shared.end(rt, Phase::Stopped(RunFault::NO_MEMORY));
             break;
         };
         gate.between(resource, activation);

@@ -1,0 +1,1218 @@
+-- What the threads of a run share may cross threads, from the trees of its programs up, and so may their closures.
+use Rattle.std.proofs.Common.{[], ◌∷◌}
+use mir.Syntax.{Sym}
+use denote.RattleType.{RattleType}
+use denote.Param.Send.{IsSend, IsSync, sendable}
+use denote.Param.SendFields.{as_row_send, declared_send, declared_sync, variants_send, variants_sync}
+use denote.Struct.Field.{row_field}
+use denote.Struct.Tuple.{type_at, TupleAt}
+use denote.Hole.FixSend.{Crosses, both_send, both_sync}
+use Rattle.std.proofs.Crossing.{crosses, Vec-send, Vec-sync, Box-send, Box-sync, Arc-send, Arc-sync, Deque-send}
+use Rattle.std.specs.contracts.option.Option as Option
+use Rattle.st_words.specs.contracts.kind.Kind as Kind
+use Rattle.st_words.specs.contracts.name.Name as Name
+use Rattle.st_words.specs.contracts.identifier.Identifier as Identifier
+use Rattle.st_words.specs.contracts.literal.Number as Number
+use Rattle.st_words.specs.contracts.literal.EnumeratedValue as EnumeratedValue
+use Rattle.st_words.specs.contracts.literal.Literal as Literal
+use Rattle.st_trees.specs.contracts.expression.Expr.TheKnot as ExprKnot
+use Rattle.st_trees.specs.declared.expression.Expr.TheBlock.{the_members as expr_members, member-Expr}
+use Rattle.st_trees.specs.declared.expression.Expr.TheBlock.{member-Selector, member-Variable}
+use Rattle.st_trees.specs.contracts.expression.Variable as Variable
+use Rattle.st_trees.specs.contracts.expression.Expr as Expr
+use Rattle.st_trees.specs.contracts.initial.Initial.TheKnot as InitialKnot
+use Rattle.st_trees.specs.declared.initial.Initial.TheBlock.{the_members as initial_members, member-Initial}
+use Rattle.st_trees.specs.declared.initial.Initial.TheBlock.{member-InitialElement, member-InitialMember}
+use Rattle.st_trees.specs.contracts.initial.Initial as Initial
+use Rattle.st_trees.specs.contracts.data_type.SimpleType as SimpleType
+use Rattle.st_trees.specs.contracts.data_type.ArrayType as ArrayType
+use Rattle.st_trees.specs.contracts.data_type.VariableType as VariableType
+use Rattle.st_trees.specs.contracts.declaration.Declaration as Declaration
+use Rattle.st_trees.specs.contracts.declaration.VariableBlock as VariableBlock
+use Rattle.st_trees.specs.contracts.statement.Label as Label
+use Rattle.st_trees.specs.contracts.statement.Argument as Argument
+use Rattle.st_trees.specs.contracts.statement.Stmt.TheKnot as StmtKnot
+use Rattle.st_trees.specs.declared.statement.Stmt.TheBlock.{the_members as stmt_members, member-Stmt}
+use Rattle.st_trees.specs.declared.statement.Stmt.TheBlock.{member-Arm, member-CaseArm}
+use Rattle.st_trees.specs.contracts.statement.Stmt as Stmt
+use Rattle.st_trees.specs.contracts.unit.UnitSort as UnitSort
+use Rattle.st_trees.specs.contracts.unit.Unit as Unit
+use Rattle.st_words.specs.contracts.path.Owner as Owner
+use Rattle.st_words.specs.contracts.path.Path as Path
+use Rattle.st_words.specs.contracts.value.Value.TheInside as ValueInside
+use Rattle.st_words.specs.contracts.value.Value as Value
+use Rattle.slot_code.specs.contracts.root.Root as Root
+use Rattle.slot_code.specs.contracts.path_slot.PathSlot as PathSlot
+use Rattle.slot_code.specs.contracts.code.Code as Code
+use Rattle.config.specs.contracts.task.ProgramInstance as ProgramInstance
+use Rattle.st_plans.specs.contracts.plan.PlanVariable as PlanVariable
+use Rattle.st_plans.specs.contracts.plan.PlanInput as PlanInput
+use Rattle.config.specs.contracts.task.Task as Task
+use Rattle.config.specs.contracts.plan.Plan as Plan
+use Rattle.st_plans.specs.contracts.entry.Row.TheInside as RowInside
+use Rattle.st_plans.specs.contracts.entry.Row as Row
+use Rattle.st_plans.specs.contracts.entry.Entry as Entry
+use Rattle.st_types.specs.contracts.outcome.Outcome as Outcome
+use Rattle.ready_list.specs.contracts.list.ReadyList as ReadyList
+use Rattle.serial_core.specs.contracts.serial.SerialCore.TheInside as SerialInside
+use Rattle.serial_core.specs.contracts.serial.SerialCore as SerialCore
+use Rattle.retain_store.specs.contracts.record.Record.TheInside as RecordInside
+use Rattle.retain_store.specs.contracts.record.Record as Record
+use Rattle.disk.specs.declared.disk.Disk as Disk
+use Rattle.retain_store.specs.contracts.store.Store as Store
+use Rattle.retain_store.specs.contracts.store.Store.TheInside as StoreInside
+use Rattle.commit_lock.specs.contracts.core_state.Core as Core
+use Rattle.commit_lock.specs.contracts.core_state.Core.TheInside as CoreInside
+use Rattle.std.specs.declared.sync.ledger.Ledger as Ledger
+use Rattle.std.below.core.proofs.ledger.Book.TheSendSync as BookSend
+use Rattle.atomic_table.proofs.shared.Seat.TheSendSync as SeatSend
+use Rattle.plc_threads.specs.contracts.mark.Mark as Mark
+use Rattle.plc_threads.specs.contracts.mark.Mark.TheInside as MarkInside
+use Rattle.atomic_table.proofs.shared.Shared.TheSendSync as SharedSync
+use Rattle.atomic_table.proofs.send_lease.SendLease.TheSendSync as LeaseSync
+use Rattle.plc_threads.specs.contracts.mark.RaisePass as RaisePass
+use Rattle.plc_threads.specs.contracts.mark.RaisePass.TheInside as RaiseInside
+use Rattle.plc_threads.specs.declared.locked.Run as Run
+use Rattle.plc_threads.specs.contracts.locked.Locked as Locked
+use Rattle.plc_threads.specs.contracts.shared.Shared as Shared
+
+-- which types cross by their parts
+ruleset plain = (sendable, crosses)
+
+pub option-send : (T : RattleType) → IsSend T → IsSend (Option.the_row T)
+option-send T s = variants_send (Option.enum T) (search plain depth 20)
+
+pub option-sync : (T : RattleType) → IsSync T → IsSync (Option.the_row T)
+option-sync T s = variants_sync (Option.enum T) (search plain depth 20)
+
+pub kind-send : IsSend Kind.the_row
+kind-send = search plain depth 20
+
+pub kind-sync : IsSync Kind.the_row
+kind-sync = search plain depth 20
+
+pub name-send : IsSend Name.the_row
+name-send = search plain depth 20
+
+pub name-sync : IsSync Name.the_row
+name-sync = search plain depth 20
+
+pub identifier-send : IsSend Identifier.the_row
+identifier-send = search (plain, name-send) depth 20
+
+pub identifier-sync : IsSync Identifier.the_row
+identifier-sync = search (plain, name-sync) depth 20
+
+pub number-send : IsSend Number.the_row
+number-send = declared_send Number.the_type (
+  search plain depth 20,
+  (
+    search plain depth 20,
+    (
+      search plain depth 20,
+      (option-send _ kind-send, (search plain depth 20, (option-send _ kind-send, tt))),
+    ),
+  ),
+)
+
+pub number-sync : IsSync Number.the_row
+number-sync = declared_sync Number.the_type (
+  search plain depth 20,
+  (
+    search plain depth 20,
+    (
+      search plain depth 20,
+      (option-sync _ kind-sync, (search plain depth 20, (option-sync _ kind-sync, tt))),
+    ),
+  ),
+)
+
+pub enumerated-send : IsSend EnumeratedValue.the_row
+enumerated-send = declared_send EnumeratedValue.the_type (
+  search plain depth 20,
+  (
+    option-send _ name-send,
+    (
+      name-send,
+      tt,
+    ),
+  ),
+)
+
+pub enumerated-sync : IsSync EnumeratedValue.the_row
+enumerated-sync = declared_sync EnumeratedValue.the_type (
+  search plain depth 20,
+  (
+    option-sync _ name-sync,
+    (
+      name-sync,
+      tt,
+    ),
+  ),
+)
+
+pub literal-send : IsSend Literal.the_row
+literal-send = variants_send Literal.enum (
+  (number-send, tt),
+  (
+    (search plain depth 20, (search plain depth 20, tt)),
+    ((search plain depth 20, (search plain depth 20, tt)), ((enumerated-send, tt), tt)),
+  ),
+)
+
+pub literal-sync : IsSync Literal.the_row
+literal-sync = variants_sync Literal.enum (
+  (number-sync, tt),
+  (
+    (search plain depth 20, (search plain depth 20, tt)),
+    ((search plain depth 20, (search plain depth 20, tt)), ((enumerated-sync, tt), tt)),
+  ),
+)
+
+expr_crosses : (i : expr_members) → Crosses ExprKnot.ring i
+expr_crosses member-Expr = record {
+  send = λ h s y. variants_send (ExprKnot.type-Expr (h member-Variable) (h member-Expr) (h member-Expr) (h
+      member-Expr) (h member-Expr) (h member-Expr)) (
+        (literal-send, tt),
+        (
+          (search plain depth 20, tt),
+          (
+            (identifier-send, (Vec-send _ (s member-Expr), tt)),
+            (
+              (
+                search plain depth 20,
+                (
+                  Box-send _ (s member-Expr),
+                  tt,
+                ),
+              ),
+              (
+                (search plain depth 20, (search plain depth 20, (Box-send _ (s member-Expr), tt))),
+                (
+                  (
+                    search plain depth
+                        20,
+                    (Box-send _ (s member-Expr), (Box-send _ (s member-Expr), tt)),
+                  ),
+                  tt,
+                ),
+              ),
+            ),
+          ),
+        ),
+      );
+  sync = λ h s y. variants_sync (ExprKnot.type-Expr (h member-Variable) (h member-Expr) (h member-Expr) (h
+      member-Expr) (h member-Expr) (h member-Expr)) (
+        (literal-sync, tt),
+        (
+          (search plain depth 20, tt),
+          (
+            (identifier-sync, (Vec-sync _ (y member-Expr), tt)),
+            (
+              (
+                search plain depth 20,
+                (
+                  Box-sync _ (y member-Expr),
+                  tt,
+                ),
+              ),
+              (
+                (search plain depth 20, (search plain depth 20, (Box-sync _ (y member-Expr), tt))),
+                (
+                  (
+                    search plain depth
+                        20,
+                    (Box-sync _ (y member-Expr), (Box-sync _ (y member-Expr), tt)),
+                  ),
+                  tt,
+                ),
+              ),
+            ),
+          ),
+        ),
+      );
+}
+expr_crosses member-Selector = record {
+  send = λ h s y. variants_send (ExprKnot.type-Selector (h member-Expr)) (
+    (identifier-send, tt),
+    (
+      (
+        search plain depth
+            20,
+        tt,
+      ),
+      tt,
+    ),
+  );
+  sync = λ h s y. variants_sync (ExprKnot.type-Selector (h member-Expr)) (
+    (identifier-sync, tt),
+    (
+      (
+        search plain depth
+            20,
+        tt,
+      ),
+      tt,
+    ),
+  );
+}
+expr_crosses member-Variable = record {
+  send = λ h s y. declared_send (ExprKnot.type-Variable (h member-Selector)) (
+    identifier-send,
+    (
+      Vec-send _ (s
+          member-Selector),
+      tt,
+    ),
+  );
+  sync = λ h s y. declared_sync (ExprKnot.type-Variable (h member-Selector)) (
+    identifier-sync,
+    (
+      Vec-sync _ (y
+          member-Selector),
+      tt,
+    ),
+  );
+}
+
+expr_hole-send : IsSend ExprKnot.hole-Expr
+expr_hole-send = both_send ExprKnot.ring expr_crosses member-Expr
+
+expr_hole-sync : IsSync ExprKnot.hole-Expr
+expr_hole-sync = both_sync ExprKnot.ring expr_crosses member-Expr
+
+selector_hole-send : IsSend ExprKnot.hole-Selector
+selector_hole-send = both_send ExprKnot.ring expr_crosses member-Selector
+
+selector_hole-sync : IsSync ExprKnot.hole-Selector
+selector_hole-sync = both_sync ExprKnot.ring expr_crosses member-Selector
+
+variable_hole-send : IsSend ExprKnot.hole-Variable
+variable_hole-send = both_send ExprKnot.ring expr_crosses member-Variable
+
+variable_hole-sync : IsSync ExprKnot.hole-Variable
+variable_hole-sync = both_sync ExprKnot.ring expr_crosses member-Variable
+
+pub variable-send : IsSend Variable.the_row
+variable-send = declared_send Variable.the_type (identifier-send, (Vec-send _ selector_hole-send, tt))
+
+pub variable-sync : IsSync Variable.the_row
+variable-sync = declared_sync Variable.the_type (identifier-sync, (Vec-sync _ selector_hole-sync, tt))
+
+pub expr-send : IsSend Expr.the_row
+expr-send = variants_send Expr.enum (
+  (literal-send, tt),
+  (
+    (variable-send, tt),
+    (
+      (
+        identifier-send,
+        (
+          Vec-send _
+              expr_hole-send,
+          tt,
+        ),
+      ),
+      (
+        (search plain depth 20, (Box-send _ expr_hole-send, tt)),
+        (
+          (
+            search plain depth 20,
+            (
+              search
+                  plain depth 20,
+              (Box-send _ expr_hole-send, tt),
+            ),
+          ),
+          (
+            (
+              search plain depth 20,
+              (
+                Box-send _ expr_hole-send,
+                (
+                  Box-send
+                      _ expr_hole-send,
+                  tt,
+                ),
+              ),
+            ),
+            tt,
+          ),
+        ),
+      ),
+    ),
+  ),
+)
+
+pub expr-sync : IsSync Expr.the_row
+expr-sync = variants_sync Expr.enum (
+  (literal-sync, tt),
+  (
+    (variable-sync, tt),
+    (
+      (
+        identifier-sync,
+        (
+          Vec-sync _
+              expr_hole-sync,
+          tt,
+        ),
+      ),
+      (
+        (search plain depth 20, (Box-sync _ expr_hole-sync, tt)),
+        (
+          (
+            search plain depth 20,
+            (
+              search
+                  plain depth 20,
+              (Box-sync _ expr_hole-sync, tt),
+            ),
+          ),
+          (
+            (
+              search plain depth 20,
+              (
+                Box-sync _ expr_hole-sync,
+                (
+                  Box-sync
+                      _ expr_hole-sync,
+                  tt,
+                ),
+              ),
+            ),
+            tt,
+          ),
+        ),
+      ),
+    ),
+  ),
+)
+
+initial_crosses : (i : initial_members) → Crosses InitialKnot.ring i
+initial_crosses member-Initial = record {
+  send = λ h s y. variants_send (InitialKnot.type-Initial (h member-InitialElement) (h member-InitialMember)) (
+    (literal-send, tt),
+    (
+      (search plain depth 20, (Vec-send _ (s member-InitialElement), tt)),
+      (
+        (
+          search plain depth
+              20,
+          (Vec-send _ (s member-InitialMember), tt),
+        ),
+        tt,
+      ),
+    ),
+  );
+  sync = λ h s y. variants_sync (InitialKnot.type-Initial (h member-InitialElement) (h member-InitialMember)) (
+    (literal-sync, tt),
+    (
+      (search plain depth 20, (Vec-sync _ (y member-InitialElement), tt)),
+      (
+        (
+          search plain depth
+              20,
+          (Vec-sync _ (y member-InitialMember), tt),
+        ),
+        tt,
+      ),
+    ),
+  );
+}
+initial_crosses member-InitialElement = record {
+  send = λ h s y. variants_send (InitialKnot.type-InitialElement (h member-Initial) (h member-Initial)) (
+    (
+      search plain
+          depth 20,
+      tt,
+    ),
+    ((number-send, (search plain depth 20, tt)), ((number-send, tt), tt)),
+  );
+  sync = λ h s y. variants_sync (InitialKnot.type-InitialElement (h member-Initial) (h member-Initial)) (
+    (
+      search plain
+          depth 20,
+      tt,
+    ),
+    ((number-sync, (search plain depth 20, tt)), ((number-sync, tt), tt)),
+  );
+}
+initial_crosses member-InitialMember = record {
+  send = λ h s y. declared_send (InitialKnot.type-InitialMember (h member-Initial)) (
+    identifier-send,
+    (
+      search plain
+          depth 20,
+      tt,
+    ),
+  );
+  sync = λ h s y. declared_sync (InitialKnot.type-InitialMember (h member-Initial)) (
+    identifier-sync,
+    (
+      search plain
+          depth 20,
+      tt,
+    ),
+  );
+}
+
+initial_hole-send : IsSend InitialKnot.hole-Initial
+initial_hole-send = both_send InitialKnot.ring initial_crosses member-Initial
+
+initial_hole-sync : IsSync InitialKnot.hole-Initial
+initial_hole-sync = both_sync InitialKnot.ring initial_crosses member-Initial
+
+initial_element_hole-send : IsSend InitialKnot.hole-InitialElement
+initial_element_hole-send = both_send InitialKnot.ring initial_crosses member-InitialElement
+
+initial_element_hole-sync : IsSync InitialKnot.hole-InitialElement
+initial_element_hole-sync = both_sync InitialKnot.ring initial_crosses member-InitialElement
+
+initial_member_hole-send : IsSend InitialKnot.hole-InitialMember
+initial_member_hole-send = both_send InitialKnot.ring initial_crosses member-InitialMember
+
+initial_member_hole-sync : IsSync InitialKnot.hole-InitialMember
+initial_member_hole-sync = both_sync InitialKnot.ring initial_crosses member-InitialMember
+
+pub initial-send : IsSend Initial.the_row
+initial-send = variants_send Initial.enum (
+  (literal-send, tt),
+  (
+    (
+      search plain depth 20,
+      (
+        Vec-send _
+            initial_element_hole-send,
+        tt,
+      ),
+    ),
+    ((search plain depth 20, (Vec-send _ initial_member_hole-send, tt)), tt),
+  ),
+)
+
+pub initial-sync : IsSync Initial.the_row
+initial-sync = variants_sync Initial.enum (
+  (literal-sync, tt),
+  (
+    (
+      search plain depth 20,
+      (
+        Vec-sync _
+            initial_element_hole-sync,
+        tt,
+      ),
+    ),
+    ((search plain depth 20, (Vec-sync _ initial_member_hole-sync, tt)), tt),
+  ),
+)
+
+pub simple-send : IsSend SimpleType.the_row
+simple-send = variants_send SimpleType.enum (
+  (search plain depth 20, (search plain depth 20, tt)),
+  (
+    (
+      identifier-send,
+      tt,
+    ),
+    tt,
+  ),
+)
+
+pub simple-sync : IsSync SimpleType.the_row
+simple-sync = variants_sync SimpleType.enum (
+  (search plain depth 20, (search plain depth 20, tt)),
+  (
+    (
+      identifier-sync,
+      tt,
+    ),
+    tt,
+  ),
+)
+
+pub array-send : IsSend ArrayType.the_row
+array-send = declared_send ArrayType.the_type (search plain depth 20, (number-send, (number-send, (simple-send, tt))))
+
+pub array-sync : IsSync ArrayType.the_row
+array-sync = declared_sync ArrayType.the_type (search plain depth 20, (number-sync, (number-sync, (simple-sync, tt))))
+
+pub declared-send : IsSend VariableType.the_row
+declared-send = variants_send VariableType.enum ((simple-send, tt), ((array-send, tt), tt))
+
+pub declared-sync : IsSync VariableType.the_row
+declared-sync = variants_sync VariableType.enum ((simple-sync, tt), ((array-sync, tt), tt))
+
+pub declaration-send : IsSend Declaration.the_row
+declaration-send = declared_send Declaration.the_type (
+  Vec-send _ identifier-send,
+  (
+    declared-send,
+    (
+      option-send _
+          initial-send,
+      tt,
+    ),
+  ),
+)
+
+pub declaration-sync : IsSync Declaration.the_row
+declaration-sync = declared_sync Declaration.the_type (
+  Vec-sync _ identifier-sync,
+  (
+    declared-sync,
+    (
+      option-sync _
+          initial-sync,
+      tt,
+    ),
+  ),
+)
+
+pub block-send : IsSend VariableBlock.the_row
+block-send = declared_send VariableBlock.the_type (search plain depth 20, (Vec-send _ declaration-send, tt))
+
+pub block-sync : IsSync VariableBlock.the_row
+block-sync = declared_sync VariableBlock.the_type (search plain depth 20, (Vec-sync _ declaration-sync, tt))
+
+pub label-send : IsSend Label.the_row
+label-send = variants_send Label.enum (
+  (number-send, tt),
+  (
+    (number-send, (number-send, tt)),
+    (
+      (enumerated-send, tt),
+      tt,
+    ),
+  ),
+)
+
+pub label-sync : IsSync Label.the_row
+label-sync = variants_sync Label.enum (
+  (number-sync, tt),
+  (
+    (number-sync, (number-sync, tt)),
+    (
+      (enumerated-sync, tt),
+      tt,
+    ),
+  ),
+)
+
+pub argument-send : IsSend Argument.the_row
+argument-send = variants_send Argument.enum (
+  (identifier-send, (expr-send, tt)),
+  (
+    (
+      identifier-send,
+      (
+        variable-send,
+        tt,
+      ),
+    ),
+    tt,
+  ),
+)
+
+pub argument-sync : IsSync Argument.the_row
+argument-sync = variants_sync Argument.enum (
+  (identifier-sync, (expr-sync, tt)),
+  (
+    (
+      identifier-sync,
+      (
+        variable-sync,
+        tt,
+      ),
+    ),
+    tt,
+  ),
+)
+
+stmt_crosses : (i : stmt_members) → Crosses StmtKnot.ring i
+stmt_crosses member-Stmt = record {
+  send = λ h s y. variants_send (StmtKnot.type-Stmt (h member-Arm) (h member-Stmt) (h member-CaseArm) (h member-Stmt)
+      (h member-Stmt) (h member-Stmt) (h member-Stmt)) (
+        tt,
+        (
+          (variable-send, (expr-send, tt)),
+          (
+            (
+              identifier-send,
+              (Vec-send _ argument-send, tt),
+            ),
+            (
+              (Vec-send _ (s member-Arm), (Vec-send _ (s member-Stmt), tt)),
+              (
+                (
+                  expr-send,
+                  (Vec-send _ (s member-CaseArm), (Vec-send _ (s member-Stmt), tt)),
+                ),
+                (
+                  (
+                    identifier-send,
+                    (
+                      expr-send,
+                      (
+                        expr-send,
+                        (option-send _ expr-send, (Vec-send _ (s member-Stmt), tt)),
+                      ),
+                    ),
+                  ),
+                  (
+                    (expr-send, (Vec-send _ (s member-Stmt), tt)),
+                    ((Vec-send _ (s member-Stmt), (expr-send, tt)), ((search plain depth 20, tt), (tt, tt))),
+                  ),
+                ),
+              ),
+            ),
+          ),
+        ),
+      );
+  sync = λ h s y. variants_sync (StmtKnot.type-Stmt (h member-Arm) (h member-Stmt) (h member-CaseArm) (h member-Stmt)
+      (h member-Stmt) (h member-Stmt) (h member-Stmt)) (
+        tt,
+        (
+          (variable-sync, (expr-sync, tt)),
+          (
+            (
+              identifier-sync,
+              (Vec-sync _ argument-sync, tt),
+            ),
+            (
+              (Vec-sync _ (y member-Arm), (Vec-sync _ (y member-Stmt), tt)),
+              (
+                (
+                  expr-sync,
+                  (Vec-sync _ (y member-CaseArm), (Vec-sync _ (y member-Stmt), tt)),
+                ),
+                (
+                  (
+                    identifier-sync,
+                    (
+                      expr-sync,
+                      (
+                        expr-sync,
+                        (option-sync _ expr-sync, (Vec-sync _ (y member-Stmt), tt)),
+                      ),
+                    ),
+                  ),
+                  (
+                    (expr-sync, (Vec-sync _ (y member-Stmt), tt)),
+                    ((Vec-sync _ (y member-Stmt), (expr-sync, tt)), ((search plain depth 20, tt), (tt, tt))),
+                  ),
+                ),
+              ),
+            ),
+          ),
+        ),
+      );
+}
+stmt_crosses member-Arm = record {
+  send = λ h s y. declared_send (StmtKnot.type-Arm (h member-Stmt)) (expr-send, (Vec-send _ (s member-Stmt), tt));
+  sync = λ h s y. declared_sync (StmtKnot.type-Arm (h member-Stmt)) (expr-sync, (Vec-sync _ (y member-Stmt), tt));
+}
+stmt_crosses member-CaseArm = record {
+  send = λ h s y. declared_send (StmtKnot.type-CaseArm (h member-Stmt)) (
+    Vec-send _ label-send,
+    (
+      Vec-send _ (s
+          member-Stmt),
+      tt,
+    ),
+  );
+  sync = λ h s y. declared_sync (StmtKnot.type-CaseArm (h member-Stmt)) (
+    Vec-sync _ label-sync,
+    (
+      Vec-sync _ (y
+          member-Stmt),
+      tt,
+    ),
+  );
+}
+
+stmt_hole-send : IsSend StmtKnot.hole-Stmt
+stmt_hole-send = both_send StmtKnot.ring stmt_crosses member-Stmt
+
+stmt_hole-sync : IsSync StmtKnot.hole-Stmt
+stmt_hole-sync = both_sync StmtKnot.ring stmt_crosses member-Stmt
+
+arm_hole-send : IsSend StmtKnot.hole-Arm
+arm_hole-send = both_send StmtKnot.ring stmt_crosses member-Arm
+
+arm_hole-sync : IsSync StmtKnot.hole-Arm
+arm_hole-sync = both_sync StmtKnot.ring stmt_crosses member-Arm
+
+case_arm_hole-send : IsSend StmtKnot.hole-CaseArm
+case_arm_hole-send = both_send StmtKnot.ring stmt_crosses member-CaseArm
+
+case_arm_hole-sync : IsSync StmtKnot.hole-CaseArm
+case_arm_hole-sync = both_sync StmtKnot.ring stmt_crosses member-CaseArm
+
+pub stmt-send : IsSend Stmt.the_row
+stmt-send = variants_send Stmt.enum (
+  tt,
+  (
+    (variable-send, (expr-send, tt)),
+    (
+      (
+        identifier-send,
+        (
+          Vec-send _
+              argument-send,
+          tt,
+        ),
+      ),
+      (
+        (Vec-send _ arm_hole-send, (Vec-send _ stmt_hole-send, tt)),
+        (
+          (
+            expr-send,
+            (
+              Vec-send _
+                  case_arm_hole-send,
+              (Vec-send _ stmt_hole-send, tt),
+            ),
+          ),
+          (
+            (
+              identifier-send,
+              (
+                expr-send,
+                (
+                  expr-send,
+                  (
+                    option-send _
+                        expr-send,
+                    (Vec-send _ stmt_hole-send, tt),
+                  ),
+                ),
+              ),
+            ),
+            (
+              (expr-send, (Vec-send _ stmt_hole-send, tt)),
+              (
+                (
+                  Vec-send _
+                      stmt_hole-send,
+                  (expr-send, tt),
+                ),
+                ((search plain depth 20, tt), (tt, tt)),
+              ),
+            ),
+          ),
+        ),
+      ),
+    ),
+  ),
+)
+
+pub stmt-sync : IsSync Stmt.the_row
+stmt-sync = variants_sync Stmt.enum (
+  tt,
+  (
+    (variable-sync, (expr-sync, tt)),
+    (
+      (
+        identifier-sync,
+        (
+          Vec-sync _
+              argument-sync,
+          tt,
+        ),
+      ),
+      (
+        (Vec-sync _ arm_hole-sync, (Vec-sync _ stmt_hole-sync, tt)),
+        (
+          (
+            expr-sync,
+            (
+              Vec-sync _
+                  case_arm_hole-sync,
+              (Vec-sync _ stmt_hole-sync, tt),
+            ),
+          ),
+          (
+            (
+              identifier-sync,
+              (
+                expr-sync,
+                (
+                  expr-sync,
+                  (
+                    option-sync _
+                        expr-sync,
+                    (Vec-sync _ stmt_hole-sync, tt),
+                  ),
+                ),
+              ),
+            ),
+            (
+              (expr-sync, (Vec-sync _ stmt_hole-sync, tt)),
+              (
+                (
+                  Vec-sync _
+                      stmt_hole-sync,
+                  (expr-sync, tt),
+                ),
+                ((search plain depth 20, tt), (tt, tt)),
+              ),
+            ),
+          ),
+        ),
+      ),
+    ),
+  ),
+)
+
+pub sort-send : IsSend UnitSort.the_row
+sort-send = variants_send UnitSort.enum ((simple-send, tt), (tt, (tt, tt)))
+
+pub sort-sync : IsSync UnitSort.the_row
+sort-sync = variants_sync UnitSort.enum ((simple-sync, tt), (tt, (tt, tt)))
+
+pub unit-send : IsSend Unit.the_row
+unit-send = declared_send Unit.the_type (
+  sort-send,
+  (
+    identifier-send,
+    (
+      Vec-send _ block-send,
+      (
+        Vec-send _ stmt-send,
+        tt,
+      ),
+    ),
+  ),
+)
+
+pub unit-sync : IsSync Unit.the_row
+unit-sync = declared_sync Unit.the_type (
+  sort-sync,
+  (
+    identifier-sync,
+    (
+      Vec-sync _ block-sync,
+      (
+        Vec-sync _ stmt-sync,
+        tt,
+      ),
+    ),
+  ),
+)
+
+pub owner-send : IsSend Owner.the_row
+owner-send = search (plain, name-send) depth 20
+
+pub owner-sync : IsSync Owner.the_row
+owner-sync = search (plain, name-sync) depth 20
+
+pub path-send : IsSend Path.the_row
+path-send = search (plain, name-send, owner-send) depth 20
+
+pub path-sync : IsSync Path.the_row
+path-sync = search (plain, name-sync, owner-sync) depth 20
+
+pub value_inside-send : IsSend ValueInside.the_row
+value_inside-send = declared_send ValueInside.the_type (kind-send, (search plain depth 20, tt))
+
+pub value_inside-sync : IsSync ValueInside.the_row
+value_inside-sync = declared_sync ValueInside.the_type (kind-sync, (search plain depth 20, tt))
+
+pub value-send : IsSend Value.the_row
+value-send = search (plain, value_inside-send) depth 20
+
+pub value-sync : IsSync Value.the_row
+value-sync = search (plain, value_inside-sync) depth 20
+
+pub root-send : IsSend Root.the_row
+root-send = declared_send Root.the_type (option-send _ owner-send, (name-send, tt))
+
+pub root-sync : IsSync Root.the_row
+root-sync = declared_sync Root.the_type (option-sync _ owner-sync, (name-sync, tt))
+
+pub path_slot-send : IsSend PathSlot.the_row
+path_slot-send = declared_send PathSlot.the_type (
+  path-send,
+  (
+    search plain depth 20,
+    (
+      kind-send,
+      (
+        search plain depth
+            20,
+        tt,
+      ),
+    ),
+  ),
+)
+
+pub path_slot-sync : IsSync PathSlot.the_row
+path_slot-sync = declared_sync PathSlot.the_type (
+  path-sync,
+  (
+    search plain depth 20,
+    (
+      kind-sync,
+      (
+        search plain depth
+            20,
+        tt,
+      ),
+    ),
+  ),
+)
+
+pub code-send : IsSend Code.the_row
+code-send = declared_send Code.the_type (
+  owner-send,
+  (
+    Arc-send _ unit-send unit-sync,
+    (
+      Vec-send _ root-send,
+      (
+        Vec-send
+            _ path_slot-send,
+        tt,
+      ),
+    ),
+  ),
+)
+
+pub code-sync : IsSync Code.the_row
+code-sync = declared_sync Code.the_type (
+  owner-sync,
+  (
+    Arc-sync _ unit-send unit-sync,
+    (
+      Vec-sync _ root-sync,
+      (
+        Vec-sync
+            _ path_slot-sync,
+        tt,
+      ),
+    ),
+  ),
+)
+
+pub instance-send : IsSend ProgramInstance.the_row
+instance-send = declared_send ProgramInstance.the_type (
+  search plain depth 20,
+  (
+    search plain depth 20,
+    (
+      owner-send,
+      (Arc-send _ unit-send unit-sync, (Arc-send _ code-send code-sync, tt)),
+    ),
+  ),
+)
+
+pub instance-sync : IsSync ProgramInstance.the_row
+instance-sync = declared_sync ProgramInstance.the_type (
+  search plain depth 20,
+  (
+    search plain depth 20,
+    (
+      owner-sync,
+      (Arc-sync _ unit-send unit-sync, (Arc-sync _ code-send code-sync, tt)),
+    ),
+  ),
+)
+
+pub plan_variable-send : IsSend PlanVariable.the_row
+plan_variable-send = declared_send PlanVariable.the_type (path-send, (value-send, (search plain depth 20, tt)))
+
+pub plan_variable-sync : IsSync PlanVariable.the_row
+plan_variable-sync = declared_sync PlanVariable.the_type (path-sync, (value-sync, (search plain depth 20, tt)))
+
+pub plan_input-send : IsSend PlanInput.the_row
+plan_input-send = declared_send PlanInput.the_type (path-send, (kind-send, tt))
+
+pub plan_input-sync : IsSync PlanInput.the_row
+plan_input-sync = declared_sync PlanInput.the_type (path-sync, (kind-sync, tt))
+
+pub task-send : IsSend Task.the_row
+task-send = search plain depth 20
+
+pub task-sync : IsSync Task.the_row
+task-sync = search plain depth 20
+
+pub plan-send : IsSend Plan.the_row
+plan-send = declared_send Plan.the_type (
+  Vec-send _ plan_variable-send,
+  (
+    Vec-send _ plan_input-send,
+    (
+      search plain
+          depth 20,
+      (Vec-send _ task-send, (Vec-send _ instance-send, (search plain depth 20, tt))),
+    ),
+  ),
+)
+
+pub plan-sync : IsSync Plan.the_row
+plan-sync = declared_sync Plan.the_type (
+  Vec-sync _ plan_variable-sync,
+  (
+    Vec-sync _ plan_input-sync,
+    (
+      search plain
+          depth 20,
+      (Vec-sync _ task-sync, (Vec-sync _ instance-sync, (search plain depth 20, tt))),
+    ),
+  ),
+)
+
+pub row_inside-send : IsSend RowInside.the_row
+row_inside-send = declared_send RowInside.the_type (search plain depth 20, (Vec-send _ value-send, tt))
+
+pub row-send : IsSend Row.the_row
+row-send = search (plain, row_inside-send) depth 20
+
+pub entry-send : IsSend Entry.the_row
+entry-send = variants_send Entry.enum ((row-send, tt), ((search plain depth 20, tt), tt))
+
+pub outcome-send : IsSend Outcome.the_row
+outcome-send = search plain depth 20
+
+pub ready-send : IsSend ReadyList.the_row
+ready-send = search plain depth 20
+
+pub serial_inside-send : IsSend SerialInside.the_row
+serial_inside-send = declared_send SerialInside.the_type (
+  Arc-send _ plan-send plan-sync,
+  (
+    Vec-send _ value-send,
+    (
+      search plain depth 20,
+      (
+        Vec-send _ value-send,
+        (
+          search plain depth 20,
+          (
+            Vec-send _ entry-send,
+            (
+              Vec-send _
+                  (option-send _ outcome-send),
+              (
+                search plain depth 20,
+                (
+                  search plain depth 20,
+                  (
+                    ready-send,
+                    (
+                      search plain depth 20,
+                      tt,
+                    ),
+                  ),
+                ),
+              ),
+            ),
+          ),
+        ),
+      ),
+    ),
+  ),
+)
+
+pub serial-send : IsSend SerialCore.the_row
+serial-send = search (plain, serial_inside-send) depth 20
+
+pub record_inside-send : IsSend RecordInside.the_row
+record_inside-send = declared_send RecordInside.the_type (
+  search plain depth 20,
+  (
+    search plain depth 20,
+    (
+      Vec-send _
+          value-send,
+      tt,
+    ),
+  ),
+)
+
+pub record-send : IsSend Record.the_row
+record-send = search (plain, record_inside-send) depth 20
+
+-- the store and the core over a disk that may cross
+module _ (D : RattleType) (disk : Disk.Ghosts D.Denot) where
+  store_inside-send : IsSend D → IsSend (StoreInside.the_row D disk)
+  store_inside-send s = declared_send (StoreInside.the_type D disk) (
+    search plain depth 20,
+    (
+      search plain depth 20,
+      (record-send, (record-send, (search plain depth 20, (search plain depth 20, tt)))),
+    ),
+  )
+
+  store-send : IsSend D → IsSend (Store.the_row D disk)
+  store-send s = let inside : IsSend (StoreInside.the_row D disk) = store_inside-send s in search (sendable, inside)
+      depth 20
+
+  core_inside-send : IsSend D → IsSend (CoreInside.the_row D disk)
+  core_inside-send s = declared_send (CoreInside.the_type D disk) (
+    serial-send,
+    (
+      store-send s,
+      (
+        search plain depth 20,
+        (Vec-send _ value-send, (search plain depth 20, (search plain depth 20, tt))),
+      ),
+    ),
+  )
+
+  pub core-send : IsSend D → IsSend (Core.the_row D disk)
+  core-send s = let inside : IsSend (CoreInside.the_row D disk) = core_inside-send s in search (sendable, inside)
+      depth 20
+
+mark_inside-sync : IsSync MarkInside.the_row
+mark_inside-sync = declared_sync MarkInside.the_type (
+  search (plain, SharedSync.the_sync, LeaseSync.the_sync) depth
+      20,
+  tt,
+)
+
+pub mark-sync : IsSync Mark.the_row
+mark-sync = search (sendable, mark_inside-sync) depth 20
+
+raise_inside-send : IsSend RaiseInside.the_row
+raise_inside-send = declared_send RaiseInside.the_type (SeatSend.the_send _ _ (search sendable depth 20), tt)
+
+raise_pass-send : IsSend RaisePass.the_row
+raise_pass-send = search (sendable, raise_inside-send) depth 20
+
+-- what lies under the lock, and what all threads of a run share
+module _ (J D : RattleType) (run : Run.Ghosts J.Denot) (disk : Disk.Ghosts D.Denot) (ledger : Ledger.Ghosts J.Denot)
+  where
+    locked-send : IsSend J → IsSend D → IsSend (Locked.the_row J D run disk ledger)
+    locked-send j s = declared_send (Locked.the_type J D run disk ledger) (
+      core-send D disk s,
+      (
+        BookSend.the_send J
+            ledger,
+        (raise_pass-send, (Deque-send _ row-send, (search plain depth 20, tt))),
+      ),
+    )
+
+    pub shared-sync : IsSend J → IsSend D → IsSync (Shared.the_row J D run disk ledger)
+    shared-sync j s = let under : IsSend (Locked.the_row J D run disk ledger) = locked-send j s in declared_sync
+        (Shared.the_type J D run disk ledger) (search (plain, under) depth 20, (search plain depth 20, tt))
+
+-- a closure may cross where the three or the six that it captures may
+pub three-send : (name : Sym) (A B C : RattleType) → IsSend A → IsSend B → IsSend C
+    → IsSend (TupleAt name (A ∷ B ∷ C ∷ []))
+three-send name A B C a b c = declared_send (type_at name (A ∷ B ∷ C ∷ []))
+    (as_row_send (row_field A) a, (as_row_send (row_field B) b, (as_row_send (row_field C) c, tt)))
+
+pub six-send : (name : Sym) (A B C D E F : RattleType) → IsSend A → IsSend B → IsSend C → IsSend D → IsSend E
+    → IsSend F → IsSend (TupleAt name (A ∷ B ∷ C ∷ D ∷ E ∷ F ∷ []))
+six-send name A B C D E F a b c d e f = declared_send (type_at name (A ∷ B ∷ C ∷ D ∷ E ∷ F ∷ [])) (
+  as_row_send (row_field A) a,
+  (
+    as_row_send (row_field B) b,
+    (
+      as_row_send (row_field C) c,
+      (as_row_send (row_field D) d, (as_row_send (row_field E) e, (as_row_send (row_field F) f, tt))),
+    ),
+  ),
+)

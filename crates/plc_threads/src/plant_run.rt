@@ -1,0 +1,155 @@
+//! The run of a core in threads.
+
+ghost use Rattle.std.specs.Prelude.{◌≡◌, ◌+◌, ◌++◌, Some, IfOk, MatchResult, length};
+ghost use Rattle.st_plans.specs.Logs.{done_count};
+ghost use Rattle.serial_core.specs.Steps.{made};
+ghost use Rattle.commit_lock.specs.Flushing.{IsAcknowledged};
+ghost use Rattle.plc_threads.specs.Lives.{life_of, NothingIsDue};
+ghost use Rattle.plc_threads.specs.Reports.{committed_in};
+
+use crate::crew::{Joined, in_scope};
+use crate::driver::Pace;
+use crate::gate::Gate;
+use crate::locked::{Locked, Run, is_settled};
+use crate::mark::{Mark, Pass, RaisePass};
+use crate::phase::{Phase, RunFault};
+use crate::report::{Report, RunError};
+use crate::shared::Shared;
+use commit_lock::Core;
+use config::Plan;
+use crossbeam_utils::CachePadded;
+use disk::Disk;
+use st_plans::Row;
+use std::alloc::Global;
+use std::collections::VecDeque;
+use std::marker::Brand;
+use std::sync::ledger::{Blank, Book};
+use std::sync::{Condvar, Mutex, Wait};
+use std::thread::Threads;
+
+/// What a run has under its lock as it begins.
+fn locked<J: Run, D: Disk>(
+    core: Core<D>,
+    book: Book<J>,
+    raises: RaisePass,
+    rows: Vec<Row>,
+) -> Locked<J, D>
+    requires began { (done_count core.state.log ≡ J.dones) × (book.total ≡ 0) }
+    requires mark { (raises.mark ≡ J.mark) × (raises.top ≡ 0) }
+    requires life { Some (life_of core.state) ≡ J.life }
+    requires rows { (made core.state).rows ++ rows.items ≡ J.rows }
+{
+    Locked {
+        core,
+        book,
+        raises,
+        rest: VecDeque::from(rows),
+        phase: Phase::Running,
+    }
+}
+
+/// A run that J names.
+fn run_as<J: Run + Send + Sync, D: Disk + Drop + Send, G: Gate + Sync, R: Threads + Wait + Sync>(
+    rt: &R,
+    alloc: Global,
+    blank: Blank,
+    core: Core<D>,
+    mark: &Mark,
+    raises: RaisePass,
+    pass: Pass,
+    resources: usize,
+    rows: Vec<Row>,
+    pace: Pace,
+    gate: &G,
+) -> Result<Report<D>, RunError<D>>
+    requires book { (blank.name ≡ J.name) × (blank.parts ≡ J.parts) × (blank.parts ≡ resources + 1) }
+    requires dones { done_count core.state.log ≡ J.dones }
+    requires mark { (mark.now ≡ J.mark) × (raises.mark ≡ J.mark) × (pass.mark ≡ J.mark) × (raises.top ≡ 0) }
+    requires life { Some (life_of core.state) ≡ J.life }
+    requires rows { (made core.state).rows ++ rows.items ≡ J.rows }
+    ensures counted { IfOk result
+        (λ r. done_count r.core.state.log ≡ done_count core.state.log + committed_in r.told.items) }
+    ensures latched { IfOk result (λ r. (made r.core.state).rows ≡ (made core.state).rows ++ rows.items) }
+    ensures nothing_waits { IfOk result (λ r. NothingIsDue r.core.state resources) }
+    ensures acknowledged { IfOk result (λ r. IsAcknowledged r.core) }
+    ensures each { IfOk result (λ r. length r.told.items ≡ resources) }
+    ensures life { MatchResult result
+        (λ r. life_of r.core.state ≡ life_of core.state) (λ e. life_of e.core.state ≡ life_of core.state) }
+{
+    let count = rows.len();
+    let (book, all) = blank.open::<J>();
+    let shared = Shared {
+        locked: Mutex::new(locked(core, book, raises, rows)),
+        changed: Condvar::new(),
+    };
+    let joined = in_scope(
+        rt, alloc, &shared, mark, gate, pass, all, resources, count, pace,
+    );
+    let Shared { locked, changed: _ } = shared;
+    let Locked {
+        core,
+        mut book,
+        raises: _,
+        rest,
+        phase,
+    } = locked.into_inner();
+    if let Phase::Stopped(fault) = phase {
+        return Err(RunError { core, fault });
+    }
+    let Joined { mut share, told } = match joined {
+        Ok(joined) => joined,
+        Err(fault) => return Err(RunError { core, fault }),
+    };
+    book.audit(&mut share);
+    if !rest.is_empty() || !is_settled(&core, resources) {
+        return Err(RunError {
+            core,
+            fault: RunFault::NotSettled,
+        });
+    }
+    Ok(Report { core, told })
+}
+
+/// Runs a core of the plan in threads: one for each resource, one that flushes, and the caller, which latches the rows.
+/// It ends when all rows are latched, nothing waits and all is acknowledged, or at the first refusal.
+///
+/// K1 to K6 where a call of the core was refused or there was no memory, H1 where a thread could not be started, H2
+/// where all threads have ended well and yet something is left.
+pub fn run_plant<D: Disk + Drop + Send, G: Gate + Sync, R: Threads + Wait + Sync>(
+    rt: &R,
+    alloc: Global,
+    plan: &Plan,
+    core: Core<D>,
+    rows: Vec<Row>,
+    pace: Pace,
+    gate: &G,
+) -> Result<Report<D>, RunError<D>>
+    requires own { plan.now ≡ core.state.plan }
+
+    // What the workers were told Committed is what the log gained.
+    ensures counted { IfOk result
+        (λ r. done_count r.core.state.log ≡ done_count core.state.log + committed_in r.told.items) }
+
+    // The log gained these rows, in their order, and no others.
+    ensures latched { IfOk result (λ r. (made r.core.state).rows ≡ (made core.state).rows ++ rows.items) }
+    ensures nothing_waits { IfOk result (λ r. NothingIsDue r.core.state plan.now.resources) }
+    ensures acknowledged { IfOk result (λ r. IsAcknowledged r.core) }
+    ensures each { IfOk result (λ r. length r.told.items ≡ plan.now.resources) }
+
+    // The core that comes back is of the life that was given.
+    ensures life { MatchResult result
+        (λ r. life_of r.core.state ≡ life_of core.state) (λ e. life_of e.core.state ≡ life_of core.state) }
+{
+    let Ok((mark, raises, pass)) = Mark::new(alloc) else {
+        return Err(RunError {
+            core,
+            fault: RunFault::NO_MEMORY,
+        });
+    };
+    let mark = CachePadded::new(mark);
+    let resources = plan.resources();
+    let blank = Blank::new(resources as u64 + 1);
+    run_as::<Brand, D, G, R>(
+        rt, alloc, blank, core, &mark, raises, pass, resources, rows, pace, gate,
+    )
+}
