@@ -29,6 +29,9 @@ pub fn numbers()
     // `CASE n OF 40000 : END_CASE`
     ensures too_great { broken (wide (case_of (reading 105 N) ((single 110 (pos 40000) ∷ []) ∷ []) ∷ []))
         ≡ breaks OutOfRange 110 ∷ [] }
+    // `CASE n OF 1..40000 : END_CASE`
+    ensures range_too_great { broken (wide (case_of (reading 105 N) ((between 110 (pos 1) 113 (pos 40000) ∷ []) ∷ []) ∷ []))
+        ≡ breaks OutOfRange 113 ∷ [] }
     // `CASE n OF SINT#1 : INT#2 : END_CASE`
     ensures typed { broken (wide (case_of (reading 105 N)
         ((Single (typed_digits 110 Sint (pos 1)) ∷ []) ∷ (Single (typed_digits 120 Int (pos 2)) ∷ []) ∷ []) ∷ []))

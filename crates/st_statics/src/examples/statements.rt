@@ -65,6 +65,14 @@ pub fn loops()
     // `WHILE 1 DO END_WHILE`, `REPEAT UNTIL b END_REPEAT`
     ensures literal_as_condition { broken (wide (WHILE (number 106 (pos 1)) no_stmts ∷ REPEAT no_stmts (reading 120 B) ∷ []))
         ≡ breaks WrongType 106 ∷ [] }
+    // `IF b THEN ELSE n := b; END_IF`
+    ensures else_of_a_condition { broken (wide (IF (arms_of ((reading 103 B, no_stmts) ∷ []))
+        (stmts_of (setting 115 N (reading 120 B) ∷ [])) ∷ [])) ≡ breaks WrongType 120 ∷ [] }
+    // `REPEAT UNTIL n END_REPEAT`
+    ensures number_ends { broken (wide (REPEAT no_stmts (reading 113 N) ∷ [])) ≡ breaks WrongType 113 ∷ [] }
+    // `REPEAT n := b; UNTIL b END_REPEAT`
+    ensures body_that_ends { broken (wide (REPEAT (stmts_of (setting 107 N (reading 112 B) ∷ [])) (reading 121 B) ∷ []))
+        ≡ breaks WrongType 112 ∷ [] }
     // `FOR n := 1 TO 2 BY 3 DO EXIT; END_FOR`
     ensures counting { broken
         (wide (FOR (at 104 N) (number 109 (pos 1)) (number 114 (pos 2)) (Some (number 119 (pos 3)))

@@ -43,3 +43,7 @@ returns-clause-bits_select c = refl
 pub returns-clause-unknown_selects : goal.returns-clause-unknown_selects
 unfolding standard_of standard_functions block_of has_chain leads_to
 returns-clause-unknown_selects c = refl
+
+pub returns-clause-range_too_great : goal.returns-clause-range_too_great
+unfolding standard_of standard_functions block_of has_chain leads_to
+returns-clause-range_too_great c = refl

@@ -55,3 +55,15 @@ returns-clause-control_is_input c = refl
 pub returns-clause-exits : goal.returns-clause-exits
 unfolding standard_of standard_functions block_of has_chain leads_to
 returns-clause-exits c = refl
+
+pub returns-clause-else_of_a_condition : goal.returns-clause-else_of_a_condition
+unfolding standard_of standard_functions block_of has_chain leads_to
+returns-clause-else_of_a_condition c = refl
+
+pub returns-clause-number_ends : goal.returns-clause-number_ends
+unfolding standard_of standard_functions block_of has_chain leads_to
+returns-clause-number_ends c = refl
+
+pub returns-clause-body_that_ends : goal.returns-clause-body_that_ends
+unfolding standard_of standard_functions block_of has_chain leads_to
+returns-clause-body_that_ends c = refl
