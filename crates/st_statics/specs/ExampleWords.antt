@@ -323,14 +323,39 @@ abbrev pub addressed : Name → Direction → AddressWidth → ℕ → VariableT
 addressed x d w n t =
     record { names = located (at 0 x) (record { direction = d; width = w; number = n }); declared = t; initial = None }
 
--- RESOURCE R ON CPU TASK T (..); PROGRAM I WITH T : P; END_RESOURCE
-abbrev pub one_program : Resource
-one_program = record {
+-- RESOURCE R ON CPU with tasks, and PROGRAM I of a unit, WITH a task or without one
+abbrev pub running : List Task → Name → Option Identifier → Resource
+running tasks p t = record {
   name = at 0 (codes "R");
   processor = at 0 (codes "CPU");
-  tasks = tasked 0 ∷ [];
-  instances = record { name = at 0 (codes "I"); task = Some (at 0 (codes "T")); program = at 0 P } ∷ [];
+  tasks = tasks;
+  instances = record { name = at 0 (codes "I"); task = t; program = at 0 p } ∷ [];
 }
+
+-- the name T
+abbrev pub with_t : Option Identifier
+with_t = Some (at 0 (codes "T"))
+
+-- RESOURCE R ON CPU TASK T (..); PROGRAM I WITH T : P; END_RESOURCE
+abbrev pub one_program : Resource
+one_program = running (tasked 0 ∷ []) P with_t
+
+-- TASK T (SINGLE := x, ..)
+abbrev pub single_on : Name → Task
+single_on x = record {
+  name = at 0 (codes "T");
+  single = Some (at 0 x);
+  interval = None;
+  priority = record { place = 0; number = 0 };
+}
+
+-- a unit P of this sort, and nothing else
+abbrev pub unit_of : UnitSort → Declared
+unit_of sort = record { types = []; units = record { sort = sort; name = at 8 P; blocks = []; body = [] } ∷ [] }
+
+-- a global with an initial value
+abbrev pub with_start : GlobalDeclaration → Initial → GlobalDeclaration
+with_start d i = record { names = d.names; declared = d.declared; initial = Some i }
 
 abbrev pub globals_of : Option GlobalQualifier → List GlobalDeclaration → Resource → Configuration
 globals_of q ds r = record {

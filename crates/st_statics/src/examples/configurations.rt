@@ -1,6 +1,6 @@
 //! Configurations of well-typed texts.
 
-ghost use Rattle.std.specs.Prelude.{◌≡◌, ◌∷◌, [], pos, codes, None, Some, true, false};
+ghost use Rattle.std.specs.Prelude.{◌≡◌, ◌∷◌, ◌++◌, [], pos, codes, None, Some, true, false};
 ghost use Rattle.st_words.specs.declared.kind.Kind.TheVariants.{Int, Dint, Word, Bool as Boolean};
 ghost use Rattle.st_trees.specs.declared.configuration.AddressWidth.TheVariants.{Bit, Word as WordWide};
 ghost use Rattle.st_trees.specs.declared.configuration.Direction.TheVariants.{Input, Output};
@@ -8,12 +8,14 @@ ghost use Rattle.st_trees.specs.declared.configuration.GlobalQualifier.TheVarian
 ghost use Rattle.st_trees.specs.declared.data_type.SimpleType.TheVariants.{Elementary};
 ghost use Rattle.st_trees.specs.declared.data_type.VariableType.TheVariants.{Array};
 ghost use Rattle.st_trees.specs.declared.declaration.Section.TheVariants.{External, ConstantExternal};
+ghost use Rattle.st_trees.specs.declared.unit.UnitSort.TheVariants.{FunctionBlock, Program};
 ghost use Rattle.st_trees.specs.Declarations.{structure, array};
 ghost use Rattle.st_statics.specs.ConfigurationRules.{same_type, are_known, has_sound_addresses, has_one_configuration};
 ghost use Rattle.st_statics.specs.ConfigurationRules.{has_too_many, have_tasks};
 ghost use Rattle.st_statics.specs.ExampleWords.{elementary, named, array_of, add, N, M, X};
 ghost use Rattle.st_statics.specs.ExampleWords.{texts_with_types, external_text, globals_of, global, addressed};
-ghost use Rattle.st_statics.specs.ExampleWords.{one_program};
+ghost use Rattle.st_statics.specs.ExampleWords.{one_program, running, single_on, unit_of, with_start, with_t};
+ghost use Rattle.st_statics.specs.ExampleWords.{at, configured, start_of, tasked, P};
 ghost use Rattle.st_statics.specs.ExampleWords as words;
 
 /// When two types are one, with `TYPE x : ARRAY [1..2] OF INT; n : STRUCT m : INT; END_STRUCT; m : STRUCT m : INT;
@@ -21,6 +23,8 @@ ghost use Rattle.st_statics.specs.ExampleWords as words;
 pub fn types()
     ensures array_and_its_name { same_type texts_with_types (named 0 X) (Array (array_of 0 (pos 1) (pos 2) (Elementary Int 0))) ≡ true }
     ensures other_bounds { same_type texts_with_types (named 0 X) (Array (array_of 0 (pos 1) (pos 3) (Elementary Int 0))) ≡ false }
+    ensures other_lower_bound { same_type texts_with_types (named 0 X) (Array (array_of 0 (pos 0) (pos 2) (Elementary Int 0)))
+        ≡ false }
     ensures other_elements { same_type texts_with_types (named 0 X) (Array (array_of 0 (pos 1) (pos 2) (Elementary Dint 0))) ≡ false }
     ensures alike_structures { same_type texts_with_types (named 0 N) (named 0 M) ≡ false }
     ensures one_structure { same_type texts_with_types (named 0 N) (named 9 N) ≡ true }
@@ -48,6 +52,21 @@ pub fn externals()
         (globals_of None (addressed N Input WordWide 0 (elementary Int) ∷ []) one_program) ≡ true }
 {}
 
+/// Tasks, programs and SINGLEs of resources, where the text has the unit P.
+pub fn resources()
+    ensures program { are_known (unit_of Program) (globals_of None [] one_program) ≡ true }
+    ensures function_block { are_known (unit_of FunctionBlock) (globals_of None [] one_program) ≡ false }
+    ensures no_unit { are_known (unit_of Program) (globals_of None [] (running (tasked 0 ∷ []) M with_t)) ≡ false }
+    ensures no_task { are_known (unit_of Program)
+        (globals_of None [] (running (tasked 0 ∷ []) P (Some (at 0 M)))) ≡ false }
+    ensures single { are_known (unit_of Program)
+        (globals_of None (global X (elementary Boolean) ∷ []) (running (single_on X ∷ []) P with_t)) ≡ true }
+    ensures single_of_no_global { are_known (unit_of Program)
+        (globals_of None [] (running (single_on X ∷ []) P with_t)) ≡ false }
+    ensures single_of_a_number { are_known (unit_of Program)
+        (globals_of None (global X (elementary Int) ∷ []) (running (single_on X ∷ []) P with_t)) ≡ false }
+{}
+
 /// Addresses.
 pub fn addresses()
     ensures sound { has_sound_addresses (external_text External)
@@ -58,6 +77,18 @@ pub fn addresses()
         (globals_of None (addressed N Input Bit 5 (elementary Boolean) ∷ addressed M Input Bit 5 (elementary Boolean)
         ∷ [])
         one_program) ≡ false }
+    // %IX5 and %IW5 are two
+    ensures one_number_of_two_widths { has_sound_addresses (external_text External)
+        (globals_of None (addressed N Input Bit 5 (elementary Boolean) ∷ addressed M Input WordWide 5 (elementary Word)
+        ∷ [])
+        one_program) ≡ true }
+    // An output may have an initial value, an input has none.
+    ensures output_that_starts { has_sound_addresses (external_text External)
+        (globals_of None (with_start (addressed N Output WordWide 5 (elementary Int)) (start_of 30 (pos 1)) ∷ []) one_program)
+        ≡ true }
+    ensures input_that_starts { has_sound_addresses (external_text External)
+        (globals_of None (with_start (addressed N Input WordWide 5 (elementary Int)) (start_of 30 (pos 1)) ∷ []) one_program)
+        ≡ false }
     ensures bit_out_of_range { has_sound_addresses (external_text External)
         (globals_of None (addressed N Input Bit 1024 (elementary Boolean) ∷ []) one_program) ≡ false }
     ensures word_out_of_range { has_sound_addresses (external_text External)
@@ -71,6 +102,9 @@ pub fn addresses()
 /// Numbers of configurations and programs.
 pub fn numbers()
     ensures none { has_one_configuration (add []) ≡ false }
+    ensures one { has_one_configuration (configured None [] (tasked 5)) ≡ true }
+    ensures two { has_one_configuration (configured None [] (tasked 5) ++ configured None [] (tasked 5)) ≡ false }
+    ensures without_task { have_tasks (globals_of None [] (running (tasked 0 ∷ []) P None)) ≡ false }
     ensures with_task { have_tasks (globals_of None [] one_program) ≡ true }
     ensures few { has_too_many (globals_of None [] one_program) ≡ false }
 {}

@@ -25,3 +25,15 @@ returns-clause-other_width c = refl
 pub returns-clause-with_constant : goal.returns-clause-with_constant
 unfolding same_within
 returns-clause-with_constant c = refl
+
+pub returns-clause-one_number_of_two_widths : goal.returns-clause-one_number_of_two_widths
+unfolding same_within
+returns-clause-one_number_of_two_widths c = refl
+
+pub returns-clause-output_that_starts : goal.returns-clause-output_that_starts
+unfolding same_within
+returns-clause-output_that_starts c = refl
+
+pub returns-clause-input_that_starts : goal.returns-clause-input_that_starts
+unfolding same_within
+returns-clause-input_that_starts c = refl

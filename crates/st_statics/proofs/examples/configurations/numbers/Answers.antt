@@ -13,3 +13,15 @@ returns-clause-with_task c = refl
 pub returns-clause-few : goal.returns-clause-few
 unfolding same_within
 returns-clause-few c = refl
+
+pub returns-clause-one : goal.returns-clause-one
+unfolding same_within
+returns-clause-one c = refl
+
+pub returns-clause-two : goal.returns-clause-two
+unfolding same_within
+returns-clause-two c = refl
+
+pub returns-clause-without_task : goal.returns-clause-without_task
+unfolding same_within
+returns-clause-without_task c = refl

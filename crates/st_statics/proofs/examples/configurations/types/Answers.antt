@@ -25,3 +25,7 @@ returns-clause-one_structure c = refl
 pub returns-clause-elementary_ones : goal.returns-clause-elementary_ones
 unfolding same_within
 returns-clause-elementary_ones c = refl
+
+pub returns-clause-other_lower_bound : goal.returns-clause-other_lower_bound
+unfolding same_within
+returns-clause-other_lower_bound c = refl

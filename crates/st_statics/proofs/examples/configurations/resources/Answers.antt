@@ -1,0 +1,31 @@
+use Rattle.std.proofs.Common.{refl}
+use Rattle.st_statics.specs.ConfigurationRules.{same_within}
+use Rattle.st_statics.proofs.examples.configurations.resources.Goals as goal
+
+pub returns-clause-program : goal.returns-clause-program
+unfolding same_within
+returns-clause-program c = refl
+
+pub returns-clause-function_block : goal.returns-clause-function_block
+unfolding same_within
+returns-clause-function_block c = refl
+
+pub returns-clause-no_unit : goal.returns-clause-no_unit
+unfolding same_within
+returns-clause-no_unit c = refl
+
+pub returns-clause-no_task : goal.returns-clause-no_task
+unfolding same_within
+returns-clause-no_task c = refl
+
+pub returns-clause-single : goal.returns-clause-single
+unfolding same_within
+returns-clause-single c = refl
+
+pub returns-clause-single_of_no_global : goal.returns-clause-single_of_no_global
+unfolding same_within
+returns-clause-single_of_no_global c = refl
+
+pub returns-clause-single_of_a_number : goal.returns-clause-single_of_a_number
+unfolding same_within
+returns-clause-single_of_a_number c = refl
