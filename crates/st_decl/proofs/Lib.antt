@@ -1,2 +1,5 @@
 pub mod StandardLemmas
 pub mod FindLemmas
+pub mod PushLemmas
+pub mod FlatLemmas
+pub mod NumberLemmas

@@ -1,2 +1,5 @@
 pub mod Backs
 pub mod Places
+pub mod DeclaringViews
+pub mod Flattened
+pub mod Parts

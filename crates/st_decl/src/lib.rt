@@ -1,11 +1,22 @@
 //! The rules on declarations: names that are declared twice.
 #![tactic(auto)]
 
+mod arrays;
+mod bounds;
+mod calls;
+mod declarings;
+mod elements;
 mod initial_scopes;
+mod links;
 mod names;
 mod names_of;
+mod parts;
+mod retained;
 mod scopes;
 mod standard;
+mod statements;
 mod twice_declared;
 
+pub use declarings::{Declaring, Role, declarings_in};
+pub use retained::retained_addresses;
 pub use twice_declared::declared_twice;

@@ -48,7 +48,7 @@ fn is_timer(name: &Name) -> bool
 
 /// Whether the name is one of a standard block.
 #[tactic(auto, using(crate::proofs::StandardLemmas::block_named))]
-fn is_block(name: &Name) -> bool
+pub fn is_block(name: &Name) -> bool
     ensures { result ≡ is_some (block_of name.now) }
 {
     is_bistable_or_edge(name) || is_counter(name) || is_timer(name)
