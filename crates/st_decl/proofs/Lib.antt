@@ -3,3 +3,4 @@ pub mod FindLemmas
 pub mod PushLemmas
 pub mod FlatLemmas
 pub mod NumberLemmas
+pub mod WalkLemmas

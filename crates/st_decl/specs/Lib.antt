@@ -3,3 +3,5 @@ pub mod Places
 pub mod DeclaringViews
 pub mod Flattened
 pub mod Parts
+pub mod Graphs
+pub mod Walks

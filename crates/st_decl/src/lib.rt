@@ -5,6 +5,7 @@ mod arrays;
 mod bounds;
 mod calls;
 mod declarings;
+mod depths;
 mod elements;
 mod initial_scopes;
 mod links;

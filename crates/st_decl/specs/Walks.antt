@@ -1,0 +1,118 @@
+-- What a walk over types and units knows.
+use Rattle.std.specs.Prelude.{◌≡◌, ℕ, zero, suc, ◌+◌, ◌≤◌, min, max, length, List, [], ◌∷◌, take, Bool, true, false}
+use Rattle.std.specs.Prelude.{Option, Some, None, slice_get, if◌then◌else◌}
+use Rattle.std.specs.List.{sum_by}
+use Rattle.st_statics.specs.declared.limits.TheConstants.{MAX_TYPE_DEPTH}
+use Rattle.st_decl.specs.declared.links.Target.{Target}
+use Rattle.st_decl.specs.declared.links.Target.TheVariants.{Plain, Standard, Node}
+use Rattle.st_decl.specs.declared.links.Link.{Link}
+use Rattle.st_decl.specs.declared.depths.Mark.{Mark}
+use Rattle.st_decl.specs.declared.depths.Mark.TheVariants.{Unseen, OnPath, Depth}
+use Rattle.st_decl.specs.declared.depths.Visit.{Visit}
+use Rattle.st_decl.specs.declared.depths.Seen.{Seen}
+use Rattle.st_decl.specs.declared.depths.Seen.TheVariants as seen
+use Rattle.st_decl.specs.Graphs.{Graph, links_at, Deepest, Among, Leads, IsCycle}
+
+-- a depth, cut off above the limit
+abbrev pub cut : ℕ → ℕ
+cut d = min d (MAX_TYPE_DEPTH + 1)
+
+abbrev pub deeper : ℕ → ℕ
+deeper d = cut (suc d)
+
+abbrev pub seen_of_mark : Option Mark → ℕ → Seen
+seen_of_mark None i = seen.Depth 1
+seen_of_mark (Some (Depth d)) i = seen.Depth d
+seen_of_mark (Some Unseen) i = seen.Open i
+seen_of_mark (Some (OnPath k)) i = seen.Open i
+
+abbrev pub seen_of_target : List Mark → Target → Seen
+seen_of_target marks Plain = seen.Depth 1
+seen_of_target marks Standard = seen.Depth 2
+seen_of_target marks (Node i) = seen_of_mark (slice_get marks i) i
+
+abbrev pub seen_in_row : Bool → Seen → Seen
+seen_in_row false s = s
+seen_in_row true (seen.Depth d) = seen.Depth (deeper d)
+seen_in_row true (seen.Open i) = seen.Open i
+
+abbrev pub seen_of : List Mark → Link → Seen
+seen_of marks l = seen_in_row l.is_row (seen_of_target marks l.target)
+
+-- the links have a depth, and this is it, cut off
+pub record IsCutDeepest (graph : Graph) (links : List Link) (c : ℕ) : Type 0 where
+  pub depth : ℕ
+  pub deepest : Deepest graph links depth
+  pub is_cut : c ≡ cut depth
+
+-- a marked depth is one more than that of the links
+pub record Tells (graph : Graph) (i c : ℕ) : Type 0 where
+  pub below : ℕ
+  pub deepest : IsCutDeepest graph (links_at graph i) below
+  pub is_above : c ≡ deeper below
+
+-- each marked depth is right
+pub record MarksTell (graph : Graph) (marks : List Mark) : Type 0 where
+  pub length : length marks ≡ length graph
+  pub tells : (i c : ℕ) → slice_get marks i ≡ Some (Depth c) → Tells graph i c
+
+-- the depth of the links that were looked at
+pub record HasLooked (graph : Graph) (links : List Link) (v : Visit) : Type 0 where
+  pub within : v.looked ≤ length links
+  pub deepest : IsCutDeepest graph (take v.looked links) v.deepest
+
+-- a link leads to what has no depth yet
+pub record IsOpen (marks : List Mark) (links : List Link) (i : ℕ) : Type 0 where
+  pub link : Link
+  pub among : Among link links
+  pub target : link.target ≡ Node i
+  pub unknown : seen_of_mark (slice_get marks i) i ≡ seen.Open i
+
+abbrev pub on_path : Mark → ℕ
+on_path Unseen = 0
+on_path (OnPath k) = 1
+on_path (Depth c) = 0
+
+-- how much there is still to be done
+abbrev pub left_of : Mark → ℕ
+left_of Unseen = 2
+left_of (OnPath k) = 1
+left_of (Depth c) = 0
+
+pub record StandsAt (path : List Visit) (k i : ℕ) : Type 0 where
+  pub visit : Visit
+  pub there : slice_get path k ≡ Some visit
+  pub node : visit.node ≡ i
+
+-- What stands on the path is marked so, each leads to the next, and what was looked at is right.
+pub record Walking (graph : Graph) (marks : List Mark) (path : List Visit) : Type 0 where
+  pub told : MarksTell graph marks
+  pub marked : (k : ℕ) (v : Visit) → slice_get path k ≡ Some v → slice_get marks v.node ≡ Some (OnPath k)
+  pub standing : (i k : ℕ) → slice_get marks i ≡ Some (OnPath k) → StandsAt path k i
+  pub looked : (k : ℕ) (v : Visit) → slice_get path k ≡ Some v → HasLooked graph (links_at graph v.node) v
+  pub leads : (k : ℕ) (v w : Visit) → slice_get path k ≡ Some v → slice_get path (suc k) ≡ Some w
+      → Leads graph v.node w.node
+  pub count : sum_by on_path marks ≡ length path
+
+-- depths that were marked stay
+abbrev pub Stay : List Mark → List Mark → Type 0
+Stay old new = (i c : ℕ) → slice_get old i ≡ Some (Depth c) → slice_get new i ≡ Some (Depth c)
+
+abbrev pub is_seen : Option Mark → Bool
+is_seen (Some Unseen) = false
+is_seen _ = true
+
+-- the depth of each is marked
+abbrev pub has_depth : Option Mark → Bool
+has_depth (Some (Depth c)) = true
+has_depth _ = false
+
+pub record Ended (graph : Graph) (old new : List Mark) (start : ℕ) : Type 0 where
+  pub walking : Walking graph new []
+  pub stay : Stay old new
+  pub known : has_depth (slice_get new start) ≡ true
+
+-- what a walk from one type or unit answers: one that is on a cycle, or none, and then its depth is marked
+abbrev pub Ends : Graph → List Mark → List Mark → ℕ → Option ℕ → Type 0
+Ends graph old new start (Some i) = IsCycle graph i
+Ends graph old new start None = Ended graph old new start
