@@ -4,3 +4,7 @@ pub mod PushLemmas
 pub mod FlatLemmas
 pub mod NumberLemmas
 pub mod WalkLemmas
+pub mod PathLemmas
+pub mod WalkSteps
+pub mod WalkTurns
+pub mod WalkAll

@@ -9,6 +9,8 @@ use Rattle.st_decl.specs.declared.links.Link.{Link}
 use Rattle.st_decl.specs.declared.depths.Mark.{Mark}
 use Rattle.st_decl.specs.declared.depths.Mark.TheVariants.{Unseen, OnPath, Depth}
 use Rattle.st_decl.specs.declared.depths.Visit.{Visit}
+use Rattle.st_decl.specs.declared.depths.Depths.{Depths}
+use Rattle.st_decl.specs.declared.depths.Depths.TheVariants.{Known, Cycle}
 use Rattle.st_decl.specs.declared.depths.Seen.{Seen}
 use Rattle.st_decl.specs.declared.depths.Seen.TheVariants as seen
 use Rattle.st_decl.specs.Graphs.{Graph, links_at, Deepest, Among, Leads, IsCycle}
@@ -99,8 +101,13 @@ abbrev pub Stay : List Mark → List Mark → Type 0
 Stay old new = (i c : ℕ) → slice_get old i ≡ Some (Depth c) → slice_get new i ≡ Some (Depth c)
 
 abbrev pub is_seen : Option Mark → Bool
-is_seen (Some Unseen) = false
-is_seen _ = true
+is_seen (Some (OnPath k)) = true
+is_seen (Some (Depth c)) = true
+is_seen _ = false
+
+abbrev pub is_on_path : Option Mark → Bool
+is_on_path (Some (OnPath k)) = true
+is_on_path _ = false
 
 -- the depth of each is marked
 abbrev pub has_depth : Option Mark → Bool
@@ -116,3 +123,32 @@ pub record Ended (graph : Graph) (old new : List Mark) (start : ℕ) : Type 0 wh
 abbrev pub Ends : Graph → List Mark → List Mark → ℕ → Option ℕ → Type 0
 Ends graph old new start (Some i) = IsCycle graph i
 Ends graph old new start None = Ended graph old new start
+
+-- what holds on the way there
+pub record Underway (graph : Graph) (old marks : List Mark) (path : List Visit) (start : ℕ) : Type 0 where
+  pub walking : Walking graph marks path
+  pub stay : Stay old marks
+  pub known : is_seen (slice_get marks start) ≡ true
+
+abbrev pub is_unseen : Option Mark → Bool
+is_unseen (Some Unseen) = true
+is_unseen _ = false
+
+-- the depth of each type and unit is marked
+pub record AllTold (graph : Graph) (marks : List Mark) : Type 0 where
+  pub told : MarksTell graph marks
+  pub all : (i : ℕ) → suc i ≤ length graph → has_depth (slice_get marks i) ≡ true
+
+-- what a walk over all answers
+abbrev pub AreTold : Graph → List Mark → Option ℕ → Type 0
+AreTold graph marks (Some i) = IsCycle graph i
+AreTold graph marks None = AllTold graph marks
+
+abbrev pub AreDepths : Graph → Depths → Type 0
+AreDepths graph (Known marks) = AllTold graph marks.items
+AreDepths graph (Cycle i) = IsCycle graph i
+
+-- so many of them have theirs
+pub record Walked (graph : Graph) (marks : List Mark) (count : ℕ) : Type 0 where
+  pub walking : Walking graph marks []
+  pub each : (i : ℕ) → suc i ≤ count → has_depth (slice_get marks i) ≡ true

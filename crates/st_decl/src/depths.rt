@@ -1,8 +1,10 @@
 //! How deep types and units are: a walk from part to part, without recursion.
 
-ghost use Rattle.std.specs.Prelude.{◌≡◌, ◌++◌, ◌∷◌, ◌≤◌, [], List, map, IfOk, IfSome, None, Some, slice_get, length};
+ghost use Rattle.std.specs.Prelude.{◌≡◌, ◌++◌, ◌∷◌, ◌≤◌, ◌<◌, [], map, IfOk, IfSome, Some, None, length, set, slice_get, replicate};
 ghost use Rattle.st_decl.specs.Graphs.{Graph, links_at};
-ghost use Rattle.st_decl.specs.Walks.{seen_of, seen_of_target, deeper, MarksTell, HasLooked, IsOpen};
+ghost use Rattle.st_decl.specs.declared.depths.Mark.TheVariants.{Unseen, OnPath, Depth};
+ghost use Rattle.st_decl.specs.Walks.{seen_of, seen_of_target, deeper, MarksTell, HasLooked, IsOpen, Walking, Ends};
+ghost use Rattle.st_decl.specs.Walks.{is_on_path, is_unseen, AreTold, AreDepths};
 
 use crate::links::{Link, Target};
 use st_statics::limits::MAX_TYPE_DEPTH;
@@ -87,7 +89,7 @@ fn look(visit: Visit, links: &[Link], marks: &[Mark]) -> (Visit, Option<usize>)
     ensures keeps { (graph : Graph) → MarksTell graph marks.now → HasLooked graph links.now visit
         → HasLooked graph links.now result.0 }
     ensures all { result.1 ≡ None → result.0.looked ≡ length links.now }
-    ensures open { IfSome result.1 (IsOpen marks.now links.now) }
+    ensures leads { IfSome result.1 (IsOpen marks.now links.now) }
 {
     let node = visit.node;
     let mut deepest = visit.deepest;
@@ -110,4 +112,122 @@ fn look(visit: Visit, links: &[Link], marks: &[Mark]) -> (Visit, Option<usize>)
         deepest,
     };
     (visit, None)
+}
+
+fn is_on_path(marks: &[Mark], node: usize) -> bool
+    ensures { result ≡ is_on_path (slice_get marks.now node) }
+{
+    matches!(marks.get(node), Some(Mark::OnPath(_)))
+}
+
+/// Puts a type or unit on the path.
+fn enter(marks: &mut [Mark], path: &mut Vec<Visit>, node: usize) -> Result<(), AllocError>
+    requires { node < length marks.old }
+    ensures marked { IfOk result (λ done. marks.new ≡ set marks.old node (OnPath (length path.old.items))) }
+    ensures stands { IfOk result
+        (λ done. path.new.items ≡ path.old.items ++ record { node = node; looked = 0; deepest = 0 } ∷ []) }
+{
+    marks[node] = Mark::OnPath(path.len());
+    path.push(Visit {
+        node,
+        looked: 0,
+        deepest: 0,
+    })?;
+    Ok(())
+}
+
+fn mark_depth(marks: &mut [Mark], node: usize, depth: usize)
+    requires { node < length marks.old }
+    ensures { marks.new ≡ set marks.old node (Depth depth) }
+{
+    marks[node] = Mark::Depth(depth);
+}
+
+/// Walks from a type or unit until its depth is known; answers one that contains itself, where it meets one.
+fn walk_from(
+    alloc: Global,
+    graph: &[Vec<Link>],
+    marks: &mut [Mark],
+    start: usize,
+) -> Result<Option<usize>, AllocError>
+    requires unseen { slice_get marks.old start ≡ Some Unseen }
+    requires walking { Walking (map (λ n. n.items) graph.now) marks.old [] }
+    ensures { IfOk result (Ends (map (λ n. n.items) graph.now) marks.old marks.new start) }
+{
+    let mut path = Vec::new(alloc);
+    enter(marks, &mut path, start)?;
+    while let Some(visit) = path.pop() {
+        let (visit, next) = look(visit, links_at(graph, visit.node), marks);
+        match next {
+            None => mark_depth(marks, visit.node, deeper(visit.deepest)),
+            Some(node) => {
+                if is_on_path(marks, node) {
+                    return Ok(Some(node));
+                }
+                path.push(visit)?;
+                enter(marks, &mut path, node)?;
+            }
+        }
+    }
+    Ok(None)
+}
+
+/// The depth of each type and unit, or one of them that contains itself.
+pub enum Depths {
+    /// The depths by their numbers, cut off above the limit.
+    Known(Vec<Mark>),
+    /// The number of one that contains itself.
+    Cycle(usize),
+}
+
+fn is_unseen(marks: &[Mark], node: usize) -> bool
+    ensures { result ≡ is_unseen (slice_get marks.now node) }
+{
+    matches!(marks.get(node), Some(Mark::Unseen))
+}
+
+/// Walks from a type or unit, if its depth is not known yet.
+fn walk_once(
+    alloc: Global,
+    graph: &[Vec<Link>],
+    marks: &mut [Mark],
+    start: usize,
+) -> Result<Option<usize>, AllocError>
+    requires there { start < length marks.old }
+    requires walking { Walking (map (λ n. n.items) graph.now) marks.old [] }
+    ensures { IfOk result (Ends (map (λ n. n.items) graph.now) marks.old marks.new start) }
+{
+    if is_unseen(marks, start) {
+        walk_from(alloc, graph, marks, start)
+    } else {
+        Ok(None)
+    }
+}
+
+/// Walks from each type and unit; answers one that contains itself, where it meets one.
+fn walk_all(
+    alloc: Global,
+    graph: &[Vec<Link>],
+    marks: &mut [Mark],
+) -> Result<Option<usize>, AllocError>
+    requires { marks.old ≡ replicate (length graph.now) Unseen }
+    ensures { IfOk result (AreTold (map (λ n. n.items) graph.now) marks.new) }
+{
+    for start in 0..graph.len() {
+        if let Some(node) = walk_once(alloc, graph, marks, start)? {
+            return Ok(Some(node));
+        }
+    }
+    Ok(None)
+}
+
+/// The depths of all types and units.
+pub fn depths_of(alloc: Global, graph: &[Vec<Link>]) -> Result<Depths, AllocError>
+    ensures { IfOk result (AreDepths (map (λ n. n.items) graph.now)) }
+{
+    let mut marks = vec![in alloc; Mark::Unseen; graph.len()]?;
+    match walk_all(alloc, graph, &mut marks)? {
+        Some(node) => Ok(Depths::Cycle(node)),
+        None => Ok(Depths::Known(marks)),
+    }
 }

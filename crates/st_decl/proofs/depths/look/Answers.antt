@@ -3,8 +3,8 @@ use Rattle.st_decl.specs.Walks.{IsCutDeepest}
 use Rattle.st_decl.proofs.WalkLemmas.{look_turn, look_open}
 use Rattle.st_decl.proofs.depths.look.Goals as goal
 
-pub returns-in-Open-clause-open : goal.returns-in-Open-clause-open
-returns-in-Open-clause-open c = look_open c.args.marks.now c.args.links.now c.loop-position.position _ c.in-Open.open
+pub returns-in-Open-clause-leads : goal.returns-in-Open-clause-leads
+returns-in-Open-clause-leads c = look_open c.args.marks.now c.args.links.now c.loop-position.position _ c.in-Open.open
     c.loop-position-test.true (sym c.seen_of.ensures ∙ c.in-Open.is)
 
 pub loop-position-preserved : goal.loop-position-preserved
