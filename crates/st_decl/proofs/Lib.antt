@@ -8,3 +8,5 @@ pub mod PathLemmas
 pub mod WalkSteps
 pub mod WalkTurns
 pub mod WalkAll
+pub mod NodeLemmas
+pub mod GraphDepths

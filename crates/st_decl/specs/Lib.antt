@@ -5,3 +5,4 @@ pub mod Flattened
 pub mod Parts
 pub mod Graphs
 pub mod Walks
+pub mod Numbered

@@ -1,6 +1,6 @@
 -- What a walk over types and units knows.
 use Rattle.std.specs.Prelude.{◌≡◌, ℕ, zero, suc, ◌+◌, ◌≤◌, min, max, length, List, [], ◌∷◌, take, Bool, true, false}
-use Rattle.std.specs.Prelude.{Option, Some, None, slice_get, if◌then◌else◌}
+use Rattle.std.specs.Prelude.{Option, Some, None, slice_get, nat_lt}
 use Rattle.std.specs.List.{sum_by}
 use Rattle.st_statics.specs.declared.limits.TheConstants.{MAX_TYPE_DEPTH}
 use Rattle.st_decl.specs.declared.links.Target.{Target}
@@ -152,3 +152,10 @@ AreDepths graph (Cycle i) = IsCycle graph i
 pub record Walked (graph : Graph) (marks : List Mark) (count : ℕ) : Type 0 where
   pub walking : Walking graph marks []
   pub each : (i : ℕ) → suc i ≤ count → has_depth (slice_get marks i) ≡ true
+
+abbrev pub is_deep_seen : Seen → Bool
+is_deep_seen (seen.Depth d) = nat_lt MAX_TYPE_DEPTH d
+is_deep_seen (seen.Open i) = false
+
+abbrev pub is_deep : List Mark → Link → Bool
+is_deep marks l = is_deep_seen (seen_of marks l)

@@ -73,7 +73,7 @@ fn seen_of_target(marks: &[Mark], target: Target) -> Seen
     }
 }
 
-fn seen_of(marks: &[Mark], link: Link) -> Seen
+pub fn seen_of(marks: &[Mark], link: Link) -> Seen
     ensures { result ≡ seen_of marks.now link }
 {
     match seen_of_target(marks, link.target) {

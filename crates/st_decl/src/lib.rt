@@ -16,6 +16,7 @@ mod retained;
 mod scopes;
 mod standard;
 mod statements;
+mod too_deep;
 mod twice_declared;
 
 pub use declarings::{Declaring, Role, declarings_in};
