@@ -49,13 +49,13 @@ none_plus : (n : ℕ) → 0 + n ≡ n
 none_plus n = omega arith
 
 -- what a name leads to
-target_standing : (text : Declared) (numbers : Name → Option ℕ) (graph : Graph) (x : Name)
+pub target_standing : (text : Declared) (numbers : Name → Option ℕ) (graph : Graph) (x : Name)
     → IsGraphOf text numbers graph → (s : Stands (node_names text) (node_parts text) 0 x (parts_named text x))
     → target_of_name numbers x ≡ Node s.place
 target_standing text numbers graph x g s =
     ap (λ o. target_found o x) (g.numbered x ∙ s.number) ∙ ap Node (none_plus s.place)
 
-target_absent : (text : Declared) (numbers : Name → Option ℕ) (graph : Graph) (x : Name)
+pub target_absent : (text : Declared) (numbers : Name → Option ℕ) (graph : Graph) (x : Name)
     → IsGraphOf text numbers graph → number_of_name text x ≡ None
     → target_of_name numbers x ≡ (if is_some (block_of x) then Standard else Plain)
 target_absent text numbers graph x g none = ap (λ o. target_found o x) (g.numbered x ∙ none)

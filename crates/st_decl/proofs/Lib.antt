@@ -10,3 +10,4 @@ pub mod WalkTurns
 pub mod WalkAll
 pub mod NodeLemmas
 pub mod GraphDepths
+pub mod GraphWays
