@@ -11,3 +11,5 @@ pub mod WalkAll
 pub mod NodeLemmas
 pub mod GraphDepths
 pub mod GraphWays
+pub mod DeepLemmas
+pub mod PlaceLemmas

@@ -1,11 +1,30 @@
 //! Types and units that contain themselves, or that are too deep.
 
-ghost use Rattle.std.specs.Prelude.{◌≡◌};
+ghost use Rattle.std.specs.Prelude.{◌≡◌, ◌++◌, map, IfOk, slice_get};
+ghost use Rattle.std.specs.List.{flat_map};
+ghost use Rattle.st_trees.specs.DeclarationViews.{type_declaration_view};
+ghost use Rattle.st_trees.specs.UnitViews.{unit_view};
+ghost use Rattle.st_trees.specs.SourceViews.{source_view};
+ghost use Rattle.st_types.specs.NameTypes.{Declared};
+ghost use Rattle.st_statics.specs.DeclaredTypes.{unnamed_arrays_in};
+ghost use Rattle.st_statics.specs.Faults.{in_case};
+ghost use Rattle.st_statics.specs.Containment as rules;
+ghost use Rattle.st_statics.specs.Containment.{is_too_deep, is_wrong_unit, too_deep_types, too_deep_units, too_deep_array, too_deep};
+ghost use Rattle.st_names.specs.Found.{found};
+ghost use Rattle.st_names.specs.Searches.{FindsPlace};
+ghost use Rattle.st_decl.specs.Places.{first};
 ghost use Rattle.st_decl.specs.Walks.{is_deep};
+ghost use Rattle.st_decl.specs.Numbered.{node_places, AreJudged};
 
-use crate::depths::{Mark, Seen, seen_of};
-use crate::links::Link;
+use crate::depths::{Depths, Mark, Seen, depths_of, seen_of};
+use crate::elements::{types_in, units_in};
+use crate::links::{Link, link_of, links_in, numbers_of};
+use crate::parts::Part;
+use st_names::{Index, TextNames};
 use st_statics::limits::MAX_TYPE_DEPTH;
+use st_trees::{ArrayType, Source, TypeDeclaration, Unit, UnitSort};
+use st_words::Name;
+use std::alloc::{AllocError, Global};
 
 /// Whether what a link leads to is over 64 deep.
 fn is_deep(marks: &[Mark], link: Link) -> bool
@@ -15,4 +34,140 @@ fn is_deep(marks: &[Mark], link: Link) -> bool
         Seen::Depth(depth) => depth > MAX_TYPE_DEPTH,
         Seen::Open(_) => false,
     }
+}
+
+fn is_deep_name(numbers: &Index<usize>, marks: &[Mark], name: &Name) -> bool
+    ensures { (text : Declared) → AreJudged text (found numbers.now) marks.now
+        → result ≡ is_too_deep text (rules.named name.now) }
+{
+    is_deep(marks, link_of(numbers, Part::Named(name)))
+}
+
+fn push_types(
+    places: &mut Vec<usize>,
+    numbers: &Index<usize>,
+    marks: &[Mark],
+    types: &[&TypeDeclaration],
+) -> Result<(), AllocError>
+    ensures { IfOk result (λ done. (text : Declared) → AreJudged text (found numbers.now) marks.now
+        → places.new.items ≡ places.old.items
+        ++ flat_map (λ t. in_case (is_too_deep text (rules.named t.name.name)) t.name.place)
+        (map (λ t. type_declaration_view t.now) types.now)) }
+{
+    for declaration in types {
+        if is_deep_name(numbers, marks, &declaration.name.name) {
+            places.push(declaration.name.place)?;
+        }
+    }
+    Ok(())
+}
+
+fn is_wrong_unit(numbers: &Index<usize>, marks: &[Mark], unit: &Unit) -> bool
+    ensures { (text : Declared) → AreJudged text (found numbers.now) marks.now
+        → result ≡ is_wrong_unit text unit.now.sort unit.now.name.name }
+{
+    match unit.sort {
+        UnitSort::Function(_) => is_deep_name(numbers, marks, &unit.name.name),
+        UnitSort::FunctionBlock => is_deep_name(numbers, marks, &unit.name.name),
+        UnitSort::Program => false,
+    }
+}
+
+fn push_units(
+    places: &mut Vec<usize>,
+    numbers: &Index<usize>,
+    marks: &[Mark],
+    units: &[&Unit],
+) -> Result<(), AllocError>
+    ensures { IfOk result (λ done. (text : Declared) → AreJudged text (found numbers.now) marks.now
+        → places.new.items ≡ places.old.items
+        ++ flat_map (λ u. in_case (is_wrong_unit text u.sort u.name.name) u.name.place)
+        (map (λ u. unit_view u.now) units.now)) }
+{
+    for unit in units {
+        if is_wrong_unit(numbers, marks, unit) {
+            places.push(unit.name.place)?;
+        }
+    }
+    Ok(())
+}
+
+fn push_arrays(
+    places: &mut Vec<usize>,
+    numbers: &Index<usize>,
+    marks: &[Mark],
+    arrays: &[&ArrayType],
+) -> Result<(), AllocError>
+    ensures { IfOk result (λ done. (text : Declared) → AreJudged text (found numbers.now) marks.now
+        → places.new.items ≡ places.old.items
+        ++ flat_map (too_deep_array text) (map (λ a. a.now) arrays.now)) }
+{
+    for array in arrays {
+        if is_deep(marks, link_of(numbers, Part::Row(&array.element))) {
+            places.push(array.place)?;
+        }
+    }
+    Ok(())
+}
+
+fn push_type_places(
+    places: &mut Vec<usize>,
+    types: &[&TypeDeclaration],
+) -> Result<(), AllocError>
+    ensures { IfOk result (λ done. places.new.items ≡ places.old.items
+        ++ map (λ t. t.name.place) (map (λ t. type_declaration_view t.now) types.now)) }
+{
+    for declaration in types {
+        places.push(declaration.name.place)?;
+    }
+    Ok(())
+}
+
+fn push_unit_places(places: &mut Vec<usize>, units: &[&Unit]) -> Result<(), AllocError>
+    ensures { IfOk result (λ done. places.new.items ≡ places.old.items
+        ++ map (λ u. u.name.place) (map (λ u. unit_view u.now) units.now)) }
+{
+    for unit in units {
+        places.push(unit.name.place)?;
+    }
+    Ok(())
+}
+
+/// Where the type or unit of a number is declared.
+fn place_of(
+    alloc: Global,
+    types: &[&TypeDeclaration],
+    units: &[&Unit],
+    node: usize,
+) -> Result<Option<usize>, AllocError>
+    ensures { IfOk result (λ place. (text : Declared)
+        → map (λ t. type_declaration_view t.now) types.now ≡ text.types
+        → map (λ u. unit_view u.now) units.now ≡ text.units → place ≡ slice_get (node_places text) node) }
+{
+    let mut places = Vec::new(alloc);
+    push_type_places(&mut places, types)?;
+    push_unit_places(&mut places, units)?;
+    Ok(places.get(node).copied())
+}
+
+/// Where something is too deep, though nothing contains itself.
+fn first_deep(
+    alloc: Global,
+    numbers: &Index<usize>,
+    marks: &[Mark],
+    types: &[&TypeDeclaration],
+    units: &[&Unit],
+    arrays: &[&ArrayType],
+) -> Result<Option<usize>, AllocError>
+    ensures { IfOk result (λ place. (text : Declared)
+        → map (λ t. type_declaration_view t.now) types.now ≡ text.types
+        → map (λ u. unit_view u.now) units.now ≡ text.units → AreJudged text (found numbers.now) marks.now
+        → place ≡ first (too_deep_types text ++ too_deep_units text
+        ++ flat_map (too_deep_array text) (map (λ a. a.now) arrays.now))) }
+{
+    let mut places = Vec::new(alloc);
+    push_types(&mut places, numbers, marks, types)?;
+    push_units(&mut places, numbers, marks, units)?;
+    push_arrays(&mut places, numbers, marks, arrays)?;
+    Ok(places.first().copied())
 }

@@ -1,0 +1,103 @@
+-- Where what contains itself is declared.
+use Rattle.std.proofs.Common.{◌≡◌, refl, sym, ap, subst, ◌∙◌, ℕ, zero, suc, ◌+◌, ◌*◌, List, [], ◌∷◌, ◌++◌, map, length}
+use Rattle.std.proofs.lemmas.List.{append_assoc}
+use Rattle.std.proofs.Common.{Option, Some, None, Bool, true, false, arith, rules}
+use Rattle.std.specs.Prelude.{slice_get, if◌then◌else◌}
+use Rattle.std.specs.List.{flat_map, Contains}
+use Rattle.std.proofs.lemmas.List.Elements.{Contains-append_left, Contains-append_right}
+use Rattle.st_trees.specs.declared.unit.UnitSort.{UnitSort}
+use Rattle.st_trees.specs.declared.unit.UnitSort.TheVariants.{Function, FunctionBlock, Program}
+use Rattle.st_trees.specs.Declarations.{TypeDeclaration}
+use Rattle.st_trees.specs.Units.{OrganisationUnit}
+use Rattle.st_types.specs.Scopes.{Name}
+use Rattle.st_types.specs.NameTypes.{Declared}
+use Rattle.st_statics.specs.Faults.{in_case}
+use Rattle.st_statics.specs.declared.limits.TheConstants.{MAX_TYPE_DEPTH}
+use Rattle.st_statics.specs.Containment as rules_of
+use Rattle.st_statics.specs.Containment.{is_too_deep, contains_itself, is_wrong_unit, too_deep_types, too_deep_units}
+use Rattle.st_statics.specs.Containment.{has_chain}
+use Rattle.st_statics.proofs.DepthLaws.{cycles_have_chains}
+use Rattle.st_decl.specs.Parts.{node_names}
+use Rattle.st_decl.specs.Numbered.{node_places}
+use Rattle.st_decl.proofs.GraphWays.{leads_holds, Cycles}
+
+name_is : {a b : Name} → Some a ≡ Some b → a ≡ b
+name_is h = search rules
+
+place_is : {a b : ℕ} → Some a ≡ Some b → a ≡ b
+place_is h = search rules
+
+only : (p : ℕ) → Contains (p ∷ []) p
+only p = (0, omega arith, refl)
+
+-- an element with a name is told at its place
+told_in : {A : Type 0} (f : A → List ℕ) (name : A → Name) (place : A → ℕ) (xs : List A) (i : ℕ) (x : Name) (p : ℕ)
+    → slice_get (map name xs) i ≡ Some x → slice_get (map place xs) i ≡ Some p
+    → ((a : A) → name a ≡ x → f a ≡ place a ∷ []) → Contains (flat_map f xs) p
+told_in f name place [] i x p h k tells = absurd (cc)
+told_in f name place (a ∷ as) zero x p h k tells =
+    Contains-append_left (f a) (flat_map f as) p (subst (λ ys. Contains ys p) (sym (tells a (name_is h)))
+    (subst (λ q. Contains (q ∷ []) p) (sym (place_is k)) (only p)))
+told_in f name place (a ∷ as) (suc i) x p h k tells =
+    Contains-append_right (f a) (flat_map f as) p (told_in f name place as i x p h k tells)
+
+told_in_both : {A B : Type 0} (f : A → List ℕ) (g : B → List ℕ) (name : A → Name) (other : B → Name) (place : A → ℕ)
+    (stands : B → ℕ) (xs : List A) (ys : List B) (i : ℕ) (x : Name) (p : ℕ)
+    → slice_get (map name xs ++ map other ys) i ≡ Some x → slice_get (map place xs ++ map stands ys) i ≡ Some p
+    → ((a : A) → name a ≡ x → f a ≡ place a ∷ []) → ((b : B) → other b ≡ x → g b ≡ stands b ∷ [])
+    → Contains (flat_map f xs ++ flat_map g ys) p
+told_in_both f g name other place stands [] ys i x p h k tells too = told_in g other stands ys i x p h k too
+told_in_both f g name other place stands (a ∷ as) ys zero x p h k tells too =
+    Contains-append_left (f a ++ flat_map f as) (flat_map g ys) p (Contains-append_left (f a) (flat_map f as) p
+    (subst (λ zs. Contains zs p) (sym (tells a (name_is h)))
+    (subst (λ q. Contains (q ∷ []) p) (sym (place_is k)) (only p))))
+told_in_both f g name other place stands (a ∷ as) ys (suc i) x p h k tells too =
+    subst (λ zs. Contains zs p) (sym (append_assoc (f a) (flat_map f as) (flat_map g ys)))
+    (Contains-append_right (f a) (flat_map f as ++ flat_map g ys) p
+    (told_in_both f g name other place stands as ys i x p h k tells too))
+
+deep_name : (text : Declared) (x : Name) → contains_itself text x ≡ true → is_too_deep text (rules_of.named x) ≡ true
+deep_name text x h = cycles_have_chains text (rules_of.named x) (MAX_TYPE_DEPTH + 1)
+    (leads_holds text (2 * (length text.types + length text.units)) x (rules_of.named x) h)
+
+told_case : (b : Bool) (p : ℕ) → b ≡ true → in_case b p ≡ p ∷ []
+told_case b p h = ap (λ c. in_case c p) h
+
+wrong_unit : (text : Declared) (sort : UnitSort) (x : Name) → contains_itself text x ≡ true
+    → is_wrong_unit text sort x ≡ true
+wrong_unit text (Function t) x h = deep_name text x h
+wrong_unit text FunctionBlock x h = deep_name text x h
+wrong_unit text Program x h = h
+
+-- what contains itself is told at its place
+pub cycle_place : (text : Declared) (i p : ℕ) → Cycles text i → slice_get (node_places text) i ≡ Some p
+    → Contains (too_deep_types text ++ too_deep_units text) p
+cycle_place text i p cycle at = told_in_both
+    (λ t. in_case (is_too_deep text (rules_of.named t.name.name)) t.name.place)
+    (λ u. in_case (is_wrong_unit text u.sort u.name.name) u.name.place) (λ t. t.name.name) (λ u. u.name.name)
+    (λ t. t.name.place) (λ u. u.name.place) text.types text.units i cycle.name p cycle.at at
+    (λ t e. told_case (is_too_deep text (rules_of.named t.name.name)) t.name.place
+    (ap (λ x. is_too_deep text (rules_of.named x)) e ∙ deep_name text cycle.name cycle.contains))
+    (λ u e. told_case (is_wrong_unit text u.sort u.name.name) u.name.place
+    (ap (is_wrong_unit text u.sort) e ∙ wrong_unit text u.sort cycle.name cycle.contains))
+
+lost : {A : Type 0} (x : A) → None ≡ Some x → ⊥
+lost x h = cc
+
+none_of : {A : Type 0} (name : A → Name) (place : A → ℕ) (xs : List A) (i : ℕ)
+    → slice_get (map place xs) i ≡ None → slice_get (map name xs) i ≡ None
+none_of name place [] i h = refl
+none_of name place (a ∷ as) zero h = absurd (cc)
+none_of name place (a ∷ as) (suc i) h = none_of name place as i h
+
+none_of_both : {A B : Type 0} (name : A → Name) (other : B → Name) (place : A → ℕ) (stands : B → ℕ) (xs : List A)
+    (ys : List B) (i : ℕ) → slice_get (map place xs ++ map stands ys) i ≡ None
+    → slice_get (map name xs ++ map other ys) i ≡ None
+none_of_both name other place stands [] ys i h = none_of other stands ys i h
+none_of_both name other place stands (a ∷ as) ys zero h = absurd (cc)
+none_of_both name other place stands (a ∷ as) ys (suc i) h = none_of_both name other place stands as ys i h
+
+-- and it has one
+pub cycle_has_place : (text : Declared) (i : ℕ) → Cycles text i → slice_get (node_places text) i ≡ None → ⊥
+cycle_has_place text i cycle none = lost cycle.name (sym (none_of_both (λ t. t.name.name) (λ u. u.name.name)
+    (λ t. t.name.place) (λ u. u.name.place) text.types text.units i none) ∙ cycle.at)
