@@ -15,6 +15,7 @@ ghost use Rattle.st_statics.specs.ConfigurationRules.{has_too_many, have_tasks};
 ghost use Rattle.st_statics.specs.ExampleWords.{elementary, named, array_of, add, N, M, X};
 ghost use Rattle.st_statics.specs.ExampleWords.{texts_with_types, external_text, globals_of, global, addressed};
 ghost use Rattle.st_statics.specs.ExampleWords.{one_program, running, single_on, unit_of, with_start, with_t};
+ghost use Rattle.st_statics.specs.ExampleTexts.{resourced, holding, copies};
 ghost use Rattle.st_statics.specs.ExampleWords.{at, configured, start_of, tasked, P};
 ghost use Rattle.st_statics.specs.ExampleWords as words;
 
@@ -107,4 +108,14 @@ pub fn numbers()
     ensures without_task { have_tasks (globals_of None [] (running (tasked 0 ∷ []) P None)) ≡ false }
     ensures with_task { have_tasks (globals_of None [] one_program) ≡ true }
     ensures few { has_too_many (globals_of None [] one_program) ≡ false }
+{}
+
+/// The most resources, tasks of a resource, and programs in all.
+pub fn limits()
+    ensures most_resources { has_too_many (resourced (copies 8 (holding 1 1))) ≡ false }
+    ensures resources { has_too_many (resourced (copies 9 (holding 1 1))) ≡ true }
+    ensures most_tasks { has_too_many (resourced (holding 32 1 ∷ holding 32 1 ∷ [])) ≡ false }
+    ensures tasks { has_too_many (resourced (holding 1 1 ∷ holding 33 1 ∷ [])) ≡ true }
+    ensures most_programs { has_too_many (resourced (holding 1 32 ∷ holding 1 32 ∷ [])) ≡ false }
+    ensures programs { has_too_many (resourced (holding 1 32 ∷ holding 1 33 ∷ [])) ≡ true }
 {}

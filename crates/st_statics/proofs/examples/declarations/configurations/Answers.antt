@@ -15,3 +15,7 @@ returns-clause-address c = refl
 pub returns-clause-priority : goal.returns-clause-priority
 unfolding standard_of standard_functions block_of has_chain leads_to
 returns-clause-priority c = refl
+
+pub returns-clause-retained : goal.returns-clause-retained
+unfolding standard_of standard_functions block_of has_chain leads_to
+returns-clause-retained c = refl
