@@ -1,7 +1,7 @@
 -- Texts for worked examples, each name and literal at its place.
 use Rattle.std.specs.Prelude.{ℕ, suc, zero, ℤ, pos, List, [], ◌∷◌, ◌+◌, Option, Some, None, codes}
 use Rattle.st_words.specs.declared.identifier.Identifier.{Identifier}
-use Rattle.st_words.specs.declared.kind.Kind.TheVariants.{Int, Uint, Bool as Boolean}
+use Rattle.st_words.specs.declared.kind.Kind.TheVariants.{Int, Dint, Uint, Bool as Boolean}
 use Rattle.st_words.specs.declared.operator.BinaryOperator.{BinaryOperator}
 use Rattle.st_words.specs.declared.operator.BinaryOperator.TheVariants.{Equal}
 use Rattle.st_trees.specs.declared.configuration.GlobalQualifier.{GlobalQualifier}
@@ -10,7 +10,7 @@ use Rattle.st_trees.specs.declared.configuration.Task.{Task}
 use Rattle.st_trees.specs.declared.data_type.SimpleType.TheVariants.{Elementary, Named}
 use Rattle.st_trees.specs.declared.data_type.VariableType.{VariableType}
 use Rattle.st_trees.specs.declared.declaration.Section.{Section}
-use Rattle.st_trees.specs.declared.declaration.Section.TheVariants.{Input, Output, Local}
+use Rattle.st_trees.specs.declared.declaration.Section.TheVariants.{Input, Output, Local, External}
 use Rattle.st_trees.specs.declared.statement.Label.{Label}
 use Rattle.st_trees.specs.declared.unit.UnitSort.TheVariants.{Function, FunctionBlock, Program}
 use Rattle.st_trees.specs.Expressions.{Expr, binary, Variable, variable, Selector, member, subscript, selectors_of}
@@ -22,8 +22,9 @@ use Rattle.st_trees.specs.Declarations as definitions
 use Rattle.st_trees.specs.Configurations.{GlobalDeclaration, listed, Resource, Configuration}
 use Rattle.st_trees.specs.Sources.{types, configuration, Source}
 use Rattle.st_types.specs.Scopes.{Name}
+use Rattle.st_types.specs.NameTypes.{Declared}
 use Rattle.st_statics.specs.ExampleWords.{at, number, reading, calling, elementary, named, array, array_of, declaring, starting}
-use Rattle.st_statics.specs.ExampleWords.{block, organised, defining, field_of, setting, start_of, local, N, M, B, F, X, P}
+use Rattle.st_statics.specs.ExampleWords.{block, organised, defining, field_of, setting, start_of, local, modes, alarms, N, M, B, F, X, P}
 
 abbrev pub A : Name
 A = codes "A"
@@ -186,3 +187,30 @@ three_inputs es =
     ∷ organised Program (at 60 P) (block (Local None)
     (declaring (at 70 N) (elementary Int) ∷ declaring (at 80 B) (elementary Boolean) ∷ []) ∷ [])
     (setting 100 N (calling 105 F es) ∷ []) ∷ []
+
+-- PROGRAM P VAR_EXTERNAL .. : INT; END_VAR
+abbrev pub externals_of : List Identifier → Declared
+externals_of names = record {
+  types = [];
+  units = record {
+    sort = Program;
+    name = at 8 P;
+    blocks = block External (record { names = names; declared = elementary Int; initial = None } ∷ []) ∷ [];
+    body = [];
+  } ∷ [];
+}
+
+-- TYPE x : ARRAY [1..2] OF t; f : ARRAY [1..2] OF m; t, m : ARRAY [1..3] OF INT; a : ARRAY [1..3] OF DINT; END_TYPE
+abbrev pub texts_with_arrays : Declared
+texts_with_arrays = record {
+  types = defining (at 0 X) (definitions.array (array_of 0 (pos 1) (pos 2) (Named (at 0 T))))
+      ∷ defining (at 0 F) (definitions.array (array_of 0 (pos 1) (pos 2) (Named (at 0 M))))
+      ∷ defining (at 0 T) (definitions.array (array_of 0 (pos 1) (pos 3) (Elementary Int 0)))
+      ∷ defining (at 0 M) (definitions.array (array_of 0 (pos 1) (pos 3) (Elementary Int 0)))
+      ∷ defining (at 0 A) (definitions.array (array_of 0 (pos 1) (pos 3) (Elementary Dint 0))) ∷ [];
+  units = [];
+}
+
+-- TYPE Mode, Alarm
+abbrev pub text_with_modes : Declared
+text_with_modes = record { types = modes ∷ alarms ∷ []; units = [] }
