@@ -19,7 +19,7 @@ use Rattle.st_trees.specs.Initials.{Initial, list, Element, elements_of, members
 use Rattle.st_trees.specs.Initials as initials
 use Rattle.st_trees.specs.Declarations.{TypeDeclaration, structure}
 use Rattle.st_trees.specs.Declarations as definitions
-use Rattle.st_trees.specs.Configurations.{GlobalDeclaration, listed, Resource, Configuration}
+use Rattle.st_trees.specs.Configurations.{GlobalDeclaration, GlobalBlock, listed, Resource, Configuration}
 use Rattle.st_trees.specs.Sources.{types, configuration, Source}
 use Rattle.st_types.specs.Scopes.{Name}
 use Rattle.st_types.specs.NameTypes.{Declared}
@@ -146,9 +146,12 @@ abbrev pub doubled : ℕ → Initial
 doubled place = initials.structure place
     (members_of ((at (place + 1) N, start_of (place + 6) (pos 1)) ∷ (at (place + 9) N, start_of (place + 14) (pos 2)) ∷ []))
 
--- a configuration of these resources alone, and a resource of so many tasks and so many programs
+-- a configuration of these resources alone, or of these blocks of globals; a resource of so many tasks and programs
 abbrev pub resourced : List Resource → Configuration
 resourced rs = record { name = at 14 (codes "C"); globals = []; resources = rs }
+
+abbrev pub globals_in : List GlobalBlock → Resource → Configuration
+globals_in blocks r = record { name = at 14 (codes "C"); globals = blocks; resources = r ∷ [] }
 
 abbrev pub holding : ℕ → ℕ → Resource
 holding tasks instances = resource_at 40 (codes "R") (copies tasks (task_at 60 T)) (copies instances (instance_at 90 N))

@@ -15,7 +15,7 @@ ghost use Rattle.st_statics.specs.ConfigurationRules.{has_too_many, have_tasks};
 ghost use Rattle.st_statics.specs.ExampleWords.{elementary, named, array_of, add, N, M, X};
 ghost use Rattle.st_statics.specs.ExampleWords.{texts_with_types, external_text, globals_of, global, addressed};
 ghost use Rattle.st_statics.specs.ExampleWords.{one_program, running, single_on, unit_of, with_start, with_t};
-ghost use Rattle.st_statics.specs.ExampleTexts.{resourced, holding, copies, resource_at, task_at, instance_at};
+ghost use Rattle.st_statics.specs.ExampleTexts.{resourced, globals_in, holding, copies, resource_at, task_at, instance_at};
 ghost use Rattle.st_statics.specs.ExampleTexts.{externals_of, texts_with_arrays, text_with_modes, A, T};
 ghost use Rattle.st_statics.specs.ExampleWords.{F, MODE, ALARM};
 ghost use Rattle.st_trees.specs.Configurations.{listed};
@@ -87,6 +87,10 @@ pub fn more_externals()
         ≡ true }
     ensures second_declaration { are_known (external_text External)
         (globals_of None (global M (elementary Int) ∷ global N (elementary Int) ∷ []) one_program) ≡ true }
+    // in the second block of globals
+    ensures second_block { are_known (external_text External)
+        (globals_in (record { qualifier = Some Constant; declarations = global M (elementary Int) ∷ [] }
+        ∷ record { qualifier = None; declarations = global N (elementary Int) ∷ [] } ∷ []) one_program) ≡ true }
     // VAR_EXTERNAL n, m : INT; END_VAR where m is no global
     ensures second_external { are_known (externals_of (at 20 N ∷ at 30 M ∷ []))
         (globals_of None (global N (elementary Int) ∷ []) one_program) ≡ false }
@@ -108,6 +112,9 @@ pub fn resources()
     // an input of the plant
     ensures single_of_an_input { are_known (unit_of Program)
         (globals_of None (addressed X Input Bit 0 (elementary Boolean) ∷ []) (running (single_on X ∷ []) P with_t)) ≡ true }
+    // of the second task, where the first has none
+    ensures second_single { are_known (unit_of Program)
+        (globals_of None (global X (elementary Int) ∷ []) (running (tasked 0 ∷ single_on X ∷ []) P with_t)) ≡ false }
     // a task of the other resource
     ensures task_of_another_resource { are_known (unit_of Program)
         (resourced (one_program ∷ resource_at 40 M (task_at 60 X ∷ []) (instance_at 90 N ∷ []) ∷ [])) ≡ false }
@@ -130,6 +137,11 @@ pub fn addresses()
         (globals_of None (addressed N Input Bit 5 (elementary Boolean) ∷ addressed M Input WordWide 5 (elementary Word)
         ∷ [])
         one_program) ≡ true }
+    // in two blocks of globals
+    ensures doubled_in_two_blocks { has_sound_addresses (external_text External)
+        (globals_in (record { qualifier = None; declarations = addressed N Output Bit 5 (elementary Boolean) ∷ [] }
+        ∷ record { qualifier = None; declarations = addressed M Output Bit 5 (elementary Boolean) ∷ [] } ∷ []) one_program)
+        ≡ false }
     // %IW5 and %QW5 are two
     ensures one_number_of_two_directions { has_sound_addresses (external_text External)
         (globals_of None (addressed N Input WordWide 5 (elementary Uint) ∷ addressed M Output WordWide 5 (elementary Word)

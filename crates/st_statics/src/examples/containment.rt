@@ -77,6 +77,10 @@ pub fn depths_of_units()
     // a standard block has the depth 2
     ensures deepest_over_timer { broken (chain_of_blocks (named 1000 (codes "TON")) 62) ≡ [] }
     ensures too_deep_over_timer { broken (chain_of_blocks (named 1000 (codes "TON")) 63) ≡ breaks TooDeep 63 ∷ [] }
+    // a program over the deepest block is bounded by no depth
+    ensures program_over_deepest { broken
+        (organised Program (at 2000 P) (block (Local None) (declaring (at 2010 N) (named 2014 (63 ∷ [])) ∷ []) ∷ []) []
+        ∷ chain_of_blocks (elementary Int) 63) ≡ [] }
     // a function's result is a part
     ensures deepest_function { broken (chain_of_functions 63) ≡ [] }
     ensures function_too_deep { broken (chain_of_functions 64) ≡ breaks TooDeep 64 ∷ [] }

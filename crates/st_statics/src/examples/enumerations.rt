@@ -15,7 +15,7 @@ ghost use Rattle.st_trees.specs.Declarations.{structure, array, enumeration};
 ghost use Rattle.st_trees.specs.Initials.{constant};
 ghost use Rattle.st_trees.specs.Sources.{types};
 ghost use Rattle.st_statics.specs.declared.rule.Rule.TheVariants.{UnknownName, DeclaredTwice, WrongType, WrongLabel};
-ghost use Rattle.st_statics.specs.declared.rule.Rule.TheVariants.{TooManyNames};
+ghost use Rattle.st_statics.specs.declared.rule.Rule.TheVariants.{TooManyNames, TooDeep};
 ghost use Rattle.st_statics.specs.Rules.{broken};
 ghost use Rattle.st_statics.specs.TypeRules.{surplus_name};
 ghost use Rattle.st_statics.specs.ExampleWords as words;
@@ -97,6 +97,11 @@ pub fn uses()
         ∷ setting 200 M (unary Negate 205 (reading 206 M)) ∷ []))
         ≡ breaks WrongType 145 ∷ breaks WrongType 165 ∷ breaks WrongType 169 ∷ breaks WrongType 185 ∷ breaks WrongType 205
         ∷ [] }
+    // FUNCTION F : Mode VAR_INPUT m : Mode; END_VAR F := F(m); .. F := F(1);: it calls itself besides
+    ensures given { broken (types (modes ∷ []) ∷ organised (Function (Named (at 63 MODE))) (at 60 F)
+        (block (Input None) (declaring (at 70 M) (named 74 MODE) ∷ []) ∷ []) (setting 90 F (calling 95 F (reading 97 M ∷ []))
+        ∷ setting 110 F (calling 115 F (number 117 (pos 1) ∷ [])) ∷ []) ∷ [])
+        ≡ breaks TooDeep 60 ∷ breaks WrongType 117 ∷ [] }
     // IF m THEN END_IF; FOR m := Stopped TO Running DO END_FOR;
     ensures conditions { broken (step (IF (arms_of ((reading 145 M, no_stmts) ∷ [])) no_stmts
         ∷ FOR (at 164 M) (reading 169 STOPPED) (reading 180 RUNNING) None no_stmts ∷ []))

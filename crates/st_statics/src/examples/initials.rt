@@ -2,7 +2,7 @@
 
 ghost use Rattle.std.specs.Prelude.{◌≡◌, ◌∷◌, [], pos, negsuc, true, codes, None, Some};
 ghost use Rattle.st_words.specs.declared.kind.Kind.TheVariants.{Int, Sint, Bool as Boolean};
-ghost use Rattle.st_words.specs.declared.literal.Literal.TheVariants.{Truth, Number};
+ghost use Rattle.st_words.specs.declared.literal.Literal.TheVariants.{Truth, Number, Enumerated};
 ghost use Rattle.st_trees.specs.Initials.{constant, list, structure, single, repeated, defaults, elements_of};
 ghost use Rattle.st_trees.specs.Initials.{members_of};
 ghost use Rattle.st_statics.specs.declared.rule.Rule.TheVariants.{UnknownName, DeclaredTwice, WrongType, OutOfRange};
@@ -30,6 +30,16 @@ pub fn values()
     // n : foo := TRUE: the type alone is told
     ensures of_unknown_type { broken (local (starting (at 14 N) (named 18 (codes "FOO")) (constant (Truth 25 true)) ∷ []))
         ≡ breaks UnknownName 18 ∷ [] }
+    // n : foo := [1], n : foo := (m := 1), n : foo := m: a name stands for a value, whatever it is for
+    ensures list_for_unknown { broken
+        (local (starting (at 14 N) (named 18 (codes "FOO")) (list 25 (elements_of (single (start_of 26 (pos 1)) ∷ []))) ∷ []))
+        ≡ breaks UnknownName 18 ∷ [] }
+    ensures structure_for_unknown { broken
+        (local (starting (at 14 N) (named 18 (codes "FOO")) (structure 25 (members_of ((at 26 M, start_of 31 (pos 1)) ∷ []))) ∷ []))
+        ≡ breaks UnknownName 18 ∷ [] }
+    ensures name_for_unknown { broken
+        (local (starting (at 14 N) (named 18 (codes "FOO")) (constant (Enumerated (words.bare 25 M))) ∷ []))
+        ≡ breaks UnknownName 18 ∷ breaks UnknownName 25 ∷ [] }
     // n : ARRAY [1..2] OF INT := [1, 2]
     ensures all_elements { broken (local (starting (at 14 N) (words.array 18 (pos 1) (pos 2))
         (list 40 (elements_of (single (start_of 41 (pos 1)) ∷ single (start_of 44 (pos 2)) ∷ []))) ∷ [])) ≡ [] }

@@ -22,6 +22,10 @@ pub fn numbers()
     // `CASE n OF 2, 2 : END_CASE`
     ensures twice { broken (wide (case_of (reading 105 N) ((single 110 (pos 2) ∷ single 113 (pos 2) ∷ []) ∷ []) ∷ []))
         ≡ breaks WrongLabel 113 ∷ breaks WrongLabel 110 ∷ [] }
+    // `CASE n OF 2, 3, 2 : END_CASE`
+    ensures first_and_last { broken (wide (case_of (reading 105 N)
+        ((single 110 (pos 2) ∷ single 113 (pos 3) ∷ single 116 (pos 2) ∷ []) ∷ []) ∷ []))
+        ≡ breaks WrongLabel 116 ∷ breaks WrongLabel 110 ∷ [] }
     // `CASE n OF 9..8 : 9 : END_CASE`: reversed, which overlaps with nothing
     ensures reversed { broken (wide (case_of (reading 105 N)
         ((between 110 (pos 9) 113 (pos 8) ∷ []) ∷ (single 117 (pos 9) ∷ []) ∷ []) ∷ []))

@@ -70,10 +70,11 @@ pub fn sorts()
         ∷ setting 120 N (binary Multiply (reading 125 N) (reading 129 M))
         ∷ setting 140 B (binary Equal (reading 145 M) (reading 149 N)) ∷ setting 160 N (unary Negate 165 (reading 166 M)) ∷ []))
         ≡ breaks UnknownName 105 ∷ breaks UnknownName 129 ∷ breaks UnknownName 145 ∷ breaks UnknownName 166 ∷ [] }
-    // b := a = a; b := n < a; a whole array has no value
+    // b := a = a; b := n < a; n := a + n; a whole array has no value
     ensures of_arrays { broken (wide (setting 100 B (binary Equal (reading 105 A) (reading 109 A))
-        ∷ setting 120 B (binary Less (reading 125 N) (reading 129 A)) ∷ []))
-        ≡ breaks WrongType 105 ∷ breaks WrongType 125 ∷ [] }
+        ∷ setting 120 B (binary Less (reading 125 N) (reading 129 A))
+        ∷ setting 140 N (binary Add (reading 145 A) (reading 149 N)) ∷ []))
+        ≡ breaks WrongType 105 ∷ breaks WrongType 125 ∷ breaks WrongType 145 ∷ [] }
     // b := (n) + n; b := -n; b := ABS(n): a wrong value is told at its first byte
     ensures first_byte { broken (wide (setting 100 B (binary Add (parenthesis 105 (reading 106 N)) (reading 111 N))
         ∷ setting 120 B (unary Negate 125 (reading 126 N)) ∷ setting 130 B (calling 135 (codes "ABS") (reading 139 N ∷ []))

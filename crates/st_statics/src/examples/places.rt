@@ -56,6 +56,10 @@ pub fn parts()
     ensures unknown { broken (wide (setting 100 N (read (element 105 A (reading 107 M)))
         ∷ setting 110 N (read (element 115 M (number 117 (pos 1)))) ∷ setting 120 N (read (part 125 M 127 N)) ∷ []))
         ≡ breaks UnknownName 107 ∷ breaks UnknownName 115 ∷ breaks UnknownName 125 ∷ [] }
+    // n := a[a[b]]; a[a[b]] := 1;
+    ensures subscript_inside { broken (wide (setting 100 N (read (element 105 A (read (element 107 A (reading 109 B)))))
+        ∷ assign (element 120 A (read (element 122 A (reading 124 B)))) (number 131 (pos 1)) ∷ []))
+        ≡ breaks WrongType 109 ∷ breaks WrongType 124 ∷ [] }
     // n := f: an instance has no value
     ensures instance { broken (wide (setting 100 N (reading 105 F) ∷ [])) ≡ breaks WrongType 105 ∷ [] }
     // n := foo(40000, m): what an unknown function is given is judged within LINT

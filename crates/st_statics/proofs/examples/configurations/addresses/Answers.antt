@@ -61,3 +61,7 @@ returns-clause-enumerated c = refl
 pub returns-clause-without_address : goal.returns-clause-without_address
 unfolding same_within
 returns-clause-without_address c = refl
+
+pub returns-clause-doubled_in_two_blocks : goal.returns-clause-doubled_in_two_blocks
+unfolding same_within
+returns-clause-doubled_in_two_blocks c = refl

@@ -37,3 +37,7 @@ returns-clause-second_external c = refl
 pub returns-clause-both_externals : goal.returns-clause-both_externals
 unfolding same_within
 returns-clause-both_externals c = refl
+
+pub returns-clause-second_block : goal.returns-clause-second_block
+unfolding same_within
+returns-clause-second_block c = refl

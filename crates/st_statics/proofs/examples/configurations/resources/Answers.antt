@@ -37,3 +37,7 @@ returns-clause-single_of_an_input c = refl
 pub returns-clause-task_of_another_resource : goal.returns-clause-task_of_another_resource
 unfolding same_within
 returns-clause-task_of_another_resource c = refl
+
+pub returns-clause-second_single : goal.returns-clause-second_single
+unfolding same_within
+returns-clause-second_single c = refl

@@ -27,3 +27,7 @@ returns-clause-deepest_function c = refl
 pub returns-clause-function_too_deep : goal.returns-clause-function_too_deep
 unfolding standard_of standard_functions block_of has_chain leads_to
 returns-clause-function_too_deep c = refl
+
+pub returns-clause-program_over_deepest : goal.returns-clause-program_over_deepest
+unfolding standard_of standard_functions block_of has_chain leads_to
+returns-clause-program_over_deepest c = refl

@@ -27,3 +27,7 @@ returns-clause-names c = refl
 pub returns-clause-selected : goal.returns-clause-selected
 unfolding standard_of standard_functions block_of has_chain leads_to
 returns-clause-selected c = refl
+
+pub returns-clause-given : goal.returns-clause-given
+unfolding standard_of standard_functions block_of has_chain leads_to
+returns-clause-given c = refl

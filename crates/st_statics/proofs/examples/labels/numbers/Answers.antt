@@ -67,3 +67,7 @@ returns-clause-around c = refl
 pub returns-clause-descending : goal.returns-clause-descending
 unfolding standard_of standard_functions block_of has_chain leads_to
 returns-clause-descending c = refl
+
+pub returns-clause-first_and_last : goal.returns-clause-first_and_last
+unfolding standard_of standard_functions block_of has_chain leads_to
+returns-clause-first_and_last c = refl

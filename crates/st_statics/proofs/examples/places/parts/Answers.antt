@@ -19,3 +19,7 @@ returns-clause-instance c = refl
 pub returns-clause-unknown_function : goal.returns-clause-unknown_function
 unfolding standard_of standard_functions block_of has_chain leads_to
 returns-clause-unknown_function c = refl
+
+pub returns-clause-subscript_inside : goal.returns-clause-subscript_inside
+unfolding standard_of standard_functions block_of has_chain leads_to
+returns-clause-subscript_inside c = refl
