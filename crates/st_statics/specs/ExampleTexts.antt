@@ -1,5 +1,5 @@
 -- Texts for worked examples, each name and literal at its place.
-use Rattle.std.specs.Prelude.{ℕ, suc, zero, ℤ, pos, List, [], ◌∷◌, ◌+◌, Option, Some, None, codes}
+use Rattle.std.specs.Prelude.{ℕ, suc, zero, pos, List, [], ◌∷◌, ◌+◌, Option, Some, None, codes}
 use Rattle.st_words.specs.declared.identifier.Identifier.{Identifier}
 use Rattle.st_words.specs.declared.kind.Kind.TheVariants.{Int, Dint, Uint, Bool as Boolean}
 use Rattle.st_words.specs.declared.operator.BinaryOperator.{BinaryOperator}
@@ -144,7 +144,8 @@ copies (suc n) a = a ∷ copies n a
 -- (n := 1, n := 2), where the second n stands 9 bytes behind the parenthesis
 abbrev pub doubled : ℕ → Initial
 doubled place = initials.structure place
-    (members_of ((at (place + 1) N, start_of (place + 6) (pos 1)) ∷ (at (place + 9) N, start_of (place + 14) (pos 2)) ∷ []))
+    (members_of ((at (place + 1) N, start_of (place + 6) (pos 1))
+    ∷ (at (place + 9) N, start_of (place + 14) (pos 2)) ∷ []))
 
 -- a configuration of these resources alone, or of these blocks of globals; a resource of so many tasks and programs
 abbrev pub resourced : List Resource → Configuration

@@ -57,7 +57,8 @@ pub fn bodies()
         (function_f (case_with (reading 105 N) (single 110 (pos 1) ∷ []) [] (setting_f 120 ∷ []) ∷ []))
         ≡ breaks TooDeep 9 ∷ [] }
     // REPEAT FOR n := 1 TO 2 DO WHILE b DO a[1] := F(); END_WHILE; END_FOR; UNTIL b END_REPEAT
-    ensures in_loops { broken (function_f (REPEAT (stmts_of (FOR (at 111 N) (number 116 (pos 1)) (number 121 (pos 2)) None
+    ensures in_loops { broken (function_f (REPEAT (stmts_of (FOR (at 111 N) (number 116 (pos 1)) (number 121
+        (pos 2)) None
         (stmts_of (WHILE (reading 132 B) (stmts_of (assign (element 137 A (number 139 (pos 1))) (calling_f 145) ∷ []))
         ∷ [])) ∷ [])) (reading 180 B) ∷ [])) ≡ breaks TooDeep 9 ∷ [] }
 {}

@@ -25,16 +25,21 @@ ghost use Rattle.st_statics.specs.ExampleWords as words;
 /// When two types are one, with `TYPE x : ARRAY [1..2] OF INT; n : STRUCT m : INT; END_STRUCT; m : STRUCT m : INT;
 /// END_STRUCT; END_TYPE`.
 pub fn types()
-    ensures array_and_its_name { same_type texts_with_types (named 0 X) (Array (array_of 0 (pos 1) (pos 2) (Elementary Int 0))) ≡ true }
-    ensures other_bounds { same_type texts_with_types (named 0 X) (Array (array_of 0 (pos 1) (pos 3) (Elementary Int 0))) ≡ false }
-    ensures other_lower_bound { same_type texts_with_types (named 0 X) (Array (array_of 0 (pos 0) (pos 2) (Elementary Int 0)))
+    ensures array_and_its_name { same_type texts_with_types (named 0 X) (Array (array_of 0 (pos 1) (pos 2)
+        (Elementary Int 0))) ≡ true }
+    ensures other_bounds { same_type texts_with_types (named 0 X) (Array (array_of 0 (pos 1) (pos 3)
+        (Elementary Int 0))) ≡ false }
+    ensures other_lower_bound { same_type texts_with_types (named 0 X) (Array (array_of 0 (pos 0) (pos 2)
+        (Elementary Int 0)))
         ≡ false }
-    ensures other_elements { same_type texts_with_types (named 0 X) (Array (array_of 0 (pos 1) (pos 2) (Elementary Dint 0))) ≡ false }
+    ensures other_elements { same_type texts_with_types (named 0 X) (Array (array_of 0 (pos 1) (pos 2)
+        (Elementary Dint 0))) ≡ false }
     ensures alike_structures { same_type texts_with_types (named 0 N) (named 0 M) ≡ false }
     ensures one_structure { same_type texts_with_types (named 0 N) (named 9 N) ≡ true }
     // TYPE x : ARRAY [1..2] OF t; f : ARRAY [1..2] OF m; t, m : ARRAY [1..3] OF INT; a : ARRAY [1..3] OF DINT; END_TYPE
     ensures arrays_of_arrays { same_type texts_with_arrays (named 0 X) (named 0 F) ≡ true }
-    ensures arrays_of_other_arrays { same_type texts_with_arrays (named 0 X) (Array (array_of 0 (pos 1) (pos 2) (Named (at 0 A))))
+    ensures arrays_of_other_arrays { same_type texts_with_arrays (named 0 X) (Array (array_of 0 (pos 1) (pos 2)
+        (Named (at 0 A))))
         ≡ false }
     ensures two_names { same_type texts_with_arrays (named 0 T) (named 0 M) ≡ true }
     ensures array_and_element { same_type texts_with_arrays (named 0 T) (elementary Int) ≡ false }
@@ -83,7 +88,12 @@ pub fn more_externals()
         (globals_of (Some Retain) (global N (elementary Int) ∷ []) one_program) ≡ true }
     // VAR_GLOBAL m, n : INT; and VAR_GLOBAL m : INT; n : INT;
     ensures second_name { are_known (external_text External)
-        (globals_of None (record { names = listed (at 0 M ∷ at 0 N ∷ []); declared = elementary Int; initial = None } ∷ []) one_program)
+        (globals_of None (record {
+          names = listed (at 0 M ∷ at 0 N
+              ∷ []);
+          declared = elementary Int;
+          initial = None;
+        } ∷ []) one_program)
         ≡ true }
     ensures second_declaration { are_known (external_text External)
         (globals_of None (global M (elementary Int) ∷ global N (elementary Int) ∷ []) one_program) ≡ true }
@@ -111,7 +121,8 @@ pub fn resources()
         (globals_of None [] (running (single_on X ∷ []) P with_t)) ≡ false }
     // an input of the plant
     ensures single_of_an_input { are_known (unit_of Program)
-        (globals_of None (addressed X Input Bit 0 (elementary Boolean) ∷ []) (running (single_on X ∷ []) P with_t)) ≡ true }
+        (globals_of None (addressed X Input Bit 0 (elementary Boolean) ∷ []) (running (single_on X ∷ []) P with_t))
+        ≡ true }
     // of the second task, where the first has none
     ensures second_single { are_known (unit_of Program)
         (globals_of None (global X (elementary Int) ∷ []) (running (tasked 0 ∷ single_on X ∷ []) P with_t)) ≡ false }
@@ -140,11 +151,13 @@ pub fn addresses()
     // in two blocks of globals
     ensures doubled_in_two_blocks { has_sound_addresses (external_text External)
         (globals_in (record { qualifier = None; declarations = addressed N Output Bit 5 (elementary Boolean) ∷ [] }
-        ∷ record { qualifier = None; declarations = addressed M Output Bit 5 (elementary Boolean) ∷ [] } ∷ []) one_program)
+        ∷ record { qualifier = None; declarations = addressed M Output Bit 5 (elementary Boolean) ∷ [] }
+        ∷ []) one_program)
         ≡ false }
     // %IW5 and %QW5 are two
     ensures one_number_of_two_directions { has_sound_addresses (external_text External)
-        (globals_of None (addressed N Input WordWide 5 (elementary Uint) ∷ addressed M Output WordWide 5 (elementary Word)
+        (globals_of None (addressed N Input WordWide 5 (elementary Uint)
+        ∷ addressed M Output WordWide 5 (elementary Word)
         ∷ []) one_program) ≡ true }
     // the first and the last of three
     ensures doubled_later { has_sound_addresses (external_text External)
@@ -159,13 +172,16 @@ pub fn addresses()
         (globals_of None (addressed N Output WordWide 0 (named 0 MODE) ∷ []) one_program) ≡ false }
     // CONSTANT with an initial value, and no address
     ensures without_address { has_sound_addresses (external_text External)
-        (globals_of (Some Constant) (with_start (global N (elementary Int)) (start_of 30 (pos 1)) ∷ []) one_program) ≡ true }
+        (globals_of (Some Constant) (with_start (global N (elementary Int)) (start_of 30 (pos 1)) ∷ []) one_program)
+        ≡ true }
     // An output may have an initial value, an input has none.
     ensures output_that_starts { has_sound_addresses (external_text External)
-        (globals_of None (with_start (addressed N Output WordWide 5 (elementary Int)) (start_of 30 (pos 1)) ∷ []) one_program)
+        (globals_of None (with_start (addressed N Output WordWide 5 (elementary Int)) (start_of 30 (pos 1))
+        ∷ []) one_program)
         ≡ true }
     ensures input_that_starts { has_sound_addresses (external_text External)
-        (globals_of None (with_start (addressed N Input WordWide 5 (elementary Int)) (start_of 30 (pos 1)) ∷ []) one_program)
+        (globals_of None (with_start (addressed N Input WordWide 5 (elementary Int)) (start_of 30 (pos 1))
+        ∷ []) one_program)
         ≡ false }
     ensures bit_out_of_range { has_sound_addresses (external_text External)
         (globals_of None (addressed N Input Bit 1024 (elementary Boolean) ∷ []) one_program) ≡ false }

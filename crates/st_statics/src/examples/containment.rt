@@ -47,7 +47,8 @@ pub fn cycles()
         (organised (Function (Elementary Int 13)) (at 9 F) [] (setting 17 F (calling 22 F []) ∷ []) ∷ [])
         ≡ breaks TooDeep 9 ∷ [] }
     // two functions that call one another
-    ensures two_functions { broken (organised (Function (Elementary Int 13)) (at 9 F) [] (setting 17 F (calling 22 M []) ∷ [])
+    ensures two_functions { broken (organised (Function (Elementary Int 13)) (at 9 F) [] (setting 17 F
+        (calling 22 M []) ∷ [])
         ∷ organised (Function (Elementary Int 13)) (at 59 M) [] (setting 67 M (calling 72 F []) ∷ []) ∷ [])
         ≡ breaks TooDeep 9 ∷ breaks TooDeep 59 ∷ [] }
     // a block that contains a block that contains the first

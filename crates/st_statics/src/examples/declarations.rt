@@ -58,16 +58,20 @@ pub fn kinds()
     // PROGRAM P VAR f : TON; END_VAR
     ensures instance { broken (local (declaring (at 14 F) (named 18 (codes "TON")) ∷ [])) ≡ [] }
     // PROGRAM P VAR CONSTANT f : TON; END_VAR
-    ensures constant_instance { broken (declares (block Constant (declaring (at 24 F) (named 28 (codes "TON")) ∷ []) ∷ []))
+    ensures constant_instance { broken (declares (block Constant (declaring (at 24 F) (named 28 (codes "TON")) ∷ [])
+        ∷ []))
         ≡ breaks WrongType 28 ∷ [] }
     // PROGRAM P VAR f : TON := 5; END_VAR
-    ensures instance_with_value { broken (local (starting (at 14 F) (named 18 (codes "TON")) (start_of 25 (pos 5)) ∷ []))
+    ensures instance_with_value { broken (local (starting (at 14 F) (named 18 (codes "TON")) (start_of 25 (pos 5))
+        ∷ []))
         ≡ breaks WrongType 18 ∷ [] }
     // PROGRAM P VAR a : ARRAY [1..2] OF TON; END_VAR
-    ensures array_of_instances { broken (local (declaring (at 14 N) (Array (array_of 18 (pos 1) (pos 2) (Named (at 34 (codes "TON"))))) ∷ []))
+    ensures array_of_instances { broken (local (declaring (at 14 N) (Array (array_of 18 (pos 1) (pos 2) (Named (at 34
+        (codes "TON"))))) ∷ []))
         ≡ breaks WrongType 34 ∷ [] }
     // TYPE x : STRUCT f : TON; END_STRUCT; END_TYPE
-    ensures field_instance { broken (types (defining (at 5 X) (structure (field_of (at 16 F) (named 20 (codes "TON")) ∷ [])) ∷ []) ∷ [])
+    ensures field_instance { broken (types (defining (at 5 X) (structure (field_of (at 16 F) (named 20
+        (codes "TON")) ∷ [])) ∷ []) ∷ [])
         ≡ breaks WrongType 20 ∷ [] }
     // FUNCTION_BLOCK F VAR_INPUT f : TON; END_VAR, VAR_OUTPUT a : ARRAY [1..2] OF INT; END_VAR
     ensures inputs_and_outputs { broken (organised FunctionBlock (at 15 F)
@@ -85,7 +89,8 @@ pub fn kinds()
         ∷ organised Program (at 50 P) (block (Local None) (declaring (at 56 N) (named 60 F) ∷ []) ∷ []) [] ∷ [])
         ≡ breaks WrongType 60 ∷ [] }
     // PROGRAM P VAR_EXTERNAL n : TON; END_VAR
-    ensures external_instance { broken (declares (block External (declaring (at 24 N) (named 28 (codes "TON")) ∷ []) ∷ []))
+    ensures external_instance { broken (declares (block External (declaring (at 24 N) (named 28 (codes "TON")) ∷ [])
+        ∷ []))
         ≡ breaks WrongType 28 ∷ [] }
     // VAR_GLOBAL n : TON; m : F; END_VAR with FUNCTION_BLOCK F
     ensures global_instances { broken (organised FunctionBlock (at 15 F) [] []
@@ -95,11 +100,13 @@ pub fn kinds()
     ensures global_of_unknown { broken (configuring None (one_global 60 N (named 64 (codes "FOO")) None ∷ []) [])
         ≡ breaks UnknownName 64 ∷ [] }
     // TYPE x : STRUCT n : foo; END_STRUCT; m : ARRAY [1..2] OF foo; END_TYPE
-    ensures parts_of_unknown { broken (types (defining (at 5 X) (structure (field_of (at 16 N) (named 20 (codes "FOO")) ∷ []))
+    ensures parts_of_unknown { broken (types (defining (at 5 X) (structure (field_of (at 16 N) (named 20
+        (codes "FOO")) ∷ []))
         ∷ defining (at 40 M) (array (array_of 44 (pos 1) (pos 2) (Named (at 60 (codes "FOO"))))) ∷ []) ∷ [])
         ≡ breaks UnknownName 20 ∷ breaks UnknownName 60 ∷ [] }
     // PROGRAM P VAR n : foo; END_VAR n(); n[1] := n.x;: of a variable of an unknown type nothing more is told
-    ensures unknown_used { broken (organised Program (at 8 P) (block (Local None) (declaring (at 14 N) (named 18 (codes "FOO")) ∷ []) ∷ [])
+    ensures unknown_used { broken (organised Program (at 8 P) (block (Local None) (declaring (at 14 N) (named 18
+        (codes "FOO")) ∷ []) ∷ [])
         (invoking 30 N [] ∷ assign (element 35 N (number 37 (pos 1))) (read (part 43 N 45 X)) ∷ []) ∷ [])
         ≡ breaks UnknownName 18 ∷ [] }
     // FUNCTION_BLOCK F VAR n : TON; m : M; END_VAR with FUNCTION_BLOCK M
@@ -141,7 +148,8 @@ pub fn bounds()
     })) ∷ []))
         ≡ breaks OutOfRange 25 ∷ [] }
     // ARRAY [-9223372036854775809..-9223372036854775808]: untyped, so within LINT
-    ensures below_all { broken (local (declaring (at 14 N) (words.array 18 (negsuc 9223372036854775808) (negsuc 9223372036854775807)) ∷ []))
+    ensures below_all { broken (local (declaring (at 14 N) (words.array 18 (negsuc 9223372036854775808)
+        (negsuc 9223372036854775807)) ∷ []))
         ≡ breaks OutOfRange 25 ∷ [] }
     // ARRAY [1..0]
     ensures reversed_by_one { broken (local (declaring (at 14 N) (words.array 18 (pos 1) (pos 0)) ∷ []))

@@ -64,7 +64,11 @@ pub fn values()
         (step (IF (arms_of ((binary Equal (reading 145 M) (literal (Enumerated (of_type 150 MODE FAULT))), no_stmts)
         ∷ [])) no_stmts ∷ [])) ≡ [] }
     // `IF m = k THEN END_IF`
-    ensures of_two_types { broken (step (IF (arms_of ((binary Equal (reading 145 M) (reading 150 (codes "K")), no_stmts) ∷ [])) no_stmts
+    ensures of_two_types { broken (step (IF (arms_of ((
+      binary Equal (reading 145 M) (reading 150
+          (codes "K")),
+      no_stmts,
+    ) ∷ [])) no_stmts
         ∷ []))
         ≡ breaks WrongType 145 ∷ [] }
     // `IF m < Mode#Fault THEN END_IF`: names have no order
@@ -95,11 +99,13 @@ pub fn uses()
     ensures operands { broken (step (setting 140 M (binary Add (reading 145 M) (reading 149 M))
         ∷ setting 160 N (calling 165 (codes "ABS") (reading 169 M ∷ [])) ∷ setting 180 M (unary Not 185 (reading 189 M))
         ∷ setting 200 M (unary Negate 205 (reading 206 M)) ∷ []))
-        ≡ breaks WrongType 145 ∷ breaks WrongType 165 ∷ breaks WrongType 169 ∷ breaks WrongType 185 ∷ breaks WrongType 205
+        ≡ breaks WrongType 145 ∷ breaks WrongType 165 ∷ breaks WrongType 169 ∷ breaks WrongType 185
+        ∷ breaks WrongType 205
         ∷ [] }
     // FUNCTION F : Mode VAR_INPUT m : Mode; END_VAR F := F(m); .. F := F(1);: it calls itself besides
     ensures given { broken (types (modes ∷ []) ∷ organised (Function (Named (at 63 MODE))) (at 60 F)
-        (block (Input None) (declaring (at 70 M) (named 74 MODE) ∷ []) ∷ []) (setting 90 F (calling 95 F (reading 97 M ∷ []))
+        (block (Input None) (declaring (at 70 M) (named 74 MODE) ∷ [])
+        ∷ []) (setting 90 F (calling 95 F (reading 97 M ∷ []))
         ∷ setting 110 F (calling 115 F (number 117 (pos 1) ∷ [])) ∷ []) ∷ [])
         ≡ breaks TooDeep 60 ∷ breaks WrongType 117 ∷ [] }
     // IF m THEN END_IF; FOR m := Stopped TO Running DO END_FOR;
@@ -107,14 +113,16 @@ pub fn uses()
         ∷ FOR (at 164 M) (reading 169 STOPPED) (reading 180 RUNNING) None no_stmts ∷ []))
         ≡ breaks WrongType 145 ∷ breaks WrongType 164 ∷ [] }
     // IF m = 0 THEN END_IF; IF m <> Running THEN END_IF;
-    ensures comparisons { broken (step (IF (arms_of ((binary Equal (reading 145 M) (number 149 (pos 0)), no_stmts) ∷ [])) no_stmts
+    ensures comparisons { broken (step (IF (arms_of ((binary Equal (reading 145 M) (number 149 (pos 0)), no_stmts)
+        ∷ [])) no_stmts
         ∷ IF (arms_of ((binary NotEqual (reading 165 M) (reading 170 RUNNING), no_stmts) ∷ [])) no_stmts ∷ []))
         ≡ breaks WrongType 145 ∷ [] }
     // clear := Clear: the variable's own name, of the Mode; m := Alarm#Running: no name of that type
     ensures names { broken (step (setting 140 CLEAR (reading 149 CLEAR)
         ∷ setting 160 M (literal (Enumerated (of_type 165 ALARM RUNNING))) ∷ [])) ≡ breaks UnknownName 165 ∷ [] }
     // Stopped.n, Stopped[1]: of a value nothing is selected
-    ensures selected { broken (step (setting 140 N (read (part 145 STOPPED 153 N)) ∷ setting 160 N (read (element 165 STOPPED (number 173 (pos 1)))) ∷ []))
+    ensures selected { broken (step (setting 140 N (read (part 145 STOPPED 153 N))
+        ∷ setting 160 N (read (element 165 STOPPED (number 173 (pos 1)))) ∷ []))
         ≡ breaks UnknownName 145 ∷ breaks UnknownName 165 ∷ [] }
 {}
 
@@ -132,7 +140,8 @@ pub fn labels()
         ∷ (labels.Enumerated (of_type 160 ALARM CLEAR) ∷ []) ∷ []) ∷ []))
         ≡ breaks WrongType 160 ∷ [] }
     // `CASE m OF Clear : END_CASE`: the value of the other type, whatever variables there are
-    ensures variable_of_the_name { broken (step (case_of (reading 145 M) ((labels.Enumerated (bare 150 CLEAR) ∷ []) ∷ []) ∷ []))
+    ensures variable_of_the_name { broken (step (case_of (reading 145 M) ((labels.Enumerated (bare 150 CLEAR) ∷ [])
+        ∷ []) ∷ []))
         ≡ breaks WrongType 150 ∷ [] }
     // `CASE m OF n : END_CASE`: a variable is no label
     ensures variable { broken (step (case_of (reading 145 M) ((labels.Enumerated (bare 150 N) ∷ []) ∷ []) ∷ []))
@@ -170,7 +179,8 @@ pub fn declarations()
 
 /// How many names a type may have, each at its number.
 pub fn sizes()
-    ensures rule { broken (types (defining (at 1000 MODE) (enumeration (many_names 257)) ∷ []) ∷ []) ≡ breaks TooManyNames 256 ∷ [] }
+    ensures rule { broken (types (defining (at 1000 MODE) (enumeration (many_names 257)) ∷ []) ∷ [])
+        ≡ breaks TooManyNames 256 ∷ [] }
     ensures most { surplus_name (many_names 256) ≡ [] }
     ensures too_many { surplus_name (many_names 258) ≡ 256 ∷ [] }
 {}

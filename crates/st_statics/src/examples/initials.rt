@@ -28,14 +28,20 @@ pub fn values()
         (local (starting (at 14 N) (elementary Int) (constant (Number (typed_digits 25 Sint (pos 5)))) ∷ []))
         ≡ breaks WrongType 25 ∷ [] }
     // n : foo := TRUE: the type alone is told
-    ensures of_unknown_type { broken (local (starting (at 14 N) (named 18 (codes "FOO")) (constant (Truth 25 true)) ∷ []))
+    ensures of_unknown_type { broken (local (starting (at 14 N) (named 18 (codes "FOO")) (constant (Truth 25 true))
+        ∷ []))
         ≡ breaks UnknownName 18 ∷ [] }
     // n : foo := [1], n : foo := (m := 1), n : foo := m: a name stands for a value, whatever it is for
     ensures list_for_unknown { broken
-        (local (starting (at 14 N) (named 18 (codes "FOO")) (list 25 (elements_of (single (start_of 26 (pos 1)) ∷ []))) ∷ []))
+        (local (starting (at 14 N) (named 18 (codes "FOO")) (list 25 (elements_of (single (start_of 26 (pos 1))
+        ∷ []))) ∷ []))
         ≡ breaks UnknownName 18 ∷ [] }
     ensures structure_for_unknown { broken
-        (local (starting (at 14 N) (named 18 (codes "FOO")) (structure 25 (members_of ((at 26 M, start_of 31 (pos 1)) ∷ []))) ∷ []))
+        (local (starting (at 14 N) (named 18 (codes "FOO")) (structure 25 (members_of ((
+          at 26 M,
+          start_of 31
+              (pos 1),
+        ) ∷ []))) ∷ []))
         ≡ breaks UnknownName 18 ∷ [] }
     ensures name_for_unknown { broken
         (local (starting (at 14 N) (named 18 (codes "FOO")) (constant (Enumerated (words.bare 25 M))) ∷ []))
@@ -61,7 +67,8 @@ pub fn values()
     // .. := 5, and n : INT := [5]
     ensures no_list { broken (local (starting (at 14 N) (words.array 18 (pos 1) (pos 2)) (start_of 40 (pos 5)) ∷ []))
         ≡ breaks WrongType 40 ∷ [] }
-    ensures list_for_a_number { broken (local (starting (at 14 N) (elementary Int) (list 25 (elements_of (single (start_of 26 (pos 5)) ∷ [])))
+    ensures list_for_a_number { broken (local (starting (at 14 N) (elementary Int) (list 25 (elements_of (single
+        (start_of 26 (pos 5)) ∷ [])))
         ∷ []))
         ≡ breaks WrongType 25 ∷ [] }
 {}
@@ -74,9 +81,11 @@ pub fn lists()
     ensures repeated_too_many { broken (starting_array (repeated (digits 41 (pos 3)) (start_of 43 (pos 0)) ∷ []))
         ≡ breaks WrongBounds 40 ∷ [] }
     // [1, 1()], [1, 2()]
-    ensures number_and_default { broken (starting_array (single (start_of 41 (pos 1)) ∷ defaults (digits 44 (pos 1)) ∷ []))
+    ensures number_and_default { broken (starting_array (single (start_of 41 (pos 1)) ∷ defaults (digits 44 (pos 1))
+        ∷ []))
         ≡ [] }
-    ensures number_and_defaults { broken (starting_array (single (start_of 41 (pos 1)) ∷ defaults (digits 44 (pos 2)) ∷ []))
+    ensures number_and_defaults { broken (starting_array (single (start_of 41 (pos 1))
+        ∷ defaults (digits 44 (pos 2)) ∷ []))
         ≡ breaks WrongBounds 40 ∷ [] }
     // [1]: the second has its default value
     ensures shorter { broken (starting_array (single (start_of 41 (pos 1)) ∷ [])) ≡ [] }
@@ -84,11 +93,13 @@ pub fn lists()
     ensures three { broken (starting_array (single (start_of 41 (pos 1)) ∷ single (start_of 44 (pos 2))
         ∷ single (start_of 47 (pos 3)) ∷ [])) ≡ breaks WrongBounds 40 ∷ [] }
     // [2(TRUE)], [2(40000)], [1, 40000]
-    ensures repeated_of_other_type { broken (starting_array (repeated (digits 41 (pos 2)) (constant (Truth 43 true)) ∷ []))
+    ensures repeated_of_other_type { broken (starting_array (repeated (digits 41 (pos 2)) (constant (Truth 43 true))
+        ∷ []))
         ≡ breaks WrongType 43 ∷ [] }
     ensures repeated_too_great { broken (starting_array (repeated (digits 41 (pos 2)) (start_of 43 (pos 40000)) ∷ []))
         ≡ breaks OutOfRange 43 ∷ [] }
-    ensures second_too_great { broken (starting_array (single (start_of 41 (pos 1)) ∷ single (start_of 44 (pos 40000)) ∷ []))
+    ensures second_too_great { broken (starting_array (single (start_of 41 (pos 1))
+        ∷ single (start_of 44 (pos 40000)) ∷ []))
         ≡ breaks OutOfRange 44 ∷ [] }
     // [SINT#200()]: both the count and the list
     ensures count_out_of_range { broken (starting_array (defaults (typed_digits 41 Sint (pos 200)) ∷ []))
@@ -104,32 +115,46 @@ pub fn inside()
     // f : t := [(n := 1, a := [1, 2]), (a := [3])]
     ensures fitting { broken (starting_structures (list 110 (elements_of
         (single (structure 111 (members_of ((at 112 N, start_of 117 (pos 1))
-        ∷ (at 120 A, list 125 (elements_of (single (start_of 126 (pos 1)) ∷ single (start_of 129 (pos 2)) ∷ []))) ∷ [])))
-        ∷ single (structure 133 (members_of ((at 134 A, list 139 (elements_of (single (start_of 140 (pos 3)) ∷ []))) ∷ [])))
+        ∷ (at 120 A, list 125 (elements_of (single (start_of 126 (pos 1)) ∷ single (start_of 129 (pos 2)) ∷ [])))
+        ∷ [])))
+        ∷ single (structure 133 (members_of ((at 134 A, list 139 (elements_of (single (start_of 140 (pos 3)) ∷ [])))
+        ∷ [])))
         ∷ [])))) ≡ [] }
     // f : t := [(a := [3(1)])]: the list of the field
     ensures field_too_long { broken (starting_structures (list 110 (elements_of
-        (single (structure 111 (members_of ((at 112 A, list 117 (elements_of (repeated (digits 118 (pos 3)) (start_of 120 (pos 1)) ∷ [])))
+        (single (structure 111 (members_of ((
+          at 112 A,
+          list 117 (elements_of (repeated (digits 118 (pos 3))
+              (start_of 120 (pos 1)) ∷ [])),
+        )
         ∷ []))) ∷ [])))) ≡ breaks WrongBounds 117 ∷ [] }
     // f : t := [2((n := TRUE))]
     ensures field_of_other_type { broken (starting_structures (list 110 (elements_of
-        (repeated (digits 111 (pos 2)) (structure 113 (members_of ((at 114 N, constant (Truth 119 true)) ∷ []))) ∷ []))))
+        (repeated (digits 111 (pos 2)) (structure 113 (members_of ((at 114 N, constant (Truth 119 true)) ∷ [])))
+        ∷ []))))
         ≡ breaks WrongType 119 ∷ [] }
     // f : t := [2((m := 1))]
     ensures unknown_field { broken (starting_structures (list 110 (elements_of
         (repeated (digits 111 (pos 2)) (structure 113 (members_of ((at 114 M, start_of 119 (pos 1)) ∷ []))) ∷ []))))
         ≡ breaks UnknownName 114 ∷ [] }
     // f : t := [1], f : t := (n := 1)
-    ensures number_for_a_structure { broken (starting_structures (list 110 (elements_of (single (start_of 111 (pos 1)) ∷ []))))
+    ensures number_for_a_structure { broken (starting_structures (list 110 (elements_of (single (start_of 111
+        (pos 1)) ∷ []))))
         ≡ breaks WrongType 111 ∷ [] }
-    ensures structure_for_an_array { broken (starting_structures (structure 110 (members_of ((at 111 N, start_of 116 (pos 1)) ∷ []))))
+    ensures structure_for_an_array { broken (starting_structures (structure 110 (members_of ((
+      at 111 N,
+      start_of 116
+          (pos 1),
+    ) ∷ []))))
         ≡ breaks WrongType 110 ∷ [] }
     // VAR_GLOBAL n : INT := TRUE; END_VAR
-    ensures of_a_global { broken (configuring None (one_global 40 N (elementary Int) (Some (constant (Truth 51 true))) ∷ []) [])
+    ensures of_a_global { broken (configuring None (one_global 40 N (elementary Int) (Some (constant
+        (Truth 51 true))) ∷ []) [])
         ≡ breaks WrongType 51 ∷ [] }
     // TYPE x : STRUCT n : INT := 40000; END_STRUCT; END_TYPE
     ensures of_a_field { broken (types (defining (at 5 X) (declarations.structure
-        (record { name = at 16 N; declared = elementary Int; initial = Some (start_of 27 (pos 40000)) } ∷ [])) ∷ []) ∷ [])
+        (record { name = at 16 N; declared = elementary Int; initial = Some (start_of 27 (pos 40000)) } ∷ [])) ∷ [])
+        ∷ [])
         ≡ breaks OutOfRange 27 ∷ [] }
 {}
 
@@ -148,7 +173,8 @@ pub fn structures()
         (with_pair (structure 80 (members_of ((at 81 N, start_of 86 (pos 5)) ∷ (at 92 N, start_of 97 (pos 6)) ∷ []))))
         ≡ breaks DeclaredTwice 92 ∷ [] }
     // (n := TRUE)
-    ensures field_of_other_type { broken (with_pair (structure 80 (members_of ((at 81 N, constant (Truth 86 true)) ∷ []))))
+    ensures field_of_other_type { broken (with_pair (structure 80 (members_of ((at 81 N, constant (Truth 86 true))
+        ∷ []))))
         ≡ breaks WrongType 86 ∷ [] }
     // 5, and [5]
     ensures no_structure { broken (with_pair (start_of 80 (pos 5))) ≡ breaks WrongType 80 ∷ [] }

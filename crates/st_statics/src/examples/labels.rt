@@ -34,7 +34,8 @@ pub fn numbers()
     ensures too_great { broken (wide (case_of (reading 105 N) ((single 110 (pos 40000) ∷ []) ∷ []) ∷ []))
         ≡ breaks OutOfRange 110 ∷ [] }
     // `CASE n OF 1..40000 : END_CASE`
-    ensures range_too_great { broken (wide (case_of (reading 105 N) ((between 110 (pos 1) 113 (pos 40000) ∷ []) ∷ []) ∷ []))
+    ensures range_too_great { broken (wide (case_of (reading 105 N) ((between 110 (pos 1) 113 (pos 40000) ∷ [])
+        ∷ []) ∷ []))
         ≡ breaks OutOfRange 113 ∷ [] }
     // `CASE n OF SINT#1 : INT#2 : END_CASE`
     ensures typed { broken (wide (case_of (reading 105 N)
@@ -44,7 +45,8 @@ pub fn numbers()
     ensures of_two_types { broken (wide (case_of (reading 105 N)
         ((single 110 (pos 1) ∷ Single (typed_digits 113 Sint (pos 1)) ∷ []) ∷ []) ∷ [])) ≡ breaks WrongType 113 ∷ [] }
     // `CASE n OF 1..SINT#3 : INT#40000..40001 : END_CASE`
-    ensures typed_bounds { broken (wide (case_of (reading 105 N) ((Range (digits 110 (pos 1)) (typed_digits 113 Sint (pos 3)) ∷ [])
+    ensures typed_bounds { broken (wide (case_of (reading 105 N) ((Range (digits 110 (pos 1)) (typed_digits 113 Sint
+        (pos 3)) ∷ [])
         ∷ (Range (typed_digits 122 Int (pos 40000)) (digits 133 (pos 40001)) ∷ []) ∷ []) ∷ []))
         ≡ breaks WrongType 113 ∷ breaks OutOfRange 122 ∷ breaks OutOfRange 133 ∷ [] }
     // `CASE n OF 4..5 : 1..9 : END_CASE`, and `1..9 : 4..5`: one inside the other

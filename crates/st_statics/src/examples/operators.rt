@@ -59,7 +59,8 @@ pub fn sorts()
         ∷ setting 130 B (unary Negate 135 (reading 136 B)) ∷ []))
         ≡ breaks WrongType 115 ∷ breaks WrongType 125 ∷ breaks WrongType 135 ∷ [] }
     // b := NOT b; d := NOT d;
-    ensures not { broken (wide (setting 100 B (unary Not 105 (reading 109 B)) ∷ setting 120 D (unary Not 125 (reading 129 D)) ∷ []))
+    ensures not { broken (wide (setting 100 B (unary Not 105 (reading 109 B))
+        ∷ setting 120 D (unary Not 125 (reading 129 D)) ∷ []))
         ≡ breaks WrongType 125 ∷ [] }
     // b := n < SINT#5; b := n = b;
     ensures two_types { broken (wide (setting 100 B (binary Less (reading 105 N) (typed 109 Sint (pos 5)))
@@ -68,7 +69,8 @@ pub fn sorts()
     // n := m + n; n := n * m; b := m = n; n := -m; the unknown name alone is told
     ensures of_unknown { broken (wide (setting 100 N (binary Add (reading 105 M) (reading 109 N))
         ∷ setting 120 N (binary Multiply (reading 125 N) (reading 129 M))
-        ∷ setting 140 B (binary Equal (reading 145 M) (reading 149 N)) ∷ setting 160 N (unary Negate 165 (reading 166 M)) ∷ []))
+        ∷ setting 140 B (binary Equal (reading 145 M) (reading 149 N))
+        ∷ setting 160 N (unary Negate 165 (reading 166 M)) ∷ []))
         ≡ breaks UnknownName 105 ∷ breaks UnknownName 129 ∷ breaks UnknownName 145 ∷ breaks UnknownName 166 ∷ [] }
     // b := a = a; b := n < a; n := a + n; a whole array has no value
     ensures of_arrays { broken (wide (setting 100 B (binary Equal (reading 105 A) (reading 109 A))
@@ -77,7 +79,8 @@ pub fn sorts()
         ≡ breaks WrongType 105 ∷ breaks WrongType 125 ∷ breaks WrongType 145 ∷ [] }
     // b := (n) + n; b := -n; b := ABS(n): a wrong value is told at its first byte
     ensures first_byte { broken (wide (setting 100 B (binary Add (parenthesis 105 (reading 106 N)) (reading 111 N))
-        ∷ setting 120 B (unary Negate 125 (reading 126 N)) ∷ setting 130 B (calling 135 (codes "ABS") (reading 139 N ∷ []))
+        ∷ setting 120 B (unary Negate 125 (reading 126 N)) ∷ setting 130 B (calling 135 (codes "ABS") (reading 139 N
+        ∷ []))
         ∷ [])) ≡ breaks WrongType 105 ∷ breaks WrongType 125 ∷ breaks WrongType 135 ∷ [] }
 {}
 
@@ -104,7 +107,8 @@ pub fn untyped()
         ≡ breaks OutOfRange 109 ∷ breaks OutOfRange 125 ∷ breaks OutOfRange 145 ∷ [] }
     // w := NOT 65535; w := NOT 65536; n := NOT 5;
     ensures turned { broken (wide (setting 100 W (unary Not 105 (number 109 (pos 65535)))
-        ∷ setting 120 W (unary Not 125 (number 129 (pos 65536))) ∷ setting 140 N (unary Not 145 (number 149 (pos 5))) ∷ []))
+        ∷ setting 120 W (unary Not 125 (number 129 (pos 65536)))
+        ∷ setting 140 N (unary Not 145 (number 149 (pos 5))) ∷ []))
         ≡ breaks OutOfRange 129 ∷ breaks WrongType 145 ∷ [] }
     // n := 1 + 40000; w := 1 OR 65536; n := (40000);
     ensures joined { broken (wide (setting 100 N (binary Add (number 105 (pos 1)) (number 109 (pos 40000)))
@@ -119,16 +123,20 @@ pub fn untyped()
         (parenthesis 109 (binary Equal (reading 110 N) (number 114 (pos 2))))) ∷ [])) ≡ breaks WrongType 105 ∷ [] }
     // n := ABS(40000); b := ABS(40000) = 3000000000: the call is a LINT
     ensures absolute { broken (wide (setting 100 N (calling 105 (codes "ABS") (number 109 (pos 40000) ∷ []))
-        ∷ setting 120 B (binary Equal (calling 125 (codes "ABS") (number 129 (pos 40000) ∷ [])) (number 140 (pos 3000000000)))
+        ∷ setting 120 B (binary Equal (calling 125 (codes "ABS") (number 129 (pos 40000)
+        ∷ [])) (number 140 (pos 3000000000)))
         ∷ [])) ≡ breaks WrongType 105 ∷ [] }
     // n := MAX(n, 40000); n := LIMIT(1, n, 40000); n := SEL(b, 40000, n); n := SEL(b, 1, 2);
-    ensures common_type { broken (wide (setting 100 N (calling 105 (codes "MAX") (reading 109 N ∷ number 112 (pos 40000) ∷ []))
+    ensures common_type { broken (wide (setting 100 N (calling 105 (codes "MAX") (reading 109 N
+        ∷ number 112 (pos 40000) ∷ []))
         ∷ setting 120 N (calling 125 (codes "LIMIT") (number 131 (pos 1) ∷ reading 134 N ∷ number 137 (pos 40000) ∷ []))
         ∷ setting 150 N (calling 155 (codes "SEL") (reading 159 B ∷ number 162 (pos 40000) ∷ reading 169 N ∷ []))
-        ∷ setting 180 N (calling 185 (codes "SEL") (reading 189 B ∷ number 192 (pos 1) ∷ number 195 (pos 2) ∷ [])) ∷ []))
+        ∷ setting 180 N (calling 185 (codes "SEL") (reading 189 B ∷ number 192 (pos 1) ∷ number 195 (pos 2) ∷ []))
+        ∷ []))
         ≡ breaks OutOfRange 112 ∷ breaks OutOfRange 137 ∷ breaks OutOfRange 162 ∷ breaks WrongType 185 ∷ [] }
     // n := MIN(n, u); n := LIMIT(n, n, u); b := SEL(b, b, n);
-    ensures no_common_type { broken (wide (setting 100 N (calling 105 (codes "MIN") (reading 109 N ∷ reading 112 U ∷ []))
+    ensures no_common_type { broken (wide (setting 100 N (calling 105 (codes "MIN") (reading 109 N ∷ reading 112 U
+        ∷ []))
         ∷ setting 120 N (calling 125 (codes "LIMIT") (reading 131 N ∷ reading 134 N ∷ reading 137 U ∷ []))
         ∷ setting 150 B (calling 155 (codes "SEL") (reading 159 B ∷ reading 162 B ∷ reading 165 N ∷ [])) ∷ []))
         ≡ breaks WrongType 112 ∷ breaks WrongType 137 ∷ breaks WrongType 165 ∷ [] }

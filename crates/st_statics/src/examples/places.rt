@@ -23,19 +23,22 @@ pub fn structures()
     // f[1].n := m.n; f[1].a[2] := 40000;
     ensures deeper { broken (with_structures
         (assign (selected 100 F (behind_bracket (number 102 (pos 1)) ∷ behind_dot 105 N ∷ [])) (read (part 110 M 112 N))
-        ∷ assign (selected 120 F (behind_bracket (number 122 (pos 1)) ∷ behind_dot 125 A ∷ behind_bracket (number 127 (pos 2)) ∷ []))
+        ∷ assign (selected 120 F (behind_bracket (number 122 (pos 1)) ∷ behind_dot 125 A
+        ∷ behind_bracket (number 127 (pos 2)) ∷ []))
         (number 133 (pos 40000)) ∷ [])) ≡ breaks OutOfRange 133 ∷ [] }
     // f[1].b := 1; f[TRUE].n := 1; m[1] := 1; f[1][2] := 1;
     ensures wrong_steps { broken (with_structures
         (assign (selected 100 F (behind_bracket (number 102 (pos 1)) ∷ behind_dot 105 B ∷ [])) (number 110 (pos 1))
         ∷ assign (selected 120 F (behind_bracket (truth 122 true) ∷ behind_dot 128 N ∷ [])) (number 133 (pos 1))
         ∷ assign (element 140 M (number 142 (pos 1))) (number 148 (pos 1))
-        ∷ assign (selected 150 F (behind_bracket (number 152 (pos 1)) ∷ behind_bracket (number 155 (pos 2)) ∷ [])) (number 161 (pos 1))
+        ∷ assign (selected 150 F (behind_bracket (number 152 (pos 1)) ∷ behind_bracket (number 155 (pos 2))
+        ∷ [])) (number 161 (pos 1))
         ∷ []))
         ≡ breaks UnknownName 105 ∷ breaks WrongType 122 ∷ breaks WrongType 140 ∷ breaks WrongType 150 ∷ [] }
     // m := m; f[1] := m; m.a := m.a; m := m.n: what has parts is not assigned as a whole
     ensures wholes { broken (with_structures (setting 100 M (reading 105 M)
-        ∷ assign (element 110 F (number 112 (pos 1))) (reading 118 M) ∷ assign (part 120 M 122 A) (read (part 127 M 129 A))
+        ∷ assign (element 110 F (number 112 (pos 1))) (reading 118 M)
+        ∷ assign (part 120 M 122 A) (read (part 127 M 129 A))
         ∷ setting 140 M (read (part 145 M 147 N)) ∷ []))
         ≡ breaks WrongType 105 ∷ breaks WrongType 118 ∷ breaks WrongType 127 ∷ breaks WrongType 145 ∷ [] }
     // m.n := m
@@ -47,7 +50,8 @@ pub fn structures()
 pub fn parts()
     // n := a[1][2]; n := a.n; b := f.Q.Q; b := f[1];
     ensures too_far { broken
-        (wide (setting 100 N (read (selected 105 A (behind_bracket (number 107 (pos 1)) ∷ behind_bracket (number 110 (pos 2)) ∷ [])))
+        (wide (setting 100 N (read (selected 105 A (behind_bracket (number 107 (pos 1))
+        ∷ behind_bracket (number 110 (pos 2)) ∷ [])))
         ∷ setting 120 N (read (part 125 A 127 N))
         ∷ setting 130 B (read (selected 135 F (behind_dot 137 (codes "Q") ∷ behind_dot 139 (codes "Q") ∷ [])))
         ∷ setting 150 B (read (element 155 F (number 157 (pos 1)))) ∷ []))
@@ -78,7 +82,8 @@ pub fn inputs()
         ≡ breaks OutOfRange 107 ∷ breaks WrongType 114 ∷ breaks OutOfRange 117 ∷ [] }
     // n := F(1, b), n := F(1, b, 2, 3)
     ensures too_few { broken (three_inputs (number 107 (pos 1) ∷ reading 110 B ∷ [])) ≡ breaks WrongArguments 105 ∷ [] }
-    ensures too_many { broken (three_inputs (number 107 (pos 1) ∷ reading 110 B ∷ number 113 (pos 2) ∷ number 116 (pos 3) ∷ []))
+    ensures too_many { broken (three_inputs (number 107 (pos 1) ∷ reading 110 B ∷ number 113 (pos 2)
+        ∷ number 116 (pos 3) ∷ []))
         ≡ breaks WrongArguments 105 ∷ [] }
     // n := F(b = b, b, F(1, b, 2)): a BOOL and an INT in place of an INT and a UINT
     ensures of_calls { broken (three_inputs (binary Equal (reading 107 B) (reading 111 B) ∷ reading 114 B

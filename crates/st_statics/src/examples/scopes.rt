@@ -78,7 +78,8 @@ pub fn configurations()
         ≡ breaks DeclaredTwice 90 ∷ [] }
     // two resources with an instance of one name
     ensures instances_apart { broken (configuring None []
-        (resource_at 40 M (task_at 60 T ∷ []) (instance_at 90 N ∷ []) ∷ resource_at 140 X (task_at 160 T ∷ []) (instance_at 190 N ∷ []) ∷ []))
+        (resource_at 40 M (task_at 60 T ∷ []) (instance_at 90 N ∷ []) ∷ resource_at 140 X (task_at 160 T
+        ∷ []) (instance_at 190 N ∷ []) ∷ []))
         ≡ [] }
 {}
 
@@ -86,7 +87,8 @@ pub fn configurations()
 /// ARRAY [1..2] OF x; END_TYPE`.
 pub fn initial_values()
     // VAR_GLOBAL m : x := (n := 1, n := 2); END_VAR
-    ensures of_a_global { broken (types structures ∷ configuring None (one_global 100 M (named 104 X) (Some (doubled 109)) ∷ []) [])
+    ensures of_a_global { broken (types structures
+        ∷ configuring None (one_global 100 M (named 104 X) (Some (doubled 109)) ∷ []) [])
         ≡ breaks DeclaredTwice 118 ∷ [] }
     // TYPE f : STRUCT m : x := (n := 1, n := 2); END_STRUCT; END_TYPE
     ensures of_a_field { broken (types structures ∷ types (defining (at 100 F)
@@ -95,7 +97,8 @@ pub fn initial_values()
     // f : t := [(n := 1, n := 2)], f : t := [2((n := 1, n := 2))]
     ensures of_an_element { broken (starting_structures (list 110 (elements_of (single (doubled 111) ∷ []))))
         ≡ breaks DeclaredTwice 120 ∷ [] }
-    ensures of_elements { broken (starting_structures (list 110 (elements_of (repeated (digits 111 (pos 2)) (doubled 113) ∷ []))))
+    ensures of_elements { broken (starting_structures (list 110 (elements_of (repeated (digits 111 (pos 2))
+        (doubled 113) ∷ []))))
         ≡ breaks DeclaredTwice 122 ∷ [] }
     // f : t := [(n := 1), (n := 2)]: two scopes
     ensures two_elements { broken (starting_structures (list 110 (elements_of

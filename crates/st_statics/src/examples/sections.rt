@@ -35,7 +35,8 @@ pub fn assigned()
 /// Control variables.
 pub fn counted()
     // FOR n := 1 TO 2 DO END_FOR over a VAR CONSTANT: it is the unit's own
-    ensures constant { broken (add_constant (FOR (at 104 N) (number 109 (pos 1)) (number 114 (pos 2)) None no_stmts ∷ []))
+    ensures constant { broken (add_constant (FOR (at 104 N) (number 109 (pos 1)) (number 114 (pos 2)) None no_stmts
+        ∷ []))
         ≡ breaks NotAssignable 104 ∷ [] }
     // over an external
     ensures external { broken
@@ -79,11 +80,13 @@ pub fn running()
         ≡ breaks NotAssignable 130 ∷ breaks NotAssignable 140 ∷ [] }
     // FOR n .. DO CASE u OF 1 : n := 3; ELSE EXIT; END_CASE; END_FOR
     ensures in_case { broken (wide (FOR (at 104 N) (number 109 (pos 1)) (number 114 (pos 2)) None
-        (stmts_of (case_with (reading 125 (codes "U")) (single 128 (pos 1) ∷ []) (setting 130 N (number 135 (pos 3)) ∷ [])
+        (stmts_of (case_with (reading 125 (codes "U")) (single 128 (pos 1) ∷ []) (setting 130 N (number 135 (pos 3))
+        ∷ [])
         (EXIT 140 ∷ []) ∷ [])) ∷ [])) ≡ breaks NotAssignable 130 ∷ [] }
     // REPEAT EXIT; UNTIL b END_REPEAT; CASE n OF 1 : EXIT; ELSE n := b; END_CASE
     ensures exits { broken (wide (REPEAT (stmts_of (EXIT 107 ∷ [])) (reading 119 B)
-        ∷ case_with (reading 140 N) (single 145 (pos 1) ∷ []) (EXIT 150 ∷ []) (setting 160 N (reading 165 B) ∷ []) ∷ []))
+        ∷ case_with (reading 140 N) (single 145 (pos 1) ∷ []) (EXIT 150 ∷ []) (setting 160 N (reading 165 B) ∷ [])
+        ∷ []))
         ≡ breaks ExitOutsideLoop 150 ∷ breaks WrongType 165 ∷ [] }
 {}
 
@@ -91,7 +94,8 @@ pub fn running()
 /// VAR_INPUT n : INT; END_VAR VAR_OUTPUT x : INT; END_VAR VAR b : INT; END_VAR`.
 pub fn instances()
     // f(n := n, x => n); n := f.x
-    ensures fitting { broken (with_own_block (invoking 100 F (giving 102 N (reading 107 N) ∷ copying 110 X (name 115 N) ∷ [])
+    ensures fitting { broken (with_own_block (invoking 100 F (giving 102 N (reading 107 N)
+        ∷ copying 110 X (name 115 N) ∷ [])
         ∷ setting 120 N (read (part 125 F 127 X)) ∷ [])) ≡ [] }
     // f(b := 1): a variable of its own
     ensures own_variable_given { broken (with_own_block (invoking 100 F (giving 102 B (number 107 (pos 1)) ∷ []) ∷ []))
