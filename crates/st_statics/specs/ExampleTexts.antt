@@ -17,7 +17,7 @@ use Rattle.st_trees.specs.Expressions.{Expr, binary, Variable, variable, Selecto
 use Rattle.st_trees.specs.Statements.{Stmt, CASE, case_arms_of, stmts_of}
 use Rattle.st_trees.specs.Initials.{Initial, list, Element, elements_of, members_of}
 use Rattle.st_trees.specs.Initials as initials
-use Rattle.st_trees.specs.Declarations.{TypeDeclaration, structure}
+use Rattle.st_trees.specs.Declarations.{TypeDeclaration, Declaration, structure}
 use Rattle.st_trees.specs.Declarations as definitions
 use Rattle.st_trees.specs.Configurations.{GlobalDeclaration, GlobalBlock, listed, Resource, Configuration}
 use Rattle.st_trees.specs.Sources.{types, configuration, Source}
@@ -218,3 +218,28 @@ texts_with_arrays = record {
 -- TYPE Mode, Alarm
 abbrev pub text_with_modes : Declared
 text_with_modes = record { types = modes ∷ alarms ∷ []; units = [] }
+
+-- variables of these names, each at the next place
+abbrev pub declaring_all : ℕ → List Name → List Declaration
+declaring_all place [] = []
+declaring_all place (x ∷ xs) = declaring (at place x) (elementary Int) ∷ declaring_all (place + 1) xs
+
+-- so many places, from one on
+abbrev pub upwards : ℕ → ℕ → List ℕ
+upwards place zero = []
+upwards place (suc n) = place ∷ upwards (place + 1) n
+
+-- the names of standard blocks and functions, and of some conversions, with each of their types
+abbrev pub block_names : List Name
+block_names = codes "SR" ∷ codes "RS" ∷ codes "R_TRIG" ∷ codes "F_TRIG" ∷ codes "CTU" ∷ codes "CTD" ∷ codes "CTUD"
+    ∷ codes "TON" ∷ codes "TOF" ∷ codes "TP" ∷ []
+
+abbrev pub function_names : List Name
+function_names = codes "ABS" ∷ codes "MIN" ∷ codes "MAX" ∷ codes "LIMIT" ∷ codes "SEL" ∷ codes "SHL" ∷ codes "SHR"
+    ∷ codes "ROL" ∷ codes "ROR" ∷ []
+
+abbrev pub conversion_names : List Name
+conversion_names = codes "SINT_TO_BOOL" ∷ codes "INT_TO_BOOL" ∷ codes "DINT_TO_BOOL" ∷ codes "LINT_TO_BOOL"
+    ∷ codes "USINT_TO_BOOL" ∷ codes "UINT_TO_BOOL" ∷ codes "UDINT_TO_BOOL" ∷ codes "ULINT_TO_BOOL"
+    ∷ codes "BYTE_TO_BOOL" ∷ codes "WORD_TO_BOOL" ∷ codes "DWORD_TO_BOOL" ∷ codes "LWORD_TO_BOOL"
+    ∷ codes "BOOL_TO_SINT" ∷ []

@@ -11,6 +11,8 @@ ghost use Rattle.st_trees.specs.Initials.{members_of, elements_of, single, repea
 ghost use Rattle.st_trees.specs.Sources.{types};
 ghost use Rattle.st_statics.specs.declared.rule.Rule.TheVariants.{DeclaredTwice};
 ghost use Rattle.st_statics.specs.Rules.{broken};
+ghost use Rattle.st_statics.specs.TwiceDeclared.{twice_declared};
+ghost use Rattle.st_statics.specs.ExampleTexts.{declaring_all, upwards, block_names, function_names, conversion_names};
 ghost use Rattle.st_statics.specs.ExampleWords.{at, breaks, digits, start_of, elementary, named, array_of, declaring};
 ghost use Rattle.st_statics.specs.ExampleWords.{starting, block, organised, defining, field_of, local, N, M, F, X, P};
 ghost use Rattle.st_statics.specs.ExampleTexts.{structures, doubled, starting_structures, one_global, configuring, task_at};
@@ -18,6 +20,13 @@ ghost use Rattle.st_statics.specs.ExampleTexts.{instance_at, resource_at, T};
 
 /// Types, functions, blocks and programs have one scope.
 pub fn units()
+    // PROGRAM P VAR n : INT; m : INT; n : INT; END_VAR
+    ensures apart { broken (local (declaring (at 14 N) (elementary Int) ∷ declaring (at 24 M) (elementary Int)
+        ∷ declaring (at 34 N) (elementary Int) ∷ [])) ≡ breaks DeclaredTwice 34 ∷ [] }
+    // PROGRAM P VAR n, n : INT; END_VAR
+    ensures in_one_declaration { broken
+        (local (record { names = at 14 N ∷ at 17 N ∷ []; declared = elementary Int; initial = None } ∷ []))
+        ≡ breaks DeclaredTwice 17 ∷ [] }
     // TYPE x : ARRAY [1..2] OF INT; x : STRUCT n : INT; END_STRUCT; END_TYPE
     ensures two_types { broken (types (defining (at 5 X) (array (array_of 9 (pos 1) (pos 2) (Elementary Int 0)))
         ∷ defining (at 40 X) (structure (field_of (at 50 N) (elementary Int) ∷ [])) ∷ []) ∷ [])
@@ -47,6 +56,21 @@ pub fn units()
         (organised Program (at 8 P) (block (Local None) (declaring (at 14 N) (elementary Int) ∷ []) ∷ []) []
         ∷ organised Program (at 58 M) (block (Local None) (declaring (at 64 N) (elementary Int) ∷ []) ∷ []) [] ∷ [])
         ≡ [] }
+{}
+
+/// Names of standard functions and blocks, as names of a program's variables.
+pub fn standard_names()
+    // SR, RS, .. TP
+    ensures blocks { twice_declared (local (declaring_all 100 block_names)) ≡ upwards 100 10 }
+    // ABS, MIN, .. ROR
+    ensures functions { twice_declared (local (declaring_all 100 function_names)) ≡ upwards 100 9 }
+    // SINT_TO_BOOL, INT_TO_BOOL, .. LWORD_TO_BOOL, BOOL_TO_SINT
+    ensures conversions { twice_declared (local (declaring_all 100 conversion_names)) ≡ upwards 100 13 }
+    // BOOL_TO_INT once more, between numbers and bit strings; INT_TO_INT, TIME_TO_INT and others are none
+    ensures both_ways { twice_declared (local (declaring_all 100 (codes "BOOL_TO_INT" ∷ codes "INT_TO_UDINT"
+        ∷ codes "UDINT_TO_INT" ∷ codes "BYTE_TO_LINT" ∷ codes "LINT_TO_BYTE" ∷ []))) ≡ upwards 100 5 }
+    ensures free { twice_declared (local (declaring_all 100 (codes "INT_TO_INT" ∷ codes "TIME_TO_INT" ∷ codes "INT_TO_TIME"
+        ∷ codes "INT_TO_" ∷ codes "INT_TO_BOOLS" ∷ codes "ABSS" ∷ codes "TO" ∷ codes "TRUNC" ∷ []))) ≡ [] }
 {}
 
 /// Configurations: globals have a scope, resources have one, and tasks and instances have one a resource.

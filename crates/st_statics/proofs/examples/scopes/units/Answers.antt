@@ -31,3 +31,11 @@ returns-clause-fields c = refl
 pub returns-clause-two_units : goal.returns-clause-two_units
 unfolding standard_of standard_functions block_of has_chain leads_to
 returns-clause-two_units c = refl
+
+pub returns-clause-apart : goal.returns-clause-apart
+unfolding standard_of standard_functions block_of has_chain leads_to
+returns-clause-apart c = refl
+
+pub returns-clause-in_one_declaration : goal.returns-clause-in_one_declaration
+unfolding standard_of standard_functions block_of has_chain leads_to
+returns-clause-in_one_declaration c = refl
