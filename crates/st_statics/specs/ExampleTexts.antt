@@ -23,8 +23,10 @@ use Rattle.st_trees.specs.Configurations.{GlobalDeclaration, GlobalBlock, listed
 use Rattle.st_trees.specs.Sources.{types, configuration, Source}
 use Rattle.st_types.specs.Scopes.{Name}
 use Rattle.st_types.specs.NameTypes.{Declared}
-use Rattle.st_statics.specs.ExampleWords.{at, number, reading, calling, elementary, named, array, array_of, declaring, starting}
-use Rattle.st_statics.specs.ExampleWords.{block, organised, defining, field_of, setting, start_of, local, modes, alarms, N, M, B, F, X, P}
+use Rattle.st_statics.specs.ExampleWords.{at, number, reading, calling, elementary, named, array, array_of, declaring}
+use Rattle.st_statics.specs.ExampleWords.{starting}
+use Rattle.st_statics.specs.ExampleWords.{block, organised, defining, field_of, setting, start_of, local, modes}
+use Rattle.st_statics.specs.ExampleWords.{alarms, N, M, B, F, X, P}
 
 abbrev pub A : Name
 A = codes "A"

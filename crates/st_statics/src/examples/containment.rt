@@ -7,6 +7,8 @@ ghost use Rattle.st_trees.specs.declared.data_type.VariableType.TheVariants.{Arr
 ghost use Rattle.st_trees.specs.declared.declaration.Section.TheVariants.{Local, Constant, External};
 ghost use Rattle.st_trees.specs.declared.unit.UnitSort.TheVariants.{Function, FunctionBlock, Program};
 ghost use Rattle.st_trees.specs.Declarations.{structure};
+ghost use Rattle.st_trees.specs.Declarations as definitions;
+ghost use Rattle.st_statics.specs.ExampleWords.{modes, MODE};
 ghost use Rattle.st_trees.specs.Sources.{types};
 ghost use Rattle.st_statics.specs.declared.rule.Rule.TheVariants.{WrongType, TooDeep};
 ghost use Rattle.st_statics.specs.Rules.{broken};
@@ -78,6 +80,21 @@ pub fn depths_of_units()
     // a standard block has the depth 2
     ensures deepest_over_timer { broken (chain_of_blocks (named 1000 (codes "TON")) 62) ≡ [] }
     ensures too_deep_over_timer { broken (chain_of_blocks (named 1000 (codes "TON")) 63) ≡ breaks TooDeep 63 ∷ [] }
+    // an enumerated type has no parts, and neither has FUNCTION_BLOCK X without variables
+    ensures deepest_over_enumeration { broken (types (modes ∷ []) ∷ chain_of_blocks (named 1000 MODE) 63) ≡ [] }
+    ensures deepest_over_empty_block { broken (organised FunctionBlock (at 1000 X) [] [] ∷ chain_of_blocks (named 1000 X) 63)
+        ≡ [] }
+    ensures too_deep_over_empty_block { broken
+        (organised FunctionBlock (at 1000 X) [] [] ∷ chain_of_blocks (named 1000 X) 64) ≡ breaks TooDeep 64 ∷ [] }
+    // PROGRAM P VAR x : ARRAY [1..2] OF the 63rd structure; END_VAR, which is 64 deep, and of the 62nd
+    ensures array_too_deep { broken (types (chain_of_types 63) ∷ local (declaring (at 2010 X)
+        (Array (array_of 2014 (pos 1) (pos 2) (Named (at 2030 (63 ∷ []))))) ∷ [])) ≡ breaks TooDeep 2014 ∷ [] }
+    ensures deepest_array { broken (types (chain_of_types 62) ∷ local (declaring (at 2010 X)
+        (Array (array_of 2014 (pos 1) (pos 2) (Named (at 2030 (62 ∷ []))))) ∷ [])) ≡ [] }
+    // TYPE n : ARRAY [1..2] OF the 63rd structure; END_TYPE
+    ensures array_type_too_deep { broken (types (defining (at 2000 N)
+        (definitions.array (array_of 2004 (pos 1) (pos 2) (Named (at 2020 (63 ∷ []))))) ∷ chain_of_types 63) ∷ [])
+        ≡ breaks TooDeep 2000 ∷ [] }
     // a program over the deepest block is bounded by no depth
     ensures program_over_deepest { broken
         (organised Program (at 2000 P) (block (Local None) (declaring (at 2010 N) (named 2014 (63 ∷ [])) ∷ []) ∷ []) []

@@ -31,3 +31,27 @@ returns-clause-function_too_deep c = refl
 pub returns-clause-program_over_deepest : goal.returns-clause-program_over_deepest
 unfolding standard_of standard_functions block_of has_chain leads_to
 returns-clause-program_over_deepest c = refl
+
+pub returns-clause-deepest_over_enumeration : goal.returns-clause-deepest_over_enumeration
+unfolding standard_of standard_functions block_of has_chain leads_to
+returns-clause-deepest_over_enumeration c = refl
+
+pub returns-clause-deepest_over_empty_block : goal.returns-clause-deepest_over_empty_block
+unfolding standard_of standard_functions block_of has_chain leads_to
+returns-clause-deepest_over_empty_block c = refl
+
+pub returns-clause-too_deep_over_empty_block : goal.returns-clause-too_deep_over_empty_block
+unfolding standard_of standard_functions block_of has_chain leads_to
+returns-clause-too_deep_over_empty_block c = refl
+
+pub returns-clause-array_too_deep : goal.returns-clause-array_too_deep
+unfolding standard_of standard_functions block_of has_chain leads_to
+returns-clause-array_too_deep c = refl
+
+pub returns-clause-deepest_array : goal.returns-clause-deepest_array
+unfolding standard_of standard_functions block_of has_chain leads_to
+returns-clause-deepest_array c = refl
+
+pub returns-clause-array_type_too_deep : goal.returns-clause-array_type_too_deep
+unfolding standard_of standard_functions block_of has_chain leads_to
+returns-clause-array_type_too_deep c = refl
