@@ -17,8 +17,9 @@ use Rattle.st_trees.specs.Expressions.{Expr, binary, Variable, variable, Selecto
 use Rattle.st_trees.specs.Statements.{Stmt, CASE, case_arms_of, stmts_of}
 use Rattle.st_trees.specs.Initials.{Initial, list, Element, elements_of, members_of}
 use Rattle.st_trees.specs.Initials as initials
-use Rattle.st_trees.specs.Declarations.{TypeDeclaration, Declaration, structure}
+use Rattle.st_trees.specs.Declarations.{TypeDeclaration, Declaration, VariableBlock, structure}
 use Rattle.st_trees.specs.Declarations as definitions
+use Rattle.st_trees.specs.Units.{OrganisationUnit}
 use Rattle.st_trees.specs.Configurations.{GlobalDeclaration, GlobalBlock, listed, Resource, Configuration}
 use Rattle.st_trees.specs.Sources.{types, configuration, Source}
 use Rattle.st_types.specs.Scopes.{Name}
@@ -130,6 +131,9 @@ task_at place x = record {
   priority = record { place = place + 10; number = 0 };
 }
 
+abbrev pub with_priority : ℕ → Task → Task
+with_priority n t = record t { priority = record { place = t.priority.place; number = n } }
+
 -- PROGRAM x WITH T : P
 abbrev pub instance_at : ℕ → Name → Instance
 instance_at place x = record { name = at place x; task = Some (at (place + 7) T); program = at (place + 11) P }
@@ -194,17 +198,24 @@ three_inputs es =
     (declaring (at 70 N) (elementary Int) ∷ declaring (at 80 B) (elementary Boolean) ∷ []) ∷ [])
     (setting 100 N (calling 105 F es) ∷ []) ∷ []
 
--- PROGRAM P VAR_EXTERNAL .. : INT; END_VAR
+-- VAR_EXTERNAL .. : INT; END_VAR, programs with such a block, and a text of one
+abbrev pub externals_block : List Identifier → VariableBlock
+externals_block names = block External (record { names = names; declared = elementary Int; initial = None } ∷ [])
+
+abbrev pub program_of : List VariableBlock → OrganisationUnit
+program_of blocks = record { sort = Program; name = at 8 P; blocks = blocks; body = [] }
+
+abbrev pub externals_at : List Identifier → OrganisationUnit
+externals_at names = program_of (externals_block names ∷ [])
+
+abbrev pub units_of : List OrganisationUnit → Declared
+units_of us = record { types = []; units = us }
+
+abbrev pub one_unit_of : List VariableBlock → Declared
+one_unit_of blocks = units_of (program_of blocks ∷ [])
+
 abbrev pub externals_of : List Identifier → Declared
-externals_of names = record {
-  types = [];
-  units = record {
-    sort = Program;
-    name = at 8 P;
-    blocks = block External (record { names = names; declared = elementary Int; initial = None } ∷ []) ∷ [];
-    body = [];
-  } ∷ [];
-}
+externals_of names = one_unit_of (externals_block names ∷ [])
 
 -- TYPE x : ARRAY [1..2] OF t; f : ARRAY [1..2] OF m; t, m : ARRAY [1..3] OF INT; a : ARRAY [1..3] OF DINT; END_TYPE
 abbrev pub texts_with_arrays : Declared

@@ -16,8 +16,8 @@ ghost use Rattle.st_statics.specs.ExampleWords.{elementary, named, array_of, add
 ghost use Rattle.st_statics.specs.ExampleWords.{texts_with_types, external_text, globals_of, global, addressed};
 ghost use Rattle.st_statics.specs.ExampleWords.{one_program, running, single_on, unit_of, with_start, with_t};
 ghost use Rattle.st_statics.specs.ExampleTexts.{resourced, globals_in, holding, copies, resource_at, task_at, instance_at};
-ghost use Rattle.st_statics.specs.ExampleTexts.{externals_of, texts_with_arrays, text_with_modes, A, T};
-ghost use Rattle.st_statics.specs.ExampleWords.{F, MODE, ALARM};
+ghost use Rattle.st_statics.specs.ExampleTexts.{externals_block, externals_at, units_of, one_unit_of, externals_of, texts_with_arrays, text_with_modes, A, T};
+ghost use Rattle.st_statics.specs.ExampleWords.{block, declaring, F, MODE, ALARM};
 ghost use Rattle.st_trees.specs.Configurations.{listed};
 ghost use Rattle.st_statics.specs.ExampleWords.{at, configured, start_of, tasked, P};
 ghost use Rattle.st_statics.specs.ExampleWords as words;
@@ -97,6 +97,14 @@ pub fn more_externals()
         ≡ true }
     ensures second_declaration { are_known (external_text External)
         (globals_of None (global M (elementary Int) ∷ global N (elementary Int) ∷ []) one_program) ≡ true }
+    // of the second unit, of its second block, and of a block's second declaration, where m is no global
+    ensures second_unit { are_known (units_of (externals_at (at 20 N ∷ []) ∷ externals_at (at 60 M ∷ []) ∷ []))
+        (globals_of None (global N (elementary Int) ∷ []) one_program) ≡ false }
+    ensures second_block_of_externals { are_known (one_unit_of (externals_block (at 20 N ∷ []) ∷ externals_block (at 60 M ∷ []) ∷ []))
+        (globals_of None (global N (elementary Int) ∷ []) one_program) ≡ false }
+    ensures second_declaration_of_externals { are_known
+        (one_unit_of (block External (declaring (at 20 N) (elementary Int) ∷ declaring (at 30 M) (elementary Int) ∷ []) ∷ []))
+        (globals_of None (global N (elementary Int) ∷ []) one_program) ≡ false }
     // in the second block of globals
     ensures second_block { are_known (external_text External)
         (globals_in (record { qualifier = Some Constant; declarations = global M (elementary Int) ∷ [] }
@@ -126,6 +134,11 @@ pub fn resources()
     // of the second task, where the first has none
     ensures second_single { are_known (unit_of Program)
         (globals_of None (global X (elementary Int) ∷ []) (running (tasked 0 ∷ single_on X ∷ []) P with_t)) ≡ false }
+    // a second instance, of a program that the text has not
+    ensures second_instance { are_known (unit_of Program) (resourced (resource_at 40 X (task_at 60 T ∷ [])
+        (instance_at 90 N ∷ record { name = at 120 M; task = with_t; program = at 130 M } ∷ []) ∷ [])) ≡ false }
+    ensures two_instances { are_known (unit_of Program) (resourced (resource_at 40 X (task_at 60 T ∷ [])
+        (instance_at 90 N ∷ instance_at 120 M ∷ []) ∷ [])) ≡ true }
     // a task of the other resource
     ensures task_of_another_resource { are_known (unit_of Program)
         (resourced (one_program ∷ resource_at 40 M (task_at 60 X ∷ []) (instance_at 90 N ∷ []) ∷ [])) ≡ false }
@@ -163,6 +176,14 @@ pub fn addresses()
     ensures doubled_later { has_sound_addresses (external_text External)
         (globals_of None (addressed N Output Bit 5 (elementary Boolean) ∷ addressed M Output Bit 6 (elementary Boolean)
         ∷ addressed X Output Bit 5 (elementary Boolean) ∷ []) one_program) ≡ false }
+    // the second declaration, and the second block
+    ensures second_out_of_range { has_sound_addresses (external_text External)
+        (globals_of None (addressed N Input Bit 0 (elementary Boolean) ∷ addressed M Input Bit 1024 (elementary Boolean) ∷ [])
+        one_program) ≡ false }
+    ensures second_block_out_of_range { has_sound_addresses (external_text External)
+        (globals_in (record { qualifier = None; declarations = [] }
+        ∷ record { qualifier = None; declarations = addressed M Input Bit 1024 (elementary Boolean) ∷ [] } ∷ []) one_program)
+        ≡ false }
     // a BOOL at %IW0, an INT at %IX0, a value of an enumerated type at %QW0
     ensures truth_of_a_word { has_sound_addresses (external_text External)
         (globals_of None (addressed N Input WordWide 0 (elementary Boolean) ∷ []) one_program) ≡ false }

@@ -65,3 +65,11 @@ returns-clause-without_address c = refl
 pub returns-clause-doubled_in_two_blocks : goal.returns-clause-doubled_in_two_blocks
 unfolding same_within
 returns-clause-doubled_in_two_blocks c = refl
+
+pub returns-clause-second_out_of_range : goal.returns-clause-second_out_of_range
+unfolding same_within
+returns-clause-second_out_of_range c = refl
+
+pub returns-clause-second_block_out_of_range : goal.returns-clause-second_block_out_of_range
+unfolding same_within
+returns-clause-second_block_out_of_range c = refl

@@ -41,3 +41,15 @@ returns-clause-both_externals c = refl
 pub returns-clause-second_block : goal.returns-clause-second_block
 unfolding same_within
 returns-clause-second_block c = refl
+
+pub returns-clause-second_unit : goal.returns-clause-second_unit
+unfolding same_within
+returns-clause-second_unit c = refl
+
+pub returns-clause-second_block_of_externals : goal.returns-clause-second_block_of_externals
+unfolding same_within
+returns-clause-second_block_of_externals c = refl
+
+pub returns-clause-second_declaration_of_externals : goal.returns-clause-second_declaration_of_externals
+unfolding same_within
+returns-clause-second_declaration_of_externals c = refl

@@ -41,3 +41,11 @@ returns-clause-task_of_another_resource c = refl
 pub returns-clause-second_single : goal.returns-clause-second_single
 unfolding same_within
 returns-clause-second_single c = refl
+
+pub returns-clause-second_instance : goal.returns-clause-second_instance
+unfolding same_within
+returns-clause-second_instance c = refl
+
+pub returns-clause-two_instances : goal.returns-clause-two_instances
+unfolding same_within
+returns-clause-two_instances c = refl
