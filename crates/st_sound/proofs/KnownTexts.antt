@@ -27,9 +27,11 @@ use Rattle.st_types.specs.StandardBlocks.{StandardBlock, block_of, outputs_of}
 use Rattle.st_types.specs.StandardFunctions.{Standard, standard_of}
 use Rattle.st_types.specs.Enumerations.{Enumeration, enumerations_of, enumeration_named, kind_of_enumeration}
 use Rattle.st_types.specs.NameTypes.{Declared, types_in, units_in, declared_in, is_named, type_named, unit_named}
-use Rattle.st_types.specs.NameTypes.{type_in, or_type, type_in_blocks, field_type, result_type, variable_type, elementary}
+use Rattle.st_types.specs.NameTypes.{type_in, or_type, type_in_blocks, field_type, result_type, variable_type}
+use Rattle.st_types.specs.NameTypes.{elementary}
 use Rattle.st_types.specs.NameTypes.{member_kind, definition_of, element_type, is_input, is_output, type_in_sections}
-use Rattle.st_types.specs.NameTypes.{sections_of, variable_of_block, block_variable, member_type, selected_type, type_behind}
+use Rattle.st_types.specs.NameTypes.{sections_of, variable_of_block, block_variable, member_type, selected_type}
+use Rattle.st_types.specs.NameTypes.{type_behind}
 use Rattle.st_types.specs.NameTypes.{kind_among, input_kinds, result_kind, kinds_of_declaration, kinds_of_declarations}
 use Rattle.st_statics.specs.declared.rule.Rule.TheVariants.{UnknownName, WrongType, OutOfRange, TooManyNames}
 use Rattle.st_statics.specs.declared.rule.Broken.{Broken}
@@ -39,10 +41,12 @@ use Rattle.st_statics.specs.Environments.{Environment, Callee, standard, own, ca
 use Rattle.st_statics.specs.Environments.{is_block, is_block_type}
 use Rattle.st_statics.specs.Typings.{typing_of_named, typing_of_type, is_nothing, is_composite}
 use Rattle.st_statics.specs.DeclaredTypes.{Role, variable_of, field, Declaring, declarings_of_definition}
-use Rattle.st_statics.specs.DeclaredTypes.{declarings_of_block, declarings_of_globals, declarings_in, array_of_definition}
+use Rattle.st_statics.specs.DeclaredTypes.{declarings_of_block, declarings_of_globals, declarings_in}
+use Rattle.st_statics.specs.DeclaredTypes.{array_of_definition}
 use Rattle.st_statics.specs.DeclaredTypes.{array_of_type, named_arrays_of_element, unnamed_arrays_in, result_of_sort}
 use Rattle.st_statics.specs.DeclaredTypes.{arrays_in, results_in, enumerations_in}
-use Rattle.st_statics.specs.TypeRules.{wrong_named, wrong_simple, wrong_name, wrong_declaring, wrong_element, wrong_result}
+use Rattle.st_statics.specs.TypeRules.{wrong_named, wrong_simple, wrong_name, wrong_declaring, wrong_element}
+use Rattle.st_statics.specs.TypeRules.{wrong_result}
 use Rattle.st_statics.specs.TypeRules.{may_be_instance, is_without_parts, place_of_type, place_of_simple}
 use Rattle.st_statics.specs.TypeRules.{wrong_bound_numbers, surplus_name, wrong_priorities_of}
 use Rattle.st_statics.specs.Rules.{wrong_types}
@@ -140,7 +144,8 @@ type_good text blocks (types.Array a) h g =
 
 abbrev parts_fault : Declared → Declaring → List Broken
 parts_fault text d = breaking WrongType
-    (in_case (is_without_parts d.role && is_composite (typing_of_type text (Some d.declared))) (place_of_type d.declared))
+    (in_case (is_without_parts d.role && is_composite (typing_of_type text (Some d.declared)))
+    (place_of_type d.declared))
 
 abbrev start_fault : Declared → Declaring → List Broken
 start_fault text d =
@@ -551,4 +556,5 @@ types_are_known source u h there =
     (each_nested (wrong_element text) (λ d. array_of_type d.declared) (declarings_in source) arrays.1) in
     let units = units_right text source right (back_empty (names ++ declared ++ elements) results to_results) in
     unit_known text (types_good text source right arrays.0) units u
-    (All-contains (UnitRight text) (units_in source) u (All-from_recursion (UnitRight text) (units_in source) units) there)
+    (All-contains (UnitRight text) (units_in source) u (All-from_recursion (UnitRight text)
+    (units_in source) units) there)

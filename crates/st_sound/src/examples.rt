@@ -32,5 +32,6 @@ pub fn premises()
     ensures known { IsKnown counter_text (elementary Int) }
     // a name that the text has not, and an array of such
     ensures unknown { IsKnown counter_text unknown → ⊥ }
-    ensures array_of_unknown { IsKnownWhole counter_text (Array (array_of 30 (pos 1) (pos 2) (Named (at 50 (codes "FOO"))))) → ⊥ }
+    ensures array_of_unknown { IsKnownWhole counter_text (Array (array_of 30 (pos 1) (pos 2) (Named (at 50
+        (codes "FOO"))))) → ⊥ }
 {}

@@ -15,8 +15,10 @@ ghost use Rattle.st_statics.specs.ConfigurationRules.{has_too_many, have_tasks};
 ghost use Rattle.st_statics.specs.ExampleWords.{elementary, named, array_of, add, N, M, X};
 ghost use Rattle.st_statics.specs.ExampleWords.{texts_with_types, external_text, globals_of, global, addressed};
 ghost use Rattle.st_statics.specs.ExampleWords.{one_program, running, single_on, unit_of, with_start, with_t};
-ghost use Rattle.st_statics.specs.ExampleTexts.{resourced, globals_in, holding, copies, resource_at, task_at, instance_at};
-ghost use Rattle.st_statics.specs.ExampleTexts.{externals_block, externals_at, units_of, one_unit_of, externals_of, texts_with_arrays, text_with_modes, A, T};
+ghost use Rattle.st_statics.specs.ExampleTexts.{resourced, globals_in, holding, copies, resource_at, task_at};
+ghost use Rattle.st_statics.specs.ExampleTexts.{instance_at};
+ghost use Rattle.st_statics.specs.ExampleTexts.{externals_block, externals_at, units_of, one_unit_of, externals_of};
+ghost use Rattle.st_statics.specs.ExampleTexts.{texts_with_arrays, text_with_modes, A, T};
 ghost use Rattle.st_statics.specs.ExampleWords.{block, declaring, F, MODE, ALARM};
 ghost use Rattle.st_trees.specs.Configurations.{listed};
 ghost use Rattle.st_statics.specs.ExampleWords.{at, configured, start_of, tasked, P};
@@ -100,10 +102,12 @@ pub fn more_externals()
     // of the second unit, of its second block, and of a block's second declaration, where m is no global
     ensures second_unit { are_known (units_of (externals_at (at 20 N ∷ []) ∷ externals_at (at 60 M ∷ []) ∷ []))
         (globals_of None (global N (elementary Int) ∷ []) one_program) ≡ false }
-    ensures second_block_of_externals { are_known (one_unit_of (externals_block (at 20 N ∷ []) ∷ externals_block (at 60 M ∷ []) ∷ []))
+    ensures second_block_of_externals { are_known (one_unit_of (externals_block (at 20 N ∷ [])
+        ∷ externals_block (at 60 M ∷ []) ∷ []))
         (globals_of None (global N (elementary Int) ∷ []) one_program) ≡ false }
     ensures second_declaration_of_externals { are_known
-        (one_unit_of (block External (declaring (at 20 N) (elementary Int) ∷ declaring (at 30 M) (elementary Int) ∷ []) ∷ []))
+        (one_unit_of (block External (declaring (at 20 N) (elementary Int) ∷ declaring (at 30 M) (elementary Int)
+        ∷ []) ∷ []))
         (globals_of None (global N (elementary Int) ∷ []) one_program) ≡ false }
     // in the second block of globals
     ensures second_block { are_known (external_text External)
@@ -178,11 +182,13 @@ pub fn addresses()
         ∷ addressed X Output Bit 5 (elementary Boolean) ∷ []) one_program) ≡ false }
     // the second declaration, and the second block
     ensures second_out_of_range { has_sound_addresses (external_text External)
-        (globals_of None (addressed N Input Bit 0 (elementary Boolean) ∷ addressed M Input Bit 1024 (elementary Boolean) ∷ [])
+        (globals_of None (addressed N Input Bit 0 (elementary Boolean)
+        ∷ addressed M Input Bit 1024 (elementary Boolean) ∷ [])
         one_program) ≡ false }
     ensures second_block_out_of_range { has_sound_addresses (external_text External)
         (globals_in (record { qualifier = None; declarations = [] }
-        ∷ record { qualifier = None; declarations = addressed M Input Bit 1024 (elementary Boolean) ∷ [] } ∷ []) one_program)
+        ∷ record { qualifier = None; declarations = addressed M Input Bit 1024 (elementary Boolean) ∷ [] }
+        ∷ []) one_program)
         ≡ false }
     // a BOOL at %IW0, an INT at %IX0, a value of an enumerated type at %QW0
     ensures truth_of_a_word { has_sound_addresses (external_text External)

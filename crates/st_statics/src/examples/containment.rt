@@ -16,7 +16,8 @@ ghost use Rattle.st_statics.specs.ExampleWords.{setting, breaks, at, name, calli
 ghost use Rattle.st_statics.specs.ExampleWords.{declaring};
 ghost use Rattle.st_statics.specs.ExampleWords.{block};
 ghost use Rattle.st_statics.specs.ExampleTexts.{chain_of_blocks, chain_of_functions};
-ghost use Rattle.st_statics.specs.ExampleWords.{declares, organised, defining, field_of, local, chain_of_types, N, M, F, X, P};
+ghost use Rattle.st_statics.specs.ExampleWords.{declares, organised, defining, field_of, local, chain_of_types, N, M};
+ghost use Rattle.st_statics.specs.ExampleWords.{F, X, P};
 
 /// What contains itself.
 pub fn cycles()
@@ -82,7 +83,8 @@ pub fn depths_of_units()
     ensures too_deep_over_timer { broken (chain_of_blocks (named 1000 (codes "TON")) 63) ≡ breaks TooDeep 63 ∷ [] }
     // an enumerated type has no parts, and neither has FUNCTION_BLOCK X without variables
     ensures deepest_over_enumeration { broken (types (modes ∷ []) ∷ chain_of_blocks (named 1000 MODE) 63) ≡ [] }
-    ensures deepest_over_empty_block { broken (organised FunctionBlock (at 1000 X) [] [] ∷ chain_of_blocks (named 1000 X) 63)
+    ensures deepest_over_empty_block { broken (organised FunctionBlock (at 1000 X) [] []
+        ∷ chain_of_blocks (named 1000 X) 63)
         ≡ [] }
     ensures too_deep_over_empty_block { broken
         (organised FunctionBlock (at 1000 X) [] [] ∷ chain_of_blocks (named 1000 X) 64) ≡ breaks TooDeep 64 ∷ [] }

@@ -170,12 +170,15 @@ pub fn configurations()
     // VAR_GLOBAL s AT %IX0 : BOOL; END_VAR
     ensures address { broken (configured None (located_at 40 N ∷ []) (tasked 65535)) ≡ [] }
     // RESOURCE R ON CPU TASK T (PRIORITY := 65536); TASK m (PRIORITY := 0); and the other way round
-    ensures first_task { broken (configuring None [] (resource_at 40 X (with_priority 65536 (task_at 60 M) ∷ task_at 80 N ∷ []) [] ∷ []))
+    ensures first_task { broken (configuring None [] (resource_at 40 X (with_priority 65536 (task_at 60 M)
+        ∷ task_at 80 N ∷ []) [] ∷ []))
         ≡ breaks OutOfRange 70 ∷ [] }
-    ensures second_task { broken (configuring None [] (resource_at 40 X (task_at 60 M ∷ with_priority 65536 (task_at 80 N) ∷ []) [] ∷ []))
+    ensures second_task { broken (configuring None [] (resource_at 40 X (task_at 60 M
+        ∷ with_priority 65536 (task_at 80 N) ∷ []) [] ∷ []))
         ≡ breaks OutOfRange 90 ∷ [] }
     // VAR_GLOBAL RETAIN n : BOOL; m AT %IX0 : BOOL; END_VAR
-    ensures second_address { broken (configured (Some Retain) (one_global 30 M (elementary Boolean) None ∷ located_at 40 N ∷ []) (tasked 5))
+    ensures second_address { broken (configured (Some Retain) (one_global 30 M (elementary Boolean) None
+        ∷ located_at 40 N ∷ []) (tasked 5))
         ≡ breaks RetainedAddress 40 ∷ [] }
     // PRIORITY := 65536
     ensures priority { broken (configured None [] (tasked 65536)) ≡ breaks OutOfRange 90 ∷ [] }

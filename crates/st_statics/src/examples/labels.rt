@@ -5,7 +5,8 @@ ghost use Rattle.st_words.specs.declared.kind.Kind.TheVariants.{Int, Sint};
 ghost use Rattle.st_trees.specs.declared.statement.Label.TheVariants.{Single, Range};
 ghost use Rattle.st_statics.specs.declared.rule.Rule.TheVariants.{UnknownName, WrongType, OutOfRange, WrongLabel};
 ghost use Rattle.st_statics.specs.Rules.{broken};
-ghost use Rattle.st_statics.specs.ExampleWords.{breaks, number, digits, typed_digits, reading, single, between, case_of, wide};
+ghost use Rattle.st_statics.specs.ExampleWords.{breaks, number, digits, typed_digits, reading, single, between};
+ghost use Rattle.st_statics.specs.ExampleWords.{case_of, wide};
 ghost use Rattle.st_statics.specs.ExampleWords.{N, M};
 ghost use Rattle.st_statics.specs.ExampleWords.{B};
 

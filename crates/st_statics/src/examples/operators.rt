@@ -4,7 +4,8 @@ ghost use Rattle.std.specs.Prelude.{◌≡◌, ◌∷◌, [], pos, negsuc, true,
 ghost use Rattle.st_words.specs.declared.kind.Kind.TheVariants.{Sint};
 ghost use Rattle.st_words.specs.declared.operator.UnaryOperator.TheVariants.{Negate, Not};
 ghost use Rattle.st_words.specs.declared.operator.BinaryOperator.TheVariants.{Equal, NotEqual, Less, Greater};
-ghost use Rattle.st_words.specs.declared.operator.BinaryOperator.TheVariants.{LessOrEqual, GreaterOrEqual, Add, Subtract};
+ghost use Rattle.st_words.specs.declared.operator.BinaryOperator.TheVariants.{LessOrEqual, GreaterOrEqual, Add};
+ghost use Rattle.st_words.specs.declared.operator.BinaryOperator.TheVariants.{Subtract};
 ghost use Rattle.st_words.specs.declared.operator.BinaryOperator.TheVariants.{Multiply, Divide, Modulo, And, Or, Xor};
 ghost use Rattle.st_trees.specs.Expressions.{read, unary, binary, parenthesis};
 ghost use Rattle.st_trees.specs.Statements.{assign};

@@ -15,7 +15,8 @@ ghost use Rattle.st_statics.specs.TwiceDeclared.{twice_declared};
 ghost use Rattle.st_statics.specs.ExampleTexts.{declaring_all, upwards, block_names, function_names, conversion_names};
 ghost use Rattle.st_statics.specs.ExampleWords.{at, breaks, digits, start_of, elementary, named, array_of, declaring};
 ghost use Rattle.st_statics.specs.ExampleWords.{starting, block, organised, defining, field_of, local, N, M, F, X, P};
-ghost use Rattle.st_statics.specs.ExampleTexts.{structures, doubled, starting_structures, one_global, configuring, task_at};
+ghost use Rattle.st_statics.specs.ExampleTexts.{structures, doubled, starting_structures, one_global, configuring};
+ghost use Rattle.st_statics.specs.ExampleTexts.{task_at};
 ghost use Rattle.st_statics.specs.ExampleTexts.{instance_at, resource_at, T};
 
 /// Types, functions, blocks and programs have one scope.
@@ -69,7 +70,8 @@ pub fn standard_names()
     // BOOL_TO_INT once more, between numbers and bit strings; INT_TO_INT, TIME_TO_INT and others are none
     ensures both_ways { twice_declared (local (declaring_all 100 (codes "BOOL_TO_INT" ∷ codes "INT_TO_UDINT"
         ∷ codes "UDINT_TO_INT" ∷ codes "BYTE_TO_LINT" ∷ codes "LINT_TO_BYTE" ∷ []))) ≡ upwards 100 5 }
-    ensures free { twice_declared (local (declaring_all 100 (codes "INT_TO_INT" ∷ codes "TIME_TO_INT" ∷ codes "INT_TO_TIME"
+    ensures free { twice_declared (local (declaring_all 100 (codes "INT_TO_INT" ∷ codes "TIME_TO_INT"
+        ∷ codes "INT_TO_TIME"
         ∷ codes "INT_TO_" ∷ codes "INT_TO_BOOLS" ∷ codes "ABSS" ∷ codes "TO" ∷ codes "TRUNC" ∷ []))) ≡ [] }
 {}
 

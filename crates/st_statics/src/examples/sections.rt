@@ -10,7 +10,8 @@ ghost use Rattle.st_statics.specs.declared.rule.Rule.TheVariants.{UnknownName, W
 ghost use Rattle.st_statics.specs.declared.rule.Rule.TheVariants.{ExitOutsideLoop, WrongArguments};
 ghost use Rattle.st_statics.specs.Rules.{broken};
 ghost use Rattle.st_statics.specs.ExampleWords.{at, breaks, number, truth, name, reading, element, part, setting};
-ghost use Rattle.st_statics.specs.ExampleWords.{calling, invoking, giving, copying, block, organised, declaring, array, single};
+ghost use Rattle.st_statics.specs.ExampleWords.{calling, invoking, giving, copying, block, organised, declaring};
+ghost use Rattle.st_statics.specs.ExampleWords.{array, single};
 ghost use Rattle.st_statics.specs.ExampleWords.{add_constant, wide, N, M, B, F, X, P};
 ghost use Rattle.st_statics.specs.ExampleTexts.{in_section, function_f, with_own_block, case_with, A};
 
