@@ -1,6 +1,6 @@
 //! A table of names.
 
-ghost use Rattle.std.specs.Prelude.{◌≡◌, List, ℕ, Option, Some, None, if◌then◌else◌, bytes_eq, OnOk};
+ghost use Rattle.std.specs.Prelude.{◌≡◌, List, ℕ, Option, Some, None, if◌then◌else◌, bytes_eq, OnOk, OnErr};
 ghost use Rattle.st_names.specs.Found.{found, or_found};
 
 use st_words::Name;
@@ -32,8 +32,9 @@ impl<'a, T: Copy> Index<'a, T> {
 
     /// Adds an entry behind the others.
     pub fn add(&mut self, name: &'a Name, value: T) -> Result<(), AllocError>
-        ensures { OnOk result ((q : List ℕ) → found self.new q
+        ensures added { OnOk result ((q : List ℕ) → found self.new q
             ≡ or_found (found self.old q) (if bytes_eq q name.now then Some value else None)) }
+        ensures err { OnErr result ((q : List ℕ) → found self.new q ≡ found self.old q) }
     {
         if self.find(name).is_none() {
             self.map.insert(name.as_slice(), value)?;

@@ -4,6 +4,7 @@
 //! definitions of `st_types` and `st_statics` say that the name stands for.
 #![tactic(auto)]
 
+pub mod examples;
 mod index;
 mod repeats;
 mod texts;

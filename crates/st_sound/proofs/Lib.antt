@@ -4,3 +4,4 @@ pub mod StandardLemmas
 pub mod ValueLaw
 pub mod AssignmentLaw
 pub mod KnownLemmas
+pub mod KnownTexts

@@ -8,7 +8,7 @@ use Rattle.st_words.specs.Kinds.{holds}
 use Rattle.st_words.specs.Values.{Datum}
 use Rattle.st_words.specs.Paths.{Path}
 use Rattle.st_trees.specs.declared.data_type.VariableType.{VariableType}
-use Rattle.st_trees.specs.Expressions.{Expr, Variable, Selector}
+use Rattle.st_trees.specs.Expressions.{Expr, Variable, Selectors}
 use Rattle.st_trees.specs.Statements.{assign}
 use Rattle.st_types.specs.Failures.{StandIns}
 use Rattle.st_types.specs.Stores.{Store, get, has_part}
@@ -16,7 +16,7 @@ use Rattle.st_types.specs.Scopes.{Name, Units, Scope, path_in, member_at, seen}
 use Rattle.st_types.specs.Evaluation.{value, known, element_at}
 use Rattle.st_types.specs.Loops.{End}
 use Rattle.st_types.specs.Execution.{exec}
-use Rattle.st_types.specs.NameTypes.{Declared, definition_of, member_type, element_type, selected_type, kind_among}
+use Rattle.st_types.specs.NameTypes.{Declared, definition_of, member_type, element_type, type_behind, kind_among}
 use Rattle.st_types.specs.Resolution.{resolved_expr}
 use Rattle.st_types.specs.ResolvedUnits.{resolved_stmt}
 use Rattle.st_statics.specs.Environments.{Environment, own, type_of_name, section_of, callee_of}
@@ -87,11 +87,14 @@ UnitsAgree env u v =
 abbrev pub IsKnown : Declared → VariableType → Type 0
 IsKnown text t = is_nothing (typing_of_type text (Some t)) ≡ false
 
--- The types of the unit's variables and of their parts stand for something, and so do the results of functions.
+-- a type that stands for something, with all that is selected from it
+abbrev pub IsKnownWhole : Declared → VariableType → Type 0
+IsKnownWhole text t = (xs : Selectors) (u : VariableType) → type_behind text xs t ≡ Some u → IsKnown text u
+
+-- The types of the unit's variables and of their parts stand for something, and so do the inputs and the results of
+-- functions.
 pub record AreKnown (env : Environment) : Type 0 where
-  pub variables : (x : Name) (t : VariableType) → type_of_name env x ≡ Some t → IsKnown env.text t
-  pub parts : (t u : VariableType) (x : Selector) → IsKnown env.text t → selected_type env.text t x ≡ Some u
-      → IsKnown env.text u
+  pub variables : (x : Name) (t : VariableType) → type_of_name env x ≡ Some t → IsKnownWhole env.text t
   pub inputs : (f : Name) (inputs : List (Option Kind)) (result : Option Kind)
       → callee_of env f ≡ Some (own inputs result) → list_all is_some inputs ≡ true
   pub results : (f : Name) (inputs : List (Option Kind)) (result : Option Kind)

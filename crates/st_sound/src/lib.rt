@@ -4,6 +4,7 @@
 //! its expression's type. The functions do nothing: their contracts are the laws.
 #![tactic(auto)]
 
+pub mod examples;
 mod laws;
 
-pub use laws::{assignments_are_sound, values_are_sound};
+pub use laws::{assignments_are_sound, types_of_a_text_are_known, values_are_sound};

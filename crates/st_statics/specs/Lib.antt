@@ -23,3 +23,4 @@ pub mod Depths
 pub mod Rules
 pub mod ConfigurationRules
 pub mod ExampleWords
+pub mod ExampleTexts

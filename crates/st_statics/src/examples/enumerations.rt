@@ -3,18 +3,19 @@
 ghost use Rattle.std.specs.Prelude.{◌≡◌, ◌∷◌, [], pos, codes, None, Some};
 ghost use Rattle.st_words.specs.declared.kind.Kind.TheVariants.{Int};
 ghost use Rattle.st_words.specs.declared.literal.Literal.TheVariants.{Enumerated};
-ghost use Rattle.st_words.specs.declared.operator.BinaryOperator.TheVariants.{Equal, Less};
+ghost use Rattle.st_words.specs.declared.operator.BinaryOperator.TheVariants.{Equal, NotEqual, Less, Add};
+ghost use Rattle.st_words.specs.declared.operator.UnaryOperator.TheVariants.{Negate, Not};
 ghost use Rattle.st_trees.specs.declared.statement.Label.TheVariants as labels;
 ghost use Rattle.st_trees.specs.declared.data_type.SimpleType.TheVariants.{Elementary, Named};
-ghost use Rattle.st_trees.specs.declared.declaration.Section.TheVariants.{Input};
-ghost use Rattle.st_trees.specs.declared.unit.UnitSort.TheVariants.{Function};
-ghost use Rattle.st_trees.specs.Expressions.{literal, binary};
-ghost use Rattle.st_trees.specs.Statements.{IF, arms_of, no_stmts};
-ghost use Rattle.st_trees.specs.Declarations.{enumeration};
+ghost use Rattle.st_trees.specs.declared.declaration.Section.TheVariants.{Input, Output};
+ghost use Rattle.st_trees.specs.declared.unit.UnitSort.TheVariants.{Function, FunctionBlock};
+ghost use Rattle.st_trees.specs.Expressions.{literal, read, unary, binary};
+ghost use Rattle.st_trees.specs.Statements.{IF, FOR, arms_of, no_stmts};
+ghost use Rattle.st_trees.specs.Declarations.{structure, array, enumeration};
 ghost use Rattle.st_trees.specs.Initials.{constant};
 ghost use Rattle.st_trees.specs.Sources.{types};
 ghost use Rattle.st_statics.specs.declared.rule.Rule.TheVariants.{UnknownName, DeclaredTwice, WrongType, WrongLabel};
-ghost use Rattle.st_statics.specs.declared.rule.Rule.TheVariants.{TooManyNames};
+ghost use Rattle.st_statics.specs.declared.rule.Rule.TheVariants.{TooManyNames, TooDeep};
 ghost use Rattle.st_statics.specs.Rules.{broken};
 ghost use Rattle.st_statics.specs.TypeRules.{surplus_name};
 ghost use Rattle.st_statics.specs.ExampleWords as words;
@@ -24,7 +25,8 @@ ghost use Rattle.st_statics.specs.ExampleWords.{declaring};
 ghost use Rattle.st_statics.specs.ExampleWords.{starting, block, organised, defining, step, starting_mode, many_names};
 ghost use Rattle.st_statics.specs.ExampleWords.{single};
 ghost use Rattle.st_statics.specs.ExampleWords.{case_of, modes, STOPPED, RUNNING, FAULT, CLEAR, MODE, ALARM};
-ghost use Rattle.st_statics.specs.ExampleWords.{N, M, F};
+ghost use Rattle.st_statics.specs.ExampleWords.{field_of, array_of, part, element, N, M, F, X};
+ghost use Rattle.st_statics.specs.ExampleTexts.{configuring, one_global};
 
 /// In `PROGRAM Step VAR m : Mode; k : Alarm; n : INT; clear : Mode; END_VAR`, with `Mode : (Stopped, Running, Fault)`
 /// and
@@ -62,7 +64,11 @@ pub fn values()
         (step (IF (arms_of ((binary Equal (reading 145 M) (literal (Enumerated (of_type 150 MODE FAULT))), no_stmts)
         ∷ [])) no_stmts ∷ [])) ≡ [] }
     // `IF m = k THEN END_IF`
-    ensures of_two_types { broken (step (IF (arms_of ((binary Equal (reading 145 M) (reading 150 (codes "K")), no_stmts) ∷ [])) no_stmts
+    ensures of_two_types { broken (step (IF (arms_of ((
+      binary Equal (reading 145 M) (reading 150
+          (codes "K")),
+      no_stmts,
+    ) ∷ [])) no_stmts
         ∷ []))
         ≡ breaks WrongType 145 ∷ [] }
     // `IF m < Mode#Fault THEN END_IF`: names have no order
@@ -76,6 +82,48 @@ pub fn values()
     ensures greater { broken
         (step (setting 140 M (calling 145 (codes "MAX") (reading 149 M ∷ reading 152 M ∷ [])) ∷ []))
         ≡ breaks WrongType 149 ∷ breaks WrongType 152 ∷ [] }
+{}
+
+/// Where these types stand for elementary ones, and where they do not.
+pub fn uses()
+    // TYPE Mode, Alarm; x : STRUCT m : Mode; END_STRUCT; t : ARRAY [1..2] OF Mode; END_TYPE
+    // FUNCTION_BLOCK F VAR_INPUT m : Mode; END_VAR VAR_OUTPUT k : Mode; END_VAR k := m; END_FUNCTION_BLOCK
+    // VAR_GLOBAL m : Mode; END_VAR
+    ensures declared { broken (types (modes ∷ defining (at 60 X) (structure (field_of (at 70 M) (named 74 MODE) ∷ []))
+        ∷ defining (at 80 (codes "T")) (array (array_of 84 (pos 1) (pos 2) (Named (at 99 MODE)))) ∷ [])
+        ∷ organised FunctionBlock (at 120 F) (block (Input None) (declaring (at 130 M) (named 134 MODE) ∷ [])
+        ∷ block (Output None) (declaring (at 150 (codes "K")) (named 154 MODE) ∷ []) ∷ [])
+        (setting 170 (codes "K") (reading 175 M) ∷ [])
+        ∷ configuring None (one_global 200 M (named 204 MODE) None ∷ []) []) ≡ [] }
+    // m := m + m; n := ABS(m); m := NOT m; m := -m;
+    ensures operands { broken (step (setting 140 M (binary Add (reading 145 M) (reading 149 M))
+        ∷ setting 160 N (calling 165 (codes "ABS") (reading 169 M ∷ [])) ∷ setting 180 M (unary Not 185 (reading 189 M))
+        ∷ setting 200 M (unary Negate 205 (reading 206 M)) ∷ []))
+        ≡ breaks WrongType 145 ∷ breaks WrongType 165 ∷ breaks WrongType 169 ∷ breaks WrongType 185
+        ∷ breaks WrongType 205
+        ∷ [] }
+    // FUNCTION F : Mode VAR_INPUT m : Mode; END_VAR F := F(m); .. F := F(1);: it calls itself besides
+    ensures given { broken (types (modes ∷ []) ∷ organised (Function (Named (at 63 MODE))) (at 60 F)
+        (block (Input None) (declaring (at 70 M) (named 74 MODE) ∷ [])
+        ∷ []) (setting 90 F (calling 95 F (reading 97 M ∷ []))
+        ∷ setting 110 F (calling 115 F (number 117 (pos 1) ∷ [])) ∷ []) ∷ [])
+        ≡ breaks TooDeep 60 ∷ breaks WrongType 117 ∷ [] }
+    // IF m THEN END_IF; FOR m := Stopped TO Running DO END_FOR;
+    ensures conditions { broken (step (IF (arms_of ((reading 145 M, no_stmts) ∷ [])) no_stmts
+        ∷ FOR (at 164 M) (reading 169 STOPPED) (reading 180 RUNNING) None no_stmts ∷ []))
+        ≡ breaks WrongType 145 ∷ breaks WrongType 164 ∷ [] }
+    // IF m = 0 THEN END_IF; IF m <> Running THEN END_IF;
+    ensures comparisons { broken (step (IF (arms_of ((binary Equal (reading 145 M) (number 149 (pos 0)), no_stmts)
+        ∷ [])) no_stmts
+        ∷ IF (arms_of ((binary NotEqual (reading 165 M) (reading 170 RUNNING), no_stmts) ∷ [])) no_stmts ∷ []))
+        ≡ breaks WrongType 145 ∷ [] }
+    // clear := Clear: the variable's own name, of the Mode; m := Alarm#Running: no name of that type
+    ensures names { broken (step (setting 140 CLEAR (reading 149 CLEAR)
+        ∷ setting 160 M (literal (Enumerated (of_type 165 ALARM RUNNING))) ∷ [])) ≡ breaks UnknownName 165 ∷ [] }
+    // Stopped.n, Stopped[1]: of a value nothing is selected
+    ensures selected { broken (step (setting 140 N (read (part 145 STOPPED 153 N))
+        ∷ setting 160 N (read (element 165 STOPPED (number 173 (pos 1)))) ∷ []))
+        ≡ breaks UnknownName 145 ∷ breaks UnknownName 165 ∷ [] }
 {}
 
 /// Labels in the same program.
@@ -92,7 +140,8 @@ pub fn labels()
         ∷ (labels.Enumerated (of_type 160 ALARM CLEAR) ∷ []) ∷ []) ∷ []))
         ≡ breaks WrongType 160 ∷ [] }
     // `CASE m OF Clear : END_CASE`: the value of the other type, whatever variables there are
-    ensures variable_of_the_name { broken (step (case_of (reading 145 M) ((labels.Enumerated (bare 150 CLEAR) ∷ []) ∷ []) ∷ []))
+    ensures variable_of_the_name { broken (step (case_of (reading 145 M) ((labels.Enumerated (bare 150 CLEAR) ∷ [])
+        ∷ []) ∷ []))
         ≡ breaks WrongType 150 ∷ [] }
     // `CASE m OF n : END_CASE`: a variable is no label
     ensures variable { broken (step (case_of (reading 145 M) ((labels.Enumerated (bare 150 N) ∷ []) ∷ []) ∷ []))
@@ -130,6 +179,8 @@ pub fn declarations()
 
 /// How many names a type may have, each at its number.
 pub fn sizes()
+    ensures rule { broken (types (defining (at 1000 MODE) (enumeration (many_names 257)) ∷ []) ∷ [])
+        ≡ breaks TooManyNames 256 ∷ [] }
     ensures most { surplus_name (many_names 256) ≡ [] }
     ensures too_many { surplus_name (many_names 258) ≡ 256 ∷ [] }
 {}

@@ -37,7 +37,8 @@ pub fn operators()
         (binary Multiply (reading 105 (codes "D")) (reading 109 (codes "D")))
         ∷ [])) ≡ breaks WrongType 105 ∷ [] }
     // `d := d + T#1ms`
-    ensures durations_added { broken (wide (setting 100 (codes "D") (binary Add (reading 105 (codes "D")) (duration 109 1)) ∷ []))
+    ensures durations_added { broken (wide (setting 100 (codes "D") (binary Add (reading 105 (codes "D"))
+        (duration 109 1)) ∷ []))
         ≡ [] }
     // `w := NOT w`
     ensures bits_turned { broken (wide (setting 100 (codes "W") (unary Not 105 (reading 109 (codes "W"))) ∷ []))
@@ -65,7 +66,8 @@ pub fn operators()
     ensures too_many_bits { broken (wide (assign (name 100 (codes "W"))
         (binary And (reading 105 (codes "W")) (number 111 (pos 65536))) ∷ [])) ≡ breaks OutOfRange 111 ∷ [] }
     // `b := w < w`: bit strings have an order
-    ensures bits_in_order { broken (wide (setting 100 B (binary Less (reading 105 (codes "W")) (reading 109 (codes "W"))) ∷ []))
+    ensures bits_in_order { broken (wide (setting 100 B (binary Less (reading 105 (codes "W")) (reading 109
+        (codes "W"))) ∷ []))
         ≡ [] }
     // `n := n OR n`
     ensures numbers_joined { broken (wide (setting 100 N (binary Or (reading 105 N) (reading 110 N)) ∷ []))
@@ -118,16 +120,20 @@ pub fn standard_functions()
     ensures conversion { broken
         (wide (setting 100 N (calling 105 (codes "UINT_TO_INT") (number 117 (pos 5) ∷ [])) ∷ [])) ≡ [] }
     // `n := UINT_TO_INT(-5)`
-    ensures conversion_of_less { broken (wide (setting 100 N (calling 105 (codes "UINT_TO_INT") (number 117 (negsuc 4) ∷ [])) ∷ []))
+    ensures conversion_of_less { broken (wide (setting 100 N (calling 105 (codes "UINT_TO_INT") (number 117
+        (negsuc 4) ∷ [])) ∷ []))
         ≡ breaks OutOfRange 117 ∷ [] }
     // `n := INT_TO_INT(n)`: no standard function
-    ensures conversion_to_itself { broken (wide (setting 100 N (calling 105 (codes "INT_TO_INT") (reading 116 N ∷ [])) ∷ []))
+    ensures conversion_to_itself { broken (wide (setting 100 N (calling 105 (codes "INT_TO_INT") (reading 116 N
+        ∷ [])) ∷ []))
         ≡ breaks UnknownName 105 ∷ [] }
     // `n := ROR(n, 1)`: no bit string
-    ensures number_turned { broken (wide (setting 100 N (calling 105 (codes "ROR") (reading 109 N ∷ number 112 (pos 1) ∷ [])) ∷ []))
+    ensures number_turned { broken (wide (setting 100 N (calling 105 (codes "ROR") (reading 109 N
+        ∷ number 112 (pos 1) ∷ [])) ∷ []))
         ≡ breaks WrongType 109 ∷ [] }
     // `d := ABS(d)`: a duration is no whole number
-    ensures of_duration { broken (wide (setting 100 (codes "D") (calling 105 (codes "ABS") (reading 109 (codes "D") ∷ [])) ∷ []))
+    ensures of_duration { broken (wide (setting 100 (codes "D") (calling 105 (codes "ABS") (reading 109 (codes "D")
+        ∷ [])) ∷ []))
         ≡ breaks WrongType 109 ∷ [] }
 {}
 
@@ -137,7 +143,8 @@ pub fn places()
     ensures subscript_of_truth { broken (wide (setting 100 N (read (element 105 (codes "A") (truth 107 true))) ∷ []))
         ≡ breaks WrongType 107 ∷ [] }
     // `n := a[w]`: bits are no whole number
-    ensures subscript_of_bits { broken (wide (setting 100 N (read (element 105 (codes "A") (reading 107 (codes "W")))) ∷ []))
+    ensures subscript_of_bits { broken (wide (setting 100 N (read (element 105 (codes "A") (reading 107
+        (codes "W")))) ∷ []))
         ≡ breaks WrongType 107 ∷ [] }
     // `n := a[u]`
     ensures subscript { broken

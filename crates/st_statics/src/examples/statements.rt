@@ -36,10 +36,12 @@ pub fn instances()
     ensures copied_to_unknown { broken (wide (invoking 100 F (copying 102 (codes "Q") (name 107 M) ∷ []) ∷ []))
         ≡ breaks UnknownName 107 ∷ [] }
     // `f(Q => f.Q)`
-    ensures copied_to_output { broken (wide (invoking 100 F (copying 102 (codes "Q") (part 107 F 109 (codes "Q")) ∷ []) ∷ []))
+    ensures copied_to_output { broken (wide (invoking 100 F (copying 102 (codes "Q") (part 107 F 109 (codes "Q"))
+        ∷ []) ∷ []))
         ≡ breaks NotAssignable 107 ∷ [] }
     // `f(ET => a[b])`: the type of the target, and that of its subscript
-    ensures subscript_of_target { broken (wide (invoking 100 F (copying 102 (codes "ET") (element 108 (codes "A") (reading 110 B)) ∷ [])
+    ensures subscript_of_target { broken (wide (invoking 100 F (copying 102 (codes "ET") (element 108 (codes "A")
+        (reading 110 B)) ∷ [])
         ∷ []))
         ≡ breaks WrongType 110 ∷ breaks WrongType 108 ∷ [] }
     // `n()`
@@ -60,10 +62,12 @@ pub fn loops()
     ensures number_as_condition { broken (wide (IF (arms_of ((reading 103 N, no_stmts) ∷ [])) no_stmts ∷ []))
         ≡ breaks WrongType 103 ∷ [] }
     // `IF b THEN ELSIF n THEN END_IF`
-    ensures second_condition { broken (wide (IF (arms_of ((reading 103 B, no_stmts) ∷ (reading 113 N, no_stmts) ∷ [])) no_stmts ∷ []))
+    ensures second_condition { broken (wide (IF (arms_of ((reading 103 B, no_stmts) ∷ (reading 113 N, no_stmts)
+        ∷ [])) no_stmts ∷ []))
         ≡ breaks WrongType 113 ∷ [] }
     // `WHILE 1 DO END_WHILE`, `REPEAT UNTIL b END_REPEAT`
-    ensures literal_as_condition { broken (wide (WHILE (number 106 (pos 1)) no_stmts ∷ REPEAT no_stmts (reading 120 B) ∷ []))
+    ensures literal_as_condition { broken (wide (WHILE (number 106 (pos 1)) no_stmts
+        ∷ REPEAT no_stmts (reading 120 B) ∷ []))
         ≡ breaks WrongType 106 ∷ [] }
     // `IF b THEN ELSE n := b; END_IF`
     ensures else_of_a_condition { broken (wide (IF (arms_of ((reading 103 B, no_stmts) ∷ []))
@@ -81,26 +85,32 @@ pub fn loops()
     ensures control_assigned { broken (wide (FOR (at 104 N) (number 109 (pos 1)) (number 114 (pos 2)) None
         (stmts_of (setting 119 N (number 124 (pos 3)) ∷ [])) ∷ [])) ≡ breaks NotAssignable 119 ∷ [] }
     // `FOR n := 1 TO 2 DO END_FOR; n := 3`: after its loop it may be
-    ensures control_assigned_later { broken (wide (FOR (at 104 N) (number 109 (pos 1)) (number 114 (pos 2)) None no_stmts
+    ensures control_assigned_later { broken (wide (FOR (at 104 N) (number 109 (pos 1)) (number 114
+        (pos 2)) None no_stmts
         ∷ setting 130 N (number 135 (pos 3)) ∷ [])) ≡ [] }
     // `FOR n := 1 TO 2 DO FOR n := 1 TO 2 DO END_FOR; END_FOR`
     ensures control_counts_again { broken (wide (FOR (at 104 N) (number 109 (pos 1)) (number 114 (pos 2)) None
         (stmts_of (FOR (at 123 N) (number 128 (pos 1)) (number 133 (pos 2)) None no_stmts ∷ [])) ∷ []))
         ≡ breaks NotAssignable 123 ∷ [] }
     // `FOR n := 1 TO 40000 DO END_FOR`: the limit takes INT
-    ensures limit_too_great { broken (wide (FOR (at 104 N) (number 109 (pos 1)) (number 114 (pos 40000)) None no_stmts ∷ []))
+    ensures limit_too_great { broken (wide (FOR (at 104 N) (number 109 (pos 1)) (number 114
+        (pos 40000)) None no_stmts ∷ []))
         ≡ breaks OutOfRange 114 ∷ [] }
     // `FOR n := 1 TO u DO END_FOR`
-    ensures limit_of_other_type { broken (wide (FOR (at 104 N) (number 109 (pos 1)) (reading 114 (codes "U")) None no_stmts ∷ []))
+    ensures limit_of_other_type { broken (wide (FOR (at 104 N) (number 109 (pos 1)) (reading 114
+        (codes "U")) None no_stmts ∷ []))
         ≡ breaks WrongType 114 ∷ [] }
     // `FOR b := 1 TO 2 DO END_FOR`: the control variable, and what is offered to the literals is no whole number
-    ensures control_of_truth { broken (wide (FOR (at 104 B) (number 109 (pos 1)) (number 114 (pos 2)) None no_stmts ∷ []))
+    ensures control_of_truth { broken (wide (FOR (at 104 B) (number 109 (pos 1)) (number 114 (pos 2)) None no_stmts
+        ∷ []))
         ≡ breaks WrongType 109 ∷ breaks WrongType 114 ∷ breaks WrongType 104 ∷ [] }
     // `FOR m := 1 TO 2 DO END_FOR`
-    ensures control_unknown { broken (wide (FOR (at 104 M) (number 109 (pos 1)) (number 114 (pos 2)) None no_stmts ∷ []))
+    ensures control_unknown { broken (wide (FOR (at 104 M) (number 109 (pos 1)) (number 114 (pos 2)) None no_stmts
+        ∷ []))
         ≡ breaks UnknownName 104 ∷ [] }
     // In a block, FOR over an input is both of a wrong sort and assigned; over an output it is of a wrong sort.
-    ensures control_is_input { broken (block_of_inputs (FOR (at 104 N) (number 109 (pos 1)) (number 114 (pos 2)) None no_stmts
+    ensures control_is_input { broken (block_of_inputs (FOR (at 104 N) (number 109 (pos 1)) (number 114
+        (pos 2)) None no_stmts
         ∷ FOR (at 124 X) (number 129 (pos 1)) (number 134 (pos 2)) None no_stmts ∷ []))
         ≡ breaks WrongType 104 ∷ breaks NotAssignable 104 ∷ breaks WrongType 124 ∷ [] }
     // `EXIT` inside an IF inside a WHILE; behind it, one in no loop; RETURN stands anywhere

@@ -27,6 +27,6 @@ loop-identifier-preserved c =
     let taken = more_mapped (λ x. x.now) xs i y (search rules) (search rules) in
     let absent : list_any (is_named y.now.name) before ≡ false = search rules in (
       (λ q. more_named before (map (λ x. x.now) (take (i + 1) xs)) y.now q (found c.loop-identifier.seen q)
-          (found c.add.new.self q) taken (c.loop-identifier.invariant.0 q) (c.in_ok-add.ensures q)),
+          (found c.add.new.self q) taken (c.loop-identifier.invariant.0 q) (c.in_ok-add.ensures.added q)),
       subst (λ ys. repeats ys ≡ []) (sym taken) (not_repeated before y.now c.loop-identifier.invariant.1 absent),
     )

@@ -13,4 +13,4 @@ loop-identifier-preserved c q =
     more_named (map (λ x. x.now) (take i xs)) (map (λ x. x.now) (take (i + 1) xs)) y.now q
     (found c.loop-identifier.index q) (found c.add.new.self q)
     (more_mapped (λ x. x.now) xs i y (search rules) (search rules)) (c.loop-identifier.invariant q)
-    (c.in_ok-add.ensures q)
+    (c.in_ok-add.ensures.added q)

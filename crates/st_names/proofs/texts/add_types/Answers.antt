@@ -8,4 +8,4 @@ pub loop-declaration-preserved : goal.loop-declaration-preserved
 loop-declaration-preserved c q =
     type_added c.args.declared.now c.loop-declaration.declaration-index c.declaration-item.result q
     (found c.loop-declaration.types q) (found c.add.new.self q) _ (type_found c.args.types.now q)
-    (search rules) c.declaration-item.is (c.loop-declaration.invariant q) (c.in_ok-add.ensures q) refl
+    (search rules) c.declaration-item.is (c.loop-declaration.invariant q) (c.in_ok-add.ensures.added q) refl

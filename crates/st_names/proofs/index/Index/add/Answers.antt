@@ -5,8 +5,8 @@ use Rattle.st_names.specs.Found.{found}
 use Rattle.st_names.proofs.Entries.{one_added}
 use Rattle.st_names.proofs.index.Index.add.Goals as goal
 
-pub returns-in_ok-insert : goal.returns-in_ok-insert
-returns-in_ok-insert g c q =
+pub returns-in_ok-insert-clause-added : goal.returns-in_ok-insert-clause-added
+returns-in_ok-insert-clause-added g c q =
     let u = btree_map_updates_str c.as_slice.result.now c.args.self.now.map c.insert.new.self
     (Some c.args.value) c.in_ok-insert.ensures.updates q in
     let absent : found c.args.self.now c.args.name.now ≡ None = grind (arith, common_steps) in

@@ -43,7 +43,7 @@ loop-element-preserved c =
             lt is (inv.1 q) (ap (λ e. units_in (element_view e ∷ [])) w.in-Unit.is)
             (ap (λ t. unit_found t q) w.units-is
             ∙ unit_added (found units_before q) (found w.add.new.self q) _ q w.in-Unit.unit.name
-            (w.in_ok-add-in-Unit.ensures q) refl)),
+            (w.in_ok-add-in-Unit.ensures.added q) refl)),
       )
       | in-Configuration w ↦ (
         (λ q. types_more es i x q (type_found types_before q) (type_found types_now q) [] lt is (inv.0 q)

@@ -37,3 +37,39 @@ returns-clause-output_that_starts c = refl
 pub returns-clause-input_that_starts : goal.returns-clause-input_that_starts
 unfolding same_within
 returns-clause-input_that_starts c = refl
+
+pub returns-clause-one_number_of_two_directions : goal.returns-clause-one_number_of_two_directions
+unfolding same_within
+returns-clause-one_number_of_two_directions c = refl
+
+pub returns-clause-doubled_later : goal.returns-clause-doubled_later
+unfolding same_within
+returns-clause-doubled_later c = refl
+
+pub returns-clause-truth_of_a_word : goal.returns-clause-truth_of_a_word
+unfolding same_within
+returns-clause-truth_of_a_word c = refl
+
+pub returns-clause-number_of_a_bit : goal.returns-clause-number_of_a_bit
+unfolding same_within
+returns-clause-number_of_a_bit c = refl
+
+pub returns-clause-enumerated : goal.returns-clause-enumerated
+unfolding same_within
+returns-clause-enumerated c = refl
+
+pub returns-clause-without_address : goal.returns-clause-without_address
+unfolding same_within
+returns-clause-without_address c = refl
+
+pub returns-clause-doubled_in_two_blocks : goal.returns-clause-doubled_in_two_blocks
+unfolding same_within
+returns-clause-doubled_in_two_blocks c = refl
+
+pub returns-clause-second_out_of_range : goal.returns-clause-second_out_of_range
+unfolding same_within
+returns-clause-second_out_of_range c = refl
+
+pub returns-clause-second_block_out_of_range : goal.returns-clause-second_block_out_of_range
+unfolding same_within
+returns-clause-second_block_out_of_range c = refl

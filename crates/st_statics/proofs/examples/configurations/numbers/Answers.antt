@@ -25,3 +25,7 @@ returns-clause-two c = refl
 pub returns-clause-without_task : goal.returns-clause-without_task
 unfolding same_within
 returns-clause-without_task c = refl
+
+pub returns-clause-second_without_task : goal.returns-clause-second_without_task
+unfolding same_within
+returns-clause-second_without_task c = refl

@@ -29,3 +29,35 @@ returns-clause-elementary_ones c = refl
 pub returns-clause-other_lower_bound : goal.returns-clause-other_lower_bound
 unfolding same_within
 returns-clause-other_lower_bound c = refl
+
+pub returns-clause-arrays_of_arrays : goal.returns-clause-arrays_of_arrays
+unfolding same_within
+returns-clause-arrays_of_arrays c = refl
+
+pub returns-clause-arrays_of_other_arrays : goal.returns-clause-arrays_of_other_arrays
+unfolding same_within
+returns-clause-arrays_of_other_arrays c = refl
+
+pub returns-clause-two_names : goal.returns-clause-two_names
+unfolding same_within
+returns-clause-two_names c = refl
+
+pub returns-clause-array_and_element : goal.returns-clause-array_and_element
+unfolding same_within
+returns-clause-array_and_element c = refl
+
+pub returns-clause-structure_and_array : goal.returns-clause-structure_and_array
+unfolding same_within
+returns-clause-structure_and_array c = refl
+
+pub returns-clause-one_enumeration : goal.returns-clause-one_enumeration
+unfolding same_within
+returns-clause-one_enumeration c = refl
+
+pub returns-clause-two_enumerations : goal.returns-clause-two_enumerations
+unfolding same_within
+returns-clause-two_enumerations c = refl
+
+pub returns-clause-enumeration_and_number : goal.returns-clause-enumeration_and_number
+unfolding same_within
+returns-clause-enumeration_and_number c = refl

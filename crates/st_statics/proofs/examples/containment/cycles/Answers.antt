@@ -31,3 +31,19 @@ returns-clause-blocks c = refl
 pub returns-clause-no_cycle : goal.returns-clause-no_cycle
 unfolding standard_of standard_functions block_of has_chain leads_to
 returns-clause-no_cycle c = refl
+
+pub returns-clause-program_by_an_array : goal.returns-clause-program_by_an_array
+unfolding standard_of standard_functions block_of has_chain leads_to
+returns-clause-program_by_an_array c = refl
+
+pub returns-clause-two_programs : goal.returns-clause-two_programs
+unfolding standard_of standard_functions block_of has_chain leads_to
+returns-clause-two_programs c = refl
+
+pub returns-clause-constant_part : goal.returns-clause-constant_part
+unfolding standard_of standard_functions block_of has_chain leads_to
+returns-clause-constant_part c = refl
+
+pub returns-clause-external : goal.returns-clause-external
+unfolding standard_of standard_functions block_of has_chain leads_to
+returns-clause-external c = refl

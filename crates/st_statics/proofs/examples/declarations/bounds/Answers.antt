@@ -27,3 +27,15 @@ returns-clause-typed c = refl
 pub returns-clause-named_type : goal.returns-clause-named_type
 unfolding standard_of standard_functions block_of has_chain leads_to
 returns-clause-named_type c = refl
+
+pub returns-clause-typed_lower : goal.returns-clause-typed_lower
+unfolding standard_of standard_functions block_of has_chain leads_to
+returns-clause-typed_lower c = refl
+
+pub returns-clause-below_all : goal.returns-clause-below_all
+unfolding standard_of standard_functions block_of has_chain leads_to
+returns-clause-below_all c = refl
+
+pub returns-clause-reversed_by_one : goal.returns-clause-reversed_by_one
+unfolding standard_of standard_functions block_of has_chain leads_to
+returns-clause-reversed_by_one c = refl

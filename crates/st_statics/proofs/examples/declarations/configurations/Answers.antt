@@ -15,3 +15,19 @@ returns-clause-address c = refl
 pub returns-clause-priority : goal.returns-clause-priority
 unfolding standard_of standard_functions block_of has_chain leads_to
 returns-clause-priority c = refl
+
+pub returns-clause-retained : goal.returns-clause-retained
+unfolding standard_of standard_functions block_of has_chain leads_to
+returns-clause-retained c = refl
+
+pub returns-clause-first_task : goal.returns-clause-first_task
+unfolding standard_of standard_functions block_of has_chain leads_to
+returns-clause-first_task c = refl
+
+pub returns-clause-second_task : goal.returns-clause-second_task
+unfolding standard_of standard_functions block_of has_chain leads_to
+returns-clause-second_task c = refl
+
+pub returns-clause-second_address : goal.returns-clause-second_address
+unfolding standard_of standard_functions block_of has_chain leads_to
+returns-clause-second_address c = refl

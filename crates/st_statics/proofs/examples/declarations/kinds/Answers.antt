@@ -43,3 +43,31 @@ returns-clause-results c = refl
 pub returns-clause-function_with_instance : goal.returns-clause-function_with_instance
 unfolding standard_of standard_functions block_of has_chain leads_to
 returns-clause-function_with_instance c = refl
+
+pub returns-clause-own_function : goal.returns-clause-own_function
+unfolding standard_of standard_functions block_of has_chain leads_to
+returns-clause-own_function c = refl
+
+pub returns-clause-external_instance : goal.returns-clause-external_instance
+unfolding standard_of standard_functions block_of has_chain leads_to
+returns-clause-external_instance c = refl
+
+pub returns-clause-global_instances : goal.returns-clause-global_instances
+unfolding standard_of standard_functions block_of has_chain leads_to
+returns-clause-global_instances c = refl
+
+pub returns-clause-global_of_unknown : goal.returns-clause-global_of_unknown
+unfolding standard_of standard_functions block_of has_chain leads_to
+returns-clause-global_of_unknown c = refl
+
+pub returns-clause-parts_of_unknown : goal.returns-clause-parts_of_unknown
+unfolding standard_of standard_functions block_of has_chain leads_to
+returns-clause-parts_of_unknown c = refl
+
+pub returns-clause-unknown_used : goal.returns-clause-unknown_used
+unfolding standard_of standard_functions block_of has_chain leads_to
+returns-clause-unknown_used c = refl
+
+pub returns-clause-instances_in_a_block : goal.returns-clause-instances_in_a_block
+unfolding standard_of standard_functions block_of has_chain leads_to
+returns-clause-instances_in_a_block c = refl

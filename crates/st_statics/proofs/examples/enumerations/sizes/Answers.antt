@@ -11,3 +11,7 @@ returns-clause-most c = refl
 pub returns-clause-too_many : goal.returns-clause-too_many
 unfolding standard_of standard_functions block_of has_chain leads_to
 returns-clause-too_many c = refl
+
+pub returns-clause-rule : goal.returns-clause-rule
+unfolding standard_of standard_functions block_of has_chain leads_to
+returns-clause-rule c = refl

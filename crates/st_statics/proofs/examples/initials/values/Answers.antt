@@ -51,3 +51,15 @@ returns-clause-no_list c = refl
 pub returns-clause-list_for_a_number : goal.returns-clause-list_for_a_number
 unfolding standard_of standard_functions block_of has_chain leads_to
 returns-clause-list_for_a_number c = refl
+
+pub returns-clause-list_for_unknown : goal.returns-clause-list_for_unknown
+unfolding standard_of standard_functions block_of has_chain leads_to
+returns-clause-list_for_unknown c = refl
+
+pub returns-clause-structure_for_unknown : goal.returns-clause-structure_for_unknown
+unfolding standard_of standard_functions block_of has_chain leads_to
+returns-clause-structure_for_unknown c = refl
+
+pub returns-clause-name_for_unknown : goal.returns-clause-name_for_unknown
+unfolding standard_of standard_functions block_of has_chain leads_to
+returns-clause-name_for_unknown c = refl

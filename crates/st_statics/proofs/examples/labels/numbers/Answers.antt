@@ -47,3 +47,27 @@ returns-clause-unknown_selects c = refl
 pub returns-clause-range_too_great : goal.returns-clause-range_too_great
 unfolding standard_of standard_functions block_of has_chain leads_to
 returns-clause-range_too_great c = refl
+
+pub returns-clause-of_two_types : goal.returns-clause-of_two_types
+unfolding standard_of standard_functions block_of has_chain leads_to
+returns-clause-of_two_types c = refl
+
+pub returns-clause-typed_bounds : goal.returns-clause-typed_bounds
+unfolding standard_of standard_functions block_of has_chain leads_to
+returns-clause-typed_bounds c = refl
+
+pub returns-clause-inside : goal.returns-clause-inside
+unfolding standard_of standard_functions block_of has_chain leads_to
+returns-clause-inside c = refl
+
+pub returns-clause-around : goal.returns-clause-around
+unfolding standard_of standard_functions block_of has_chain leads_to
+returns-clause-around c = refl
+
+pub returns-clause-descending : goal.returns-clause-descending
+unfolding standard_of standard_functions block_of has_chain leads_to
+returns-clause-descending c = refl
+
+pub returns-clause-first_and_last : goal.returns-clause-first_and_last
+unfolding standard_of standard_functions block_of has_chain leads_to
+returns-clause-first_and_last c = refl
