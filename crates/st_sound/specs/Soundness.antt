@@ -16,6 +16,7 @@ use Rattle.st_types.specs.Scopes.{Name, Units, Scope, path_in, member_at, seen}
 use Rattle.st_types.specs.Evaluation.{value, known, element_at}
 use Rattle.st_types.specs.Loops.{End}
 use Rattle.st_types.specs.Execution.{exec}
+use Rattle.st_types.specs.Runs.{store_of}
 use Rattle.st_types.specs.NameTypes.{Declared, definition_of, member_type, element_type, selected_type, kind_among}
 use Rattle.st_types.specs.Resolution.{resolved_expr}
 use Rattle.st_types.specs.ResolvedUnits.{resolved_stmt}
@@ -107,11 +108,15 @@ ValuesAreSound =
     → Alike (IsOf k) (value (standing u i w) s (resolved_expr env.text env.unit (expected_of d) e) budget)
     (value (standing v j w) s (resolved_expr env.text env.unit (expected_of d) e) budget)
 
--- The law of assignments.
+-- what is left agrees
+abbrev pub LeavesAgreeing : Environment → Scope → End → Type 0
+LeavesAgreeing env w e = Agrees env w (store_of e)
+
+-- The law of assignments. The store that one leaves agrees as the one before it did.
 abbrev pub AssignmentsAreSound : Type 0
 AssignmentsAreSound =
     (env : Environment) (w : Scope) (s : Store) (u v : Units) (i j : StandIns) (c : Context) (x : Variable) (e : Expr)
     (budget : ℕ)
     → Agrees env w s → UnitsAgree env u v → AreKnown env → wrong_statement env (placed c (assign x e)) ≡ []
-    → Alike {A = End} (λ _. Unit {0}) (exec (standing u i w) (resolved_stmt env.text env.unit (assign x e)) s budget)
+    → Alike (LeavesAgreeing env w) (exec (standing u i w) (resolved_stmt env.text env.unit (assign x e)) s budget)
     (exec (standing v j w) (resolved_stmt env.text env.unit (assign x e)) s budget)
