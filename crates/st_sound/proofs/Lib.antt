@@ -5,3 +5,8 @@ pub mod ValueLaw
 pub mod Keeping
 pub mod AssignmentLaw
 pub mod KnownLemmas
+pub mod RunsAlike
+pub mod LoopLaw
+pub mod StatementParts
+pub mod StatementLaw
+pub mod BodyLaw
