@@ -43,6 +43,13 @@ succeeds_as P Q (Err (fails e)) h f = tt
 succeeds_as P Q (Err valueless) h f = absurd h
 succeeds_as P Q (Err ill_typed) h f = absurd h
 
+pub succeeds_then : {A : Type 0} (P Q : A → Type 0) (r : Result A Failure) → ((a : A) → P a → Q a) → Succeeds P r
+    → Succeeds Q r
+succeeds_then P Q (Ok a) f h = f a h
+succeeds_then P Q (Err (fails e)) f h = tt
+succeeds_then P Q (Err valueless) f h = absurd h
+succeeds_then P Q (Err ill_typed) f h = absurd h
+
 -- a result of the run alone
 abbrev pub Gives : {A : Type 0} → (A → Type 0) → Result A Fault → Type 0
 Gives P (Ok a) = P a

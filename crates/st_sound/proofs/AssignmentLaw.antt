@@ -47,9 +47,9 @@ use Rattle.st_statics.specs.LabelRules.{wrong_case}
 use Rattle.st_statics.specs.BodyRules.{wrong_exit, wrong_statement}
 use Rattle.st_statics.proofs.TypingLaws.{kind_of_declared, untyped_declared}
 use Rattle.st_sound.specs.Soundness.{IsOf, HasKind, Alike, standing, IsPlace, root}
-use Rattle.st_sound.specs.Soundness.{LeavesAgreeing, AssignmentsAreSound}
+use Rattle.st_sound.specs.Soundness.{Keeps, LeavesAgreeing, AssignmentsAreSound}
 use Rattle.st_sound.proofs.Alikes.{alike_then, alike_as, Succeeds, succeeds_as, attempted, front_empty, back_empty}
-use Rattle.st_sound.proofs.Keeping.{Keeps, assigned_keeps, agrees_kept}
+use Rattle.st_sound.proofs.Keeping.{assigned_keeps, agrees_kept}
 use Rattle.st_sound.proofs.OperatorLemmas.{same_kinds}
 use Rattle.st_sound.proofs.KnownLemmas.{IsThere, variable_is_there, type_there, typing_known}
 use Rattle.st_sound.proofs.ValueLaw.{Premises, settled_known, value_alike, place_alike, inside, asked_right}
@@ -91,7 +91,7 @@ assigned_succeeds s p v k h of = succeeds_as {A = Store} (λ _. Unit {0}) (Keeps
     (assigned_there s p v k h of) (λ t is. assigned_keeps s p v t is)
 
 -- what a target asks
-composite_refused : (t : Typing) → meets (asked None no_sort) t ≡ true → is_nothing t ≡ false → ⊥
+pub composite_refused : (t : Typing) → meets (asked None no_sort) t ≡ true → is_nothing t ≡ false → ⊥
 composite_refused untyped h i = cc
 composite_refused (elementary k) h i = cc
 composite_refused composite h i = cc
@@ -153,7 +153,7 @@ pub not_true : (b : Bool) → not b ≡ true → b ≡ false
 not_true true h = absurd (cc)
 not_true false h = refl
 
-assignable_there : (o : Option VariableType) (t : VariableType) (b : Bool) (at : ℕ) → o ≡ Some t
+pub assignable_there : (o : Option VariableType) (t : VariableType) (b : Bool) (at : ℕ) → o ≡ Some t
     → breaking NotAssignable (if is_some o then unless b at else []) ≡ [] → b ≡ true
 assignable_there (Some u) t true at is h = refl
 assignable_there (Some u) t false at is h = absurd (cc)

@@ -13,7 +13,7 @@ use Rattle.st_statics.specs.Faults.{breaking, unless}
 use Rattle.st_statics.specs.Environments.{Environment, type_of_name, is_instance}
 use Rattle.st_statics.specs.Typings.{typing_of_type, is_nothing}
 use Rattle.st_statics.specs.CallRules.{wrong_arguments, wrong_copy, wrong_instance}
-use Rattle.st_sound.specs.Soundness.{Agrees, AreKnown}
+use Rattle.st_sound.specs.Soundness.{Agrees, of_variable, AreKnown}
 use Rattle.st_sound.specs.StatementSoundness.{CallsAgree, StatementsAreSound, HasNoInstances}
 use Rattle.st_sound.specs.StatementSoundness.{StatementsWithoutInstancesAreSound}
 use Rattle.st_sound.proofs.Keeping.{agrees_kept}
@@ -44,7 +44,7 @@ no_call : (env : Environment) → AreKnown env → (x : Identifier) (arguments :
 no_call env known x arguments None is h e = cc
 no_call env known x arguments (Some t) is h e =
     not_called env x arguments t (is_instance env (Some t)) (is_nothing (typing_of_type env.text (Some t))) h
-    (known.variables x.name t is) e
+    (known.types t (of_variable x.name is)) e
 
 nothing_called : (env : Environment) (w : Scope) (u v : Units) (i j : StandIns) → AreKnown env → HasNoInstances env
     → CallsAgree env w u v i j

@@ -14,11 +14,7 @@ use Rattle.st_types.specs.Stores.{Store, get, may_replace, replaced, behind_firs
 use Rattle.st_types.specs.Scopes.{Name, Scope, or_datum, seen}
 use Rattle.st_types.specs.Evaluation.{known, element_at}
 use Rattle.st_statics.specs.Environments.{Environment}
-use Rattle.st_sound.specs.Soundness.{IsOf, HasKind, IsPlace, root, part, element, Agrees}
-
-pub record Keeps (s t : Store) : Type 0 where
-  pub parts : (p : Path) → has_part t p ≡ has_part s p
-  pub kinds : (p : Path) (k : Kind) → HasKind (get s p) k → HasKind (get t p) k
+use Rattle.st_sound.specs.Soundness.{IsOf, HasKind, IsPlace, root, part, element, Agrees, Keeps}
 
 pub keeps_itself : (s : Store) → Keeps s s
 keeps_itself s = record { parts = λ p. refl; kinds = λ p k h. h }

@@ -10,3 +10,9 @@ pub mod LoopLaw
 pub mod StatementParts
 pub mod StatementLaw
 pub mod BodyLaw
+pub mod CallLaw
+pub mod TextParts
+pub mod BodyRunLaw
+pub mod UnitLaw
+pub mod RangeLemmas
+pub mod StandardBlockLaw

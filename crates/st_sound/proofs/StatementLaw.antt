@@ -45,13 +45,12 @@ use Rattle.st_statics.specs.Roots.{demand_of_typing, demand_of_type, conditions_
 use Rattle.st_statics.specs.TargetRules.{is_fixed}
 use Rattle.st_statics.specs.BodyRules.{wrong_statement}
 use Rattle.st_statics.proofs.TypingLaws.{kind_of_declared}
-use Rattle.st_sound.specs.Soundness.{IsOf, HasKind, standing, root, Agrees, UnitsAgree, AreKnown}
+use Rattle.st_sound.specs.Soundness.{IsOf, HasKind, standing, root, Agrees, Keeps, UnitsAgree, AreKnown}
 use Rattle.st_sound.specs.StatementSoundness.{BodyRight}
 use Rattle.st_sound.proofs.Alikes.{Succeeds, Gives}
 use Rattle.st_sound.proofs.OperatorLemmas.{in_range_gives, same_kinds}
 use Rattle.st_sound.proofs.KnownLemmas.{typing_known}
 use Rattle.st_sound.proofs.ValueLaw.{Premises, settled_known, value_alike, inside, asked_right, kind_asked}
-use Rattle.st_sound.proofs.Keeping.{Keeps}
 use Rattle.st_sound.proofs.AssignmentLaw.{exact_kind, assigned_succeeds, assignment_alike}
 use Rattle.st_sound.proofs.RunsAlike.{RunsAlike, both_then, both_as, both_give, both_fault, both_attempt, both_tick}
 use Rattle.st_sound.proofs.RunsAlike.{proceeds}
@@ -69,7 +68,7 @@ truth_succeeds : (v : Datum) → IsOf Boolean v → Succeeds Whatever (truth v)
 truth_succeeds v of = truth_tested v (same_kind v.kind Boolean) (same_kinds v.kind Boolean of.kind)
 
 -- a variable that is there
-there_succeeds : (o : Option Datum) (k : Kind) → HasKind o k → Succeeds (IsOf k) (or_failure ill_typed o)
+pub there_succeeds : (o : Option Datum) (k : Kind) → HasKind o k → Succeeds (IsOf k) (or_failure ill_typed o)
 there_succeeds o k h = subst (λ (p : Option Datum). Succeeds (IsOf k) (or_failure ill_typed p)) (sym h.there) h.is_of
 
 nonzero_alike : (z : ℤ) → RunsAlike {A = Unit {0}} (λ _. Unit {0}) (nonzero z) (nonzero z)
@@ -89,11 +88,11 @@ module _ (env : Environment) (w : Scope) (u v : Units) (i j : StandIns) (I : Sto
   tree k e = resolved_expr env.text env.unit k e
 
   -- expressions
-  premises : (s : Store) → I s → Premises env w s u v
+  pub premises : (s : Store) → I s → Premises env w s u v
   premises s is = record { agrees = agrees s is; units = units; known = known }
 
   -- an expression of a type that a place asks for
-  exact_alike : (k : Kind) (e : Expr) → wrong_expression env (exactly k) e ≡ [] → (s : Store) → I s
+  pub exact_alike : (k : Kind) (e : Expr) → wrong_expression env (exactly k) e ≡ [] → (s : Store) → I s
       → RunsAlike (IsOf k) (value one s (tree (Some k) e)) (value two s (tree (Some k) e))
   exact_alike k e h s is =
       let within = inside env (exactly k) e h in

@@ -25,7 +25,7 @@ use Rattle.st_statics.specs.TargetRules.{is_fixed, is_assignable, is_own, is_con
 use Rattle.st_statics.specs.CallRules.{wrong_invocation}
 use Rattle.st_statics.specs.LabelRules.{wrong_case}
 use Rattle.st_statics.specs.BodyRules.{wrong_exit, wrong_statement}
-use Rattle.st_sound.specs.Soundness.{AreKnown}
+use Rattle.st_sound.specs.Soundness.{of_variable, AreKnown}
 use Rattle.st_sound.specs.StatementSoundness.{BodyRight}
 use Rattle.st_sound.proofs.Alikes.{front_empty, back_empty}
 use Rattle.st_sound.proofs.ValueLaw.{met_kind}
@@ -127,7 +127,7 @@ control_named env known c x (Some t) is h =
     let assignable = unless_right NotAssignable (is_assignable env c (variable x no_selectors)) x.place
     (back_empty type_faults target_faults h) in
     let kind = met_kind None whole (typing_of_type env.text (Some t)) (and_parts (is_own (section_of env x.name)) _ right).1
-    (known.variables x.name t is) in
+    (known.types t (of_variable x.name is)) in
     let outer = (and_parts (not (is_fixed (section_of env x.name)) && _) _ assignable).0 in
     let free = (and_parts (not (is_fixed (section_of env x.name))) _ outer).0 in
     record {

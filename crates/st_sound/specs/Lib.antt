@@ -1,2 +1,3 @@
 pub mod Soundness
 pub mod StatementSoundness
+pub mod UnitSoundness

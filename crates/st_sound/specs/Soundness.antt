@@ -71,6 +71,11 @@ pub record Agrees (env : Environment) (w : Scope) (s : Store) : Type 0 where
   pub stored : {x : Name} {p : Path} {t : VariableType} (k : Kind) → IsPlace env w s x p t
       → is_fixed (section_of env x) ≡ false → kind_among env.text.types t ≡ Some k → HasKind (get s p) k
 
+-- What is left of a store has the same parts, and a value of each type where it had one.
+pub record Keeps (s t : Store) : Type 0 where
+  pub parts : (p : Path) → has_part t p ≡ has_part s p
+  pub kinds : (p : Path) (k : Kind) → HasKind (get s p) k → HasKind (get t p) k
+
 -- values of these types, in order
 abbrev pub AreOf : List (Option Kind) → List Datum → Type 0
 AreOf [] [] = Unit {0}
@@ -88,11 +93,16 @@ UnitsAgree env u v =
 abbrev pub IsKnown : Declared → VariableType → Type 0
 IsKnown text t = is_nothing (typing_of_type text (Some t)) ≡ false
 
--- The types of the unit's variables and of their parts stand for something, and so do the results of functions.
+-- a type that a variable of the unit or a part of one has
+pub data IsTypeIn (env : Environment) : VariableType → Type 0 where
+  of_variable : {t : VariableType} (x : Name) → type_of_name env x ≡ Some t → IsTypeIn env t
+  of_part : {t u : VariableType} (x : Selector) → IsTypeIn env t → selected_type env.text t x ≡ Some u
+      → IsTypeIn env u
+
+-- The types of the unit's variables and of their parts stand for something, and so do the inputs and results of
+-- functions.
 pub record AreKnown (env : Environment) : Type 0 where
-  pub variables : (x : Name) (t : VariableType) → type_of_name env x ≡ Some t → IsKnown env.text t
-  pub parts : (t u : VariableType) (x : Selector) → IsKnown env.text t → selected_type env.text t x ≡ Some u
-      → IsKnown env.text u
+  pub types : (t : VariableType) → IsTypeIn env t → IsKnown env.text t
   pub inputs : (f : Name) (inputs : List (Option Kind)) (result : Option Kind)
       → callee_of env f ≡ Some (own inputs result) → list_all is_some inputs ≡ true
   pub results : (f : Name) (inputs : List (Option Kind)) (result : Option Kind)
