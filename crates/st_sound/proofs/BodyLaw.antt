@@ -1,5 +1,5 @@
 -- The law of statements, and that of a unit that has no instances to call.
-use Rattle.std.proofs.Common.{◌≡◌, refl, sym, subst, ℕ, Bool, true, false, if◌then◌else◌, List, [], ◌∷◌, ◌++◌, Option}
+use Rattle.std.proofs.Common.{◌≡◌, refl, Bool, true, false, if◌then◌else◌, List, [], ◌++◌, Option}
 use Rattle.std.proofs.Common.{Some, None}
 use Rattle.std.specs.List.{flat_map}
 use Rattle.st_words.specs.declared.identifier.Identifier.{Identifier}

@@ -1,5 +1,5 @@
 -- The body of a unit, where it runs on variables that stand, ends alike and keeps them.
-use Rattle.std.proofs.Common.{◌≡◌, refl, sym, ap, subst, ◌∙◌, ℕ, Bool, true, false, ◌||◌, if◌then◌else◌, List, []}
+use Rattle.std.proofs.Common.{◌≡◌, refl, sym, subst, ℕ, true, ◌||◌, List, []}
 use Rattle.std.proofs.Common.{◌∷◌, Option, Some, None}
 use Rattle.std.specs.Prelude.{is_some}
 use Rattle.st_words.specs.declared.identifier.Identifier.{Identifier}
@@ -12,26 +12,26 @@ use Rattle.st_trees.specs.declared.unit.UnitSort.TheVariants.{Program as program
 use Rattle.st_trees.specs.Statements.{Argument, invoke, Stmts, stmts_of}
 use Rattle.st_trees.specs.Units.{OrganisationUnit}
 use Rattle.st_types.specs.Failures.{StandIns}
-use Rattle.st_types.specs.Stores.{Store, get}
+use Rattle.st_types.specs.Stores.{Store}
 use Rattle.st_types.specs.StandardBlocks.{StandardBlock, BlockMember, block_of, members_of}
-use Rattle.st_types.specs.Scopes.{Name, of_block, Block, Library, Units, Scope, path_in, member_at, block_named, block_in}
+use Rattle.st_types.specs.Scopes.{Name, of_block, Block, Library, Units, path_in, member_at, block_named}
 use Rattle.st_types.specs.Execution.{ran_block, exec, exec_all}
 use Rattle.st_types.specs.NameTypes.{Declared, unit_named, variable_type}
-use Rattle.st_types.specs.ResolvedUnits.{resolved_stmt, resolved_stmts}
-use Rattle.st_statics.specs.Environments.{Environment, type_of_name, is_block_sort, is_own_block, is_block}
+use Rattle.st_types.specs.ResolvedUnits.{resolved_stmt}
+use Rattle.st_statics.specs.Environments.{type_of_name, is_block_sort, is_own_block, is_block}
 use Rattle.st_statics.specs.Statements.{Context, placed, outside}
 use Rattle.st_statics.specs.BodyRules.{wrong_statement}
 use Rattle.st_statics.specs.Rules.{environment}
-use Rattle.st_sound.specs.Soundness.{HasKind, standing, Agrees, Keeps, UnitsAgree, AreKnown}
+use Rattle.st_sound.specs.Soundness.{standing, Agrees, Keeps}
 use Rattle.st_sound.specs.UnitSoundness.{IsBodyOf, IsBlockOf, BodyRun, Reaches, itself, inside, scope_of_run, AreStored}
-use Rattle.st_sound.specs.UnitSoundness.{InstanceStands, Stands, HasBlock, IsLibraryOf, AllUnitsAgree}
+use Rattle.st_sound.specs.UnitSoundness.{InstanceStands, Stands, IsLibraryOf, AllUnitsAgree}
 use Rattle.st_sound.proofs.Keeping.{keeps_itself, keeps_on, agrees_kept}
 use Rattle.st_sound.proofs.RunsAlike.{RunsAlike, both_as}
 use Rattle.st_sound.proofs.LoopLaw.{Leaves}
 use Rattle.st_sound.proofs.StatementParts.{statement_right}
 use Rattle.st_sound.proofs.StatementLaw.{exec_all_alike}
 use Rattle.st_sound.proofs.CallLaw.{invoking_alike}
-use Rattle.st_sound.proofs.TextParts.{RightText, IsInvoked, invoked}
+use Rattle.st_sound.proofs.TextParts.{RightText, invoked}
 
 -- variables that stand do so still
 pub stored_kept : {s t : Store} (at : Path) (ms : List BlockMember) → Keeps s t → AreStored s at ms → AreStored t at ms

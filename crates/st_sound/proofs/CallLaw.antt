@@ -12,52 +12,49 @@ use Rattle.st_words.specs.Paths.{Path}
 use Rattle.st_trees.specs.declared.data_type.SimpleType.TheVariants.{Named}
 use Rattle.st_trees.specs.declared.data_type.VariableType.{VariableType}
 use Rattle.st_trees.specs.declared.data_type.VariableType.TheVariants as types
-use Rattle.st_trees.specs.Expressions.{Expr, Variable, variable, Selectors}
+use Rattle.st_trees.specs.Expressions.{Expr, variable, Selectors}
 use Rattle.st_trees.specs.Statements.{Argument, given, copied, invoke}
 use Rattle.st_types.specs.Failures.{StandIns, ill_typed, or_failure}
 use Rattle.st_types.specs.Stores.{Store, get, assigned}
-use Rattle.st_types.specs.Ticks.{Run, ◌>>=◌, ◌>>◌, give, attempt, tick}
+use Rattle.st_types.specs.Ticks.{◌>>=◌, give}
 use Rattle.st_types.specs.StandardBlocks.{inputs_of, outputs_of}
 use Rattle.st_types.specs.Scopes.{Name, Units, Scope, path_in, member_at, block_named}
-use Rattle.st_types.specs.Evaluation.{value, place, selected}
-use Rattle.st_types.specs.Loops.{End, goes_on}
-use Rattle.st_types.specs.Execution.{given_inputs, assigned_inputs, copied_outputs, ran_block, invoking, exec}
+use Rattle.st_types.specs.Evaluation.{value}
+use Rattle.st_types.specs.Loops.{goes_on}
+use Rattle.st_types.specs.Execution.{given_inputs, assigned_inputs, copied_outputs, ran_block, exec}
 use Rattle.st_types.specs.NameTypes.{kind_among, block_variable, is_input, is_output}
-use Rattle.st_types.specs.Resolution.{resolved_expr, resolved_variable, resolved_selectors}
+use Rattle.st_types.specs.Resolution.{resolved_expr}
 use Rattle.st_types.specs.ResolvedUnits.{resolved_argument, resolved_stmt}
 use Rattle.st_statics.specs.declared.rule.Rule.{Rule}
-use Rattle.st_statics.specs.declared.rule.Rule.TheVariants.{WrongType, WrongArguments, NotAssignable}
+use Rattle.st_statics.specs.declared.rule.Rule.TheVariants.{WrongType, NotAssignable}
 use Rattle.st_statics.specs.declared.demand.Sorts.TheVariants.{NoSort as no_sort}
-use Rattle.st_statics.specs.declared.demand.Demand.{Demand}
 use Rattle.st_statics.specs.declared.demand.Demand.TheVariants.{Asked as asked}
 use Rattle.st_statics.specs.declared.typings.Typing.{Typing}
 use Rattle.st_statics.specs.declared.typings.Typing.TheVariants.{Untyped as untyped, Elementary as elementary}
 use Rattle.st_statics.specs.declared.typings.Typing.TheVariants.{Composite as composite, Nothing as nothing}
 use Rattle.st_statics.specs.Faults.{breaking, unless}
-use Rattle.st_statics.specs.Environments.{Environment, type_of_name, section_of, type_of_place, is_block, input_of}
+use Rattle.st_statics.specs.Environments.{Environment, type_of_name, section_of, type_of_place, input_of}
 use Rattle.st_statics.specs.Environments.{output_of}
-use Rattle.st_statics.specs.Demands.{exactly}
 use Rattle.st_statics.specs.Typings.{kind_of, is_untyped_typing, is_nothing, typing_of, typing_of_type, settled, meets}
 use Rattle.st_statics.specs.Typings.{typing_of_variable}
-use Rattle.st_statics.specs.Nodes.{Node, node, nodes_of_place}
-use Rattle.st_statics.specs.ExpressionRules.{place_of_variable, wrong_variable, wrong_node, wrong_expression}
-use Rattle.st_statics.specs.Statements.{Context, placed}
+use Rattle.st_statics.specs.Nodes.{nodes_of_place}
+use Rattle.st_statics.specs.ExpressionRules.{wrong_variable, wrong_node, wrong_expression}
+use Rattle.st_statics.specs.Statements.{Context}
 use Rattle.st_statics.specs.Roots.{demand_of_typing, demand_of_type, roots_of_argument, targets_of_arguments}
-use Rattle.st_statics.specs.Roots.{nodes_of_root, wrong_nodes}
+use Rattle.st_statics.specs.Roots.{nodes_of_root}
 use Rattle.st_statics.specs.TargetRules.{is_fixed, is_assignable, wrong_target}
-use Rattle.st_statics.specs.CallRules.{argument_name, is_argument, wrong_arguments, wrong_copy}
-use Rattle.st_statics.specs.BodyRules.{wrong_statement}
+use Rattle.st_statics.specs.CallRules.{wrong_arguments, wrong_copy}
 use Rattle.st_statics.proofs.TypingLaws.{kind_of_declared, untyped_declared}
-use Rattle.st_sound.specs.Soundness.{IsOf, HasKind, standing, IsPlace, root, Agrees, Keeps, UnitsAgree, IsKnown}
+use Rattle.st_sound.specs.Soundness.{IsOf, standing, IsPlace, root, Agrees, Keeps, UnitsAgree, IsKnown}
 use Rattle.st_sound.specs.Soundness.{AreKnown}
 use Rattle.st_sound.specs.UnitSoundness.{InstanceStands}
 use Rattle.st_sound.proofs.Alikes.{front_empty, back_empty}
 use Rattle.st_sound.proofs.KnownLemmas.{IsThere, variable_is_there, type_there, typing_known}
-use Rattle.st_sound.proofs.ValueLaw.{Premises, settled_known, place_alike, inside, asked_right}
+use Rattle.st_sound.proofs.ValueLaw.{settled_known, place_alike, inside, asked_right}
 use Rattle.st_sound.proofs.AssignmentLaw.{composite_refused, exact_kind, not_true, assignable_there, assigned_succeeds}
 use Rattle.st_sound.proofs.RunsAlike.{RunsAlike, both_then, both_as, both_give, both_attempt, both_tick}
 use Rattle.st_sound.proofs.LoopLaw.{Leaves}
-use Rattle.st_sound.proofs.StatementParts.{StatementRight, statement_right, RootsRight, first_root, unless_right}
+use Rattle.st_sound.proofs.StatementParts.{StatementRight, RootsRight, first_root, unless_right}
 use Rattle.st_sound.proofs.StatementLaw.{there_succeeds, exact_alike}
 
 -- places of a rule that is not broken

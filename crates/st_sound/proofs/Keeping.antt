@@ -1,7 +1,7 @@
 -- What an assignment leaves: the parts of the store are still there, with values of their types. So a store that agreed
 -- does so still.
 use Rattle.std.proofs.Common.{◌≡◌, refl, sym, ap, subst, ◌∙◌, Bool, true, false, ◌||◌, if◌then◌else◌}
-use Rattle.std.proofs.Common.{List, [], ◌∷◌, Option, Some, None, Result, Ok, Err}
+use Rattle.std.proofs.Common.{[], ◌∷◌, Option, Some, None, Result, Ok, Err}
 use Rattle.std.proofs.lemmas.Bool.{and_parts}
 use Rattle.st_words.specs.declared.kind.Kind.{Kind}
 use Rattle.st_words.specs.Kinds.{holds, same_kind}
@@ -11,10 +11,10 @@ use Rattle.st_words.specs.Paths.{Path, same_path, is_within}
 use Rattle.st_trees.specs.declared.data_type.VariableType.{VariableType}
 use Rattle.st_types.specs.Failures.{Failure, ill_typed}
 use Rattle.st_types.specs.Stores.{Store, get, may_replace, replaced, behind_first, assigned, has_part}
-use Rattle.st_types.specs.Scopes.{Name, Scope, or_datum, seen}
+use Rattle.st_types.specs.Scopes.{Name, Scope, or_datum}
 use Rattle.st_types.specs.Evaluation.{known, element_at}
 use Rattle.st_statics.specs.Environments.{Environment}
-use Rattle.st_sound.specs.Soundness.{IsOf, HasKind, IsPlace, root, part, element, Agrees, Keeps}
+use Rattle.st_sound.specs.Soundness.{HasKind, IsPlace, root, part, element, Agrees, Keeps}
 
 pub keeps_itself : (s : Store) → Keeps s s
 keeps_itself s = record { parts = λ p. refl; kinds = λ p k h. h }

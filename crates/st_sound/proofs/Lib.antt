@@ -16,3 +16,12 @@ pub mod BodyRunLaw
 pub mod UnitLaw
 pub mod RangeLemmas
 pub mod StandardBlockLaw
+pub mod Among
+pub mod FoundNames
+pub mod KnownTypes
+pub mod KnownFunctions
+pub mod ApartNames
+pub mod NoInstances
+pub mod FoundFunctions
+pub mod WellTypedTexts
+pub mod TextLaw

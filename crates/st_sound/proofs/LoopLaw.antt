@@ -1,7 +1,7 @@
 -- Loops whose turns and steps are alike where a property of the store holds, and keep it, are alike and keep it.
 use Rattle.std.proofs.Common.{ℕ, zero, suc, Bool, true, false, if◌then◌else◌, Option, Some, None}
 use Rattle.st_types.specs.Stores.{Store}
-use Rattle.st_types.specs.Ticks.{Run, ◌>>=◌, ◌>>◌, give, fault, tick}
+use Rattle.st_types.specs.Ticks.{Run, ◌>>=◌, give}
 use Rattle.st_types.specs.Loops.{End, goes_on, exits, returns, Turn, again, over, turned, resumed, go_back, turns}
 use Rattle.st_types.specs.Loops.{looped, guarded, asked, until}
 use Rattle.st_types.specs.Runs.{store_of}

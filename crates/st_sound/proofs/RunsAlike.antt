@@ -1,5 +1,5 @@
 -- Runs that end alike from any number of ticks.
-use Rattle.std.proofs.Common.{◌≡◌, refl, ℕ, zero, suc, Option, Some, None, Result, Ok, Err}
+use Rattle.std.proofs.Common.{refl, ℕ, zero, suc, Result, Ok, Err}
 use Rattle.st_words.specs.declared.fault.Fault.{Fault}
 use Rattle.st_types.specs.Failures.{Failure, fails, valueless, ill_typed, StandIns}
 use Rattle.st_types.specs.Ticks.{Run, follow, ◌>>=◌, ◌>>◌, give, fault, attempt, proceed, tick}

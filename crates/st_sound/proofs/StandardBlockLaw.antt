@@ -1,30 +1,29 @@
 -- Calls of standard blocks on members that are there end alike, and keep the variables: each member that a step gives is
 -- one of its type.
 use Rattle.std.proofs.Common.{◌≡◌, refl, sym, ap, subst, ◌∙◌, ℕ, ℤ, pos, ◌-ℤ◌, Bool, true, false, ◌&&◌, ◌||◌, not, int_le}
-use Rattle.std.proofs.Common.{if◌then◌else◌, List, [], ◌∷◌, Option, Some, None}
+use Rattle.std.proofs.Common.{if◌then◌else◌, List, [], ◌∷◌, Option, Some}
 use Rattle.std.specs.Prelude.{option_map, option_and_then}
-use Rattle.std.specs.Int.{int_min, int_max}
+use Rattle.std.specs.Int.{int_max}
 use Rattle.st_words.specs.declared.kind.Kind.{Kind}
-use Rattle.st_words.specs.declared.kind.Kind.TheVariants.{Int, Time, Bool as Boolean}
+use Rattle.st_words.specs.declared.kind.Kind.TheVariants.{Int, Time}
 use Rattle.st_words.specs.Kinds.{holds}
 use Rattle.st_words.specs.Values.{Datum, is_true}
 use Rattle.st_words.specs.Paths.{Path}
 use Rattle.st_types.specs.Failures.{StandIns, ill_typed, or_failure}
-use Rattle.st_types.specs.Stores.{Store, get, assigned}
-use Rattle.st_types.specs.Ticks.{◌>>=◌, give, attempt}
+use Rattle.st_types.specs.Stores.{Store, assigned}
 use Rattle.st_types.specs.StandardBlocks.{StandardBlock, SR, RS, R_TRIG, F_TRIG, CTU, CTD, CTUD, TON, TOF, TP}
 use Rattle.st_types.specs.StandardBlocks.{BlockMember, members_of, stepped, Timer, running, elapsed, timed_from}
 use Rattle.st_types.specs.StandardBlocks.{timed_until, ended, on_delay, off_delay, pulse, timer_of, counted, up_count}
 use Rattle.st_types.specs.StandardBlocks.{down_count, up_down_count, one_up, one_down, edge}
 use Rattle.st_types.specs.Scopes.{member_at}
-use Rattle.st_types.specs.Runs.{member_values, members_assigned, standard_call}
-use Rattle.st_sound.specs.Soundness.{IsOf, HasKind, Keeps}
+use Rattle.st_types.specs.Runs.{member_values, members_assigned}
+use Rattle.st_sound.specs.Soundness.{IsOf, Keeps}
 use Rattle.st_sound.specs.UnitSoundness.{AreStored}
 use Rattle.st_sound.proofs.Alikes.{Succeeds, succeeds_then}
 use Rattle.st_sound.proofs.OperatorLemmas.{truth_is}
 use Rattle.st_sound.proofs.Keeping.{keeps_itself, keeps_on}
 use Rattle.st_sound.proofs.AssignmentLaw.{assigned_succeeds}
-use Rattle.st_sound.proofs.RunsAlike.{RunsAlike, both_then, both_attempt, proceeds}
+use Rattle.st_sound.proofs.RunsAlike.{both_then, both_attempt, proceeds}
 use Rattle.st_sound.proofs.RangeLemmas.{limited_held, up_held, down_held}
 use Rattle.st_sound.proofs.BodyRunLaw.{stored_kept}
 use Rattle.st_sound.proofs.UnitLaw.{StandardCallsAgree}

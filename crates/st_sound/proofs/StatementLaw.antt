@@ -1,6 +1,6 @@
 -- Well-typed statements end alike, and keep a property of the store that tells that it agrees.
-use Rattle.std.proofs.Common.{◌≡◌, refl, sym, ap, subst, ◌∙◌, ℕ, zero, suc, Bool, true, false, if◌then◌else◌}
-use Rattle.std.proofs.Common.{List, [], ◌∷◌, ◌++◌, Option, Some, None, Result, Ok, Err}
+use Rattle.std.proofs.Common.{◌≡◌, sym, ap, subst, ◌∙◌, zero, Bool, true, false, if◌then◌else◌}
+use Rattle.std.proofs.Common.{List, [], ◌∷◌, Option, Some, None, Result, Ok, Err}
 use Rattle.std.specs.Prelude.{ℤ, pos, ◌+ℤ◌, map, option_map}
 use Rattle.std.specs.List.{list_any}
 use Rattle.st_words.specs.declared.fault.Fault.{Fault}
@@ -18,7 +18,7 @@ use Rattle.st_trees.specs.Statements.{RETURN, Stmts, no_stmts, stmt_then, Arms, 
 use Rattle.st_trees.specs.Statements.{no_case_arms, case_arm_then}
 use Rattle.st_types.specs.Failures.{StandIns, ill_typed, or_failure}
 use Rattle.st_types.specs.Stores.{Store, get, assigned}
-use Rattle.st_types.specs.Ticks.{Run, ◌>>=◌, ◌>>◌, give, fault, attempt, proceed, tick}
+use Rattle.st_types.specs.Ticks.{Run, attempt, proceed}
 use Rattle.st_types.specs.Operators.{truth}
 use Rattle.st_types.specs.Scopes.{Units, Scope, path_in}
 use Rattle.st_types.specs.Evaluation.{value, truth_of}
@@ -33,15 +33,14 @@ use Rattle.st_types.specs.Runs.{store_of}
 use Rattle.st_statics.specs.declared.demand.Sorts.TheVariants.{Selecting as selecting}
 use Rattle.st_statics.specs.declared.demand.Demand.{Demand}
 use Rattle.st_statics.specs.declared.demand.Demand.TheVariants.{Asked as asked}
-use Rattle.st_statics.specs.declared.typings.Typing.TheVariants.{Elementary as elementary}
 use Rattle.st_statics.specs.Environments.{Environment, type_of_name, section_of}
 use Rattle.st_statics.specs.Demands.{condition, exactly}
 use Rattle.st_statics.specs.Typings.{kind_of, typing_of, typing_of_type, settled}
-use Rattle.st_statics.specs.Nodes.{Node, node}
+use Rattle.st_statics.specs.Nodes.{node}
 use Rattle.st_statics.specs.ExpressionRules.{wrong_expression}
 use Rattle.st_statics.specs.Statements.{Context, placed, in_loop, in_for, statements_below, statements_of}
 use Rattle.st_statics.specs.Statements.{statements_of_arms, statements_of_case_arms}
-use Rattle.st_statics.specs.Roots.{demand_of_typing, demand_of_type, conditions_of, roots_of_step, roots_of}
+use Rattle.st_statics.specs.Roots.{demand_of_typing, conditions_of, roots_of_step}
 use Rattle.st_statics.specs.TargetRules.{is_fixed}
 use Rattle.st_statics.specs.BodyRules.{wrong_statement}
 use Rattle.st_statics.proofs.TypingLaws.{kind_of_declared}
@@ -54,7 +53,7 @@ use Rattle.st_sound.proofs.ValueLaw.{Premises, settled_known, value_alike, insid
 use Rattle.st_sound.proofs.AssignmentLaw.{exact_kind, assigned_succeeds, assignment_alike}
 use Rattle.st_sound.proofs.RunsAlike.{RunsAlike, both_then, both_as, both_give, both_fault, both_attempt, both_tick}
 use Rattle.st_sound.proofs.RunsAlike.{proceeds}
-use Rattle.st_sound.proofs.LoopLaw.{Leaves, LeavesTurn, LeavesStep, Whatever, looped_alike, guarded_alike, until_alike}
+use Rattle.st_sound.proofs.LoopLaw.{Leaves, LeavesStep, Whatever, looped_alike, guarded_alike, until_alike}
 use Rattle.st_sound.proofs.StatementParts.{statement_right, body_split, first_right, RootsRight, roots_right, first_root}
 use Rattle.st_sound.proofs.StatementParts.{control_right}
 

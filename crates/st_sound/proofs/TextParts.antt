@@ -1,5 +1,5 @@
 -- What a text in which nothing is wrong gives: bodies in which nothing is wrong, and types that stand for something.
-use Rattle.std.proofs.Common.{◌≡◌, refl, sym, subst, Bool, true, false, if◌then◌else◌, List, [], ◌∷◌, ◌++◌, Option}
+use Rattle.std.proofs.Common.{◌≡◌, refl, Bool, true, false, if◌then◌else◌, List, [], ◌++◌, Option}
 use Rattle.std.proofs.Common.{Some, None}
 use Rattle.std.specs.List.{flat_map}
 use Rattle.st_words.specs.declared.identifier.Identifier.{Identifier}

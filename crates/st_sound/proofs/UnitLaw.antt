@@ -1,41 +1,32 @@
 -- The units of a text in which nothing is wrong agree, however deep calls may be.
 use Rattle.std.proofs.Common.{◌≡◌, refl, sym, ap, subst, ◌∙◌, ℕ, zero, suc, Bool, true, false, if◌then◌else◌, List, []}
-use Rattle.std.proofs.Common.{◌∷◌, Option, Some, None, Result}
-use Rattle.std.specs.Prelude.{option_and_then, bytes_eq}
+use Rattle.std.proofs.Common.{◌∷◌, Option, Some, None}
+use Rattle.std.specs.Prelude.{bytes_eq}
 use Rattle.std.proofs.lemmas.Slice.Eq.{bytes_eq-Decides}
 use Rattle.st_words.specs.declared.kind.Kind.{Kind}
 use Rattle.st_words.specs.Values.{Datum}
 use Rattle.st_words.specs.Paths.{Path}
 use Rattle.st_trees.specs.declared.data_type.SimpleType.{SimpleType}
 use Rattle.st_trees.specs.declared.data_type.VariableType.TheVariants as types
-use Rattle.st_trees.specs.declared.unit.UnitSort.{UnitSort}
-use Rattle.st_trees.specs.declared.unit.UnitSort.TheVariants.{Function as function, FunctionBlock as function_block}
-use Rattle.st_trees.specs.declared.unit.UnitSort.TheVariants.{Program as program}
-use Rattle.st_trees.specs.Declarations.{VariableBlock}
+use Rattle.st_trees.specs.declared.unit.UnitSort.TheVariants.{Function as function}
 use Rattle.st_trees.specs.Statements.{Stmts, stmts_of}
 use Rattle.st_trees.specs.Units.{OrganisationUnit}
-use Rattle.st_types.specs.Failures.{Failure, StandIns, ill_typed, or_failure}
+use Rattle.st_types.specs.Failures.{StandIns, ill_typed, or_failure}
 use Rattle.st_types.specs.Stores.{Store, get, assigned}
-use Rattle.st_types.specs.Ticks.{◌>>=◌, give, attempt}
-use Rattle.st_types.specs.StandardFunctions.{Standard, standard_of}
+use Rattle.st_types.specs.Ticks.{◌>>=◌, attempt}
 use Rattle.st_types.specs.StandardBlocks.{StandardBlock, block_of, members_of}
-use Rattle.st_types.specs.Scopes.{Name, of_block, of_call, Body, Function, Block, Library, Units, Scope, unowned}
-use Rattle.st_types.specs.Scopes.{contains_name, own_path, path_in, function_in, block_in}
-use Rattle.st_types.specs.Loops.{End}
+use Rattle.st_types.specs.Scopes.{Name, of_block, of_call, Body, Function, Block, Library, Units, unowned}
+use Rattle.st_types.specs.Scopes.{contains_name, own_path}
 use Rattle.st_types.specs.Execution.{exec_all}
-use Rattle.st_types.specs.NameTypes.{Declared, unit_named, kind_among, result_type, type_in_blocks, input_kinds}
-use Rattle.st_types.specs.NameTypes.{result_kind}
-use Rattle.st_types.specs.ResolvedUnits.{resolved_stmts}
+use Rattle.st_types.specs.NameTypes.{Declared, kind_among, result_type, type_in_blocks, input_kinds}
 use Rattle.st_types.specs.Runs.{store_of, begun, function_value, standard_call, block_call, function_call, instance_call}
 use Rattle.st_types.specs.Runs.{units_within}
-use Rattle.st_statics.specs.Environments.{Environment, Callee, standard, own, type_of_name, section_in, section_of}
-use Rattle.st_statics.specs.Environments.{callee_of_sort}
-use Rattle.st_statics.specs.Environments.{callee_of}
+use Rattle.st_statics.specs.Environments.{type_of_name, section_in, section_of}
 use Rattle.st_statics.specs.Statements.{outside}
 use Rattle.st_statics.specs.TargetRules.{is_fixed}
 use Rattle.st_statics.specs.Rules.{environment}
-use Rattle.st_sound.specs.Soundness.{IsOf, HasKind, Alike, standing, root, Agrees, Keeps, AreOf, LeavesAgreeing}
-use Rattle.st_sound.specs.UnitSoundness.{IsBodyOf, IsBlockOf, BodyRun, scope_of_run, AreStored, Stands, TakeInputs}
+use Rattle.st_sound.specs.Soundness.{IsOf, HasKind, standing, root, Agrees, Keeps, AreOf, LeavesAgreeing}
+use Rattle.st_sound.specs.UnitSoundness.{IsBodyOf, IsBlockOf, scope_of_run, AreStored, Stands, TakeInputs}
 use Rattle.st_sound.specs.UnitSoundness.{call_of, HasFunction, IsLibraryOf, AllUnitsAgree}
 use Rattle.st_sound.proofs.Alikes.{Succeeds, succeeds_then}
 use Rattle.st_sound.proofs.Keeping.{keeps_itself, keeps_on, agrees_kept}
@@ -44,6 +35,7 @@ use Rattle.st_sound.proofs.RunsAlike.{RunsAlike, both_then, both_give, both_atte
 use Rattle.st_sound.proofs.LoopLaw.{Leaves}
 use Rattle.st_sound.proofs.StatementLaw.{there_succeeds}
 use Rattle.st_sound.proofs.BodyLaw.{statements_without_instances_are_sound}
+use Rattle.st_sound.proofs.FoundFunctions.{OwnFunction, own_function}
 use Rattle.st_sound.proofs.TextParts.{RightText}
 use Rattle.st_sound.proofs.BodyRunLaw.{body_alike}
 
@@ -69,42 +61,6 @@ begun_succeeds s (x ∷ xs) (Some k ∷ ks) (v ∷ vs) h of =
     (assigned_succeeds s (unowned x) v k h.0 of.0)
     (λ t keeps. succeeds_then (Keeps t) (Keeps s) (begun t xs vs) (λ z more. keeps_on keeps more)
     (begun_succeeds t xs ks vs (takes_kept keeps xs ks h.1) of.1))
-
--- a function of the text
-record OwnFunction (text : Declared) (f : Name) (inputs : List (Option Kind)) (k : Kind) : Type 0 where
-  pub unit : OrganisationUnit
-  pub result : SimpleType
-  pub declared : unit_named text.units f ≡ Some unit
-  pub sort : unit.sort ≡ function result
-  pub takes : input_kinds text unit.blocks ≡ inputs
-  pub gives : kind_among text.types (types.Simple result) ≡ Some k
-
-function_by_sort : (text : Declared) (f : Name) (inputs : List (Option Kind)) (k : Kind) (u : OrganisationUnit)
-    (sort : UnitSort) → unit_named text.units f ≡ Some u → u.sort ≡ sort
-    → callee_of_sort text sort u.blocks ≡ Some (own inputs (Some k)) → OwnFunction text f inputs k
-function_by_sort text f inputs k u (function t) declared is h =
-    let same : own (input_kinds text u.blocks) (result_kind text (function t)) ≡ own inputs (Some k) = cc in
-    record { unit = u; result = t; declared = declared; sort = is; takes = cc; gives = cc }
-function_by_sort text f inputs k u function_block declared is h = absurd (cc)
-function_by_sort text f inputs k u program declared is h = absurd (cc)
-
-function_by_unit : (text : Declared) (f : Name) (inputs : List (Option Kind)) (k : Kind) (o : Option OrganisationUnit)
-    → unit_named text.units f ≡ o
-    → option_and_then (λ u. callee_of_sort text u.sort u.blocks) o ≡ Some (own inputs (Some k))
-    → OwnFunction text f inputs k
-function_by_unit text f inputs k None is h = absurd (cc)
-function_by_unit text f inputs k (Some u) is h = function_by_sort text f inputs k u u.sort is refl h
-
-abbrev callee_where : Declared → Name → Option Standard → Option Callee
-callee_where text f o = elim o [
-  | Some std ↦ Some (standard std)
-  | None ↦ option_and_then (λ u. callee_of_sort text u.sort u.blocks) (unit_named text.units f)
-]
-
-function_by_name : (text : Declared) (f : Name) (inputs : List (Option Kind)) (k : Kind) (o : Option Standard)
-    → callee_where text f o ≡ Some (own inputs (Some k)) → OwnFunction text f inputs k
-function_by_name text f inputs k (Some std) h = absurd (cc)
-function_by_name text f inputs k None h = function_by_unit text f inputs k (unit_named text.units f) refl h
 
 -- a function's result is the variable of its name
 named_itself : (x : Name) → bytes_eq x x ≡ true
@@ -143,7 +99,7 @@ StandardCallsAgree now i j =
 module _ (text : Declared) (library : Library) (image : Store) (now : ℕ) (i j : StandIns) (right : RightText text)
     (of_text : IsLibraryOf text library) (standards : StandardCallsAgree now i j) where
   module _ (u v : Units) (units : AllUnitsAgree text library image now u v) where
-    function_run : (f : Name) (inputs : List (Option Kind)) (k : Kind) (g : OwnFunction text f inputs k)
+    function_run : (f : Name) (inputs : List (Option Kind)) (k : Kind) (g : OwnFunction text f inputs (Some k))
         (has : HasFunction text library f g.unit) (s : Store) → Keeps has.value.fresh s
         → RunsAlike (LeavesAgreeing (environment text g.unit) (scope_of_run [] now (call_of g.unit has.value)))
         (exec_all (standing u i (scope_of_run [] now (call_of g.unit has.value))) has.value.body.statements s)
@@ -159,7 +115,7 @@ module _ (text : Declared) (library : Library) (image : Store) (now : ℕ) (i j 
               (right.functions f g.unit g.result g.declared g.sort) (right.bodies f g.unit g.declared);
         })
 
-    function_valued : (f : Name) (inputs : List (Option Kind)) (k : Kind) (g : OwnFunction text f inputs k)
+    function_valued : (f : Name) (inputs : List (Option Kind)) (k : Kind) (g : OwnFunction text f inputs (Some k))
         (has : HasFunction text library f g.unit) (vs : List Datum) → AreOf inputs vs
         → RunsAlike (IsOf k) (function_value i u now has.value vs) (function_value j v now has.value vs)
     function_valued f inputs k g has vs of =
@@ -171,7 +127,7 @@ module _ (text : Declared) (library : Library) (image : Store) (now : ℕ) (i j 
         (there_succeeds (get (store_of e) (unowned has.value.name)) k
         (result_there text g.unit g.result k has.value now (store_of e) g.sort g.gives has.named agrees))))
 
-    function_alike : (f : Name) (inputs : List (Option Kind)) (k : Kind) → OwnFunction text f inputs k
+    function_alike : (f : Name) (inputs : List (Option Kind)) (k : Kind) → OwnFunction text f inputs (Some k)
         → (vs : List Datum) → AreOf inputs vs
         → RunsAlike (IsOf k) (function_call i library u now f vs) (function_call j library v now f vs)
     function_alike f inputs k g vs of =
@@ -224,7 +180,7 @@ module _ (text : Declared) (library : Library) (image : Store) (now : ℕ) (i j 
       let units = units_alike n in
       record {
         functions = λ d f inputs k vs b e h.
-            (function_alike u v units f inputs k (function_by_name text f inputs k (standard_of f) e) vs h).ends b;
+            (function_alike u v units f inputs k (own_function text d f inputs (Some k) e) vs h).ends b;
         blocks = λ b d c at s m is stands. (block_alike u v units b d c at s is stands).ends m;
         standard_blocks = λ b k at s m is stored. (standard_alike u v units b k at s is stored).ends m;
       }

@@ -1,8 +1,10 @@
 -- What runs of a text's units stand on: its library, and the variables of its instances.
-use Rattle.std.specs.Prelude.{◌≡◌, ℕ, List, [], ◌∷◌, true, Option, Some, None}
+use Rattle.std.specs.Prelude.{◌≡◌, ℕ, pos, List, [], ◌∷◌, true, Option, Some, None}
 use Rattle.st_words.specs.declared.fault.Fault.TheVariants.{Budget}
 use Rattle.st_words.specs.declared.identifier.Identifier.{Identifier}
 use Rattle.st_words.specs.declared.kind.Kind.{Kind}
+use Rattle.st_words.specs.declared.kind.Kind.TheVariants.{Time}
+use Rattle.st_words.specs.Kinds.{holds}
 use Rattle.st_words.specs.Paths.{Path}
 use Rattle.st_trees.specs.declared.data_type.SimpleType.{SimpleType}
 use Rattle.st_trees.specs.declared.data_type.SimpleType.TheVariants.{Named}
@@ -25,7 +27,7 @@ use Rattle.st_types.specs.Runs.{Program, units_within, ran_where, store_of}
 use Rattle.st_types.specs.Loops.{End}
 use Rattle.st_statics.specs.Environments.{is_block}
 use Rattle.st_statics.specs.Rules.{environment, IsWellTyped}
-use Rattle.st_sound.specs.Soundness.{HasKind, Alike, Agrees, Keeps, UnitsAgree}
+use Rattle.st_sound.specs.Soundness.{HasKind, Alike, Agrees, Keeps, UnitsAgree, AreKnown}
 
 -- the body of a unit as runs have it: its literals have their types, and its instances are of their blocks
 pub record IsBodyOf (text : Declared) (u : OrganisationUnit) (body : Body) : Type 0 where
@@ -141,11 +143,22 @@ pub record AllUnitsAgree (text : Declared) (library : Library) (image : Store) (
   pub blocks : BlocksAgree text library image now u v
   pub standard_blocks : StandardBlocksAgree u v
 
--- The law of units: those of a text that breaks no rule agree, whatever stands for what no well-typed text meets.
+-- a moment that a TIME may tell
+abbrev pub IsMoment : ℕ → Type 0
+IsMoment now = holds Time (pos now) ≡ true
+
+-- The law of types: in a text that breaks no rule, those of each unit are known.
+abbrev pub TypesAreKnown : Type 0
+TypesAreKnown =
+    (source : Source) (x : Name) (u : OrganisationUnit) → IsWellTyped source
+    → unit_named (declared_in source).units x ≡ Some u → AreKnown (environment (declared_in source) u)
+
+-- The law of units: those of a text that breaks no rule agree, however deep calls may be and whatever stands for what no
+-- well-typed text meets.
 abbrev pub UnitsAreSound : Type 0
 UnitsAreSound =
     (source : Source) (library : Library) (image : Store) (now depth : ℕ) (i j : StandIns)
-    → IsWellTyped source → IsLibraryOf (declared_in source) library
+    → IsWellTyped source → IsLibraryOf (declared_in source) library → IsMoment now
     → AllUnitsAgree (declared_in source) library image now (units_within i library image now depth)
     (units_within j library image now depth)
 
@@ -163,7 +176,7 @@ abbrev pub ProgramsAreSound : Type 0
 ProgramsAreSound =
     (source : Source) (x : Name) (u : OrganisationUnit) (p : Program) (image : Store) (now budget : ℕ) (s : Store)
     (i j : StandIns)
-    → IsWellTyped source → IsLibraryOf (declared_in source) p.library
+    → IsWellTyped source → IsLibraryOf (declared_in source) p.library → IsMoment now
     → unit_named (declared_in source).units x ≡ Some u → IsBodyOf (declared_in source) u p.body
     → Stands (declared_in source) p.library image now (run_of_program u p) s
     → Alike (LeavesKept s) (ran_where i p image now budget s) (ran_where j p image now budget s)

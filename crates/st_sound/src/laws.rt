@@ -1,7 +1,8 @@
-//! Laws of well-typed expressions and statements.
+//! Laws of well-typed expressions, statements and texts.
 
 ghost use Rattle.st_sound.specs.Soundness.{ValuesAreSound, AssignmentsAreSound};
 ghost use Rattle.st_sound.specs.StatementSoundness.{StatementsAreSound, StatementsWithoutInstancesAreSound};
+ghost use Rattle.st_sound.specs.UnitSoundness.{TypesAreKnown, UnitsAreSound, ProgramsAreSound};
 
 /// Where nothing is wrong in an expression of an elementary or enumerated type, its value is one of that type, or a
 /// fault of the run that no stand-in tells.
@@ -29,4 +30,24 @@ pub fn statements_are_sound()
 #[tactic(auto, using(crate::proofs::BodyLaw::statements_without_instances_are_sound))]
 pub fn statements_without_instances_are_sound()
     ensures { StatementsWithoutInstancesAreSound }
+{}
+
+/// In a text that breaks no rule the types of a unit's variables and of their parts stand for something, and each input
+/// and result of a function has an elementary or enumerated type.
+#[tactic(auto, using(crate::proofs::TextLaw::types_are_known))]
+pub fn types_are_known()
+    ensures { TypesAreKnown }
+{}
+
+/// The functions and blocks of a text that breaks no rule end alike whatever stands for what no well-typed text meets. A
+/// function gives a value of its result's type, and a block keeps the variables with their types.
+pub fn units_are_sound()
+    ensures { UnitsAreSound }
+{}
+
+/// A run of a program of a text that breaks no rule, over variables that stand, is done, or ends with a fault of the run
+/// that no stand-in tells. It keeps the variables with their types.
+#[tactic(auto, using(crate::proofs::TextLaw::programs_are_sound))]
+pub fn programs_are_sound()
+    ensures { ProgramsAreSound }
 {}
