@@ -25,3 +25,4 @@ pub mod NoInstances
 pub mod FoundFunctions
 pub mod WellTypedTexts
 pub mod TextLaw
+pub mod InstanceSections

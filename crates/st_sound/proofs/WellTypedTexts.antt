@@ -64,12 +64,12 @@ types_right source h =
     }
 
 -- the parts of a text that breaks no rule
-record PartsRight (source : Source) : Type 0 where
+pub record PartsRight (source : Source) : Type 0 where
   pub names : NamesRight source
   pub types : TypesRight source
   pub bodies : wrong_bodies source ≡ []
 
-parts_right : (source : Source) → IsWellTyped source → PartsRight source
+pub parts_right : (source : Source) → IsWellTyped source → PartsRight source
 parts_right source h =
     let a = wrong_declarations source in
     let b = wrong_types source in
@@ -82,7 +82,7 @@ parts_right source h =
       bodies = back_empty ((a ++ b) ++ c) d h;
     }
 
-unit_there : (source : Source) (x : Name) (u : OrganisationUnit) → unit_named (declared_in source).units x ≡ Some u
+pub unit_there : (source : Source) (x : Name) (u : OrganisationUnit) → unit_named (declared_in source).units x ≡ Some u
     → Among (sources.unit u) source
 unit_there source x u is = unit_in source u (unit_found (declared_in source).units x u is).among
 

@@ -22,6 +22,7 @@ use Rattle.st_types.specs.Scopes.{Name, Frame, of_program, of_block, of_call, Bo
 use Rattle.st_types.specs.Scopes.{unowned, member_at, path_in, block_named, function_in, block_in}
 use Rattle.st_types.specs.NameTypes.{Declared, declared_in, unit_named, variable_type, block_variable, is_input}
 use Rattle.st_types.specs.NameTypes.{is_output, kind_among, input_kinds}
+use Rattle.st_types.specs.Bodies.{externals_in}
 use Rattle.st_types.specs.ResolvedUnits.{resolved_stmts}
 use Rattle.st_types.specs.Runs.{Program, units_within, ran_where, store_of}
 use Rattle.st_types.specs.Loops.{End}
@@ -29,8 +30,10 @@ use Rattle.st_statics.specs.Environments.{is_block}
 use Rattle.st_statics.specs.Rules.{environment, IsWellTyped}
 use Rattle.st_sound.specs.Soundness.{HasKind, Alike, Agrees, Keeps, UnitsAgree, AreKnown}
 
--- the body of a unit as runs have it: its literals have their types, and its instances are of their blocks
+-- the body of a unit as runs have it: its externals stand for globals, its literals have their types, and its instances
+-- are of their blocks
 pub record IsBodyOf (text : Declared) (u : OrganisationUnit) (body : Body) : Type 0 where
+  pub externals : body.externals ≡ externals_in u.blocks
   pub statements : body.statements ≡ resolved_stmts text u (stmts_of u.body)
   pub instances : (x : Name) (b : Identifier) → variable_type u x ≡ Some (types.Simple (Named b))
       → is_block text b.name ≡ true → block_named body.instances x ≡ Some b.name
