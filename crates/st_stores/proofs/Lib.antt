@@ -6,3 +6,6 @@ pub mod HomeLemmas
 pub mod UnitHomeLemmas
 pub mod DifferentNames
 pub mod ChainLemmas
+pub mod InstanceParts
+pub mod RunHomes
+pub mod WellTypedRunLaw
