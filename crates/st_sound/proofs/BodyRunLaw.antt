@@ -69,7 +69,7 @@ stands_inside x b u c named is h = record {
 }
 
 -- a block of the text
-record OwnBlock (text : Declared) (b : Name) : Type 0 where
+pub record OwnBlock (text : Declared) (b : Name) : Type 0 where
   pub unit : OrganisationUnit
   pub declared : unit_named text.units b ≡ Some unit
   pub sort : unit.sort ≡ function_block
@@ -84,7 +84,7 @@ own_block_by : (text : Declared) (b : Name) (o : Option OrganisationUnit) → un
 own_block_by text b None is h = absurd (cc)
 own_block_by text b (Some u) is h = record { unit = u; declared = is; sort = block_sort u.sort h }
 
-own_block : (text : Declared) (b : Name) → block_of b ≡ None → is_block text b ≡ true → OwnBlock text b
+pub own_block : (text : Declared) (b : Name) → block_of b ≡ None → is_block text b ≡ true → OwnBlock text b
 own_block text b none is = own_block_by text b (unit_named text.units b) refl
     (subst (λ (o : Option StandardBlock). (is_some o || is_own_block (unit_named text.units b)) ≡ true) none is)
 

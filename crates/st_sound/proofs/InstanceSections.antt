@@ -10,6 +10,8 @@ use Rattle.st_trees.specs.declared.data_type.VariableType.TheVariants as types
 use Rattle.st_trees.specs.declared.declaration.Section.{Section}
 use Rattle.st_trees.specs.declared.declaration.Section.TheVariants as sections
 use Rattle.st_trees.specs.declared.unit.UnitSort.{UnitSort}
+use Rattle.st_trees.specs.declared.unit.UnitSort.TheVariants.{Function as function, FunctionBlock as function_block}
+use Rattle.st_trees.specs.declared.unit.UnitSort.TheVariants.{Program as program}
 use Rattle.st_trees.specs.Declarations.{Declaration, VariableBlock}
 use Rattle.st_trees.specs.Units.{OrganisationUnit}
 use Rattle.st_trees.specs.Sources as sources
@@ -21,7 +23,7 @@ use Rattle.st_types.specs.NameTypes.{type_in_blocks, result_type, variable_type}
 use Rattle.st_statics.specs.declared.rule.Rule.TheVariants.{UnknownName, WrongType}
 use Rattle.st_statics.specs.declared.rule.Broken.{Broken}
 use Rattle.st_statics.specs.Faults.{breaking, unless}
-use Rattle.st_statics.specs.Environments.{is_block, section_in, section_of}
+use Rattle.st_statics.specs.Environments.{is_block, is_instance, section_in, section_of}
 use Rattle.st_statics.specs.DeclaredTypes.{variable_of, Declaring}
 use Rattle.st_statics.specs.TargetRules.{is_fixed}
 use Rattle.st_statics.specs.TypeRules.{wrong_name, may_be_instance}
@@ -29,6 +31,7 @@ use Rattle.st_statics.specs.Rules.{environment}
 use Rattle.st_sound.proofs.Among.{Among, here, later}
 use Rattle.st_sound.proofs.KnownTypes.{TypesRight, declared_right, variable_among}
 use Rattle.st_sound.proofs.ApartNames.{NamesRight, types_are_no_blocks}
+use Rattle.st_sound.proofs.NoInstances.{functions_have_none}
 
 -- where a variable is declared, with its section
 record FoundIn (bs : List VariableBlock) (x : Name) (t : VariableType) : Type 0 where
@@ -40,7 +43,7 @@ record FoundIn (bs : List VariableBlock) (x : Name) (t : VariableType) : Type 0 
   pub section : section_in bs x ≡ Some block.section
 
 -- a list of declarations that has the name, and the one that has it
-record FoundAmong (ds : List Declaration) (x : Name) (t : VariableType) : Type 0 where
+pub record FoundAmong (ds : List Declaration) (x : Name) (t : VariableType) : Type 0 where
   pub declaration : Declaration
   pub among : Among declaration ds
   pub declared : declaration.declared ≡ t
@@ -60,7 +63,7 @@ among_at d ds x t false e f h =
       named = rw e rest.named;
     }
 
-found_among : (ds : List Declaration) (x : Name) (t : VariableType) → type_in ds x ≡ Some t → FoundAmong ds x t
+pub found_among : (ds : List Declaration) (x : Name) (t : VariableType) → type_in ds x ≡ Some t → FoundAmong ds x t
 found_among [] x t h = absurd (cc)
 found_among (d ∷ ds) x t h =
     among_at d ds x t (list_any (is_named x) d.names) refl (λ k. found_among ds x t k) h
@@ -73,7 +76,7 @@ absent_at : (d : Declaration) (ds : List Declaration) (x : Name) (b : Bool) → 
 absent_at d ds x true e f h = absurd (cc)
 absent_at d ds x false e f h = rw e (f h)
 
-absent : (ds : List Declaration) (x : Name) → type_in ds x ≡ None
+pub absent : (ds : List Declaration) (x : Name) → type_in ds x ≡ None
     → list_any (λ c. list_any (is_named x) c.names) ds ≡ false
 absent [] x h = refl
 absent (d ∷ ds) x h = absent_at d ds x (list_any (is_named x) d.names) refl (λ k. absent ds x k) h
@@ -133,6 +136,56 @@ module _ (source : Source) (right : TypesRight source) (names : NamesRight sourc
     (unit : Among (sources.unit u) source) where
   abbrev text : Declared
   text = declared_in source
+
+  -- an instance is declared in a VAR
+  pub record InstanceVariable (x : Name) (b : Identifier) : Type 0 where
+    pub section : Section
+    pub declared : type_in_blocks u.blocks x ≡ Some (types.Simple (Named b))
+    pub there : section_in u.blocks x ≡ Some section
+    pub local : may_be_instance (variable_of u.sort section) ≡ true
+
+  declared_instance : (x : Name) (b : Identifier) → is_block text b.name ≡ true
+      → type_in_blocks u.blocks x ≡ Some (types.Simple (Named b)) → InstanceVariable x b
+  declared_instance x b is h =
+      let found = found_in u.blocks x (types.Simple (Named b)) h in
+      let d = found.declaration in
+      let it : Declaring =
+      record { role = variable_of u.sort found.block.section; declared = d.declared; initial = d.initial } in
+      let rules = declared_right source right it (variable_among source right u found.block d unit found.there found.among)
+      in
+      let may = may_be_instance (variable_of u.sort found.block.section) in
+      let name = subst (λ (t : VariableType). wrong_name text may t ≡ []) found.declared rules.name in
+      record {
+        section = found.block.section;
+        declared = h;
+        there = found.section;
+        local = may_stand (is_some (type_named text.types b.name)) (is_block text b.name)
+            (is_some (unit_named text.units b.name) || is_some (standard_of b.name)) may b.place name is
+            (types_are_no_blocks source names b.name);
+      }
+
+  -- a function's result is no instance
+  no_result : (b : Identifier) → is_block text b.name ≡ true → (x : Name)
+      → variable_type u x ≡ Some (types.Simple (Named b)) → (sort : UnitSort) → u.sort ≡ sort
+      → result_type sort ≡ Some (types.Simple (Named b)) → ⊥
+  no_result b is x h (function s) e g =
+      let none = functions_have_none source right names u unit s e x in
+      let also : is_block text b.name ≡ false =
+      ap (is_instance (environment (declared_in source) u)) (sym h) ∙ none in
+      cc
+  no_result b is x h function_block e g = cc
+  no_result b is x h program e g = cc
+
+  instance_by : (x : Name) (b : Identifier) → is_block text b.name ≡ true
+      → variable_type u x ≡ Some (types.Simple (Named b)) → (c : Bool)
+      → (if c then result_type u.sort else type_in_blocks u.blocks x) ≡ Some (types.Simple (Named b))
+      → InstanceVariable x b
+  instance_by x b is h true g = absurd (no_result b is x h u.sort refl g)
+  instance_by x b is h false g = declared_instance x b is g
+
+  pub instance_variable : (x : Name) (b : Identifier) → variable_type u x ≡ Some (types.Simple (Named b))
+      → is_block (declared_in source) b.name ≡ true → InstanceVariable x b
+  instance_variable x b h is = instance_by x b is h (is_named x u.name) h
 
   declared_free : (x : Name) (b : Identifier) → is_block text b.name ≡ true
       → FoundIn u.blocks x (types.Simple (Named b)) → is_fixed (section_in u.blocks x) ≡ false

@@ -97,7 +97,7 @@ not_among_names (d ∷ ds) x h =
     same_test [] = refl
     same_test (y ∷ ys) = ap (λ b. is_named x y || b) (same_test ys)
 
-not_among_sites : (keep : Option Retention) (ds : List Declaration) (rest : List NamedSite) (x : Name)
+pub not_among_sites : (keep : Option Retention) (ds : List Declaration) (rest : List NamedSite) (x : Name)
     → type_in ds x ≡ None → site_named (sites_of_declarations keep ds ++ rest) x ≡ site_named rest x
 not_among_sites keep [] rest x h = refl
 not_among_sites keep (d ∷ ds) rest x h =

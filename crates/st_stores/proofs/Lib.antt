@@ -9,3 +9,5 @@ pub mod ChainLemmas
 pub mod InstanceParts
 pub mod RunHomes
 pub mod WellTypedRunLaw
+pub mod TakenBodies
+pub mod LibraryBodies

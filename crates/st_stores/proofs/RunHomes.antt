@@ -36,7 +36,7 @@ use Rattle.st_stores.proofs.MemberLemmas.{IsPart}
 use Rattle.st_stores.proofs.UnitHomeLemmas.{member_home, block_homes}
 
 -- a block's name is no type's
-no_type_by : (o : Option TypeDefinition) (is : Bool) → (is_some o ≡ true → is ≡ false) → is ≡ true → o ≡ None
+pub no_type_by : (o : Option TypeDefinition) (is : Bool) → (is_some o ≡ true → is ≡ false) → is ≡ true → o ≡ None
 no_type_by None is f h = refl
 no_type_by (Some d) is f h = absurd (let e = f refl in cc)
 
