@@ -1,7 +1,7 @@
 -- Where no name is declared twice, the name of a type is not that of a block.
-use Rattle.std.proofs.Common.{◌≡◌, refl, sym, subst, Bool, true, false, ◌||◌, List, [], ◌∷◌, ◌++◌, Option}
+use Rattle.std.proofs.Common.{◌≡◌, refl, sym, ap₂, subst, Bool, true, false, ◌||◌, if◌then◌else◌, List, [], ◌∷◌, ◌++◌, Option}
 use Rattle.std.proofs.Common.{Some, None}
-use Rattle.std.specs.Prelude.{map, is_some, bytes_eq}
+use Rattle.std.specs.Prelude.{map, filter, is_some, bytes_eq}
 use Rattle.std.specs.List.{flat_map}
 use Rattle.std.proofs.lemmas.Slice.Eq.{bytes_eq-Decides}
 use Rattle.st_words.specs.declared.identifier.Identifier.{Identifier}
@@ -26,7 +26,7 @@ differ : (b : Bool) → b ≡ false → b ≡ true → ⊥
 differ true h k = cc
 differ false h k = cc
 
-names_apart : (xs ys : List Identifier) {a b : Identifier} → repeats (xs ++ ys) ≡ [] → Among a xs → Among b ys
+pub names_apart : (xs ys : List Identifier) {a b : Identifier} → repeats (xs ++ ys) ≡ [] → Among a xs → Among b ys
     → bytes_eq a.name b.name ≡ true → ⊥
 names_apart [] ys h one two same = elim one [ ]
 names_apart (x ∷ xs) ys {b = b} h here two same =
@@ -35,12 +35,32 @@ names_apart (x ∷ xs) ys {b = b} h here two same =
 names_apart (x ∷ xs) ys h (later one) two same = names_apart xs ys
     (back_empty (places_where (is_named x.name) (xs ++ ys)) (repeats (xs ++ ys)) h) one two same
 
-repeats_behind : (xs ys : List Identifier) → repeats (xs ++ ys) ≡ [] → repeats ys ≡ []
+pub repeats_behind : (xs ys : List Identifier) → repeats (xs ++ ys) ≡ [] → repeats ys ≡ []
 repeats_behind [] ys h = h
 repeats_behind (x ∷ xs) ys h =
     repeats_behind xs ys (back_empty (places_where (is_named x.name) (xs ++ ys)) (repeats (xs ++ ys)) h)
 
-turned : (x y : Name) → bytes_eq x y ≡ true → bytes_eq y x ≡ true
+places_before : (wanted : Identifier → Bool) (xs ys : List Identifier) → places_where wanted (xs ++ ys) ≡ []
+    → places_where wanted xs ≡ []
+places_before wanted [] ys h = refl
+places_before wanted (x ∷ xs) ys h =
+    by_test (wanted x) (λ k. places_before wanted xs ys k) h
+  where
+    by_test : (b : Bool) → (places_where wanted (xs ++ ys) ≡ [] → places_where wanted xs ≡ [])
+        → map (λ (y : Identifier). y.place) (if b then x ∷ filter wanted (xs ++ ys) else filter wanted (xs ++ ys)) ≡ []
+        → map (λ (y : Identifier). y.place) (if b then x ∷ filter wanted xs else filter wanted xs) ≡ []
+    by_test true f k = absurd (cc)
+    by_test false f k = f k
+
+pub repeats_before : (xs ys : List Identifier) → repeats (xs ++ ys) ≡ [] → repeats xs ≡ []
+repeats_before [] ys h = refl
+repeats_before (x ∷ xs) ys h =
+    let first = places_before (is_named x.name) xs ys
+    (front_empty (places_where (is_named x.name) (xs ++ ys)) (repeats (xs ++ ys)) h) in
+    let rest = repeats_before xs ys (back_empty (places_where (is_named x.name) (xs ++ ys)) (repeats (xs ++ ys)) h) in
+    ap₂ (λ ps qs. ps ++ qs) first rest
+
+pub turned : (x y : Name) → bytes_eq x y ≡ true → bytes_eq y x ≡ true
 turned x y h = (bytes_eq-Decides y x).1 (sym ((bytes_eq-Decides x y).0 h))
 
 abbrev name_of_type : TypeDeclaration → Identifier
@@ -63,7 +83,9 @@ types_apart (e ∷ rest) h (later block) type (later unit) same =
 -- what the rule on names gives
 pub record NamesRight (source : Source) : Type 0 where
   pub once : repeats (names_of_text source) ≡ []
+  pub scopes : flat_map repeats (flat_map scopes_of_element source) ≡ []
   pub free : places_where (λ x. is_standard x.name) (names_of_text source) ≡ []
+  pub untaken : places_where (is_taken (names_of_text source)) (variables_of_text source) ≡ []
 
 pub names_right : (source : Source) → twice_declared source ≡ [] → NamesRight source
 names_right source h =
@@ -75,7 +97,9 @@ names_right source h =
     let front = front_empty ((first ++ scopes) ++ standard) taken h in
     record {
       once = front_empty first scopes (front_empty (first ++ scopes) standard front);
+      scopes = back_empty first scopes (front_empty (first ++ scopes) standard front);
       free = back_empty (first ++ scopes) standard front;
+      untaken = back_empty ((first ++ scopes) ++ standard) taken h;
     }
 
 neither : (a b : Bool) → (a || b) ≡ false → a ≡ false

@@ -66,7 +66,7 @@ place_right : (b : Bool) (at : ℕ) (rest : List ℕ) → unless b at ++ rest �
 place_right true at rest h = (refl, h)
 place_right false at rest h = absurd (cc)
 
-some_there : {A : Type 0} (o : Option A) → is_some o ≡ true → (a : A) × (o ≡ Some a)
+pub some_there : {A : Type 0} (o : Option A) → is_some o ≡ true → (a : A) × (o ≡ Some a)
 some_there (Some a) h = (a, refl)
 some_there None h = absurd (cc)
 

@@ -104,7 +104,7 @@ module _ (source : Source) (right : TypesRight source) where
   abbrev text : Declared
   text = declared_in source
 
-  input_kind_there : (u : OrganisationUnit) → Among (sources.unit u) source → (b : VariableBlock) → Among b u.blocks
+  pub input_kind_there : (u : OrganisationUnit) → Among (sources.unit u) source → (b : VariableBlock) → Among b u.blocks
       → is_input b.section ≡ true → (d : Declaration) → Among d b.declarations
       → is_some (kind_among text.types d.declared) ≡ true
   input_kind_there u unit b block is d declaration =

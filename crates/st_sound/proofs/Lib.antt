@@ -26,3 +26,4 @@ pub mod FoundFunctions
 pub mod WellTypedTexts
 pub mod TextLaw
 pub mod InstanceSections
+pub mod DeclaredOnce

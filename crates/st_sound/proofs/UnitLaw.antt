@@ -77,7 +77,7 @@ result_free : (text : Declared) (u : OrganisationUnit)
 result_free text u =
     ap (λ b. is_fixed (if b then None else section_in u.blocks u.name.name)) (named_itself u.name.name)
 
-path_in_call : (body : Body) (x : Name) (b : Bool) → (if b then unowned x else own_path of_call x) ≡ unowned x
+pub path_in_call : (body : Body) (x : Name) (b : Bool) → (if b then unowned x else own_path of_call x) ≡ unowned x
 path_in_call body x true = refl
 path_in_call body x false = refl
 

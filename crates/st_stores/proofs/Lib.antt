@@ -11,3 +11,5 @@ pub mod RunHomes
 pub mod WellTypedRunLaw
 pub mod TakenBodies
 pub mod LibraryBodies
+pub mod FreshCalls
+pub mod LibraryFunctions

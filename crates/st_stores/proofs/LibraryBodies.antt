@@ -1,7 +1,7 @@
 -- The blocks of a text's own library have the bodies of its units.
-use Rattle.std.proofs.Common.{◌≡◌, Bool, true, false, if◌then◌else◌, List, [], ◌∷◌, map, Option, Some, None, option_map, refl, sym, ap}
-use Rattle.std.proofs.Common.{◌∙◌, subst}
-use Rattle.std.specs.Prelude.{is_some, is_none, bytes_eq}
+use Rattle.std.proofs.Common.{◌≡◌, true, false, if◌then◌else◌, List, map, Option, Some, None, option_map, refl, sym, ap}
+use Rattle.std.proofs.Common.{◌∙◌}
+use Rattle.std.specs.Prelude.{is_none}
 use Rattle.st_words.specs.declared.identifier.Identifier.{Identifier}
 use Rattle.st_trees.specs.declared.data_type.SimpleType.TheVariants.{Named}
 use Rattle.st_trees.specs.declared.data_type.VariableType.{VariableType}
@@ -25,7 +25,7 @@ use Rattle.st_statics.specs.TypeRules.{may_be_instance}
 use Rattle.st_sound.specs.UnitSoundness.{IsBodyOf, HasBlock}
 use Rattle.st_sound.proofs.Among.{Among}
 use Rattle.st_sound.proofs.ApartNames.{NamesRight, types_are_no_blocks}
-use Rattle.st_sound.proofs.BodyRunLaw.{OwnBlock, own_block}
+use Rattle.st_sound.proofs.BodyRunLaw.{own_block}
 use Rattle.st_sound.proofs.FoundNames.{unit_found, unit_in}
 use Rattle.st_sound.proofs.InstanceSections.{instance_variable}
 use Rattle.st_sound.proofs.KnownTypes.{TypesRight}

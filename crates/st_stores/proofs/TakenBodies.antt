@@ -1,32 +1,26 @@
 -- The bodies and blocks that a text gives are those of its units.
 use Rattle.std.proofs.Common.{◌≡◌, Bool, true, false, ◌||◌, if◌then◌else◌, List, [], ◌∷◌, ◌++◌, map, Option, Some, None}
 use Rattle.std.proofs.Common.{option_map, refl, sym, ap, ap₂, ◌∙◌, subst}
-use Rattle.std.specs.Prelude.{bytes_eq, is_none}
+use Rattle.std.specs.Prelude.{bytes_eq}
 use Rattle.std.specs.List.{list_any}
-use Rattle.st_words.specs.declared.identifier.Identifier.{Identifier}
-use Rattle.st_trees.specs.declared.data_type.SimpleType.TheVariants.{Named}
 use Rattle.st_trees.specs.declared.data_type.VariableType.{VariableType}
-use Rattle.st_trees.specs.declared.data_type.VariableType.TheVariants as types
-use Rattle.st_trees.specs.declared.declaration.Retention.{Retention}
 use Rattle.st_trees.specs.declared.declaration.Section.{Section}
-use Rattle.st_trees.specs.declared.unit.UnitSort.TheVariants.{FunctionBlock}
 use Rattle.st_trees.specs.Declarations.{Declaration, VariableBlock}
-use Rattle.st_trees.specs.Statements.{Stmt, Stmts, stmt_then, stmts_of}
+use Rattle.st_trees.specs.Statements.{Stmt, stmt_then, stmts_of}
 use Rattle.st_trees.specs.Units.{OrganisationUnit}
 use Rattle.st_trees.specs.Sources.{Source}
 use Rattle.st_types.specs.Bodies.{is_external, declared_names, names_of, externals_in}
 use Rattle.st_types.specs.NameTypes.{Declared, declared_in, types_in, units_in, is_named, type_named, unit_named, type_in}
 use Rattle.st_types.specs.NameTypes.{or_type, type_in_blocks}
 use Rattle.st_types.specs.ResolvedUnits.{resolved_stmt, resolved_stmts, resolved_type, resolved_declaration}
-use Rattle.st_types.specs.ResolvedUnits.{resolved_block, resolved, resolved_type_declaration, resolved_definition}
+use Rattle.st_types.specs.ResolvedUnits.{resolved_block, resolved, resolved_definition}
 use Rattle.st_types.specs.Scopes.{Name, block_named}
-use Rattle.st_types.specs.StandardBlocks.{StandardBlock, block_of, members_of}
 use Rattle.st_statics.specs.Environments.{section_in}
 use Rattle.st_sound.proofs.InstanceSections.{found_among, absent}
 use Rattle.st_layouts.specs.LayoutVariables.{declared_of}
 use Rattle.st_layouts.specs.Libraries.{instance_then, instances_among}
 use Rattle.st_layouts.specs.Types.{Site, NamedSite, site_named, sites_of_declarations, retention_of, sites_of_blocks}
-use Rattle.st_layouts.specs.Types.{site_of_member, BlockType, block_type_of, own_block_type, block_type_named, instance_of}
+use Rattle.st_layouts.specs.Types.{BlockType, instance_of}
 use Rattle.st_layouts.proofs.ResolvedLemmas.{taken_text, types_taken, units_taken, same_type_named, same_unit_named}
 use Rattle.st_stores.proofs.HomeLemmas.{not_among_sites}
 use Rattle.st_stores.proofs.MemberLemmas.{Declares, found_first, declaration_declared}
@@ -57,7 +51,7 @@ statements_taken text u [] = refl
 statements_taken text u (x ∷ xs) = ap (stmt_then (resolved_stmt text u x)) (statements_taken text u xs)
 
 -- externals
-names_taken : (text : Declared) (ds : List Declaration)
+pub names_taken : (text : Declared) (ds : List Declaration)
     → declared_names (map (resolved_declaration text) ds) ≡ declared_names ds
 names_taken text [] = refl
 names_taken text (d ∷ ds) = ap (λ xs. names_of d.names ++ xs) (names_taken text ds)
