@@ -82,6 +82,7 @@ types_apart (e ∷ rest) h (later block) type (later unit) same =
 
 -- what the rule on names gives
 pub record NamesRight (source : Source) : Type 0 where
+  pub all : twice_declared source ≡ []
   pub once : repeats (names_of_text source) ≡ []
   pub scopes : flat_map repeats (flat_map scopes_of_element source) ≡ []
   pub free : places_where (λ x. is_standard x.name) (names_of_text source) ≡ []
@@ -96,6 +97,7 @@ names_right source h =
     let taken = places_where (is_taken n) (variables_of_text source) in
     let front = front_empty ((first ++ scopes) ++ standard) taken h in
     record {
+      all = h;
       once = front_empty first scopes (front_empty (first ++ scopes) standard front);
       scopes = back_empty first scopes (front_empty (first ++ scopes) standard front);
       free = back_empty (first ++ scopes) standard front;

@@ -34,16 +34,25 @@ use Rattle.st_sound.proofs.ApartNames.{NamesRight, names_right}
 use Rattle.st_sound.proofs.NoInstances.{functions_have_none}
 use Rattle.st_sound.proofs.TextParts.{RightText}
 
-declarations_right : (source : Source) → wrong_declarations source ≡ [] → NamesRight source
+-- what the first rules on declarations give
+record DeclarationsRight (source : Source) : Type 0 where
+  pub names : NamesRight source
+  pub deep : too_deep source ≡ []
+
+declarations_right : (source : Source) → wrong_declarations source ≡ [] → DeclarationsRight source
 declarations_right source h =
     let twice = breaking DeclaredTwice (twice_declared source) in
     let deep = breaking TooDeep (too_deep source) in
     let bounds = breaking WrongBounds (flat_map wrong_bounds (arrays_in source)) in
     let long = breaking WrongBounds (flat_map (too_long (declared_in source)) (starts_in source)) in
     let addresses = breaking RetainedAddress (flat_map retained_addresses_of source) in
-    names_right source (places_none DeclaredTwice (twice_declared source)
-    (front_empty twice deep (front_empty (twice ++ deep) bounds (front_empty ((twice ++ deep) ++ bounds) long
-    (front_empty (((twice ++ deep) ++ bounds) ++ long) addresses h)))))
+    let front = front_empty (twice ++ deep) bounds (front_empty ((twice ++ deep) ++ bounds) long
+    (front_empty (((twice ++ deep) ++ bounds) ++ long) addresses h)) in
+    record {
+      names = names_right source
+          (places_none DeclaredTwice (twice_declared source) (front_empty twice deep front));
+      deep = places_none TooDeep (too_deep source) (back_empty twice deep front);
+    }
 
 types_right : (source : Source) → wrong_types source ≡ [] → TypesRight source
 types_right source h =
@@ -66,6 +75,7 @@ types_right source h =
 -- the parts of a text that breaks no rule
 pub record PartsRight (source : Source) : Type 0 where
   pub names : NamesRight source
+  pub deep : too_deep source ≡ []
   pub types : TypesRight source
   pub bodies : wrong_bodies source ≡ []
 
@@ -76,8 +86,10 @@ parts_right source h =
     let c = wrong_starts source in
     let d = wrong_bodies source in
     let front = front_empty (a ++ b) c (front_empty ((a ++ b) ++ c) d h) in
+    let declarations = declarations_right source (front_empty a b front) in
     record {
-      names = declarations_right source (front_empty a b front);
+      names = declarations.names;
+      deep = declarations.deep;
       types = types_right source (back_empty a b front);
       bodies = back_empty ((a ++ b) ++ c) d h;
     }

@@ -13,3 +13,4 @@ pub mod TakenBodies
 pub mod LibraryBodies
 pub mod FreshCalls
 pub mod LibraryFunctions
+pub mod KnownDepths
