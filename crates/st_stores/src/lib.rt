@@ -1,8 +1,9 @@
 //! What programs run on: the values of a layout's slots agree with what a text declares.
 //!
-//! The laws of well-typed expressions and statements speak of stores that agree with a unit's declarations. Here it is
-//! proved that the stores of a layout do, whatever values of their types its slots have. The functions do nothing:
-//! their contracts are the laws.
+//! The laws of well-typed expressions, statements and texts speak of stores that agree with a unit's declarations. Here
+//! it is proved that the stores of a layout do, whatever values of their types its slots have, in all bodies that a run
+//! comes to; so a run of a program whose text breaks no rule is sound. The functions do nothing: their contracts are the
+//! laws.
 #![tactic(auto)]
 
 pub mod examples;
