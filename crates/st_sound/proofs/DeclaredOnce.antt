@@ -1,17 +1,16 @@
 -- Where no name of a unit's variables is declared twice, each variable has the type that it is declared with.
-use Rattle.std.proofs.Common.{◌≡◌, refl, sym, ap, subst, ◌∙◌, Bool, true, false, ◌||◌, if◌then◌else◌, List, [], ◌∷◌, ◌++◌}
-use Rattle.std.proofs.Common.{Option, Some, None, append_assoc}
+use Rattle.std.proofs.Common.{◌≡◌, refl, ap, subst, ◌∙◌, Bool, true, false, ◌||◌, if◌then◌else◌, List, [], ◌∷◌, ◌++◌}
+use Rattle.std.proofs.Common.{Some, None, append_assoc}
 use Rattle.std.specs.Prelude.{bytes_eq}
 use Rattle.std.specs.List.{flat_map, list_any}
 use Rattle.std.proofs.lemmas.Slice.Eq.{bytes_eq-Decides}
 use Rattle.st_words.specs.declared.identifier.Identifier.{Identifier}
-use Rattle.st_trees.specs.declared.data_type.VariableType.{VariableType}
 use Rattle.st_trees.specs.Declarations.{Declaration, VariableBlock}
 use Rattle.st_types.specs.NameTypes.{is_named, type_in, or_type, type_in_blocks}
 use Rattle.st_types.specs.Scopes.{Name}
 use Rattle.st_statics.specs.NameScopes.{variables_of_block}
 use Rattle.st_statics.specs.Places.{repeats}
-use Rattle.st_sound.proofs.Among.{Among, here, later, in_front, in_back, in_flat}
+use Rattle.st_sound.proofs.Among.{Among, here, later, in_back, in_flat}
 use Rattle.st_sound.proofs.ApartNames.{names_apart, repeats_behind, repeats_before, turned}
 
 abbrev names_in : Declaration → List Identifier

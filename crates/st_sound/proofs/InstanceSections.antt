@@ -1,6 +1,6 @@
 -- In a text in which no rule on declarations is broken an instance is a VAR of its unit, so it is not fixed.
-use Rattle.std.proofs.Common.{◌≡◌, refl, sym, ap, subst, ◌∙◌, ℕ, Bool, true, false, ◌||◌, if◌then◌else◌, List, [], ◌∷◌}
-use Rattle.std.proofs.Common.{◌++◌, Option, Some, None}
+use Rattle.std.proofs.Common.{◌≡◌, refl, sym, ap, subst, ◌∙◌, Bool, true, false, ◌||◌, if◌then◌else◌, List, [], ◌∷◌}
+use Rattle.std.proofs.Common.{Option, Some, None}
 use Rattle.std.specs.Prelude.{is_some}
 use Rattle.std.specs.List.{list_any}
 use Rattle.st_words.specs.declared.identifier.Identifier.{Identifier}
@@ -20,9 +20,6 @@ use Rattle.st_types.specs.StandardFunctions.{standard_of}
 use Rattle.st_types.specs.Scopes.{Name}
 use Rattle.st_types.specs.NameTypes.{Declared, declared_in, is_named, type_named, unit_named, type_in, or_type}
 use Rattle.st_types.specs.NameTypes.{type_in_blocks, result_type, variable_type}
-use Rattle.st_statics.specs.declared.rule.Rule.TheVariants.{UnknownName, WrongType}
-use Rattle.st_statics.specs.declared.rule.Broken.{Broken}
-use Rattle.st_statics.specs.Faults.{breaking, unless}
 use Rattle.st_statics.specs.Environments.{is_block, is_instance, section_in, section_of}
 use Rattle.st_statics.specs.DeclaredTypes.{variable_of, Declaring}
 use Rattle.st_statics.specs.TargetRules.{is_fixed}
@@ -30,6 +27,7 @@ use Rattle.st_statics.specs.TypeRules.{wrong_name, may_be_instance}
 use Rattle.st_statics.specs.Rules.{environment}
 use Rattle.st_sound.proofs.Among.{Among, here, later}
 use Rattle.st_sound.proofs.KnownTypes.{TypesRight, declared_right, variable_among}
+use Rattle.st_sound.proofs.NamedFaults.{may_stand}
 use Rattle.st_sound.proofs.ApartNames.{NamesRight, types_are_no_blocks}
 use Rattle.st_sound.proofs.NoInstances.{functions_have_none}
 
@@ -109,20 +107,6 @@ found_in : (bs : List VariableBlock) (x : Name) (t : VariableType) → type_in_b
 found_in [] x t h = absurd (cc)
 found_in (b ∷ bs) x t h = found_at b bs x t (type_in b.declarations x) refl (λ k. found_in bs x t k) h
 
--- a block's name stands only where an instance may
-abbrev named_faults : Bool → Bool → Bool → Bool → ℕ → List Broken
-named_faults type block other blocks at =
-    if type then [] else if block then breaking WrongType (unless blocks at)
-    else if other then breaking WrongType (at ∷ []) else breaking UnknownName (at ∷ [])
-
-may_stand : (type block other blocks : Bool) (at : ℕ) → named_faults type block other blocks at ≡ [] → block ≡ true
-    → (type ≡ true → block ≡ false) → blocks ≡ true
-may_stand true true other blocks at h is f = absurd (let e = f refl in cc)
-may_stand true false other blocks at h is f = absurd (cc)
-may_stand false true other true at h is f = refl
-may_stand false true other false at h is f = absurd (cc)
-may_stand false false other blocks at h is f = absurd (cc)
-
 local_free : (sort : UnitSort) (section : Section) → may_be_instance (variable_of sort section) ≡ true
     → is_fixed (Some section) ≡ false
 local_free sort (sections.Local keep) h = refl
@@ -187,27 +171,12 @@ module _ (source : Source) (right : TypesRight source) (names : NamesRight sourc
       → is_block (declared_in source) b.name ≡ true → InstanceVariable x b
   instance_variable x b h is = instance_by x b is h (is_named x u.name) h
 
-  declared_free : (x : Name) (b : Identifier) → is_block text b.name ≡ true
-      → FoundIn u.blocks x (types.Simple (Named b)) → is_fixed (section_in u.blocks x) ≡ false
-  declared_free x b is found =
-      let d = found.declaration in
-      let it : Declaring =
-      record { role = variable_of u.sort found.block.section; declared = d.declared; initial = d.initial } in
-      let rules = declared_right source right it (variable_among source right u found.block d unit found.there found.among)
-      in
-      let may = may_be_instance (variable_of u.sort found.block.section) in
-      let name = subst (λ (t : VariableType). wrong_name text may t ≡ []) found.declared rules.name in
-      ap is_fixed found.section
-      ∙ local_free u.sort found.block.section
-      (may_stand (is_some (type_named text.types b.name)) (is_block text b.name)
-      (is_some (unit_named text.units b.name) || is_some (standard_of b.name)) may b.place name is
-      (types_are_no_blocks source names b.name))
-
   free_by : (x : Name) (b : Identifier) → is_block text b.name ≡ true → (c : Bool)
       → (if c then result_type u.sort else type_in_blocks u.blocks x) ≡ Some (types.Simple (Named b))
       → is_fixed (if c then None else section_in u.blocks x) ≡ false
   free_by x b is true h = refl
-  free_by x b is false h = declared_free x b is (found_in u.blocks x (types.Simple (Named b)) h)
+  free_by x b is false h =
+      let v = declared_instance x b is h in ap is_fixed v.there ∙ local_free u.sort v.section v.local
 
   pub instances_are_free : (x : Name) (b : Identifier) → variable_type u x ≡ Some (types.Simple (Named b))
       → is_block (declared_in source) b.name ≡ true

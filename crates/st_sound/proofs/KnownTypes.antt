@@ -1,6 +1,6 @@
 -- In a text whose declared types are right, each type of a unit's variables and of their parts stands for something.
-use Rattle.std.proofs.Common.{◌≡◌, refl, sym, subst, ℕ, Bool, true, false, ◌&&◌, ◌||◌, if◌then◌else◌, List, []}
-use Rattle.std.proofs.Common.{◌∷◌, ◌++◌, Option, Some, None}
+use Rattle.std.proofs.Common.{◌≡◌, refl, sym, subst, Bool, true, false, ◌&&◌, ◌||◌, if◌then◌else◌, List, []}
+use Rattle.std.proofs.Common.{◌++◌, Option, Some, None}
 use Rattle.std.specs.Prelude.{option_map, option_and_then, is_some}
 use Rattle.std.specs.List.{flat_map}
 use Rattle.st_words.specs.declared.kind.Kind.{Kind}
@@ -27,9 +27,8 @@ use Rattle.st_types.specs.Scopes.{Name}
 use Rattle.st_types.specs.NameTypes.{Declared, declared_in, is_named, type_named, unit_named, elementary, result_type}
 use Rattle.st_types.specs.NameTypes.{type_in_blocks, variable_type, member_kind, sections_of, variable_of_block}
 use Rattle.st_types.specs.NameTypes.{block_variable, member_type, selected_type, is_output, type_in_sections, element_type, field_type}
-use Rattle.st_statics.specs.declared.rule.Rule.TheVariants.{UnknownName, WrongType}
-use Rattle.st_statics.specs.declared.rule.Broken.{Broken}
-use Rattle.st_statics.specs.Faults.{breaking, unless, in_case}
+use Rattle.st_statics.specs.declared.rule.Rule.TheVariants.{WrongType}
+use Rattle.st_statics.specs.Faults.{breaking, in_case}
 use Rattle.st_statics.specs.Environments.{is_block, is_block_type}
 use Rattle.st_statics.specs.Typings.{typing_of_named, typing_of_type, is_nothing, is_composite}
 use Rattle.st_statics.specs.DeclaredTypes.{field, variable_of, Declaring, declarings_of_definition}
@@ -42,22 +41,11 @@ use Rattle.st_statics.specs.Rules.{environment}
 use Rattle.st_sound.specs.Soundness.{IsKnown, IsTypeIn, of_variable, of_part}
 use Rattle.st_sound.proofs.Alikes.{front_empty, back_empty}
 use Rattle.st_sound.proofs.Among.{Among, here, in_front, in_back, in_map, in_flat, none_of}
+use Rattle.st_sound.proofs.NamedFaults.{named_something}
 use Rattle.st_sound.proofs.FoundNames.{unit_found, unit_in, type_found, type_in_source, field_found, FoundVariable}
 use Rattle.st_sound.proofs.FoundNames.{variable_found, section_found}
 
--- a name that is no wrong type is one of something
-abbrev named_faults : Bool → Bool → Bool → Bool → ℕ → List Broken
-named_faults type block other blocks at =
-    if type then [] else if block then breaking WrongType (unless blocks at)
-    else if other then breaking WrongType (at ∷ []) else breaking UnknownName (at ∷ [])
-
-named_something : (type block other blocks : Bool) (at : ℕ) → named_faults type block other blocks at ≡ []
-    → (type || block) ≡ true
-named_something true block other blocks at h = refl
-named_something false true other blocks at h = refl
-named_something false false true blocks at h = absurd (cc)
-named_something false false false blocks at h = absurd (cc)
-
+-- a name that is no wrong type
 composite_known : (text : Declared) (x : Name) (o : Option Enumeration)
     → (is_some (type_named text.types x) || is_block text x) ≡ true → is_nothing (typing_of_named text x o) ≡ false
 composite_known text x (Some e) h = refl

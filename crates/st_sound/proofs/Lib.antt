@@ -18,6 +18,7 @@ pub mod RangeLemmas
 pub mod StandardBlockLaw
 pub mod Among
 pub mod FoundNames
+pub mod NamedFaults
 pub mod KnownTypes
 pub mod KnownFunctions
 pub mod ApartNames

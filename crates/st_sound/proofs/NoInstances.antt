@@ -1,5 +1,5 @@
 -- A function of a text in which no rule on declarations is broken has no instances.
-use Rattle.std.proofs.Common.{◌≡◌, refl, sym, ap, subst, ◌∙◌, ℕ, Bool, true, false, ◌||◌, if◌then◌else◌, List, [], ◌∷◌}
+use Rattle.std.proofs.Common.{◌≡◌, refl, sym, ap, subst, ◌∙◌, Bool, true, false, ◌||◌, if◌then◌else◌, []}
 use Rattle.std.proofs.Common.{Option, Some, None}
 use Rattle.std.specs.Prelude.{is_some}
 use Rattle.st_words.specs.declared.identifier.Identifier.{Identifier}
@@ -17,9 +17,8 @@ use Rattle.st_types.specs.StandardFunctions.{standard_of}
 use Rattle.st_types.specs.Scopes.{Name}
 use Rattle.st_types.specs.NameTypes.{Declared, declared_in, is_named, type_named, unit_named, result_type}
 use Rattle.st_types.specs.NameTypes.{type_in_blocks, variable_type}
-use Rattle.st_statics.specs.declared.rule.Rule.TheVariants.{UnknownName, WrongType}
-use Rattle.st_statics.specs.declared.rule.Broken.{Broken}
-use Rattle.st_statics.specs.Faults.{breaking, unless, in_case}
+use Rattle.st_statics.specs.declared.rule.Rule.TheVariants.{WrongType}
+use Rattle.st_statics.specs.Faults.{breaking, in_case}
 use Rattle.st_statics.specs.Environments.{is_block, is_instance}
 use Rattle.st_statics.specs.Typings.{typing_of_type, is_composite}
 use Rattle.st_statics.specs.DeclaredTypes.{variable_of, Declaring}
@@ -30,20 +29,10 @@ use Rattle.st_sound.proofs.Alikes.{front_empty}
 use Rattle.st_sound.proofs.Among.{Among}
 use Rattle.st_sound.proofs.FoundNames.{FoundVariable, variable_found}
 use Rattle.st_sound.proofs.KnownTypes.{TypesRight, declared_right, variable_among, result_right}
+use Rattle.st_sound.proofs.NamedFaults.{no_block_named}
 use Rattle.st_sound.proofs.ApartNames.{NamesRight, types_are_no_blocks}
 
--- a block's name where no instance may stand is a wrong type, but for one that is a type's too
-abbrev named_faults : Bool → Bool → Bool → ℕ → List Broken
-named_faults type block other at =
-    if type then [] else if block then breaking WrongType (unless false at)
-    else if other then breaking WrongType (at ∷ []) else breaking UnknownName (at ∷ [])
-
-block_or_type : (type block other : Bool) (at : ℕ) → named_faults type block other at ≡ []
-    → (type ≡ true → block ≡ false) → block ≡ false
-block_or_type true block other at h f = f refl
-block_or_type false true other at h f = absurd (cc)
-block_or_type false false other at h f = refl
-
+-- where a function's variables are declared no instance may stand
 no_instance_stands : (t : SimpleType) (section : Section) → may_be_instance (variable_of (function t) section) ≡ false
 no_instance_stands t (sections.Input keep) = refl
 no_instance_stands t (sections.Output keep) = refl
@@ -86,7 +75,7 @@ module _ (source : Source) (right : TypesRight source) (names : NamesRight sourc
   no_block : (x : Name) (b : Identifier) → variable_type u x ≡ Some (types.Simple (Named b))
       → is_block text b.name ≡ false
   no_block x b is =
-      block_or_type (is_some (type_named text.types b.name)) (is_block text b.name)
+      no_block_named (is_some (type_named text.types b.name)) (is_block text b.name)
       (is_some (unit_named text.units b.name) || is_some (standard_of b.name)) b.place
       (simple_by x (Named b) (is_named x u.name) is) (types_are_no_blocks source names b.name)
 
