@@ -14,3 +14,4 @@ pub mod LibraryBodies
 pub mod FreshCalls
 pub mod LibraryFunctions
 pub mod KnownDepths
+pub mod SameShapes

@@ -335,7 +335,7 @@ module _ (text : Declared) (differ : are_names_different text ≡ true) where
   no_kind_among x d h e =
       ap (option_map kind_of_enumeration) (no_other_enumeration 0 text.types types_once x.name d h e)
 
-  made : (x : Identifier) (d : TypeDefinition) → type_named text.types x.name ≡ Some d → enumerated_names d ≡ None
+  pub made : (x : Identifier) (d : TypeDefinition) → type_named text.types x.name ≡ Some d → enumerated_names d ≡ None
       → composition_of text (types.Simple (Named x)) ≡ defined_composition text (types.Simple (Named x)) (Some d)
   made x d h e =
       ap (λ m. elim m [
