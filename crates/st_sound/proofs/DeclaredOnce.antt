@@ -34,7 +34,7 @@ any_named : (xs : List Identifier) (x : Name) → list_any (is_named x) xs ≡ t
 any_named [] x h = absurd (cc)
 any_named (y ∷ xs) x h = named_at y xs x (bytes_eq x y.name) refl (λ k. any_named xs x k) h
 
-itself_named : (xs : List Identifier) {x : Identifier} → Among x xs → list_any (is_named x.name) xs ≡ true
+pub itself_named : (xs : List Identifier) {x : Identifier} → Among x xs → list_any (is_named x.name) xs ≡ true
 itself_named [] among = elim among [ ]
 itself_named (x ∷ xs) here =
     ap (λ b. b || list_any (is_named x.name) xs) ((bytes_eq-Decides x.name x.name).1 refl)
@@ -67,7 +67,7 @@ module _ {x : Identifier} where
       (list_any (is_named x.name) c.names) refl)
       ∙ type_declared ds (repeats_behind c.names (flat_map names_in ds) once) declaration name
 
-  none_declared : (ds : List Declaration) (rest : List Identifier) → repeats (flat_map names_in ds ++ rest) ≡ []
+  pub none_declared : (ds : List Declaration) (rest : List Identifier) → repeats (flat_map names_in ds ++ rest) ≡ []
       → Among x rest → type_in ds x.name ≡ None
   none_declared [] rest once among = refl
   none_declared (d ∷ ds) rest once among =

@@ -28,3 +28,4 @@ pub mod WellTypedTexts
 pub mod TextLaw
 pub mod InstanceSections
 pub mod DeclaredOnce
+pub mod DeclaredVariables

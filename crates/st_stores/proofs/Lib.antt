@@ -15,3 +15,4 @@ pub mod FreshCalls
 pub mod LibraryFunctions
 pub mod KnownDepths
 pub mod SameShapes
+pub mod GlobalHomes

@@ -1,7 +1,7 @@
 -- The functions of a text's own library are there, and their variables have values of their types as a call begins.
-use Rattle.std.proofs.Common.{◌≡◌, ℕ, Bool, true, false, ◌||◌, if◌then◌else◌, List, [], ◌∷◌, ◌++◌, map, Option, Some, None}
+use Rattle.std.proofs.Common.{◌≡◌, ℕ, Bool, true, false, if◌then◌else◌, List, [], ◌∷◌, ◌++◌, map, Option, Some, None}
 use Rattle.std.proofs.Common.{refl, sym, ap, ap₂, ◌∙◌, subst}
-use Rattle.std.specs.List.{list_any, list_all}
+use Rattle.std.specs.List.{list_all}
 use Rattle.st_words.specs.declared.identifier.Identifier.{Identifier}
 use Rattle.st_words.specs.declared.kind.Kind.{Kind}
 use Rattle.st_words.specs.Paths.{Path}
@@ -13,23 +13,19 @@ use Rattle.st_trees.specs.Units.{OrganisationUnit}
 use Rattle.st_trees.specs.Sources as sources
 use Rattle.st_trees.specs.Sources.{Source}
 use Rattle.st_types.specs.Bodies.{names_of, declared_names}
-use Rattle.st_types.specs.NameTypes.{Declared, declared_in, is_named, unit_named, type_in_blocks, result_type, variable_type}
+use Rattle.st_types.specs.NameTypes.{Declared, declared_in, unit_named}
 use Rattle.st_types.specs.NameTypes.{kind_among, is_input, kinds_of_declaration, kinds_of_declarations, input_kinds}
 use Rattle.st_types.specs.ResolvedUnits.{resolved_block, resolved}
 use Rattle.st_types.specs.Scopes as scopes
 use Rattle.st_types.specs.Scopes.{Name, of_call, Scope, unowned, path_in, contains_name}
 use Rattle.st_types.specs.Stores.{Store, get}
-use Rattle.st_statics.specs.NameScopes.{names_of_element, names_of_text, variables_of_block}
-use Rattle.st_statics.specs.NameScopes.{variables_of_element, scopes_of_element}
-use Rattle.st_statics.specs.Places.{repeats}
 use Rattle.st_statics.specs.Rules.{environment}
-use Rattle.st_statics.specs.TwiceDeclared.{is_standard, is_taken}
 use Rattle.st_sound.specs.Soundness.{HasKind, root, Agrees}
 use Rattle.st_sound.specs.UnitSoundness.{scope_of_run, TakeInputs, call_of, HasFunction}
-use Rattle.st_sound.proofs.Among.{Among, here, later, in_flat, none_of, none_passes}
+use Rattle.st_sound.proofs.Among.{Among, here, later}
 use Rattle.st_sound.proofs.ApartNames.{NamesRight}
 use Rattle.st_sound.proofs.CallLaw.{some_there}
-use Rattle.st_sound.proofs.DeclaredOnce.{type_once}
+use Rattle.st_sound.proofs.DeclaredVariables.{type_of_declared}
 use Rattle.st_sound.proofs.FoundNames.{unit_found, unit_in}
 use Rattle.st_sound.proofs.Keeping.{known_is}
 use Rattle.st_sound.proofs.KnownFunctions.{input_kind_there}
@@ -108,27 +104,6 @@ inputs_taken text [] = refl
 inputs_taken text (b ∷ bs) = ap₂ (λ xs ys. if is_input b.section then xs ++ ys else ys)
     (names_taken text b.declarations) (inputs_taken text bs)
 
--- a name that none of a list has
-none_has : (test : Identifier → Bool) {a : Identifier} {xs : List Identifier} → Among a xs → list_any test xs ≡ false
-    → test a ≡ false
-none_has test (here {a = a} {rest = rest}) h = first_false (test a) (list_any test rest) h
-  where
-    first_false : (a b : Bool) → (a || b) ≡ false → a ≡ false
-    first_false true b k = k
-    first_false false b k = refl
-none_has test (later {b = x} {rest = rest} k) h = none_has test k (second_false (test x) (list_any test rest) h)
-  where
-    second_false : (a b : Bool) → (a || b) ≡ false → b ≡ false
-    second_false true b k = absurd (cc)
-    second_false false b k = k
-
-behind_false : (a b : Bool) → (a || b) ≡ false → b ≡ false
-behind_false true b h = absurd (cc)
-behind_false false b h = h
-
-abbrev names_in : Declaration → List Identifier
-names_in d = d.names
-
 module _ (source : Source) (right : TypesRight source) (names : NamesRight source)
     (differ : are_names_different (declared_in source) ≡ true) where
   abbrev text : Declared
@@ -163,24 +138,12 @@ module _ (source : Source) (right : TypesRight source) (names : NamesRight sourc
         subst (λ (s : Store). Agrees (environment text u) w s) (sym stands.fresh)
         (slots_agree (environment text u) (call_variables t u) w stands.values differ once stands.are stands.image homes)
 
-    -- an input is declared once, and bears no name of a unit
-    variable_named : (b : VariableBlock) → Among b u.blocks → (d : Declaration) → Among d b.declarations
-        → (x : Identifier) → Among x d.names → variable_type u x.name ≡ Some d.declared
-    variable_named b block d declaration x name =
-        let own = in_flat variables_of_block block (in_flat names_in declaration name) in
-        let free = none_passes (is_taken (names_of_text source)) (in_flat variables_of_element unit own) names.untaken in
-        let other = none_has (is_named x.name) (in_flat names_of_element unit here)
-        (behind_false (is_standard x.name) (list_any (is_named x.name) (names_of_text source)) free) in
-        let once = none_of repeats (in_flat scopes_of_element unit here) names.scopes in
-        ap (λ (c : Bool). if c then result_type u.sort else type_in_blocks u.blocks x.name) other
-        ∙ type_once u.blocks once block declaration name
-
     input_taken : (b : VariableBlock) → Among b u.blocks → is_input b.section ≡ true → (d : Declaration)
         → Among d b.declarations → (x : Identifier) → Among x d.names → TakesOne text taken.fresh d x
     input_taken b block is d declaration x name =
         let kind = some_there (kind_among text.types d.declared)
         (input_kind_there source right u unit b block is d declaration) in
-        let type = variable_named b block d declaration x name in
+        let type = type_of_declared source names u unit b block d declaration x name in
         let at = path_in of_call taken.body x.name in
         let value = known_is (get taken.fresh at) kind.0 ((fresh_agrees 0).values kind.0 (root x.name type) kind.1) in
         record {

@@ -1,5 +1,6 @@
 -- Over the slots of its layout a run of a program of a text that breaks no rule stands, and so ends alike.
 use Rattle.std.proofs.Common.{◌≡◌, ℕ, true, List, [], map, Some, refl, sym, ap, ◌∙◌, subst}
+use Rattle.std.specs.List.{list_all}
 use Rattle.st_words.specs.declared.path.Owner.{Owner}
 use Rattle.st_words.specs.Values.{Datum}
 use Rattle.st_trees.specs.declared.data_type.SimpleType.{SimpleType}
@@ -11,21 +12,25 @@ use Rattle.st_types.specs.Bodies.{externals_in}
 use Rattle.st_types.specs.NameTypes.{Declared, declared_in, unit_named}
 use Rattle.st_types.specs.Scopes.{Name, contains_name}
 use Rattle.st_types.specs.Slots.{Slot, variables_in, inputs_in}
+use Rattle.st_statics.specs.ConfigurationRules.{has_known_externals}
 use Rattle.st_statics.specs.Rules.{IsWellTyped}
 use Rattle.st_sound.specs.UnitSoundness.{IsLibraryOf, BodyRun, scope_of_run, Stands, run_of_program}
+use Rattle.st_sound.proofs.FoundNames.{unit_found}
 use Rattle.st_sound.proofs.TextLaw.{programs_are_sound}
 use Rattle.st_sound.proofs.WellTypedTexts.{PartsRight, parts_right, unit_there}
 use Rattle.st_layouts.specs.LayoutVariables.{Owned, variables_of_configuration}
 use Rattle.st_layouts.specs.Libraries.{library_of_text}
 use Rattle.st_layouts.specs.Names.{are_different, are_types_and_units_different, is_configuration_different}
+use Rattle.st_layouts.specs.Standing.{are_declared_once}
 use Rattle.st_layouts.specs.TextLayouts.{slots_of, slots_of_text}
 use Rattle.st_layouts.proofs.ListLemmas.{both}
 use Rattle.st_layouts.proofs.NameLemmas.{configuration_once}
 use Rattle.st_layouts.proofs.ResolvedLemmas.{slots_taken}
 use Rattle.st_stores.specs.Homes.{are_names_different, AreValuesOf, IsGrounded}
-use Rattle.st_stores.specs.WellTypedRuns.{call_variables, HaveFunctionsNoExternals, StandForGlobals, LibrariesAreOfTexts}
+use Rattle.st_stores.specs.WellTypedRuns.{call_variables, HaveFunctionsNoExternals, LibrariesAreOfTexts}
 use Rattle.st_stores.specs.WellTypedRuns.{program_given, IsWellTypedRun, RunsStand, RunsAreSound}
 use Rattle.st_stores.proofs.DifferentNames.{names_differ, scopes_differ}
+use Rattle.st_stores.proofs.GlobalHomes.{all_at, externals_stand}
 use Rattle.st_stores.proofs.HomeLemmas.{program_homes}
 use Rattle.st_stores.proofs.KnownDepths.{depths_known}
 use Rattle.st_stores.proofs.LibraryBodies.{body_taken, has_block}
@@ -55,12 +60,18 @@ module _ (source : Source) (h : IsWellTyped source) where
     externals = λ x s e g. absurd (no_external (externals_in u.blocks) x (none f u t declared sort) e);
   }
 
-  unit_grounded : (c : Configuration) (x : Name) (u : OrganisationUnit) → unit_named text.units x ≡ Some u
-      → StandForGlobals source c u → IsGrounded text (variables_of_configuration text (Some c)) u
-  unit_grounded c x u declared externals = record {
-    depths = depths_known source right.types right.names right.deep u (unit_there source x u declared);
-    externals = externals;
-  }
+  unit_grounded : (c : Configuration)
+      → are_declared_once text (variables_of_configuration text (Some c)) ≡ true
+      → list_all (has_known_externals text c.globals) text.units ≡ true
+      → (x : Name) (u : OrganisationUnit) → unit_named text.units x ≡ Some u
+      → IsGrounded text (variables_of_configuration text (Some c)) u
+  unit_grounded c once known x u declared =
+      let unit = unit_there source x u declared in
+      record {
+        depths = depths_known source right.types right.names right.deep u unit;
+        externals = externals_stand source right.types right.names right.deep differ c once u unit
+            (all_at (has_known_externals text c.globals) (unit_found text.units x u declared).among known);
+      }
 
 pub libraries_are_of_texts : LibrariesAreOfTexts
 libraries_are_of_texts source h none =
@@ -102,12 +113,12 @@ module _ (source : Source) (owner : Owner) (u : OrganisationUnit) (vs : List Dat
       let once = configuration_once this units (Some run.configuration) scopes in
       let name = run.instance.instance.program.name in
       let homes = program_homes this run.configuration owner u run.instance once
-      (unit_grounded source run.well_typed run.configuration name u run.instance.named run.externals)
+      (unit_grounded source run.well_typed run.configuration once run.externals name u run.instance.named)
       (scope_of_run (inputs_in layout vs) now run_of)
       (record { names_of = refl; externals = externals_taken this u.blocks }) in
       run_stands source right.types right.names names variables once vs values (library_of_text source) library
       (λ b d declared sort.
-      unit_grounded source run.well_typed run.configuration b d declared (run.blocks b d declared sort))
+      unit_grounded source run.well_typed run.configuration once run.externals b d declared)
       now run_of (record { name = name; declared = run.instance.named; homes = homes })
 
   layout_is : slots_of_text source ≡ layout

@@ -1,31 +1,30 @@
 -- Runs of the programs of a text that breaks no rule, over the slots of its layout.
 use Rattle.std.specs.Prelude.{◌≡◌, ℕ, List, [], ◌∷◌, map, true, Some, None}
+use Rattle.std.specs.List.{list_all}
 use Rattle.st_words.specs.declared.path.Owner.{Owner}
 use Rattle.st_words.specs.Values.{Datum}
 use Rattle.st_trees.specs.declared.data_type.SimpleType.{SimpleType}
-use Rattle.st_trees.specs.declared.data_type.VariableType.{VariableType}
 use Rattle.st_trees.specs.Configurations.{Configuration}
-use Rattle.st_trees.specs.declared.unit.UnitSort.TheVariants.{Function, FunctionBlock}
+use Rattle.st_trees.specs.declared.unit.UnitSort.TheVariants.{Function}
 use Rattle.st_trees.specs.Units.{OrganisationUnit}
 use Rattle.st_trees.specs.Sources.{Source}
 use Rattle.st_types.specs.Failures.{StandIns}
 use Rattle.st_types.specs.Bodies.{externals_in}
-use Rattle.st_types.specs.NameTypes.{declared_in, unit_named, variable_type}
+use Rattle.st_types.specs.NameTypes.{declared_in, unit_named}
 use Rattle.st_types.specs.ResolvedUnits.{resolved}
 use Rattle.st_types.specs.Runs.{Program, ran_where}
-use Rattle.st_types.specs.Scopes.{Name, contains_name, unowned}
+use Rattle.st_types.specs.Scopes.{Name}
 use Rattle.st_types.specs.Slots.{variables_in, inputs_in}
-use Rattle.st_statics.specs.Environments.{section_of}
+use Rattle.st_statics.specs.ConfigurationRules.{has_known_externals}
 use Rattle.st_statics.specs.Rules.{IsWellTyped}
-use Rattle.st_statics.specs.TargetRules.{is_fixed}
 use Rattle.st_sound.specs.Soundness.{Alike}
 use Rattle.st_sound.specs.UnitSoundness.{IsLibraryOf, IsMoment, Stands, run_of_program, LeavesKept}
 use Rattle.st_layouts.specs.LayoutVariables.{Owned, owned_variable, declared_of, configurations_in}
-use Rattle.st_layouts.specs.LayoutVariables.{only_configuration, variables_of_configuration}
+use Rattle.st_layouts.specs.LayoutVariables.{only_configuration}
 use Rattle.st_layouts.specs.Libraries.{result_site, program_of_unit, library_of_text}
 use Rattle.st_layouts.specs.TextLayouts.{slots_of_text}
 use Rattle.st_layouts.specs.Types.{sites_of_blocks}
-use Rattle.st_stores.specs.Homes.{AreValuesOf, IsInstanceOf, IsHome, environment_of}
+use Rattle.st_stores.specs.Homes.{AreValuesOf, IsInstanceOf}
 
 -- the variables of a call of a function: its result and all others
 abbrev pub call_variables : SimpleType → OrganisationUnit → List Owned
@@ -37,13 +36,6 @@ HaveFunctionsNoExternals source =
     (f : Name) (u : OrganisationUnit) (t : SimpleType) → unit_named (declared_in source).units f ≡ Some u
     → u.sort ≡ Function t → externals_in u.blocks ≡ []
 
--- each external of a unit stands for a global of its type
-abbrev pub StandForGlobals : Source → Configuration → OrganisationUnit → Type 0
-StandForGlobals source c u =
-    (x : Name) (t : VariableType) → contains_name (externals_in u.blocks) x ≡ true → variable_type u x ≡ Some t
-    → IsHome (declared_in source) (variables_of_configuration (declared_in source) (Some c))
-    (is_fixed (section_of (environment_of (declared_in source) u) x)) (unowned x) t
-
 -- The library that a text gives has its functions and blocks, where the text breaks no rule.
 abbrev pub LibrariesAreOfTexts : Type 0
 LibrariesAreOfTexts =
@@ -54,16 +46,16 @@ LibrariesAreOfTexts =
 abbrev pub program_given : Source → Owner → OrganisationUnit → Program
 program_given source owner u = program_of_unit (declared_of source) owner (resolved (declared_in source) u)
 
--- a run of an instance's program, whose text breaks no rule, at a moment that a TIME may tell
+-- a run of an instance's program, whose text breaks no rule, in a configuration whose globals its externals stand for, at
+-- a moment that a TIME may tell
 pub record IsWellTypedRun (source : Source) (owner : Owner) (u : OrganisationUnit) (now : ℕ) : Type 0 where
   pub well_typed : IsWellTyped source
   pub moment : IsMoment now
   pub configuration : Configuration
   pub only : only_configuration (configurations_in source) ≡ Some configuration
   pub instance : IsInstanceOf (declared_in source) configuration owner u
-  pub externals : StandForGlobals source configuration u
-  pub blocks : (b : Name) (d : OrganisationUnit) → unit_named (declared_in source).units b ≡ Some d
-      → d.sort ≡ FunctionBlock → StandForGlobals source configuration d
+  pub externals : list_all (has_known_externals (declared_in source) configuration.globals) (declared_in source).units
+      ≡ true
   pub functions : HaveFunctionsNoExternals source
 
 -- Over any values of the layout's slots, of their types, the variables of such a run stand.
