@@ -15,4 +15,7 @@ pub mod FreshCalls
 pub mod LibraryFunctions
 pub mod KnownDepths
 pub mod SameShapes
+pub mod ListTests
+pub mod ExternalNames
+pub mod GlobalVariables
 pub mod GlobalHomes

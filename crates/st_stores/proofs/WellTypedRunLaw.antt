@@ -30,7 +30,8 @@ use Rattle.st_stores.specs.Homes.{are_names_different, AreValuesOf, IsGrounded}
 use Rattle.st_stores.specs.WellTypedRuns.{call_variables, HaveFunctionsNoExternals, LibrariesAreOfTexts}
 use Rattle.st_stores.specs.WellTypedRuns.{program_given, IsWellTypedRun, RunsStand, RunsAreSound}
 use Rattle.st_stores.proofs.DifferentNames.{names_differ, scopes_differ}
-use Rattle.st_stores.proofs.GlobalHomes.{all_at, externals_stand}
+use Rattle.st_stores.proofs.GlobalHomes.{externals_stand}
+use Rattle.st_stores.proofs.ListTests.{all_at}
 use Rattle.st_stores.proofs.HomeLemmas.{program_homes}
 use Rattle.st_stores.proofs.KnownDepths.{depths_known}
 use Rattle.st_stores.proofs.LibraryBodies.{body_taken, has_block}
