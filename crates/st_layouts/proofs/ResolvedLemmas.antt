@@ -73,13 +73,13 @@ same_count a = ap₂ (λ x y. natural ((y -ℤ x) +ℤ pos 1)) (same_number (tak
     (same_number (taken_kind None) a.upper)
 
 -- names with their types
-abbrev Typed : Type 0
+abbrev pub Typed : Type 0
 Typed = Name × VariableType
 
-abbrev typed : NamedSite → Typed
+abbrev pub typed : NamedSite → Typed
 typed d = (d.name, d.site.declared)
 
-abbrev taking : Typed → Typed
+abbrev pub taking : Typed → Typed
 taking e = (e.0, resolved_type e.1)
 
 parts_from : (VariableType → Shape) → List Typed → Parts
@@ -125,7 +125,7 @@ module _ (text : Declared) where
       ∙ ap (map taking) (sym (map_append typed (map (with_site (site_of_declaration keep d)) d.names)
       (sites_of_declarations keep ds)))
 
-  blocks_typed : (bs : List VariableBlock) → map typed (sites_of_blocks (map (resolved_block text) bs))
+  pub blocks_typed : (bs : List VariableBlock) → map typed (sites_of_blocks (map (resolved_block text) bs))
       ≡ map taking (map typed (sites_of_blocks bs))
   blocks_typed [] = refl
   blocks_typed (b ∷ bs) = by_section (is_external b.section) (blocks_typed bs)
@@ -153,7 +153,7 @@ module _ (text : Declared) where
   members_typed (m ∷ ms) = ap (λ es. typed (site_of_member m) ∷ es) (members_typed ms)
 
   -- types and units by name
-  same_type_named : (ts : List TypeDeclaration) (x : Name)
+  pub same_type_named : (ts : List TypeDeclaration) (x : Name)
       → type_named (map (resolved_type_declaration text) ts) x ≡ option_map (resolved_definition text) (type_named ts x)
   same_type_named [] x = refl
   same_type_named (t ∷ ts) x = by_test (is_named x t.name) (same_type_named ts x)
@@ -166,7 +166,7 @@ module _ (text : Declared) where
       by_test true ih = refl
       by_test false ih = ih
 
-  same_unit_named : (us : List OrganisationUnit) (x : Name)
+  pub same_unit_named : (us : List OrganisationUnit) (x : Name)
       → unit_named (map (resolved text) us) x ≡ option_map (resolved text) (unit_named us x)
   same_unit_named [] x = refl
   same_unit_named (u ∷ us) x = by_test (is_named x u.name) (same_unit_named us x)
@@ -197,7 +197,7 @@ module _ (text : Declared) where
       (same_enumerations (n + 1) ts) (same_enumerations n ts)
 
   -- the text with its literals resolved
-  abbrev taken_text : Declared
+  abbrev pub taken_text : Declared
   taken_text =
       record { types = map (resolved_type_declaration text) text.types; units = map (resolved text) text.units }
 
@@ -331,13 +331,13 @@ module _ (text : Declared) where
   same_shape (suc n) t = same_composed (shape_within n text) (shape_within n taken_text) (λ u. same_shape n u) t
 
 -- what the slots of a variable hang on
-abbrev Key : Type 0
+abbrev pub Key : Type 0
 Key = Option Owner × Name × VariableType × Bool
 
-abbrev key : Owned → Key
+abbrev pub key : Owned → Key
 key v = (v.owner, v.name, v.site.declared, v.is_input)
 
-abbrev taking_key : Key → Key
+abbrev pub taking_key : Key → Key
 taking_key k = (k.0, k.1, resolved_type k.2, k.3)
 
 abbrev slot_by : Key → Leaf → Slot
@@ -347,23 +347,23 @@ slot_by k l = record {
   is_input = k.3;
 }
 
-slots_by : Declared → List Key → List Slot
+pub slots_by : Declared → List Key → List Slot
 slots_by text [] = []
 slots_by text (k ∷ ks) = map (slot_by k) (leaves_of (shape_within MAX_TYPE_DEPTH text k.2)) ++ slots_by text ks
 
-slots_are : (text : Declared) (vs : List Owned) → slots_of text vs ≡ slots_by text (map key vs)
+pub slots_are : (text : Declared) (vs : List Owned) → slots_of text vs ≡ slots_by text (map key vs)
 unfolding slots_by
 slots_are text [] = refl
 slots_are text (v ∷ vs) = ap (λ ls. slots_of_variable text v ++ ls) (slots_are text vs)
 
-same_slots : (text : Declared) (ks : List Key) → slots_by (taken_text text) (map taking_key ks) ≡ slots_by text ks
+pub same_slots : (text : Declared) (ks : List Key) → slots_by (taken_text text) (map taking_key ks) ≡ slots_by text ks
 unfolding slots_by
 same_slots text [] = refl
 same_slots text (k ∷ ks) =
     ap₂ (λ sh ls. map (slot_by k) (leaves_of sh) ++ ls) (same_shape text MAX_TYPE_DEPTH k.2) (same_slots text ks)
 
 -- keys of lists
-abbrev IsTaken : List Owned → List Owned → Type 0
+abbrev pub IsTaken : List Owned → List Owned → Type 0
 IsTaken us vs = map key us ≡ map taking_key (map key vs)
 
 taken_append : (us vs ts ws : List Owned) → IsTaken us ts → IsTaken vs ws → IsTaken (us ++ vs) (ts ++ ws)
@@ -384,7 +384,7 @@ taking_keys : (o : Option Owner) (es : List Typed)
 taking_keys o [] = refl
 taking_keys o (e ∷ es) = ap (λ ks. key_of o (taking e) ∷ ks) (taking_keys o es)
 
-taken_variables : (o : Option Owner) (es ds : List NamedSite) → map typed es ≡ map taking (map typed ds)
+pub taken_variables : (o : Option Owner) (es ds : List NamedSite) → map typed es ≡ map taking (map typed ds)
     → IsTaken (map (owned_variable o) es) (map (owned_variable o) ds)
 taken_variables o es ds h =
     keys_of_variables o es ∙ ap (map (key_of o)) h ∙ taking_keys o (map typed ds)
@@ -472,7 +472,7 @@ module _ (text : Declared) where
       (variables_of_resources text c.resources) (taken_globals c.globals) (taken_resources c.resources)
 
   -- the parts of a text
-  types_taken : (source : Source) → types_in (map (resolved_element_of_text text) source)
+  pub types_taken : (source : Source) → types_in (map (resolved_element_of_text text) source)
       ≡ map (resolved_type_declaration text) (types_in source)
   types_taken [] = refl
   types_taken (sources.types ts ∷ rest) =
@@ -481,7 +481,7 @@ module _ (text : Declared) where
   types_taken (sources.unit u ∷ rest) = types_taken rest
   types_taken (sources.configuration c ∷ rest) = types_taken rest
 
-  units_taken : (source : Source)
+  pub units_taken : (source : Source)
       → units_in (map (resolved_element_of_text text) source) ≡ map (resolved text) (units_in source)
   units_taken [] = refl
   units_taken (sources.types ts ∷ rest) = units_taken rest

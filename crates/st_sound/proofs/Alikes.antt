@@ -14,6 +14,14 @@ alike_then P Q (Err e) (Err e') f g h k = h
 alike_then P Q (Ok r) (Err e) f g h k = absurd h
 alike_then P Q (Err e) (Ok q) f g h k = absurd h
 
+-- the same with another property
+pub alike_as : {A : Type 0} (P Q : A → Type 0) (x y : Result (A × ℕ) Fault) → ((a : A) → P a → Q a) → Alike P x y
+    → Alike Q x y
+alike_as P Q (Ok r) (Ok q) f h = (h.0, f r.0 h.1)
+alike_as P Q (Err e) (Err e') f h = h
+alike_as P Q (Ok r) (Err e) f h = absurd h
+alike_as P Q (Err e) (Ok q) f h = absurd h
+
 -- What gives something gives a thing with the property, and what fails does so by a fault of the run.
 abbrev pub Succeeds : {A : Type 0} → (A → Type 0) → Result A Failure → Type 0
 Succeeds P (Ok a) = P a
@@ -27,6 +35,20 @@ attempted P i j (Ok a) b h = (refl, h)
 attempted P i j (Err (fails f)) b h = refl
 attempted P i j (Err valueless) b h = absurd h
 attempted P i j (Err ill_typed) b h = absurd h
+
+pub succeeds_as : {A : Type 0} (P Q : A → Type 0) (r : Result A Failure) → Succeeds P r
+    → ((a : A) → r ≡ Ok a → Q a) → Succeeds Q r
+succeeds_as P Q (Ok a) h f = f a refl
+succeeds_as P Q (Err (fails e)) h f = tt
+succeeds_as P Q (Err valueless) h f = absurd h
+succeeds_as P Q (Err ill_typed) h f = absurd h
+
+pub succeeds_then : {A : Type 0} (P Q : A → Type 0) (r : Result A Failure) → ((a : A) → P a → Q a) → Succeeds P r
+    → Succeeds Q r
+succeeds_then P Q (Ok a) f h = f a h
+succeeds_then P Q (Err (fails e)) f h = tt
+succeeds_then P Q (Err valueless) f h = absurd h
+succeeds_then P Q (Err ill_typed) f h = absurd h
 
 -- a result of the run alone
 abbrev pub Gives : {A : Type 0} → (A → Type 0) → Result A Fault → Type 0

@@ -21,7 +21,9 @@ use Rattle.st_types.specs.Ticks.{follow, give, attempt}
 use Rattle.st_types.specs.Scopes.{Units, Scope, path_in}
 use Rattle.st_types.specs.Evaluation.{value, selected}
 use Rattle.st_types.specs.Loops.{End, goes_on}
-use Rattle.st_types.specs.Execution.{assigning}
+use Rattle.st_types.specs.Execution.{assigning, exec}
+use Rattle.st_types.specs.Runs.{store_of}
+use Rattle.st_types.specs.ResolvedUnits.{resolved_stmt}
 use Rattle.st_types.specs.NameTypes.{kind_among, kind_of_variable}
 use Rattle.st_types.specs.Resolution.{resolved_expr, resolved_variable, resolved_selectors}
 use Rattle.st_statics.specs.declared.rule.Rule.TheVariants.{NotAssignable}
@@ -45,8 +47,9 @@ use Rattle.st_statics.specs.LabelRules.{wrong_case}
 use Rattle.st_statics.specs.BodyRules.{wrong_exit, wrong_statement}
 use Rattle.st_statics.proofs.TypingLaws.{kind_of_declared, untyped_declared}
 use Rattle.st_sound.specs.Soundness.{IsOf, HasKind, Alike, standing, IsPlace, root}
-use Rattle.st_sound.specs.Soundness.{AssignmentsAreSound}
-use Rattle.st_sound.proofs.Alikes.{alike_then, Succeeds, attempted, front_empty, back_empty}
+use Rattle.st_sound.specs.Soundness.{Keeps, LeavesAgreeing, AssignmentsAreSound}
+use Rattle.st_sound.proofs.Alikes.{alike_then, alike_as, Succeeds, succeeds_as, attempted, front_empty, back_empty}
+use Rattle.st_sound.proofs.Keeping.{assigned_keeps, agrees_kept}
 use Rattle.st_sound.proofs.OperatorLemmas.{same_kinds}
 use Rattle.st_sound.proofs.KnownLemmas.{IsThere, variable_is_there, type_there, typing_known}
 use Rattle.st_sound.proofs.ValueLaw.{Premises, settled_known, value_alike, place_alike, inside, asked_right}
@@ -76,20 +79,25 @@ assigned_first s e p v k true h of rest =
     replaced_succeeds e v s (may_replace e.1 v) (may_of_one_kind k e.1 v old of)
 assigned_first s e p v k false h of rest = behind_succeeds e (assigned s p v) (rest h)
 
-assigned_succeeds : (s : Store) (p : Path) (v : Datum) (k : Kind) → HasKind (get s p) k → IsOf k v
+assigned_there : (s : Store) (p : Path) (v : Datum) (k : Kind) → HasKind (get s p) k → IsOf k v
     → Succeeds {A = Store} (λ _. Unit {0}) (assigned s p v)
-assigned_succeeds [] p v k h of = absurd (let e = h.there in cc)
-assigned_succeeds (e ∷ s) p v k h of =
-    assigned_first s e p v k (same_path p e.0) h of (λ g. assigned_succeeds s p v k g of)
+assigned_there [] p v k h of = absurd (let e = h.there in cc)
+assigned_there (e ∷ s) p v k h of =
+    assigned_first s e p v k (same_path p e.0) h of (λ g. assigned_there s p v k g of)
+
+pub assigned_succeeds : (s : Store) (p : Path) (v : Datum) (k : Kind) → HasKind (get s p) k → IsOf k v
+    → Succeeds (Keeps s) (assigned s p v)
+assigned_succeeds s p v k h of = succeeds_as {A = Store} (λ _. Unit {0}) (Keeps s) (assigned s p v)
+    (assigned_there s p v k h of) (λ t is. assigned_keeps s p v t is)
 
 -- what a target asks
-composite_refused : (t : Typing) → meets (asked None no_sort) t ≡ true → is_nothing t ≡ false → ⊥
+pub composite_refused : (t : Typing) → meets (asked None no_sort) t ≡ true → is_nothing t ≡ false → ⊥
 composite_refused untyped h i = cc
 composite_refused (elementary k) h i = cc
 composite_refused composite h i = cc
 composite_refused nothing h i = cc
 
-exact_kind : (k : Kind) (t : Typing) → meets (exactly k) t ≡ true → is_nothing t ≡ false → t ≡ elementary k
+pub exact_kind : (k : Kind) (t : Typing) → meets (exactly k) t ≡ true → is_nothing t ≡ false → t ≡ elementary k
 exact_kind k untyped h i = absurd (cc)
 exact_kind k (elementary l) h i = ap (λ (j : Kind). elementary j) (same_kind_is l k (and_parts (same_kind l k) _ h).0)
 exact_kind k composite h i = absurd (cc)
@@ -101,7 +109,7 @@ assigning_alike : (env : Environment) (w : Scope) (s : Store) (u v : Units) (i j
     → flat_map (wrong_node env) (nodes_of_place env (variable x xs)) ≡ [] → (t : Typing)
     → typing_of_type env.text (Some there.behind.type_is) ≡ t → is_nothing t ≡ false → is_untyped_typing t ≡ false
     → wrong_expression env (demand_of_typing t) e ≡ [] → (b : ℕ)
-    → Alike {A = End} (λ _. Unit {0})
+    → Alike {A = End} (λ r. Keeps s (store_of r))
     (assigning (standing u i w) (resolved_variable env.text env.unit (variable x xs))
     (resolved_expr env.text env.unit (kind_of t) e) s b)
     (assigning (standing v j w) (resolved_variable env.text env.unit (variable x xs))
@@ -122,7 +130,7 @@ assigning_alike env w s u v i j p x xs e there fixed parts (elementary k) is kno
     kind_of_declared env.text (Some t) ∙ ap kind_of is in
     let at = path_in w.frame w.body x.name in
     let ys = resolved_selectors env.text env.unit xs in
-    alike_then {A = Datum} {B = End} (IsOf k) (λ _. Unit {0})
+    alike_then {A = Datum} {B = End} (IsOf k) (λ r. Keeps s (store_of r))
     (value (standing u i w) s (resolved_expr env.text env.unit (Some k) e) b)
     (value (standing v j w) s (resolved_expr env.text env.unit (Some k) e) b)
     (λ n c. follow (selected (standing u i w) s at ys c)
@@ -130,22 +138,22 @@ assigning_alike env w s u v i j p x xs e there fixed parts (elementary k) is kno
     (λ n c. follow (selected (standing v j w) s at ys c)
     (λ q d. follow (attempt j (assigned s q n) d) (λ r. give (goes_on r))))
     (value_alike env w s u v i j p (Some k) e (inside env d e h) k kind b)
-    (λ n c of. alike_then {A = Path} {B = End} (λ q. IsPlace env w s x.name q t) (λ _. Unit {0})
+    (λ n c of. alike_then {A = Path} {B = End} (λ q. IsPlace env w s x.name q t) (λ r. Keeps s (store_of r))
     (selected (standing u i w) s at ys c) (selected (standing v j w) s at ys c)
     (λ q d. follow (attempt i (assigned s q n) d) (λ r. give (goes_on r)))
     (λ q d. follow (attempt j (assigned s q n) d) (λ r. give (goes_on r)))
     (place_alike env w s u v i j p x.name at there.declared (root x.name there.named) xs t there.behind.leads parts c)
-    (λ q d place. alike_then {A = Store} {B = End} (λ _. Unit {0}) (λ _. Unit {0})
+    (λ q d place. alike_then {A = Store} {B = End} (λ r. Keeps s r) (λ r. Keeps s (store_of r))
     (attempt i (assigned s q n) d) (attempt j (assigned s q n) d) (λ r. give (goes_on r)) (λ r. give (goes_on r))
-    (attempted {A = Store} (λ _. Unit {0}) i j (assigned s q n) d
+    (attempted {A = Store} (λ r. Keeps s r) i j (assigned s q n) d
     (assigned_succeeds s q n k (p.agrees.stored k place fixed among) of))
-    (λ r f _. (refl, tt))))
+    (λ r f kept. (refl, kept))))
 
-not_true : (b : Bool) → not b ≡ true → b ≡ false
+pub not_true : (b : Bool) → not b ≡ true → b ≡ false
 not_true true h = absurd (cc)
 not_true false h = refl
 
-assignable_there : (o : Option VariableType) (t : VariableType) (b : Bool) (at : ℕ) → o ≡ Some t
+pub assignable_there : (o : Option VariableType) (t : VariableType) (b : Bool) (at : ℕ) → o ≡ Some t
     → breaking NotAssignable (if is_some o then unless b at else []) ≡ [] → b ≡ true
 assignable_there (Some u) t true at is h = refl
 assignable_there (Some u) t false at is h = absurd (cc)
@@ -199,7 +207,7 @@ assign_alike : (env : Environment) (w : Scope) (s : Store) (u v : Units) (i j : 
     → wrong_target env c (variable x xs) ≡ []
     → wrong_expression env (demand_of_type env (type_of_place env (variable x xs))) e ≡ []
     → flat_map (wrong_node env) (nodes_of_place env (variable x xs)) ≡ [] → (b : ℕ)
-    → Alike {A = End} (λ _. Unit {0})
+    → Alike {A = End} (λ r. Keeps s (store_of r))
     (assigning (standing u i w) (resolved_variable env.text env.unit (variable x xs))
     (resolved_expr env.text env.unit (kind_of_variable env.text env.unit (variable x xs)) e) s b)
     (assigning (standing v j w) (resolved_variable env.text env.unit (variable x xs))
@@ -218,7 +226,7 @@ assign_alike env w s u v i j p c x xs e target h parts b =
     (and_parts (not (is_fixed (section_of env x.name)) && _) _ assignable).0).0 in
     let kind : kind_of_variable env.text env.unit v' ≡ kind_of (typing_of_type env.text (Some there.behind.type_is)) =
     kind_of_declared env.text (type_of_place env v') ∙ ap (λ o. kind_of (typing_of_type env.text o)) is in
-    subst (λ (k : Option Kind). Alike {A = End} (λ _. Unit {0})
+    subst (λ (k : Option Kind). Alike {A = End} (λ r. Keeps s (store_of r))
     (assigning (standing u i w) (resolved_variable env.text env.unit v') (resolved_expr env.text env.unit k e) s b)
     (assigning (standing v j w) (resolved_variable env.text env.unit v') (resolved_expr env.text env.unit k e) s b))
     (sym kind)
@@ -227,9 +235,21 @@ assign_alike env w s u v i j p c x xs e target h parts b =
     (sym (untyped_declared env.text (Some there.behind.type_is)))
     (subst (λ o. wrong_expression env (demand_of_type env o) e ≡ []) is h) b)
 
-pub assignments_are_sound : AssignmentsAreSound
-assignments_are_sound env w s u v i j c (variable x xs) e zero agrees units known h = refl
-assignments_are_sound env w s u v i j c (variable x xs) e (suc b) agrees units known h =
+-- an assignment as a statement
+pub assignment_alike : (env : Environment) (w : Scope) (s : Store) (u v : Units) (i j : StandIns) → Premises env w s u v
+    → (c : Context) (x : Variable) (e : Expr) → wrong_statement env (placed c (assign x e)) ≡ [] → (b : ℕ)
+    → Alike {A = End} (λ r. Keeps s (store_of r))
+    (exec (standing u i w) (resolved_stmt env.text env.unit (assign x e)) s b)
+    (exec (standing v j w) (resolved_stmt env.text env.unit (assign x e)) s b)
+assignment_alike env w s u v i j p c (variable x xs) e h zero = refl
+assignment_alike env w s u v i j p c (variable x xs) e h (suc b) =
     let parts = nodes_right env c (variable x xs) e h in
-    assign_alike env w s u v i j (record { agrees = agrees; units = units; known = known }) c x xs e
-    (target_right env c (variable x xs) e h) parts.0 parts.1 b
+    assign_alike env w s u v i j p c x xs e (target_right env c (variable x xs) e h) parts.0 parts.1 b
+
+pub assignments_are_sound : AssignmentsAreSound
+assignments_are_sound env w s u v i j c x e b agrees units known h =
+    alike_as {A = End} (λ r. Keeps s (store_of r)) (LeavesAgreeing env w)
+    (exec (standing u i w) (resolved_stmt env.text env.unit (assign x e)) s b)
+    (exec (standing v j w) (resolved_stmt env.text env.unit (assign x e)) s b)
+    (λ r kept. agrees_kept agrees kept)
+    (assignment_alike env w s u v i j (record { agrees = agrees; units = units; known = known }) c x e h b)

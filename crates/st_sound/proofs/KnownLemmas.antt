@@ -35,7 +35,7 @@ use Rattle.st_statics.specs.Typings.{is_nothing}
 use Rattle.st_statics.specs.Nodes.{nodes_of, nodes_below, offered, demands_of}
 use Rattle.st_statics.specs.ExpressionRules.{wrong_selector, wrong_selectors, wrong_variable, wrong_alone, wrong_call}
 use Rattle.st_statics.specs.ExpressionRules.{wrong_part, wrong_node, wrong_within}
-use Rattle.st_sound.specs.Soundness.{IsKnown, IsKnownWhole, AreKnown}
+use Rattle.st_sound.specs.Soundness.{IsKnown, IsTypeIn, of_variable, of_part, AreKnown}
 use Rattle.st_sound.proofs.Alikes.{front_empty, back_empty}
 
 -- What has a type is not nothing.
@@ -59,7 +59,7 @@ alone_known : (env : Environment) → AreKnown env → (at : ℕ) (x : Name) (o 
     → type_of_name env x ≡ o
     → wrong_alone env at x o ≡ [] → is_nothing (typing_of_alone env x o) ≡ false
 alone_known env known at x None is h = reading_known at (reading_of_name env.text x) h
-alone_known env known at x (Some t) is h = known.variables x t is no_selectors t refl
+alone_known env known at x (Some t) is h = known.types t (of_variable x is)
 
 -- A selection in which nothing is wrong leads to a type.
 pub record Leads (text : Declared) (t : VariableType) (xs : Selectors) : Type 0 where
@@ -87,14 +87,12 @@ one_selector text at (subscript e) xs t None is known h =
     let none : wrong ≡ [] = subst (λ b. ◌≡◌ {A = List Broken} (if b then [] else wrong) []) known h in
     absurd (cc)
 
-selectors_lead : (text : Declared) (at : ℕ) (xs : Selectors) (t : VariableType) → IsKnownWhole text t
-    → wrong_selectors text at t xs ≡ [] → Leads text t xs
-selectors_lead text at no_selectors t k h = record { type_is = t; leads = refl; known = k no_selectors t refl }
-selectors_lead text at (selector_then x xs) t k h =
-    let one = one_selector text at x xs t (selected_type text t x) refl (k no_selectors t refl) h in
-    let behind : IsKnownWhole text one.0 =
-    λ ys u is. k (selector_then x ys) u (ap (option_and_then (type_behind text ys)) one.1 ∙ is) in
-    let rest = selectors_lead text at xs one.0 behind one.2 in
+pub selectors_lead : (env : Environment) → AreKnown env → (at : ℕ) (xs : Selectors) (t : VariableType)
+    → IsTypeIn env t → wrong_selectors env.text at t xs ≡ [] → Leads env.text t xs
+selectors_lead env known at no_selectors t k h = record { type_is = t; leads = refl; known = known.types t k }
+selectors_lead env known at (selector_then x xs) t k h =
+    let one = one_selector env.text at x xs t (selected_type env.text t x) refl (known.types t k) h in
+    let rest = selectors_lead env known at xs one.0 (of_part x k one.1) one.2 in
     record {
       type_is = rest.type_is;
       leads = ap (option_and_then (type_behind text xs)) one.1 ∙ rest.leads;
@@ -118,8 +116,8 @@ variable_named : (env : Environment) → AreKnown env → (x : Identifier) (xs :
 variable_named env known x xs (Some t) is h = record {
   declared = t;
   named = is;
-  known = known.variables x.name t is no_selectors t refl;
-  behind = selectors_lead env.text x.place xs t (known.variables x.name t is) h;
+  known = known.types t (of_variable x.name is);
+  behind = selectors_lead env known x.place xs t (of_variable x.name is) h;
 }
 variable_named env known x xs None is h = absurd (cc)
 

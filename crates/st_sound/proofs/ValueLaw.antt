@@ -252,7 +252,7 @@ asked_right env d e h =
     (sym (append_assoc own (wrong_part env (expected_of d) e)
     (flat_map (wrong_node env) (nodes_below env (expected_of d) e))) ∙ h))
 
-met_kind : (k : Option Kind) (ss : Sorts) (t : Typing) → meets (asked k ss) t ≡ true → is_nothing t ≡ false
+pub met_kind : (k : Option Kind) (ss : Sorts) (t : Typing) → meets (asked k ss) t ≡ true → is_nothing t ≡ false
     → (m : Kind) × (t ≡ elementary m)
 met_kind k ss untyped h i = absurd (cc)
 met_kind k ss (elementary m) h i = (m, refl)

@@ -1,2 +1,3 @@
 pub mod Soundness
-pub mod Examples
+pub mod StatementSoundness
+pub mod UnitSoundness

@@ -16,7 +16,8 @@ use Rattle.st_types.specs.Scopes.{Name, Units, Scope, path_in, member_at, seen}
 use Rattle.st_types.specs.Evaluation.{value, known, element_at}
 use Rattle.st_types.specs.Loops.{End}
 use Rattle.st_types.specs.Execution.{exec}
-use Rattle.st_types.specs.NameTypes.{Declared, definition_of, member_type, element_type, type_behind, kind_among}
+use Rattle.st_types.specs.Runs.{store_of}
+use Rattle.st_types.specs.NameTypes.{Declared, definition_of, member_type, element_type, selected_type, kind_among}
 use Rattle.st_types.specs.Resolution.{resolved_expr}
 use Rattle.st_types.specs.ResolvedUnits.{resolved_stmt}
 use Rattle.st_statics.specs.Environments.{Environment, own, type_of_name, section_of, callee_of}
@@ -70,6 +71,11 @@ pub record Agrees (env : Environment) (w : Scope) (s : Store) : Type 0 where
   pub stored : {x : Name} {p : Path} {t : VariableType} (k : Kind) → IsPlace env w s x p t
       → is_fixed (section_of env x) ≡ false → kind_among env.text.types t ≡ Some k → HasKind (get s p) k
 
+-- What is left of a store has the same parts, and a value of each type where it had one.
+pub record Keeps (s t : Store) : Type 0 where
+  pub parts : (p : Path) → has_part t p ≡ has_part s p
+  pub kinds : (p : Path) (k : Kind) → HasKind (get s p) k → HasKind (get t p) k
+
 -- values of these types, in order
 abbrev pub AreOf : List (Option Kind) → List Datum → Type 0
 AreOf [] [] = Unit {0}
@@ -87,14 +93,16 @@ UnitsAgree env u v =
 abbrev pub IsKnown : Declared → VariableType → Type 0
 IsKnown text t = is_nothing (typing_of_type text (Some t)) ≡ false
 
--- a type that stands for something, with all that is selected from it
-abbrev pub IsKnownWhole : Declared → VariableType → Type 0
-IsKnownWhole text t = (xs : Selectors) (u : VariableType) → type_behind text xs t ≡ Some u → IsKnown text u
+-- a type that a variable of the unit or a part of one has
+pub data IsTypeIn (env : Environment) : VariableType → Type 0 where
+  of_variable : {t : VariableType} (x : Name) → type_of_name env x ≡ Some t → IsTypeIn env t
+  of_part : {t u : VariableType} (x : Selector) → IsTypeIn env t → selected_type env.text t x ≡ Some u
+      → IsTypeIn env u
 
--- The types of the unit's variables and of their parts stand for something, and so do the inputs and the results of
+-- The types of the unit's variables and of their parts stand for something, and so do the inputs and results of
 -- functions.
 pub record AreKnown (env : Environment) : Type 0 where
-  pub variables : (x : Name) (t : VariableType) → type_of_name env x ≡ Some t → IsKnownWhole env.text t
+  pub types : (t : VariableType) → IsTypeIn env t → IsKnown env.text t
   pub inputs : (f : Name) (inputs : List (Option Kind)) (result : Option Kind)
       → callee_of env f ≡ Some (own inputs result) → list_all is_some inputs ≡ true
   pub results : (f : Name) (inputs : List (Option Kind)) (result : Option Kind)
@@ -110,11 +118,15 @@ ValuesAreSound =
     → Alike (IsOf k) (value (standing u i w) s (resolved_expr env.text env.unit (expected_of d) e) budget)
     (value (standing v j w) s (resolved_expr env.text env.unit (expected_of d) e) budget)
 
--- The law of assignments.
+-- what is left agrees
+abbrev pub LeavesAgreeing : Environment → Scope → End → Type 0
+LeavesAgreeing env w e = Agrees env w (store_of e)
+
+-- The law of assignments. The store that one leaves agrees as the one before it did.
 abbrev pub AssignmentsAreSound : Type 0
 AssignmentsAreSound =
     (env : Environment) (w : Scope) (s : Store) (u v : Units) (i j : StandIns) (c : Context) (x : Variable) (e : Expr)
     (budget : ℕ)
     → Agrees env w s → UnitsAgree env u v → AreKnown env → wrong_statement env (placed c (assign x e)) ≡ []
-    → Alike {A = End} (λ _. Unit {0}) (exec (standing u i w) (resolved_stmt env.text env.unit (assign x e)) s budget)
+    → Alike (LeavesAgreeing env w) (exec (standing u i w) (resolved_stmt env.text env.unit (assign x e)) s budget)
     (exec (standing v j w) (resolved_stmt env.text env.unit (assign x e)) s budget)

@@ -221,7 +221,7 @@ module _ (env : Environment) (variables : List Owned) (w : Scope) (vs : List Dat
         is_of = record { kind = o.kind ∙ l.kind; held = o.held };
       }
 
-  stored_home : {f : Bool} {p : Path} {t : VariableType} (h : IsHome env.text variables f p t) (k : Kind) → f ≡ false
+  pub stored_home : {f : Bool} {p : Path} {t : VariableType} (h : IsHome env.text variables f p t) (k : Kind) → f ≡ false
       → kind_among env.text.types t ≡ Some k → HasKind (get store p) k
   stored_home {f} {p} {t} h k free e =
       let l = slot_of_home h k e in

@@ -36,12 +36,12 @@ use Rattle.st_stores.specs.Homes.{RunsIn}
 use Rattle.st_stores.proofs.MemberLemmas.{Declares, declaration_declared, found_first, not_named}
 
 -- what is among a part of a list is among the whole
-among_left : {A : Type 0} {a : A} (cs ds : List A) → IsAmong a cs → IsAmong a (cs ++ ds)
+pub among_left : {A : Type 0} {a : A} (cs ds : List A) → IsAmong a cs → IsAmong a (cs ++ ds)
 among_left [] ds i = elim i [ ]
 among_left (c ∷ cs) ds here = here
 among_left (c ∷ cs) ds (further_on i) = further_on (among_left cs ds i)
 
-among_right : {A : Type 0} {a : A} (cs ds : List A) → IsAmong a ds → IsAmong a (cs ++ ds)
+pub among_right : {A : Type 0} {a : A} (cs ds : List A) → IsAmong a ds → IsAmong a (cs ++ ds)
 among_right [] ds i = i
 among_right (c ∷ cs) ds i = further_on (among_right cs ds i)
 
@@ -97,7 +97,7 @@ not_among_names (d ∷ ds) x h =
     same_test [] = refl
     same_test (y ∷ ys) = ap (λ b. is_named x y || b) (same_test ys)
 
-not_among_sites : (keep : Option Retention) (ds : List Declaration) (rest : List NamedSite) (x : Name)
+pub not_among_sites : (keep : Option Retention) (ds : List Declaration) (rest : List NamedSite) (x : Name)
     → type_in ds x ≡ None → site_named (sites_of_declarations keep ds ++ rest) x ≡ site_named rest x
 not_among_sites keep [] rest x h = refl
 not_among_sites keep (d ∷ ds) rest x h =

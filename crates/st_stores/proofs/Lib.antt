@@ -6,3 +6,16 @@ pub mod HomeLemmas
 pub mod UnitHomeLemmas
 pub mod DifferentNames
 pub mod ChainLemmas
+pub mod InstanceParts
+pub mod RunHomes
+pub mod WellTypedRunLaw
+pub mod TakenBodies
+pub mod LibraryBodies
+pub mod FreshCalls
+pub mod LibraryFunctions
+pub mod KnownDepths
+pub mod SameShapes
+pub mod ListTests
+pub mod ExternalNames
+pub mod GlobalVariables
+pub mod GlobalHomes

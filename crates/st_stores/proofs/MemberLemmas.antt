@@ -63,7 +63,7 @@ pub names_append : (cs bs : List NamedSite) → names_of_sites (cs ++ bs) ≡ na
 names_append [] bs = refl
 names_append (a ∷ cs) bs = ap (λ xs. a.name ∷ xs) (names_append cs bs)
 
-later_differ : (cs bs : List NamedSite) → are_different (names_of_sites (cs ++ bs)) ≡ true
+pub later_differ : (cs bs : List NamedSite) → are_different (names_of_sites (cs ++ bs)) ≡ true
     → are_different (names_of_sites bs) ≡ true
 later_differ [] bs h = h
 later_differ (a ∷ cs) bs h =
@@ -76,7 +76,7 @@ contained_later [] bs x h = h
 contained_later (a ∷ cs) bs x h =
     or_later (bytes_eq x a.name) (contains_name (names_of_sites (cs ++ bs)) x) (contained_later cs bs x h)
 
-found_later : (cs bs : List NamedSite) → are_different (names_of_sites (cs ++ bs)) ≡ true → (x : Name) (s : Site)
+pub found_later : (cs bs : List NamedSite) → are_different (names_of_sites (cs ++ bs)) ≡ true → (x : Name) (s : Site)
     → site_named bs x ≡ Some s → site_named (cs ++ bs) x ≡ Some s
 found_later [] bs d x s h = h
 found_later (a ∷ cs) bs d x s h =
@@ -119,7 +119,7 @@ field_declared (f ∷ fs) x u h = by_test (is_named x f.name) h (field_declared 
     by_test false e ih = ih e
 
 -- members of a standard block
-member_declared : (ms : List BlockMember) (x : Name) (k : Kind) → member_kind ms x ≡ Some k
+pub member_declared : (ms : List BlockMember) (x : Name) (k : Kind) → member_kind ms x ≡ Some k
     → Declares (site_named (map site_of_member ms) x) (elementary k)
 member_declared [] x k h = absurd (cc)
 member_declared (m ∷ ms) x k h = by_test (bytes_eq x m.0) h (member_declared ms x k)
@@ -335,7 +335,7 @@ module _ (text : Declared) (differ : are_names_different text ≡ true) where
   no_kind_among x d h e =
       ap (option_map kind_of_enumeration) (no_other_enumeration 0 text.types types_once x.name d h e)
 
-  made : (x : Identifier) (d : TypeDefinition) → type_named text.types x.name ≡ Some d → enumerated_names d ≡ None
+  pub made : (x : Identifier) (d : TypeDefinition) → type_named text.types x.name ≡ Some d → enumerated_names d ≡ None
       → composition_of text (types.Simple (Named x)) ≡ defined_composition text (types.Simple (Named x)) (Some d)
   made x d h e =
       ap (λ m. elim m [
@@ -369,7 +369,7 @@ module _ (text : Declared) (differ : are_names_different text ≡ true) where
     | None ↦ own_block_type (unit_named text.units x.name)
   ]
 
-  instance_by : (x : Identifier) (k : Option StandardBlock) (b : BlockType) → type_named text.types x.name ≡ None
+  pub instance_by : (x : Identifier) (k : Option StandardBlock) (b : BlockType) → type_named text.types x.name ≡ None
       → block_of x.name ≡ k → block_by x k ≡ Some b → instance_of text (types.Simple (Named x)) ≡ Some b
   instance_by x k b h e g =
       ap (λ d. if is_none d then block_type_named text x.name else None) h ∙ ap (block_by x) e ∙ g

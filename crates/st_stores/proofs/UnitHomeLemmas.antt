@@ -71,7 +71,7 @@ homes_of text variables u frame w runs grounded own x t h =
         (is_fixed (section_of (environment_of text u) x)) t (path_of u frame w runs x false e) (own x t h e)
 
 -- a member of an instance
-member_home : (text : Declared) (variables : List Owned) (at : Path) (t : VariableType) (x : Name) (s : VariableType)
+pub member_home : (text : Declared) (variables : List Owned) (at : Path) (t : VariableType) (x : Name) (s : VariableType)
     (fixed : Bool) → IsPart text t x s → IsHome text variables false at t
     → IsHome text variables fixed (member_at at x) s
 member_home text variables at t x s fixed part h =

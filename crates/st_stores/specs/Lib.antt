@@ -1,1 +1,3 @@
 pub mod Homes
+pub mod WellTypedRuns
+pub mod RunExamples

@@ -28,6 +28,7 @@ ghost use Rattle.st_layouts.specs.TextLayouts.{slots_of, slots_of_text};
 ghost use Rattle.st_layouts.specs.Standing.{are_declared_once};
 ghost use Rattle.st_stores.specs.Homes.{HasHomes, are_names_different, AreValuesOf, IsInstanceOf, IsGrounded};
 ghost use Rattle.st_stores.specs.Homes.{RunsIn, environment_of, IsProgramRun, IsHome};
+ghost use Rattle.st_stores.specs.WellTypedRuns.{LibrariesAreOfTexts, RunsStand, RunsAreSound};
 
 /// Where the names of a unit stand for parts of a layout, each place of the unit that has an elementary or enumerated
 /// type has a value of it, over all values of the layout's slots that are of their types.
@@ -90,4 +91,22 @@ pub fn types_without_long_chains_are_within_depth()
     ensures { (text : Declared) → ((x : Name) → is_some (unit_named text.units x) ≡ true → block_of x ≡ None)
         → (t : VariableType) → has_chain text (MAX_TYPE_DEPTH + 1) (part_of_type t) ≡ false
         → is_within_depth MAX_TYPE_DEPTH text t ≡ true }
+{}
+
+/// The library that a text gives has each of its functions and blocks, with the literals as they are resolved, where the
+/// text breaks no rule. The variables of a function have values of their types as a call begins.
+pub fn libraries_are_of_their_texts()
+    ensures { LibrariesAreOfTexts }
+{}
+
+/// Over any values of its layout's slots, of their types, the variables of a program's run stand where its text breaks
+/// no rule: each name of each body that the run comes to has a value of its type, and so has each member of an instance.
+pub fn runs_stand_in_their_layout()
+    ensures { RunsStand }
+{}
+
+/// Over any values of its layout's slots, of their types, a run of a program whose text breaks no rule is done, or ends
+/// with a fault of the run that no stand-in tells. It keeps the variables with their types.
+pub fn runs_over_their_layout_are_sound()
+    ensures { RunsAreSound }
 {}
