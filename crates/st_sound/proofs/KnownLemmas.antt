@@ -95,7 +95,7 @@ selectors_lead env known at (selector_then x xs) t k h =
     let rest = selectors_lead env known at xs one.0 (of_part x k one.1) one.2 in
     record {
       type_is = rest.type_is;
-      leads = ap (option_and_then (type_behind text xs)) one.1 ∙ rest.leads;
+      leads = ap (option_and_then (type_behind env.text xs)) one.1 ∙ rest.leads;
       known = rest.known;
     }
 

@@ -8,7 +8,7 @@ use Rattle.st_words.specs.Kinds.{holds}
 use Rattle.st_words.specs.Values.{Datum}
 use Rattle.st_words.specs.Paths.{Path}
 use Rattle.st_trees.specs.declared.data_type.VariableType.{VariableType}
-use Rattle.st_trees.specs.Expressions.{Expr, Variable, Selectors}
+use Rattle.st_trees.specs.Expressions.{Expr, Variable, Selector}
 use Rattle.st_trees.specs.Statements.{assign}
 use Rattle.st_types.specs.Failures.{StandIns}
 use Rattle.st_types.specs.Stores.{Store, get, has_part}

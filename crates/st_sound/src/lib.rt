@@ -4,7 +4,6 @@
 //! its expression's type. The functions do nothing: their contracts are the laws.
 #![tactic(auto)]
 
-pub mod examples;
 mod laws;
 
 pub use laws::{
