@@ -4,18 +4,19 @@
 # This is a killed process and not a power cut: what it wrote before is still in the system's hands. Power cuts are the simulated
 # disk's, in the crates' tests.
 #
-# usage: tests/kill.sh PLANT [KILLS]     PLANT is the built program
+# usage: tests/kill.sh PLANT [KILLS]     PLANT is the built program; so many kills, half of them at each pace
 set -euo pipefail
 
 plant=$(realpath "$1")
-kills=${2:-50}
+kills=$(((${2:-100} + 1) / 2))
 # After so many seconds the script gives up.
-limit=600
+limit=900
 
 work=$(mktemp -d)
 trap 'rm -rf "$work"' EXIT
 cd "$work"
 
+# Two resources that add to the same variables, each in a thread of its own.
 cat > counters.st <<'END'
 PROGRAM Count
   VAR_EXTERNAL a : DINT; b : DINT; END_VAR
@@ -25,6 +26,10 @@ END_PROGRAM
 CONFIGURATION Killed
   VAR_GLOBAL RETAIN a : DINT; b : DINT; END_VAR
   RESOURCE R ON CPU
+    TASK T (INTERVAL := T#10ms, PRIORITY := 0);
+    PROGRAM P WITH T : Count;
+  END_RESOURCE
+  RESOURCE S ON CPU
     TASK T (INTERVAL := T#10ms, PRIORITY := 0);
     PROGRAM P WITH T : Count;
   END_RESOURCE
@@ -48,6 +53,16 @@ value() {
     awk -v name="$1" '$1 == name { print $NF }' report
 }
 
+# Checks a report: each execution has added to both variables, and all is acknowledged.
+check() {
+    a=$(value A)
+    b=$(value B)
+    [ "$b" -eq $((3 * a)) ] || fail "A = $a, but B = $b"
+    [ "$a" -eq $((known + $(value done))) ] || fail "from $known on $(value done) executions counted to $a"
+    [ "$(value acked)" -eq $(($(value rows) + $(value done))) ] || fail "only $(value acked) entries are acknowledged"
+    known=$a
+}
+
 # Restarts warm without a row, and checks what is there.
 look() {
     "$plant" run counters.st --plant none.csv --store store --start warm > report 2> fault || fail "a warm start was refused: $(cat fault)"
@@ -58,41 +73,60 @@ look() {
     known=$a
 }
 
-# A whole life, which tells how many rows take about a second and a half on this disk: 100 to 10,000.
-rows 0 200 > plant.csv
-begin=$(date +%s%3N)
-"$plant" run counters.st --plant plant.csv --store store --start cold > report
-took=$(($(date +%s%3N) - begin + 1))
-known=$(value A)
-[ "$known" -eq 200 ] || fail "a whole life counted $known of 200 rows"
-[ "$(value acked)" -eq 400 ] || fail "a whole life acknowledged $(value acked) of 400 entries"
-count=$((1500 * 200 / took))
+# live PACE MODE: a life over the rows of plant.csv
+live() {
+    "$plant" run counters.st --plant plant.csv --store store --start "$2" --pace "$1" > report 2> fault
+}
+
+started=$SECONDS
+life=1
+# strike PACE COUNT WHOLE: kills lives of so many rows, which take about WHOLE milliseconds. A kill counts where the killed life had saved
+# a row: it came within the run, not before it and not after it.
+strike() {
+    local pace=$1 count=$2 whole=$3 counted=0 before pid
+    while [ "$counted" -lt "$kills" ]; do
+        [ $((SECONDS - started)) -lt $limit ] || fail "only $counted of $kills kills at pace $pace in $limit seconds"
+        rows $((life * 10000000)) "$count" > plant.csv
+        before=$known
+        live "$pace" warm &
+        pid=$!
+        sleep "$(awk -v ms=$((RANDOM * whole / 32768)) 'BEGIN { printf "%.3f", ms / 1000 }')"
+        kill -9 $pid 2> killing || true
+        if wait $pid 2> killing; then
+            check
+        else
+            [ ! -s report ] || fail "a killed life has printed a report"
+            [ ! -s fault ] || fail "a life ended with $(cat fault)"
+            look
+            [ "$known" -eq "$before" ] || counted=$((counted + 1))
+        fi
+        life=$((life + 1))
+    done
+}
+
+# took PACE MODE COUNT: how many milliseconds a life of so many rows takes, which is a whole one
+took() {
+    local begin
+    rows $((life * 10000000)) "$3" > plant.csv
+    life=$((life + 1))
+    begin=$(date +%s%3N)
+    live "$1" "$2" || fail "a life ended with $(cat fault)"
+    milliseconds=$(($(date +%s%3N) - begin + 1))
+    check
+}
+
+# One row after another is settled: as many rows as take about a second and a half on this disk, 100 to 10,000.
+known=0
+took settle cold 200
+[ "$known" -eq 400 ] || fail "a whole life counted $known of 400 executions"
+count=$((1500 * 200 / milliseconds))
 [ $count -ge 100 ] || count=100
 [ $count -le 10000 ] || count=10000
-whole=$((took * count / 200))
+strike settle $count $((milliseconds * count / 200))
+settled=$life
 
-# A kill counts where the killed life had saved a row: it came within the run, not before it and not after it.
-counted=0
-life=1
-started=$SECONDS
-while [ "$counted" -lt "$kills" ]; do
-    [ $((SECONDS - started)) -lt $limit ] || fail "only $counted of $kills kills in $limit seconds"
-    rows $((life * 10000000)) $count > plant.csv
-    before=$known
-    "$plant" run counters.st --plant plant.csv --store store --start warm > report 2> fault &
-    pid=$!
-    sleep "$(awk -v ms=$((RANDOM * whole / 32768)) 'BEGIN { printf "%.3f", ms / 1000 }')"
-    kill -9 $pid 2> killing || true
-    if wait $pid 2> killing; then
-        known=$(value A)
-        [ "$known" -eq $((before + count)) ] || fail "a whole life counted from $before to $known"
-    else
-        [ ! -s report ] || fail "a killed life has printed a report"
-        [ ! -s fault ] || fail "a life ended with $(cat fault)"
-        look
-        [ "$known" -eq "$before" ] || counted=$((counted + 1))
-    fi
-    life=$((life + 1))
-done
+# Rows are latched one after another: 10,000 at a time.
+took free warm 10000
+strike free 10000 "$milliseconds"
 
-echo "kill.sh: $counted kills within a run, in $((life - 1)) lives; A = $known, B = $((3 * known))"
+echo "kill.sh: $kills kills within a run at each pace, in $((settled - 1)) and $((life - settled)) lives; A = $known, B = $((3 * known))"

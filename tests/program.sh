@@ -165,7 +165,46 @@ for words in --help -h help "run --help" "help replay"; do helped $words; done
 
 # Words in any order, with every option.
 scene "words in another order" 0 "$(report 3 3 0 0 6 'N = 3')" "" run --start cold --store ordered --plant rows.csv --pace settle s.st
-scene "rows one after another" 0 "$(report 3 1 0 2 4 'N = 1')" "" $(run s.st rows.csv ordered cold) --pace free
+
+# Rows latched one after another: at each a program that is due runs or is an overrun, and in the end all is acknowledged.
+cat > pair.st <<'END'
+PROGRAM Add VAR_EXTERNAL n : DINT; END_VAR n := n + 1; END_PROGRAM
+CONFIGURATION Pair
+VAR_GLOBAL RETAIN n : DINT; END_VAR
+RESOURCE A ON CPU TASK T (INTERVAL := T#10ms, PRIORITY := 0); PROGRAM P WITH T : Add; END_RESOURCE
+RESOURCE B ON CPU TASK T (INTERVAL := T#10ms, PRIORITY := 0); PROGRAM P WITH T : Add; END_RESOURCE
+END_CONFIGURATION
+END
+{ echo t; seq 0 10 19990; } > many.csv
+number() { awk -v name="$1" '$1 == name { print $NF }' out; }
+free() {
+    local rows=$1 programs=$2
+    shift 2
+    "$plant" "$@" --pace free > out 2> err || fail "pace free: $(cat err)"
+    [ "$(number rows)" -eq "$rows" ] || fail "pace free: $(number rows) rows"
+    [ $(($(number done) + $(number overruns))) -eq $((rows * programs)) ] || fail "pace free: $(cat out)"
+    [ "$(number acked)" -eq $((rows + $(number done))) ] || fail "pace free: $(cat out)"
+    [ "$(number N)" -eq "$(number done)" ] || fail "pace free: $(cat out)"
+    scenes=$((scenes + 1))
+}
+free 3 1 $(run s.st rows.csv ordered cold)
+free 2000 2 $(run pair.st many.csv pair cold)
+scene "two resources" 0 "$(report 2000 4000 0 0 6000 'N = 4000')" "" $(run pair.st many.csv pair cold)
+scene "a warm restart of two resources" 0 "$(report 0 0 0 0 0 'N = 4000')" "" $(run pair.st none.csv pair warm)
+
+# Fifty runs of the built-in configuration, whatever way its threads take.
+for _ in {1..50}; do scene "the built-in configuration" 0 "N = 200" "" first; done
+
+# Threads that can't be started: none has room for its stack; the flusher's has; that of the first resource too.
+narrow() { (ulimit -S -s 400000 && ulimit -S -v "$1" && exec "$plant" first); }
+for memory in 300000 600000 1000000; do
+    found=0
+    narrow $memory > out 2> err || found=$?
+    [ "$found" -eq 5 ] || fail "a thread that can't be started: status $found: $(cat err)"
+    [ ! -s out ] || fail "a thread that can't be started: told $(cat out)"
+    [ "$(cat err)" = "fault H1" ] || fail "a thread that can't be started: told $(cat err)"
+    scenes=$((scenes + 1))
+done
 scene "a row at the record's moment, one after another" 5 "" "fault K4" $(run s.st last.csv ordered warm) --pace free
 
 # A standard output that takes no more.

@@ -2,6 +2,7 @@
 use Rattle.std.proofs.Common.{◌≡◌, ◌∙◌, ℕ, List, [], ◌∷◌, ◌++◌, append_assoc, append-nil, length, arith, refl, sym, ap}
 use Rattle.std.proofs.Common.{subst}
 use Rattle.std.proofs.Common.{Option, Some, None, Result, Ok, Err, inl, inr}
+use Rattle.std.specs.List.{AllByRecursion}
 use Rattle.slot_run.specs.declared.snapshot.Snapshot.{Snapshot}
 use Rattle.serial_core.specs.declared.refusal.Refusal.{Refusal as SerialRefusal}
 use Rattle.retain_store.specs.Recovered.{recovered}
@@ -16,6 +17,12 @@ use Rattle.commit_lock.specs.Flushing.{Flushes}
 use Rattle.commit_lock.specs.Restart.{Survives}
 use Rattle.commit_lock.specs.Driving.{Held, held_at, taken_of, reply_to, acked_after, acked_by, CommitsHeld, Step}
 use Rattle.commit_lock.specs.Driving.{Drives, Endures}
+
+-- one element more
+pub all_more : {X : Type 0} (P : X → Type 0) (xs : List X) (x : X) → AllByRecursion P xs → P x
+    → AllByRecursion P (xs ++ x ∷ [])
+all_more P [] x all is = (is, tt)
+all_more P (y ∷ xs) x all is = (all.0, all_more P xs x all.1 is)
 
 -- a call that acknowledges nothing
 guards_acked : {D A : Type 0} (old new : CoreView D) (r : Result A Refusal) (R : Result A SerialRefusal → Type 0)

@@ -8,11 +8,14 @@ use Rattle.retain_store.specs.Recovered.{Recovered, recovered}
 use Rattle.serial_core.specs.declared.refusal.Refusal.{Refusal as SerialRefusal}
 use Rattle.serial_core.specs.Steps.{State, grown}
 use Rattle.commit_lock.specs.declared.refusal.Refusal.{Refusal}
+use Rattle.commit_lock.specs.declared.starting.StartMode.{StartMode}
 use Rattle.commit_lock.specs.declared.refusal.Refusal.TheVariants.{StoreFailed, Serial}
 use Rattle.commit_lock.specs.Restart.{Survives}
 
--- a core: its plan, start and log, how many entries are acknowledged, why its store failed, if it did, and its store
+-- a core: how it was started, its plan, start and log, how many entries are acknowledged, why its store failed, if it
+-- did, and its store
 pub record CoreView (D : Type 0) : Type 0 where
+  pub mode : StartMode
   pub state : State
   pub acked : ℕ
   pub failed : Option StoreFault
@@ -20,7 +23,13 @@ pub record CoreView (D : Type 0) : Type 0 where
 
 -- the core with another log, and all else as it was
 abbrev pub with_state : {D : Type 0} → CoreView D → State → CoreView D
-with_state core state = record { state = state; acked = core.acked; failed = core.failed; store = core.store }
+with_state core state = record {
+  mode = core.mode;
+  state = state;
+  acked = core.acked;
+  failed = core.failed;
+  store = core.store;
+}
 
 -- What a call is answered: K5 exactly where the store has failed before, and then nothing changes; else it is the
 -- answer of the core without a disk.

@@ -7,9 +7,12 @@ use Rattle.slot_run.specs.declared.snapshot.Snapshot.{Snapshot}
 use Rattle.serial_core.specs.declared.refusal.Answer.{Answer}
 use Rattle.serial_core.specs.declared.refusal.Refusal.TheVariants.{NotWaiting, NoMemory}
 use Rattle.serial_core.specs.Steps.{Latches, Takes, Commits, CommitsHere}
+use Rattle.retain_store.specs.declared.fault.StoreFault.{StoreFault}
+use Rattle.retain_store.specs.declared.fault.StoreFault.TheVariants as stores
+use Rattle.retain_store.specs.declared.format.TheConstants.{FILE_BYTES}
 use Rattle.retain_store.specs.Recovered.{recovered}
 use Rattle.commit_lock.specs.declared.refusal.Refusal.{Refusal}
-use Rattle.commit_lock.specs.declared.refusal.Refusal.TheVariants.{Serial}
+use Rattle.commit_lock.specs.declared.refusal.Refusal.TheVariants.{StoreFailed, Serial}
 use Rattle.commit_lock.specs.declared.event.Event.{Event}
 use Rattle.commit_lock.specs.declared.event.Event.TheVariants.{Latch, Take, Commit, CommitHere, Flush}
 use Rattle.commit_lock.specs.declared.event.Reply.{Reply}
@@ -52,6 +55,15 @@ acked_after acked (Refused r) = acked
 abbrev pub acked_by : ℕ → List Reply → ℕ
 acked_by acked [] = acked
 acked_by acked (reply ∷ replies) = acked_by (acked_after acked reply) replies
+
+-- the disk serves a whole file, and where the store has failed its generations are used up
+abbrev pub IsWell : {D : Type 0} → (D → ℕ → Type 0) → CoreView D → Type 0
+IsWell serves core = serves core.store.disk FILE_BYTES
+    × ((cause : StoreFault) → core.failed ≡ Some cause → cause ≡ stores.Generations)
+
+-- where the reply is K5, the generations are used up
+abbrev pub IsWellAnswered : Reply → Type 0
+IsWellAnswered reply = (cause : StoreFault) → reply ≡ Refused (StoreFailed cause) → cause ≡ stores.Generations
 
 module _ {D : Type 0} (failure_count : D → ℕ) where
   -- what was held is run and committed, unless there is nothing, or no memory to run it

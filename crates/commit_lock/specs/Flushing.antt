@@ -25,10 +25,11 @@ Flushes old (Ok n) new =
     (old.failed ≡ None) × (n ≡ length old.state.log) × (new.state ≡ old.state) × (new.acked ≡ n) × (new.failed ≡ None)
     × (IsAcknowledged old → new ≡ old)
     × ((IsAcknowledged old → ⊥) → SavesOne old new)
+    × (new.mode ≡ old.mode)
 Flushes old (Err (StoreFailed cause)) new =
     ((old.failed ≡ Some cause) × (new ≡ old))
     ⊎ ((old.failed ≡ None) × (IsAcknowledged old → ⊥) × (new.state ≡ old.state) × (new.acked ≡ old.acked)
-    × (new.failed ≡ Some cause))
+    × (new.failed ≡ Some cause) × (new.mode ≡ old.mode))
 Flushes old (Err (Serial refusal)) new = ⊥
 
 -- A flush that fails now fails by the device, and then one of its calls failed, or by generations that are used up, and

@@ -4,19 +4,22 @@ ghost use Rattle.std.specs.Prelude.{◌≤◌, List, ℕ, length};
 ghost use Rattle.retain_store.specs.Recovered.{recovered};
 ghost use Rattle.commit_lock.specs.Cores.{survives};
 
+use crate::starting::StartMode;
 use disk::Disk;
 use retain_store::{Store, StoreFault};
 use serial_core::SerialCore;
 use st_words::Value;
 use std::marker::Model;
 
-/// A core over a disk. Contracts see its plan, start and log, how many entries are acknowledged, and its store.
+/// A core over a disk. Contracts see how it was started, its plan, start and log, how many entries are acknowledged, and its store.
 ///
 /// Its log is legal, its variables are what the executions of the log give, one after another, and on a disk that
 /// tells every file that a stop now may leave survives: a warm restart gives what a prefix of the log leaves, which
 /// holds all that is acknowledged.
 #[derive(Drop)]
 pub struct Core<D: Disk> {
+    /// How it was started.
+    pub(crate) mode: StartMode,
     pub(crate) serial: SerialCore,
     pub(crate) store: Store<D>,
     /// The layout text of the plan's records.
@@ -43,7 +46,13 @@ impl<D: Disk> Model for Core<D> {
     ghost use Rattle.st_plans.specs.Layouts.{layout_text};
     ghost use Rattle.commit_lock.specs.Kept.{CoreInvariant};
 
-    ghost view = { λ x. record { state = x.serial; acked = x.acked; failed = x.failed; store = x.store } };
+    ghost view = { λ x. record {
+      mode = x.mode;
+      state = x.serial;
+      acked = x.acked;
+      failed = x.failed;
+      store = x.store;
+    } };
 
     ghost invariant = { λ x. CoreInvariant x.serial x.acked x.failed x.store x.layout.items (vec_capacity x.kept) };
 }

@@ -2,6 +2,7 @@
 
 ghost use Rattle.std.specs.Prelude.{◌≡◌, ◌+◌, ◌<◌, ◌≤◌, ◌++◌, ◌∷◌, [], List, Option, None, Result, slice_set, vec_len};
 ghost use Rattle.std.specs.Prelude.{vec_capacity, length, IfOk, OnErr};
+ghost use Rattle.std.specs.List.{AllByRecursion};
 ghost use Rattle.slot_run.specs.declared.snapshot.Snapshot.{Snapshot};
 ghost use Rattle.serial_core.specs.Steps.{Takes};
 ghost use Rattle.commit_lock.specs.declared.refusal.Refusal.{Refusal};
@@ -9,7 +10,7 @@ ghost use Rattle.commit_lock.specs.declared.event.Event.{Event};
 ghost use Rattle.commit_lock.specs.declared.event.Reply.{Reply};
 ghost use Rattle.commit_lock.specs.Cores.{Guards, Outlives};
 ghost use Rattle.commit_lock.specs.Driving.{Held, Step, Drives, Endures, CommitsHeld, held_at, held_of};
-ghost use Rattle.commit_lock.specs.Driving.{reply_to, taken_of};
+ghost use Rattle.commit_lock.specs.Driving.{reply_to, taken_of, IsWell, IsWellAnswered};
 
 use crate::core_state::Core;
 use crate::event::{Event, Reply};
@@ -31,6 +32,7 @@ fn take_held(held: &mut Vec<Option<Snapshot>>, i: usize) -> Option<Snapshot>
 fn commit_held<D: Disk>(core: &mut Core<D>, alloc: Global, held: Option<Snapshot>) -> Reply
     ensures commits { CommitsHeld D.failure_count core.old held result core.new }
     ensures outlives { D.tells → Outlives D.left_since D.may_leave core.old core.new }
+    ensures serves { IsWell D.serves core.old → IsWell D.serves core.new × IsWellAnswered result }
 {
     core.kept();
     let Some(snapshot) = held else {
@@ -82,6 +84,7 @@ fn step<D: Disk>(
     requires room { vec_len held.old < vec_capacity held.old }
     ensures step { Step D.failure_count core.old held.old.items event result core.new held.new.items }
     ensures outlives { D.tells → Outlives D.left_since D.may_leave core.old core.new }
+    ensures serves { IsWell D.serves core.old → IsWell D.serves core.new × IsWellAnswered result }
     ensures len { vec_len held.new ≤ vec_len held.old + 1 }
     ensures capacity { vec_capacity held.old ≤ vec_capacity held.new }
 {
@@ -129,6 +132,10 @@ pub fn drive<D: Disk>(
         → replies.items ≡ said ++ reply ∷ answers → length front ≡ length said
         → Endures D.failure_count D.tells D.left_since D.may_leave core.old [] core.old.acked front said event reply
         rest answers core.new) }
+
+    // Over a disk that serves a whole file K5 comes by S4 alone, unless the device has failed before.
+    ensures serves { IsWell D.serves core.old
+        → IsWell D.serves core.new × IfOk result (λ replies. AllByRecursion IsWellAnswered replies.items) }
     ensures err { OnErr result (core.new ≡ core.old) }
 {
     let mut held = Vec::with_capacity(alloc, events.len())?;

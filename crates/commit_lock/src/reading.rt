@@ -1,22 +1,61 @@
 //! What a core tells.
 
-ghost use Rattle.std.specs.Prelude.{◌≡◌, ◌<◌, ◌≤◌, List, ℕ, option_map, option_and_then, slice_get, length, MatchBool};
+ghost use Rattle.std.specs.Prelude.{◌≡◌, ◌<◌, ◌≤◌, List, ℕ, option_map, option_and_then, slice_get, length, map, MatchBool};
 ghost use Rattle.st_plans.specs.Due.{HasOverruns};
 ghost use Rattle.st_plans.specs.Logs.{IsLegal, outcomes_of};
 ghost use Rattle.st_plans.specs.Plans.{schedules_of};
 ghost use Rattle.st_types.specs.Scopes.{seen};
 ghost use Rattle.config.specs.PlanViews.{plan_view};
 ghost use Rattle.retain_store.specs.Recovered.{recovered};
-ghost use Rattle.serial_core.specs.Steps.{made, none_waits, inputs_now};
+ghost use Rattle.serial_core.specs.Steps.{made, none_waits, inputs_now, store_in};
 ghost use Rattle.commit_lock.specs.Cores.{survives};
 
 use crate::core_state::Core;
+use crate::starting::StartMode;
+use config::Plan;
 use disk::Disk;
 use st_plans::Entry;
 use st_types::Outcome;
 use st_words::{Path, Value};
 
 impl<D: Disk> Core<D> {
+    /// How it was started.
+    pub fn mode(&self) -> StartMode
+        ensures { result ≡ self.now.mode }
+    {
+        self.mode
+    }
+
+    /// The plan that it runs.
+    pub fn plan(&self) -> &Plan
+        ensures { result.now ≡ self.now.state.plan }
+    {
+        self.serial.plan()
+    }
+
+    /// The values of the variables at the start, in layout order.
+    pub fn start_values(&self) -> &[Value]
+        ensures values { result.now ≡ map (λ e. e.1) self.now.state.start }
+        ensures store { self.now.state.start ≡ store_in self.now.state.plan result.now }
+        ensures len { length result.now ≡ length self.now.state.plan.variables.items }
+    {
+        self.serial.start_values()
+    }
+
+    /// The moment in milliseconds that the first row has to be later than, if there is one.
+    pub fn start_moment(&self) -> Option<u64>
+        ensures { result ≡ self.now.state.before }
+    {
+        self.serial.start_moment()
+    }
+
+    /// The values of the variables now, in layout order.
+    pub fn values(&self) -> &[Value]
+        ensures { result.now ≡ map (λ e. e.1) (made self.now.state).store }
+    {
+        self.serial.values()
+    }
+
     /// How many entries the log has.
     pub fn len(&self) -> usize
         ensures len { result ≡ length self.now.state.log }
@@ -79,6 +118,7 @@ impl<D: Disk> Core<D> {
     {
         self.kept();
         let Core {
+            mode: _,
             serial: _,
             store,
             layout: _,

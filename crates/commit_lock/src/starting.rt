@@ -70,6 +70,7 @@ fn warm<D: Disk>(parts: Parts, store: Store<D>) -> Result<Core<D>, (StartFault, 
 
     ensures state { IfOk result
         (λ core. core.state ≡ started parts.serial.plan parts.serial.room (warm parts.serial.plan store.last)) }
+    ensures mode { IfOk result (λ core. core.mode ≡ StartMode.Warm) }
     ensures fresh { IfOk result (λ core. (core.acked ≡ 0) × (core.failed ≡ None)) }
     ensures store { IfOk result (λ core. core.store ≡ store) }
     ensures layout { IfOk result (λ core. IsOfPlan parts.serial.plan store.last) }
@@ -87,6 +88,7 @@ fn warm<D: Disk>(parts: Parts, store: Store<D>) -> Result<Core<D>, (StartFault, 
         return Err((StartFault::OtherLayout, store.into_disk()));
     }
     let core = Core {
+        mode: StartMode::Warm,
         serial,
         store,
         layout,
@@ -108,6 +110,7 @@ fn cold<D: Disk>(parts: Parts, store: Store<D>) -> Result<Core<D>, (StartFault, 
     requires room { store.room ≡ MAX_RECORD_BODY }
 
     ensures state { IfOk result (λ core. core.state ≡ begun parts.serial.plan parts.serial.room) }
+    ensures mode { IfOk result (λ core. core.mode ≡ StartMode.Cold) }
     ensures fresh { IfOk result (λ core. (core.acked ≡ 0) × (core.failed ≡ None)) }
     ensures saved { IfOk result (λ core. core.store.last ≡ Found core.store.generation (record_now parts.serial)) }
     ensures next { IfOk result (λ core. core.store.generation ≡ store.generation + 1) }
@@ -141,6 +144,7 @@ fn cold<D: Disk>(parts: Parts, store: Store<D>) -> Result<Core<D>, (StartFault, 
         Err(fault) => return Err((StartFault::Store(fault), store.into_disk())),
     }
     let core = Core {
+        mode: StartMode::Cold,
         serial,
         store,
         layout,
@@ -171,6 +175,7 @@ impl<D: Disk> Core<D> {
         ensures started { D.tells → IfOk result
             (λ core. core.state ≡ started plan.value log_room (start_of mode plan.value (recovered (D.seen disk)))) }
         ensures cold { mode ≡ StartMode.Cold → IfOk result (λ core. core.state ≡ begun plan.value log_room) }
+        ensures mode { IfOk result (λ core. core.mode ≡ mode) }
         ensures fresh { IfOk result (λ core. (core.acked ≡ 0) × (core.failed ≡ None)) }
         ensures begun { IfOk result (λ core. IsNew core.state plan.value log_room) }
 

@@ -45,7 +45,7 @@ fn main(rt: HostRuntime) -> ExitCode {
     let status = match texts_of(alloc, &words) {
         Ok(texts) => {
             let mut files = RealFiles::new(&rt);
-            plant(alloc, &texts, &mut files, &mut out, &mut err).status()
+            plant(&rt, alloc, &texts, &mut files, &mut out, &mut err).status()
         }
         Err(_) => no_memory(&mut err),
     };

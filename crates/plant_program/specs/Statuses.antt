@@ -4,7 +4,7 @@ use Rattle.plant_program.specs.declared.fault.Fault.{Fault}
 use Rattle.plant_program.specs.declared.ending.Ending.{Ending}
 use Rattle.plant_program.specs.declared.ending.Ending.TheVariants as endings
 use Rattle.plant_program.specs.declared.fault.Fault.TheVariants.{Source, Build, Plant, Trace, TraceMemory, Start}
-use Rattle.plant_program.specs.declared.fault.Fault.TheVariants.{Refused}
+use Rattle.plant_program.specs.declared.fault.Fault.TheVariants.{Run}
 
 -- 2 for the source, 3 for a plant or a trace, 4 for the start, 5 for the run
 abbrev pub status_of : Fault → ℕ
@@ -14,7 +14,7 @@ status_of (Plant e) = 3
 status_of Trace = 3
 status_of TraceMemory = 3
 status_of (Start e) = 4
-status_of (Refused e) = 5
+status_of (Run e) = 5
 
 -- 0 for what is done and for help, 1 for words that are refused and for what isn't begun, 5 for an output that takes no
 -- more

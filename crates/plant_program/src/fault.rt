@@ -2,9 +2,9 @@
 
 ghost use Rattle.std.specs.Prelude.{◌≡◌};
 
-use commit_lock::{Refusal, StartFault};
+use commit_lock::StartFault;
 use image::PlantError;
-use serial_core::Refusal as SerialRefusal;
+use plc_threads::RunFault;
 use st_build::BuildError;
 use std::alloc::{AllocError, AllocFailed};
 use thiserror::Error;
@@ -30,16 +30,16 @@ pub enum Fault {
     /// No life was started.
     #[error("{0}")]
     Start(StartFault),
-    /// A call of the core was refused, or memory was wanted outside it.
+    /// The run was stopped, or memory was wanted outside it.
     #[error("{0}")]
-    Refused(Refusal),
+    Run(RunFault),
 }
 
 impl Fault {
     ghost use Rattle.plant_program.specs.Statuses.{status_of};
 
     /// Out of memory in a run, or while its words are read or its report is made.
-    pub const NO_MEMORY: Fault = Fault::Refused(Refusal::Serial(SerialRefusal::NoMemory));
+    pub const NO_MEMORY: Fault = Fault::Run(RunFault::NO_MEMORY);
 
     /// The exit status that tells of it: 2 for the source, 3 for a plant or a trace, 4 for the start, 5 for the run.
     pub fn status(self) -> u8
@@ -49,7 +49,7 @@ impl Fault {
             Fault::Source | Fault::Build(_) => 2,
             Fault::Plant(_) | Fault::Trace | Fault::TraceMemory => 3,
             Fault::Start(_) => 4,
-            Fault::Refused(_) => 5,
+            Fault::Run(_) => 5,
         }
     }
 }
@@ -63,12 +63,6 @@ impl From<BuildError> for Fault {
 impl From<PlantError> for Fault {
     fn from(fault: PlantError) -> Fault {
         Fault::Plant(fault)
-    }
-}
-
-impl From<Refusal> for Fault {
-    fn from(refusal: Refusal) -> Fault {
-        Fault::Refused(refusal)
     }
 }
 

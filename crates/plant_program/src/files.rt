@@ -10,7 +10,7 @@ pub trait Files {
 
     type Writer: Write + Drop;
 
-    type Disk: Disk;
+    type Disk: Disk + Drop + Send;
 
     /// Whether two names lead to one file, where both are there and the system tells.
     fn is_one_file(&mut self, one: &str, other: &str) -> bool;

@@ -1,19 +1,23 @@
 //! The run of the built-in configuration, over a simulated disk.
 
+ghost use Rattle.std.specs.Prelude.{◌≡◌, IfOk};
+
 use crate::built_in;
 use crate::fault::Fault;
+use crate::open_gate::OpenGate;
 use crate::report::write_variable;
-use crate::serial_run::run_row;
 use commit_lock::{Core, Refusal, StartMode};
 use config::Plan;
 use disk::{Disk, SimDisk};
 use plant_words::DEFAULT_BUDGET;
+use plc_threads::{Pace, Report, RunError, RunFault, run_plant};
 use serial_core::Refusal as SerialRefusal;
 use st_build::build;
 use st_plans::Row;
 use st_words::{Name, Path, Value};
-use std::alloc::Global;
-use std::sync::Arc;
+use std::alloc::{AllocError, Global};
+use std::sync::{Arc, Wait};
+use std::thread::Threads;
 
 /// How many rows are latched.
 const ROWS: u64 = 100;
@@ -22,24 +26,25 @@ const ROWS: u64 = 100;
 const LOG_ROOM: usize = 300;
 
 /// What a built-in plan without its variable would be.
-const FOREIGN: Fault = Fault::Refused(Refusal::Serial(SerialRefusal::Foreign));
+const FOREIGN: Fault = Fault::Run(RunFault::Refused(Refusal::Serial(SerialRefusal::Foreign)));
 
 /// A core of the plan, started cold over the disk.
-fn started<D: Disk + Drop>(alloc: Global, plan: Plan, disk: D) -> Result<Core<D>, Fault> {
-    let plan = Arc::new(alloc, plan)?;
+fn started<D: Disk + Drop>(alloc: Global, plan: Arc<Plan>, disk: D) -> Result<Core<D>, Fault>
+    ensures own { IfOk result (λ core. core.state.plan ≡ plan.value) }
+{
     match Core::start(alloc, plan, disk, StartMode::Cold, LOG_ROOM) {
         Ok(core) => Ok(core),
         Err((fault, _)) => Err(Fault::Start(fault)),
     }
 }
 
-/// Serves 100 rows of no inputs, at 0, 10, .., 990 ms.
-fn serve_rows<D: Disk>(alloc: Global, core: &mut Core<D>, resources: usize) -> Result<(), Refusal> {
+/// 100 rows of no inputs, at 0, 10, .., 990 ms.
+fn built_in_rows(alloc: Global) -> Result<Vec<Row>, AllocError> {
+    let mut rows = Vec::new(alloc);
     for k in 0..ROWS {
-        let row = Row::new(k * built_in::INTERVAL, Vec::new(alloc));
-        run_row(alloc, core, resources, LOG_ROOM, row)?;
+        rows.push(Row::new(k * built_in::INTERVAL, Vec::new(alloc)))?;
     }
-    Ok(())
+    Ok(rows)
 }
 
 /// The line that tells the value of a variable.
@@ -60,17 +65,25 @@ fn count_line<D: Disk>(alloc: Global, core: &Core<D>) -> Result<Vec<u8>, Fault> 
     }
 }
 
-/// Serves the rows of the plan over the disk, and gives the line that tells the value of n after them.
-fn served<D: Disk + Drop>(alloc: Global, plan: Plan, disk: D) -> Result<Vec<u8>, Fault> {
-    let resources = plan.resources();
-    let mut core = started(alloc, plan, disk)?;
-    serve_rows(alloc, &mut core, resources)?;
-    count_line(alloc, &core)
+/// Runs the plan in threads over the disk, and gives the line that tells the value of n after it.
+fn served<D: Disk + Drop + Send, R: Threads + Wait + Sync>(
+    rt: &R,
+    alloc: Global,
+    plan: Plan,
+    disk: D,
+) -> Result<Vec<u8>, Fault> {
+    let rows = built_in_rows(alloc)?;
+    let plan = Arc::new(alloc, plan)?;
+    let core = started(alloc, Arc::clone(&plan)?, disk)?;
+    match run_plant(rt, alloc, &plan, core, rows, Pace::Settle, &OpenGate) {
+        Ok(Report { core, told: _ }) => count_line(alloc, &core),
+        Err(RunError { core: _, fault }) => Err(Fault::Run(fault)),
+    }
 }
 
-/// Serves the rows of the built-in configuration over an empty simulated disk, and gives the line that tells the value
-/// of n after them.
-pub fn first(alloc: Global) -> Result<Vec<u8>, Fault> {
+/// Runs the built-in configuration in threads over an empty simulated disk, and gives the line that tells the value
+/// of n after it.
+pub fn first<R: Threads + Wait + Sync>(rt: &R, alloc: Global) -> Result<Vec<u8>, Fault> {
     let plan = build(alloc, built_in::TEXT.as_bytes(), DEFAULT_BUDGET)?;
-    served(alloc, plan, SimDisk::new(alloc, Vec::new(alloc))?)
+    served(rt, alloc, plan, SimDisk::new(alloc, Vec::new(alloc))?)
 }

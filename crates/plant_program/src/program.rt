@@ -17,6 +17,8 @@ use plant_words::{DEFAULT_BUDGET, Job, ReplayJob, RunJob, is_out_of_memory, read
 use std::alloc::Global;
 use std::io;
 use std::io::{Read, Write};
+use std::sync::Wait;
+use std::thread::Threads;
 
 /// Reads and builds the source, and gives its sizes.
 fn check<F: Files>(alloc: Global, files: &mut F, source: &str) -> Result<End, Fault>
@@ -38,7 +40,12 @@ fn shares_store<F: Files>(files: &mut F, job: &RunJob<'_>) -> bool {
 
 /// Reads and builds the source, then reads the plant, then opens the store and starts, then runs. This version writes
 /// no trace, and does nothing where one is asked for.
-fn run<F: Files>(alloc: Global, files: &mut F, job: &RunJob<'_>) -> Result<End, Fault>
+fn run<F: Files, R: Threads + Wait + Sync>(
+    rt: &R,
+    alloc: Global,
+    files: &mut F,
+    job: &RunJob<'_>,
+) -> Result<End, Fault>
     ensures { IfOk result (λ end. EndsWell F.Disk (Job.Run job.now) end) }
 {
     if job.trace.is_some() {
@@ -48,7 +55,7 @@ fn run<F: Files>(alloc: Global, files: &mut F, job: &RunJob<'_>) -> Result<End, 
         return Ok(End::Declined(Declined::SharedStore));
     }
     let plan = plan_of(alloc, files, job.source, job.budget)?;
-    Ok(End::Report(run_plan(alloc, files, plan, job)?))
+    Ok(End::Report(run_plan(rt, alloc, files, plan, job)?))
 }
 
 /// Why a trace can't be read: V5 out of memory, else V6.
@@ -76,20 +83,26 @@ fn replay<F: Files>(alloc: Global, files: &mut F, job: &ReplayJob<'_>) -> Result
 }
 
 /// How the job ends.
-fn done<F: Files>(alloc: Global, files: &mut F, job: &Job<'_>) -> Result<End, Fault>
+fn done<F: Files, R: Threads + Wait + Sync>(
+    rt: &R,
+    alloc: Global,
+    files: &mut F,
+    job: &Job<'_>,
+) -> Result<End, Fault>
     ensures { IfOk result (λ end. EndsWell F.Disk job.now end) }
 {
     match job {
-        Job::First => Ok(End::Report(first(alloc)?)),
+        Job::First => Ok(End::Report(first(rt, alloc)?)),
         Job::Check { source } => check(alloc, files, source),
-        Job::Run(job) => run(alloc, files, job),
+        Job::Run(job) => run(rt, alloc, files, job),
         Job::Replay(job) => replay(alloc, files, job),
     }
 }
 
 /// Does a job. A fault is one line `fault CODE` or `fault CODE at PLACE` on the standard error, and nothing is on the
 /// standard output then.
-pub fn perform<F: Files, O: Write, E: Write>(
+pub fn perform<F: Files, O: Write, E: Write, R: Threads + Wait + Sync>(
+    rt: &R,
     alloc: Global,
     job: &Job<'_>,
     files: &mut F,
@@ -98,11 +111,12 @@ pub fn perform<F: Files, O: Write, E: Write>(
 ) -> Ending
     ensures { Performs O.contents F.Disk job.now result out.old out.new }
 {
-    tell(done(alloc, files, job), out, err)
+    tell(done(rt, alloc, files, job), out, err)
 }
 
 /// Does what the words ask, the program's name first.
-pub fn plant<F: Files, O: Write, E: Write>(
+pub fn plant<F: Files, O: Write, E: Write, R: Threads + Wait + Sync>(
+    rt: &R,
     alloc: Global,
     words: &[&str],
     files: &mut F,
@@ -112,7 +126,7 @@ pub fn plant<F: Files, O: Write, E: Write>(
     ensures { Ends O.contents F.Disk result out.old out.new }
 {
     match read_words(alloc, words) {
-        Ok(job) => perform(alloc, &job, files, out, err),
+        Ok(job) => perform(rt, alloc, &job, files, out, err),
         Err(refused) if is_out_of_memory(&refused) => tell(Err(Fault::NO_MEMORY), out, err),
         Err(refused) => tell_words(&refused, out, err),
     }

@@ -1,30 +1,34 @@
 //! The run of a plan.
 
-ghost use Rattle.std.specs.Prelude.{◌≡◌, IfOk, OnOk, length};
+ghost use Rattle.std.specs.Prelude.{◌≡◌, ◌++◌, IfOk, OnOk, length};
 ghost use Rattle.image.specs.Plants.{AreRowsOf};
 ghost use Rattle.commit_lock.specs.Starting.{IsNew};
 ghost use Rattle.plant_program.specs.Jobs.{IsReportOf};
 ghost use Rattle.plant_program.specs.Lives.{IsReport};
 ghost use Rattle.st_plans.specs.Logs.{IsLegal};
 ghost use Rattle.config.specs.PlanViews.{plan_view};
-ghost use Rattle.plant_program.specs.Progress.{GoesOn, BeginsAs, mode_of};
+ghost use Rattle.plant_program.specs.Progress.{BeginsAs, mode_of};
+ghost use Rattle.plc_threads.specs.Lives.{life_of};
+ghost use Rattle.serial_core.specs.Steps.{made};
 ghost use Rattle.plant_program.specs.Settling.{IsSettled};
 
 use crate::fault::Fault;
 use crate::files::Files;
 use crate::life::report_of;
-use crate::serial_run::{run_row, settle};
-use commit_lock::{Core, Refusal, StartFault, StartMode};
+use crate::open_gate::OpenGate;
+use commit_lock::{Core, StartFault, StartMode};
 use config::Plan;
 use disk::Disk;
 use image::{PlantError, read_plant};
 use plant_words::{Pace, RunJob, Start};
+use plc_threads::{Pace as RunPace, Report, RunError, run_plant};
 use retain_store::StoreFault;
 use st_plans::Row;
 use st_words::limits::MAX_LOG_ROOM;
 use std::alloc::Global;
 use std::io;
-use std::sync::Arc;
+use std::sync::{Arc, Wait};
+use std::thread::Threads;
 
 /// Why a plant can't be opened: I6 out of memory, else I5.
 fn unopened(error: &io::Error) -> PlantError {
@@ -82,50 +86,44 @@ fn start<F: Files>(
     }
 }
 
-/// Latches all rows, and runs and commits until nothing waits and all is acknowledged.
-fn run_rows<D: Disk>(
-    alloc: Global,
-    core: &mut Core<D>,
-    resources: usize,
-    pace: Pace,
-    rows: Vec<Row>,
-) -> Result<(), Refusal>
-    ensures settled { OnOk result (IsSettled core.new resources) }
-    ensures goes_on { OnOk result (GoesOn core.old.state core.new.state rows.items) }
-{
-    for row in rows {
-        match pace {
-            Pace::Settle => run_row(alloc, core, resources, MAX_LOG_ROOM, row)?,
-            Pace::Free => {
-                core.latch(row)?;
-            }
-        }
+fn run_pace(pace: Pace) -> RunPace {
+    match pace {
+        Pace::Settle => RunPace::Settle,
+        Pace::Free => RunPace::Free,
     }
-    settle(alloc, core, resources, MAX_LOG_ROOM)
 }
 
-/// Runs the rows, and gives the report.
-fn served<D: Disk>(
+/// Runs the rows in threads, and gives the report.
+fn served<D: Disk + Drop + Send, R: Threads + Wait + Sync>(
+    rt: &R,
     alloc: Global,
     plan: &Plan,
-    core: &mut Core<D>,
+    core: Core<D>,
     pace: Pace,
     rows: Vec<Row>,
-) -> Result<Vec<u8>, Fault>
-    ensures settled { OnOk result (IsSettled core.new plan.now.resources) }
-    ensures goes_on { OnOk result (GoesOn core.old.state core.new.state rows.items) }
-    ensures report { IfOk result (λ text.
-        IsReport core.new.state core.new.acked (length plan.now.programs.items) plan.now.variables.items text.items) }
-    ensures legal { IfOk result (λ _.
-        IsLegal (plan_view core.new.state.plan) core.new.state.start core.new.state.before core.new.state.log) }
+) -> (Core<D>, Result<Vec<u8>, Fault>)
+    requires own { plan.now ≡ core.state.plan }
+    ensures settled { OnOk result.1 (IsSettled result.0 plan.now.resources) }
+    ensures life { OnOk result.1 (life_of result.0.state ≡ life_of core.state) }
+    ensures latched { OnOk result.1 ((made result.0.state).rows ≡ (made core.state).rows ++ rows.items) }
+    ensures report { IfOk result.1 (λ text.
+        IsReport result.0.state result.0.acked (length plan.now.programs.items) plan.now.variables.items text.items) }
+    ensures legal { IfOk result.1 (λ _.
+        IsLegal (plan_view result.0.state.plan) result.0.state.start result.0.state.before result.0.state.log) }
 {
-    run_rows(alloc, core, plan.resources(), pace, rows)?;
-    Ok(report_of(alloc, plan, core)?)
+    match run_plant(rt, alloc, plan, core, rows, run_pace(pace), &OpenGate) {
+        Ok(Report { core, told: _ }) => match report_of(alloc, plan, &core) {
+            Ok(report) => (core, Ok(report)),
+            Err(_) => (core, Err(Fault::NO_MEMORY)),
+        },
+        Err(RunError { core, fault }) => (core, Err(Fault::Run(fault))),
+    }
 }
 
-/// Reads the plant, opens the store and starts, then runs on one thread, and gives the report; the first fault ends it.
-/// It writes no trace.
-pub fn run_plan<F: Files>(
+/// Reads the plant, opens the store and starts, then runs in threads, and gives the report; the first fault ends it. It
+/// writes no trace.
+pub fn run_plan<F: Files, R: Threads + Wait + Sync>(
+    rt: &R,
     alloc: Global,
     files: &mut F,
     plan: Plan,
@@ -139,8 +137,8 @@ pub fn run_plan<F: Files>(
     let Ok(plan) = Arc::new(alloc, plan) else {
         return Err(Fault::Start(StartFault::NoMemory));
     };
-    let mut core = start(alloc, files, Arc::clone(&plan)?, job.store, job.start)?;
-    let report = served(alloc, &plan, &mut core, job.pace, rows);
+    let core = start(alloc, files, Arc::clone(&plan)?, job.store, job.start)?;
+    let (core, report) = served(rt, alloc, &plan, core, job.pace, rows);
     files.back(core.stop());
     report
 }

@@ -1151,12 +1151,15 @@ module _ (D : RattleType) (disk : Disk.Ghosts D.Denot) where
 
   core_inside-send : IsSend D → IsSend (CoreInside.the_row D disk)
   core_inside-send s = declared_send (CoreInside.the_type D disk) (
-    serial-send,
+    search plain depth 20,
     (
-      store-send s,
+      serial-send,
       (
-        search plain depth 20,
-        (Vec-send _ value-send, (search plain depth 20, (search plain depth 20, tt))),
+        store-send s,
+        (
+          search plain depth 20,
+          (Vec-send _ value-send, (search plain depth 20, (search plain depth 20, tt))),
+        ),
       ),
     ),
   )

@@ -2,7 +2,8 @@
 use Rattle.std.proofs.Common.{◌≡◌, ℕ, zero, suc, ◌+◌, ◌-◌, ◌<◌, ◌≤◌, ◌==◌, inl, inr, Bool, true, false, if◌then◌else◌}
 use Rattle.std.proofs.Common.{IsTrue, ◌↔◌, List, [], ◌∷◌, ◌++◌, length, slice_set, Option, Some, None, refl, sym, ap}
 use Rattle.std.proofs.Common.{subst, ◌∙◌, arith, length-append}
-use Rattle.std.proofs.lemmas.List.{get_or-set_other}
+use Rattle.std.specs.Prelude.{MatchOption}
+use Rattle.std.proofs.lemmas.List.{get_or-set_other, get_or_past}
 use Rattle.std.proofs.lemmas.Grind.{get_or-set_at}
 use Rattle.std.proofs.lemmas.Bool.{eq-eqb}
 use Rattle.std.proofs.lemmas.Bool.Decides.{nat_tests, eqb_tells, leb_tells}
@@ -155,6 +156,20 @@ module _ {h : History} {r : Ready} (is : IsReadyOf h r) where
         HasStanding-all r.schedules h a.program (stand_at r.standings a.program).waiting
             (stand_at r.standings a.program).overruns a.row (is.placed a.program there.0) w,
       )
+
+  -- what waits of a program is what stands there
+  pub waiting_told : (p : ℕ) (o : Option ℕ) → length r.standings ≡ length r.schedules
+      → (stand_at r.standings p).waiting ≡ o
+      → MatchOption o ((row : ℕ) → Waits r.schedules h record { program = p; row = row } → ⊥)
+      (λ row. Waits r.schedules h record { program = p; row = row })
+  waiting_told p None same e = λ row w. let l = waits-listed record { program = p; row = row } w in
+      let x = l.1 in cc
+  waiting_told p (Some row) same e = elim (leb_tells (length r.standings) p) [
+    | inl past ↦
+        let x = ap (λ (s : Standing). s.waiting)
+        (get_or_past r.standings p record { waiting = None; overruns = 0 } past.1) in absurd (cc)
+    | inr within ↦ listed-waits record { program = p; row = row } (omega (arith, within.1, same)) e
+  ]
 
   pub IsReadyOf-row : (row : NewRow) (ss : List Bool) (new : List Standing)
       → row.number ≡ r.rows

@@ -181,6 +181,15 @@ impl ReadyList {
         is_listed(&self.standings, a)
     }
 
+    /// The number of the row with which the program waits, by its number from 0; none where nothing of it waits.
+    pub fn waiting(&self, program: usize) -> Option<u64>
+        ensures { (h : History) → IsReadyOf h self.now → MatchOption result
+            ((row : ℕ) → Waits self.now.schedules h record { program = program; row = row } → ⊥)
+            (λ row. Waits self.now.schedules h record { program = program; row = row }) }
+    {
+        standing_at(&self.standings, program).waiting
+    }
+
     /// Takes the activation away and gives true, where it waits; else it changes nothing.
     pub fn remove(&mut self, a: Activation) -> bool
         ensures schedules { self.new.schedules ≡ self.old.schedules }

@@ -3,12 +3,15 @@
 //!
 //! They are thousands of lives: a few seconds as they are built, and many minutes under `rt try`, whose code is slow.
 
-use crate::disks::{Cut, Mishap, disk_with};
-use crate::lives::{Course, Life, Lived, Setting, Telling, Told, live};
+use crate::calls::events_of;
+use crate::disks::Cut;
+use crate::lives_in_turn::life_with;
+use crate::living::{Setting, plan_of};
 use crate::records::opened;
 use crate::row_error::RowError;
 use crate::words::{number, split, write_number};
-use commit_lock::{StartFault, StartMode};
+use commit_lock::{Refusal, Reply, StartFault, StartMode};
+use lives::{Course, LifeEnd, lives};
 use retain_store::{FILE_BYTES, StoreFault};
 use std::alloc::{AllocError, Global};
 
@@ -17,9 +20,6 @@ const STEPS: u64 = 30;
 
 /// The greatest number that is looked for.
 const MOST: u64 = 9;
-
-/// Room in the log of a life.
-const ROOM: usize = 100;
 
 /// What is left where bytes were written since the last sync: the mark of an open gate in each, zeros, or what was
 /// written.
@@ -109,7 +109,7 @@ impl Chapter {
     }
 
     /// Whether the point is that after a part of the life's log that holds all that it acknowledged.
-    fn has_front(self, start: Point, course: Course, point: Point) -> bool {
+    fn has_front(self, start: Point, course: &Course, point: Point) -> bool {
         for entries in course.acked..=course.len {
             if self.front(start, entries) == point {
                 return true;
@@ -120,17 +120,32 @@ impl Chapter {
 
     /// Whether a warm start goes on from a prefix of the life's log that holds all that it acknowledged. A life that
     /// was not started leaves what was there before, or where it begins.
-    fn is_kept(self, before: Point, told: Told, after: Point) -> bool {
+    fn is_kept(self, before: Point, end: &LifeEnd, after: Point) -> bool {
         let start = self.start(before);
-        match told {
-            Told::NotStarted(StartFault::Store(StoreFault::Device)) => {
-                after == before || after == start
-            }
-            Told::NotStarted(_) => false,
-            Told::Started(course) => {
-                course.began == start.n && self.has_front(start, course, after)
-            }
+        match &end.course {
+            Err(StartFault::Store(StoreFault::Device)) => after == before || after == start,
+            Err(_) => false,
+            Ok(course) => began(course) == start.n && self.has_front(start, course, after),
         }
+    }
+}
+
+/// The value of N at a life's start.
+fn began(course: &Course) -> i128 {
+    match course.values.first() {
+        Some(value) => value.number(),
+        None => -1,
+    }
+}
+
+/// Whether power went in the life: the start or a flush failed.
+fn is_cut(end: &LifeEnd) -> bool {
+    match &end.course {
+        Err(_) => true,
+        Ok(course) => course.replies.iter().any(|reply| matches!(
+            reply,
+            Reply::Refused(Refusal::StoreFailed(_))
+        )),
     }
 }
 
@@ -181,21 +196,13 @@ struct Link<'a> {
 }
 
 impl Link<'_> {
-    /// Lives the life over a disk with a copy of the file, which is stopped so.
-    fn live(self, alloc: Global, file: &[u8], cut: Cut<'_>) -> Result<Lived, RowError> {
-        let mishap = Mishap {
-            fails: None,
-            stops: Some(cut),
-        };
-        let life = Life {
-            mode: self.chapter.mode,
-            room: ROOM,
-            telling: Telling::Nothing,
-            calls: self.calls,
-        };
-        let disk = disk_with(alloc, file, mishap)?;
-        let mut untold = String::new(alloc);
-        live(&mut untold, alloc, self.setting, disk, life)
+    /// Lives the life over a copy of the file, and stops it so.
+    fn live(self, alloc: Global, file: &[u8], cut: Cut<'_>) -> Result<Vec<LifeEnd>, RowError> {
+        let plan = plan_of(alloc, self.setting.text)?;
+        let events = events_of(alloc, self.calls)?;
+        let stop = Some(cut.stop(alloc)?);
+        let life = life_with(self.chapter.mode, events, stop, None);
+        Ok(lives(alloc, &plan, file.to_vec(alloc)?, vec![in alloc; life]?)?)
     }
 
     /// Lives the life over the file, stopped so, and adds the file that it leaves. It says whether power went in it.
@@ -206,18 +213,15 @@ impl Link<'_> {
         cut: Cut<'_>,
         left: &mut Vec<Left>,
     ) -> Result<bool, RowError> {
-        let lived = self.live(alloc, &from.file, cut)?;
-        let Lived {
-            told,
-            failures,
-            left: file,
-        } = lived;
-        let after = point_of(alloc, left, file)?;
-        if self.chapter.is_kept(from.point, told, after) {
-            Ok(failures > 0)
-        } else {
-            Err(RowError::Lost(cut.step))
+        let mut went = false;
+        for end in self.live(alloc, &from.file, cut)? {
+            let after = point_of(alloc, left, end.file.to_vec(alloc)?)?;
+            if !self.chapter.is_kept(from.point, &end, after) {
+                return Err(RowError::Lost(cut.step));
+            }
+            went = is_cut(&end);
         }
+        Ok(went)
     }
 
     /// Lives the life over the file with a stop within each step in turn, until it has no such step. Adds the files

@@ -28,7 +28,7 @@ impl<'a> Cut<'a> {
         })
     }
 
-    fn stop(self, alloc: Global) -> Result<Stop, AllocError> {
+    pub fn stop(self, alloc: Global) -> Result<Stop, AllocError> {
         let torn = match self.torn {
             "written" => Vec::new(alloc),
             bytes => unescaped(alloc, bytes)?,

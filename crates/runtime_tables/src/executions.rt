@@ -1,6 +1,6 @@
 //! Executions of what a core gives at its first row, as it is or changed.
 
-use crate::lives::plan_of;
+use crate::living::plan_of;
 use crate::row_error::RowError;
 use crate::words::{count, number, split};
 use commit_lock::{Core, Reply, StartMode};

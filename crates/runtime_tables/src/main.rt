@@ -8,7 +8,8 @@ mod disk_calls;
 mod disks;
 mod executions;
 mod files;
-mod lives;
+mod lives_in_turn;
+mod living;
 mod numbers;
 mod odd_file;
 mod plants;
@@ -19,6 +20,7 @@ mod row;
 mod row_error;
 mod scene;
 mod telling;
+mod trace_texts;
 mod words;
 
 use crate::row::answer;

@@ -14,6 +14,7 @@
 //!   machine stops within, the bytes that it leaves in turn, or `written`, and the length; the room in the log
 //! - `untold`, `numbers`, `whole`: of the next life nothing is told; no replies; also how each entry of the log ended, and
 //!   the overruns
+//! - `trace`, `short`: of the next life its trace alone is told, `\0A` for LF; what a writer gets of it that takes 40 bytes
 //!
 //! The parts that are answered:
 //!
@@ -31,6 +32,8 @@
 //! - `same`, `length`, `bytes 131072 34`: whether the last life left the file as it was, its length, 34 bytes from that
 //!   place on
 //! - `recovered`: the moment and the values that a store alone recovers of the file
+//! - `lives cold, stops 3 \A5 0: row 0, here 0 / warm, fails 2`: lives over a copy of the file in turn, by one call; of
+//!   each the values at its start, its replies, and how much of its log is acknowledged
 //! - `chain cold 0 10, warm 20 30`: two lives, with a stop within any step of each; the values of N that come of it
 //! - `run`, `run moment 51`: the execution of what a core of the plan gives at a row of moment 50, as it is or changed
 //! - `commit`: what a new core of the plan at such a row answers to that execution

@@ -5,7 +5,8 @@ use crate::disk_calls::{play, write_content};
 use crate::disks::{Cut, Mishap, disk_with};
 use crate::executions::{committed, execution_of};
 use crate::files::file_of;
-use crate::lives::{Life, Setting, Telling, live};
+use crate::lives_in_turn::write_lives;
+use crate::living::{Life, Setting, Telling, live};
 use crate::numbers::{write_refusals, write_start_faults};
 use crate::plants::{write_plant, write_row_count};
 use crate::ready_lists::write_ready;
@@ -183,6 +184,15 @@ impl<'a> Scene<'a> {
             "ready" => self.tell_ready(given),
             "run" => self.run(given),
             "commit" => self.commit(),
+            "lives" => {
+                write_lives(
+                    &mut self.answer,
+                    self.alloc,
+                    self.setting,
+                    &self.file,
+                    given,
+                )
+            }
             "chain" => write_chain(&mut self.answer, self.alloc, self.setting, given),
             "bytes" => self.tell_bytes(given),
             "length" => Ok(self.tell_length()?),
@@ -222,6 +232,8 @@ impl<'a> Scene<'a> {
             "untold" => self.terms.telling = Telling::Nothing,
             "numbers" => self.terms.telling = Telling::Numbers,
             "whole" => self.terms.telling = Telling::Whole,
+            "trace" => self.terms.telling = Telling::Trace,
+            "short" => self.terms.telling = Telling::ShortTrace,
             _ => self.answer(word, given)?,
         }
         Ok(())

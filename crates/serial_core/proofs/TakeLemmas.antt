@@ -1,7 +1,7 @@
 -- What is taken from a core.
 use Rattle.std.proofs.Common.{◌≡◌, ℕ, suc, ◌<◌, nat_lt, Bool, true, List, [], ◌∷◌, ◌++◌, length, map, Option, Some}
 use Rattle.std.proofs.Common.{None, option_map, slice_get, slice_index, refl, sym, ap, subst, ◌∙◌, arith}
-use Rattle.std.specs.Prelude.{MatchBool}
+use Rattle.std.specs.Prelude.{MatchBool, MatchOption}
 use Rattle.std.specs.List.{list_all}
 use Rattle.std.proofs.lemmas.Bool.Decides.{nat_tests}
 use Rattle.std.proofs.lemmas.List.{length-map}
@@ -27,10 +27,39 @@ use Rattle.slot_code.specs.Codes.{code_view}
 use Rattle.slot_code.specs.Fitting.{HaveSlots, Fits}
 use Rattle.config.specs.PlanViews.{plan_view}
 use Rattle.ready_list.specs.Ready.{Ready, IsReadyOf}
-use Rattle.serial_core.specs.Steps.{State, store_in, code_at, none_waits, IsSnapshotOf}
+use Rattle.serial_core.specs.Steps.{State, store_in, code_at, none_waits, IsSnapshotOf, IsSnapshotIn, IsWaiting}
 use Rattle.serial_core.specs.Kept.{SerialInvariant}
 use Rattle.serial_core.proofs.PlanSlots.{values_back, slots_typed}
 use Rattle.slot_code.proofs.FittingLemmas.{as_many}
+
+-- globals that have schedules in a layout have slots of it
+all_within : (layout : List Slot) (n : ℕ) (globals : List PathSlot) → length layout ≡ n → HaveSlots layout globals
+    → list_all (λ g. nat_lt g.slot n) globals ≡ true
+all_within layout n [] len h = refl
+all_within layout n (g ∷ gs) len h =
+    let at = slice_get_within layout g.slot _ (h 0 g (omega arith)) in
+    let t : nat_lt g.slot n ≡ true = grind (arith, nat_tests) in
+    rw (t, all_within layout n gs len (λ k d lt. h (suc k) d (omega arith))) refl
+
+pub globals_within : (plan : Plan) (code : Code) (n : ℕ)
+    → Fits (layout_of plan.variables.items plan.inputs.items) (code_view code)
+    → length (layout_of plan.variables.items plan.inputs.items) ≡ n
+    → list_all (λ g. nat_lt g.slot n) code.table.items ≡ true
+globals_within plan code n fits len =
+    all_within (layout_of plan.variables.items plan.inputs.items) n code.table.items len fits.all
+
+-- what a value that is found is made of
+pub found : (A B : Type 0) (f : A → B) (o : Option A) (b : B) → option_map f o ≡ Some b
+    → (a : A) × (o ≡ Some a) × (f a ≡ b)
+found A B f None b e = absurd (let y : ◌≡◌ {A = Option B} None (Some b) = e in cc)
+found A B f (Some a) b e = (a, refl, let y : ◌≡◌ {A = Option B} (Some (f a)) (Some b) = e in cc)
+
+pub fits_at : (plan : Plan) (p : ℕ) (code : Code) → code_at plan p ≡ Some code
+    → Fits (layout_of plan.variables.items plan.inputs.items) (code_view code)
+fits_at plan p code e =
+    let f = found ProgramInstance Code (λ q. q.code.value) (slice_get plan.programs.items p) code e in
+    subst (λ (x : Code). Fits (layout_of plan.variables.items plan.inputs.items) (code_view x)) f.2
+    (plan.sound.codes p f.0 f.1)
 
 pub same_row : (a b : Latch) → ◌≡◌ {A = Option Entry} (Some (Row a)) (Some (Row b)) → a ≡ b
 same_row a b e = cc
@@ -96,30 +125,42 @@ module _ {plan : Plan} {start values : List Datum} {before : Option ℕ} {sample
       (ap (λ (r : Latch). map (λ d. d.kind) r.image) e
       ∙ kept.of_past.images a.row (omega (arith, l, kept.of_past.row_count))))
 
-  -- what is made of these parts
-  pub snapshot_is : (room resource : ℕ) (a : Activation) (row : Latch) (code : Code) (slots : List Datum) (s : Snapshot)
-      → IsBest (schedules_of (plan_view plan)) (past_of (plan_view plan) (store_in plan start) log).history resource a
-      → code_at plan a.program ≡ Some code
-      → row ≡ row_at (past_of (plan_view plan) (store_in plan start) log).rows a.row → slots ≡ values ++ row.image
-      → s.code.value ≡ code → s.activation ≡ a → s.moment ≡ row.moment → s.budget ≡ plan.budget → s.slots.items ≡ slots
-      → IsSnapshotOf record { plan = plan; start = store_in plan start; before = before; log = log; room = room }
-      resource s
-  snapshot_is room resource a row code slots s best coded rowed slotted c act m b ss =
-      let now = past_of (plan_view plan) (store_in plan start) log in
-      record {
-        best = subst (IsBest (schedules_of (plan_view plan)) now.history resource) (sym act) best;
-        code = ap (λ (x : Activation). code_at plan x.program) act ∙ coded ∙ ap (λ (x : Code). Some x) (sym c);
-        moment = m ∙ ap (λ (r : Latch). r.moment) rowed
-            ∙ ap (λ (x : Activation). (row_at now.rows x.row).moment) (sym act);
-        budget = b;
-        slots = ss ∙ slotted ∙ ap (λ vs. vs ++ row.image) values_are
-            ∙ ap (λ (r : Latch). map (λ e. e.1) now.store ++ r.image) rowed
-            ∙ ap (λ (x : Activation). map (λ e. e.1) now.store ++ (row_at now.rows x.row).image) (sym act);
-      }
+  -- whether a program waits is what the list tells
+  pub waiting_here : (room program : ℕ) (o : Option ℕ)
+      → ((h : History) → IsReadyOf h ready → MatchOption o
+      ((row : ℕ) → Waits ready.schedules h record { program = program; row = row } → ⊥)
+      (λ row. Waits ready.schedules h record { program = program; row = row }))
+      → IsWaiting record { plan = plan; start = store_in plan start; before = before; log = log; room = room } program o
+  waiting_here room program None tells =
+      subst (λ ps. (row : ℕ) → Waits ps (past_of (plan_view plan) (store_in plan start) log).history
+      record { program = program; row = row } → ⊥) kept.schedules (tells _ kept.of_past.ready_is)
+  waiting_here room program (Some row) tells =
+      subst (λ ps. Waits ps (past_of (plan_view plan) (store_in plan start) log).history
+      record { program = program; row = row }) kept.schedules (tells _ kept.of_past.ready_is)
 
-pub IsSnapshotOf-same : {st st' : State} {resource : ℕ} {snapshot : Snapshot} → st ≡ st'
-    → IsSnapshotOf st resource snapshot → IsSnapshotOf st' resource snapshot
-IsSnapshotOf-same {resource = resource} {snapshot = snapshot} e is = subst (λ x. IsSnapshotOf x resource snapshot) e is
+  -- the code of an activation that waits has slots of these values
+  pub slots_within : (a : Activation) (code : Code) (row : Latch)
+      → Waits (schedules_of (plan_view plan)) (past_of (plan_view plan) (store_in plan start) log).history a
+      → code_at plan a.program ≡ Some code
+      → row ≡ row_at (past_of (plan_view plan) (store_in plan start) log).rows a.row
+      → list_all (λ g. nat_lt g.slot (length (map (λ e. e.1) (past_of (plan_view plan) (store_in plan start) log).store
+      ++ row.image))) code.table.items ≡ true
+  slots_within a code row w coded rowed =
+      globals_within plan code _ (fits_at plan a.program code coded)
+      (slots_counted a row (waits-row a w) rowed ∙ ap (λ vs. length (vs ++ row.image)) values_are)
+
+-- the best activation's snapshot
+pub best_snapshot : (st : State) (resource : ℕ) (a : Activation) (s : Snapshot)
+    → IsBest (schedules_of (plan_view st.plan)) (past_of (plan_view st.plan) st.start st.log).history resource a
+    → s.activation ≡ a → IsSnapshotIn st s → IsSnapshotOf st resource s
+best_snapshot st resource a s best is parts = record {
+  best = subst (IsBest (schedules_of (plan_view st.plan)) (past_of (plan_view st.plan) st.start st.log).history
+      resource) (sym is) best;
+  code = parts.code;
+  moment = parts.moment;
+  budget = parts.budget;
+  slots = parts.slots;
+}
 
 -- where an activation is best, something waits
 pub waits_here : (st st' : State) (resource : ℕ) (a : Activation) → st ≡ st'
@@ -127,32 +168,3 @@ pub waits_here : (st st' : State) (resource : ℕ) (a : Activation) → st ≡ s
     → none_waits st' resource → ⊥
 waits_here st st' resource a e best none =
     subst (λ (x : State). none_waits x resource → ⊥) e (λ n. n a best.waits best.here) none
-
--- globals that have schedules in a layout have slots of it
-all_within : (layout : List Slot) (n : ℕ) (globals : List PathSlot) → length layout ≡ n → HaveSlots layout globals
-    → list_all (λ g. nat_lt g.slot n) globals ≡ true
-all_within layout n [] len h = refl
-all_within layout n (g ∷ gs) len h =
-    let at = slice_get_within layout g.slot _ (h 0 g (omega arith)) in
-    let t : nat_lt g.slot n ≡ true = grind (arith, nat_tests) in
-    rw (t, all_within layout n gs len (λ k d lt. h (suc k) d (omega arith))) refl
-
-pub globals_within : (plan : Plan) (code : Code) (n : ℕ)
-    → Fits (layout_of plan.variables.items plan.inputs.items) (code_view code)
-    → length (layout_of plan.variables.items plan.inputs.items) ≡ n
-    → list_all (λ g. nat_lt g.slot n) code.table.items ≡ true
-globals_within plan code n fits len =
-    all_within (layout_of plan.variables.items plan.inputs.items) n code.table.items len fits.all
-
--- what a value that is found is made of
-pub found : (A B : Type 0) (f : A → B) (o : Option A) (b : B) → option_map f o ≡ Some b
-    → (a : A) × (o ≡ Some a) × (f a ≡ b)
-found A B f None b e = absurd (let y : ◌≡◌ {A = Option B} None (Some b) = e in cc)
-found A B f (Some a) b e = (a, refl, let y : ◌≡◌ {A = Option B} (Some (f a)) (Some b) = e in cc)
-
-pub fits_at : (plan : Plan) (p : ℕ) (code : Code) → code_at plan p ≡ Some code
-    → Fits (layout_of plan.variables.items plan.inputs.items) (code_view code)
-fits_at plan p code e =
-    let f = found ProgramInstance Code (λ q. q.code.value) (slice_get plan.programs.items p) code e in
-    subst (λ (x : Code). Fits (layout_of plan.variables.items plan.inputs.items) (code_view x)) f.2
-    (plan.sound.codes p f.0 f.1)

@@ -83,6 +83,13 @@ pub record IsSnapshotOf (state : State) (resource : ℕ) (snapshot : Snapshot) :
   pub budget : snapshot.budget ≡ state.plan.budget
   pub slots : snapshot.slots.items ≡ slots_for state snapshot.activation
 
+-- a snapshot with its activation's code, the moment of its row and the values of all slots
+pub record IsSnapshotIn (state : State) (snapshot : Snapshot) : Type 0 where
+  pub code : code_at state.plan snapshot.activation.program ≡ Some snapshot.code.value
+  pub moment : snapshot.moment ≡ (row_at (made state).rows snapshot.activation.row).moment
+  pub budget : snapshot.budget ≡ state.plan.budget
+  pub slots : snapshot.slots.items ≡ slots_for state snapshot.activation
+
 abbrev pub none_waits : State → ℕ → Type 0
 none_waits state resource = NoneWaits (schedules_of (plan_view state.plan)) (made state).history resource
 
@@ -137,6 +144,26 @@ last_image image (row ∷ rows) = last_image row.image rows
 
 abbrev pub inputs_now : State → Store
 inputs_now state = image_of state.plan.inputs.items (last_image (first_image state.plan.inputs.items) (made state).rows)
+
+-- nothing of a program waits
+abbrev pub rests_in : State → ℕ → Type 0
+rests_in state program = (row : ℕ) → waits_in state record { program = program; row = row } → ⊥
+
+-- with which row a program waits, if it does
+abbrev pub IsWaiting : State → ℕ → Option ℕ → Type 0
+IsWaiting state program None = rests_in state program
+IsWaiting state program (Some row) = waits_in state record { program = program; row = row }
+
+-- what is answered where what waits of a program is run and committed in one step, and the core after it
+abbrev pub CommitsWaiting : State → ℕ → Result (Option ℕ) Refusal → State → Type 0
+CommitsWaiting old program (Ok None) new = rests_in old program × (new ≡ old)
+CommitsWaiting old program (Err NoMemory) new = (rests_in old program → ⊥) × (new ≡ old)
+CommitsWaiting old program (Err Full) new =
+    (rests_in old program → ⊥) × (old.room ≤ length old.log) × (new ≡ old)
+CommitsWaiting old program (Ok (Some n)) new =
+    (row : ℕ) × waits_in old record { program = program; row = row } × (length old.log < old.room)
+    × (new ≡ grown old (Done record { program = program; row = row })) × (n ≡ length new.log)
+CommitsWaiting old program (Err _) new = ⊥
 
 -- what is answered where the best activation of a resource is run and committed in one step, and the core after it
 abbrev pub CommitsHere : State → ℕ → Result (Option ℕ) Refusal → State → Type 0

@@ -46,7 +46,7 @@ impl SerialCore {
     }
 
     /// The row of an activation that waits.
-    fn row_for(&self, activation: Activation) -> &Row
+    pub(crate) fn row_for(&self, activation: Activation) -> &Row
         requires waits { waits_in self.now activation }
         ensures { result.now ≡ row_at (made self.now).rows activation.row }
     {

@@ -1,6 +1,6 @@
 //! What a core tells.
 
-ghost use Rattle.std.specs.Prelude.{◌≡◌, ◌<◌, ◌≤◌, option_map, option_and_then, slice_get, length, Some, None};
+ghost use Rattle.std.specs.Prelude.{◌≡◌, ◌<◌, ◌≤◌, option_map, option_and_then, slice_get, length, map, Some, None};
 ghost use Rattle.std.specs.Prelude.{MatchBool};
 ghost use Rattle.st_plans.specs.Due.{HasOverruns};
 ghost use Rattle.st_plans.specs.Logs.{IsLegal, outcomes_of};
@@ -8,7 +8,7 @@ ghost use Rattle.st_plans.specs.Plans.{schedules_of, initial_value};
 ghost use Rattle.st_types.specs.Scopes.{seen};
 ghost use Rattle.st_types.specs.Stores.{get};
 ghost use Rattle.config.specs.PlanViews.{plan_view};
-ghost use Rattle.serial_core.specs.Steps.{made, none_waits, first_image, last_image, inputs_now};
+ghost use Rattle.serial_core.specs.Steps.{made, none_waits, first_image, last_image, inputs_now, store_in, IsWaiting};
 
 use crate::lookup::{input_at, variable_at};
 use crate::rows::row_of;
@@ -46,6 +46,29 @@ impl SerialCore {
         self.log.len()
     }
 
+    /// The values of the variables at the start, in layout order.
+    pub fn start_values(&self) -> &[Value]
+        ensures values { result.now ≡ map (λ e. e.1) self.now.start }
+        ensures store { self.now.start ≡ store_in self.now.plan result.now }
+        ensures len { length result.now ≡ length self.now.plan.variables.items }
+    {
+        &self.start
+    }
+
+    /// The moment in milliseconds that the first row has to be later than, if there is one.
+    pub fn start_moment(&self) -> Option<u64>
+        ensures { result ≡ self.now.before }
+    {
+        self.before
+    }
+
+    /// The values of the variables now, in layout order.
+    pub fn values(&self) -> &[Value]
+        ensures { result.now ≡ map (λ e. e.1) (made self.now).store }
+    {
+        &self.values
+    }
+
     /// How many rows were latched.
     pub fn rows(&self) -> usize
         ensures { result ≡ length (made self.now).rows }
@@ -58,6 +81,13 @@ impl SerialCore {
         ensures { MatchBool result (none_waits self.now resource → ⊥) (none_waits self.now resource) }
     {
         self.ready.waits_on(resource)
+    }
+
+    /// The number of the row with which a program waits, by its number from 0; none where nothing of it waits.
+    pub fn waiting(&self, program: usize) -> Option<u64>
+        ensures { IsWaiting self.now program result }
+    {
+        self.ready.waiting(program)
     }
 
     /// The entry of a number from 0; none where the log has no such entry.

@@ -1,15 +1,16 @@
 //! Taking a snapshot.
 
-ghost use Rattle.std.specs.Prelude.{◌≡◌, ◌<◌, length, Some, IfOk};
-ghost use Rattle.serial_core.specs.Steps.{Takes, code_at};
+ghost use Rattle.std.specs.Prelude.{◌≡◌, ◌<◌, nat_lt, length, Some, true, IfOk, IfErr};
+ghost use Rattle.std.specs.List.{list_all};
+ghost use Rattle.serial_core.specs.Steps.{Takes, IsSnapshotIn, code_at, slots_for, waits_in};
 
 use crate::cells::slots_of;
 use crate::refusal::Refusal;
-use crate::rows::row_of;
 use crate::serial::SerialCore;
 use config::Plan;
 use slot_code::Code;
 use slot_run::Snapshot;
+use st_plans::Activation;
 use std::alloc::{AllocError, Global};
 use std::sync::Arc;
 
@@ -22,6 +23,38 @@ fn code_of(plan: &Plan, program: usize) -> Result<Arc<Code>, AllocError>
 }
 
 impl SerialCore {
+    /// The code of an activation that waits, shared. The slots that it names are there.
+    fn code_for(&self, activation: Activation) -> Result<Arc<Code>, AllocError>
+        requires waits { waits_in self.now activation }
+        ensures code { IfOk result (λ code. code_at self.now.plan activation.program ≡ Some code.value) }
+        ensures within { IfOk result (λ code. list_all
+            (λ g. nat_lt g.slot (length (slots_for self.now activation))) code.value.table.items ≡ true) }
+    {
+        code_of(&self.plan, activation.program)
+    }
+
+    /// A snapshot of an activation that waits; K6 out of memory.
+    pub(crate) fn snapshot_of(
+        &self,
+        alloc: Global,
+        activation: Activation,
+    ) -> Result<Snapshot, Refusal>
+        requires waits { waits_in self.now activation }
+        ensures activation { IfOk result (λ snapshot. snapshot.activation ≡ activation) }
+        ensures parts { IfOk result (IsSnapshotIn self.now) }
+        ensures memory { IfErr result (λ e. e ≡ Refusal.NoMemory) }
+    {
+        let Ok(code) = self.code_for(activation) else {
+            return Err(Refusal::NoMemory);
+        };
+        let row = self.row_for(activation);
+        let Ok(slots) = slots_of(alloc, self.values(), row.image()) else {
+            return Err(Refusal::NoMemory);
+        };
+        let budget = self.plan().budget;
+        Ok(Snapshot::new(code, activation, row.moment(), budget, slots))
+    }
+
     /// A snapshot of the best activation that waits on the resource; none where nothing waits there, K6 out of memory.
     pub fn take(&self, alloc: Global, resource: usize) -> Result<Option<Snapshot>, Refusal>
         ensures { Takes self.now resource result }
@@ -29,15 +62,9 @@ impl SerialCore {
         let Some(activation) = self.ready.best(resource) else {
             return Ok(None);
         };
-        let plan: &Plan = &self.plan;
-        let Ok(code) = code_of(plan, activation.program) else {
-            return Err(Refusal::NoMemory);
-        };
-        let row = row_of(&self.log, &self.rows, activation.row as usize);
-        let Ok(slots) = slots_of(alloc, &self.values, row.image()) else {
-            return Err(Refusal::NoMemory);
-        };
-        let snapshot = Snapshot::new(code, activation, row.moment(), plan.budget, slots);
-        Ok(Some(snapshot))
+        match self.snapshot_of(alloc, activation) {
+            Ok(snapshot) => Ok(Some(snapshot)),
+            Err(_) => Err(Refusal::NoMemory),
+        }
     }
 }

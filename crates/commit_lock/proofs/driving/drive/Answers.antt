@@ -1,7 +1,9 @@
-use Rattle.std.proofs.Common.{rules, ◌≡◌, ◌∙◌, ◌∷◌, ◌++◌, [], List, subst, ap, arith, length, length-append}
-use Rattle.commit_lock.specs.Driving.{Drives}
+use Rattle.std.proofs.Common.{rules, ◌≡◌, ◌∙◌, ◌∷◌, ◌++◌, [], List, subst, sym, ap, arith, length, length-append}
+use Rattle.std.specs.List.{AllByRecursion}
+use Rattle.commit_lock.specs.Driving.{Drives, IsWellAnswered}
+use Rattle.commit_lock.specs.declared.event.Reply.{Reply}
 use Rattle.commit_lock.specs.declared.event.Event.{Event}
-use Rattle.commit_lock.proofs.DriveLemmas.{drives_step, drives_end, endures}
+use Rattle.commit_lock.proofs.DriveLemmas.{drives_step, drives_end, endures, all_more}
 use Rattle.commit_lock.proofs.driving.drive.Goals as goal
 
 pub loop-event-preserved : goal.loop-event-preserved
@@ -27,6 +29,13 @@ loop-event-preserved g c =
         c.loop-event.replies.ok.0,
         length-append c.loop-event.replies.items (c.step-reply.result ∷ []),
       ),
+      λ well.
+          let so_far = c.loop-event.invariant.3 well in
+          let now = c.step-reply.ensures.serves so_far.0 in (
+            now.0,
+            subst (λ (rs : List Reply). AllByRecursion IsWellAnswered rs) (sym c.push_reserved.ensures.items)
+                (all_more IsWellAnswered c.loop-event.replies.items c.step-reply.result so_far.1 now.1),
+          ),
     )
 
 pub returns-clause-drives : goal.returns-clause-drives

@@ -1,6 +1,7 @@
 use Rattle.std.proofs.Common.{◌+◌, ◌≤◌, ◌++◌, [], List, length, vec_len, vec_capacity}
+use Rattle.std.specs.List.{AllByRecursion}
 use Rattle.commit_lock.specs.Cores.{CoreView}
-use Rattle.commit_lock.specs.Driving.{Held, Drives}
+use Rattle.commit_lock.specs.Driving.{Held, Drives, IsWell, IsWellAnswered}
 use Rattle.commit_lock.specs.declared.event.Reply.{Reply}
 use Rattle.commit_lock.proofs.driving.drive.Given as goal
 
@@ -14,3 +15,5 @@ invariant-loop-event g l =
     (l.replies.items ++ replies) new kept)
     × (vec_len l.held + length l.event-iterator.rest.items ≤ vec_capacity l.held)
     × (vec_len l.replies + length l.event-iterator.rest.items ≤ vec_capacity l.replies)
+    × (IsWell g.D.Disk.serves l.initial.core
+    → IsWell g.D.Disk.serves l.core × AllByRecursion IsWellAnswered l.replies.items)

@@ -10,10 +10,10 @@ returns g c =
     let same : c.deref.result.now ≡ c.args.plan = search rules in
     let are : AreRowsOf c.args.plan.inputs.items c.in_ok-rows.rows.items = search rules in
     let new : IsNew c.in_ok-core.core.state c.args.plan MAX_LOG_ROOM = search rules in
+    let served = c.served-core in
     record {
-      report = reported (λ text. text.items) c.in_ok-core.core.state c.served-report.new.core c.args.job.now.start
-          c.in_ok-rows.rows.items
-          MAX_LOG_ROOM c.deref.result.now c.args.plan c.served-report.result
-          same are new c.in_ok-core.ensures.begins c.served-report.ensures.goes_on c.served-report.ensures.settled
-          c.served-report.ensures.legal c.served-report.ensures.report;
+      report = reported (λ text. text.items) c.in_ok-core.core.state served.result.0 c.args.job.now.start
+          c.in_ok-rows.rows.items MAX_LOG_ROOM c.deref.result.now c.args.plan served.result.1 same are new
+          c.in_ok-core.ensures.begins served.ensures.life served.ensures.latched served.ensures.settled
+          served.ensures.legal served.ensures.report;
     }

@@ -1,0 +1,3 @@
+mod LogLemmas
+mod AckedLemmas
+mod LifeLemmas

@@ -1,0 +1,2 @@
+pub mod LogsOfLives
+pub mod Lives

@@ -1,0 +1,9 @@
+use Rattle.std.proofs.Common.{◌≡◌, ◌++◌, ℕ, List, drop}
+use Rattle.traces.specs.Puts.{Puts}
+use Rattle.traces.specs.Texts.{kept_text}
+use Rattle.traces.proofs.writing.put_kept.Given as goal
+
+abbrev pub invariant-loop-i : goal.invariant-loop-i
+invariant-loop-i g l =
+    (text : List ℕ) × Puts (g.W.Write.contents l.initial.out) l.initial.works (g.W.Write.contents l.out) l.works text
+    × (text ++ kept_text (drop l.i l.variables) (drop l.i l.values) ≡ kept_text l.variables l.values)
