@@ -111,6 +111,7 @@ none_contains_itself text numbers graph marks x g told = by_test (contains_itsel
   where
     never : true ≡ false → ⊥
     never e = cc
+
     by_test : (b : Bool) → contains_itself text x ≡ b → b ≡ false
     by_test false e = refl
     by_test true e =

@@ -73,10 +73,10 @@ record PartOf (numbers : Name → Option ℕ) (l : Link) (ps : List Part) : Type
 part_of : (numbers : Name → Option ℕ) (l : Link) (ps : List Part) → Among l (map (link_of numbers) ps)
     → PartOf numbers l ps
 part_of numbers l [] a = elim a [ ]
-part_of numbers l (p ∷ ps) first = record { part = p; among = depths.first; is = refl; }
+part_of numbers l (p ∷ ps) first = record { part = p; among = depths.first; is = refl }
 part_of numbers l (p ∷ ps) (later a) =
     let below = part_of numbers l ps a in
-    record { part = below.part; among = depths.later below.among; is = below.is; }
+    record { part = below.part; among = depths.later below.among; is = below.is }
 
 step_of : (text : Declared) (numbers : Name → Option ℕ) (graph : Graph) (from to : ℕ) (ps : List Part)
     → IsGraphOf text numbers graph → Leads graph from to → links_at graph from ≡ map (link_of numbers) ps
@@ -98,7 +98,7 @@ source_of : (text : Declared) (numbers : Name → Option ℕ) (graph : Graph) (f
 source_of text numbers graph from to g leads = by_parts (slice_get (node_parts text) from) refl
   where
     by_parts : (o : Option (List Part)) → slice_get (node_parts text) from ≡ o → Source text numbers graph from
-    by_parts (Some ps) at = record { parts = ps; are = links_are text numbers graph from ps g at; }
+    by_parts (Some ps) at = record { parts = ps; are = links_are text numbers graph from ps g at }
     by_parts None at = absurd (no_links leads.link (subst (Among leads.link)
         (ap (λ xs. links_or_none (slice_get xs from)) g.links
         ∙ ap links_or_none (slice_get-map (map (link_of numbers)) (node_parts text) from)
@@ -109,8 +109,8 @@ record Named_at (text : Declared) (i : ℕ) : Type 0 where
   at : At text i name
 
 named_step : (text : Declared) (ps : List Part) (i : ℕ) → Step text ps i → Named_at text i
-named_step text ps i (direct z a at) = record { name = z; at = at; }
-named_step text ps i (by_row z a at) = record { name = z.name; at = at; }
+named_step text ps i (direct z a at) = record { name = z; at = at }
+named_step text ps i (by_row z a at) = record { name = z.name; at = at }
 
 way_end : (text : Declared) (numbers : Name → Option ℕ) (graph : Graph) (n from to : ℕ)
     → IsGraphOf text numbers graph → Way graph n from to → Named_at text to
@@ -165,10 +165,10 @@ any_found f (p ∷ ps) h = by_test (f p) refl h (λ e. any_found f ps e)
   where
     by_test : (b : Bool) → f p ≡ b → (f p || list_any f ps) ≡ true → (list_any f ps ≡ true → Found f ps)
         → Found f (p ∷ ps)
-    by_test true e h rest = record { part = p; among = depths.first; passes = e; }
+    by_test true e h rest = record { part = p; among = depths.first; passes = e }
     by_test false e h rest =
         let below = rest (sym (ap (λ b. b || list_any f ps) e) ∙ h) in
-        record { part = below.part; among = depths.later below.among; passes = below.passes; }
+        record { part = below.part; among = depths.later below.among; passes = below.passes }
 
 named_is : (x : Name) (q : Part) → is_part_named x q ≡ true → q ≡ rules_of.named x
 named_is x rules_of.elementary h = absurd (cc)
@@ -197,6 +197,7 @@ leads_holds text (suc n) x p h = by_found
         holds_part (subst (λ q. depths.Among q (parts_of text p)) (named_is x f.part e) f.among)
     by_test f false e rest = holds_further f.among
         (rest f.part (or_either (is_part_named x f.part) (leads_to text n x f.part) e f.passes))
+
     by_found : Found (λ q. is_part_named x q || leads_to text n x q) (parts_of text p)
         → ((q : Part) → leads_to text n x q ≡ true → Holds text q (rules_of.named x))
         → Holds text p (rules_of.named x)
@@ -220,6 +221,7 @@ leads_longer text (suc n) x p h = by_found
     by_test f true e rest = leads_by_name text (suc n) x p f.part f.among e
     by_test f false e rest = leads_by_part text (suc n) x p f.part f.among
         (rest f.part (or_either (is_part_named x f.part) (leads_to text n x f.part) e f.passes))
+
     by_found : Found (λ q. is_part_named x q || leads_to text n x q) (parts_of text p)
         → ((q : Part) → leads_to text n x q ≡ true → leads_to text (suc n) x q ≡ true)
         → leads_to text (suc (suc n)) x p ≡ true

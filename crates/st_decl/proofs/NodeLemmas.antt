@@ -65,6 +65,7 @@ type_stands (t ∷ ts) names parts n x d h =
   where
     some_is : {a b : TypeDefinition} → Some a ≡ Some b → a ≡ b
     some_is e = search rules
+
     by_test : (b : Bool) → bytes_eq x t.name.name ≡ b
         → (type_named ts x ≡ Some d → Stands (map (λ t. t.name.name) ts ++ names)
         (map (λ t. parts_of_definition t.definition) ts ++ parts) (suc n) x (parts_of_definition d))
@@ -92,6 +93,7 @@ unit_stands text (v ∷ us) n x u h =
   where
     some_is : {a b : OrganisationUnit} → Some a ≡ Some b → a ≡ b
     some_is e = search rules
+
     by_test : (b : Bool) → bytes_eq x v.name.name ≡ b
         → (unit_named us x ≡ Some u
         → Stands (map (λ u. u.name.name) us) (map (parts_of_unit text) us) (suc n) x (parts_of_unit text u))
@@ -171,6 +173,7 @@ named text x = by_type (type_named text.types x) refl
       | Some d ↦ parts_of_definition d
       | None ↦ elim u [ Some v ↦ parts_of_unit text v | None ↦ parts_of_standard x ]
     ]
+
     by_unit : type_named text.types x ≡ None → (o : Option OrganisationUnit) → unit_named text.units x ≡ o
         → Named text x
     by_unit none (Some u) at = standing (subst (Stands (node_names text) (node_parts text) 0 x)
@@ -180,6 +183,7 @@ named text x = by_type (type_named text.types x) refl
     by_unit none None at = absent
         (no_type text.types (map (λ u. u.name.name) text.units) 0 x none (λ k. no_unit text.units k x at))
         (ap (λ t. parts_at t (unit_named text.units x)) none ∙ ap (parts_at None) at)
+
     by_type : (o : Option TypeDefinition) → type_named text.types x ≡ o → Named text x
     by_type (Some d) at = standing (subst (Stands (node_names text) (node_parts text) 0 x)
         (sym (ap (λ t. parts_at t (unit_named text.units x)) at))

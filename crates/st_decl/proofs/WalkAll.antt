@@ -71,6 +71,7 @@ has_its_depth graph marks start w within seen = record {
         past [] i h l = omega (arith, l)
         past (m ∷ ms) zero h l = cc
         past (m ∷ ms) (suc i) h l = past ms i h (omega (arith, l))
+
     by_mark : (m : Option Mark) → slice_get marks start ≡ m → is_unseen m ≡ false
         → has_depth (slice_get marks start) ≡ true
     by_mark None at h = absurd (there at)
@@ -91,12 +92,14 @@ walked_more graph old new start before ended = record {
     stays i (Some Unseen) at h = absurd (cc)
     stays i (Some (OnPath k)) at h = absurd (cc)
     stays i (Some (Depth c)) at h = ap has_depth (ended.stay i c at)
+
     by_order : (i : ℕ) → suc i ≤ start + 1 → (i ≡ start) ⊎ (i ≡ start → ⊥) → has_depth (slice_get new i) ≡ true
     by_order i h (inl is) = ap (λ k. has_depth (slice_get new k)) is ∙ ended.known
     by_order i h (inr other) = stays i (slice_get old i) refl (before.each i (less i start h other))
       where
         less : (a b : ℕ) → suc a ≤ b + 1 → (a ≡ b → ⊥) → suc a ≤ b
         less a b h other = omega (arith, h, other)
+
     by_place : (i : ℕ) → suc i ≤ start + 1 → has_depth (slice_get new i) ≡ true
     by_place i h = by_order i h (cases_eq i start)
 

@@ -102,6 +102,7 @@ link_told graph marks l c told is = by_row l.is_row l.target refl is
           has = row below.has;
           is_cut = sym (depth_is sees) ∙ ap deeper below.is_cut ∙ cut_suc below.depth;
         }
+
     by_row : (b : Bool) (t : Target) → l ≡ record { target = t; is_row = b }
         → seen_in_row b (seen_of_target marks t) ≡ seen.Depth c → IsCutLink graph l c
     by_row false t at sees =
@@ -167,4 +168,4 @@ pub look_open : (marks : List Mark) (links : List Link) (i : ℕ) (d : Link) (n 
 look_open marks links i d n within sees =
     let l = slice_index_or links i d in
     let here = open_target marks l.target n (open_row marks l.is_row (seen_of_target marks l.target) n sees) in
-    record { link = l; among = among_at links i d within; target = here.target; unknown = here.unknown; }
+    record { link = l; among = among_at links i d within; target = here.target; unknown = here.unknown }

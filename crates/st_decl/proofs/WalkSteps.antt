@@ -34,28 +34,33 @@ looked_further graph marks init v new w same looked = record {
     lengths : (xs : List Visit) → length (xs ++ v ∷ []) ≡ length (xs ++ new ∷ [])
     lengths [] = refl
     lengths (x ∷ xs) = ap suc (lengths xs)
+
     old_end : slice_get (init ++ v ∷ []) (length init) ≡ Some v
     old_end = get_end init v
+
     marked_in : (k : ℕ) (x : Visit) → Split init new x k → slice_get marks x.node ≡ Some (OnPath k)
     marked_in k x (in_front at) = w.marked k x (get_front init (v ∷ []) k x at)
     marked_in k x (at_end at is) =
         ap (λ y. slice_get marks y.node) (sym is) ∙ ap (slice_get marks) same
         ∙ w.marked (length init) v old_end ∙ ap (λ j. Some (OnPath j)) (sym at)
+
     standing_in : (i k : ℕ) → StandsAt (init ++ v ∷ []) k i → StandsAt (init ++ new ∷ []) k i
     standing_in i k s = by_split (get_split init v s.visit k s.there)
       where
         by_split : Split init v s.visit k → StandsAt (init ++ new ∷ []) k i
         by_split (in_front at) =
-            record { visit = s.visit; there = get_front init (new ∷ []) k s.visit at; node = s.node; }
+            record { visit = s.visit; there = get_front init (new ∷ []) k s.visit at; node = s.node }
         by_split (at_end at is) = record {
           visit = new;
           there = ap (slice_get (init ++ new ∷ [])) at ∙ get_end init new;
           node = same ∙ ap (λ y. y.node) is ∙ s.node;
         }
+
     looked_in : (k : ℕ) (x : Visit) → Split init new x k → HasLooked graph (links_at graph x.node) x
     looked_in k x (in_front at) = w.looked k x (get_front init (v ∷ []) k x at)
     looked_in k x (at_end at is) = subst (λ y. HasLooked graph (links_at graph y.node) y) is
         (subst (λ n. HasLooked graph (links_at graph n) new) (sym same) looked)
+
     leads_in : (k : ℕ) (x y : Visit) → Split init new x k → Split init new y (suc k) → Leads graph x.node y.node
     leads_in k x y (in_front at) (in_front next) =
         w.leads k x y (get_front init (v ∷ []) k x at) (get_front init (v ∷ []) (suc k) y next)
@@ -89,11 +94,14 @@ entered graph marks path n w last unseen = record {
   where
     new : Mark
     new = OnPath (length path)
+
     here : slice_get (set marks n (OnPath (length path))) n ≡ Some (OnPath (length path))
     here = set_same marks n Unseen (OnPath (length path)) unseen
+
     tells_in : (i c : ℕ) → Changed marks n i (OnPath (length path)) (Depth c) → Tells graph i c
     tells_in i c (changed at is) = absurd (cc)
     tells_in i c (kept other at) = w.told.tells i c at
+
     marked_in : (k : ℕ) (x : Visit) → Split path (fresh n) x k
         → slice_get (set marks n (OnPath (length path))) x.node ≡ Some (OnPath k)
     marked_in k x (in_front at) =
@@ -105,6 +113,7 @@ entered graph marks path n w last unseen = record {
         unseen_not e = cc
     marked_in k x (at_end at is) = ap (slice_get (set marks n (OnPath (length path)))) (ap (λ y. y.node) (sym is)) ∙ here
         ∙ ap (λ j. Some (OnPath j)) (sym at)
+
     standing_in : (i k : ℕ) → Changed marks n i (OnPath (length path)) (OnPath k)
         → StandsAt (path ++ fresh n ∷ []) k i
     standing_in i k (changed at is) = record {
@@ -114,13 +123,15 @@ entered graph marks path n w last unseen = record {
     }
     standing_in i k (kept other at) =
         let s = w.standing i k at in
-        record { visit = s.visit; there = get_front path (fresh n ∷ []) k s.visit s.there; node = s.node; }
+        record { visit = s.visit; there = get_front path (fresh n ∷ []) k s.visit s.there; node = s.node }
+
     looked_in : (k : ℕ) (x : Visit) → Split path (fresh n) x k → HasLooked graph (links_at graph x.node) x
     looked_in k x (in_front at) = w.looked k x at
     looked_in k x (at_end at is) = subst (λ y. HasLooked graph (links_at graph y.node) y) is (record {
       within = omega arith;
-      deepest = record { depth = 0; deepest = nothing; is_cut = refl; };
+      deepest = record { depth = 0; deepest = nothing; is_cut = refl };
     })
+
     leads_in : (k : ℕ) (x y : Visit) → Split path (fresh n) x k → Split path (fresh n) y (suc k)
         → Leads graph x.node y.node
     leads_in k x y (in_front at) (in_front next) = w.leads k x y at next
@@ -130,9 +141,11 @@ entered graph marks path n w last unseen = record {
         let within = slice_get_within path (suc k) y next in
         absurd (omega (arith, within, at))
     leads_in k x y (at_end at is) (at_end next too) = absurd (omega arith)
+
     longer : (xs : List Visit) → length (xs ++ fresh n ∷ []) ≡ suc (length xs)
     longer [] = refl
     longer (x ∷ xs) = ap suc (longer xs)
+
     counted : sum_by on_path (set marks n (OnPath (length path))) ≡ length (path ++ fresh n ∷ [])
     counted =
         let more = sum_changed on_path marks n Unseen (OnPath (length path)) unseen in
@@ -159,11 +172,14 @@ left graph marks init v c w tells = record {
   where
     top : slice_get marks v.node ≡ Some (OnPath (length init))
     top = w.marked (length init) v (get_end init v)
+
     depth_is : {a b : ℕ} → Depth a ≡ Depth b → a ≡ b
     depth_is h = search rules
+
     tells_in : (i e : ℕ) → Changed marks v.node i (Depth c) (Depth e) → Tells graph i e
     tells_in i e (changed at is) = subst (λ j. Tells graph j e) at (subst (Tells graph v.node) (depth_is is) tells)
     tells_in i e (kept other at) = w.told.tells i e at
+
     marked_in : (k : ℕ) (x : Visit) → slice_get init k ≡ Some x
         → slice_get (set marks v.node (Depth c)) x.node ≡ Some (OnPath k)
     marked_in k x at =
@@ -174,17 +190,20 @@ left graph marks init v c w tells = record {
       where
         apart : k < length init → length init ≡ k → ⊥
         apart h e = omega arith
+
     standing_in : (i k : ℕ) → Changed marks v.node i (Depth c) (OnPath k) → StandsAt init k i
     standing_in i k (changed at is) = absurd (cc)
     standing_in i k (kept other at) = by_split (get_split init v (w.standing i k at).visit k (w.standing i k at).there)
       where
         by_split : Split init v (w.standing i k at).visit k → StandsAt init k i
         by_split (in_front there) =
-            record { visit = (w.standing i k at).visit; there = there; node = (w.standing i k at).node; }
+            record { visit = (w.standing i k at).visit; there = there; node = (w.standing i k at).node }
         by_split (at_end there is) = absurd (other (ap (λ y. y.node) is ∙ (w.standing i k at).node))
+
     longer : (xs : List Visit) → length (xs ++ v ∷ []) ≡ suc (length xs)
     longer [] = refl
     longer (x ∷ xs) = ap suc (longer xs)
+
     counted : sum_by on_path (set marks v.node (Depth c)) ≡ length init
     counted =
         let less = sum_changed on_path marks v.node (OnPath (length init)) (Depth c) top in
@@ -204,20 +223,25 @@ comes_back graph marks path n j w last at = record {
   where
     s : StandsAt path j n
     s = w.standing n j at
+
     within : j < length path
     within = slice_get_within path j s.visit s.there
+
     whole : j + suc (length path - suc j) ≡ length path
     whole = omega (arith, within)
+
     at_most : (m : Mark) → on_path m ≤ 1
     at_most Unseen = omega arith
     at_most (OnPath k) = omega arith
     at_most (Depth c) = omega arith
+
     shorter : suc (length path - suc j) ≤ length graph
     shorter =
         let few = sum_short on_path marks at_most in
         let count = w.count in
         let all = w.told.length in
         omega (arith, few, count, all, within)
+
     along : (m k : ℕ) (v : Visit) → slice_get path k ≡ Some v → k + suc m ≡ length path → Way graph (suc m) v.node n
     along zero k v there ends = one (last k v there (omega arith))
     along (suc m) k v there ends =

@@ -79,6 +79,7 @@ start_turn graph old marks path next start w unseen empty marked stands =
   where
     none : (k : ℕ) → suc k ≡ length path → ⊥
     none k ends = let zero_long = ap length empty in omega (arith, ends, zero_long)
+
     seen_here : (marks' : List Mark) (new : Mark) → slice_get marks' start ≡ Some Unseen → is_seen (Some new) ≡ true
         → is_seen (slice_get (set marks' start new) start) ≡ true
     seen_here marks' new at is = here marks' start at
@@ -118,7 +119,7 @@ close_smaller {marks = marks} init v new c u is same =
 -- what the top leads to
 leads_on : (graph : Graph) (marks : List Mark) (v : Visit) (n : ℕ) → IsOpen marks (links_at graph v.node) n
     → Leads graph v.node n
-leads_on graph marks v n is_open = record { link = is_open.link; among = is_open.among; target = is_open.target; }
+leads_on graph marks v n is_open = record { link = is_open.link; among = is_open.among; target = is_open.target }
 
 last_leads : (graph : Graph) (init : List Visit) (new : Visit) (n : ℕ) → Leads graph new.node n
     → LastLeads graph (init ++ new ∷ []) n
@@ -127,6 +128,7 @@ last_leads graph init new n leads k v at ends = by_split (get_split init new v k
     longer : (xs : List Visit) → length (xs ++ new ∷ []) ≡ suc (length xs)
     longer [] = refl
     longer (x ∷ xs) = ap suc (longer xs)
+
     by_split : Split init new v k → Leads graph v.node n
     by_split (in_front there) =
         let within = slice_get_within init k v there in
@@ -149,7 +151,7 @@ standing_at : (m : Option Mark) → is_on_path m ≡ true → OnPathAt m
 standing_at None h = absurd (cc)
 standing_at (Some Unseen) h = absurd (cc)
 standing_at (Some (Depth c)) h = absurd (cc)
-standing_at (Some (OnPath k)) h = record { position = k; is = refl; }
+standing_at (Some (OnPath k)) h = record { position = k; is = refl }
 
 pub open_unseen : (graph : Graph) (marks : List Mark) (v : Visit) (n : ℕ) → IsOpen marks (links_at graph v.node) n
     → is_on_path (slice_get marks n) ≡ false → slice_get marks n ≡ Some Unseen
@@ -201,7 +203,7 @@ pub end_turn : {graph : Graph} {old marks : List Mark} {path : List Visit} {star
     → Underway graph old marks path start → path ≡ [] → Ended graph old marks start
 end_turn {graph = graph} {marks = marks} {start = start} u empty =
     let walking = subst (Walking graph marks) empty u.walking in
-    record { walking = walking; stay = u.stay; known = by_mark (slice_get marks start) refl u.known walking; }
+    record { walking = walking; stay = u.stay; known = by_mark (slice_get marks start) refl u.known walking }
   where
     by_mark : (m : Option Mark) → slice_get marks start ≡ m → is_seen m ≡ true → Walking graph marks []
         → has_depth (slice_get marks start) ≡ true

@@ -8,9 +8,7 @@ ghost use Rattle.st_statics.specs.DeclaredTypes.{array_of_definition, array_of_t
 ghost use Rattle.st_decl.specs.DeclaringViews.{declaring_view};
 
 use crate::declarings::Declaring;
-use st_trees::{
-    ArrayType, LibraryElement, Source, TypeDeclaration, TypeDefinition, VariableType,
-};
+use st_trees::{ArrayType, LibraryElement, Source, TypeDeclaration, TypeDefinition, VariableType};
 use std::alloc::{AllocError, Global};
 
 fn push_definition<'a>(
@@ -58,10 +56,7 @@ fn push_element<'a>(
 }
 
 /// The arrays that are types of their own.
-pub fn named_arrays<'a>(
-    alloc: Global,
-    source: &'a Source,
-) -> Result<Vec<&'a ArrayType>, AllocError>
+pub fn named_arrays<'a>(alloc: Global, source: &'a Source) -> Result<Vec<&'a ArrayType>, AllocError>
     ensures { IfOk result
         (λ arrays. map (λ a. a.now) arrays.items ≡ flat_map named_arrays_of_element (source_view source.now)) }
 {

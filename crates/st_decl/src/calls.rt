@@ -118,10 +118,7 @@ fn push_arguments<'a>(
     Ok(())
 }
 
-fn push_conditions<'a>(
-    calls: &mut Vec<&'a Identifier>,
-    arms: &'a [Arm],
-) -> Result<(), AllocError>
+fn push_conditions<'a>(calls: &mut Vec<&'a Identifier>, arms: &'a [Arm]) -> Result<(), AllocError>
     ensures { IfOk result (λ done. map (λ x. x.now.name) calls.new.items
         ≡ map (λ x. x.now.name) calls.old.items ++ calls_in_conditions (arms_of (map arm_view arms.now))) }
 {
@@ -131,10 +128,7 @@ fn push_conditions<'a>(
     Ok(())
 }
 
-fn push_step<'a>(
-    calls: &mut Vec<&'a Identifier>,
-    step: &'a Option<Expr>,
-) -> Result<(), AllocError>
+fn push_step<'a>(calls: &mut Vec<&'a Identifier>, step: &'a Option<Expr>) -> Result<(), AllocError>
     ensures { IfOk result (λ done. map (λ x. x.now.name) calls.new.items
         ≡ map (λ x. x.now.name) calls.old.items ++ calls_in_step (option_map expr_view step.now)) }
 {

@@ -74,11 +74,7 @@ pub fn link_of(numbers: &Index<usize>, part: Part) -> Link
     }
 }
 
-fn links_of(
-    alloc: Global,
-    numbers: &Index<usize>,
-    parts: &[Part],
-) -> Result<Vec<Link>, AllocError>
+fn links_of(alloc: Global, numbers: &Index<usize>, parts: &[Part]) -> Result<Vec<Link>, AllocError>
     ensures { IfOk result (λ links. links.items ≡ map (link_of (found numbers.now)) (map part_view parts.now)) }
 {
     let mut links = Vec::new(alloc);

@@ -89,10 +89,7 @@ fn is_external(section: Section) -> bool
     }
 }
 
-fn push_variables<'a>(
-    parts: &mut Vec<Part<'a>>,
-    block: &'a VariableBlock,
-) -> Result<(), AllocError>
+fn push_variables<'a>(parts: &mut Vec<Part<'a>>, block: &'a VariableBlock) -> Result<(), AllocError>
     ensures { IfOk result (λ done. map part_view parts.new.items ≡ map part_view parts.old.items
         ++ map (λ d. part_of_type d.declared) (map declaration_view block.now.declarations.items)) }
 {
@@ -102,10 +99,7 @@ fn push_variables<'a>(
     Ok(())
 }
 
-fn push_block<'a>(
-    parts: &mut Vec<Part<'a>>,
-    block: &'a VariableBlock,
-) -> Result<(), AllocError>
+fn push_block<'a>(parts: &mut Vec<Part<'a>>, block: &'a VariableBlock) -> Result<(), AllocError>
     ensures { IfOk result (λ done. map part_view parts.new.items ≡ map part_view parts.old.items
         ++ parts_of_block (variable_block_view block.now)) }
 {
@@ -116,10 +110,7 @@ fn push_block<'a>(
     }
 }
 
-fn push_blocks<'a>(
-    parts: &mut Vec<Part<'a>>,
-    blocks: &'a [VariableBlock],
-) -> Result<(), AllocError>
+fn push_blocks<'a>(parts: &mut Vec<Part<'a>>, blocks: &'a [VariableBlock]) -> Result<(), AllocError>
     ensures { IfOk result (λ done. map part_view parts.new.items ≡ map part_view parts.old.items
         ++ flat_map parts_of_block (map variable_block_view blocks.now)) }
 {

@@ -23,10 +23,7 @@ fn push_all<'a>(statements: &mut Vec<&'a Stmt>, body: &'a [Stmt]) -> Result<(), 
 
 /// Appends the statements inside a statement.
 #[cycle(push_all)]
-fn push_below<'a>(
-    statements: &mut Vec<&'a Stmt>,
-    statement: &'a Stmt,
-) -> Result<(), AllocError>
+fn push_below<'a>(statements: &mut Vec<&'a Stmt>, statement: &'a Stmt) -> Result<(), AllocError>
     ensures { IfOk result (λ done. map (λ s. stmt_view s.now) statements.new.items
         ≡ map (λ s. stmt_view s.now) statements.old.items ++ all_below (stmt_view statement.now)) }
 {
@@ -64,10 +61,7 @@ fn push_arms<'a>(statements: &mut Vec<&'a Stmt>, arms: &'a [Arm]) -> Result<(), 
 }
 
 #[cycle(push_all)]
-fn push_case_arms<'a>(
-    statements: &mut Vec<&'a Stmt>,
-    arms: &'a [CaseArm],
-) -> Result<(), AllocError>
+fn push_case_arms<'a>(statements: &mut Vec<&'a Stmt>, arms: &'a [CaseArm]) -> Result<(), AllocError>
     ensures { IfOk result (λ done. map (λ s. stmt_view s.now) statements.new.items
         ≡ map (λ s. stmt_view s.now) statements.old.items
         ++ all_in_case_arms (case_arms_of (map case_arm_view arms.now))) }

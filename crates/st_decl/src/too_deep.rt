@@ -110,10 +110,7 @@ fn push_arrays(
     Ok(())
 }
 
-fn push_type_places(
-    places: &mut Vec<usize>,
-    types: &[&TypeDeclaration],
-) -> Result<(), AllocError>
+fn push_type_places(places: &mut Vec<usize>, types: &[&TypeDeclaration]) -> Result<(), AllocError>
     ensures { IfOk result (λ done. places.new.items ≡ places.old.items
         ++ map (λ t. t.name.place) (map (λ t. type_declaration_view t.now) types.now)) }
 {
