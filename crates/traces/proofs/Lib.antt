@@ -1,2 +1,3 @@
 pub mod PutLemmas
 pub mod TraceLemmas
+pub mod ReadLemmas

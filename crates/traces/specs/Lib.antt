@@ -1,2 +1,4 @@
 pub mod Puts
 pub mod Texts
+pub mod Reads
+pub mod Replays

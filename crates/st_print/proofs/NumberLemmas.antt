@@ -25,7 +25,7 @@ use Rattle.std.proofs.lemmas.Fmt.{decimal-digits_value, parse-decimal, decimal_i
 use Rattle.std.proofs.lemmas.Fmt.{decimal_digit, IsAscii-decimal, decimal_injective}
 use Rattle.std.proofs.lemmas.Bool.Decides.{nat_tests}
 use Rattle.std.proofs.lemmas.Grind.{common_steps}
-use Rattle.image.specs.Numbers.{may_begin, SpellsValue}
+use Rattle.st_print.specs.Numbers.{may_begin, SpellsValue}
 
 own : IsNumeralModel (AllDigits 10) (digits_value 10)
 own = numerals_by_value (AllDigits 10) tells_digits

@@ -1,6 +1,6 @@
 use Rattle.std.proofs.Common.{sym, ◌∙◌, arith, ◌+◌}
 use Rattle.std.proofs.lemmas.Fmt.{decimal_injective}
-use Rattle.image.proofs.number.negative.Goals as goal
+use Rattle.st_print.proofs.number.negative.Goals as goal
 
 pub returns-then-magnitude-eq0-clause-none : goal.returns-then-magnitude-eq0-clause-none
 returns-then-magnitude-eq0-clause-none c = λ n small e.

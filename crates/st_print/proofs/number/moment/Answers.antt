@@ -1,6 +1,6 @@
 use Rattle.std.proofs.Common.{sym, ◌∙◌, arith}
 use Rattle.std.proofs.lemmas.Fmt.{decimal_injective}
-use Rattle.image.proofs.number.moment.Goals as goal
+use Rattle.st_print.proofs.number.moment.Goals as goal
 
 pub returns-else-moment-lt-MOMENT_LIMIT-clause-none : goal.returns-else-moment-lt-MOMENT_LIMIT-clause-none
 returns-else-moment-lt-MOMENT_LIMIT-clause-none c = λ n small e.

@@ -1,8 +1,8 @@
 use Rattle.std.proofs.Common.{sym, ◌∙◌, ap}
-use Rattle.image.proofs.NumberLemmas.{begins_decimal, utf8_decimal, spelled_number, number_parsed, ok_some}
-use Rattle.image.proofs.NumberLemmas.{none_spelled}
-use Rattle.image.specs.Numbers.{may_begin}
-use Rattle.image.proofs.number.number.Goals as goal
+use Rattle.st_print.proofs.NumberLemmas.{begins_decimal, utf8_decimal, spelled_number, number_parsed, ok_some}
+use Rattle.st_print.proofs.NumberLemmas.{none_spelled}
+use Rattle.st_print.specs.Numbers.{may_begin}
+use Rattle.st_print.proofs.number.number.Goals as goal
 
 pub returns-then-not-may_begin-clause-none : goal.returns-then-not-may_begin-clause-none
 returns-then-not-may_begin-clause-none c = λ n small e.

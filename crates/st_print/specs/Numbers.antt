@@ -1,4 +1,4 @@
--- How a field of a plant spells a number.
+-- How a field spells a number.
 use Rattle.std.specs.Prelude.{Option, Some, None, ◌≡◌, ℕ, ◌^◌, ◌<◌, List, [], ◌∷◌, length, ℤ, Bool, true, false, ◌==◌}
 use Rattle.std.specs.Prelude.{◌&&◌, ◌||◌, nat_le}
 use Rattle.std.specs.Prelude.{unsigned_abs}

@@ -1,6 +1,6 @@
 use Rattle.std.proofs.Common.{◌≡◌, get_or, rules}
-use Rattle.image.proofs.NumberLemmas.{map_none, none_behind_minus}
-use Rattle.image.proofs.number.whole_number.Goals as goal
+use Rattle.st_print.proofs.NumberLemmas.{map_none, none_behind_minus}
+use Rattle.st_print.proofs.number.whole_number.Goals as goal
 
 pub returns-in-45-clause-none : goal.returns-in-45-clause-none
 returns-in-45-clause-none c =

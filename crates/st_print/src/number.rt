@@ -1,10 +1,10 @@
-//! Numbers in the fields of a plant.
+//! Decimal numbers in the fields of a plant and the lines of a trace.
 
 ghost use Rattle.std.specs.Prelude.{◌≡◌, ◌≢◌, ◌^◌, ◌<◌, ◌+◌, ◌∷◌, ℕ, ℤ, IfSome, IfNone};
 ghost use Rattle.std.specs.Fmt.{decimal, signed_decimal};
 ghost use Rattle.st_words.specs.Kinds.{names_in};
 ghost use Rattle.st_words.specs.Values.{Datum};
-ghost use Rattle.image.specs.Numbers.{IsShort, SpellsValue, may_begin};
+ghost use Rattle.st_print.specs.Numbers.{IsShort, SpellsValue, may_begin};
 
 use st_words::limits::MOMENT_LIMIT;
 use st_words::{Kind, Value};
@@ -21,7 +21,7 @@ fn may_begin(field: &[u8]) -> bool
 }
 
 /// The number below 2^64 that the field spells in decimal.
-fn number(field: &[u8]) -> Option<u64>
+pub fn number(field: &[u8]) -> Option<u64>
     ensures spelled { IfSome result (λ n. field.now ≡ decimal n) }
     ensures none { IfNone result ((n : ℕ) → n < 2 ^ 64 → field.now ≢ decimal n) }
 {
@@ -60,7 +60,7 @@ fn whole_number(field: &[u8]) -> Option<i128>
 }
 
 /// The moment in milliseconds that the field spells: at most 4,611,686,018,427,387,903.
-pub(crate) fn moment(field: &[u8]) -> Option<u64>
+pub fn moment(field: &[u8]) -> Option<u64>
     ensures spelled { IfSome result (λ n. field.now ≡ decimal n) }
     ensures limit { IfSome result (λ n. n < MOMENT_LIMIT) }
     ensures none { IfNone result ((n : ℕ) → n < MOMENT_LIMIT → field.now ≢ decimal n) }
@@ -84,7 +84,7 @@ fn names(kind: Kind) -> u16
 }
 
 /// The value of the type that the field spells.
-pub(crate) fn value(kind: Kind, field: &[u8]) -> Option<Value>
+pub fn value(kind: Kind, field: &[u8]) -> Option<Value>
     ensures spelled { IfSome result (SpellsValue kind field.now) }
     ensures none { IfNone result ((v : Datum) → ¬ (SpellsValue kind field.now v)) }
 {

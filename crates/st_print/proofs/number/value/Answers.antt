@@ -3,8 +3,8 @@ use Rattle.std.specs.Prelude.{FitsSigned}
 use Rattle.std.specs.Int.{w128}
 use Rattle.std.proofs.lemmas.Int.{to_z-of_z, fits_signed_from_abs}
 use Rattle.st_words.specs.Kinds.{holds, names_in}
-use Rattle.image.proofs.NumberLemmas.{value_spelled, value_refused}
-use Rattle.image.proofs.number.value.Goals as goal
+use Rattle.st_print.proofs.NumberLemmas.{value_spelled, value_refused}
+use Rattle.st_print.proofs.number.value.Goals as goal
 
 pub returns-clause-spelled : goal.returns-clause-spelled
 returns-clause-spelled c =
