@@ -1,5 +1,5 @@
 -- Reading a text part by part.
-use Rattle.std.proofs.Common.{◌≡◌, ◌≢◌, ◌∙◌, ap, sym, refl, subst, ℕ, ◌+◌, ◌<◌, ◌^◌, ◌/◌, ◌%◌, true, false, Bool, ◌&&◌, List, []}
+use Rattle.std.proofs.Common.{◌≡◌, ◌≢◌, ◌∙◌, ap, sym, refl, ℕ, ◌+◌, ◌<◌, ◌^◌, ◌%◌, true, false, List, []}
 use Rattle.std.proofs.Common.{◌∷◌, ◌++◌, Option, Some, None, IfSome, IfNone, option_map, append_assoc, arith, not, ◌==◌, take, drop, length, Bor, nat_eq}
 use Rattle.std.specs.Option.{MatchOption}
 use Rattle.std.specs.Fmt.{decimal}
@@ -131,15 +131,22 @@ no_both mark (x ∷ xs) ys h k =
     let p = and_parts (not (x == mark)) (has_no mark xs) h in
     and_from (not (x == mark)) (has_no mark (xs ++ ys)) p.0 (no_both mark xs ys p.1 k)
 
-digit_is : (mark d : ℕ) → mark < 48 → not ((48 + d) == mark) ≡ true
-digit_is mark d low = grind (arith, nat_tests)
+-- no digit is the mark
+abbrev pub IsNoDigit : ℕ → Type 0
+IsNoDigit mark = (d : ℕ) → d < 10 → not ((48 + d) == mark) ≡ true
 
-one_digit : (mark d : ℕ) → mark < 48 → has_no mark ((48 + d) ∷ []) ≡ true
-one_digit mark d low = rw (digit_is mark d low) refl
+pub low_mark : (mark : ℕ) → mark < 48 → IsNoDigit mark
+low_mark mark low d small = grind (arith, nat_tests)
 
-pub plain_decimal : (mark n : ℕ) → mark < 48 → n < 2 ^ 64 → has_no mark (decimal n) ≡ true
-plain_decimal mark n low = decimal_by_steps (λ n ds. has_no mark ds ≡ true) (λ n small. one_digit mark n low)
-    (λ n ds big so_far. no_both mark ds ((48 + n % 10) ∷ []) so_far (one_digit mark (n % 10) low)) n
+pub high_mark : (mark : ℕ) → 57 < mark → IsNoDigit mark
+high_mark mark high d small = grind (arith, nat_tests)
+
+one_digit : (mark d : ℕ) → IsNoDigit mark → d < 10 → has_no mark ((48 + d) ∷ []) ≡ true
+one_digit mark d none small = rw (none d small) refl
+
+pub plain_decimal : (mark n : ℕ) → IsNoDigit mark → n < 2 ^ 64 → has_no mark (decimal n) ≡ true
+plain_decimal mark n none = decimal_by_steps (λ n ds. has_no mark ds ≡ true) (λ n small. one_digit mark n none small)
+    (λ n ds big so_far. no_both mark ds ((48 + n % 10) ∷ []) so_far (one_digit mark (n % 10) none (omega arith))) n
 
 -- what parses as a number and what is spelled as one
 pub spells_number : (field : List ℕ) (o : Option ℕ) → IfSome o (λ n. field ≡ decimal n)
@@ -150,3 +157,53 @@ spells_number field (Some m) is none small = (
   (small, is),
   λ n within e. ap Some (decimal_injective m n small within (sym is ∙ e)),
 )
+
+-- ---- one spelling behind another
+
+abbrev pub with_before : {A B : Type 0} → A → Option (B × List ℕ) → Option ((A × B) × List ℕ)
+with_before {A} {B} a o = option_map {T = B × List ℕ} {U = (A × B) × List ℕ} (λ p. ((a, p.0), p.1)) o
+
+pub begins_both : {A B : Type 0} (May : A → Type 0) (spelling : A → List ℕ) (MayNext : B → Type 0)
+    (next : B → List ℕ) (text mid : List ℕ) (a : A) (o : Option (B × List ℕ))
+    → Begins May spelling text (Some (a, mid)) → Begins MayNext next mid o
+    → Begins (λ (p : A × B). May p.0 × MayNext p.1) (λ p. spelling p.0 ++ next p.1) text (with_before a o)
+begins_both {A} {B} May spelling MayNext next text mid a o first second = (there o second.0, only)
+  where
+    there : (u : Option (B × List ℕ)) → IfSome u (λ p. MayNext p.0 × (mid ≡ next p.0 ++ p.1))
+        → IfSome (with_before a u) (λ p. (May p.0.0 × MayNext p.0.1) × (text ≡ (spelling p.0.0 ++ next p.0.1) ++ p.1))
+    there None h = tt
+    there (Some (b, rest)) h = (
+      (first.0.0, h.0),
+      first.0.1 ∙ ap (λ t. spelling a ++ t) h.1 ∙ sym (append_assoc (spelling a) (next b) rest),
+    )
+
+    only : (p : A × B) (rest : List ℕ) → May p.0 × MayNext p.1 → text ≡ (spelling p.0 ++ next p.1) ++ rest
+        → with_before a o ≡ Some (p, rest)
+    only (x, y) rest may e =
+        let one = both_are a x mid (next y ++ rest) (first.1 x (next y ++ rest) may.0
+        (e ∙ append_assoc (spelling x) (next y) rest)) in
+        ap (with_before a) (second.1 y rest may.1 one.1) ∙ ap (λ (z : A). Some ((z, y), rest)) one.0
+
+pub begins_not_both : {A B : Type 0} (May : A → Type 0) (spelling : A → List ℕ) (MayNext : B → Type 0)
+    (next : B → List ℕ) (text : List ℕ) → Begins May spelling text None
+    → Begins (λ (p : A × B). May p.0 × MayNext p.1) (λ p. spelling p.0 ++ next p.1) text None
+begins_not_both {A} {B} May spelling MayNext next text first = (tt, only)
+  where
+    only : (p : A × B) (rest : List ℕ) → May p.0 × MayNext p.1 → text ≡ (spelling p.0 ++ next p.1) ++ rest
+        → ◌≡◌ {A = Option ((A × B) × List ℕ)} None (Some (p, rest))
+    only (x, y) rest may e = none_some (x, next y ++ rest) (first.1 x (next y ++ rest) may.0
+        (e ∙ append_assoc (spelling x) (next y) rest))
+
+-- the same, of what else may stand there and is spelled alike
+pub begins_as : {A : Type 0} (May Also : A → Type 0) (spelling other : A → List ℕ) (text : List ℕ)
+    (o : Option (A × List ℕ)) → ((a : A) → May a → Also a) → ((a : A) → Also a → May a)
+    → ((a : A) → spelling a ≡ other a) → Begins May spelling text o → Begins Also other text o
+begins_as {A} May Also spelling other text o to from same begins = (
+  there o begins.0,
+  λ a rest may e. begins.1 a rest (from a may) (e ∙ ap (λ t. t ++ rest) (sym (same a))),
+)
+  where
+    there : (u : Option (A × List ℕ)) → IfSome u (λ p. May p.0 × (text ≡ spelling p.0 ++ p.1))
+        → IfSome u (λ p. Also p.0 × (text ≡ other p.0 ++ p.1))
+    there None h = tt
+    there (Some p) h = (to p.0 h.0, h.1 ∙ ap (λ t. t ++ p.1) (same p.0))

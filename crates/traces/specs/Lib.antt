@@ -2,3 +2,5 @@ pub mod Puts
 pub mod Texts
 pub mod Reads
 pub mod Replays
+pub mod Starts
+pub mod Rests

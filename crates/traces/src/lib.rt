@@ -2,12 +2,22 @@
 #![tactic(auto)]
 
 mod budget;
+mod entries;
+mod findings;
+mod head;
+mod keeping;
 mod lines;
 mod parts;
 mod putting;
+mod replaying;
+mod starting;
+mod told;
 mod trace_error;
+mod values;
 mod writing;
 
 pub use budget::trace_budget;
+pub use findings::Replayed;
+pub use replaying::replay;
 pub use trace_error::ReplayError;
 pub use writing::write_trace;
