@@ -1,6 +1,6 @@
 -- A trace, by its head and its log.
 use Rattle.std.proofs.Common.{◌≡◌, ◌∙◌, ap, sym, refl, subst, ℕ, ◌+◌, List, ◌++◌, length, Some, None}
-use Rattle.std.proofs.Common.{append_assoc, arith}
+use Rattle.std.proofs.Common.{append_assoc, arith, Option, IfSome, IfErr, Result, Ok, Err, []}
 use Rattle.st_words.specs.Values.{Datum}
 use Rattle.st_plans.specs.Rows.{Latch}
 use Rattle.st_plans.specs.Restarts.{Start}
@@ -94,3 +94,12 @@ pub found : (plan : Plan) (life now : State) (rows done faults overruns : ℕ) (
 found plan life now rows done faults overruns values plan_is same findings =
     subst (λ (p : Plan). AreFindings p (start_of life) now.log rows done faults overruns values) plan_is
     (subst (λ (s : State). AreFindings s.plan (start_of s) now.log rows done faults overruns values) same findings)
+
+-- what is refused of a text is refused of what a reader gave
+pub read_refused : {A E : Type 0} (Q S : E → Type 0) (P : List ℕ → Type 0) (known : Option (List ℕ))
+    (before items text : List ℕ) (r : Result A E) → before ≡ [] → IfSome known (λ xs. items ≡ before ++ xs)
+    → text ≡ items → IfErr r (λ e. Q e → P text) → IfErr r (λ e. Q e → S e → IfSome known P)
+read_refused Q S P known before items text (Ok a) empty read same refused = tt
+read_refused Q S P None before items text (Err e) empty read same refused = λ q s. tt
+read_refused Q S P (Some xs) before items text (Err e) empty read same refused = λ q s.
+    subst P (same ∙ read ∙ ap (λ ys. ys ++ xs) empty) (refused q)

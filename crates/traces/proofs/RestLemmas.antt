@@ -170,7 +170,11 @@ same_activation plan past a b o u rest more apart wa wb h =
     let row : a.row ≡ b.row = Waits-same (schedules_of (plan_view plan)) past.history b.program a.row b.row
     (subst (λ (n : ℕ). Waits (schedules_of (plan_view plan)) past.history record { program = n; row = a.row }) program wa)
     wb in
-    ap (λ n. record { program = n; row = a.row }) program ∙ ap (λ k. record { program = b.program; row = k }) row
+    both a b program row
+  where
+    both : (x y : Activation) → x.program ≡ y.program → x.row ≡ y.row → x ≡ y
+    both x y programs rows =
+        ap (λ n. record { program = n; row = x.row }) programs ∙ ap (λ k. record { program = y.program; row = k }) rows
 
 -- what stands behind the line of an entry
 abbrev pub rest_text : State → Entry → Log → List ℕ

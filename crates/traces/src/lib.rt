@@ -18,6 +18,6 @@ mod writing;
 
 pub use budget::trace_budget;
 pub use findings::Replayed;
-pub use replaying::replay;
+pub use replaying::{replay, replay_text};
 pub use trace_error::ReplayError;
 pub use writing::write_trace;
