@@ -1,14 +1,12 @@
 -- What the marks of a walk over a whole text tell.
-use Rattle.std.proofs.Common.{◌≡◌, refl, sym, ap, subst, ◌∙◌, ℕ, zero, suc, ◌+◌, ◌*◌, ◌<◌, ◌≤◌, List, [], ◌∷◌, ◌++◌, map, length}
-use Rattle.std.proofs.Common.{Option, Some, None, Bool, true, false, arith, rules}
-use Rattle.std.specs.Prelude.{slice_get, nat_lt, nat_le, is_some, if◌then◌else◌}
+use Rattle.std.proofs.Common.{◌≡◌, refl, sym, ap, subst, ◌∙◌, ℕ, suc, ◌+◌, ◌*◌, ◌≤◌, List, map, length}
+use Rattle.std.proofs.Common.{Option, Some, None, Bool, true, false, arith}
+use Rattle.std.specs.Prelude.{slice_get, nat_lt, nat_le}
 use Rattle.std.proofs.lemmas.Bool.Decides.{nat_tests}
 use Rattle.std.proofs.lemmas.Option.{slice_get_within}
 use Rattle.std.proofs.lemmas.List.{length-map}
-use Rattle.st_trees.specs.declared.data_type.SimpleType.{SimpleType}
 use Rattle.st_trees.specs.declared.data_type.SimpleType.TheVariants.{Elementary, Named}
 use Rattle.st_types.specs.Scopes.{Name}
-use Rattle.st_types.specs.StandardBlocks.{block_of}
 use Rattle.st_types.specs.NameTypes.{Declared}
 use Rattle.st_statics.specs.declared.limits.TheConstants.{MAX_TYPE_DEPTH}
 use Rattle.st_statics.specs.Containment as rules_of
@@ -25,10 +23,11 @@ use Rattle.st_decl.specs.declared.depths.Seen.TheVariants as seen
 use Rattle.st_decl.specs.Graphs.{Graph}
 use Rattle.st_decl.specs.Parts.{node_parts, target_of_name, link_of}
 use Rattle.st_decl.specs.Numbered.{IsGraphOf}
-use Rattle.st_decl.specs.Walks.{cut, seen_of_mark, seen_of_target, seen_in_row, seen_of, has_depth, AllTold, is_deep, is_deep_seen}
-use Rattle.st_decl.proofs.WalkLemmas.{link_told, IsCutLink}
+use Rattle.st_decl.specs.Walks.{cut, seen_of_mark, seen_of_target, seen_in_row, seen_of, has_depth, AllTold, is_deep}
+use Rattle.st_decl.specs.Walks.{is_deep_seen}
+use Rattle.st_decl.proofs.WalkLemmas.{link_told}
 use Rattle.st_decl.proofs.GraphDepths.{part_depth}
-use Rattle.st_decl.proofs.GraphWays.{At, name_at, leads_holds}
+use Rattle.st_decl.proofs.GraphWays.{name_at, leads_holds}
 
 -- the depth of a part, and what the marks tell of it
 record IsDeepAs (text : Declared) (marks : List Mark) (l : Link) (p : Part) : Type 0 where

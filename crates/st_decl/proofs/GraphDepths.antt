@@ -1,5 +1,5 @@
 -- The depths of a graph are those of the text that it is of.
-use Rattle.std.proofs.Common.{◌≡◌, refl, sym, ap, subst, ◌∙◌, ℕ, zero, suc, ◌+◌, List, [], ◌∷◌, map, Option, Some, None}
+use Rattle.std.proofs.Common.{◌≡◌, sym, ap, subst, ◌∙◌, ℕ, suc, ◌+◌, List, [], ◌∷◌, map, Option, Some, None}
 use Rattle.std.proofs.Common.{Bool, true, false, arith, rules}
 use Rattle.std.specs.Prelude.{slice_get, max, is_some, if◌then◌else◌, option_map}
 use Rattle.std.proofs.lemmas.Option.{slice_get-map}
@@ -15,9 +15,10 @@ use Rattle.st_statics.specs.Depths.{HasDepth}
 use Rattle.st_decl.specs.declared.links.Target.{Target}
 use Rattle.st_decl.specs.declared.links.Target.TheVariants.{Plain, Standard, Node}
 use Rattle.st_decl.specs.declared.links.Link.{Link}
-use Rattle.st_decl.specs.Graphs.{Graph, links_at, links_or_none, TargetDepth, plain, standard, node, LinkDepth, straight, row}
+use Rattle.st_decl.specs.Graphs.{Graph, links_at, links_or_none, TargetDepth, plain, standard, node, LinkDepth}
+use Rattle.st_decl.specs.Graphs.{straight, row}
 use Rattle.st_decl.specs.Graphs.{Deepest, nothing, deepest}
-use Rattle.st_decl.specs.Parts.{node_names, node_parts, number_of_name, target_found, target_of_name, target_of_simple, link_of}
+use Rattle.st_decl.specs.Parts.{node_names, node_parts, number_of_name, target_found, target_of_name, link_of}
 use Rattle.st_decl.specs.Numbered.{IsGraphOf}
 use Rattle.st_decl.proofs.NodeLemmas as nodes
 use Rattle.st_decl.proofs.NodeLemmas.{Stands}

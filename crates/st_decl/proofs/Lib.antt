@@ -13,3 +13,4 @@ pub mod GraphDepths
 pub mod GraphWays
 pub mod DeepLemmas
 pub mod PlaceLemmas
+pub mod JudgeLemmas

@@ -1,14 +1,12 @@
 -- Where what contains itself is declared.
 use Rattle.std.proofs.Common.{◌≡◌, refl, sym, ap, subst, ◌∙◌, ℕ, zero, suc, ◌+◌, ◌*◌, List, [], ◌∷◌, ◌++◌, map, length}
 use Rattle.std.proofs.lemmas.List.{append_assoc}
-use Rattle.std.proofs.Common.{Option, Some, None, Bool, true, false, arith, rules}
-use Rattle.std.specs.Prelude.{slice_get, if◌then◌else◌}
+use Rattle.std.proofs.Common.{Some, None, Bool, true, arith, rules}
+use Rattle.std.specs.Prelude.{slice_get}
 use Rattle.std.specs.List.{flat_map, Contains}
 use Rattle.std.proofs.lemmas.List.Elements.{Contains-append_left, Contains-append_right}
 use Rattle.st_trees.specs.declared.unit.UnitSort.{UnitSort}
 use Rattle.st_trees.specs.declared.unit.UnitSort.TheVariants.{Function, FunctionBlock, Program}
-use Rattle.st_trees.specs.Declarations.{TypeDeclaration}
-use Rattle.st_trees.specs.Units.{OrganisationUnit}
 use Rattle.st_types.specs.Scopes.{Name}
 use Rattle.st_types.specs.NameTypes.{Declared}
 use Rattle.st_statics.specs.Faults.{in_case}
@@ -17,7 +15,6 @@ use Rattle.st_statics.specs.Containment as rules_of
 use Rattle.st_statics.specs.Containment.{is_too_deep, contains_itself, is_wrong_unit, too_deep_types, too_deep_units}
 use Rattle.st_statics.specs.Containment.{has_chain}
 use Rattle.st_statics.proofs.DepthLaws.{cycles_have_chains}
-use Rattle.st_decl.specs.Parts.{node_names}
 use Rattle.st_decl.specs.Numbered.{node_places}
 use Rattle.st_decl.proofs.GraphWays.{leads_holds, Cycles}
 
@@ -35,11 +32,11 @@ told_in : {A : Type 0} (f : A → List ℕ) (name : A → Name) (place : A → �
     → slice_get (map name xs) i ≡ Some x → slice_get (map place xs) i ≡ Some p
     → ((a : A) → name a ≡ x → f a ≡ place a ∷ []) → Contains (flat_map f xs) p
 told_in f name place [] i x p h k tells = absurd (cc)
-told_in f name place (a ∷ as) zero x p h k tells =
-    Contains-append_left (f a) (flat_map f as) p (subst (λ ys. Contains ys p) (sym (tells a (name_is h)))
+told_in f name place (a ∷ rest) zero x p h k tells =
+    Contains-append_left (f a) (flat_map f rest) p (subst (λ ys. Contains ys p) (sym (tells a (name_is h)))
     (subst (λ q. Contains (q ∷ []) p) (sym (place_is k)) (only p)))
-told_in f name place (a ∷ as) (suc i) x p h k tells =
-    Contains-append_right (f a) (flat_map f as) p (told_in f name place as i x p h k tells)
+told_in f name place (a ∷ rest) (suc i) x p h k tells =
+    Contains-append_right (f a) (flat_map f rest) p (told_in f name place rest i x p h k tells)
 
 told_in_both : {A B : Type 0} (f : A → List ℕ) (g : B → List ℕ) (name : A → Name) (other : B → Name) (place : A → ℕ)
     (stands : B → ℕ) (xs : List A) (ys : List B) (i : ℕ) (x : Name) (p : ℕ)
@@ -47,14 +44,14 @@ told_in_both : {A B : Type 0} (f : A → List ℕ) (g : B → List ℕ) (name : 
     → ((a : A) → name a ≡ x → f a ≡ place a ∷ []) → ((b : B) → other b ≡ x → g b ≡ stands b ∷ [])
     → Contains (flat_map f xs ++ flat_map g ys) p
 told_in_both f g name other place stands [] ys i x p h k tells too = told_in g other stands ys i x p h k too
-told_in_both f g name other place stands (a ∷ as) ys zero x p h k tells too =
-    Contains-append_left (f a ++ flat_map f as) (flat_map g ys) p (Contains-append_left (f a) (flat_map f as) p
+told_in_both f g name other place stands (a ∷ rest) ys zero x p h k tells too =
+    Contains-append_left (f a ++ flat_map f rest) (flat_map g ys) p (Contains-append_left (f a) (flat_map f rest) p
     (subst (λ zs. Contains zs p) (sym (tells a (name_is h)))
     (subst (λ q. Contains (q ∷ []) p) (sym (place_is k)) (only p))))
-told_in_both f g name other place stands (a ∷ as) ys (suc i) x p h k tells too =
-    subst (λ zs. Contains zs p) (sym (append_assoc (f a) (flat_map f as) (flat_map g ys)))
-    (Contains-append_right (f a) (flat_map f as ++ flat_map g ys) p
-    (told_in_both f g name other place stands as ys i x p h k tells too))
+told_in_both f g name other place stands (a ∷ rest) ys (suc i) x p h k tells too =
+    subst (λ zs. Contains zs p) (sym (append_assoc (f a) (flat_map f rest) (flat_map g ys)))
+    (Contains-append_right (f a) (flat_map f rest ++ flat_map g ys) p
+    (told_in_both f g name other place stands rest ys i x p h k tells too))
 
 deep_name : (text : Declared) (x : Name) → contains_itself text x ≡ true → is_too_deep text (rules_of.named x) ≡ true
 deep_name text x h = cycles_have_chains text (rules_of.named x) (MAX_TYPE_DEPTH + 1)
@@ -87,15 +84,15 @@ lost x h = cc
 none_of : {A : Type 0} (name : A → Name) (place : A → ℕ) (xs : List A) (i : ℕ)
     → slice_get (map place xs) i ≡ None → slice_get (map name xs) i ≡ None
 none_of name place [] i h = refl
-none_of name place (a ∷ as) zero h = absurd (cc)
-none_of name place (a ∷ as) (suc i) h = none_of name place as i h
+none_of name place (a ∷ rest) zero h = absurd (cc)
+none_of name place (a ∷ rest) (suc i) h = none_of name place rest i h
 
 none_of_both : {A B : Type 0} (name : A → Name) (other : B → Name) (place : A → ℕ) (stands : B → ℕ) (xs : List A)
     (ys : List B) (i : ℕ) → slice_get (map place xs ++ map stands ys) i ≡ None
     → slice_get (map name xs ++ map other ys) i ≡ None
 none_of_both name other place stands [] ys i h = none_of other stands ys i h
-none_of_both name other place stands (a ∷ as) ys zero h = absurd (cc)
-none_of_both name other place stands (a ∷ as) ys (suc i) h = none_of_both name other place stands as ys i h
+none_of_both name other place stands (a ∷ rest) ys zero h = absurd (cc)
+none_of_both name other place stands (a ∷ rest) ys (suc i) h = none_of_both name other place stands rest ys i h
 
 -- and it has one
 pub cycle_has_place : (text : Declared) (i : ℕ) → Cycles text i → slice_get (node_places text) i ≡ None → ⊥

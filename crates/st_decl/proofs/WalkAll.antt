@@ -1,16 +1,15 @@
 -- A walk over all types and units.
-use Rattle.std.proofs.Common.{◌≡◌, ◌≢◌, refl, sym, ap, subst, ◌∙◌, ℕ, zero, suc, ◌+◌, ◌<◌, ◌≤◌, List, [], ◌∷◌, ◌++◌, length}
-use Rattle.std.proofs.Common.{Bool, Option, Some, None, arith, rules, true, false, replicate, inl, inr, ◌⊎◌}
+use Rattle.std.proofs.Common.{◌≡◌, refl, sym, ap, subst, ◌∙◌, ℕ, zero, suc, ◌+◌, ◌<◌, ◌≤◌, List, [], ◌∷◌, length}
+use Rattle.std.proofs.Common.{Option, Some, None, arith, rules, true, false, replicate, inl, inr, ◌⊎◌}
 use Rattle.std.specs.Prelude.{slice_get}
 use Rattle.std.specs.List.{sum_by}
-use Rattle.std.proofs.lemmas.Option.{slice_get_within}
 use Rattle.std.proofs.lemmas.List.Sums.{sum_by-cons}
 use Rattle.std.proofs.lemmas.Bool.{cases_eq}
 use Rattle.st_decl.specs.declared.depths.Mark.{Mark}
 use Rattle.st_decl.specs.declared.depths.Mark.TheVariants.{Unseen, OnPath, Depth}
 use Rattle.st_decl.specs.declared.depths.Visit.{Visit}
 use Rattle.st_decl.specs.Graphs.{Graph}
-use Rattle.st_decl.specs.Walks.{Walking, Stay, has_depth, is_unseen, Ended, Walked, AllTold, on_path}
+use Rattle.st_decl.specs.Walks.{Walking, has_depth, is_unseen, Ended, Walked, AllTold, on_path}
 
 -- an element of a list of one value
 repeated : (count i : ℕ) (m : Mark) → slice_get (replicate count Unseen) i ≡ Some m → m ≡ Unseen

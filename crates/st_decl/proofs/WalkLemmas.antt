@@ -1,10 +1,10 @@
 -- What a walk over types and units knows, step by step.
-use Rattle.std.proofs.Common.{◌≡◌, refl, sym, ap, subst, ◌∙◌, ℕ, zero, suc, ◌+◌, ◌<◌, ◌≤◌, List, [], ◌∷◌, ◌++◌, take, length}
+use Rattle.std.proofs.Common.{◌≡◌, refl, sym, ap, subst, ◌∙◌, ℕ, zero, suc, ◌+◌, ◌<◌, ◌≤◌, List, [], ◌∷◌, ◌++◌, take}
+use Rattle.std.proofs.Common.{length}
 use Rattle.std.proofs.Common.{Option, Some, None, Bool, true, false, arith, rules, slice_index_or}
-use Rattle.std.specs.Prelude.{min, max, slice_get}
+use Rattle.std.specs.Prelude.{max, slice_get}
 use Rattle.std.proofs.lemmas.List.{take_more}
-use Rattle.std.proofs.lemmas.Option.{slice_get_past, slice_get_within}
-use Rattle.st_statics.specs.declared.limits.TheConstants.{MAX_TYPE_DEPTH}
+use Rattle.std.proofs.lemmas.Option.{slice_get_past}
 use Rattle.st_decl.specs.declared.links.Target.{Target}
 use Rattle.st_decl.specs.declared.links.Target.TheVariants.{Plain, Standard, Node}
 use Rattle.st_decl.specs.declared.links.Link.{Link}
@@ -12,10 +12,12 @@ use Rattle.st_decl.specs.declared.depths.Mark.{Mark}
 use Rattle.st_decl.specs.declared.depths.Mark.TheVariants.{Unseen, OnPath, Depth}
 use Rattle.st_decl.specs.declared.depths.Seen.{Seen}
 use Rattle.st_decl.specs.declared.depths.Seen.TheVariants as seen
-use Rattle.st_decl.specs.Graphs.{Graph, links_at, links_or_none, TargetDepth, plain, standard, node, LinkDepth, straight, row}
+use Rattle.st_decl.specs.Graphs.{Graph, links_at, links_or_none, TargetDepth, plain, standard, node, LinkDepth}
+use Rattle.st_decl.specs.Graphs.{straight, row}
 use Rattle.st_decl.specs.Graphs.{Deepest, nothing, deepest, Among, first, later}
-use Rattle.st_decl.specs.Walks.{cut, deeper, seen_of_mark, seen_of_target, seen_in_row, seen_of, IsCutDeepest, MarksTell}
-use Rattle.st_decl.specs.Walks.{Tells, IsOpen}
+use Rattle.st_decl.specs.Walks.{cut, deeper, seen_of_mark, seen_of_target, seen_in_row, seen_of, IsCutDeepest}
+use Rattle.st_decl.specs.Walks.{MarksTell}
+use Rattle.st_decl.specs.Walks.{IsOpen}
 
 cut_suc : (d : ℕ) → cut (suc (cut d)) ≡ cut (suc d)
 cut_suc d = omega arith

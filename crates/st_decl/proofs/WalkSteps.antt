@@ -1,14 +1,14 @@
 -- The steps of a walk keep what holds of it.
-use Rattle.std.proofs.Common.{◌≡◌, ◌≢◌, refl, sym, ap, subst, ◌∙◌, ℕ, zero, suc, ◌+◌, ◌-◌, ◌<◌, ◌≤◌, List, [], ◌∷◌, ◌++◌}
-use Rattle.std.proofs.Common.{length, set, take, Option, Some, None, arith, rules, true, false}
+use Rattle.std.proofs.Common.{◌≡◌, refl, sym, ap, subst, ◌∙◌, ℕ, zero, suc, ◌+◌, ◌-◌, ◌<◌, ◌≤◌, List, [], ◌∷◌, ◌++◌}
+use Rattle.std.proofs.Common.{length, set, Some, arith, rules}
 use Rattle.std.specs.Prelude.{slice_get, get_or}
 use Rattle.std.specs.List.{sum_by}
 use Rattle.std.proofs.lemmas.Option.{slice_get_within, slice_get-get_or}
 use Rattle.st_decl.specs.declared.depths.Mark.{Mark}
 use Rattle.st_decl.specs.declared.depths.Mark.TheVariants.{Unseen, OnPath, Depth}
 use Rattle.st_decl.specs.declared.depths.Visit.{Visit}
-use Rattle.st_decl.specs.Graphs.{Graph, links_at, Leads, Way, one, further, IsCycle, Deepest, nothing}
-use Rattle.st_decl.specs.Walks.{cut, deeper, IsCutDeepest, MarksTell, Tells, HasLooked, Walking, StandsAt, on_path, left_of}
+use Rattle.st_decl.specs.Graphs.{Graph, links_at, Leads, Way, one, further, IsCycle, nothing}
+use Rattle.st_decl.specs.Walks.{Tells, HasLooked, Walking, StandsAt, on_path}
 use Rattle.st_decl.proofs.PathLemmas.{get_end, get_front, Split, in_front, at_end, get_split, set_same, set_other}
 use Rattle.st_decl.proofs.PathLemmas.{set_length, Changed, changed, kept, get_changed, sum_changed, sum_short}
 
@@ -111,7 +111,8 @@ entered graph marks path n w last unseen = record {
       where
         unseen_not : Some Unseen ≡ Some (OnPath k) → ⊥
         unseen_not e = cc
-    marked_in k x (at_end at is) = ap (slice_get (set marks n (OnPath (length path)))) (ap (λ y. y.node) (sym is)) ∙ here
+    marked_in k x (at_end at is) = ap (slice_get (set marks n (OnPath (length path)))) (ap (λ y. y.node)
+        (sym is)) ∙ here
         ∙ ap (λ j. Some (OnPath j)) (sym at)
 
     standing_in : (i k : ℕ) → Changed marks n i (OnPath (length path)) (OnPath k)

@@ -1,18 +1,18 @@
 -- The turns of a walk from one type or unit.
-use Rattle.std.proofs.Common.{◌≡◌, ◌≢◌, refl, sym, ap, subst, ◌∙◌, ℕ, zero, suc, ◌+◌, ◌<◌, ◌≤◌, List, [], ◌∷◌, ◌++◌, length}
-use Rattle.std.proofs.Common.{set, take, Bool, Option, Some, None, arith, rules, true, false}
+use Rattle.std.proofs.Common.{◌≡◌, ◌≢◌, refl, sym, ap, subst, ◌∙◌, ℕ, zero, suc, ◌<◌, List, [], ◌∷◌, ◌++◌, length}
+use Rattle.std.proofs.Common.{set, take, Option, Some, None, arith, rules, true, false}
 use Rattle.std.specs.Prelude.{slice_get}
 use Rattle.std.specs.List.{sum_by}
 use Rattle.std.proofs.lemmas.Option.{slice_get_within}
-use Rattle.st_decl.specs.declared.links.Link.{Link}
 use Rattle.st_decl.specs.declared.depths.Mark.{Mark}
 use Rattle.st_decl.specs.declared.depths.Mark.TheVariants.{Unseen, OnPath, Depth}
 use Rattle.st_decl.specs.declared.depths.Visit.{Visit}
 use Rattle.st_decl.specs.declared.depths.Seen.TheVariants as seen
-use Rattle.st_decl.specs.Graphs.{Graph, links_at, Leads, IsCycle, Deepest}
-use Rattle.st_decl.specs.Walks.{deeper, seen_of_mark, IsCutDeepest, Tells, HasLooked, IsOpen, Walking, Stay, is_seen, has_depth}
+use Rattle.st_decl.specs.Graphs.{Graph, links_at, Leads, IsCycle}
+use Rattle.st_decl.specs.Walks.{deeper, seen_of_mark, IsCutDeepest, HasLooked, IsOpen, Walking, Stay, is_seen}
+use Rattle.st_decl.specs.Walks.{has_depth}
 use Rattle.st_decl.specs.Walks.{is_on_path, Underway, Ended, left_of}
-use Rattle.st_decl.proofs.PathLemmas.{get_end, get_front, Split, in_front, at_end, get_split, set_other, sum_changed}
+use Rattle.st_decl.proofs.PathLemmas.{get_end, Split, in_front, at_end, get_split, set_other, sum_changed}
 use Rattle.st_decl.proofs.WalkSteps.{fresh, looked_further, LastLeads, entered, left, comes_back}
 
 take_all : {A : Type 0} (xs : List A) → take (length xs) xs ≡ xs

@@ -1,5 +1,5 @@
 -- The types and units of a text with their numbers, and the graph that they make.
-use Rattle.std.specs.Prelude.{◌≡◌, ℕ, List, ◌++◌, map, Option, Bool, true, false}
+use Rattle.std.specs.Prelude.{◌≡◌, ℕ, List, ◌++◌, map, Option, false}
 use Rattle.st_types.specs.Scopes.{Name}
 use Rattle.st_types.specs.NameTypes.{Declared}
 use Rattle.st_statics.specs.Containment.{Part, is_too_deep, contains_itself}

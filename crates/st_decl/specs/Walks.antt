@@ -1,5 +1,5 @@
 -- What a walk over types and units knows.
-use Rattle.std.specs.Prelude.{◌≡◌, ℕ, zero, suc, ◌+◌, ◌≤◌, min, max, length, List, [], ◌∷◌, take, Bool, true, false}
+use Rattle.std.specs.Prelude.{◌≡◌, ℕ, suc, ◌+◌, ◌≤◌, min, length, List, [], take, Bool, true, false}
 use Rattle.std.specs.Prelude.{Option, Some, None, slice_get, nat_lt}
 use Rattle.std.specs.List.{sum_by}
 use Rattle.st_statics.specs.declared.limits.TheConstants.{MAX_TYPE_DEPTH}

@@ -168,3 +168,23 @@ fn first_deep(
     push_arrays(&mut places, numbers, marks, arrays)?;
     Ok(places.first().copied())
 }
+
+/// A place at which a type or unit contains itself or is too deep, or an array without a name is (C6).
+pub fn first_too_deep(
+    alloc: Global,
+    source: &Source,
+    arrays: &[&ArrayType],
+) -> Result<Option<usize>, AllocError>
+    requires { map (λ a. a.now) arrays.now ≡ unnamed_arrays_in (source_view source.now) }
+    ensures { IfOk result (FindsPlace (too_deep (source_view source.now))) }
+{
+    let types = types_in(alloc, source)?;
+    let units = units_in(alloc, source)?;
+    let names = TextNames::new(alloc, source)?;
+    let numbers = numbers_of(alloc, &types, &units)?;
+    let graph = links_in(alloc, &names, &numbers, &types, &units)?;
+    match depths_of(alloc, &graph)? {
+        Depths::Cycle(node) => place_of(alloc, &types, &units, node),
+        Depths::Known(marks) => first_deep(alloc, &numbers, &marks, &types, &units, arrays),
+    }
+}

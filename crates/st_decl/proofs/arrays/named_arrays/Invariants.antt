@@ -1,8 +1,10 @@
 use Rattle.std.proofs.Common.{◌≡◌, ◌++◌, map, drop}
 use Rattle.std.specs.List.{flat_map}
-use Rattle.st_statics.specs.DeclaredTypes.{array_of_definition, array_of_type, named_arrays_of_element}
+use Rattle.st_statics.specs.DeclaredTypes.{named_arrays_of_element}
 use Rattle.st_trees.specs.SourceViews.{element_view}
 use Rattle.st_decl.proofs.arrays.named_arrays.Given as goal
 
 abbrev pub invariant-loop-element : goal.invariant-loop-element
-invariant-loop-element l = map (λ a. a.now) l.arrays.items ++ flat_map named_arrays_of_element (map element_view (drop l.element-index l.source.elements.items)) ≡ flat_map named_arrays_of_element (map element_view l.source.elements.items)
+invariant-loop-element l = map (λ a. a.now) l.arrays.items
+    ++ flat_map named_arrays_of_element (map element_view (drop l.element-index l.source.elements.items))
+    ≡ flat_map named_arrays_of_element (map element_view l.source.elements.items)

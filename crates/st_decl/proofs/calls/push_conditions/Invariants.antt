@@ -1,9 +1,10 @@
 use Rattle.std.proofs.Common.{◌≡◌, ◌++◌, map, drop}
-use Rattle.std.specs.List.{flat_map}
-use Rattle.st_statics.specs.Containment.{calls_in_all, calls_in_selectors, calls_in_argument, calls_in_conditions, calls_in_statement}
-use Rattle.st_trees.specs.StatementViews.{stmt_view, stmts_view, arm_view, case_arm_view, argument_view}
-use Rattle.st_trees.specs.Statements.{arms_of, case_arms_of}
+use Rattle.st_statics.specs.Containment.{calls_in_conditions}
+use Rattle.st_trees.specs.StatementViews.{arm_view}
+use Rattle.st_trees.specs.Statements.{arms_of}
 use Rattle.st_decl.proofs.calls.push_conditions.Given as goal
 
 abbrev pub invariant-loop-arm : goal.invariant-loop-arm
-invariant-loop-arm l = map (λ x. x.now.name) l.calls.items ++ calls_in_conditions (arms_of (map arm_view (drop l.arm-index l.arms))) ≡ map (λ x. x.now.name) l.initial.calls.items ++ calls_in_conditions (arms_of (map arm_view l.arms))
+invariant-loop-arm l = map (λ x. x.now.name) l.calls.items
+    ++ calls_in_conditions (arms_of (map arm_view (drop l.arm-index l.arms)))
+    ≡ map (λ x. x.now.name) l.initial.calls.items ++ calls_in_conditions (arms_of (map arm_view l.arms))

@@ -1,9 +1,15 @@
 use Rattle.std.proofs.Common.{◌≡◌, ◌++◌, map, drop}
-use Rattle.std.specs.List.{flat_map}
 use Rattle.st_decl.specs.DeclaringViews.{declaring_view}
 use Rattle.st_statics.specs.DeclaredTypes as rules
-use Rattle.st_trees.specs.DeclarationViews.{field_view, type_declaration_view, declaration_view, variable_block_view}
+use Rattle.st_trees.specs.DeclarationViews.{declaration_view}
 use Rattle.st_decl.proofs.declarings.push_block.Given as goal
 
 abbrev pub invariant-loop-declaration : goal.invariant-loop-declaration
-invariant-loop-declaration l = map declaring_view l.declarings.items ++ map (λ d. record { role = rules.variable_of l.sort l.block.section; declared = d.declared; initial = d.initial }) (map declaration_view (drop l.declaration-index l.block.declarations.items)) ≡ map declaring_view l.initial.declarings.items ++ map (λ d. record { role = rules.variable_of l.sort l.block.section; declared = d.declared; initial = d.initial }) (map declaration_view l.block.declarations.items)
+invariant-loop-declaration l = map declaring_view l.declarings.items
+    ++ map
+    (λ d. record { role = rules.variable_of l.sort l.block.section; declared = d.declared; initial = d.initial })
+    (map declaration_view (drop l.declaration-index l.block.declarations.items))
+    ≡ map declaring_view l.initial.declarings.items
+    ++ map
+    (λ d. record { role = rules.variable_of l.sort l.block.section; declared = d.declared; initial = d.initial })
+    (map declaration_view l.block.declarations.items)

@@ -1,9 +1,12 @@
 use Rattle.std.proofs.Common.{◌≡◌, ◌++◌, map, drop}
 use Rattle.std.specs.List.{flat_map}
 use Rattle.st_decl.specs.DeclaringViews.{declaring_view}
-use Rattle.st_statics.specs.DeclaredTypes.{declarings_of_definition, declarings_of_block, declarings_of_globals, declarings_of_element}
-use Rattle.st_trees.specs.ConfigurationViews.{global_declaration_view, global_block_view}
+use Rattle.st_statics.specs.DeclaredTypes.{declarings_of_globals}
+use Rattle.st_trees.specs.ConfigurationViews.{global_block_view}
 use Rattle.st_decl.proofs.declarings.push_configuration.Given as goal
 
 abbrev pub invariant-loop-block : goal.invariant-loop-block
-invariant-loop-block l = map declaring_view l.declarings.items ++ flat_map declarings_of_globals (map global_block_view (drop l.block-index l.configuration.globals.items)) ≡ map declaring_view l.initial.declarings.items ++ flat_map declarings_of_globals (map global_block_view l.configuration.globals.items)
+invariant-loop-block l = map declaring_view l.declarings.items
+    ++ flat_map declarings_of_globals (map global_block_view (drop l.block-index l.configuration.globals.items))
+    ≡ map declaring_view l.initial.declarings.items
+    ++ flat_map declarings_of_globals (map global_block_view l.configuration.globals.items)

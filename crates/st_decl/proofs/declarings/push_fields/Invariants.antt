@@ -1,9 +1,12 @@
 use Rattle.std.proofs.Common.{◌≡◌, ◌++◌, map, drop}
-use Rattle.std.specs.List.{flat_map}
 use Rattle.st_decl.specs.DeclaringViews.{declaring_view}
 use Rattle.st_statics.specs.DeclaredTypes as rules
-use Rattle.st_trees.specs.DeclarationViews.{field_view, type_declaration_view, declaration_view, variable_block_view}
+use Rattle.st_trees.specs.DeclarationViews.{field_view}
 use Rattle.st_decl.proofs.declarings.push_fields.Given as goal
 
 abbrev pub invariant-loop-field : goal.invariant-loop-field
-invariant-loop-field l = map declaring_view l.declarings.items ++ map (λ f. record { role = rules.field; declared = f.declared; initial = f.initial }) (map field_view (drop l.field-index l.fields)) ≡ map declaring_view l.initial.declarings.items ++ map (λ f. record { role = rules.field; declared = f.declared; initial = f.initial }) (map field_view l.fields)
+invariant-loop-field l = map declaring_view l.declarings.items
+    ++ map (λ f. record { role = rules.field; declared = f.declared; initial = f.initial }) (map field_view
+    (drop l.field-index l.fields))
+    ≡ map declaring_view l.initial.declarings.items
+    ++ map (λ f. record { role = rules.field; declared = f.declared; initial = f.initial }) (map field_view l.fields)

@@ -1,9 +1,13 @@
 use Rattle.std.proofs.Common.{◌≡◌, ◌++◌, map, drop}
-use Rattle.std.specs.List.{flat_map}
 use Rattle.st_decl.specs.DeclaringViews.{declaring_view}
 use Rattle.st_statics.specs.DeclaredTypes as rules
-use Rattle.st_trees.specs.ConfigurationViews.{global_declaration_view, global_block_view}
+use Rattle.st_trees.specs.ConfigurationViews.{global_declaration_view}
 use Rattle.st_decl.proofs.declarings.push_globals.Given as goal
 
 abbrev pub invariant-loop-declaration : goal.invariant-loop-declaration
-invariant-loop-declaration l = map declaring_view l.declarings.items ++ map (λ d. record { role = rules.global; declared = d.declared; initial = d.initial }) (map global_declaration_view (drop l.declaration-index l.declarations)) ≡ map declaring_view l.initial.declarings.items ++ map (λ d. record { role = rules.global; declared = d.declared; initial = d.initial }) (map global_declaration_view l.declarations)
+invariant-loop-declaration l = map declaring_view l.declarings.items
+    ++ map (λ d. record { role = rules.global; declared = d.declared; initial = d.initial })
+    (map global_declaration_view (drop l.declaration-index l.declarations))
+    ≡ map declaring_view l.initial.declarings.items
+    ++ map (λ d. record { role = rules.global; declared = d.declared; initial = d.initial })
+    (map global_declaration_view l.declarations)

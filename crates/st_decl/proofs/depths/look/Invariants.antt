@@ -1,4 +1,4 @@
-use Rattle.std.proofs.Common.{◌≡◌, take}
+use Rattle.std.proofs.Common.{take}
 use Rattle.st_decl.specs.Graphs.{Graph}
 use Rattle.st_decl.specs.Walks.{MarksTell, HasLooked, IsCutDeepest}
 use Rattle.st_decl.proofs.depths.look.Given as goal

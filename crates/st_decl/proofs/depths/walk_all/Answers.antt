@@ -1,4 +1,4 @@
-use Rattle.std.proofs.Common.{sym, ap, subst, ◌∙◌, map, length, replicate}
+use Rattle.std.proofs.Common.{sym, ap, subst, ◌∙◌, map, replicate}
 use Rattle.std.proofs.lemmas.List.{length-map}
 use Rattle.st_decl.specs.declared.depths.Mark.TheVariants.{Unseen}
 use Rattle.st_decl.specs.Walks.{Ends}

@@ -1,11 +1,11 @@
-use Rattle.std.proofs.Common.{rules, ◌≡◌, sym, ap, subst, ◌∙◌, ◌<◌, ◌≤◌, length, map}
-use Rattle.std.specs.Prelude.{IfSome, slice_get}
+use Rattle.std.proofs.Common.{rules, sym, ap, subst, ◌∙◌, ◌<◌, ◌≤◌, length, map}
+use Rattle.std.specs.Prelude.{IfSome}
 use Rattle.std.specs.List.{sum_by}
 use Rattle.std.proofs.lemmas.Option.{slice_get_within}
 use Rattle.st_decl.specs.declared.depths.Mark.TheVariants.{Unseen}
-use Rattle.st_decl.specs.Graphs.{links_at}
 use Rattle.st_decl.specs.Walks.{HasLooked, IsOpen, Underway, left_of}
-use Rattle.st_decl.proofs.WalkTurns.{top_looked, top_within, start_turn, close_turn, close_smaller, open_unseen, push_turn}
+use Rattle.st_decl.proofs.WalkTurns.{top_looked, top_within, start_turn, close_turn, close_smaller, open_unseen}
+use Rattle.st_decl.proofs.WalkTurns.{push_turn}
 use Rattle.st_decl.proofs.WalkTurns.{push_smaller, cycle_turn, end_turn}
 use Rattle.st_decl.proofs.depths.walk_from.Goals as goal
 

@@ -1,7 +1,8 @@
 use Rattle.std.proofs.Common.{◌≡◌, ◌++◌, map, drop}
-use Rattle.std.specs.List.{flat_map}
-use Rattle.st_trees.specs.DeclarationViews.{field_view, type_declaration_view, declaration_view, variable_block_view}
+use Rattle.st_trees.specs.DeclarationViews.{type_declaration_view}
 use Rattle.st_decl.proofs.elements.push_types.Given as goal
 
 abbrev pub invariant-loop-declaration : goal.invariant-loop-declaration
-invariant-loop-declaration l = map (λ t. type_declaration_view t.now) l.types.items ++ map type_declaration_view (drop l.declaration-index l.declared) ≡ map (λ t. type_declaration_view t.now) l.initial.types.items ++ map type_declaration_view l.declared
+invariant-loop-declaration l = map (λ t. type_declaration_view t.now) l.types.items
+    ++ map type_declaration_view (drop l.declaration-index l.declared)
+    ≡ map (λ t. type_declaration_view t.now) l.initial.types.items ++ map type_declaration_view l.declared

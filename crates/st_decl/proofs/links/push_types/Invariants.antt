@@ -1,10 +1,14 @@
 use Rattle.std.proofs.Common.{◌≡◌, ◌++◌, map, drop}
-use Rattle.std.specs.List.{flat_map}
-use Rattle.st_decl.specs.Parts.{part_view, link_of}
+use Rattle.st_decl.specs.Parts.{link_of}
 use Rattle.st_names.specs.Found.{found}
-use Rattle.st_statics.specs.Containment.{part_of_type, parts_of_block, is_function, parts_of_definition, parts_of_unit}
-use Rattle.st_trees.specs.DeclarationViews.{field_view, type_declaration_view, declaration_view, variable_block_view}
+use Rattle.st_statics.specs.Containment.{parts_of_definition}
+use Rattle.st_trees.specs.DeclarationViews.{type_declaration_view}
 use Rattle.st_decl.proofs.links.push_types.Given as goal
 
 abbrev pub invariant-loop-declaration : goal.invariant-loop-declaration
-invariant-loop-declaration l = map (λ n. n.items) l.nodes.items ++ map (map (link_of (found l.numbers))) (map (λ t. parts_of_definition t.definition) (map (λ t. type_declaration_view t.now) (drop l.declaration-index l.types))) ≡ map (λ n. n.items) l.initial.nodes.items ++ map (map (link_of (found l.numbers))) (map (λ t. parts_of_definition t.definition) (map (λ t. type_declaration_view t.now) l.types))
+invariant-loop-declaration l = map (λ n. n.items) l.nodes.items
+    ++ map (map (link_of (found l.numbers))) (map (λ t. parts_of_definition t.definition) (map
+    (λ t. type_declaration_view t.now) (drop l.declaration-index l.types)))
+    ≡ map (λ n. n.items) l.initial.nodes.items
+    ++ map (map (link_of (found l.numbers))) (map (λ t. parts_of_definition t.definition) (map
+    (λ t. type_declaration_view t.now) l.types))

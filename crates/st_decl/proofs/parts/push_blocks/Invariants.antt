@@ -1,9 +1,11 @@
 use Rattle.std.proofs.Common.{◌≡◌, ◌++◌, map, drop}
 use Rattle.std.specs.List.{flat_map}
-use Rattle.st_decl.specs.Parts.{part_view, link_of}
-use Rattle.st_statics.specs.Containment.{part_of_type, parts_of_block, is_function, parts_of_definition, parts_of_unit}
-use Rattle.st_trees.specs.DeclarationViews.{field_view, type_declaration_view, declaration_view, variable_block_view}
+use Rattle.st_decl.specs.Parts.{part_view}
+use Rattle.st_statics.specs.Containment.{parts_of_block}
+use Rattle.st_trees.specs.DeclarationViews.{variable_block_view}
 use Rattle.st_decl.proofs.parts.push_blocks.Given as goal
 
 abbrev pub invariant-loop-block : goal.invariant-loop-block
-invariant-loop-block l = map part_view l.parts.items ++ flat_map parts_of_block (map variable_block_view (drop l.block-index l.blocks)) ≡ map part_view l.initial.parts.items ++ flat_map parts_of_block (map variable_block_view l.blocks)
+invariant-loop-block l = map part_view l.parts.items
+    ++ flat_map parts_of_block (map variable_block_view (drop l.block-index l.blocks))
+    ≡ map part_view l.initial.parts.items ++ flat_map parts_of_block (map variable_block_view l.blocks)

@@ -1,9 +1,10 @@
 use Rattle.std.proofs.Common.{◌≡◌, ◌++◌, map, drop}
-use Rattle.std.specs.List.{flat_map}
-use Rattle.st_decl.specs.Parts.{part_view, link_of}
-use Rattle.st_statics.specs.Containment.{part_of_type, parts_of_block, is_function, parts_of_definition, parts_of_unit}
-use Rattle.st_trees.specs.DeclarationViews.{field_view, type_declaration_view, declaration_view, variable_block_view}
+use Rattle.st_decl.specs.Parts.{part_view}
+use Rattle.st_statics.specs.Containment.{part_of_type}
+use Rattle.st_trees.specs.DeclarationViews.{field_view}
 use Rattle.st_decl.proofs.parts.push_fields.Given as goal
 
 abbrev pub invariant-loop-field : goal.invariant-loop-field
-invariant-loop-field l = map part_view l.parts.items ++ map (λ f. part_of_type f.declared) (map field_view (drop l.field-index l.fields)) ≡ map part_view l.initial.parts.items ++ map (λ f. part_of_type f.declared) (map field_view l.fields)
+invariant-loop-field l = map part_view l.parts.items
+    ++ map (λ f. part_of_type f.declared) (map field_view (drop l.field-index l.fields))
+    ≡ map part_view l.initial.parts.items ++ map (λ f. part_of_type f.declared) (map field_view l.fields)

@@ -1,9 +1,12 @@
 use Rattle.std.proofs.Common.{◌≡◌, ◌++◌, map, drop}
-use Rattle.std.specs.List.{flat_map}
-use Rattle.st_decl.specs.Parts.{part_view, link_of}
-use Rattle.st_statics.specs.Containment.{part_of_type, parts_of_block, is_function, parts_of_definition, parts_of_unit}
-use Rattle.st_trees.specs.DeclarationViews.{field_view, type_declaration_view, declaration_view, variable_block_view}
+use Rattle.st_decl.specs.Parts.{part_view}
+use Rattle.st_statics.specs.Containment.{part_of_type}
+use Rattle.st_trees.specs.DeclarationViews.{declaration_view}
 use Rattle.st_decl.proofs.parts.push_variables.Given as goal
 
 abbrev pub invariant-loop-declaration : goal.invariant-loop-declaration
-invariant-loop-declaration l = map part_view l.parts.items ++ map (λ d. part_of_type d.declared) (map declaration_view (drop l.declaration-index l.block.declarations.items)) ≡ map part_view l.initial.parts.items ++ map (λ d. part_of_type d.declared) (map declaration_view l.block.declarations.items)
+invariant-loop-declaration l = map part_view l.parts.items
+    ++ map (λ d. part_of_type d.declared) (map declaration_view
+    (drop l.declaration-index l.block.declarations.items))
+    ≡ map part_view l.initial.parts.items
+    ++ map (λ d. part_of_type d.declared) (map declaration_view l.block.declarations.items)

@@ -1,4 +1,4 @@
-use Rattle.std.proofs.Common.{rules, ap, ◌∙◌, ◌++◌, map}
+use Rattle.std.proofs.Common.{rules, ◌++◌, map}
 use Rattle.std.specs.List.{flat_map}
 use Rattle.st_trees.specs.ConfigurationViews.{global_block_view}
 use Rattle.st_statics.specs.TypeRules.{retained_address}

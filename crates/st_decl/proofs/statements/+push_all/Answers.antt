@@ -1,4 +1,4 @@
-use Rattle.std.proofs.Common.{rules, ap, ◌∙◌, ◌++◌, map}
+use Rattle.std.proofs.Common.{rules, map}
 use Rattle.st_trees.specs.Statements.{arms_of, case_arms_of}
 use Rattle.st_trees.specs.StatementViews.{stmt_view, stmts_view, arm_view, case_arm_view}
 use Rattle.st_decl.specs.Flattened.{all_below, all_in, all_in_arms, all_in_case_arms}

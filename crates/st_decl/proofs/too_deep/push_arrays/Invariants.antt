@@ -1,12 +1,12 @@
 use Rattle.std.proofs.Common.{◌≡◌, ◌++◌, map, drop}
 use Rattle.std.specs.List.{flat_map}
 use Rattle.st_types.specs.NameTypes.{Declared}
-use Rattle.st_statics.specs.Faults.{in_case}
-use Rattle.st_statics.specs.Containment as rules
-use Rattle.st_statics.specs.Containment.{is_too_deep, is_wrong_unit, too_deep_array}
+use Rattle.st_statics.specs.Containment.{too_deep_array}
 use Rattle.st_names.specs.Found.{found}
 use Rattle.st_decl.specs.Numbered.{AreJudged}
 use Rattle.st_decl.proofs.too_deep.push_arrays.Given as goal
 
 abbrev pub invariant-loop-array : goal.invariant-loop-array
-invariant-loop-array l = (text : Declared) → AreJudged text (found l.numbers) l.marks → l.places.items ++ flat_map (too_deep_array text) (map (λ a. a.now) (drop l.array-index l.arrays)) ≡ l.initial.places.items ++ flat_map (too_deep_array text) (map (λ a. a.now) l.arrays)
+invariant-loop-array l = (text : Declared) → AreJudged text (found l.numbers) l.marks → l.places.items
+    ++ flat_map (too_deep_array text) (map (λ a. a.now) (drop l.array-index l.arrays))
+    ≡ l.initial.places.items ++ flat_map (too_deep_array text) (map (λ a. a.now) l.arrays)

@@ -1,7 +1,8 @@
 use Rattle.std.proofs.Common.{◌≡◌, ◌++◌, map, drop}
-use Rattle.std.specs.List.{flat_map}
-use Rattle.st_trees.specs.DeclarationViews.{field_view, type_declaration_view, declaration_view, variable_block_view}
+use Rattle.st_trees.specs.DeclarationViews.{type_declaration_view}
 use Rattle.st_decl.proofs.too_deep.push_type_places.Given as goal
 
 abbrev pub invariant-loop-declaration : goal.invariant-loop-declaration
-invariant-loop-declaration l = l.places.items ++ map (λ t. t.name.place) (map (λ t. type_declaration_view t.now) (drop l.declaration-index l.types)) ≡ l.initial.places.items ++ map (λ t. t.name.place) (map (λ t. type_declaration_view t.now) l.types)
+invariant-loop-declaration l = l.places.items
+    ++ map (λ t. t.name.place) (map (λ t. type_declaration_view t.now) (drop l.declaration-index l.types))
+    ≡ l.initial.places.items ++ map (λ t. t.name.place) (map (λ t. type_declaration_view t.now) l.types)

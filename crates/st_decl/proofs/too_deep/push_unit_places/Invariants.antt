@@ -1,7 +1,8 @@
 use Rattle.std.proofs.Common.{◌≡◌, ◌++◌, map, drop}
-use Rattle.std.specs.List.{flat_map}
 use Rattle.st_trees.specs.UnitViews.{unit_view}
 use Rattle.st_decl.proofs.too_deep.push_unit_places.Given as goal
 
 abbrev pub invariant-loop-unit : goal.invariant-loop-unit
-invariant-loop-unit l = l.places.items ++ map (λ u. u.name.place) (map (λ u. unit_view u.now) (drop l.unit-index l.units)) ≡ l.initial.places.items ++ map (λ u. u.name.place) (map (λ u. unit_view u.now) l.units)
+invariant-loop-unit l = l.places.items
+    ++ map (λ u. u.name.place) (map (λ u. unit_view u.now) (drop l.unit-index l.units))
+    ≡ l.initial.places.items ++ map (λ u. u.name.place) (map (λ u. unit_view u.now) l.units)
