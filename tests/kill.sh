@@ -88,7 +88,8 @@ strike() {
         [ $((SECONDS - started)) -lt $limit ] || fail "only $counted of $kills kills at pace $pace in $limit seconds"
         rows $((life * 10000000)) "$count" > plant.csv
         before=$known
-        live "$pace" warm &
+        # No function: its process would be killed, and not the program.
+        "$plant" run counters.st --plant plant.csv --store store --start warm --pace "$pace" > report 2> fault &
         pid=$!
         sleep "$(awk -v ms=$((RANDOM * whole / 32768)) 'BEGIN { printf "%.3f", ms / 1000 }')"
         kill -9 $pid 2> killing || true
