@@ -6,6 +6,7 @@
 set -euo pipefail
 
 plant=$(realpath "$1")
+bench=$(realpath "$(dirname "$0")")
 text=$(realpath "$(dirname "$0")/../tests/texts/counter.st")
 work=$(mktemp -d -p "${2:-/tmp}")
 trap 'rm -rf "$work"' EXIT
@@ -26,17 +27,5 @@ echo "start-up, 100 times 'plant check': $(milliseconds bash -c "for i in {1..10
 /usr/bin/time -f 'plant run, 10,000 rows: %e s, %M KiB' "$plant" run n.st --plant rows.csv --store store --start cold > told
 /usr/bin/time -f 'plant run, pace free: %e s, %M KiB' "$plant" run n.st --plant rows.csv --store store --start cold --pace free > told
 for mode in DELETE WAL; do
-    cat > sqlite.py <<END
-import sqlite3
-db = sqlite3.connect("$mode.db", isolation_level=None)
-db.execute("PRAGMA journal_mode=$mode")
-db.execute("PRAGMA synchronous=FULL")
-db.execute("CREATE TABLE kept (name TEXT PRIMARY KEY, value INTEGER)")
-db.execute("INSERT INTO kept VALUES ('N', 0)")
-for _ in range(10000):
-    db.execute("BEGIN IMMEDIATE")
-    db.execute("UPDATE kept SET value = value + 1 WHERE name = 'N'")
-    db.execute("COMMIT")
-END
-    /usr/bin/time -f "SQLite, 10,000 transactions, journal_mode=$mode: %e s, %M KiB" python3 sqlite.py > told
+    /usr/bin/time -f "SQLite, 10,000 transactions, journal_mode=$mode: %e s, %M KiB" "$bench/sqlite.py" $mode 10000 > told
 done

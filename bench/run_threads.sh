@@ -7,6 +7,7 @@
 set -euo pipefail
 
 plant=$(realpath "$1")
+bench=$(realpath "$(dirname "$0")")
 work=$(mktemp -d -p "${2:-/tmp}")
 trap 'rm -rf "$work"' EXIT
 cd "$work"
@@ -60,18 +61,6 @@ for pace in settle free; do
 done
 
 for mode in DELETE WAL; do
-    cat > sqlite.py <<END
-import sqlite3
-db = sqlite3.connect("$mode.db", isolation_level=None)
-db.execute("PRAGMA journal_mode=$mode")
-db.execute("PRAGMA synchronous=FULL")
-db.execute("CREATE TABLE kept (name TEXT PRIMARY KEY, value INTEGER)")
-db.execute("INSERT INTO kept VALUES ('N', 0)")
-for _ in range(4000):
-    db.execute("BEGIN IMMEDIATE")
-    db.execute("UPDATE kept SET value = value + 1 WHERE name = 'N'")
-    db.execute("COMMIT")
-END
-    milliseconds python3 sqlite.py
+    milliseconds "$bench/sqlite.py" $mode 4000
     printf '%-28s %9s %9s %12s\n' "SQLite, $mode" 4000 $took $((4000 * 1000 / took))
 done
