@@ -70,6 +70,9 @@ def record(generation, layout, values):
     return whole(b"\xa5" + generation.to_bytes(8, "big") + len(body).to_bytes(4, "big") + body)
 
 
+# the rows of the run whose trace is changed
+TRACED = "t\n0\n10\n20\n"
+
 # retain files in words, each with the start that meets it
 STORES = {
     "`head -c 262145 /dev/zero > f`": (bytes(FILE_BYTES + 1), "warm"),
@@ -132,6 +135,20 @@ class Program:
                 pathlib.Path("plant.csv").write_text(rows)
                 self.answers(answer, 3, self.run(plant="plant.csv"))
 
+    def trace(self, example, answer):
+        command = re.fullmatch(r"`plant (.*)`", example)
+        if command:
+            return self.answers(answer, 3, shlex.split(command[1]))
+        new, old = re.fullmatch(r"`(.*)` for `(.*)`", example).groups()
+        pathlib.Path("traced.csv").write_text(TRACED)
+        words = [*self.run(plant="traced.csv", store="traced"), "--trace", "trace.txt"]
+        subprocess.run([self.program, *words], check=True, capture_output=True, timeout=60)
+        lines = pathlib.Path("trace.txt").read_text().splitlines(keepends=True)
+        if lines.count(f"{old}\n") != 1:
+            fail(f"`{old}` stands {lines.count(old)} times in the trace")
+        pathlib.Path("changed.txt").write_text("".join(lines).replace(f"{old}\n", f"{new}\n"))
+        self.answers(answer, 3, ["replay", "s.st", "--plant", "traced.csv", "--trace", "changed.txt"])
+
     def store(self, example, answer):
         stores = re.findall(r"`--store (\S+)`", example)
         for store in stores:
@@ -161,6 +178,8 @@ def main():
             program.source(example, answer.strip("`"))
         for code, _meaning, example in rows_of(page, "The plant: status 3"):
             program.plant(example, code)
+        for code, _meaning, example in rows_of(page, "The trace: status 3"):
+            program.trace(example, code)
         for code, _meaning, example in rows_of(page, "The start: status 4"):
             program.store(example, code)
         os.chdir(ROOT)

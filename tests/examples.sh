@@ -1,5 +1,6 @@
 #!/usr/bin/env bash
-# Runs each example by its commands over a new retain file, the cold one first, and compares its reports.
+# Runs each example by its commands over a new retain file, the cold one first, and compares its reports. Each run writes a trace, which is run
+# again by one thread and has to tell the same.
 #
 # usage: tests/examples.sh PLANT     PLANT is the built program
 set -euo pipefail
@@ -9,18 +10,26 @@ examples=$(realpath "$(dirname "$0")/../examples")
 work=$(mktemp -d)
 trap 'rm -rf "$work"' EXIT
 
+# again WORDS: runs the trace of the run of these words again
+again() {
+    [ "$1 $3" = "run --plant" ] || { echo "examples.sh: no source and plant in: $*" >&2; exit 1; }
+    "$plant" replay "$2" --plant "$4" --trace trace
+}
+
 count=0
 for example in "$examples"/*/; do
     cp -r "$example" "$work/now"
     cd "$work/now"
     for command in *.command; do
-        # shellcheck disable=SC2046 # a command is words without blanks
-        "$plant" $(cat "$command") > told
+        read -ra words < "$command"
+        "$plant" "${words[@]}" --trace trace > told
         diff "${command%.command}.report" told || { echo "examples.sh: $example tells something else" >&2; exit 1; }
+        again "${words[@]}" > retold
+        diff <(sed '/^acked /d' told) retold || { echo "examples.sh: the replay of $example tells something else" >&2; exit 1; }
         count=$((count + 1))
     done
     cd "$work"
     rm -r "$work/now"
 done
 [ "$count" -ge 4 ] || { echo "examples.sh: only $count runs" >&2; exit 1; }
-echo "examples.sh: $count runs as they should be"
+echo "examples.sh: $count runs and their replays as they should be"

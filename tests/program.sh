@@ -125,7 +125,6 @@ scene "no source" 2 "" "fault X1" check none.st
 scene "no ticks" 2 "" "fault G7" $(run word.st rows.csv made cold) --budget 0
 scene "one tick too many" 2 "" "fault G7" $(run s.st rows.csv made cold) --budget 1000001
 scene "a refused source" 2 "" "fault L3 at 0" $(run word.st rows.csv made cold)
-scene "a trace, which this version doesn't write" 1 "" "this version of plant can't do this yet" $(run s.st rows.csv made cold) --trace made.txt
 scene "no plant" 3 "" "fault I5" $(run s.st nowhere.csv made cold)
 scene "a folder for a plant" 3 "" "fault I5" $(run s.st . made cold)
 printf 't\n5\n5\n' > twice.csv
@@ -143,13 +142,16 @@ for words in hot "cold --budget x" "cold --budget=" "cold --budget +5" "cold --b
     wrong run s.st --plant rows.csv --store made --start $words
 done
 wrong run s.st --plant rows.csv --store made --start cold --budget " 5"
+wrong replay s.st --plant rows.csv --trace
 jobless() {
     refused "the words $*" 1 "$@"
     grep -q 'Usage: plant' err || fail "the words $*: told $(cat err)"
     ! grep -q 'invalid value' err || fail "the words $*: told $(cat err)"
 }
 jobless
-for words in fly "first s.st" check "check s.st t.st" "run s.st" "run s.st --plant p --store made" "replay s.st --plant p" "replay s.st --trace t"; do
+for words in fly "first s.st" check "check s.st t.st" "run s.st" "run s.st --plant p --store made" replay "replay s.st" "replay s.st --plant p" \
+    "replay s.st --trace t" "replay --plant p --trace t" "replay s.st --plant p --trace t u" \
+    "replay s.st --plant p --trace t --store made"; do
     jobless $words
 done
 [ ! -e made ] || fail "a refused run has made a retain file"
@@ -218,10 +220,10 @@ full 5 first
 full 5 --help
 full 1 fly
 
-# The order of work: a trace, then the source, then the plant, then the retain file.
+# The order of work: a trace and its budget, then the source, then the plant, then the retain file.
 printf 'PROGRAM p END_PROGRAM' > good.st
 printf 'a(*b' > open.st
-printf 'trace 1\n' > t.txt
+printf 'trace 1\nbudget 10000\n' > t.txt
 first_told() {
     scene "check of $1" 2 "" "$2" check "$1"
     scene "run of $1" 2 "" "$2" $(run "$1" nowhere.csv made cold)
@@ -234,6 +236,33 @@ first_told open.st "fault L4 at 1"
 first_told good.st "fault G2"
 scene "no trace" 3 "" "fault V6" replay none.st --plant none.csv --trace none.txt
 scene "a folder for a trace" 3 "" "fault V6" replay none.st --plant none.csv --trace .
+scene "no plant for a trace" 3 "" "fault I5" replay s.st --plant nowhere.csv --trace t.txt
+scene "a wrong plant for a trace" 3 "" "fault I3" replay s.st --plant twice.csv --trace t.txt
+scene "a trace without its lines, once all else is there" 3 "" "fault V1" replay s.st --plant rows.csv --trace t.txt
+# headless NAME FORMAT: what begins so tells no budget, which is told before a source that isn't there
+headless() {
+    # shellcheck disable=SC2059 # the text is the format
+    printf "$2" > headless.txt
+    scene "a trace with $1" 3 "" "fault V1" replay none.st --plant none.csv --trace headless.txt
+}
+headless "no byte" ''
+headless "one line" 'trace 1\n'
+headless "another number" 'trace 2\nbudget 1\n'
+headless "another word" 'Trace 1\nbudget 1\n'
+headless "no budget" 'trace 1\nstart cold\n'
+headless "a budget that does not end" 'trace 1\nbudget 1'
+headless "a budget of no tick" 'trace 1\nbudget 0\n'
+headless "a budget past its limit" 'trace 1\nbudget 1000001\n'
+headless "a budget past 64 bits" 'trace 1\nbudget 18446744073709551617\n'
+headless "a budget of no digit" 'trace 1\nbudget \n'
+headless "a budget with a zero before it" 'trace 1\nbudget 01\n'
+headless "a budget with a sign" 'trace 1\nbudget +1\n'
+headless "two spaces" 'trace 1\nbudget  1\n'
+headless "a CR" 'trace 1\r\nbudget 1\r\n'
+for ticks in 1 1000000; do
+    printf 'trace 1\nbudget %s\n' "$ticks" > ticks.txt
+    scene "a trace of $ticks ticks" 2 "" "fault X1" replay none.st --plant none.csv --trace ticks.txt
+done
 
 # A retain file is no other file of the run, by whatever name, and nothing is opened then.
 cp s.st own.st
@@ -250,6 +279,163 @@ for name in ./own.st link.st hard.csv "$work/own.csv"; do
 done
 cmp -s s.st own.st && cmp -s rows.csv own.csv || fail "a refused run has changed its source or its plant"
 
+# A trace of three rows, byte for byte. It is run again to the report of its run, without what is acknowledged.
+replay() {
+    echo replay "$1" --plant "$2" --trace "$3"
+}
+replayed() {
+    printf 'rows %s\ndone %s\nfaults %s\noverruns %s\n' "$1" "$2" "$3" "$4"
+    shift 4
+    printf '%s\n' "$@"
+}
+# tells NAME FILE: the file has the bytes of the standard input
+tells() {
+    cmp -s "$2" - || fail "$1: the trace is $(cat "$2")"
+    scenes=$((scenes + 1))
+}
+scene "a run with a trace" 0 "$(report 3 3 0 0 6 'N = 3')" "" $(run s.st rows.csv traced cold) --trace trace.txt
+tells "a run with a trace" trace.txt <<'END'
+trace 1
+budget 10000
+start cold
+moment none
+keep N 0
+row 0
+done R0/P0 0 ok
+row 10
+done R0/P0 1 ok
+row 20
+done R0/P0 2 ok
+end 6
+END
+scene "its replay" 0 "$(replayed 3 3 0 0 'N = 3')" "" $(replay s.st rows.csv trace.txt)
+scene "its replay, the words in another order" 0 "$(replayed 3 3 0 0 'N = 3')" "" replay --trace trace.txt --plant rows.csv s.st
+printf 't\n0\n10\n20\n30\n' > more.csv
+printf 't\n0\n10\n' > fewer.csv
+scene "its replay with a row more in the plant" 0 "$(replayed 3 3 0 0 'N = 3')" "" $(replay s.st more.csv trace.txt)
+scene "its replay with a row less in the plant" 3 "" "fault V2" $(replay s.st fewer.csv trace.txt)
+scene "its replay without a row in the plant" 3 "" "fault V2" $(replay s.st none.csv trace.txt)
+scene "its replay with another text" 0 "$(replayed 3 3 0 0 'N = 3')" "" $(replay dint.st rows.csv trace.txt)
+scene "its replay with a text of another layout" 0 "$(replayed 3 3 0 0 'N = 3' 'K = 10')" "" $(replay both.st rows.csv trace.txt)
+
+# changed NAME COMMAND ANSWER: the trace with one change is refused so
+changed() {
+    sed "$2" trace.txt > changed.txt
+    cmp -s trace.txt changed.txt && fail "$1: nothing was changed"
+    scene "a trace with $1" 3 "" "fault $3" $(replay s.st rows.csv changed.txt)
+}
+changed "another moment" 's/^row 10$/row 11/' V2
+changed "the row before in an execution" 's/^done R0.P0 1 ok$/done R0\/P0 0 ok/' V3
+changed "another outcome" '0,/ok/s/ok/F1/' V4
+changed "one entry less at its end" 's/^end 6$/end 5/' V1
+changed "no ticks" 's/^budget 10000$/budget 0/' V1
+# The head.
+changed "an empty line in front" '1i\\' V1
+changed "another number of its format" '1s/1/2/' V1
+changed "another start" 's/^start cold$/start hot/' V1
+changed "no start" '/^start/d' V1
+changed "a cold start with a moment" 's/^moment none$/moment 5/' V1
+changed "a moment past its limit" 's/^start cold$/start warm/; s/^moment none$/moment 4611686018427387904/' V1
+changed "a moment with a zero before it" 's/^start cold$/start warm/; s/^moment none$/moment 05/' V1
+changed "a warm start from a moment that the first row is not later than" 's/^start cold$/start warm/; s/^moment none$/moment 0/' V2
+changed "a cold start with a value that is not initial" 's/^keep N 0$/keep N 1/' V1
+changed "no value" '/^keep/d' V1
+changed "a value twice" 's/^keep N 0$/&\n&/' V1
+changed "a value of another variable" 's/^keep N 0$/keep M 0/' V1
+changed "a name in small letters" 's/^keep N 0$/keep n 0/' V1
+changed "a value outside its type" 's/^start cold$/start warm/; s/^keep N 0$/keep N 32768/' V1
+changed "a value with a zero before it" 's/^keep N 0$/keep N 00/' V1
+changed "a value of minus zero" 's/^keep N 0$/keep N -0/' V1
+changed "its lines in another order" '/^keep/d; s/^moment none$/keep N 0\n&/' V1
+# Rows and executions.
+changed "a moment of a row with a zero before it" 's/^row 10$/row 010/' V1
+changed "a moment of a row past its limit" 's/^row 20$/row 4611686018427387904/' V1
+changed "a row without a moment" 's/^row 10$/row/' V1
+changed "a row twice" 's/^row 20$/&\n&/' V2
+changed "a row of the plant left out" '/^row 10$/d; /P0 1/d; s/^end 6$/end 4/' V2
+changed "rows in another order" 's/^row 10$/row x/; s/^row 20$/row 10/; s/^row x$/row 20/' V2
+changed "an execution twice" 's/^done R0.P0 1 ok$/&\n&/' V3
+changed "an execution before its row" '/^row 0$/d; s/^done R0.P0 0 ok$/&\nrow 0/' V3
+changed "an execution of a row that comes later" 's/^done R0.P0 0 ok$/done R0\/P0 2 ok/' V3
+changed "an execution of no row" 's/^done R0.P0 2 ok$/done R0\/P0 7 ok/' V3
+changed "a row number with a zero before it" 's/^done R0.P0 1 ok$/done R0\/P0 01 ok/' V1
+changed "an execution of no program" 's/^done R0.P0 1 ok$/done R0\/P1 1 ok/' V1
+changed "an execution on no resource" 's/^done R0.P0 1 ok$/done R1\/P0 1 ok/' V1
+changed "a program in small letters" 's/^done R0.P0 1 ok$/done r0\/p0 1 ok/' V1
+changed "a fault without a number" 's/^done R0.P0 1 ok$/done R0\/P0 1 F/' V1
+changed "a fault of no number" 's/^done R0.P0 1 ok$/done R0\/P0 1 F7/' V1
+changed "no outcome" 's/^done R0.P0 1 ok$/done R0\/P0 1/' V1
+for fault in F2 F3 F4 F5 F6; do changed "the outcome $fault" "s/^done R0.P0 1 ok\$/done R0\/P0 1 $fault/" V4; done
+changed "an execution left out" '/^done R0.P0 2 ok$/d' V1
+changed "an execution left out, which is then an overrun, and the next of another row" '/^done R0.P0 1 ok$/d' V3
+changed "a word of no entry" 's/^row 10$/rows 10/' V1
+changed "a space behind a line" 's/^row 10$/& /' V1
+changed "a CR behind a line" 's/^row 10$/&\r/' V1
+changed "an empty line" 's/^row 10$/&\n/' V1
+changed "a byte that isn't ASCII" 's/^row 10$/row \xC310/' V1
+# Its end.
+changed "one entry more at its end" 's/^end 6$/end 7/' V1
+changed "a zero before the number of its entries" 's/^end 6$/end 06/' V1
+changed "no end" '/^end/d' V1
+changed "its end twice" 's/^end 6$/&\n&/' V1
+changed "an entry behind its end" 's/^end 6$/&\nrow 30/' V1
+head -c -1 trace.txt > changed.txt
+scene "a trace without its last LF" 3 "" "fault V1" $(replay s.st rows.csv changed.txt)
+{ cat trace.txt; printf '\n'; } > changed.txt
+scene "a trace with an LF more" 3 "" "fault V1" $(replay s.st rows.csv changed.txt)
+# What is another trace, and no wrong one.
+sed 's/^budget 10000$/budget 1/' trace.txt > changed.txt
+scene "a trace with other ticks" 0 "$(replayed 3 3 0 0 'N = 3')" "" $(replay s.st rows.csv changed.txt)
+sed 's/^start cold$/start warm/; s/^keep N 0$/keep N 7/' trace.txt > changed.txt
+scene "a trace of a warm start without a record" 0 "$(replayed 3 3 0 0 'N = 10')" "" $(replay s.st rows.csv changed.txt)
+sed '/ 2 ok$/d; s/^end 6$/end 5/' trace.txt > changed.txt
+scene "a trace that ends before its last execution" 0 "$(replayed 3 2 0 0 'N = 2')" "" $(replay s.st rows.csv changed.txt)
+sed '/ 1 ok$/d; /^row 20$/d; /^done .* 2 /d; s/^end 6$/row 20\ndone R0\/P0 1 ok\nend 5/' trace.txt > changed.txt
+scene "a trace with an overrun" 0 "$(replayed 3 2 0 1 'N = 2')" "" $(replay s.st rows.csv changed.txt)
+sed '5q' trace.txt > changed.txt
+echo "end 0" >> changed.txt
+scene "a trace of no entry" 0 "$(replayed 0 0 0 0 'N = 0')" "" $(replay s.st rows.csv changed.txt)
+
+# A warm life, with its moment and with what is not retained.
+scene "a cold life of two globals" 0 "$(report 3 3 0 0 6 'N = 3' 'K = 10')" "" $(run both.st rows.csv warmed cold)
+scene "a warm life with a trace" 0 "$(report 1 1 0 0 2 'N = 4' 'K = 8')" "" $(run both.st next.csv warmed warm) --trace warm.txt
+tells "a warm life with a trace" warm.txt <<'END'
+trace 1
+budget 10000
+start warm
+moment 20
+keep N 3
+row 30
+done R0/P0 0 ok
+end 2
+END
+scene "the replay of a warm life" 0 "$(replayed 1 1 0 0 'N = 4' 'K = 8')" "" $(replay both.st next.csv warm.txt)
+scene "a life without rows" 0 "$(report 0 0 0 0 0 'N = 4' 'K = 7')" "" $(run both.st none.csv warmed warm) --trace warm.txt
+scene "the replay of a life without rows" 0 "$(replayed 0 0 0 0 'N = 4' 'K = 7')" "" $(replay both.st none.csv warm.txt)
+
+# Where a trace can't be written: the run has ended well, its retain file has all of it, and nothing is told.
+# unwritten NAME FILE: the trace can't be written there
+unwritten() {
+    scene "$1" 3 "" "fault V6" $(run s.st rows.csv untraced cold) --trace "$2"
+    scene "what is kept after $1" 0 "$(report 0 0 0 0 0 'N = 3')" "" $(run s.st none.csv untraced warm)
+    scene "a row at the last moment after $1" 5 "" "fault K4" $(run s.st last.csv untraced warm)
+    rm untraced
+}
+unwritten "a trace into a folder" .
+unwritten "a trace into a folder that isn't there" folder/trace.txt
+unwritten "a trace that takes no more" /dev/full
+unwritten "a trace into the retain file by another name, where neither was there" ./untraced
+printf 'kept' > kept.txt
+refused "a trace of a refused start" 4 $(run s.st rows.csv long cold) --trace kept.txt
+refused "a trace of a run that is stopped" 5 $(run both.st last.csv both warm) --trace kept.txt
+refused "a trace of a refused source" 2 $(run word.st rows.csv made cold) --trace kept.txt
+refused "a trace of a refused plant" 3 $(run s.st twice.csv made cold) --trace kept.txt
+[ "$(cat kept.txt)" = kept ] || fail "a run that did not end well has written a trace"
+refused "a trace that isn't there, of a refused source" 2 $(run word.st rows.csv made cold) --trace unmade
+[ ! -e unmade ] || fail "a refused run has made a trace"
+scene "a trace in place of another file" 0 "$(report 3 3 0 0 6 'N = 3')" "" $(run s.st rows.csv traced cold) --trace kept.txt
+tells "a trace in place of another file" kept.txt < trace.txt
+
 # A budget is 1 to 1,000,000 ticks. Where it is taken, this text has no configuration.
 for ticks in 1 1000000 0001000000; do
     scene "$ticks ticks" 2 "" "fault G2" $(run good.st none.csv made warm) --budget $ticks
@@ -265,7 +451,20 @@ statements() {
 printf 't\n0\n' > first.csv
 statements 7 > seven.st
 scene "ticks for each statement" 0 "$(report 1 1 0 0 2 'N = 7')" "" $(run seven.st first.csv ticks cold) --budget 007
-scene "a tick too few" 0 "$(report 1 1 1 0 2 'N = 0')" "" $(run seven.st first.csv ticks cold) --budget 6
+scene "a tick too few" 0 "$(report 1 1 1 0 2 'N = 0')" "" $(run seven.st first.csv ticks cold) --budget 6 --trace ticks.txt
+tells "a tick too few" ticks.txt <<'END'
+trace 1
+budget 6
+start cold
+moment none
+keep N 0
+row 0
+done R0/P0 0 F5
+end 2
+END
+scene "the replay of a tick too few" 0 "$(replayed 1 1 1 0 'N = 0')" "" $(replay seven.st first.csv ticks.txt)
+sed -i 's/^budget 6$/budget 7/' ticks.txt
+scene "the replay with the tick that was wanting" 3 "" "fault V4" $(replay seven.st first.csv ticks.txt)
 statements 10000 > default.st
 scene "10,000 ticks without a word" 0 "$(report 1 1 0 0 2 'N = 10000')" "" $(run default.st first.csv ticks cold)
 statements 10001 > past.st
@@ -312,6 +511,10 @@ change "a loop" 'n := n + 1' 'WHILE n < 1 DO n := 1; END_WHILE' X2
 change "a literal outside its type" 'n + 1' 'n + 32768' 'C4 at 51'
 change "a variable that isn't declared" 'n + 1' 'm + 1' 'C1 at 47'
 change "a program declared twice" 'CONFIGURATION C' 'PROGRAM Add END_PROGRAM CONFIGURATION C' 'C2 at 74'
+change "a function that calls itself" 'CONFIGURATION C' 'FUNCTION f : INT f := f(); END_FUNCTION CONFIGURATION C' 'C6 at 75'
+change "bounds in the wrong order" 'VAR_GLOBAL RETAIN' 'VAR_GLOBAL a : ARRAY [2..1] OF INT; END_VAR VAR_GLOBAL RETAIN' 'C8 at 104'
+change "a list longer than its array" 'VAR_GLOBAL RETAIN' 'VAR_GLOBAL a : ARRAY [1..2] OF INT := [3(0)]; END_VAR VAR_GLOBAL RETAIN' 'C8 at 120'
+change "an address under RETAIN" 'RETAIN n : INT;' 'RETAIN m AT %IW0 : INT; n : INT;' 'C11 at 100'
 change "a second configuration" 'END_CONFIGURATION' 'END_CONFIGURATION CONFIGURATION D RESOURCE R ON CPU PROGRAM P : Add; END_RESOURCE END_CONFIGURATION' G2
 
 # Addresses. Those that are sound are inputs, or outputs, which this version can't run.

@@ -1,4 +1,3 @@
-pub mod NumberLemmas
 pub mod FieldLemmas
 pub mod RowLemmas
 pub mod HeaderLemmas

@@ -10,7 +10,7 @@ use Rattle.st_words.specs.Kinds.{same_kind, holds}
 use Rattle.st_words.specs.Values.{Datum}
 use Rattle.st_plans.specs.declared.plan.PlanInput.{PlanInput}
 use Rattle.st_plans.specs.Plans.{holds_each}
-use Rattle.image.specs.Numbers.{SpellsValueAt}
+use Rattle.st_print.specs.Numbers.{SpellsValueAt}
 use Rattle.image.specs.Plants.{Fields, spelled_values}
 use Rattle.image.proofs.FieldLemmas.{take_field, field_at-behind, field_at-cons}
 

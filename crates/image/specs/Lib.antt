@@ -1,4 +1,3 @@
 pub mod Plants
 pub mod Faults
 pub mod Records
-pub mod Numbers

@@ -5,7 +5,6 @@
 #![tactic(auto)]
 
 mod header;
-mod number;
 mod plant;
 mod plant_error;
 mod row;

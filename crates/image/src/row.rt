@@ -7,14 +7,14 @@ ghost use Rattle.st_words.specs.declared.limits.TheConstants.{MOMENT_LIMIT};
 ghost use Rattle.csv.specs.Records.{field_at, fields_of};
 ghost use Rattle.st_words.specs.Values.{Datum};
 ghost use Rattle.st_plans.specs.Plans.{holds_each};
-ghost use Rattle.image.specs.Numbers.{SpellsValueAt};
+ghost use Rattle.st_print.specs.Numbers.{SpellsValueAt};
 ghost use Rattle.image.specs.Plants.{IsRowOf, spelled, spelled_values};
 ghost use Rattle.image.specs.Faults.{IsNoRow};
 
-use crate::number::{moment, value};
 use crate::plant_error::PlantError;
 use csv::ByteRecord;
 use st_plans::{PlanInput, Row};
+use st_print::number::{moment, value};
 use st_words::{Kind, Value};
 use std::alloc::Global;
 

@@ -2,6 +2,7 @@
 
 use crate::answer::Answer;
 use crate::shown_sources::declarations;
+use st_decl::declare;
 use st_lex::{LexError, LexFault, Token, lex};
 use st_parse::{ParseError, parse};
 use st_rules::broken_rule;
@@ -18,12 +19,14 @@ fn is_configured(source: &Source) -> bool {
     false
 }
 
-/// The broken rule of a source, or that there is none.
+/// The broken rule of a source, or that there is none; those on declarations come first.
 fn broken(out: &mut Answer, alloc: Global, source: &Source) {
-    match broken_rule(alloc, source) {
-        Ok(Some(rule)) => out.show(&rule),
-        Ok(None) => out.put("none"),
-        Err(_) => out.put("no memory"),
+    match declare(alloc, source) {
+        Ok(()) => match broken_rule(source) {
+            Some(rule) => out.show(&rule),
+            None => out.put("none"),
+        },
+        Err(error) => out.show(&error),
     }
 }
 

@@ -1,3 +1,4 @@
-mod CountLemmas
 mod ProgressLemmas
 mod SettleLemmas
+mod ReplayLemmas
+mod ReportLemmas

@@ -21,20 +21,16 @@ acked_line (Some n) = count_line (codes "acked") n
 abbrev pub variable_line : Path → Datum → List ℕ
 variable_line path value = path_text path ++ codes " = " ++ value_text [] value ++ 10 ∷ []
 
--- the same of a value that may not be there
-abbrev pub value_line : Path → Option Datum → List ℕ
-value_line path None = []
-value_line path (Some value) = variable_line path value
-
 abbrev pub counts_text : Counts → List ℕ
 counts_text c = count_line (codes "rows") c.rows ++ count_line (codes "done") c.done
     ++ count_line (codes "faults") c.faults ++ count_line (codes "overruns") c.overruns ++ acked_line c.acked
 
--- a line for each variable, in layout order
-abbrev pub variables_text : (Path → Option Datum) → List PlanVariable → List ℕ
-variables_text value_of [] = []
-variables_text value_of (v ∷ vs) = value_line v.path (value_of v.path) ++ variables_text value_of vs
+-- a line for each variable with its value, in layout order
+abbrev pub variables_text : List PlanVariable → List Datum → List ℕ
+variables_text [] values = []
+variables_text (v ∷ vs) [] = []
+variables_text (v ∷ vs) (d ∷ ds) = variable_line v.path d ++ variables_text vs ds
 
 -- the counts, and then the variables
-abbrev pub report_text : Counts → (Path → Option Datum) → List PlanVariable → List ℕ
-report_text counts value_of variables = counts_text counts ++ variables_text value_of variables
+abbrev pub report_text : Counts → List PlanVariable → List Datum → List ℕ
+report_text counts variables values = counts_text counts ++ variables_text variables values

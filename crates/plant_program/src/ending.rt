@@ -5,7 +5,7 @@ ghost use Rattle.std.specs.Prelude.{◌≡◌};
 use crate::fault::Fault;
 use thiserror::Error;
 
-/// The exit status where the words are refused, or ask for what isn't begun.
+/// The exit status where the words are refused, or the job isn't begun.
 const REFUSED: u8 = 1;
 
 /// The exit status where the standard output can't be written.
@@ -14,9 +14,6 @@ const UNTOLD: u8 = 5;
 /// Why a job isn't begun.
 #[derive(Clone, Copy, Debug, PartialEq, Eq, Error)]
 pub enum Declined {
-    /// This version can't do it.
-    #[error("this version of plant can't do this yet")]
-    NotYet,
     /// The retain file is, by another name, the source, the plant or the trace.
     #[error("error: the retain file is the source, the plant or the trace")]
     SharedStore,

@@ -8,6 +8,7 @@ use plc_threads::RunFault;
 use st_build::BuildError;
 use std::alloc::{AllocError, AllocFailed};
 use thiserror::Error;
+use traces::ReplayError;
 
 /// Why a job ends early. It shows as its number, with the place in the source where there is one.
 #[derive(Clone, Copy, Debug, PartialEq, Eq, Error)]
@@ -21,12 +22,9 @@ pub enum Fault {
     /// The plant is refused.
     #[error("{0}")]
     Plant(PlantError),
-    /// The trace can't be opened, read or written.
-    #[error("V6")]
-    Trace,
-    /// Out of memory while a trace is read.
-    #[error("V5")]
-    TraceMemory,
+    /// The trace was not run again, or not written.
+    #[error("{0}")]
+    Trace(ReplayError),
     /// No life was started.
     #[error("{0}")]
     Start(StartFault),
@@ -47,7 +45,7 @@ impl Fault {
     {
         match self {
             Fault::Source | Fault::Build(_) => 2,
-            Fault::Plant(_) | Fault::Trace | Fault::TraceMemory => 3,
+            Fault::Plant(_) | Fault::Trace(_) => 3,
             Fault::Start(_) => 4,
             Fault::Run(_) => 5,
         }
@@ -57,12 +55,6 @@ impl Fault {
 impl From<BuildError> for Fault {
     fn from(fault: BuildError) -> Fault {
         Fault::Build(fault)
-    }
-}
-
-impl From<PlantError> for Fault {
-    fn from(fault: PlantError) -> Fault {
-        Fault::Plant(fault)
     }
 }
 

@@ -1,16 +1,15 @@
 //! What is told of a life.
 
-ghost use Rattle.std.specs.Prelude.{◌≡◌, IfOk, Some, option_map, slice_get, unwrap_or, false, length};
+ghost use Rattle.std.specs.Prelude.{◌≡◌, IfOk, Some, option_map, slice_get, unwrap_or, false, count_by};
 ghost use Rattle.st_plans.specs.Logs.{IsLegal, outcomes_of, row_count, done_count};
 ghost use Rattle.config.specs.PlanViews.{plan_view};
-ghost use Rattle.plant_program.specs.Lives.{fault_count, HasOverrunsInAll, IsReport, is_faulted};
+ghost use Rattle.traces.specs.Replays.{HasOverrunsInAll, is_faulted};
+ghost use Rattle.plant_program.specs.Lives.{IsReport, start_of};
 
-use crate::report::{Counts, Findings, write_report};
+use crate::report::{Counts, report_with};
 use commit_lock::Core;
-use config::Plan;
 use disk::Disk;
 use st_types::Outcome;
-use st_words::{Path, Value};
 use std::alloc::{AllocError, Global};
 
 /// Whether the execution of that entry ended with a fault.
@@ -27,7 +26,8 @@ fn is_faulted_at<D: Disk>(core: &Core<D>, number: usize) -> bool
 
 /// How many executions of the log ended with a fault.
 fn faults<D: Disk>(core: &Core<D>) -> usize
-    ensures { result ≡ fault_count core.now.state }
+    ensures { result
+        ≡ count_by is_faulted (outcomes_of (plan_view core.now.state.plan) core.now.state.start core.now.state.log) }
 {
     let mut faults = 0;
     for number in 0..core.len() {
@@ -39,22 +39,24 @@ fn faults<D: Disk>(core: &Core<D>) -> usize
 }
 
 /// How often a program of the plan was due while it still waited, up to the greatest number of 64 bits.
-fn overruns<D: Disk>(plan: &Plan, core: &Core<D>) -> u64
-    ensures { HasOverrunsInAll core.now.state (length plan.now.programs.items) result }
+fn overruns<D: Disk>(core: &Core<D>) -> u64
+    ensures { HasOverrunsInAll core.now.state.plan (start_of core.now.state) core.now.state.log result }
 {
     let mut overruns = 0u64;
-    for program in 0..plan.programs() {
+    for program in 0..core.plan().programs() {
         overruns = overruns.saturating_add(core.overruns(program));
     }
     overruns
 }
 
-/// The counts of a life of the plan.
-fn counts<D: Disk>(plan: &Plan, core: &Core<D>) -> Counts
+/// The counts of a life.
+fn counts<D: Disk>(core: &Core<D>) -> Counts
     ensures rows { result.rows ≡ row_count core.now.state.log }
     ensures done { result.done ≡ done_count core.now.state.log }
-    ensures faults { result.faults ≡ fault_count core.now.state }
-    ensures overruns { HasOverrunsInAll core.now.state (length plan.now.programs.items) result.overruns }
+    ensures faults { result.faults
+        ≡ count_by is_faulted (outcomes_of (plan_view core.now.state.plan) core.now.state.start core.now.state.log) }
+    ensures overruns { HasOverrunsInAll core.now.state.plan (start_of core.now.state) core.now.state.log
+        result.overruns }
     ensures acked { result.acked ≡ Some core.now.acked }
     ensures legal { IsLegal (plan_view core.now.state.plan) core.now.state.start core.now.state.before
         core.now.state.log }
@@ -64,33 +66,18 @@ fn counts<D: Disk>(plan: &Plan, core: &Core<D>) -> Counts
         rows: rows as u64,
         done: (core.len() - rows) as u64,
         faults: faults(core) as u64,
-        overruns: overruns(plan, core),
+        overruns: overruns(core),
         acked: Some(core.acked() as u64),
     }
 }
 
-/// The report of a life of the plan; the only error is out of memory.
-pub fn report_of<D: Disk>(alloc: Global, plan: &Plan, core: &Core<D>) -> Result<Vec<u8>, AllocError>
-    ensures report { IfOk result (λ text.
-        IsReport core.now.state core.now.acked (length plan.now.programs.items) plan.now.variables.items text.items) }
+/// The report of a life; the only error is out of memory.
+pub fn report_of<D: Disk>(alloc: Global, core: &Core<D>) -> Result<Vec<u8>, AllocError>
+    ensures report { IfOk result (λ text. IsReport core.now.state.plan (start_of core.now.state) core.now.state.log
+        (Some core.now.acked) text.items) }
     ensures legal { IsLegal (plan_view core.now.state.plan) core.now.state.start core.now.state.before
         core.now.state.log }
 {
-    let mut report = Vec::new(alloc);
-    let counts = counts(plan, core);
-    match write_report(&mut report, &counts, &plan.variables, core) {
-        Ok(()) => Ok(report),
-        Err(_) => Err(AllocError),
-    }
-}
-
-impl<D: Disk> Findings for Core<D> {
-    ghost use Rattle.st_types.specs.Scopes.{seen};
-    ghost use Rattle.serial_core.specs.Steps.{made, inputs_now};
-
-    ghost value_of = { λ core. seen (inputs_now core.state) (made core.state).store };
-
-    fn value(&self, path: &Path) -> Option<Value> {
-        Core::value(self, path)
-    }
+    let counts = counts(core);
+    report_with(alloc, &counts, &core.plan().variables, core.values())
 }

@@ -9,14 +9,14 @@ use crate::ending::{Declined, Ending};
 use crate::fault::Fault;
 use crate::files::Files;
 use crate::first_run::first;
+use crate::replaying::replay;
 use crate::running::run_plan;
 use crate::sizes::sizes_of;
 use crate::sources::plan_of;
 use crate::telling::{End, tell, tell_words};
-use plant_words::{DEFAULT_BUDGET, Job, ReplayJob, RunJob, is_out_of_memory, read_words};
+use plant_words::{DEFAULT_BUDGET, Job, RunJob, is_out_of_memory, read_words};
 use std::alloc::Global;
-use std::io;
-use std::io::{Read, Write};
+use std::io::Write;
 use std::sync::Wait;
 use std::thread::Threads;
 
@@ -38,8 +38,7 @@ fn shares_store<F: Files>(files: &mut F, job: &RunJob<'_>) -> bool {
     files.is_one_file(job.store, job.source) || files.is_one_file(job.store, job.plant)
 }
 
-/// Reads and builds the source, then reads the plant, then opens the store and starts, then runs. This version writes
-/// no trace, and does nothing where one is asked for.
+/// Reads and builds the source, then reads the plant, then opens the store and starts, then runs, then writes the trace.
 fn run<F: Files, R: Threads + Wait + Sync>(
     rt: &R,
     alloc: Global,
@@ -48,38 +47,11 @@ fn run<F: Files, R: Threads + Wait + Sync>(
 ) -> Result<End, Fault>
     ensures { IfOk result (λ end. EndsWell F.Disk (Job.Run job.now) end) }
 {
-    if job.trace.is_some() {
-        return Ok(End::Declined(Declined::NotYet));
-    }
     if shares_store(files, job) {
         return Ok(End::Declined(Declined::SharedStore));
     }
     let plan = plan_of(alloc, files, job.source, job.budget)?;
     Ok(End::Report(run_plan(rt, alloc, files, plan, job)?))
-}
-
-/// Why a trace can't be read: V5 out of memory, else V6.
-fn unread_trace(error: &io::Error) -> Fault {
-    if error.kind() == io::ErrorKind::OutOfMemory {
-        return Fault::TraceMemory;
-    }
-    Fault::Trace
-}
-
-/// Reads the trace, then the source. This version goes no further.
-fn replay<F: Files>(alloc: Global, files: &mut F, job: &ReplayJob<'_>) -> Result<End, Fault>
-    ensures { IfOk result (λ end. end ≡ End.Declined Declined.NotYet) }
-{
-    let mut reader = match files.read(job.trace) {
-        Ok(reader) => reader,
-        Err(error) => return Err(unread_trace(&error)),
-    };
-    let mut trace = Vec::new(alloc);
-    if let Err(error) = reader.read_to_end(&mut trace) {
-        return Err(unread_trace(&error));
-    }
-    plan_of(alloc, files, job.source, DEFAULT_BUDGET)?;
-    Ok(End::Declined(Declined::NotYet))
 }
 
 /// How the job ends.
@@ -95,7 +67,7 @@ fn done<F: Files, R: Threads + Wait + Sync>(
         Job::First => Ok(End::Report(first(rt, alloc)?)),
         Job::Check { source } => check(alloc, files, source),
         Job::Run(job) => run(rt, alloc, files, job),
-        Job::Replay(job) => replay(alloc, files, job),
+        Job::Replay(job) => Ok(End::Report(replay(alloc, files, job)?)),
     }
 }
 

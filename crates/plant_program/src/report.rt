@@ -1,14 +1,13 @@
 //! The report of a run.
 
-ghost use Rattle.std.specs.Prelude.{◌≡◌, OnOk, Option};
+ghost use Rattle.std.specs.Prelude.{◌≡◌, IfOk, OnOk};
 ghost use Rattle.std.specs.Io.KnownBytes.{Appends};
-ghost use Rattle.st_words.specs.Values.{Datum};
-ghost use Rattle.st_words.specs.Paths as paths;
-ghost use Rattle.plant_program.specs.Reports.{counts_text, report_text, value_line, variable_line, variables_text};
+ghost use Rattle.plant_program.specs.Reports.{counts_text, report_text, variable_line, variables_text};
 
 use st_plans::PlanVariable;
 use st_print::{write_path, write_value};
 use st_words::{Path, Value};
+use std::alloc::{AllocError, Global};
 use std::io;
 use std::io::Write;
 
@@ -25,15 +24,6 @@ pub struct Counts {
     pub overruns: u64,
     /// How many entries of the log are acknowledged; none for a trace that was run again.
     pub acked: Option<u64>,
-}
-
-/// What a run tells of its variables.
-pub trait Findings {
-    ghost value_of: { Self → paths.Path → Option Datum };
-
-    /// The value of a variable; none where no such path is there.
-    fn value(&self, path: &Path) -> Option<Value>
-        ensures { result ≡ value_of self.now path.now };
 }
 
 fn write_counts<W: Write>(out: &mut W, counts: &Counts) -> io::Result<()>
@@ -66,40 +56,46 @@ pub fn write_variable<W: Write>(out: &mut W, path: &Path, value: Value) -> io::R
     out.write_all(b"\n")
 }
 
-/// The line of a variable whose value is there.
-fn write_line<W: Write>(out: &mut W, path: &Path, value: Option<Value>) -> io::Result<()>
-    ensures { OnOk result (Appends (W.contents out.old) (W.contents out.new) (value_line path.now value)) }
-{
-    match value {
-        Some(value) => write_variable(out, path, value),
-        None => Ok(()),
-    }
-}
-
-fn write_variables<W: Write, F: Findings>(
+fn write_variables<W: Write>(
     out: &mut W,
     variables: &[PlanVariable],
-    findings: &F,
+    values: &[Value],
 ) -> io::Result<()>
     ensures { OnOk result
-        (Appends (W.contents out.old) (W.contents out.new) (variables_text (F.value_of findings.now) variables.now)) }
+        (Appends (W.contents out.old) (W.contents out.new) (variables_text variables.now values.now)) }
 {
-    for variable in variables {
-        write_line(out, &variable.path, findings.value(&variable.path))?;
+    for (variable, value) in variables.iter().zip(values) {
+        write_variable(out, &variable.path, *value)?;
     }
     Ok(())
 }
 
 /// Writes the report of a run: its counts, and a line `PATH = VALUE` for each of the variables, in layout order.
-pub fn write_report<W: Write, F: Findings>(
+pub fn write_report<W: Write>(
     out: &mut W,
     counts: &Counts,
     variables: &[PlanVariable],
-    findings: &F,
+    values: &[Value],
 ) -> io::Result<()>
     ensures spelled { OnOk result (Appends (W.contents out.old) (W.contents out.new)
-        (report_text counts.now (F.value_of findings.now) variables.now)) }
+        (report_text counts.now variables.now values.now)) }
 {
     write_counts(out, counts)?;
-    write_variables(out, variables, findings)
+    write_variables(out, variables, values)
+}
+
+/// The report of a run as it is printed; the only error is out of memory.
+pub(crate) fn report_with(
+    alloc: Global,
+    counts: &Counts,
+    variables: &[PlanVariable],
+    values: &[Value],
+) -> Result<Vec<u8>, AllocError>
+    ensures { IfOk result (λ text. text.items ≡ report_text counts.now variables.now values.now) }
+{
+    let mut report = Vec::new(alloc);
+    match write_report(&mut report, counts, variables, values) {
+        Ok(()) => Ok(report),
+        Err(_) => Err(AllocError),
+    }
 }

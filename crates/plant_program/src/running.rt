@@ -1,10 +1,9 @@
 //! The run of a plan.
 
-ghost use Rattle.std.specs.Prelude.{◌≡◌, ◌++◌, IfOk, OnOk, length};
-ghost use Rattle.image.specs.Plants.{AreRowsOf};
+ghost use Rattle.std.specs.Prelude.{◌≡◌, ◌++◌, IfOk, OnOk, Some};
 ghost use Rattle.commit_lock.specs.Starting.{IsNew};
 ghost use Rattle.plant_program.specs.Jobs.{IsReportOf};
-ghost use Rattle.plant_program.specs.Lives.{IsReport};
+ghost use Rattle.plant_program.specs.Lives.{IsReport, start_of};
 ghost use Rattle.st_plans.specs.Logs.{IsLegal};
 ghost use Rattle.config.specs.PlanViews.{plan_view};
 ghost use Rattle.plant_program.specs.Progress.{BeginsAs, mode_of};
@@ -16,43 +15,19 @@ use crate::fault::Fault;
 use crate::files::Files;
 use crate::life::report_of;
 use crate::open_gate::OpenGate;
+use crate::plants::read_rows;
+use crate::tracing::traced;
 use commit_lock::{Core, StartFault, StartMode};
 use config::Plan;
 use disk::Disk;
-use image::{PlantError, read_plant};
 use plant_words::{Pace, RunJob, Start};
 use plc_threads::{Pace as RunPace, Report, RunError, run_plant};
 use retain_store::StoreFault;
 use st_plans::Row;
 use st_words::limits::MAX_LOG_ROOM;
 use std::alloc::Global;
-use std::io;
 use std::sync::{Arc, Wait};
 use std::thread::Threads;
-
-/// Why a plant can't be opened: I6 out of memory, else I5.
-fn unopened(error: &io::Error) -> PlantError {
-    if error.kind() == io::ErrorKind::OutOfMemory {
-        return PlantError::NoMemory;
-    }
-    PlantError::Reading
-}
-
-/// The rows of the plant of that name.
-fn read_rows<F: Files>(
-    alloc: Global,
-    files: &mut F,
-    name: &str,
-    plan: &Plan,
-) -> Result<Vec<Row>, Fault>
-    ensures { IfOk result (λ rows. AreRowsOf plan.now.inputs.items rows.items) }
-{
-    let reader = match files.read(name) {
-        Ok(reader) => reader,
-        Err(error) => return Err(Fault::Plant(unopened(&error))),
-    };
-    Ok(read_plant(alloc, reader, plan)?)
-}
 
 fn mode(start: Start) -> StartMode
     ensures { result ≡ mode_of start }
@@ -106,13 +81,13 @@ fn served<D: Disk + Drop + Send, R: Threads + Wait + Sync>(
     ensures settled { OnOk result.1 (IsSettled result.0 plan.now.resources) }
     ensures life { OnOk result.1 (life_of result.0.state ≡ life_of core.state) }
     ensures latched { OnOk result.1 ((made result.0.state).rows ≡ (made core.state).rows ++ rows.items) }
-    ensures report { IfOk result.1 (λ text.
-        IsReport result.0.state result.0.acked (length plan.now.programs.items) plan.now.variables.items text.items) }
+    ensures report { IfOk result.1 (λ text. IsReport result.0.state.plan (start_of result.0.state) result.0.state.log
+        (Some result.0.acked) text.items) }
     ensures legal { IfOk result.1 (λ _.
         IsLegal (plan_view result.0.state.plan) result.0.state.start result.0.state.before result.0.state.log) }
 {
     match run_plant(rt, alloc, plan, core, rows, run_pace(pace), &OpenGate) {
-        Ok(Report { core, told: _ }) => match report_of(alloc, plan, &core) {
+        Ok(Report { core, told: _ }) => match report_of(alloc, &core) {
             Ok(report) => (core, Ok(report)),
             Err(_) => (core, Err(Fault::NO_MEMORY)),
         },
@@ -120,8 +95,8 @@ fn served<D: Disk + Drop + Send, R: Threads + Wait + Sync>(
     }
 }
 
-/// Reads the plant, opens the store and starts, then runs in threads, and gives the report; the first fault ends it. It
-/// writes no trace.
+/// Reads the plant, opens the store and starts, then runs in threads, then writes the trace where one is asked for, and
+/// gives the report; the first fault ends it.
 pub fn run_plan<F: Files, R: Threads + Wait + Sync>(
     rt: &R,
     alloc: Global,
@@ -139,6 +114,7 @@ pub fn run_plan<F: Files, R: Threads + Wait + Sync>(
     };
     let core = start(alloc, files, Arc::clone(&plan)?, job.store, job.start)?;
     let (core, report) = served(rt, alloc, &plan, core, job.pace, rows);
+    let report = traced(alloc, files, job, &core, report);
     files.back(core.stop());
     report
 }

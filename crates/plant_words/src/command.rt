@@ -13,9 +13,6 @@ static STARTS: [&str; 2] = ["warm", "cold"];
 
 static PACES: [&str; 2] = ["settle", "free"];
 
-/// What `replay` says of itself today.
-const NOT_YET: &str = "This version reads the trace and builds the source, and goes no further.";
-
 fn source<'a>(alloc: Global) -> Arg<'a> {
     Arg::new(alloc, "source")
         .value_name("SRC")
@@ -76,16 +73,15 @@ fn run<'a>(alloc: Global) -> Result<Command<'a>, AllocError> {
     );
     let run = with_files(alloc, run)?;
     let run = with_options(alloc, run)?;
-    run.arg(file(alloc, "trace", "The trace to write (not yet)"))
+    run.arg(file(alloc, "trace", "The trace to write after the run"))
 }
 
 fn replay<'a>(alloc: Global) -> Result<Command<'a>, AllocError> {
     Command::new(alloc, "replay")
-        .about("Runs a trace again and prints the report (not yet)")
-        .after_help(NOT_YET)
+        .about("Runs a trace again by one thread and prints the report")
         .arg(source(alloc))?
         .arg(file(alloc, "plant", "The plant, a CSV file").required(true))?
-        .arg(file(alloc, "trace", "The trace to run").required(true))
+        .arg(file(alloc, "trace", "The trace to run again").required(true))
 }
 
 /// The command `plant` before its subcommands.

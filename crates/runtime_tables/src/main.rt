@@ -20,6 +20,7 @@ mod row;
 mod row_error;
 mod scene;
 mod telling;
+mod trace_replays;
 mod trace_texts;
 mod words;
 

@@ -31,6 +31,8 @@
 //! - `cold: row 0, here 0, flush`, `warm`: a start over the file and these calls; what the life told
 //! - `same`, `length`, `bytes 131072 34`: whether the last life left the file as it was, its length, 34 bytes from that
 //!   place on
+//! - `replay 0 10: trace 1\0A..`, `ticks trace 1\0A..`: what is told of a trace that is run again over rows of these
+//!   moments, and the values of the variables, or its refusal; the budget that it tells
 //! - `recovered`: the moment and the values that a store alone recovers of the file
 //! - `lives cold, stops 3 \A5 0: row 0, here 0 / warm, fails 2`: lives over a copy of the file in turn, by one call; of
 //!   each the values at its start, its replies, and how much of its log is acknowledged

@@ -14,6 +14,7 @@ use crate::real_files::{write_folderless, write_real};
 use crate::records::{resaved, write_recovered};
 use crate::row_error::RowError;
 use crate::telling::{write_execution, write_reply};
+use crate::trace_replays::{write_budget, write_replay};
 use crate::words::{count, number, split, write_bytes, write_number};
 use commit_lock::StartMode;
 use scene_tables::unescaped;
@@ -197,6 +198,8 @@ impl<'a> Scene<'a> {
             "bytes" => self.tell_bytes(given),
             "length" => Ok(self.tell_length()?),
             "same" => Ok(self.tell_same()?),
+            "replay" => write_replay(&mut self.answer, self.alloc, self.setting, given),
+            "ticks" => write_budget(&mut self.answer, self.alloc, given),
             "recovered" => write_recovered(&mut self.answer, self.alloc, &self.file),
             "refusals" => Ok(write_refusals(&mut self.answer)?),
             "faults" => Ok(write_start_faults(&mut self.answer)?),

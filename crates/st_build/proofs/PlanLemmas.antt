@@ -1,11 +1,11 @@
 -- A text has one plan, or a refusal.
 use Rattle.std.proofs.Common.{◌≡◌, ◌∙◌, ◌<◌, ◌≤◌, ap, sym, subst, refl, ℕ, ◌+◌, List, [], ◌∷◌, map, length, Bool, true}
 use Rattle.std.proofs.Common.{false, ◌&&◌, Some, Ok, Err, Result, IfOk, IfErr, rules, arith}
-use Rattle.std.specs.Prelude.{nat_le}
+use Rattle.std.specs.Prelude.{nat_le, ◌==◌}
 use Rattle.std.specs.Global.{Vec}
 use Rattle.st_words.specs.declared.limits.TheConstants.{MAX_TASKS, MAX_PROGRAMS}
 use Rattle.st_trees.specs.declared.source.Source.{Source as Tree}
-use Rattle.std.specs.List.{list_all}
+use Rattle.std.specs.List.{list_all, Contains}
 use Rattle.std.proofs.lemmas.Bool.{and_parts}
 use Rattle.std.proofs.lemmas.Bool.Decides.{nat_tests}
 use Rattle.st_words.specs.declared.limits.TheConstants.{MAX_BUDGET, MAX_PATHS, MAX_RECORD_BODY}
@@ -34,6 +34,7 @@ use Rattle.config.specs.ThinPlans.{is_within, thin_plan}
 use Rattle.st_build.specs.declared.build_error.BuildError.{BuildError}
 use Rattle.st_build.specs.declared.build_error.BuildError.TheVariants as errors
 use Rattle.st_rules.specs.declared.rule.Broken.{Broken}
+use Rattle.st_statics.specs.Rules.{IsWellDeclared}
 use Rattle.st_rules.specs.Rules.{Breaks}
 use Rattle.st_build.specs.TextParts.{configurations_in, has_types, IsNotConfigured}
 use Rattle.st_build.specs.Refusals.{HasGlobals, HasTooManyPaths, HasThinRecordTooLong}
@@ -104,6 +105,7 @@ not_refused units c budget p errors.Unsupported a h = absurd (h.none p a)
 not_refused units c budget p errors.Memory a h = h
 not_refused units c budget p errors.Budget a h = h
 not_refused units c budget p errors.NoConfiguration a h = h
+not_refused units c budget p (errors.Declaration x) a h = absurd h
 not_refused units c budget p (errors.Rule x) a h = absurd h
 not_refused units c budget p (errors.Words x) a h = absurd h
 not_refused units c budget p (errors.Grammar x) a h = absurd h
@@ -141,12 +143,13 @@ same_one c d h = ap (head_or c) h
 pub plan_of_text :
     (source : Source) (units : List OrganisationUnit) (c : Configuration) (budget : ℕ) (plan : plans.Plan)
     → units ≡ units_in source → configurations_in source ≡ c ∷ [] → has_types source ≡ false
-    → ((broken : Broken) → Breaks source broken → ⊥)
+    → IsWellDeclared source → ((broken : Broken) → Breaks source broken → ⊥)
     → IsPlanFrom units c budget plan → IsPlanOf source budget plan
-plan_of_text source units c budget plan us one plain unbroken from =
+plan_of_text source units c budget plan us one plain declared unbroken from =
     record {
       configuration = c;
       one = one;
+      declared = declared;
       unbroken = unbroken;
       plain = plain;
       from =
@@ -170,11 +173,12 @@ here source units c budget e us one h = (c, one, subst (λ x. LacksPlan x c budg
 -- a text without a plan of its units and its configuration
 beyond : (source : Source) (units : List OrganisationUnit) (c : Configuration) (budget : ℕ) → units ≡ units_in source
     → configurations_in source ≡ c ∷ []
-    → ((broken : Broken) → Breaks source broken → ⊥) → IsUnsupported units c budget
+    → IsWellDeclared source → ((broken : Broken) → Breaks source broken → ⊥) → IsUnsupported units c budget
     → IsBeyond source budget
-beyond source units c budget us one unbroken h = record {
+beyond source units c budget us one declared unbroken h = record {
   configuration = c;
   one = one;
+  declared = declared;
   unbroken = unbroken;
   kept = subst (λ x. MeetsRules x c) us h.kept;
   few = h.few;
@@ -185,11 +189,12 @@ beyond source units c budget us one unbroken h = record {
 -- a text whose units and configuration have a plan, and that has types
 pub beyond_types : (source : Source) (units : List OrganisationUnit) (c : Configuration) (budget : ℕ)
     (plan : plans.Plan) → units ≡ units_in source → configurations_in source ≡ c ∷ []
-    → ((broken : Broken) → Breaks source broken → ⊥) → has_types source ≡ true
+    → IsWellDeclared source → ((broken : Broken) → Breaks source broken → ⊥) → has_types source ≡ true
     → IsPlanFrom units c budget plan → IsBeyond source budget
-beyond_types source units c budget plan us one unbroken types from = record {
+beyond_types source units c budget plan us one declared unbroken types from = record {
   configuration = c;
   one = one;
+  declared = declared;
   unbroken = unbroken;
   kept = subst (λ x. MeetsRules x c) us from.kept;
   few = λ many. not_refused units c budget plan errors.TooManyPaths from many;
@@ -200,22 +205,23 @@ beyond_types source units c budget plan us one unbroken types from = record {
 
 pub breaks_text : (source : Source) (units : List OrganisationUnit) (c : Configuration) (budget : ℕ) (e : BuildError)
     → units ≡ units_in source → configurations_in source ≡ c ∷ []
-    → ((broken : Broken) → Breaks source broken → ⊥) → LacksPlan units c budget e → TreeLacksPlan source budget e
-breaks_text source units c budget errors.Unknown us one unbroken h = here source units c budget errors.Unknown us one h
-breaks_text source units c budget errors.Address us one unbroken h = here source units c budget errors.Address us one h
-breaks_text source units c budget errors.TooMany us one unbroken h = here source units c budget errors.TooMany us one h
-breaks_text source units c budget errors.NoTask us one unbroken h = here source units c budget errors.NoTask us one h
-breaks_text source units c budget errors.TooManyPaths us one unbroken h =
+    → IsWellDeclared source → ((broken : Broken) → Breaks source broken → ⊥) → LacksPlan units c budget e → TreeLacksPlan source budget e
+breaks_text source units c budget errors.Unknown us one declared unbroken h = here source units c budget errors.Unknown us one h
+breaks_text source units c budget errors.Address us one declared unbroken h = here source units c budget errors.Address us one h
+breaks_text source units c budget errors.TooMany us one declared unbroken h = here source units c budget errors.TooMany us one h
+breaks_text source units c budget errors.NoTask us one declared unbroken h = here source units c budget errors.NoTask us one h
+breaks_text source units c budget errors.TooManyPaths us one declared unbroken h =
     here source units c budget errors.TooManyPaths us one h
-breaks_text source units c budget errors.RecordTooLong us one unbroken h =
+breaks_text source units c budget errors.RecordTooLong us one declared unbroken h =
     here source units c budget errors.RecordTooLong us one h
-breaks_text source units c budget errors.Unsupported us one unbroken h = beyond source units c budget us one unbroken h
-breaks_text source units c budget errors.Memory us one unbroken h = h
-breaks_text source units c budget errors.Budget us one unbroken h = absurd h
-breaks_text source units c budget errors.NoConfiguration us one unbroken h = absurd h
-breaks_text source units c budget (errors.Rule x) us one unbroken h = absurd h
-breaks_text source units c budget (errors.Words x) us one unbroken h = absurd h
-breaks_text source units c budget (errors.Grammar x) us one unbroken h = absurd h
+breaks_text source units c budget errors.Unsupported us one declared unbroken h = beyond source units c budget us one declared unbroken h
+breaks_text source units c budget errors.Memory us one declared unbroken h = h
+breaks_text source units c budget errors.Budget us one declared unbroken h = absurd h
+breaks_text source units c budget errors.NoConfiguration us one declared unbroken h = absurd h
+breaks_text source units c budget (errors.Declaration x) us one declared unbroken h = absurd h
+breaks_text source units c budget (errors.Rule x) us one declared unbroken h = absurd h
+breaks_text source units c budget (errors.Words x) us one declared unbroken h = absurd h
+breaks_text source units c budget (errors.Grammar x) us one declared unbroken h = absurd h
 
 pub not_configured : (source : Source) (budget : ℕ) (e : BuildError) → IsNotConfigured source e
     → TreeLacksPlan source budget e
@@ -229,6 +235,7 @@ not_configured source budget errors.NoTask h = absurd h
 not_configured source budget errors.TooManyPaths h = absurd h
 not_configured source budget errors.RecordTooLong h = absurd h
 not_configured source budget errors.Budget h = absurd h
+not_configured source budget (errors.Declaration x) h = absurd h
 not_configured source budget (errors.Rule x) h = absurd h
 not_configured source budget (errors.Words x) h = absurd h
 not_configured source budget (errors.Grammar x) h = absurd h
@@ -244,11 +251,20 @@ pub text_plan : (source : Source) (budget : ℕ) (p q : plans.Plan) → IsPlanOf
 text_plan source budget p q a b = one_plan (units_in source) b.configuration budget p q
     (from_text source (units_in source) b.configuration budget p refl b.one a) b.from
 
+none_there : {X : Type 0} (x : X) → Contains [] x → ⊥
+none_there x h = let lt = h.1 in omega arith
+
+not_one : {X : Type 0} (xs : List X) (x : X) → xs ≡ x ∷ [] → (length xs == 1) ≡ false → ⊥
+not_one xs x is h = let none = subst (λ ys. (length ys == 1) ≡ false) is h in absurd (cc)
+
 -- a text that has a plan is refused only where memory runs out
 pub text_refused : (source : Source) (budget : ℕ) (p : plans.Plan) (e : BuildError) → IsPlanOf source budget p
     → TreeLacksPlan source budget e → IsMemory e
-text_refused source budget p errors.NoConfiguration a h = absurd (let one = a.one in cc)
+text_refused source budget p errors.NoConfiguration a h =
+    absurd (not_one (configurations_in source) a.configuration a.one h)
 text_refused source budget p errors.Unsupported a h = absurd (h.none p a)
+text_refused source budget p (errors.Declaration x) a h =
+    absurd (none_there x (subst (λ xs. Contains xs x) a.declared h))
 text_refused source budget p (errors.Rule x) a h = absurd (a.unbroken x h)
 text_refused source budget p errors.Memory a h = h
 text_refused source budget p errors.Unknown a h = there source budget p errors.Unknown a h

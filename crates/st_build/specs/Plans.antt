@@ -1,5 +1,6 @@
 -- The plan of a text, and why it has none.
 use Rattle.std.specs.Prelude.{◌≡◌, ◌<◌, ◌⊎◌, ◌==◌, ℕ, true, false, List, [], ◌∷◌, map, length, Some, Result, Ok, Err}
+use Rattle.std.specs.List.{Contains}
 use Rattle.st_words.specs.declared.limits.TheConstants.{MAX_BUDGET}
 use Rattle.st_trees.specs.Units.{OrganisationUnit}
 use Rattle.st_trees.specs.Configurations.{Configuration}
@@ -20,6 +21,7 @@ use Rattle.config.specs.declared.thin_program.ThinProgram.{ThinProgram}
 use Rattle.config.specs.PlanViews.{plan_view}
 use Rattle.config.specs.ThinPlans.{is_thin, thin_plan}
 use Rattle.st_rules.specs.declared.rule.Broken.{Broken}
+use Rattle.st_statics.specs.Rules.{wrong_declarations, IsWellDeclared}
 use Rattle.st_rules.specs.Rules.{Breaks}
 use Rattle.st_build.specs.declared.build_error.BuildError.{BuildError}
 use Rattle.st_build.specs.declared.build_error.BuildError.TheVariants as errors
@@ -58,6 +60,7 @@ pub record IsPlanFrom (units : List OrganisationUnit) (c : Configuration) (budge
 pub record IsPlanOf (source : Source) (budget : ℕ) (plan : plans.Plan) : Type 0 where
   pub configuration : Configuration
   pub one : configurations_in source ≡ configuration ∷ []
+  pub declared : IsWellDeclared source
   pub unbroken : (broken : Broken) → Breaks source broken → ⊥
   pub plain : has_types source ≡ false
   pub from : IsPlanFrom (units_in source) configuration budget plan
@@ -104,6 +107,7 @@ LacksPlan units c budget e = BreaksRule units c e
 pub record IsBeyond (source : Source) (budget : ℕ) : Type 0 where
   pub configuration : Configuration
   pub one : configurations_in source ≡ configuration ∷ []
+  pub declared : IsWellDeclared source
   pub unbroken : (broken : Broken) → Breaks source broken → ⊥
   pub kept : MeetsRules (units_in source) configuration
   pub few : HasTooManyPaths configuration → ⊥
@@ -112,6 +116,7 @@ pub record IsBeyond (source : Source) (budget : ℕ) : Type 0 where
 
 -- why a tree has no plan
 abbrev pub TreeLacksPlan : Source → ℕ → BuildError → Type 0
+TreeLacksPlan source budget (errors.Declaration broken) = Contains (wrong_declarations source) broken
 TreeLacksPlan source budget (errors.Rule broken) = Breaks source broken
 TreeLacksPlan source budget errors.NoConfiguration = (length (configurations_in source) == 1) ≡ false
 TreeLacksPlan source budget errors.Memory = Unit {0}

@@ -4,8 +4,9 @@ ghost use Rattle.std.specs.Prelude.{◌≡◌};
 ghost use Rattle.st_build.specs.declared.build_error.BuildError.TheVariants.{Memory, Words, Grammar};
 
 use st_lex::LexError;
-use st_rules::Broken;
+use st_rules::Broken as BrokenRule;
 use st_statements::ParseError;
+use st_statics::Broken;
 use std::alloc::{AllocError, AllocFailed};
 use thiserror::Error;
 
@@ -21,9 +22,12 @@ pub enum BuildError {
     /// The tokens have no tree.
     #[error("{0}")]
     Grammar(ParseError),
-    /// The text breaks a rule on names, types or ranges, as far as this version looks: C1 to C4.
+    /// The text breaks a rule on declarations: C2, C6, C8 or C11.
     #[error("{0}")]
-    Rule(Broken),
+    Declaration(Broken),
+    /// The text breaks a rule on names, types or ranges, as far as this version looks: C1, C3 or C4.
+    #[error("{0}")]
+    Rule(BrokenRule),
     /// There is no CONFIGURATION, or a second one.
     #[error("G2")]
     NoConfiguration,

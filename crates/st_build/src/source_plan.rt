@@ -4,6 +4,7 @@ ghost use Rattle.std.specs.Prelude.{◌≡◌, ◌<◌, ◌⊎◌, IfOk, IfErr, 
 ghost use Rattle.st_trees.specs.SourceViews.{source_view};
 ghost use Rattle.st_trees.specs.Sources as tree;
 ghost use Rattle.st_plans.specs.Plans as plans;
+ghost use Rattle.st_statics.specs.Rules.{IsWellDeclared};
 ghost use Rattle.config.specs.PlanViews.{plan_view};
 ghost use Rattle.st_build.specs.Plans.{IsTextOf, IsPlanOf, TreeLacksPlan, TextLacksPlan, GivesPlan};
 
@@ -11,6 +12,7 @@ use crate::build_error::BuildError;
 use crate::making::plan_from;
 use crate::text_parts::{Configured, configuration_of};
 use config::Plan;
+use st_decl::{CheckError, declare};
 use st_lex::lex;
 use st_parse::parse;
 use st_rules::broken_rule;
@@ -18,12 +20,13 @@ use st_trees::Source;
 use st_words::limits::MAX_BUDGET;
 use std::alloc::Global;
 
-/// The plan of a tree.
-fn plan_of(alloc: Global, source: Source, budget: u32) -> Result<Plan, BuildError>
+/// The plan of a tree whose declarations were judged.
+fn plan_of_declared(alloc: Global, source: Source, budget: u32) -> Result<Plan, BuildError>
+    requires { IsWellDeclared (source_view source) }
     ensures plan { IfOk result (λ plan. IsPlanOf (source_view source) budget (plan_view plan)) }
     ensures refused { IfErr result (λ e. TreeLacksPlan (source_view source) budget e) }
 {
-    if let Some(broken) = broken_rule(alloc, &source)? {
+    if let Some(broken) = broken_rule(&source) {
         return Err(BuildError::Rule(broken));
     }
     let Configured {
@@ -36,6 +39,18 @@ fn plan_of(alloc: Global, source: Source, budget: u32) -> Result<Plan, BuildErro
         return Err(BuildError::Unsupported);
     }
     Ok(plan)
+}
+
+/// The plan of a tree.
+fn plan_of(alloc: Global, source: Source, budget: u32) -> Result<Plan, BuildError>
+    ensures plan { IfOk result (λ plan. IsPlanOf (source_view source) budget (plan_view plan)) }
+    ensures refused { IfErr result (λ e. TreeLacksPlan (source_view source) budget e) }
+{
+    match declare(alloc, &source) {
+        Ok(()) => plan_of_declared(alloc, source, budget),
+        Err(CheckError::Broken(broken)) => Err(BuildError::Declaration(broken)),
+        Err(CheckError::OutOfMemory) => Err(BuildError::Memory),
+    }
 }
 
 /// The plan of a text in Structured Text for a budget of 1 to 1,000,000 ticks.

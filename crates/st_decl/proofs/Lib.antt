@@ -14,3 +14,4 @@ pub mod GraphWays
 pub mod DeepLemmas
 pub mod PlaceLemmas
 pub mod JudgeLemmas
+pub mod FaultLemmas

@@ -1,6 +1,7 @@
-pub mod Backs
 pub mod Places
 pub mod DeclaringViews
+pub mod StartViews
+pub mod Judgements
 pub mod Flattened
 pub mod Parts
 pub mod Graphs

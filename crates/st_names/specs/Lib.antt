@@ -1,3 +1,13 @@
 pub mod Found
 pub mod Searches
 pub mod Texts
+pub mod Fields
+pub mod Agreeing
+pub mod Variables
+pub mod Enumerated
+pub mod Interfaces
+pub mod Words
+pub mod Standard
+pub mod PlaceTypes
+pub mod Tables
+pub mod Serving

@@ -1,6 +1,6 @@
 //! A table of names.
 
-ghost use Rattle.std.specs.Prelude.{◌≡◌, List, ℕ, Option, Some, None, if◌then◌else◌, bytes_eq, OnOk, OnErr};
+ghost use Rattle.std.specs.Prelude.{◌≡◌, List, ℕ, Option, Some, None, if◌then◌else◌, bytes_eq, option_map, OnOk, OnErr};
 ghost use Rattle.st_names.specs.Found.{found, or_found};
 
 use st_words::Name;
@@ -13,7 +13,7 @@ pub struct Index<'a, T> {
     map: BTreeMap<&'a [u8], T>,
 }
 
-impl<'a, T: Copy> Index<'a, T> {
+impl<'a, T: Drop> Index<'a, T> {
     /// An index without names.
     pub fn new(alloc: Global) -> Index<'a, T>
         ensures { (q : List ℕ) → found result q ≡ None }
@@ -23,11 +23,11 @@ impl<'a, T: Copy> Index<'a, T> {
         }
     }
 
-    /// What the name stands for.
-    pub fn find(&self, name: &Name) -> Option<T>
-        ensures { result ≡ found self.now name.now }
+    /// What the name stands for, where it is kept.
+    pub fn get(&self, name: &Name) -> Option<&T>
+        ensures { option_map (λ v. v.now) result ≡ found self.now name.now }
     {
-        self.map.get(name.as_slice()).copied()
+        self.map.get(name.as_slice())
     }
 
     /// Adds an entry behind the others.
@@ -36,9 +36,18 @@ impl<'a, T: Copy> Index<'a, T> {
             ≡ or_found (found self.old q) (if bytes_eq q name.now then Some value else None)) }
         ensures err { OnErr result ((q : List ℕ) → found self.new q ≡ found self.old q) }
     {
-        if self.find(name).is_none() {
+        if self.get(name).is_none() {
             self.map.insert(name.as_slice(), value)?;
         }
         Ok(())
+    }
+}
+
+impl<'a, T: Copy> Index<'a, T> {
+    /// What the name stands for.
+    pub fn find(&self, name: &Name) -> Option<T>
+        ensures { result ≡ found self.now name.now }
+    {
+        self.map.get(name.as_slice()).copied()
     }
 }

@@ -1,7 +1,8 @@
-//! Values and paths as reports and traces spell them.
+//! Values and paths as reports and traces spell them, and decimal numbers as plants and traces give them.
 #![tactic(auto)]
 
 mod hexadecimal;
+pub mod number;
 mod path;
 mod value;
 

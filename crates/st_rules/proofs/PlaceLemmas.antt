@@ -1,9 +1,7 @@
 -- The first of a list of places.
-use Rattle.std.specs.List.{flat_map, Contains}
-use Rattle.std.proofs.Common.{◌≡◌, ℕ, List, [], ◌∷◌, ◌++◌, true, false, Option, Some, None, refl, sym, ap, ◌∙◌}
-use Rattle.std.proofs.Common.{append_assoc, arith}
-use Rattle.st_words.specs.declared.identifier.Identifier.{Identifier}
-use Rattle.st_rules.specs.Places.{first, or_place, repeats}
+use Rattle.std.specs.List.{Contains}
+use Rattle.std.proofs.Common.{◌≡◌, ℕ, List, [], ◌∷◌, ◌++◌, true, false, Option, Some, None, refl, arith}
+use Rattle.st_rules.specs.Places.{first, or_place}
 use Rattle.st_rules.specs.Expressions.{or_else}
 use Rattle.st_rules.specs.Bodies.{is_none_of}
 
@@ -14,13 +12,6 @@ first_front (x ∷ ps) qs p h = h
 pub first_behind : (ps qs : List ℕ) → first ps ≡ None → first (ps ++ qs) ≡ first qs
 first_behind [] qs h = refl
 first_behind (x ∷ ps) qs h = absurd (cc)
-
--- scopes that stand one after another
-pub repeats_append : (ss ts : List (List Identifier))
-    → flat_map repeats (ss ++ ts) ≡ flat_map repeats ss ++ flat_map repeats ts
-repeats_append [] ts = refl
-repeats_append (s ∷ ss) ts = ap (λ ps. repeats s ++ ps) (repeats_append ss ts)
-    ∙ sym (append_assoc (repeats s) (flat_map repeats ss) (flat_map repeats ts))
 
 pub first_or : (ps qs : List ℕ) → or_place (first ps) (first qs) ≡ first (ps ++ qs)
 first_or [] qs = refl

@@ -1,5 +1,5 @@
 -- What is wrong in the assignments of a body, as far as it is looked into: those at its top level.
-use Rattle.std.specs.Prelude.{ℕ, List, [], ◌∷◌, ◌++◌, Bool, true, false, ◌&&◌, if◌then◌else◌, Option, Some, None}
+use Rattle.std.specs.Prelude.{is_some, ℕ, List, [], ◌∷◌, ◌++◌, Bool, true, false, ◌&&◌, if◌then◌else◌, Option, Some, None}
 use Rattle.st_words.specs.declared.kind.Kind.{Kind}
 use Rattle.st_words.specs.declared.literal.Literal.{Literal}
 use Rattle.st_words.specs.declared.literal.Literal.TheVariants as literals
@@ -11,13 +11,12 @@ use Rattle.st_trees.specs.Units.{OrganisationUnit}
 use Rattle.st_types.specs.Operators.{number_of}
 use Rattle.st_types.specs.NameTypes.{Declared, variable_type}
 use Rattle.st_types.specs.Resolution.{operand_kind}
-use Rattle.st_rules.specs.Declarations.{is_there}
 use Rattle.st_rules.specs.Expressions.{first_byte, kind_of_name, is_plain, kind_or_taken, kind_at, unless, or_else}
 use Rattle.st_rules.specs.Expressions.{wrong_operations}
 
 -- the place of a variable that the unit does not declare
 abbrev pub unknown_variable : OrganisationUnit → Variable → List ℕ
-unknown_variable u (variable x xs) = unless (is_there (variable_type u x.name)) x.place
+unknown_variable u (variable x xs) = unless (is_some (variable_type u x.name)) x.place
 
 -- the variables that the unit does not declare, but for those in calls and subscripts
 abbrev pub unknown_names : OrganisationUnit → Expr → List ℕ

@@ -1,5 +1,5 @@
 -- Expressions of literals, variables, parentheses and operators: where they begin, and the types of their parts.
-use Rattle.std.specs.Prelude.{ℕ, List, [], ◌∷◌, ◌++◌, Bool, true, false, ◌&&◌, if◌then◌else◌, Option, Some, None}
+use Rattle.std.specs.Prelude.{is_some, ℕ, List, [], ◌∷◌, ◌++◌, Bool, true, false, ◌&&◌, if◌then◌else◌, Option, Some, None}
 use Rattle.std.specs.Prelude.{option_and_then}
 use Rattle.st_words.specs.declared.kind.Kind.{Kind}
 use Rattle.st_words.specs.declared.kind.Sort.{Sort}
@@ -18,7 +18,6 @@ use Rattle.st_trees.specs.Expressions.{no_selectors, selector_then}
 use Rattle.st_trees.specs.Units.{OrganisationUnit}
 use Rattle.st_types.specs.NameTypes.{Declared, kind_of_type, variable_type}
 use Rattle.st_types.specs.Resolution.{taken_kind, own_kind, operand_kind}
-use Rattle.st_rules.specs.Declarations.{is_there}
 
 abbrev pub place_of_literal : Literal → ℕ
 place_of_literal (literals.Number n) = n.place
@@ -51,7 +50,7 @@ is_plain_literal l = true
 -- an expression of such literals, names of elementary variables, parentheses and operators
 abbrev pub is_plain : OrganisationUnit → Expr → Bool
 is_plain u (literal l) = is_plain_literal l
-is_plain u (read v) = is_there (kind_of_name u v)
+is_plain u (read v) = is_some (kind_of_name u v)
 is_plain u (call f es) = false
 is_plain u (parenthesis at e) = is_plain u e
 is_plain u (unary op at e) = is_plain u e

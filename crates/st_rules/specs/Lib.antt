@@ -1,8 +1,4 @@
 pub mod Places
-pub mod InitialScopes
-pub mod Scopes
-pub mod Declarations
-pub mod Backs
 pub mod Expressions
 pub mod Bodies
 pub mod Initials

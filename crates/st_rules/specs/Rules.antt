@@ -4,9 +4,8 @@ use Rattle.std.specs.List.{flat_map, Contains}
 use Rattle.st_trees.specs.Sources.{LibraryElement, types, unit, configuration, Source}
 use Rattle.st_types.specs.NameTypes.{Declared, declared_in}
 use Rattle.st_rules.specs.declared.rule.Rule.{Rule}
-use Rattle.st_rules.specs.declared.rule.Rule.TheVariants.{UnknownName, DeclaredTwice, WrongType, OutOfRange}
+use Rattle.st_rules.specs.declared.rule.Rule.TheVariants.{UnknownName, WrongType, OutOfRange}
 use Rattle.st_rules.specs.declared.rule.Broken.{Broken}
-use Rattle.st_rules.specs.Declarations.{twice_declared}
 use Rattle.st_rules.specs.Bodies.{unknown_names_of, wrong_types_of, out_of_range_of}
 use Rattle.st_rules.specs.Initials.{variables_against, globals_against, priorities_out_of_range}
 
@@ -34,7 +33,6 @@ out_of_range_in text (configuration c) =
 -- the places at which a rule is broken
 abbrev pub broken_at : Source → Rule → List ℕ
 broken_at source UnknownName = flat_map unknown_names_in source
-broken_at source DeclaredTwice = twice_declared source
 broken_at source WrongType = flat_map (wrong_types_in (declared_in source)) source
 broken_at source OutOfRange = flat_map (out_of_range_in (declared_in source)) source
 

@@ -1,6 +1,6 @@
 //! The types of the parts of an expression.
 
-ghost use Rattle.std.specs.Prelude.{◌≡◌, ◌&&◌, true, List, []};
+ghost use Rattle.std.specs.Prelude.{is_some, ◌≡◌, ◌&&◌, true, List, []};
 ghost use Rattle.st_trees.specs.Declarations.{TypeDeclaration};
 ghost use Rattle.st_trees.specs.Expressions.{read};
 ghost use Rattle.st_types.specs.Operators.{or_kind};
@@ -10,7 +10,6 @@ ghost use Rattle.st_trees.specs.UnitViews.{unit_view};
 ghost use Rattle.st_types.specs.NameTypes.{Declared};
 ghost use Rattle.st_types.specs.Resolution.{is_joining, is_untyped_literal, is_untyped, is_whole_or_bits, taken_kind};
 ghost use Rattle.st_types.specs.Resolution.{kind_of_literal, own_kind, operand_kind};
-ghost use Rattle.st_rules.specs.Declarations.{is_there};
 ghost use Rattle.st_rules.specs.Expressions.{kind_of_name, place_of_literal, place_of_variable, first_byte, is_plain};
 ghost use Rattle.st_rules.specs.Expressions.{is_plain_literal};
 ghost use Rattle.st_rules.specs.Expressions.{kind_or_taken, kind_at, takes_operand, takes_operands, is_operation};
@@ -152,7 +151,7 @@ pub fn kind_of_literal(literal: &Literal) -> Option<Kind>
 /// The type of a variable that is a name alone, where it is read.
 #[tactic(auto, using(crate::proofs::KindLemmas::kind_of_plain_read))]
 fn kind_read(unit: &Unit, variable: &Variable) -> Option<Kind>
-    requires { is_there (kind_of_name (unit_view unit.now) (variable_view variable.now)) ≡ true }
+    requires { is_some (kind_of_name (unit_view unit.now) (variable_view variable.now)) ≡ true }
     ensures { (text : Declared) → result ≡ own_kind text (unit_view unit.now) (read (variable_view variable.now)) }
 {
     kind_of_name(unit, variable)

@@ -4,19 +4,14 @@
 #![tactic(auto)]
 
 mod check;
-mod declarations;
 mod elements;
-mod initial_scopes;
 mod initials;
 mod kinds;
 mod lookup;
-mod names;
 mod operations;
 mod places;
 mod ranges;
 mod rule;
-mod scopes;
-mod standard;
 mod unknown;
 
 pub use check::broken_rule;

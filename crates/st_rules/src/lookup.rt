@@ -1,10 +1,9 @@
 //! The declared types of a unit's variables.
 
-ghost use Rattle.std.specs.Prelude.{◌≡◌, option_and_then};
+ghost use Rattle.std.specs.Prelude.{is_some, ◌≡◌, option_and_then};
 ghost use Rattle.st_trees.specs.ExpressionViews.{variable_view};
 ghost use Rattle.st_trees.specs.UnitViews.{unit_view};
 ghost use Rattle.st_types.specs.NameTypes.{kind_of_type, result_type, variable_type};
-ghost use Rattle.st_rules.specs.Declarations.{is_there};
 ghost use Rattle.st_rules.specs.Expressions.{kind_of_name};
 
 use st_trees::{SimpleType, Unit, UnitSort, Variable};
@@ -12,7 +11,7 @@ use st_types::lookup::{is_named, kind_of_type, type_in_blocks};
 use st_words::{Kind, Name};
 
 fn has_result(sort: &UnitSort) -> bool
-    ensures { result ≡ is_there (result_type sort.now) }
+    ensures { result ≡ is_some (result_type sort.now) }
 {
     matches!(sort, UnitSort::Function(_))
 }
@@ -29,7 +28,7 @@ fn result_kind(sort: &UnitSort) -> Option<Kind>
 
 /// Whether the unit declares a variable of this name.
 pub fn is_declared(unit: &Unit, name: &Name) -> bool
-    ensures { result ≡ is_there (variable_type (unit_view unit.now) name.now) }
+    ensures { result ≡ is_some (variable_type (unit_view unit.now) name.now) }
 {
     if is_named(name, &unit.name) {
         has_result(&unit.sort)

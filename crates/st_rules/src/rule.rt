@@ -8,9 +8,6 @@ pub enum Rule {
     /// A name is unknown.
     #[error("C1")]
     UnknownName,
-    /// A name is declared twice in its scope, stands twice in a structure's initial value, or is taken.
-    #[error("C2")]
-    DeclaredTwice,
     /// A type is wrong.
     #[error("C3")]
     WrongType,

@@ -108,3 +108,11 @@ both_more whole item step xs ys i x y before all small few is at so_far =
 pub put_all_of : (old new : Option (List ℕ)) (works : Bool) (bytes : List ℕ) → Puts old true new works bytes
     → IsPut old new works bytes
 put_all_of old new works bytes puts = puts old [] (appends_none old)
+
+-- a list that held nothing holds what was put
+pub put_vec : (items bytes before : List ℕ) (works : Bool) → before ≡ [] → works ≡ true
+    → Puts (Some before) true (Some items) works bytes → items ≡ bytes
+put_vec items bytes before works empty is puts =
+    subst (λ (b : Bool). IsPut (Some before) (Some items) b bytes) is
+    (put_all_of (Some before) (Some items) works bytes puts)
+    ∙ ap (λ xs. xs ++ bytes) empty

@@ -1,2 +1,6 @@
 pub mod Puts
 pub mod Texts
+pub mod Reads
+pub mod Replays
+pub mod Starts
+pub mod Rests

@@ -1,10 +1,24 @@
 //! Traces: what the threads of a run did, as a text that a person can read and one thread can run again.
 #![tactic(auto)]
 
+mod budget;
+mod entries;
+mod findings;
+mod head;
+mod keeping;
+pub mod laws;
 mod lines;
+mod parts;
 mod putting;
+mod replaying;
+mod starting;
+mod told;
 mod trace_error;
+mod values;
 mod writing;
 
+pub use budget::trace_budget;
+pub use findings::Replayed;
+pub use replaying::{replay, replay_text};
 pub use trace_error::ReplayError;
 pub use writing::write_trace;

@@ -64,7 +64,7 @@ fn put_steps<W: Write>(out: &mut W, works: bool, steps: &[Step]) -> bool
 }
 
 /// Writes `keep ` and a path.
-fn put_path<W: Write>(out: &mut W, works: bool, path: &Path) -> bool
+pub(crate) fn put_path<W: Write>(out: &mut W, works: bool, path: &Path) -> bool
     ensures { Puts (W.contents out.old) works (W.contents out.new) result (codes "keep " ++ path_text path.now) }
 {
     let works = put(out, works, b"keep ");
@@ -155,7 +155,7 @@ fn fault_word(fault: Fault) -> &'static [u8]
 }
 
 /// How the end of an execution is spelled.
-fn outcome_word(outcome: Option<Outcome>) -> &'static [u8]
+pub(crate) fn outcome_word(outcome: Option<Outcome>) -> &'static [u8]
     ensures { result.now ≡ outcome_text outcome }
 {
     match outcome {

@@ -28,7 +28,7 @@ fn put_kept_line<W: Write>(out: &mut W, works: bool, variable: &PlanVariable, va
 }
 
 /// Writes the lines of the retained variables.
-fn put_kept<W: Write>(
+pub(crate) fn put_kept<W: Write>(
     out: &mut W,
     works: bool,
     variables: &[PlanVariable],

@@ -1,9 +1,10 @@
 use Rattle.std.proofs.Common.{◌≡◌, ◌<◌, ◌∙◌, ap, sym, rules, ◌+◌, length, take, count_by}
 use Rattle.std.proofs.Math.Seq.{take-length}
-use Rattle.st_plans.specs.Logs.{outcomes_of}
+use Rattle.st_plans.specs.Logs.{outcomes_of, beginning}
 use Rattle.config.specs.PlanViews.{plan_view}
-use Rattle.plant_program.specs.Lives.{is_faulted}
-use Rattle.plant_program.proofs.CountLemmas.{count_no, count_yes, outcomes_counted}
+use Rattle.traces.specs.Replays.{is_faulted}
+use Rattle.traces.proofs.FindingLemmas.{count_no, count_yes}
+use Rattle.traces.proofs.TraceLemmas.{outcomes_long}
 use Rattle.plant_program.proofs.life.faults.Goals.{then-is_faulted_at, else-is_faulted_at}
 use Rattle.plant_program.proofs.life.faults.Goals as goal
 
@@ -12,7 +13,7 @@ loop-number-preserved g c =
     let state = c.args.core.now.state in
     let outcomes = outcomes_of (plan_view state.plan) state.start state.log in
     let i = c.loop-number.number in
-    let counted = outcomes_counted (plan_view state.plan) state.start state.log in
+    let counted = outcomes_long (plan_view state.plan) (beginning state.start) state.log in
     let within : i < length state.log = search rules in
     elim c.if-is_faulted_at.branch [
       | then-is_faulted_at w ↦ w.faults-is ∙ ap (λ n. n + 1) c.loop-number.invariant
@@ -25,7 +26,7 @@ pub returns : goal.returns
 returns g c =
     let state = c.args.core.now.state in
     let outcomes = outcomes_of (plan_view state.plan) state.start state.log in
-    let counted = outcomes_counted (plan_view state.plan) state.start state.log in
+    let counted = outcomes_long (plan_view state.plan) (beginning state.start) state.log in
     let end : c.loop-number.number ≡ length state.log = search rules in
     let whole : take c.loop-number.number outcomes ≡ outcomes = rw (end, ← counted) (take-length outcomes) in
     c.loop-number.invariant ∙ ap (λ os. count_by is_faulted os) whole

@@ -1,7 +1,7 @@
 use Rattle.std.proofs.Common.{◌≡◌, take, count_by}
 use Rattle.st_plans.specs.Logs.{outcomes_of}
 use Rattle.config.specs.PlanViews.{plan_view}
-use Rattle.plant_program.specs.Lives.{is_faulted}
+use Rattle.traces.specs.Replays.{is_faulted}
 use Rattle.plant_program.proofs.life.faults.Given as goal
 
 abbrev pub invariant-loop-number : goal.invariant-loop-number

@@ -1,5 +1,5 @@
 use Rattle.std.proofs.Common.{◌≡◌, ◌-◌, ◌^◌, ℕ, List, min, sum}
-use Rattle.plant_program.specs.Lives.{AreOverruns}
+use Rattle.traces.proofs.FindingLemmas.{AreOverruns}
 use Rattle.plant_program.proofs.life.overruns.Given as goal
 
 abbrev pub invariant-loop-program : goal.invariant-loop-program

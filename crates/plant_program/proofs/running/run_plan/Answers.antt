@@ -2,7 +2,7 @@ use Rattle.std.proofs.Common.{◌≡◌, rules}
 use Rattle.st_words.specs.declared.limits.TheConstants.{MAX_LOG_ROOM}
 use Rattle.image.specs.Plants.{AreRowsOf}
 use Rattle.commit_lock.specs.Starting.{IsNew}
-use Rattle.plant_program.proofs.SettleLemmas.{reported}
+use Rattle.plant_program.proofs.SettleLemmas.{handed_on, reported}
 use Rattle.plant_program.proofs.running.run_plan.Goals as goal
 
 pub returns : goal.returns
@@ -12,8 +12,10 @@ returns g c =
     let new : IsNew c.in_ok-core.core.state c.args.plan MAX_LOG_ROOM = search rules in
     let served = c.served-core in
     record {
-      report = reported (λ text. text.items) c.in_ok-core.core.state served.result.0 c.args.job.now.start
+      report = handed_on _
+          served.result.1 c.traced-report.result c.traced-report.ensures
+          (reported (λ text. text.items) c.in_ok-core.core.state served.result.0 c.args.job.now.start
           c.in_ok-rows.rows.items MAX_LOG_ROOM c.deref.result.now c.args.plan served.result.1 same are new
           c.in_ok-core.ensures.begins served.ensures.life served.ensures.latched served.ensures.settled
-          served.ensures.legal served.ensures.report;
+          served.ensures.legal served.ensures.report);
     }

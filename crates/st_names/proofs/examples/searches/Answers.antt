@@ -1,4 +1,4 @@
-use Rattle.std.proofs.Common.{◌≡◌, refl, arith, ℕ, suc, zero, ◌<◌, List, [], ◌∷◌, slice_index_or}
+use Rattle.std.proofs.Common.{◌≡◌, refl, arith, ℕ, suc, zero, ◌<◌, [], ◌∷◌, slice_index_or}
 use Rattle.st_names.proofs.examples.searches.Goals as goal
 
 pub returns-clause-first : goal.returns-clause-first

@@ -1,5 +1,5 @@
-use Rattle.std.proofs.Common.{rules, ◌≡◌, sym, subst, ℕ, ◌+◌, List, [], take, drop, true, false}
-use Rattle.std.specs.Prelude.{is_some, map}
+use Rattle.std.proofs.Common.{rules, ◌≡◌, sym, subst, ◌+◌, [], take, drop, true, false}
+use Rattle.std.specs.Prelude.{map}
 use Rattle.std.specs.List.{list_any, Contains}
 use Rattle.st_types.specs.NameTypes.{is_named}
 use Rattle.st_statics.specs.Places.{repeats}

@@ -1,4 +1,4 @@
-use Rattle.std.proofs.Common.{rules, ◌≡◌, ◌+◌, take}
+use Rattle.std.proofs.Common.{rules, ◌+◌, take}
 use Rattle.std.specs.Prelude.{map}
 use Rattle.st_names.specs.Found.{found}
 use Rattle.st_names.proofs.RepeatLemmas.{more_named}

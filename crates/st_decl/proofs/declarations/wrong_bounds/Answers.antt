@@ -1,0 +1,29 @@
+use Rattle.std.proofs.Common.{subst}
+use Rattle.std.specs.List.{flat_map}
+use Rattle.st_trees.specs.SourceViews.{source_view}
+use Rattle.st_types.specs.NameTypes.{declared_in}
+use Rattle.st_statics.specs.declared.rule.Rule.TheVariants.{WrongBounds}
+use Rattle.st_statics.specs.DeclaredTypes.{arrays_in}
+use Rattle.st_statics.specs.Faults.{breaking, Finds}
+use Rattle.st_statics.specs.TypeRules.{wrong_bounds}
+use Rattle.st_statics.specs.InitialRules.{too_long}
+use Rattle.st_statics.specs.Rules.{starts_in}
+use Rattle.st_decl.proofs.FaultLemmas.{fault_in_front, faults_behind}
+use Rattle.st_decl.proofs.declarations.wrong_bounds.Goals as goal
+
+pub returns-in-Some : goal.returns-in-Some
+returns-in-Some c =
+    let source = source_view c.args.source.now in
+    let bounds = flat_map wrong_bounds (arrays_in source) in
+    let lists = flat_map (too_long (declared_in source)) (starts_in source) in
+    fault_in_front (breaking WrongBounds bounds) (breaking WrongBounds lists) c.in-Some.broken
+    (subst (λ o. Finds (breaking WrongBounds bounds) o) c.in-Some.is (c.broken_at.ensures bounds c.in_ok-place.ensures))
+
+pub returns : goal.returns
+returns c =
+    let source = source_view c.args.source.now in
+    let bounds = flat_map wrong_bounds (arrays_in source) in
+    let lists = flat_map (too_long (declared_in source)) (starts_in source) in
+    faults_behind (breaking WrongBounds bounds) (breaking WrongBounds lists) c.broken_at-2.result
+    (subst (λ o. Finds (breaking WrongBounds bounds) o) c.in_default.is
+    (c.broken_at.ensures bounds c.in_ok-place.ensures)) (c.broken_at-2.ensures lists c.in_ok-place-2.ensures)

@@ -1,0 +1,148 @@
+//! The rules on declarations: what a text must keep to before anything else in it is looked at.
+
+ghost use Rattle.std.specs.Prelude.{◌≡◌, ◌++◌, ℕ, List, map, IfOk};
+ghost use Rattle.std.specs.List.{flat_map};
+ghost use Rattle.st_trees.specs.SourceViews.{source_view};
+ghost use Rattle.st_types.specs.NameTypes.{declared_in};
+ghost use Rattle.st_statics.specs.declared.rule.Rule.TheVariants.{DeclaredTwice, TooDeep, WrongBounds, RetainedAddress};
+ghost use Rattle.st_statics.specs.DeclaredTypes.{declarings_in, arrays_in, unnamed_arrays_in};
+ghost use Rattle.st_statics.specs.Faults.{breaking, Finds};
+ghost use Rattle.st_statics.specs.TwiceDeclared.{twice_declared};
+ghost use Rattle.st_statics.specs.Containment.{too_deep};
+ghost use Rattle.st_statics.specs.TypeRules.{wrong_bounds, retained_addresses_of};
+ghost use Rattle.st_statics.specs.InitialRules.{too_long};
+ghost use Rattle.st_statics.specs.Rules.{starts_in, wrong_declarations};
+ghost use Rattle.st_names.specs.Searches.{FindsPlace};
+ghost use Rattle.st_decl.specs.DeclaringViews.{declaring_view};
+ghost use Rattle.st_decl.specs.Judgements.{Judges};
+
+use crate::arrays::{named_arrays, unnamed_arrays};
+use crate::bounds::push_wrong_bounds;
+use crate::declarings::{Declaring, declarings_in};
+use crate::elements::types_in;
+use crate::judging::{CheckError, broken_at};
+use crate::long_lists::push_long_lists;
+use crate::retained::retained_addresses;
+use crate::starts::starts_of;
+use crate::too_deep::first_too_deep;
+use crate::twice_declared::declared_twice;
+use st_names::{FieldNames, TextNames};
+use st_statics::{Broken, Rule};
+use st_trees::{ArrayType, Source};
+use std::alloc::{AllocError, Global};
+
+/// One of the places, where there are any.
+fn first_of(places: &[usize]) -> Option<usize>
+    ensures { (all : List ℕ) → places.now ≡ all → FindsPlace all result }
+{
+    places.first().copied()
+}
+
+/// A place at which the bounds of an array are reversed or too wide.
+fn first_wrong_bounds(
+    alloc: Global,
+    source: &Source,
+    unnamed: &[&ArrayType],
+) -> Result<Option<usize>, AllocError>
+    requires { map (λ a. a.now) unnamed.now ≡ unnamed_arrays_in (source_view source.now) }
+    ensures { IfOk result (λ place. FindsPlace (flat_map wrong_bounds (arrays_in (source_view source.now))) place) }
+{
+    let named = named_arrays(alloc, source)?;
+    let mut places = Vec::new(alloc);
+    push_wrong_bounds(&mut places, &named)?;
+    push_wrong_bounds(&mut places, unnamed)?;
+    Ok(first_of(&places))
+}
+
+/// A place at which a list has more elements than its array.
+fn first_long_list<'a>(
+    alloc: Global,
+    source: &'a Source,
+    declarings: &[Declaring<'a>],
+) -> Result<Option<usize>, AllocError>
+    requires { map declaring_view declarings.now ≡ declarings_in (source_view source.now) }
+    ensures { IfOk result (λ place. FindsPlace
+        (flat_map (too_long (declared_in (source_view source.now))) (starts_in (source_view source.now))) place) }
+{
+    let types = types_in(alloc, source)?;
+    let names = TextNames::new(alloc, source)?;
+    let fields = FieldNames::new(alloc, &types)?;
+    let starts = starts_of(alloc, &names, &fields, declarings)?;
+    let mut places = Vec::new(alloc);
+    push_long_lists(&mut places, &names, &starts)?;
+    Ok(first_of(&places))
+}
+
+/// An array with wrong bounds, or a list that is too long for its array (C8).
+fn wrong_bounds<'a>(
+    alloc: Global,
+    source: &'a Source,
+    declarings: &[Declaring<'a>],
+    unnamed: &[&ArrayType],
+) -> Result<Option<Broken>, AllocError>
+    requires listed { map declaring_view declarings.now ≡ declarings_in (source_view source.now) }
+    requires without_names { map (λ a. a.now) unnamed.now ≡ unnamed_arrays_in (source_view source.now) }
+    ensures { IfOk result (λ broken. Finds
+        (breaking WrongBounds (flat_map wrong_bounds (arrays_in (source_view source.now)))
+        ++ breaking WrongBounds
+        (flat_map (too_long (declared_in (source_view source.now))) (starts_in (source_view source.now)))) broken) }
+{
+    let place = first_wrong_bounds(alloc, source, unnamed)?;
+    if let Some(broken) = broken_at(Rule::WrongBounds, place) {
+        return Ok(Some(broken));
+    }
+    let place = first_long_list(alloc, source, declarings)?;
+    Ok(broken_at(Rule::WrongBounds, place))
+}
+
+/// What contains itself or is too deep (C6), or has wrong bounds or too long a list (C8).
+fn wrong_types(alloc: Global, source: &Source) -> Result<Option<Broken>, AllocError>
+    ensures { IfOk result (λ broken. Finds (breaking TooDeep (too_deep (source_view source.now))
+        ++ breaking WrongBounds (flat_map wrong_bounds (arrays_in (source_view source.now)))
+        ++ breaking WrongBounds
+        (flat_map (too_long (declared_in (source_view source.now))) (starts_in (source_view source.now)))) broken) }
+{
+    let declarings = declarings_in(alloc, source)?;
+    let unnamed = unnamed_arrays(alloc, &declarings)?;
+    let place = first_too_deep(alloc, source, &unnamed)?;
+    if let Some(broken) = broken_at(Rule::TooDeep, place) {
+        return Ok(Some(broken));
+    }
+    wrong_bounds(alloc, source, &declarings, &unnamed)
+}
+
+/// A retained global with an address (C11).
+fn wrong_address(alloc: Global, source: &Source) -> Result<Option<Broken>, AllocError>
+    ensures { IfOk result (λ broken. Finds
+        (breaking RetainedAddress (flat_map retained_addresses_of (source_view source.now))) broken) }
+{
+    let places = retained_addresses(alloc, source)?;
+    Ok(broken_at(Rule::RetainedAddress, first_of(&places)))
+}
+
+/// A rule on declarations that is broken.
+fn wrong_declaration(alloc: Global, source: &Source) -> Result<Option<Broken>, AllocError>
+    ensures { IfOk result (λ broken. Finds (wrong_declarations (source_view source.now)) broken) }
+{
+    let place = declared_twice(alloc, source)?;
+    if let Some(broken) = broken_at(Rule::DeclaredTwice, place) {
+        return Ok(Some(broken));
+    }
+    if let Some(broken) = wrong_types(alloc, source)? {
+        return Ok(Some(broken));
+    }
+    wrong_address(alloc, source)
+}
+
+/// Judges a text by the rules on declarations alone: names (C2), what contains itself or is too deep (C6), bounds of
+/// arrays and lengths of lists (C8), addresses (C11). It accepts exactly where none of them is broken anywhere; else it
+/// tells one that is, with its place, or that there is no memory (C12).
+pub fn declare(alloc: Global, source: &Source) -> Result<(), CheckError>
+    ensures { Judges (wrong_declarations (source_view source.now)) result }
+{
+    match wrong_declaration(alloc, source) {
+        Ok(None) => Ok(()),
+        Ok(Some(broken)) => Err(CheckError::Broken(broken)),
+        Err(_) => Err(CheckError::OutOfMemory),
+    }
+}

@@ -1,6 +1,0 @@
-use Rattle.std.proofs.Common.{◌≡◌, ◌++◌, map, take}
-use Rattle.st_rules.proofs.names.push_names.Given as goal
-
-abbrev pub invariant-loop-name : goal.invariant-loop-name
-invariant-loop-name l =
-    map (λ x. x.now) l.scope.items ≡ map (λ x. x.now) l.initial.scope.items ++ take l.name-index l.names

@@ -1,9 +1,0 @@
-use Rattle.std.proofs.Common.{◌≡◌, ◌++◌, map, drop}
-use Rattle.std.specs.List.{flat_map}
-use Rattle.st_trees.specs.DeclarationViews.{declaration_view}
-use Rattle.st_rules.proofs.scopes.push_declared.Given as goal
-
-abbrev pub invariant-loop-declaration : goal.invariant-loop-declaration
-invariant-loop-declaration l = map (λ x. x.now) l.scope.items
-    ++ flat_map (λ d. d.names) (map declaration_view (drop l.declaration-index l.declarations))
-    ≡ map (λ x. x.now) l.initial.scope.items ++ flat_map (λ d. d.names) (map declaration_view l.declarations)

@@ -1,0 +1,26 @@
+use Rattle.std.proofs.Common.{◌≢◌, List, ℕ}
+use Rattle.st_plans.specs.Restarts.{Start}
+use Rattle.st_plans.specs.Logs.{Log}
+use Rattle.commit_lock.specs.declared.starting.StartMode.{StartMode}
+use Rattle.traces.specs.declared.trace_error.ReplayError.TheVariants.{NoMemory, Device}
+use Rattle.traces.specs.declared.findings.Replayed.{Replayed}
+use Rattle.traces.specs.Replays.{AreFindings, IsTrace}
+use Rattle.traces.proofs.ReplayLemmas.{read_refused, read_told}
+use Rattle.traces.proofs.replaying.replay.Goals as goal
+
+pub returns-in-Ok-clause-refused : goal.returns-in-Ok-clause-refused
+returns-in-Ok-clause-refused g c = λ apart.
+    read_refused (λ e. e ≢ NoMemory) (λ e. e ≢ Device)
+    (λ (text : List ℕ). (mode : StartMode) (start : Start) (log : Log)
+    → IsTrace c.args.plan.value c.args.rows.now text mode start log → ⊥) (g.R.Read.remaining c.args.reader)
+    c.new-text.result.items c.read_to_end.new.buf.items c.deref.result.now c.replay_text.result c.new-text.ensures.items
+    c.in-Ok.ensures.bytes c.deref.ensures.value (c.replay_text.ensures.refused apart)
+
+pub returns-in-Ok-clause-only : goal.returns-in-Ok-clause-only
+returns-in-Ok-clause-only g c = λ apart.
+    read_told (λ (r : Replayed) (text : List ℕ). (mode : StartMode) (start : Start) (log : Log)
+    → IsTrace c.args.plan.value c.args.rows.now text mode start log
+    → AreFindings c.args.plan.value start log r.rows r.done r.faults r.overruns r.values.items)
+    (g.R.Read.remaining c.args.reader) c.new-text.result.items c.read_to_end.new.buf.items c.deref.result.now
+    c.replay_text.result c.new-text.ensures.items c.in-Ok.ensures.bytes c.deref.ensures.value
+    (c.replay_text.ensures.only apart)

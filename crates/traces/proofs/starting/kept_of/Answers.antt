@@ -1,0 +1,16 @@
+use Rattle.std.proofs.Common.{◌∙◌, sym, ap, List}
+use Rattle.st_plans.specs.declared.plan.PlanVariable.{PlanVariable}
+use Rattle.config.specs.declared.plan.Plan.{Plan}
+use Rattle.traces.specs.Texts.{kept_text}
+use Rattle.traces.proofs.PutLemmas.{put_vec}
+use Rattle.traces.proofs.TraceLemmas.{kept_is}
+use Rattle.traces.proofs.starting.kept_of.Goals as goal
+
+pub returns-then-put_kept : goal.returns-then-put_kept
+returns-then-put_kept c =
+    put_vec c.put_kept.new.out.items (kept_text c.deref.result.now c.start_values.result.now) c.new-text.result.items
+    c.put_kept.result c.new-text.ensures.items c.if-put_kept.true c.put_kept.ensures
+    ∙ ap (λ (vs : List PlanVariable). kept_text vs c.start_values.result.now)
+    (c.deref.ensures.value ∙ ap (λ (p : Plan). p.variables.items) c.plan.ensures)
+    ∙ sym (kept_is c.args.core.now.plan c.args.core.now.start c.start_values.result.now c.start_values.ensures.store
+    c.start_values.ensures.len)

@@ -1,0 +1,76 @@
+-- What a trace tells, and what is told of its replay.
+use Rattle.std.specs.Prelude.{◌≡◌, ◌<◌, ◌≤◌, ◌-◌, ◌^◌, ℕ, min, List, [], ◌∷◌, ◌++◌, Bool, true, false, length, map, sum}
+use Rattle.std.specs.Prelude.{count_by, slice_index, slice_get, Option, Some, None, IfSome, codes}
+use Rattle.std.specs.Fmt.{decimal}
+use Rattle.st_words.specs.declared.limits.TheConstants.{MAX_LOG_ROOM, MOMENT_LIMIT}
+use Rattle.st_words.specs.Values.{Datum}
+use Rattle.st_types.specs.declared.outcome.Outcome.{Outcome}
+use Rattle.st_types.specs.declared.outcome.Outcome.TheVariants.{Done as Ended, Faulted}
+use Rattle.st_plans.specs.declared.entry.Entry.TheVariants.{Row, Done}
+use Rattle.st_plans.specs.Rows.{Latch}
+use Rattle.st_plans.specs.Due.{HasOverruns}
+use Rattle.st_plans.specs.Plans.{schedules_of}
+use Rattle.st_plans.specs.Restarts.{Kept, Start, cold_start, warm_start}
+use Rattle.st_plans.specs.Logs.{Log, past_of, after, outcomes_of, row_count, done_count, IsLegal}
+use Rattle.config.specs.declared.task.ProgramInstance.{ProgramInstance}
+use Rattle.config.specs.declared.plan.Plan.{Plan}
+use Rattle.config.specs.PlanViews.{plan_view}
+use Rattle.commit_lock.specs.declared.starting.StartMode.{StartMode}
+use Rattle.commit_lock.specs.declared.starting.StartMode.TheVariants.{Warm, Cold}
+use Rattle.traces.specs.Texts.{instance_text, line, trace_text}
+
+-- the first two lines, with this budget
+abbrev pub budget_text : ℕ → List ℕ
+budget_text budget = line (codes "trace 1") ++ line (codes "budget " ++ decimal budget)
+
+-- the rows of a log
+abbrev pub rows_in : Log → List Latch
+rows_in [] = []
+rows_in (Row row ∷ log) = row ∷ rows_in log
+rows_in (Done a ∷ log) = rows_in log
+
+-- A cold start has the initial values and no moment. A warm one goes on from what some record tells, or from none.
+abbrev pub IsStart : Plan → StartMode → Start → Type 0
+IsStart plan Cold start = start ≡ cold_start (plan_view plan)
+IsStart plan Warm start = (told : Option Kept) × (start ≡ warm_start (plan_view plan) told)
+
+-- The text is the trace of a legal log, which a core has room for. The life was started so, and its rows are the first
+-- of these.
+pub record IsTrace (plan : Plan) (rows : List Latch) (text : List ℕ) (mode : StartMode) (start : Start) (log : Log)
+    : Type 0 where
+  pub started : IsStart plan mode start
+  pub early : IfSome start.moment (λ t. t < MOMENT_LIMIT)
+  pub few : length log ≤ MAX_LOG_ROOM
+  pub legal : IsLegal (plan_view plan) start.store start.moment log
+  pub behind : List Latch
+  pub rows_are : rows ≡ rows_in log ++ behind
+  pub spelled : text ≡ trace_text plan mode start log
+
+-- A line `done RES/INST ..` tells its program: no text begins so with two.
+abbrev pub AreToldApart : List ProgramInstance → Type 0
+AreToldApart programs = (i j : ℕ) (p q : ProgramInstance) (more rest : List ℕ) → slice_get programs i ≡ Some p
+    → slice_get programs j ≡ Some q
+    → (instance_text (Some p) ++ codes " ") ++ more ≡ (instance_text (Some q) ++ codes " ") ++ rest → i ≡ j
+
+abbrev pub is_faulted : Option Outcome → Bool
+is_faulted None = false
+is_faulted (Some Ended) = false
+is_faulted (Some (Faulted f)) = true
+
+-- the overruns of each program of a life, and in all, up to the greatest number of 64 bits
+pub record HasOverrunsInAll (plan : Plan) (start : Start) (log : Log) (n : ℕ) : Type 0 where
+  pub each : List ℕ
+  pub number : length each ≡ length plan.programs.items
+  pub overruns : (p : ℕ) → p < length plan.programs.items → HasOverruns (schedules_of (plan_view plan))
+      (past_of (plan_view plan) start.store log).history p (slice_index each p)
+  pub total : n ≡ min (sum each) (2 ^ 64 - 1)
+
+-- what is told of a life with this start and this log: how many rows, executions, faults and overruns, and the values of
+-- the variables after it
+pub record AreFindings (plan : Plan) (start : Start) (log : Log) (rows done faults overruns : ℕ) (values : List Datum)
+    : Type 0 where
+  pub rows_are : rows ≡ row_count log
+  pub done_are : done ≡ done_count log
+  pub faults_are : faults ≡ count_by is_faulted (outcomes_of (plan_view plan) start.store log)
+  pub overruns_are : HasOverrunsInAll plan start log overruns
+  pub values_are : values ≡ map (λ e. e.1) (after (plan_view plan) start.store log)

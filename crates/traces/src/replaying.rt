@@ -1,0 +1,90 @@
+//! Replay: a trace, run again by one thread.
+
+ghost use Rattle.std.specs.Prelude.{◌≡◌, ◌≢◌, ◌⊎◌, IfOk, IfErr, IfSome};
+ghost use Rattle.st_plans.specs.Restarts.{Start};
+ghost use Rattle.st_plans.specs.Logs.{Log};
+ghost use Rattle.commit_lock.specs.declared.starting.StartMode.{StartMode};
+ghost use Rattle.traces.specs.Replays.{AreFindings, AreToldApart, IsTrace};
+
+use crate::entries::replay_log;
+use crate::findings::{Replayed, findings};
+use crate::starting::start;
+use crate::trace_error::ReplayError;
+use config::Plan;
+use st_plans::Row;
+use std::alloc::Global;
+use std::io;
+use std::io::Read;
+use std::sync::Arc;
+
+/// Runs a trace again, line by line, over the first of these rows, and tells what it found.
+///
+/// V2 where a row is not the plant's next one, or not later than the one before; V3 where an execution was not waiting;
+/// V4 where it ends in another way; V1 where the text is no trace of the plan for another cause; V5 out of memory.
+pub fn replay_text(
+    alloc: Global,
+    plan: Arc<Plan>,
+    rows: &[Row],
+    text: &[u8],
+) -> Result<Replayed, ReplayError>
+    ensures told { IfOk result (λ r. (mode : StartMode) × (start : Start) × (log : Log)
+        × IsTrace plan.value rows.now text.now mode start log
+        × AreFindings plan.value start log r.rows r.done r.faults r.overruns r.values.items) }
+    // The text is the trace of no other life: what is told is told of each life whose trace it is.
+    ensures only { AreToldApart plan.value.programs.items → IfOk result (λ r. (mode : StartMode) (start : Start)
+        (log : Log) → IsTrace plan.value rows.now text.now mode start log
+        → AreFindings plan.value start log r.rows r.done r.faults r.overruns r.values.items) }
+    ensures refused { AreToldApart plan.value.programs.items → IfErr result (λ e. e ≢ ReplayError.NoMemory
+        → (mode : StartMode) (start : Start) (log : Log) → IsTrace plan.value rows.now text.now mode start log → ⊥) }
+{
+    let started = match start(alloc, plan, text) {
+        Ok(started) => started,
+        Err(_) => return Err(ReplayError::NoMemory),
+    };
+    let (mut core, lines) = match started {
+        Some((_, core, lines)) => (core, lines),
+        None => return Err(ReplayError::Form),
+    };
+    match replay_log(alloc, &mut core, rows, lines) {
+        Ok(()) => match findings(alloc, &core) {
+            Ok(found) => Ok(found),
+            Err(_) => Err(ReplayError::NoMemory),
+        },
+        Err(error) => Err(error),
+    }
+}
+
+/// Why a trace can't be read: V5 out of memory, else V6.
+fn unread(error: &io::Error) -> ReplayError
+    ensures { (result ≡ ReplayError.NoMemory) ⊎ (result ≡ ReplayError.Device) }
+{
+    if error.kind() == io::ErrorKind::OutOfMemory {
+        return ReplayError::NoMemory;
+    }
+    ReplayError::Device
+}
+
+/// Runs a trace again that a reader gives, as `replay_text` does; V6 where the reader fails.
+pub fn replay<R: Read + Drop>(
+    alloc: Global,
+    plan: Arc<Plan>,
+    rows: &[Row],
+    reader: R,
+) -> Result<Replayed, ReplayError>
+    ensures told { IfOk result (λ r. IfSome (R.remaining reader) (λ text. (mode : StartMode) × (start : Start)
+        × (log : Log) × IsTrace plan.value rows.now text mode start log
+        × AreFindings plan.value start log r.rows r.done r.faults r.overruns r.values.items)) }
+    ensures only { AreToldApart plan.value.programs.items → IfOk result (λ r. IfSome (R.remaining reader) (λ text.
+        (mode : StartMode) (start : Start) (log : Log) → IsTrace plan.value rows.now text mode start log
+        → AreFindings plan.value start log r.rows r.done r.faults r.overruns r.values.items)) }
+    ensures refused { AreToldApart plan.value.programs.items → IfErr result (λ e. e ≢ ReplayError.NoMemory
+        → e ≢ ReplayError.Device → IfSome (R.remaining reader) (λ text. (mode : StartMode) (start : Start) (log : Log)
+        → IsTrace plan.value rows.now text mode start log → ⊥)) }
+{
+    let mut reader = reader;
+    let mut text = Vec::new(alloc);
+    match reader.read_to_end(&mut text) {
+        Ok(_) => replay_text(alloc, plan, rows, &text),
+        Err(error) => Err(unread(&error)),
+    }
+}

@@ -1,0 +1,134 @@
+//! A core that is started as a trace tells.
+
+ghost use Rattle.std.specs.Prelude.{◌≡◌, IfOk, None, option_map};
+ghost use Rattle.std.specs.List.{All};
+ghost use Rattle.st_words.specs.Values.{IsHeld};
+ghost use Rattle.traces.specs.Reads.{Begins};
+ghost use Rattle.traces.specs.Starts.{IsBegunAt, IsBegunSo, IsEarly, head_of, kept_of};
+
+use crate::head::begin;
+use crate::keeping::kept_values;
+use crate::parts::behind;
+use crate::writing::put_kept;
+use commit_lock::StartMode;
+use config::Plan;
+use serial_core::SerialCore;
+use st_plans::PlanVariable;
+use st_words::limits::MAX_LOG_ROOM;
+use std::alloc::{AllocError, Global};
+use std::sync::Arc;
+
+/// The lines of what the retained variables of a core started with.
+fn kept_of(alloc: Global, core: &SerialCore) -> Result<Vec<u8>, AllocError>
+    ensures { IfOk result (λ text. text.items ≡ kept_of core.now) }
+{
+    let mut text = Vec::new(alloc);
+    if put_kept(&mut text, true, &core.plan().variables, core.start_values()) {
+        Ok(text)
+    } else {
+        Err(AllocError)
+    }
+}
+
+/// A core that starts cold, where these lines tell its initial values, and what stands behind them.
+fn cold_without_moment(
+    alloc: Global,
+    plan: Arc<Plan>,
+    text: &[u8],
+) -> Result<Option<(SerialCore, &[u8])>, AllocError>
+    ensures { IfOk result (λ told. Begins (IsBegunAt plan.value StartMode.Cold None) kept_of text.now
+        (option_map (λ p. (p.0, p.1.now)) told)) }
+{
+    let core = SerialCore::start(alloc, plan, MAX_LOG_ROOM)?;
+    let kept = kept_of(alloc, &core)?;
+    match behind(text, &kept) {
+        Some(rest) => Ok(Some((core, rest))),
+        None => Ok(None),
+    }
+}
+
+/// A core that starts cold, where these lines tell its initial values and there is no moment, and what stands behind
+/// them.
+fn cold(
+    alloc: Global,
+    plan: Arc<Plan>,
+    moment: Option<u64>,
+    text: &[u8],
+) -> Result<Option<(SerialCore, &[u8])>, AllocError>
+    ensures { IfOk result (λ told. Begins (IsBegunAt plan.value StartMode.Cold moment) kept_of text.now
+        (option_map (λ p. (p.0, p.1.now)) told)) }
+{
+    match moment {
+        Some(_) => Ok(None),
+        None => cold_without_moment(alloc, plan, text),
+    }
+}
+
+/// The type of each variable holds the value that it starts with.
+fn held_initials(variables: &[PlanVariable])
+    ensures { All (λ v. IsHeld v.initial) variables.now }
+{
+    for variable in variables {
+        let _held = variable.initial.number();
+    }
+}
+
+/// A core that starts warm from what these lines tell, and what stands behind them.
+fn warm(
+    alloc: Global,
+    plan: Arc<Plan>,
+    moment: Option<u64>,
+    text: &[u8],
+) -> Result<Option<(SerialCore, &[u8])>, AllocError>
+    requires { IsEarly moment }
+    ensures { IfOk result (λ told. Begins (IsBegunAt plan.value StartMode.Warm moment) kept_of text.now
+        (option_map (λ p. (p.0, p.1.now)) told)) }
+{
+    let mut core = SerialCore::start(alloc, plan, MAX_LOG_ROOM)?;
+    held_initials(&core.plan().variables);
+    let (values, rest) = match kept_values(alloc, &core.plan().variables, text)? {
+        Some(told) => told,
+        None => return Ok(None),
+    };
+    core.resume(&values, moment);
+    Ok(Some((core, rest)))
+}
+
+/// A core that starts so, as these lines tell, and what stands behind them.
+fn begun(
+    alloc: Global,
+    plan: Arc<Plan>,
+    mode: StartMode,
+    moment: Option<u64>,
+    text: &[u8],
+) -> Result<Option<(SerialCore, &[u8])>, AllocError>
+    requires { IsEarly moment }
+    ensures { IfOk result (λ told. Begins (IsBegunAt plan.value mode moment) kept_of text.now
+        (option_map (λ p. (p.0, p.1.now)) told)) }
+{
+    match mode {
+        StartMode::Warm => warm(alloc, plan, moment, text),
+        StartMode::Cold => cold(alloc, plan, moment, text),
+    }
+}
+
+/// How the life of a trace was started, a core of this start, and what stands behind the head of the trace.
+pub(crate) fn start(
+    alloc: Global,
+    plan: Arc<Plan>,
+    text: &[u8],
+) -> Result<Option<(StartMode, SerialCore, &[u8])>, AllocError>
+    ensures { IfOk result (λ told. Begins (IsBegunSo plan.value) head_of text.now
+        (option_map (λ p. ((p.0, p.1), p.2.now)) told)) }
+{
+    match begin(plan.budget, text) {
+        Some((mode, moment, lines)) => {
+            let life = begun(alloc, plan, mode, moment, lines)?;
+            match life {
+                Some((core, rest)) => Ok(Some((mode, core, rest))),
+                None => Ok(None),
+            }
+        }
+        None => Ok(None),
+    }
+}
