@@ -1,0 +1,9 @@
+use Rattle.std.proofs.Common.{rules}
+use Rattle.std.proofs.lemmas.List.Sorted.{answers_always}
+use Rattle.st_check.proofs.SpanLemmas.{ascend_sorted}
+use Rattle.st_check.proofs.spans.sort.Goals as goal
+
+pub returns-clause-ascending : goal.returns-clause-ascending
+returns-clause-ascending c =
+    ascend_sorted _
+    (c.in_ok-sort_by_key.ensures.sorted (λ s. s.lower) (answers_always _ _ _ (λ f a r g h. search rules)))

@@ -1,0 +1,4 @@
+pub mod Finding
+pub mod PartLemmas
+pub mod TypingLemmas
+pub mod CallLemmas

@@ -1,0 +1,26 @@
+-- What the typing of an expression answers.
+use Rattle.std.specs.Prelude.{◌≡◌, List, [], false, Option, Result, Ok, Err}
+use Rattle.std.specs.List.{Contains}
+use Rattle.st_words.specs.declared.kind.Kind.{Kind}
+use Rattle.st_trees.specs.Expressions.{Expr}
+use Rattle.st_types.specs.Resolution.{is_untyped}
+use Rattle.st_statics.specs.declared.rule.Broken.{Broken}
+use Rattle.st_statics.specs.declared.typings.Typing.{Typing}
+use Rattle.st_statics.specs.Environments.{Environment}
+use Rattle.st_statics.specs.Typings.{typing_of}
+use Rattle.st_statics.specs.ExpressionRules.{wrong_within}
+
+-- a typing where there are no faults, or one of the faults
+abbrev pub Gives : Typing → List Broken → Result Typing Broken → Type 0
+Gives t faults (Ok u) = (u ≡ t) × (faults ≡ [])
+Gives t faults (Err b) = Contains faults b
+
+-- A typing, with nothing wrong in what is not untyped, whatever type its place offers.
+pub record IsTyped (env : Environment) (e : Expr) (t : Typing) : Type 0 where
+  pub typing : t ≡ typing_of env e
+  pub clean : is_untyped e ≡ false → (k : Option Kind) → wrong_within env k e ≡ []
+
+-- or something that is wrong whatever type its place offers
+abbrev pub Types : Environment → Expr → Result Typing Broken → Type 0
+Types env e (Ok t) = IsTyped env e t
+Types env e (Err b) = (k : Option Kind) → Contains (wrong_within env k e) b

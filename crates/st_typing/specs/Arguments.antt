@@ -1,0 +1,37 @@
+-- The arguments of a call.
+use Rattle.std.specs.Prelude.{◌≡◌, ℕ, List, [], ◌∷◌, ◌++◌, ◌==◌, length, Some}
+use Rattle.std.specs.List.{flat_map}
+use Rattle.st_trees.specs.Expressions.{Exprs}
+use Rattle.st_types.specs.Scopes.{Name}
+use Rattle.st_statics.specs.declared.rule.Rule.TheVariants.{WrongArguments}
+use Rattle.st_statics.specs.declared.rule.Broken.{Broken}
+use Rattle.st_statics.specs.Faults.{breaking, unless}
+use Rattle.st_statics.specs.declared.demand.Demand.{Demand}
+use Rattle.st_statics.specs.Environments.{Environment, Callee, callee_of}
+use Rattle.st_statics.specs.Nodes.{nodes_of_all}
+use Rattle.st_statics.specs.ExpressionRules.{wrong_node, count_of}
+use Rattle.st_typing.specs.declared.demands.Demands.{Demands}
+use Rattle.st_typing.specs.declared.demands.Demands.TheVariants.{One, Two, Three}
+
+-- what a standard function asks, in order
+abbrev pub demands_view : Demands → List Demand
+demands_view (One d) = d ∷ []
+demands_view (Two d e) = d ∷ e ∷ []
+demands_view (Three d e f) = d ∷ e ∷ f ∷ []
+
+-- too few or too many arguments of a call
+abbrev pub wrong_count : ℕ → Broken
+wrong_count at = record { rule = WrongArguments; place = at }
+
+-- what is wrong in arguments of which this is asked
+abbrev pub wrong_arguments : Environment → List Demand → Exprs → List Broken
+wrong_arguments env ds es = flat_map (wrong_node env) (nodes_of_all env ds es)
+
+-- what is wrong in them, or in their number
+abbrev pub wrong_in_call : Environment → ℕ → List Demand → Exprs → List Broken
+wrong_in_call env at ds es =
+    breaking WrongArguments (unless (count_of es == length ds) at) ++ wrong_arguments env ds es
+
+-- the function that a name calls
+pub record Calls (env : Environment) (f : Name) (c : Callee) : Type 0 where
+  pub callee : callee_of env f ≡ Some c

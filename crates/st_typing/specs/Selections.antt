@@ -1,0 +1,45 @@
+-- What is selected of a variable, step by step.
+use Rattle.std.specs.Prelude.{◌≡◌, ◌++◌, ℕ, List, [], Option, Some, None, Result, Ok, Err, option_and_then, option_map}
+use Rattle.std.specs.Prelude.{if◌then◌else◌}
+use Rattle.std.specs.List.{Contains, flat_map}
+use Rattle.st_trees.specs.declared.data_type.VariableType.{VariableType}
+use Rattle.st_trees.specs.Expressions.{Selector, Selectors}
+use Rattle.st_types.specs.NameTypes.{Declared, selected_type, type_behind}
+use Rattle.st_statics.specs.declared.rule.Broken.{Broken}
+use Rattle.st_statics.specs.Environments.{Environment}
+use Rattle.st_statics.specs.Typings.{typing_of_type, is_nothing}
+use Rattle.st_statics.specs.Nodes.{nodes_of_selectors}
+use Rattle.st_statics.specs.ExpressionRules.{wrong_selector, wrong_selectors, wrong_node}
+use Rattle.st_names.specs.declared.place_types.PlaceType.{PlaceType}
+use Rattle.st_names.specs.PlaceTypes.{place_type_view}
+
+-- the type of what a selector selects of a type that is known
+abbrev pub selected : Declared → Option VariableType → Selector → Option VariableType
+selected text o x = option_and_then (λ t. selected_type text t x) o
+
+-- what is wrong in one selection, from what it selects
+abbrev pub wrong_selected : Declared → ℕ → VariableType → Selector → Option VariableType → List Broken
+wrong_selected text at t x (Some u) = []
+wrong_selected text at t x None = if is_nothing (typing_of_type text (Some t)) then [] else wrong_selector at x
+
+-- of what is not known nothing is asked
+abbrev pub wrong_step : Declared → ℕ → Option VariableType → Selector → List Broken
+wrong_step text at None x = []
+wrong_step text at (Some t) x = wrong_selected text at t x (selected_type text t x)
+
+abbrev pub wrong_from : Declared → ℕ → Option VariableType → Selectors → List Broken
+wrong_from text at None xs = []
+wrong_from text at (Some t) xs = wrong_selectors text at t xs
+
+-- the type behind a selector, or what is wrong in it
+abbrev pub Selects : Declared → ℕ → Option VariableType → Selector → Result (Option PlaceType) Broken → Type 0
+Selects text at o x (Ok found) = (option_map place_type_view found ≡ selected text o x) × (wrong_step text at o x ≡ [])
+Selects text at o x (Err b) = Contains (wrong_step text at o x) b
+
+-- the type behind selectors, or what is wrong in them and in their subscripts
+abbrev pub SelectsAll : Environment → ℕ → Option VariableType → Selectors → Result (Option PlaceType) Broken → Type 0
+SelectsAll env at o xs (Ok found) =
+    (option_map place_type_view found ≡ option_and_then (type_behind env.text xs) o)
+    × (wrong_from env.text at o xs ++ flat_map (wrong_node env) (nodes_of_selectors env xs) ≡ [])
+SelectsAll env at o xs (Err b) =
+    Contains (wrong_from env.text at o xs ++ flat_map (wrong_node env) (nodes_of_selectors env xs)) b

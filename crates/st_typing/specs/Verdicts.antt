@@ -1,0 +1,14 @@
+-- Faults one after another.
+use Rattle.std.specs.Prelude.{Option, Some, None, Result, Ok, Err}
+use Rattle.st_statics.specs.declared.rule.Broken.{Broken}
+use Rattle.st_statics.specs.declared.typings.Typing.{Typing}
+
+-- one fault, or else another
+abbrev pub or_broken : Option Broken → Option Broken → Option Broken
+or_broken (Some b) other = Some b
+or_broken None other = other
+
+-- the typing, where nothing is wrong
+abbrev pub verdict : Typing → Option Broken → Result Typing Broken
+verdict t None = Ok t
+verdict t (Some b) = Err b

@@ -1,0 +1,23 @@
+//! The types of expressions, and what is wrong in them.
+//!
+//! An expression is judged from its leaves up: each name is looked up once, and what is untyped is settled once, where
+//! its type is known.
+#![tactic(auto)]
+
+mod calls;
+mod demands;
+mod kinds;
+mod literals;
+mod operands;
+mod operations;
+mod places;
+mod readings;
+mod selections;
+mod settling;
+mod sorts;
+mod verdicts;
+
+pub use literals::wrong_number;
+pub use operands::{meets, settled};
+pub use places::first_byte;
+pub use settling::settle;

@@ -1,0 +1,45 @@
+//! Literals of numbers.
+
+ghost use Rattle.std.specs.Prelude.{◌≡◌};
+ghost use Rattle.st_words.specs.Kinds.{holds};
+ghost use Rattle.st_types.specs.Operators.{number_of};
+ghost use Rattle.st_types.specs.Resolution.{is_untyped_literal};
+ghost use Rattle.st_statics.specs.Faults.{Finds};
+ghost use Rattle.st_statics.specs.ExpressionRules.{wrong_number};
+
+use crate::kinds::kind_or_taken;
+use st_statics::{Broken, Rule};
+use st_types::number_of;
+use st_words::{Kind, Literal, Number};
+
+/// Whether the literal has no type of its own.
+pub fn is_untyped_literal(literal: &Literal) -> bool
+    ensures { result ≡ is_untyped_literal literal.now }
+{
+    match literal {
+        Literal::Number(number) => number.written.is_none(),
+        _ => false,
+    }
+}
+
+/// Whether the type has the literal's number.
+fn holds(kind: Kind, number: &Number) -> bool
+    ensures { result ≡ holds kind (number_of number.now) }
+{
+    let value = number_of(number);
+    kind.least() <= value && value <= kind.greatest()
+}
+
+/// A number outside the type that is written, or that it takes where one is expected (C4).
+pub fn wrong_number(offered: Option<Kind>, number: &Number) -> Option<Broken>
+    ensures { Finds (wrong_number offered number.now) result }
+{
+    if holds(kind_or_taken(offered, number.written), number) {
+        None
+    } else {
+        Some(Broken {
+            rule: Rule::OutOfRange,
+            place: number.place,
+        })
+    }
+}

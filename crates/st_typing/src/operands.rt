@@ -1,0 +1,198 @@
+//! Typings, and what operators and places say to them.
+
+ghost use Rattle.std.specs.Prelude.{◌≡◌, ◌&&◌, if◌then◌else◌, None};
+ghost use Rattle.st_words.specs.declared.kind.Kind.TheVariants.{Bool};
+ghost use Rattle.st_types.specs.Resolution.{is_joining};
+ghost use Rattle.st_statics.specs.declared.rule.Rule.TheVariants.{WrongType};
+ghost use Rattle.st_statics.specs.declared.demand.Demand.TheVariants.{Asked};
+ghost use Rattle.st_statics.specs.declared.typings.Typing.TheVariants.{Elementary};
+ghost use Rattle.st_statics.specs.Faults.{Finds, breaking, unless};
+ghost use Rattle.st_statics.specs.Demands.{expected_of, sorts_of_unary, sorts_of_binary};
+ghost use Rattle.st_statics.specs.Typings.{kind_of, is_untyped_typing, is_nothing, typing_of_kind, joined, settled, meets};
+ghost use Rattle.st_statics.specs.Typings.{are_operands};
+ghost use Rattle.st_statics.specs.Nodes.{offered};
+
+use crate::kinds::{is_kind, taken_kind};
+use crate::sorts::{in_sorts, is_joining, sorts_of_binary, sorts_of_unary};
+use st_statics::{Broken, Demand, Rule, Sorts, Typing};
+use st_words::{BinaryOperator, Kind, UnaryOperator};
+
+/// The elementary type that a typing is.
+pub fn kind_of(typing: Typing) -> Option<Kind>
+    ensures { result ≡ kind_of typing }
+{
+    match typing {
+        Typing::Elementary(kind) => Some(kind),
+        _ => None,
+    }
+}
+
+/// The typing of a type, where there is one.
+pub fn typing_of_kind(kind: Option<Kind>) -> Typing
+    ensures { result ≡ typing_of_kind kind }
+{
+    match kind {
+        Some(kind) => Typing::Elementary(kind),
+        None => Typing::Nothing,
+    }
+}
+
+pub fn is_untyped_typing(typing: Typing) -> bool
+    ensures { result ≡ is_untyped_typing typing }
+{
+    matches!(typing, Typing::Untyped)
+}
+
+pub fn are_untyped(left: Typing, right: Typing) -> bool
+    ensures { result ≡ (is_untyped_typing left && is_untyped_typing right) }
+{
+    is_untyped_typing(left) && is_untyped_typing(right)
+}
+
+pub fn is_nothing(typing: Typing) -> bool
+    ensures { result ≡ is_nothing typing }
+{
+    matches!(typing, Typing::Nothing)
+}
+
+/// What a place offers to an untyped expression.
+pub fn expected_of(demand: Demand) -> Option<Kind>
+    ensures { result ≡ expected_of demand }
+{
+    match demand {
+        Demand::Operand(kind) => kind,
+        Demand::Asked(kind, _) => kind,
+    }
+}
+
+/// The typing at a place that offers a type: what is untyped takes it.
+pub fn settled(offered: Option<Kind>, typing: Typing) -> Typing
+    ensures { result ≡ settled offered typing }
+{
+    match typing {
+        Typing::Untyped => Typing::Elementary(taken_kind(offered)),
+        _ => typing,
+    }
+}
+
+/// Whether the typing is what a place asks. What hangs on an unknown name is.
+pub fn meets(demand: Demand, typing: Typing) -> bool
+    ensures { result ≡ meets demand typing }
+{
+    match demand {
+        Demand::Operand(_) => true,
+        Demand::Asked(expected, sorts) => match typing {
+            Typing::Untyped => false,
+            Typing::Elementary(kind) => is_kind(expected, kind) && in_sorts(sorts, kind.row().sort),
+            Typing::Composite => false,
+            Typing::Nothing => true,
+        },
+    }
+}
+
+/// The typing of an operation that joins two: that of the operand which has a type.
+pub fn joined(left: Typing, right: Typing) -> Typing
+    ensures { result ≡ joined left right }
+{
+    match left {
+        Typing::Elementary(_) => left,
+        Typing::Untyped => right,
+        Typing::Composite | Typing::Nothing => match right {
+            Typing::Elementary(_) => right,
+            _ => left,
+        },
+    }
+}
+
+/// The typing of an operation.
+pub fn typing_of_operation(operator: BinaryOperator, left: Typing, right: Typing) -> Typing
+    ensures { result ≡ (if is_joining operator then joined left right else Elementary Bool) }
+{
+    if is_joining(operator) {
+        joined(left, right)
+    } else {
+        Typing::Elementary(Kind::Bool)
+    }
+}
+
+/// Whether an operation is of literals without a type alone.
+pub fn stays_untyped(operator: BinaryOperator, left: Typing, right: Typing) -> bool
+    ensures { result ≡ (is_joining operator && (is_untyped_typing left && is_untyped_typing right)) }
+{
+    is_joining(operator) && are_untyped(left, right)
+}
+
+/// Whether the two are operands of one type, of these sorts.
+fn are_operands(sorts: Sorts, left: Typing, right: Typing) -> bool
+    ensures { result ≡ are_operands sorts left right }
+{
+    match left {
+        Typing::Nothing => true,
+        Typing::Elementary(kind) => match right {
+            Typing::Nothing => true,
+            Typing::Elementary(other) => kind.is(other) && in_sorts(sorts, kind.row().sort),
+            _ => false,
+        },
+        _ => matches!(right, Typing::Nothing),
+    }
+}
+
+/// What the operands of an operator are offered: where one has a type, that; where none has, what the place expects.
+pub fn offered(
+    expected: Option<Kind>,
+    operator: BinaryOperator,
+    left: Typing,
+    right: Typing,
+) -> Option<Kind>
+    ensures { result ≡ offered expected operator left right }
+{
+    match (is_untyped_typing(left), is_untyped_typing(right)) {
+        (true, true) => { if is_joining(operator) { expected } else { None } }
+        (true, false) => kind_of(right),
+        (false, _) => kind_of(left),
+    }
+}
+
+/// What is wrong at an operator before its operand (C3).
+pub fn wrong_unary(operator: UnaryOperator, place: usize, operand: Typing) -> Option<Broken>
+    ensures { Finds (breaking WrongType (unless (meets (Asked None (sorts_of_unary operator)) operand) place)) result }
+{
+    wrong_typing(
+        Demand::Asked(None, sorts_of_unary(operator)),
+        operand,
+        place,
+    )
+}
+
+/// What is wrong at an operator between its operands (C3).
+pub fn wrong_binary(
+    operator: BinaryOperator,
+    place: usize,
+    left: Typing,
+    right: Typing,
+) -> Option<Broken>
+    ensures { Finds (breaking WrongType (unless (are_operands (sorts_of_binary operator) left right) place)) result }
+{
+    if are_operands(sorts_of_binary(operator), left, right) {
+        None
+    } else {
+        Some(Broken {
+            rule: Rule::WrongType,
+            place,
+        })
+    }
+}
+
+/// What is wrong where a typing is not what its place asks (C3).
+pub fn wrong_typing(demand: Demand, typing: Typing, place: usize) -> Option<Broken>
+    ensures { Finds (breaking WrongType (unless (meets demand typing) place)) result }
+{
+    if meets(demand, typing) {
+        None
+    } else {
+        Some(Broken {
+            rule: Rule::WrongType,
+            place,
+        })
+    }
+}

@@ -1,0 +1,70 @@
+//! The typings of literals and of names alone.
+
+ghost use Rattle.std.specs.Prelude.{◌≡◌};
+ghost use Rattle.st_trees.specs.Expressions.{literal};
+ghost use Rattle.st_statics.specs.Environments.{Environment, type_of_name};
+ghost use Rattle.st_statics.specs.Readings.{wrong_reading};
+ghost use Rattle.st_statics.specs.Typings.{typing_of_reading, typing_of_alone};
+ghost use Rattle.st_statics.specs.ExpressionRules.{wrong_alone};
+ghost use Rattle.st_words.specs.declared.literal.Literal.TheVariants as literals;
+ghost use Rattle.st_names.specs.Enumerated.{reading_view};
+ghost use Rattle.st_names.specs.Serving.{Serves};
+ghost use Rattle.st_typing.specs.Answers.{Gives, Types};
+
+use crate::literals::wrong_number;
+use crate::verdicts::verdict;
+use st_names::{Reading, UnitNames};
+use st_statics::{Broken, Rule, Typing};
+use st_words::{Identifier, Kind, Literal, Number};
+
+/// The typing of a value of an enumerated type, or what is wrong in it (C1, C3).
+fn typing_of_reading(place: usize, reading: Reading) -> Result<Typing, Broken>
+    ensures { Gives (typing_of_reading (reading_view reading)) (wrong_reading place (reading_view reading)) result }
+{
+    match reading {
+        Reading::Value(member) => Ok(Typing::Elementary(member.kind)),
+        Reading::Unknown => Err(Broken {
+            rule: Rule::UnknownName,
+            place,
+        }),
+        Reading::Ambiguous => Err(Broken {
+            rule: Rule::WrongType,
+            place,
+        }),
+    }
+}
+
+fn typing_of_number(number: &Number) -> Result<Typing, Broken>
+    ensures { (env : Environment) → Types env (literal (literals.Number number.now)) result }
+{
+    match number.written {
+        Some(kind) => verdict(Typing::Elementary(kind), wrong_number(None, number)),
+        None => Ok(Typing::Untyped),
+    }
+}
+
+/// The typing of a literal.
+pub fn typing_of_literal(names: &UnitNames, spelled: &Literal) -> Result<Typing, Broken>
+    ensures { (env : Environment) → Serves names.now env → Types env (literal spelled.now) result }
+{
+    match spelled {
+        Literal::Number(number) => typing_of_number(number),
+        Literal::Truth(_, _) => Ok(Typing::Elementary(Kind::Bool)),
+        Literal::Duration(_, _) => Ok(Typing::Elementary(Kind::Time)),
+        Literal::Enumerated(value) => {
+            typing_of_reading(value.place, names.tables.reading_written(value))
+        }
+    }
+}
+
+/// The typing of a name alone: a variable where the unit has one, else a value of an enumerated type.
+pub fn typing_of_alone(names: &UnitNames, name: &Identifier) -> Result<Typing, Broken>
+    ensures { (env : Environment) → Serves names.now env
+        → Gives (typing_of_alone env name.now.name (type_of_name env name.now.name))
+        (wrong_alone env name.now.place name.now.name (type_of_name env name.now.name)) result }
+{
+    match names.type_of_name(&name.name) {
+        Some(declared) => Ok(names.tables.typing_of_type(declared)),
+        None => typing_of_reading(name.place, names.tables.reading_of_name(&name.name)),
+    }
+}

@@ -1,0 +1,70 @@
+//! What is selected of variables: members and elements.
+
+ghost use Rattle.std.specs.Prelude.{◌≡◌, ◌∷◌, [], option_map};
+ghost use Rattle.st_trees.specs.ExpressionViews.{selector_view};
+ghost use Rattle.st_types.specs.NameTypes.{Declared, selected_type};
+ghost use Rattle.st_names.specs.PlaceTypes.{place_type_view};
+ghost use Rattle.st_names.specs.Tables.{ServesTables};
+ghost use Rattle.st_statics.specs.ExpressionRules.{wrong_selector};
+ghost use Rattle.st_typing.specs.Selections.{Selects};
+
+use crate::operands::is_nothing;
+use st_names::{PlaceType, TextTables};
+use st_statics::{Broken, Rule};
+use st_trees::Selector;
+
+fn selected_type<'a>(
+    tables: &TextTables<'a>,
+    declared: PlaceType<'a>,
+    selector: &Selector,
+) -> Option<PlaceType<'a>>
+    ensures { (text : Declared) → ServesTables tables.now text → option_map place_type_view result
+        ≡ selected_type text (place_type_view declared.entry) (selector_view selector.now) }
+{
+    match selector {
+        Selector::Member(member) => tables.member_type(declared, &member.name),
+        Selector::Subscript(_) => tables.element_type(declared),
+    }
+}
+
+/// What is wrong where a selector selects nothing: a member that a type has not (C1), or an element of what is no
+/// array (C3).
+fn wrong_selector(place: usize, selector: &Selector) -> Broken
+    ensures { wrong_selector place (selector_view selector.now) ≡ result ∷ [] }
+{
+    match selector {
+        Selector::Member(member) => Broken {
+            rule: Rule::UnknownName,
+            place: member.place,
+        },
+        Selector::Subscript(_) => Broken {
+            rule: Rule::WrongType,
+            place,
+        },
+    }
+}
+
+/// The type of what a selector selects of a variable at a place; none of what is unknown.
+pub fn select<'a>(
+    tables: &TextTables<'a>,
+    place: usize,
+    declared: Option<PlaceType<'a>>,
+    selector: &Selector,
+) -> Result<Option<PlaceType<'a>>, Broken>
+    ensures { (text : Declared) → ServesTables tables.now text
+        → Selects text place (option_map place_type_view declared.entry) (selector_view selector.now) result }
+{
+    let Some(declared) = declared else {
+        return Ok(None);
+    };
+    match selected_type(tables, declared, selector) {
+        Some(found) => Ok(Some(found)),
+        None => {
+            if is_nothing(tables.typing_of_type(declared)) {
+                Ok(None)
+            } else {
+                Err(wrong_selector(place, selector))
+            }
+        }
+    }
+}
