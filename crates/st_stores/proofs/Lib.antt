@@ -19,3 +19,4 @@ pub mod ListTests
 pub mod ExternalNames
 pub mod GlobalVariables
 pub mod GlobalHomes
+pub mod GrammarFunctions

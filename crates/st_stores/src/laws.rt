@@ -10,6 +10,8 @@ ghost use Rattle.st_words.specs.declared.path.Owner.{Owner};
 ghost use Rattle.st_trees.specs.Configurations.{Configuration};
 ghost use Rattle.st_trees.specs.Units.{OrganisationUnit};
 ghost use Rattle.st_trees.specs.Sources.{Source};
+ghost use Rattle.st_statements.specs.Tokens.{Tokens};
+ghost use Rattle.st_parse.specs.Sources.{IsSource};
 ghost use Rattle.st_types.specs.NameTypes.{Declared, declared_in, unit_named};
 ghost use Rattle.st_types.specs.StandardBlocks.{block_of};
 ghost use Rattle.st_types.specs.Scopes.{Name, Scope, of_program, of_block, of_call};
@@ -28,7 +30,7 @@ ghost use Rattle.st_layouts.specs.TextLayouts.{slots_of, slots_of_text};
 ghost use Rattle.st_layouts.specs.Standing.{are_declared_once};
 ghost use Rattle.st_stores.specs.Homes.{HasHomes, are_names_different, AreValuesOf, IsInstanceOf, IsGrounded};
 ghost use Rattle.st_stores.specs.Homes.{RunsIn, environment_of, IsProgramRun, IsHome};
-ghost use Rattle.st_stores.specs.WellTypedRuns.{LibrariesAreOfTexts, RunsStand, RunsAreSound};
+ghost use Rattle.st_stores.specs.WellTypedRuns.{HaveFunctionsNoExternals, LibrariesAreOfTexts, RunsStand, RunsAreSound};
 
 /// Where the names of a unit stand for parts of a layout, each place of the unit that has an elementary or enumerated
 /// type has a value of it, over all values of the layout's slots that are of their types.
@@ -91,6 +93,11 @@ pub fn types_without_long_chains_are_within_depth()
     ensures { (text : Declared) → ((x : Name) → is_some (unit_named text.units x) ≡ true → block_of x ≡ None)
         → (t : VariableType) → has_chain text (MAX_TYPE_DEPTH + 1) (part_of_type t) ≡ false
         → is_within_depth MAX_TYPE_DEPTH text t ≡ true }
+{}
+
+/// In a text of the grammar no function has externals.
+pub fn functions_of_the_grammar_have_no_externals()
+    ensures { (tokens : Tokens) (source : Source) → IsSource tokens source → HaveFunctionsNoExternals source }
 {}
 
 /// The library that a text gives has each of its functions and blocks, with the literals as they are resolved, where the
