@@ -1,0 +1,155 @@
+-- Selections of a variable, step by step.
+use Rattle.std.proofs.Common.{◌≡◌, ◌∙◌, sym, ap, subst, ℕ, List, [], ◌∷◌, ◌++◌, Bool, Option, Some, None, refl, append_assoc}
+use Rattle.std.proofs.Common.{append-nil}
+use Rattle.std.specs.Prelude.{Result, Ok, Err, option_map, option_and_then, if◌then◌else◌}
+use Rattle.std.specs.List.{flat_map, Contains}
+use Rattle.std.proofs.lemmas.List.Elements.{Contains-append_left, Contains-append_right}
+use Rattle.std.proofs.lemmas.List.Concat.{flat_map-append}
+use Rattle.st_words.specs.declared.identifier.Identifier.{Identifier}
+use Rattle.st_words.specs.declared.kind.Kind.{Kind}
+use Rattle.st_trees.specs.declared.data_type.VariableType.{VariableType}
+use Rattle.st_trees.specs.Expressions.{read, Variable, variable, Selector, Selectors, no_selectors, selector_then}
+use Rattle.st_types.specs.NameTypes.{Declared, selected_type, type_behind}
+use Rattle.st_statics.specs.declared.rule.Rule.TheVariants.{UnknownName}
+use Rattle.st_statics.specs.declared.rule.Broken.{Broken}
+use Rattle.st_statics.specs.Faults.{breaking}
+use Rattle.st_statics.specs.declared.typings.Typing.{Typing}
+use Rattle.st_statics.specs.Environments.{Environment, type_of_name}
+use Rattle.st_statics.specs.Typings.{typing_of_type, typing_of_alone, is_nothing}
+use Rattle.st_statics.specs.Nodes.{nodes_of_selector, nodes_of_selectors}
+use Rattle.st_statics.specs.ExpressionRules.{wrong_alone, wrong_node, wrong_selector, wrong_selectors, wrong_within}
+use Rattle.st_names.specs.declared.place_types.PlaceType.{PlaceType}
+use Rattle.st_names.specs.PlaceTypes.{place_type_view}
+use Rattle.st_typing.specs.Answers.{Gives, IsTyped, Types}
+use Rattle.st_typing.specs.Selections.{selected, wrong_selected, wrong_step, wrong_from, wrong_behind, Selects}
+use Rattle.st_typing.specs.Selections.{SelectsAll, SelectsPlace}
+use Rattle.st_typing.proofs.TypingLemmas.{types_given}
+
+-- Selectors of a type lead to the same as others of another: they are what is left of these.
+pub record Continues (env : Environment) (at : ℕ) (o : Option VariableType) (xs : Selectors) (p : Option VariableType)
+    (ys : Selectors) : Type 0 where
+  pub types : option_and_then (type_behind env.text ys) p ≡ option_and_then (type_behind env.text xs) o
+  pub faults : wrong_behind env at p ys ≡ wrong_behind env at o xs
+
+pub continues_itself : (env : Environment) (at : ℕ) (o : Option VariableType) (xs : Selectors)
+    → Continues env at o xs o xs
+continues_itself env at o xs = record { types = refl; faults = refl }
+
+-- one step, and the others
+types_step : (text : Declared) (p : Option VariableType) (x : Selector) (xs : Selectors)
+    → option_and_then (type_behind text (selector_then x xs)) p
+    ≡ option_and_then (type_behind text xs) (selected text p x)
+types_step text None x xs = refl
+types_step text (Some t) x xs = refl
+
+selected_step : (text : Declared) (at : ℕ) (t : VariableType) (x : Selector) (xs : Selectors) (o : Option VariableType)
+    → elim o [
+      | Some u ↦ wrong_selectors text at u xs
+      | None ↦ if is_nothing (typing_of_type text (Some t)) then [] else wrong_selector at x
+    ] ≡ wrong_selected text at t x o ++ wrong_from text at o xs
+selected_step text at t x xs (Some u) = refl
+selected_step text at t x xs None = sym (append-nil _)
+
+from_step : (text : Declared) (at : ℕ) (p : Option VariableType) (x : Selector) (xs : Selectors)
+    → wrong_from text at p (selector_then x xs) ≡ wrong_step text at p x ++ wrong_from text at (selected text p x) xs
+from_step text at None x xs = refl
+from_step text at (Some t) x xs = selected_step text at t x xs (selected_type text t x)
+
+nodes_step : (env : Environment) (x : Selector) (xs : Selectors)
+    → flat_map (wrong_node env) (nodes_of_selectors env (selector_then x xs))
+    ≡ flat_map (wrong_node env) (nodes_of_selector env x) ++ flat_map (wrong_node env) (nodes_of_selectors env xs)
+nodes_step env x xs = flat_map-append (wrong_node env) (nodes_of_selector env x) (nodes_of_selectors env xs)
+
+-- a step in which nothing is wrong
+clean_step : (env : Environment) (at : ℕ) (p : Option VariableType) (x : Selector) (xs : Selectors)
+    → flat_map (wrong_node env) (nodes_of_selector env x) ≡ [] → wrong_step env.text at p x ≡ []
+    → wrong_behind env at (selected env.text p x) xs ≡ wrong_behind env at p (selector_then x xs)
+clean_step env at p x xs subscripts step =
+    let below = flat_map (wrong_node env) (nodes_of_selectors env xs) in
+    sym (rw (from_step env.text at p x xs, nodes_step env x xs, subscripts, step) refl)
+
+pub continues_step : (env : Environment) (at : ℕ) (o : Option VariableType) (xs : Selectors) (p q : Option VariableType)
+    (x : Selector) (ys : Selectors) → Continues env at o xs p (selector_then x ys)
+    → flat_map (wrong_node env) (nodes_of_selector env x) ≡ [] → q ≡ selected env.text p x
+    → wrong_step env.text at p x ≡ [] → Continues env at o xs q ys
+continues_step env at o xs p q x ys h subscripts is step = rw is (record {
+  types = sym (types_step env.text p x ys) ∙ h.types;
+  faults = clean_step env at p x ys subscripts step ∙ h.faults;
+})
+
+-- what is wrong in a step
+pub subscript_wrong : (env : Environment) (at : ℕ) (o : Option VariableType) (xs : Selectors) (p : Option VariableType)
+    (x : Selector) (ys : Selectors) (b : Broken) → Continues env at o xs p (selector_then x ys)
+    → Contains (flat_map (wrong_node env) (nodes_of_selector env x)) b → Contains (wrong_behind env at o xs) b
+subscript_wrong env at o xs p x ys b h found =
+    let own = flat_map (wrong_node env) (nodes_of_selector env x) in
+    let below = flat_map (wrong_node env) (nodes_of_selectors env ys) in
+    subst (λ (zs : List Broken). Contains zs b) h.faults
+    (Contains-append_right (wrong_from env.text at p (selector_then x ys))
+    (flat_map (wrong_node env) (nodes_of_selectors env (selector_then x ys))) b
+    (subst (λ (zs : List Broken). Contains zs b) (sym (nodes_step env x ys)) (Contains-append_left own below b found)))
+
+pub selection_wrong : (env : Environment) (at : ℕ) (o : Option VariableType) (xs : Selectors) (p : Option VariableType)
+    (x : Selector) (ys : Selectors) (b : Broken) → Continues env at o xs p (selector_then x ys)
+    → Contains (wrong_step env.text at p x) b → Contains (wrong_behind env at o xs) b
+selection_wrong env at o xs p x ys b h found =
+    subst (λ (zs : List Broken). Contains zs b) h.faults
+    (Contains-append_left (wrong_from env.text at p (selector_then x ys))
+    (flat_map (wrong_node env) (nodes_of_selectors env (selector_then x ys))) b
+    (subst (λ (zs : List Broken). Contains zs b) (sym (from_step env.text at p x ys))
+    (Contains-append_left (wrong_step env.text at p x) (wrong_from env.text at (selected env.text p x) ys) b found)))
+
+-- no steps are left
+nothing_left : (env : Environment) (at : ℕ) (p : Option VariableType) → [] ≡ wrong_behind env at p no_selectors
+nothing_left env at None = refl
+nothing_left env at (Some t) = refl
+
+type_itself : (text : Declared) (o : Option VariableType) → o ≡ option_and_then (type_behind text no_selectors) o
+type_itself text None = refl
+type_itself text (Some t) = refl
+
+pub continues_end : (env : Environment) (at : ℕ) (o : Option VariableType) (xs : Selectors) (found : Option PlaceType)
+    → Continues env at o xs (option_map place_type_view found) no_selectors → SelectsAll env at o xs (Ok found)
+continues_end env at o xs found h = (
+    type_itself env.text (option_map place_type_view found) ∙ h.types,
+    sym (nothing_left env at (option_map place_type_view found) ∙ h.faults),
+  )
+
+-- a variable with its type
+abbrev faults_of : Environment → Identifier → Selectors → Option VariableType → List Broken
+faults_of env x xs o =
+    elim o [ Some t ↦ wrong_selectors env.text x.place t xs | None ↦ breaking UnknownName (x.place ∷ []) ]
+
+pub place_selected : (env : Environment) (x : Identifier) (xs : Selectors) (t : VariableType)
+    (r : Result (Option PlaceType) Broken) → type_of_name env x.name ≡ Some t
+    → SelectsAll env x.place (Some t) xs r → SelectsPlace env (variable x xs) r
+place_selected env x xs t (Ok found) is h = (
+    h.0 ∙ ap (option_and_then (type_behind env.text xs)) (sym is),
+    ap (λ (ys : List Broken). ys ++ flat_map (wrong_node env) (nodes_of_selectors env xs)) (ap (faults_of env x xs) is)
+        ∙ h.1,
+  )
+place_selected env x xs t (Err b) is h =
+    subst (λ (ys : List Broken). Contains (ys ++ flat_map (wrong_node env) (nodes_of_selectors env xs)) b)
+    (ap (faults_of env x xs) (sym is)) h
+
+-- a variable that is read
+pub alone_types : (env : Environment) (x : Identifier) (v : Variable) (r : Result Typing Broken)
+    → v ≡ variable x no_selectors → Gives (typing_of_alone env x.name (type_of_name env x.name))
+    (wrong_alone env x.place x.name (type_of_name env x.name)) r
+    → Types env (read v) r
+alone_types env x v r is h =
+    rw is (types_given env (read (variable x no_selectors)) (typing_of_alone env x.name (type_of_name env x.name))
+    (wrong_alone env x.place x.name (type_of_name env x.name)) r refl (λ k. sym (append-nil _)) h)
+
+pub read_types : (env : Environment) (x : Identifier) (y : Selector) (ys : Selectors) (v : Variable)
+    (found : Option PlaceType) (t : Typing) → v ≡ variable x (selector_then y ys) → SelectsPlace env v (Ok found)
+    → t ≡ typing_of_type env.text (option_map place_type_view found) → IsTyped env (read v) t
+read_types env x y ys v found t is h gives = rw is (record {
+  typing = gives ∙ ap (typing_of_type env.text) (rw is at h).0;
+  clean = λ _ k. (rw is at h).1;
+})
+
+pub read_wrong : (env : Environment) (x : Identifier) (y : Selector) (ys : Selectors) (v : Variable) (b : Broken)
+    → v ≡ variable x (selector_then y ys) → SelectsPlace env v (Err b) → (k : Option Kind)
+    → Contains (wrong_within env k (read v)) b
+read_wrong env x y ys v b is h k = rw is (rw is at h)
