@@ -1,10 +1,10 @@
 -- Arguments of calls, as slices of the code.
-use Rattle.std.proofs.Common.{◌≡◌, ◌∙◌, sym, ap, subst, ℕ, zero, suc, ◌+◌, ◌<◌, ◌==◌, List, [], ◌∷◌, ◌++◌, length, map, drop}
+use Rattle.std.proofs.Common.{◌≡◌, ◌∙◌, sym, ap, subst, ℕ, zero, suc, ◌+◌, ◌<◌, ◌≤◌, ◌==◌, List, [], ◌∷◌, ◌++◌, length, map, drop}
 use Rattle.std.proofs.Common.{get_or, Bool, true, false, Option, Some, None, refl, arith, add-one}
 use Rattle.std.specs.Prelude.{Result, Ok, Err}
 use Rattle.std.specs.List.{Contains}
 use Rattle.std.proofs.lemmas.Bool.{ne_eqb, eq-eqb}
-use Rattle.std.proofs.lemmas.List.{drop_more}
+use Rattle.std.proofs.lemmas.List.{drop_more, drop_all, drop-map}
 use Rattle.std.proofs.lemmas.List.Elements.{Contains-append_right}
 use Rattle.st_words.specs.declared.identifier.Identifier.{Identifier}
 use Rattle.st_words.specs.declared.kind.Kind.{Kind}
@@ -16,7 +16,9 @@ use Rattle.st_statics.specs.declared.rule.Rule.TheVariants.{WrongArguments}
 use Rattle.st_statics.specs.declared.rule.Broken.{Broken}
 use Rattle.st_statics.specs.Faults.{Finds, breaking, unless}
 use Rattle.st_statics.specs.Environments.{Environment, standard, own}
+use Rattle.st_statics.specs.declared.demand.Sorts.TheVariants.{Any}
 use Rattle.st_statics.specs.declared.demand.Demand.{Demand}
+use Rattle.st_statics.specs.declared.demand.Demand.TheVariants.{Asked}
 use Rattle.st_statics.specs.declared.typings.Typing.{Typing}
 use Rattle.st_statics.specs.Demands.{demands_of_standard}
 use Rattle.st_statics.specs.Typings.{kinds_of, typings_of, typing_of_kind, common_of}
@@ -35,6 +37,13 @@ count_seen (x ∷ xs) = omega (arith, count_seen xs)
 pub inputs_counted : (ks : List (Option Kind)) → length (demands_of_inputs ks) ≡ length ks
 inputs_counted [] = refl
 inputs_counted (k ∷ ks) = ap suc (inputs_counted ks)
+
+-- what a function of the text asks of one argument
+pub input_asked : (ks : List (Option Kind)) (i : ℕ) (k : Option Kind) → i < length ks → k ≡ get_or ks i k
+    → Asked k Any ≡ first_demand (drop i (demands_of_inputs ks))
+input_asked ks i k h is =
+    ap (λ l. Asked l Any) is
+    ∙ sym (ap first_demand (drop-map (λ l. Asked l Any) i ks ∙ ap demands_of_inputs (drop_more ks i k h)))
 
 -- the arguments that a loop has left
 other_dropped : (ds : List Demand) (i : ℕ) → other_demands (drop i ds) ≡ drop (suc i) ds
@@ -66,6 +75,11 @@ pub argument_found : (env : Environment) (ds : List Demand) (xs : List code_expr
 argument_found env ds xs i x b h is found =
     subst (λ es. Contains (wrong_arguments env (drop i ds) es) b) (sym (left_seen xs i x h is))
     (first_found env (drop i ds) (expr_view x) (exprs_of (map expr_view (drop (i + 1) xs))) b found)
+
+pub none_left : (env : Environment) (ds : List Demand) (xs : List code_expr.Expr) (i : ℕ) → length xs ≤ i
+    → wrong_arguments env ds (exprs_of (map expr_view (drop i xs))) ≡ []
+none_left env ds xs i h =
+    ap (λ ys. wrong_arguments env ds (exprs_of (map expr_view ys))) (drop_all i xs h)
 
 -- what is wrong in the arguments is wrong in the call
 pub call_found : (env : Environment) (at : ℕ) (ds : List Demand) (es : Exprs) (b : Broken)

@@ -13,8 +13,8 @@ invariant-select_all-loop-selector l = (env : Environment) → Serves l.names en
     → Continues env l.place (Some (place_type_view l.declared)) (selectors_of (map selector_view l.selectors))
     (option_map place_type_view l.found) (selectors_of (map selector_view (drop l.selector-index l.selectors)))
 
-abbrev pub invariant-wrong_arguments-loop-argument : goal.invariant-wrong_arguments-loop-argument
-invariant-wrong_arguments-loop-argument l = (env : Environment) → Serves l.names env
-    → wrong_arguments env (drop l.argument-index (demands_of_inputs l.inputs))
-    (exprs_of (map expr_view (drop l.argument-index l.arguments)))
+abbrev pub invariant-wrong_arguments-loop-number : goal.invariant-wrong_arguments-loop-number
+invariant-wrong_arguments-loop-number l = (env : Environment) → Serves l.names env
+    → wrong_arguments env (drop l.number (demands_of_inputs l.inputs))
+    (exprs_of (map expr_view (drop l.number l.arguments)))
     ≡ wrong_arguments env (demands_of_inputs l.inputs) (exprs_of (map expr_view l.arguments))
