@@ -1,14 +1,19 @@
 -- Selections of a variable, step by step.
-use Rattle.std.proofs.Common.{◌≡◌, ◌∙◌, sym, ap, subst, ℕ, List, [], ◌∷◌, ◌++◌, Bool, Option, Some, None, refl, append_assoc}
-use Rattle.std.proofs.Common.{append-nil}
+use Rattle.std.proofs.Common.{◌≡◌, ◌∙◌, sym, ap, subst, ℕ, ◌+◌, ◌<◌, ◌==◌, List, [], ◌∷◌, ◌++◌, Bool, Option, Some, None, refl, append_assoc}
+use Rattle.std.proofs.Common.{append-nil, arith, length, map, drop, get_or, true, false}
 use Rattle.std.specs.Prelude.{Result, Ok, Err, option_map, option_and_then, if◌then◌else◌}
 use Rattle.std.specs.List.{flat_map, Contains}
+use Rattle.std.proofs.lemmas.Bool.{eqb-true, eqb-false}
+use Rattle.std.proofs.lemmas.List.{drop_more}
 use Rattle.std.proofs.lemmas.List.Elements.{Contains-append_left, Contains-append_right}
 use Rattle.std.proofs.lemmas.List.Concat.{flat_map-append}
 use Rattle.st_words.specs.declared.identifier.Identifier.{Identifier}
 use Rattle.st_words.specs.declared.kind.Kind.{Kind}
 use Rattle.st_trees.specs.declared.data_type.VariableType.{VariableType}
+use Rattle.st_trees.specs.declared.expression.Selector as code_selector
 use Rattle.st_trees.specs.Expressions.{read, Variable, variable, Selector, Selectors, no_selectors, selector_then}
+use Rattle.st_trees.specs.Expressions.{selectors_of}
+use Rattle.st_trees.specs.ExpressionViews.{selector_view}
 use Rattle.st_types.specs.NameTypes.{Declared, selected_type, type_behind}
 use Rattle.st_statics.specs.declared.rule.Rule.TheVariants.{UnknownName}
 use Rattle.st_statics.specs.declared.rule.Broken.{Broken}
@@ -131,6 +136,31 @@ place_selected env x xs t (Ok found) is h = (
 place_selected env x xs t (Err b) is h =
     subst (λ (ys : List Broken). Contains (ys ++ flat_map (wrong_node env) (nodes_of_selectors env xs)) b)
     (ap (faults_of env x xs) (sym is)) h
+
+-- selectors, as slices of the code
+pub selectors_left : (xs : List code_selector.Selector) (i : ℕ) (x : code_selector.Selector) → i < length xs
+    → x ≡ get_or xs i x → selectors_of (map selector_view (drop i xs))
+    ≡ selector_then (selector_view x) (selectors_of (map selector_view (drop (i + 1) xs)))
+selectors_left xs i x h is =
+    ap (λ ys. selectors_of (map selector_view ys)) (drop_more xs i x h)
+    ∙ ap (λ y. selector_then (selector_view y) (selectors_of (map selector_view (drop (i + 1) xs)))) (sym is)
+
+pub none_written : (n : ℕ) (xs : List code_selector.Selector) → n ≡ length xs → (n == 0) ≡ true
+    → selectors_of (map selector_view xs) ≡ no_selectors
+none_written n [] is h = refl
+none_written n (x ∷ xs) is h = absurd (omega (arith, is, eqb-true n 0 h))
+
+-- the first selector and the others
+pub record HasFirst (xs : Selectors) : Type 0 where
+  pub first : Selector
+  pub rest : Selectors
+  pub is : xs ≡ selector_then first rest
+
+pub some_written : (n : ℕ) (xs : List code_selector.Selector) → n ≡ length xs → (n == 0) ≡ false
+    → HasFirst (selectors_of (map selector_view xs))
+some_written n [] is h = absurd (eqb-false n 0 h is)
+some_written n (x ∷ xs) is h =
+    record { first = selector_view x; rest = selectors_of (map selector_view xs); is = refl }
 
 -- a variable that is read
 pub alone_types : (env : Environment) (x : Identifier) (v : Variable) (r : Result Typing Broken)
