@@ -1,5 +1,5 @@
 -- Arguments of calls, as slices of the code.
-use Rattle.std.proofs.Common.{◌≡◌, ◌∙◌, sym, ap, subst, ℕ, zero, suc, ◌+◌, ◌<◌, ◌≤◌, ◌==◌, List, [], ◌∷◌, ◌++◌, length, map, drop}
+use Rattle.std.proofs.Common.{◌≡◌, ◌∙◌, sym, ap, subst, ℕ, zero, suc, ◌+◌, ◌<◌, ◌≤◌, ◌==◌, ◌⊎◌, List, [], ◌∷◌, ◌++◌, length, map, drop}
 use Rattle.std.proofs.Common.{get_or, Bool, true, false, Option, Some, None, refl, arith, add-one}
 use Rattle.std.specs.Prelude.{Result, Ok, Err}
 use Rattle.std.specs.List.{Contains}
@@ -104,28 +104,29 @@ own_types env f es inputs result t a calls gives h =
     gives h
 
 -- no standard function takes none, or more than three
-three_at_most : (f : Standard) (k : Option Kind) (n : ℕ) → (n ≡ 1 → ⊥) → (n ≡ 2 → ⊥) → (n ≡ 3 → ⊥)
+three_at_most : (f : Standard) (k : Option Kind) (n : ℕ) → (n < 1) ⊎ (3 < n)
     → n ≡ length (demands_of_standard f k) → ⊥
-three_at_most ABS k n one two three = one
-three_at_most MIN k n one two three = two
-three_at_most MAX k n one two three = two
-three_at_most LIMIT k n one two three = three
-three_at_most SEL k n one two three = three
-three_at_most SHL k n one two three = two
-three_at_most SHR k n one two three = two
-three_at_most ROL k n one two three = two
-three_at_most ROR k n one two three = two
-three_at_most (CONVERT l m) k n one two three = one
+three_at_most ABS k n far is = grind arith
+three_at_most MIN k n far is = grind arith
+three_at_most MAX k n far is = grind arith
+three_at_most LIMIT k n far is = grind arith
+three_at_most SEL k n far is = grind arith
+three_at_most SHL k n far is = grind arith
+three_at_most SHR k n far is = grind arith
+three_at_most ROL k n far is = grind arith
+three_at_most ROR k n far is = grind arith
+three_at_most (CONVERT l m) k n far is = grind arith
 
-pub standard_miscounted : (env : Environment) (f : Identifier) (s : Standard) (es : Exprs)
-    → Calls env f.name (standard s) → (count_of es ≡ 1 → ⊥) → (count_of es ≡ 2 → ⊥) → (count_of es ≡ 3 → ⊥)
-    → (k : Option Kind) → Contains (wrong_within env k (call f es)) (wrong_count f.place)
-standard_miscounted env f s es calls one two three k =
+pub standard_miscounted : (env : Environment) (f : Identifier) (s : Standard) (xs : List code_expr.Expr)
+    → Calls env f.name (standard s) → (length xs < 1) ⊎ (3 < length xs) → (k : Option Kind)
+    → Contains (wrong_within env k (call f (exprs_of (map expr_view xs)))) (wrong_count f.place)
+standard_miscounted env f s xs calls far k =
+    let es = exprs_of (map expr_view xs) in
     let common = common_of (Some (standard s)) (kinds_of (typings_of env es)) in
     let ds = demands_of_standard s common in
-    subst (λ (xs : List Broken). Contains xs (wrong_count f.place))
+    subst (λ (ys : List Broken). Contains ys (wrong_count f.place))
     (call_faults env k f es (Some (standard s)) ds calls.callee refl)
-    (miscounted env f.place ds es (three_at_most s common (count_of es) one two three))
+    (miscounted env f.place ds es (λ h. three_at_most s common (length xs) far (sym (count_seen xs) ∙ h)))
 
 -- lists of one, two and three
 pub one_seen : (xs : List code_expr.Expr) (x : code_expr.Expr) → length xs ≡ 1 → x ≡ get_or xs 0 x

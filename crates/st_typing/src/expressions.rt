@@ -163,7 +163,7 @@ fn wrong_arguments(
     None
 }
 
-/// The typing of a call of a standard function. No such function takes more than three arguments.
+/// The typing of a call of a standard function. Each takes one argument, two or three.
 #[cycle(typing)]
 fn call_of_standard(
     names: &UnitNames,
@@ -176,6 +176,7 @@ fn call_of_standard(
         → Types env (call function.now (exprs_of (map expr_view arguments.now))) result }
 {
     match arguments {
+        [] => Err(wrong_count(function.place)),
         [only] => match typing(names, only) {
             Ok(found) => call_of_one(function, called, only, found),
             Err(broken) => Err(broken),
@@ -215,7 +216,7 @@ fn call_of_standard(
                 third_typing,
             )
         }
-        _ => Err(wrong_count(function.place)),
+        [_, _, _, _, ..] => Err(wrong_count(function.place)),
     }
 }
 

@@ -1,4 +1,4 @@
-use Rattle.std.proofs.Common.{rules, ◌≡◌, ◌∙◌, sym, ap, subst, map, Some, option_map, drop, length, ◌+◌, ◌<◌, ◌≤◌, ◌⊎◌, inl, inr, arith}
+use Rattle.std.proofs.Common.{rules, ◌≡◌, ◌∙◌, sym, ap, subst, map, Some, option_map, drop, length, ◌+◌, inl, inr, arith}
 use Rattle.std.specs.List.{Contains}
 use Rattle.st_trees.specs.declared.expression.Expr as code_expr
 use Rattle.st_trees.specs.declared.expression.Variable as code_variable
@@ -19,8 +19,6 @@ use Rattle.st_typing.proofs.ArgumentLemmas.{one_seen, two_seen, three_seen}
 use Rattle.st_typing.proofs.SelectionLemmas.{selectors_left, none_written, some_written, subscript_wrong}
 use Rattle.st_typing.proofs.SelectionLemmas.{selection_wrong, place_selected, alone_types, read_wrong}
 use Rattle.st_typing.proofs.expressions.+typing.Goals as goal
-use Rattle.st_typing.proofs.expressions.+typing.Goals.{call_of_standard-in_default-via-then-arguments-lt1}
-use Rattle.st_typing.proofs.expressions.+typing.Goals.{call_of_standard-in_default-via-else-arguments-lt1+else-arguments-lt2+else-arguments-lt3+else-arguments-lt4}
 
 -- operators
 pub typing-returns-in-Literal : goal.typing-returns-in-Literal
@@ -305,13 +303,16 @@ call_of_standard-returns-in-Err-typing-5 t c env serves calls =
     (other_wrong env y (expr_then z no_exprs) b
     (first_wrong env z no_exprs b (c.in-Err-typing-5.ensures env serves)))))
 
-pub call_of_standard-returns-in_default : goal.call_of_standard-returns-in_default
-call_of_standard-returns-in_default t c env serves calls =
+pub call_of_standard-returns-in-empty : goal.call_of_standard-returns-in-empty
+call_of_standard-returns-in-empty t c env serves calls =
     let xs = c.args.arguments.now in
-    let few_or_many : (length xs < 1) ⊎ (4 ≤ length xs) = elim c.in_default.branch [
-      | call_of_standard-in_default-via-then-arguments-lt1 w ↦ inl ?
-      | call_of_standard-in_default-via-else-arguments-lt1+else-arguments-lt2+else-arguments-lt3+else-arguments-lt4 w ↦ inr ?
-    ] in
     rw c.wrong_count.ensures
-    (standard_miscounted env c.args.function.now (standard_view c.args.called) (exprs_of (map expr_view xs)) calls
-    (λ h. ?) (λ h. ?) (λ h. ?))
+    (standard_miscounted env c.args.function.now (standard_view c.args.called) xs calls
+    (inl c.in-empty.len_below))
+
+pub call_of_standard-returns-in-len4-up : goal.call_of_standard-returns-in-len4-up
+call_of_standard-returns-in-len4-up t c env serves calls =
+    let xs = c.args.arguments.now in
+    rw c.wrong_count-in-len4-up.ensures
+    (standard_miscounted env c.args.function.now (standard_view c.args.called) xs calls
+    (inr c.in-len4-up.len_at_least))
