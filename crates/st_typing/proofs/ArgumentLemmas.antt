@@ -1,7 +1,6 @@
 -- Arguments of calls, as slices of the code.
-use Rattle.std.proofs.Common.{◌≡◌, ◌∙◌, sym, ap, subst, ℕ, zero, suc, ◌+◌, ◌<◌, ◌≤◌, ◌==◌, ◌⊎◌, List, [], ◌∷◌, ◌++◌, length, map, drop}
-use Rattle.std.proofs.Common.{get_or, Bool, true, false, Option, Some, None, refl, arith, add-one}
-use Rattle.std.specs.Prelude.{Result, Ok, Err}
+use Rattle.std.proofs.Common.{◌≡◌, ◌∙◌, sym, ap, subst, ℕ, zero, suc, ◌+◌, ◌<◌, ◌≤◌, ◌==◌, ◌⊎◌, List, [], ◌∷◌, length, map, drop}
+use Rattle.std.proofs.Common.{get_or, Option, Some, refl, arith, add-one}
 use Rattle.std.specs.List.{Contains}
 use Rattle.std.proofs.lemmas.Bool.{ne_eqb, eq-eqb}
 use Rattle.std.proofs.lemmas.List.{drop_more, drop_all, drop-map}
@@ -9,7 +8,7 @@ use Rattle.std.proofs.lemmas.List.Elements.{Contains-append_right}
 use Rattle.st_words.specs.declared.identifier.Identifier.{Identifier}
 use Rattle.st_words.specs.declared.kind.Kind.{Kind}
 use Rattle.st_trees.specs.declared.expression.Expr as code_expr
-use Rattle.st_trees.specs.Expressions.{Expr, call, Exprs, no_exprs, expr_then, exprs_of}
+use Rattle.st_trees.specs.Expressions.{call, Exprs, no_exprs, expr_then, exprs_of}
 use Rattle.st_trees.specs.ExpressionViews.{expr_view}
 use Rattle.st_types.specs.StandardFunctions.{Standard, ABS, MIN, MAX, LIMIT, SEL, SHL, SHR, ROL, ROR, CONVERT}
 use Rattle.st_statics.specs.declared.rule.Rule.TheVariants.{WrongArguments}

@@ -1,5 +1,5 @@
 -- Selections of a variable, step by step.
-use Rattle.std.proofs.Common.{◌≡◌, ◌∙◌, sym, ap, subst, ℕ, ◌+◌, ◌<◌, ◌==◌, List, [], ◌∷◌, ◌++◌, Bool, Option, Some, None, refl, append_assoc}
+use Rattle.std.proofs.Common.{◌≡◌, ◌∙◌, sym, ap, subst, ℕ, ◌+◌, ◌<◌, ◌==◌, List, [], ◌∷◌, ◌++◌, Option, Some, None, refl}
 use Rattle.std.proofs.Common.{append-nil, arith, length, map, drop, get_or, true, false}
 use Rattle.std.specs.Prelude.{Result, Ok, Err, option_map, option_and_then, if◌then◌else◌}
 use Rattle.std.specs.List.{flat_map, Contains}
@@ -26,7 +26,7 @@ use Rattle.st_statics.specs.ExpressionRules.{wrong_alone, wrong_node, wrong_sele
 use Rattle.st_names.specs.declared.place_types.PlaceType.{PlaceType}
 use Rattle.st_names.specs.PlaceTypes.{place_type_view}
 use Rattle.st_typing.specs.Answers.{Gives, IsTyped, Types}
-use Rattle.st_typing.specs.Selections.{selected, wrong_selected, wrong_step, wrong_from, wrong_behind, Selects}
+use Rattle.st_typing.specs.Selections.{selected, wrong_selected, wrong_step, wrong_from, wrong_behind}
 use Rattle.st_typing.specs.Selections.{SelectsAll, SelectsPlace}
 use Rattle.st_typing.proofs.TypingLemmas.{types_given}
 

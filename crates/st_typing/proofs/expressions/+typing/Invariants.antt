@@ -1,4 +1,4 @@
-use Rattle.std.proofs.Common.{◌≡◌, List, map, drop, Some, option_map}
+use Rattle.std.proofs.Common.{◌≡◌, map, drop, Some, option_map}
 use Rattle.st_trees.specs.Expressions.{exprs_of, selectors_of}
 use Rattle.st_trees.specs.ExpressionViews.{expr_view, selector_view}
 use Rattle.st_statics.specs.Environments.{Environment}
