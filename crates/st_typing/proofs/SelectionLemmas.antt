@@ -1,7 +1,7 @@
 -- Selections of a variable, step by step.
 use Rattle.std.proofs.Common.{◌≡◌, ◌∙◌, sym, ap, subst, ℕ, ◌+◌, ◌<◌, ◌==◌, List, [], ◌∷◌, ◌++◌, Option, Some, None, refl}
 use Rattle.std.proofs.Common.{append-nil, arith, length, map, drop, get_or, true, false}
-use Rattle.std.specs.Prelude.{Result, Ok, Err, option_map, option_and_then, if◌then◌else◌}
+use Rattle.std.specs.Prelude.{Result, Ok, Err, option_and_then, if◌then◌else◌}
 use Rattle.std.specs.List.{flat_map, Contains}
 use Rattle.std.proofs.lemmas.Bool.{eqb-true, eqb-false}
 use Rattle.std.proofs.lemmas.List.{drop_more}
@@ -24,8 +24,7 @@ use Rattle.st_statics.specs.Typings.{typing_of_type, typing_of_alone, is_nothing
 use Rattle.st_statics.specs.Nodes.{nodes_of_selector, nodes_of_selectors}
 use Rattle.st_statics.specs.ExpressionRules.{wrong_alone, wrong_node, wrong_selector, wrong_selectors, wrong_within}
 use Rattle.st_names.specs.declared.place_types.PlaceType.{PlaceType}
-use Rattle.st_names.specs.PlaceTypes.{place_type_view}
-use Rattle.st_typing.specs.Answers.{Gives, IsTyped, Types}
+use Rattle.st_typing.specs.Answers.{Gives, Types}
 use Rattle.st_typing.specs.Selections.{selected, wrong_selected, wrong_step, wrong_from, wrong_behind}
 use Rattle.st_typing.specs.Selections.{SelectsAll, SelectsPlace}
 use Rattle.st_typing.proofs.TypingLemmas.{types_given}
@@ -36,17 +35,7 @@ pub record Continues (env : Environment) (at : ℕ) (o : Option VariableType) (x
   pub types : option_and_then (type_behind env.text ys) p ≡ option_and_then (type_behind env.text xs) o
   pub faults : wrong_behind env at p ys ≡ wrong_behind env at o xs
 
-pub continues_itself : (env : Environment) (at : ℕ) (o : Option VariableType) (xs : Selectors)
-    → Continues env at o xs o xs
-continues_itself env at o xs = record { types = refl; faults = refl }
-
--- one step, and the others
-types_step : (text : Declared) (p : Option VariableType) (x : Selector) (xs : Selectors)
-    → option_and_then (type_behind text (selector_then x xs)) p
-    ≡ option_and_then (type_behind text xs) (selected text p x)
-types_step text None x xs = refl
-types_step text (Some t) x xs = refl
-
+-- what is wrong in one step, and in the others
 selected_step : (text : Declared) (at : ℕ) (t : VariableType) (x : Selector) (xs : Selectors) (o : Option VariableType)
     → elim o [
       | Some u ↦ wrong_selectors text at u xs
@@ -64,23 +53,6 @@ nodes_step : (env : Environment) (x : Selector) (xs : Selectors)
     → flat_map (wrong_node env) (nodes_of_selectors env (selector_then x xs))
     ≡ flat_map (wrong_node env) (nodes_of_selector env x) ++ flat_map (wrong_node env) (nodes_of_selectors env xs)
 nodes_step env x xs = flat_map-append (wrong_node env) (nodes_of_selector env x) (nodes_of_selectors env xs)
-
--- a step in which nothing is wrong
-clean_step : (env : Environment) (at : ℕ) (p : Option VariableType) (x : Selector) (xs : Selectors)
-    → flat_map (wrong_node env) (nodes_of_selector env x) ≡ [] → wrong_step env.text at p x ≡ []
-    → wrong_behind env at (selected env.text p x) xs ≡ wrong_behind env at p (selector_then x xs)
-clean_step env at p x xs subscripts step =
-    let below = flat_map (wrong_node env) (nodes_of_selectors env xs) in
-    sym (rw (from_step env.text at p x xs, nodes_step env x xs, subscripts, step) refl)
-
-pub continues_step : (env : Environment) (at : ℕ) (o : Option VariableType) (xs : Selectors) (p q : Option VariableType)
-    (x : Selector) (ys : Selectors) → Continues env at o xs p (selector_then x ys)
-    → flat_map (wrong_node env) (nodes_of_selector env x) ≡ [] → q ≡ selected env.text p x
-    → wrong_step env.text at p x ≡ [] → Continues env at o xs q ys
-continues_step env at o xs p q x ys h subscripts is step = rw is (record {
-  types = sym (types_step env.text p x ys) ∙ h.types;
-  faults = clean_step env at p x ys subscripts step ∙ h.faults;
-})
 
 -- what is wrong in a step
 pub subscript_wrong : (env : Environment) (at : ℕ) (o : Option VariableType) (xs : Selectors) (p : Option VariableType)
@@ -103,22 +75,6 @@ selection_wrong env at o xs p x ys b h found =
     (flat_map (wrong_node env) (nodes_of_selectors env (selector_then x ys))) b
     (subst (λ (zs : List Broken). Contains zs b) (sym (from_step env.text at p x ys))
     (Contains-append_left (wrong_step env.text at p x) (wrong_from env.text at (selected env.text p x) ys) b found)))
-
--- no steps are left
-nothing_left : (env : Environment) (at : ℕ) (p : Option VariableType) → [] ≡ wrong_behind env at p no_selectors
-nothing_left env at None = refl
-nothing_left env at (Some t) = refl
-
-type_itself : (text : Declared) (o : Option VariableType) → o ≡ option_and_then (type_behind text no_selectors) o
-type_itself text None = refl
-type_itself text (Some t) = refl
-
-pub continues_end : (env : Environment) (at : ℕ) (o : Option VariableType) (xs : Selectors) (found : Option PlaceType)
-    → Continues env at o xs (option_map place_type_view found) no_selectors → SelectsAll env at o xs (Ok found)
-continues_end env at o xs found h = (
-    type_itself env.text (option_map place_type_view found) ∙ h.types,
-    sym (nothing_left env at (option_map place_type_view found) ∙ h.faults),
-  )
 
 -- a variable with its type
 abbrev faults_of : Environment → Identifier → Selectors → Option VariableType → List Broken
@@ -170,14 +126,6 @@ pub alone_types : (env : Environment) (x : Identifier) (v : Variable) (r : Resul
 alone_types env x v r is h =
     rw is (types_given env (read (variable x no_selectors)) (typing_of_alone env x.name (type_of_name env x.name))
     (wrong_alone env x.place x.name (type_of_name env x.name)) r refl (λ k. sym (append-nil _)) h)
-
-pub read_types : (env : Environment) (x : Identifier) (y : Selector) (ys : Selectors) (v : Variable)
-    (found : Option PlaceType) (t : Typing) → v ≡ variable x (selector_then y ys) → SelectsPlace env v (Ok found)
-    → t ≡ typing_of_type env.text (option_map place_type_view found) → IsTyped env (read v) t
-read_types env x y ys v found t is h gives = rw is (record {
-  typing = gives ∙ ap (typing_of_type env.text) (rw is at h).0;
-  clean = λ _ k. (rw is at h).1;
-})
 
 pub read_wrong : (env : Environment) (x : Identifier) (y : Selector) (ys : Selectors) (v : Variable) (b : Broken)
     → v ≡ variable x (selector_then y ys) → SelectsPlace env v (Err b) → (k : Option Kind)
