@@ -83,7 +83,7 @@ life=1
 # strike PACE COUNT WHOLE: kills lives of so many rows, which take about WHOLE milliseconds. A kill counts where the killed life had saved
 # a row: it came within the run, not before it and not after it.
 strike() {
-    local pace=$1 count=$2 whole=$3 counted=0 before pid
+    local pace=$1 count=$2 whole=$3 counted=0 before pid ended whole_life
     while [ "$counted" -lt "$kills" ]; do
         [ $((SECONDS - started)) -lt $limit ] || fail "only $counted of $kills kills at pace $pace in $limit seconds"
         rows $((life * 10000000)) "$count" > plant.csv
@@ -93,13 +93,21 @@ strike() {
         pid=$!
         sleep "$(awk -v ms=$((RANDOM * whole / 32768)) 'BEGIN { printf "%.3f", ms / 1000 }')"
         kill -9 $pid 2> killing || true
-        if wait $pid 2> killing; then
-            check
-        else
-            [ ! -s report ] || fail "a killed life has printed a report"
-            [ ! -s fault ] || fail "a life ended with $(cat fault)"
+        ended=0
+        wait $pid 2> killing || ended=$?
+        [ ! -s fault ] || fail "a life ended with $(cat fault)"
+        if [ $ended -ne 0 ] && [ ! -s report ]; then
             look
             [ "$known" -eq "$before" ] || counted=$((counted + 1))
+        elif [ $ended -eq 0 ] || grep -q '^B = [0-9]*$' report; then
+            # It had ended, or was killed behind its report.
+            check
+            whole_life=$known
+            look
+            [ "$known" -eq "$whole_life" ] || fail "a whole life told A = $whole_life, but A = $known"
+        else
+            # It was killed in its report, which comes when all is saved.
+            look
         fi
         life=$((life + 1))
     done
