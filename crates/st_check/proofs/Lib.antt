@@ -1,1 +1,3 @@
+pub mod KindOrder
 pub mod SpanLemmas
+pub mod Finding
