@@ -1,5 +1,5 @@
 -- Spans that were sorted: none overlaps where each ends before the next, and neighbours that touch overlap.
-use Rattle.std.proofs.Common.{◌≡◌, refl, sym, ap, subst, ◌∙◌, ℕ, zero, suc, ◌+◌, ◌<◌, ◌≤◌, ℤ, ◌≤ℤ◌, ◌<ℤ◌, int_le, arith}
+use Rattle.std.proofs.Common.{◌≡◌, refl, sym, ap, subst, ◌∙◌, ℕ, zero, suc, ◌+◌, ◌<◌, ◌≤◌, ℤ, ◌≤ℤ◌, ◌<ℤ◌, int_le, pos, arith}
 use Rattle.std.proofs.Common.{List, [], ◌∷◌, ◌++◌, Bool, true, false, ◌&&◌, if◌then◌else◌, length, slice_index_or, drop}
 use Rattle.std.proofs.Common.{⊎_elim}
 use Rattle.std.specs.Prelude.{int_lt, map, not, Option, Some, None, IfSome, ◌-◌}
@@ -14,6 +14,7 @@ use Rattle.std.proofs.lemmas.List.Elements.{Contains-append_left, Contains-appen
 use Rattle.std.proofs.lemmas.List.Sums.{sum_by-cons}
 use Rattle.std.proofs.lemmas.List.Sorted.{IsPermutation-sym, sum_by-IsPermutation, Contains-permutation, All-permutation}
 use Rattle.st_words.specs.declared.kind.Kind.{Kind}
+use Rattle.st_words.specs.declared.kind.Kind.TheVariants.{Lint}
 use Rattle.st_words.specs.Kinds.{same_kind, kind_index, names_in, number_of_type}
 use Rattle.st_statics.specs.Faults.{in_case}
 use Rattle.st_statics.specs.LabelRules as rules
@@ -408,7 +409,7 @@ touched_told sorted ss place p up sound touched =
     at_least v = grind (arith, ints)
 
 pub ascend_sorted : (ss : List Span)
-    → IsSortedByKey (λ (s : Span). (kind_index s.kind, names_in s.kind, number_of_type s.kind, s.lower))
+    → IsSortedByKey {K = ℕ × ℕ × ℕ × ℤ} (λ (s : Span). (kind_index s.kind, names_in s.kind, number_of_type s.kind, s.lower))
     (λ x y. ordering_then (ordering_then (ordering_then (nat_cmp x.0 y.0) (nat_cmp x.1 y.1)) (nat_cmp x.2 y.2))
     (int_cmp x.3 y.3)) ss
     → Ascend ss
@@ -431,6 +432,25 @@ apart_more ss at e lt before here j d le =
     (subst (λ x. IsApart (slice_index_or ss j e) x) (get_or_default ss (j + 1) e d (omega (arith, lt, is))) again))
     (λ other. before j d (omega (arith, le, other)))
     (cases_eq (j + 1) at)
+
+-- what a test of neighbours tells
+abbrev pub some_span : Span
+some_span = record { place = 0; kind = Lint; lower = pos 0; upper = pos 0 }
+
+pub apart_where : (s t : Span) → (same_kind s.kind t.kind && int_le t.lower s.upper) ≡ false → IsApart s t
+apart_where s t h same = past (same_kind s.kind t.kind) (int_le t.lower s.upper) same h refl
+  where
+    past : (a b : Bool) → a ≡ true → (a && b) ≡ false → int_le t.lower s.upper ≡ b → s.upper <ℤ t.lower
+    past true false p q r = grind (arith, ints)
+    past true true p q r = absurd (cc)
+    past false b p q r = absurd (cc)
+
+pub touched_where : (s t : Span) → (same_kind s.kind t.kind && int_le t.lower s.upper) ≡ true
+    → (same_kind s.kind t.kind ≡ true) × (t.lower ≤ℤ s.upper)
+touched_where s t h =
+    let both = both_parts (same_kind s.kind t.kind) (int_le t.lower s.upper) h in
+    let there = both.1 in
+    (both.0, grind (arith, ints))
 
 -- what is told of spans, from what is told of them sorted
 pub spans_told : (ss sorted : List Span) (found : Option ℕ) → flat_map reversed_of (map span_view ss) ≡ []

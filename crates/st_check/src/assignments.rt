@@ -27,7 +27,12 @@ pub enum Assigned<'a> {
 fn is_control(running: &[&Identifier], name: &Name) -> bool
     ensures { result ≡ contains_name (map (λ x. x.now.name) running.now) name.now }
 {
-    running.iter().any(|control| is_named(name, control))
+    for control in running {
+        if is_named(name, control) {
+            return true;
+        }
+    }
+    false
 }
 
 fn is_running(running: &[&Identifier], variable: &Variable) -> bool

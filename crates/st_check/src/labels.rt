@@ -57,6 +57,7 @@ fn is_selected(selector: Option<Kind>, kind: Kind) -> bool
     }
 }
 
+#[tactic(auto, using(crate::proofs::Finding::finds_front))]
 fn wrong_label_number(selector: Option<Kind>, number: &Number) -> Option<Broken>
     ensures { Finds (wrong_label_number selector number.now) result }
 {
@@ -77,6 +78,7 @@ fn wrong_label_value(selector: Option<Kind>, place: usize, reading: Reading) -> 
 }
 
 /// What is wrong in a label by itself: its type, its numbers, or its name.
+#[tactic(auto, using(crate::proofs::Finding::finds_front))]
 fn wrong_label(tables: &TextTables, selector: Option<Kind>, label: &Label) -> Option<Broken>
     ensures { (text : Declared) → ServesTables tables.now text
         → Finds (wrong_label text selector label.now) result }

@@ -80,10 +80,10 @@ fn wrong_selector(place: usize, selector: &Selector) -> Broken
 }
 
 /// What is wrong in the selectors behind the name at a place.
-fn wrong_selectors(
-    tables: &TextTables,
+fn wrong_selectors<'a>(
+    tables: &TextTables<'a>,
     place: usize,
-    declared: PlaceType,
+    declared: PlaceType<'a>,
     selectors: &[Selector],
 ) -> Option<Broken>
     ensures { (text : Declared) → ServesTables tables.now text → Finds
@@ -124,31 +124,36 @@ pub fn wrong_variable(names: &UnitNames, variable: &Variable) -> Option<Broken>
     }
 }
 
-/// Whether a variable of the type is an instance of a block.
-pub fn is_instance(tables: &TextTables, declared: PlaceType) -> bool
+/// Whether what has the type is an instance of a block.
+pub fn is_instance(tables: &TextTables, declared: Option<PlaceType>) -> bool
     ensures { (env : Environment) → ServesTables tables.now env.text
-        → result ≡ is_instance env (Some (place_type_view declared.entry)) }
+        → result ≡ is_instance env (option_map place_type_view declared.entry) }
 {
     match declared {
-        PlaceType::Simple(SimpleType::Named(name)) => tables.is_block(&name.name),
+        Some(PlaceType::Simple(SimpleType::Named(name))) => tables.is_block(&name.name),
         _ => false,
     }
 }
 
-/// Whether what is selected stands behind an instance.
-pub fn passes_instance(tables: &TextTables, declared: PlaceType, selectors: &[Selector]) -> bool
-    ensures { (env : Environment) → ServesTables tables.now env.text → result
-        ≡ passes_instance env (Some (place_type_view declared.entry)) (selectors_of (map selector_view selectors.now)) }
+/// Whether what is selected of what has the type stands behind an instance.
+pub fn passes_instance<'a>(
+    tables: &TextTables<'a>,
+    declared: Option<PlaceType<'a>>,
+    selectors: &[Selector],
+) -> bool
+    ensures { (env : Environment) → ServesTables tables.now env.text
+        → result ≡ passes_instance env (option_map place_type_view declared.entry)
+        (selectors_of (map selector_view selectors.now)) }
 {
     let mut behind = declared;
     for selector in selectors {
         if is_instance(tables, behind) {
             return true;
         }
-        match selected_type(tables, behind, selector) {
-            Some(next) => behind = next,
-            None => return false,
-        }
+        behind = match behind {
+            Some(declared) => selected_type(tables, declared, selector),
+            None => None,
+        };
     }
     false
 }

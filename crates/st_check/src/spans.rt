@@ -1,9 +1,9 @@
 //! The numbers that the labels of a CASE hold: reversed ranges, and labels that overlap (C7).
 
-ghost use Rattle.std.specs.Prelude.{◌≡◌, None, OnOk, IfOk, IfSome, map};
+ghost use Rattle.std.specs.Prelude.{◌≡◌, ◌&&◌, int_le, None, OnOk, IfOk, IfSome, map};
 ghost use Rattle.std.specs.List.{flat_map};
 ghost use Rattle.std.specs.List.Sorted.{IsPermutation};
-ghost use Rattle.st_words.specs.Kinds.{kind_index, names_in, number_of_type};
+ghost use Rattle.st_words.specs.Kinds.{kind_index, names_in, number_of_type, same_kind};
 ghost use Rattle.st_statics.specs.Faults.{in_case};
 ghost use Rattle.st_statics.specs.LabelRules.{is_reversed, wrong_spans};
 ghost use Rattle.st_names.specs.Searches.{FindsPlace};
@@ -94,16 +94,21 @@ fn sort(spans: &mut Vec<Span>) -> Result<(), AllocError>
     Ok(())
 }
 
+/// Whether a span, of the type of the one before it, begins where that has not ended.
+fn touches(before: &Span, span: &Span) -> bool
+    ensures { result ≡ (same_kind before.now.kind span.now.kind && int_le span.now.lower before.now.upper) }
+{
+    before.kind.is(span.kind) && span.lower <= before.upper
+}
+
 /// A span that begins before the one in front of it, of its type, ends.
 fn first_touched(spans: &[Span]) -> Option<usize>
     ensures found { IfSome result (IsTouched spans.now) }
     ensures apart { result ≡ None → AreApart spans.now }
 {
     for at in 1..spans.len() {
-        let before = spans[at - 1];
-        let span = spans[at];
-        if before.kind.is(span.kind) && span.lower <= before.upper {
-            return Some(span.place);
+        if touches(&spans[at - 1], &spans[at]) {
+            return Some(spans[at].place);
         }
     }
     None

@@ -44,13 +44,10 @@ fn is_free(names: &UnitNames, runs: bool, name: &Identifier, selectors: &[Select
     ensures { (env : Environment) → Serves names.now env
         → result ≡ is_free env runs (variable name.now (selectors_of (map selector_view selectors.now))) }
 {
-    if is_fixed(names.section_of(&name.name)) || runs {
-        return false;
-    }
-    match names.type_of_name(&name.name) {
-        Some(declared) => !passes_instance(names.tables, declared, selectors),
-        None => true,
-    }
+    let declared = names.type_of_name(&name.name);
+    !is_fixed(names.section_of(&name.name))
+        && !runs
+        && !passes_instance(names.tables, declared, selectors)
 }
 
 /// What is wrong in a variable that is assigned by its name (C1, C3, C5).
@@ -84,6 +81,7 @@ fn is_control(names: &UnitNames, control: &Identifier, declared: PlaceType) -> b
 }
 
 /// What is wrong in a name that a FOR counts by (C1, C3, C5).
+#[tactic(auto, using(crate::proofs::Finding::finds_front))]
 fn wrong_control(names: &UnitNames, runs: bool, control: &Identifier) -> Option<Broken>
     ensures { (env : Environment) → Serves names.now env
         → Finds (wrong_control_of env runs control.now (type_of_name env control.now.name)) result }
