@@ -35,3 +35,12 @@ pub passed_here : {A B : Type 0} (f : B → List Broken) (g : A → B) (xs : Lis
 passed_here f g xs i x all h is left clean =
     sym (ap (λ ys. ys ++ flat_map f (map g (drop (i + 1) xs))) clean)
     ∙ ap (flat_map f) (sym (left_viewed g xs i x h is)) ∙ left
+
+-- What is found in a front is found in the whole, and where the front is clean, what is found behind it.
+pub in_front : (xs ys : List Broken) (o : Option Broken) (b : Broken) → o ≡ Some b → Finds xs o
+    → Contains (xs ++ ys) b
+in_front xs ys o b is h = Contains-append_left xs ys b (subst (λ p. Finds xs p) is h)
+
+pub behind : (xs ys : List Broken) (o p : Option Broken) → o ≡ None → Finds xs o → Finds ys p → Finds (xs ++ ys) p
+behind xs ys o p is clean h =
+    subst (λ zs. Finds (zs ++ ys) p) (sym (subst (λ q. Finds xs q) is clean)) h

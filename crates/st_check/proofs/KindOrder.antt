@@ -99,6 +99,7 @@ not_itself k l b = by (same_kind k l) refl
     differs s (by_row p) = let e = s.row in absurd (omega (arith, p, e))
     differs s (by_names p q) = let e = s.names in absurd (omega (arith, q, e))
     differs s (by_number p q r) = let e = s.number in absurd (omega (arith, r, e))
+
     by : (t : Bool) → same_kind k l ≡ t → same_kind k l ≡ false
     by false h = h
     by true h = differs (same_told k l h) b

@@ -14,7 +14,7 @@ use Rattle.std.proofs.lemmas.List.Elements.{Contains-append_left, Contains-appen
 use Rattle.std.proofs.lemmas.List.Sums.{sum_by-cons}
 use Rattle.std.proofs.lemmas.List.Sorted.{IsPermutation-sym, sum_by-IsPermutation, Contains-permutation, All-permutation}
 use Rattle.st_words.specs.declared.kind.Kind.{Kind}
-use Rattle.st_words.specs.declared.kind.Kind.TheVariants.{Lint}
+use Rattle.st_words.specs.declared.kind.Kind.TheVariants.{Sint}
 use Rattle.st_words.specs.Kinds.{same_kind, kind_index, names_in, number_of_type}
 use Rattle.st_statics.specs.Faults.{in_case}
 use Rattle.st_statics.specs.LabelRules as rules
@@ -249,6 +249,7 @@ meets_at k v s t h j =
   where
     sound_told : (v : ℤ) (s : Span) → s.lower ≤ℤ v → v ≤ℤ s.upper → not (int_lt s.upper s.lower) ≡ true
     sound_told v s h j = grind (arith, ints)
+
     reaches : (v : ℤ) (s t : Span) → s.lower ≤ℤ v → v ≤ℤ t.upper → int_le s.lower t.upper ≡ true
     reaches v s t h j = grind (arith, ints)
 
@@ -435,7 +436,7 @@ apart_more ss at e lt before here j d le =
 
 -- what a test of neighbours tells
 abbrev pub some_span : Span
-some_span = record { place = 0; kind = Lint; lower = pos 0; upper = pos 0 }
+some_span = record { place = 0; kind = Sint; lower = pos 0; upper = pos 0 }
 
 pub apart_where : (s t : Span) → (same_kind s.kind t.kind && int_le t.lower s.upper) ≡ false → IsApart s t
 apart_where s t h same = past (same_kind s.kind t.kind) (int_le t.lower s.upper) same h refl

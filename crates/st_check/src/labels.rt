@@ -72,7 +72,11 @@ fn wrong_label_value(selector: Option<Kind>, place: usize, reading: Reading) -> 
     ensures { Finds (wrong_label_value selector place (reading_view reading)) result }
 {
     match reading {
-        Reading::Value(member) => unless(is_selected(selector, member.kind), Rule::WrongType, place),
+        Reading::Value(member) => unless(
+            is_selected(selector, member.kind),
+            Rule::WrongType,
+            place,
+        ),
         _ => wrong_reading(place, reading),
     }
 }
