@@ -1,6 +1,6 @@
 -- Arguments of calls, as slices of the code.
-use Rattle.std.proofs.Common.{◌≡◌, ◌∙◌, sym, ap, subst, ℕ, zero, suc, ◌+◌, ◌<◌, ◌≤◌, ◌==◌, ◌⊎◌, List, [], ◌∷◌, length, map, drop}
-use Rattle.std.proofs.Common.{get_or, Option, Some, refl, arith, add-one}
+use Rattle.std.proofs.Common.{◌≡◌, ◌∙◌, sym, ap, subst, ℕ, zero, suc, ◌+◌, ◌<◌, ◌≤◌, ◌==◌, ◌⊎◌, List, [], ◌∷◌, length}
+use Rattle.std.proofs.Common.{map, drop, get_or, Option, Some, refl, arith, add-one}
 use Rattle.std.specs.List.{Contains}
 use Rattle.std.proofs.lemmas.Bool.{ne_eqb, eq-eqb}
 use Rattle.std.proofs.lemmas.List.{drop_more, drop_all, drop-map}
@@ -84,7 +84,8 @@ none_left env ds xs i h =
 pub call_found : (env : Environment) (at : ℕ) (ds : List Demand) (es : Exprs) (b : Broken)
     → Contains (wrong_arguments env ds es) b → Contains (wrong_in_call env at ds es) b
 call_found env at ds es b h =
-    Contains-append_right (breaking WrongArguments (unless (count_of es == length ds) at)) (wrong_arguments env ds es) b h
+    Contains-append_right (breaking WrongArguments (unless (count_of es == length ds) at)) (wrong_arguments env ds es) b
+    h
 
 pub call_clean : (env : Environment) (at : ℕ) (ds : List Demand) (es : Exprs) → count_of es ≡ length ds
     → wrong_arguments env ds es ≡ [] → wrong_in_call env at ds es ≡ []
@@ -99,8 +100,8 @@ pub own_types : (env : Environment) (f : Identifier) (es : Exprs) (inputs : List
     (t : Typing) (a : Option Broken) → Calls env f.name (own inputs result) → t ≡ typing_of_kind result
     → Finds (wrong_in_call env f.place (demands_of_inputs inputs) es) a → Types env (call f es) (verdict t a)
 own_types env f es inputs result t a calls gives h =
-    call_types env f es (own inputs result) (kinds_of (typings_of env es)) (demands_of_inputs inputs) t a calls refl refl
-    gives h
+    call_types env f es (own inputs result) (kinds_of (typings_of env es)) (demands_of_inputs inputs) t a calls refl
+    refl gives h
 
 -- no standard function takes none, or more than three
 three_at_most : (f : Standard) (k : Option Kind) (n : ℕ) → (n < 1) ⊎ (3 < n)

@@ -62,8 +62,8 @@ pub other_wrong : (env : Environment) (e : Expr) (es : Exprs) (b : Broken)
 other_wrong env e es b h ds = other_found env ds e es b (h (other_demands ds))
 
 -- a call with what its function asks
-pub call_faults : (env : Environment) (k : Option Kind) (f : Identifier) (es : Exprs) (o : Option Callee) (ds : List Demand)
-    → callee_of env f.name ≡ o → ds ≡ demands_of env o es
+pub call_faults : (env : Environment) (k : Option Kind) (f : Identifier) (es : Exprs) (o : Option Callee)
+    (ds : List Demand) → callee_of env f.name ≡ o → ds ≡ demands_of env o es
     → wrong_call f.place o ds es ++ wrong_arguments env ds es ≡ wrong_within env k (call f es)
 call_faults env k f es o ds is asks =
     ap (λ (xs : List Demand). wrong_call f.place o xs es ++ wrong_arguments env xs es) asks

@@ -1,6 +1,6 @@
 -- Selections of a variable, step by step.
-use Rattle.std.proofs.Common.{◌≡◌, ◌∙◌, sym, ap, subst, ℕ, ◌+◌, ◌<◌, ◌==◌, List, [], ◌∷◌, ◌++◌, Option, Some, None, refl}
-use Rattle.std.proofs.Common.{append-nil, arith, length, map, drop, get_or, true, false}
+use Rattle.std.proofs.Common.{◌≡◌, ◌∙◌, sym, ap, subst, ℕ, ◌+◌, ◌<◌, ◌==◌, List, [], ◌∷◌, ◌++◌, Option, Some, None}
+use Rattle.std.proofs.Common.{refl, append-nil, arith, length, map, drop, get_or, true, false}
 use Rattle.std.specs.Prelude.{Result, Ok, Err, option_and_then, if◌then◌else◌}
 use Rattle.std.specs.List.{flat_map, Contains}
 use Rattle.std.proofs.lemmas.Bool.{eqb-true, eqb-false}
@@ -85,10 +85,10 @@ pub place_selected : (env : Environment) (x : Identifier) (xs : Selectors) (t : 
     (r : Result (Option PlaceType) Broken) → type_of_name env x.name ≡ Some t
     → SelectsAll env x.place (Some t) xs r → SelectsPlace env (variable x xs) r
 place_selected env x xs t (Ok found) is h = (
-    h.0 ∙ ap (option_and_then (type_behind env.text xs)) (sym is),
-    ap (λ (ys : List Broken). ys ++ flat_map (wrong_node env) (nodes_of_selectors env xs)) (ap (faults_of env x xs) is)
-        ∙ h.1,
-  )
+  h.0 ∙ ap (option_and_then (type_behind env.text xs)) (sym is),
+  ap (λ (ys : List Broken). ys ++ flat_map (wrong_node env) (nodes_of_selectors env xs)) (ap (faults_of env x xs) is)
+      ∙ h.1,
+)
 place_selected env x xs t (Err b) is h =
     subst (λ (ys : List Broken). Contains (ys ++ flat_map (wrong_node env) (nodes_of_selectors env xs)) b)
     (ap (faults_of env x xs) (sym is)) h

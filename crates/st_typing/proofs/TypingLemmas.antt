@@ -82,7 +82,8 @@ negation_types env op at e t b typed h whole =
 pub operand_wrong : (env : Environment) (op : UnaryOperator) (at : ℕ) (e : Expr) (b : Broken)
     → ((k : Option Kind) → Contains (wrong_within env k e) b) → (k : Option Kind)
     → Contains (wrong_within env k (unary op at e)) b
-operand_wrong env op at e b h k = Contains-append_right (wrong_part env k (unary op at e)) (wrong_within env k e) b (h k)
+operand_wrong env op at e b h k =
+    Contains-append_right (wrong_part env k (unary op at e)) (wrong_within env k e) b (h k)
 
 -- an operator between its operands: what they are offered, where one of them has a type
 offered_cases : (j t u : Bool) (k a b : Option Kind) → (j && (t && u)) ≡ false

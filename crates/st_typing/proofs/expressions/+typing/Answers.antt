@@ -37,7 +37,7 @@ pub typing-returns-in-Call : goal.typing-returns-in-Call
 typing-returns-in-Call t c env serves =
     let is = c.in-Call.is in
     let seen : expr_view c.args.expression.now
-        ≡ call c.in-Call.function (exprs_of (map expr_view c.in-Call.arguments.items)) =
+    ≡ call c.in-Call.function (exprs_of (map expr_view c.in-Call.arguments.items)) =
     rw is (search (rules, code_expr.the_lemmas)) in
     rw seen (rw c.deref.ensures.value at (c.typing_of_call.ensures env serves))
 
@@ -213,14 +213,16 @@ typing_of_call-returns-in-Some-Own t c env serves =
 pub call_of_standard-returns-in-Ok : goal.call_of_standard-returns-in-Ok
 call_of_standard-returns-in-Ok t c env serves calls =
     let xs = c.args.arguments.now in
-    let seen = one_seen xs c.only-item.result (omega (arith, c.in-len1.len_at_least, c.in-len1.len_below)) c.only-item.is in
+    let seen = one_seen xs c.only-item.result (omega (arith, c.in-len1.len_at_least, c.in-len1.len_below))
+    c.only-item.is in
     rw seen (c.call_of_one.ensures env calls (c.in-Ok.ensures env serves))
 
 pub call_of_standard-returns-in-Err : goal.call_of_standard-returns-in-Err
 call_of_standard-returns-in-Err t c env serves calls =
     let xs = c.args.arguments.now in
     let e = expr_view c.only-item.result in
-    let seen = one_seen xs c.only-item.result (omega (arith, c.in-len1.len_at_least, c.in-len1.len_below)) c.only-item.is in
+    let seen = one_seen xs c.only-item.result (omega (arith, c.in-len1.len_at_least, c.in-len1.len_below))
+    c.only-item.is in
     rw seen (argument_wrong env c.args.function.now (expr_then e no_exprs) c.in-Err.broken
     (first_wrong env e no_exprs c.in-Err.broken (c.in-Err.ensures env serves)))
 
