@@ -1,1 +1,5 @@
+pub mod KindOrder
 pub mod SpanLemmas
+pub mod Finding
+pub mod FlatLemmas
+pub mod TargetLemmas

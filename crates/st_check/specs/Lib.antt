@@ -1,1 +1,5 @@
 pub mod Spans
+pub mod Listings
+pub mod Assignments
+pub mod Findings
+pub mod Targets

@@ -1,6 +1,5 @@
-use Rattle.std.proofs.Common.{arith, pos}
-use Rattle.std.proofs.lemmas.Int.{ints}
-use Rattle.st_check.proofs.SpanLemmas.{apart_more}
+use Rattle.std.proofs.Common.{◌∙◌, sym, arith, ◌-◌, slice_index_or}
+use Rattle.st_check.proofs.SpanLemmas.{apart_more, apart_where, some_span}
 use Rattle.st_check.proofs.spans.first_touched.Goals as goal
 
 pub loop-at-init : goal.loop-at-init
@@ -8,8 +7,10 @@ loop-at-init c j d lt = absurd (omega (arith, lt))
 
 pub loop-at-preserved : goal.loop-at-preserved
 loop-at-preserved c =
-    let apart = c.if-spans-at.false in
-    apart_more c.args.spans.now c.loop-at.at (record { place = 0; lower = pos 0; upper = pos 0 }) c.loop-at-test.true c.loop-at.invariant (grind (arith, ints))
+    let spans = c.args.spans.now in
+    apart_more spans c.loop-at.at some_span c.loop-at-test.true c.loop-at.invariant
+    (apart_where (slice_index_or spans (c.loop-at.at - 1) some_span) (slice_index_or spans c.loop-at.at some_span)
+    (sym c.touches.ensures ∙ c.if-touches.false))
 
 pub returns-clause-apart : goal.returns-clause-apart
 returns-clause-apart c none j d lt =

@@ -1,0 +1,37 @@
+-- What a search in parts, or step by step, tells of the whole.
+use Rattle.std.proofs.Common.{◌≡◌, refl, sym, ap, subst, ◌∙◌, ℕ, ◌+◌, ◌<◌, List, [], ◌∷◌, ◌++◌, Option, Some, None, drop}
+use Rattle.std.proofs.Common.{length, slice_index_or, map}
+use Rattle.std.specs.List.{flat_map, Contains}
+use Rattle.std.proofs.lemmas.List.{drop_more}
+use Rattle.std.proofs.lemmas.List.Elements.{Contains-append_left, Contains-append_right}
+use Rattle.st_statics.specs.declared.rule.Broken.{Broken}
+use Rattle.st_statics.specs.Faults.{Finds}
+use Rattle.st_check.specs.Findings.{or_broken}
+
+-- what is found in a front, or else behind it
+pub finds_front : (xs ys : List Broken) (a b : Option Broken) → Finds xs a → Finds ys b
+    → Finds (xs ++ ys) (or_broken a b)
+finds_front xs ys (Some x) b h k = Contains-append_left xs ys x h
+finds_front xs ys None (Some y) h k = Contains-append_right xs ys y k
+finds_front xs ys None None h k = rw (h, k) refl
+
+left_viewed : {A B : Type 0} (g : A → B) (xs : List A) (i : ℕ) (x : A) → i < length xs → x ≡ slice_index_or xs i x
+    → map g (drop i xs) ≡ g x ∷ map g (drop (i + 1) xs)
+left_viewed g xs i x h is =
+    ap (map g) (drop_more xs i x h ∙ ap (λ y. y ∷ drop (i + 1) xs) (sym is))
+
+-- One of a list is wrong: what is wrong in it is so in the whole.
+pub found_here : {A B : Type 0} (f : B → List Broken) (g : A → B) (xs : List A) (i : ℕ) (x : A) (b : Broken)
+    (all : List Broken) → i < length xs → x ≡ slice_index_or xs i x → flat_map f (map g (drop i xs)) ≡ all
+    → Contains (f (g x)) b → Contains all b
+found_here f g xs i x b all h is left here =
+    subst (λ ys. Contains ys b) (ap (flat_map f) (sym (left_viewed g xs i x h is)) ∙ left)
+    (Contains-append_left (f (g x)) (flat_map f (map g (drop (i + 1) xs))) b here)
+
+-- One of a list is right: what is wrong stands behind it.
+pub passed_here : {A B : Type 0} (f : B → List Broken) (g : A → B) (xs : List A) (i : ℕ) (x : A) (all : List Broken)
+    → i < length xs → x ≡ slice_index_or xs i x → flat_map f (map g (drop i xs)) ≡ all → f (g x) ≡ []
+    → flat_map f (map g (drop (i + 1) xs)) ≡ all
+passed_here f g xs i x all h is left clean =
+    sym (ap (λ ys. ys ++ flat_map f (map g (drop (i + 1) xs))) clean)
+    ∙ ap (flat_map f) (sym (left_viewed g xs i x h is)) ∙ left
