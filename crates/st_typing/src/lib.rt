@@ -17,7 +17,9 @@ mod settling;
 mod sorts;
 mod verdicts;
 
+pub use kinds::{or_kind, taken_kind};
 pub use literals::wrong_number;
 pub use operands::{meets, settled};
 pub use places::first_byte;
 pub use settling::settle;
+pub use sorts::is_joining;
