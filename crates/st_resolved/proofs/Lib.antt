@@ -1,1 +1,2 @@
 pub mod OperationLemmas
+pub mod ListLemmas

@@ -1,3 +1,4 @@
 pub mod Members
 pub mod Resolutions
 pub mod Calls
+pub mod Arms

@@ -1,9 +1,9 @@
 //! Expressions of a unit's body, resolved from their leaves up.
 
 ghost use Rattle.std.specs.Prelude.{◌≡◌, IfOk, map};
-ghost use Rattle.st_trees.specs.Expressions.{read, exprs_of, selectors_of};
+ghost use Rattle.st_trees.specs.Expressions.{read, exprs_of};
 ghost use Rattle.st_trees.specs.ExpressionViews.{expr_view, variable_view, selector_view};
-ghost use Rattle.st_types.specs.Resolution.{resolved_expr, resolved_variable, resolved_selectors, resolved_selector};
+ghost use Rattle.st_types.specs.Resolution.{resolved_expr, resolved_variable, resolved_selector};
 ghost use Rattle.st_statics.specs.Environments.{Environment};
 ghost use Rattle.st_names.specs.Serving.{Serves};
 ghost use Rattle.st_resolved.specs.Resolutions.{Resolves, ResolvesAll};
@@ -87,6 +87,7 @@ fn resolved_read(
 
 /// A variable with its subscripts resolved.
 #[cycle(resolve)]
+#[tactic(auto, using(crate::proofs::ListLemmas::selectors_resolved))]
 pub fn resolved_variable(
     alloc: Global,
     names: &UnitNames,
@@ -106,8 +107,8 @@ fn resolved_selectors(
     selectors: &[Selector],
 ) -> Result<Vec<Selector>, AllocError>
     ensures { IfOk result (λ list. (env : Environment) → Serves names.now env
-        → selectors_of (map selector_view list.items)
-        ≡ resolved_selectors env.text env.unit (selectors_of (map selector_view selectors.now))) }
+        → map selector_view list.items
+        ≡ map (resolved_selector env.text env.unit) (map selector_view selectors.now)) }
 {
     let mut resolved = Vec::new(alloc);
     for selector in selectors {

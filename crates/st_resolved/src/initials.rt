@@ -1,14 +1,13 @@
 //! Initial values.
 
 ghost use Rattle.std.specs.Prelude.{◌≡◌, IfOk, map, option_map};
-ghost use Rattle.st_trees.specs.Initials.{elements_of, members_of};
 ghost use Rattle.st_trees.specs.InitialViews.{initial_view, element_view, member_view};
 ghost use Rattle.st_types.specs.NameTypes.{Declared};
 ghost use Rattle.st_types.specs.ResolvedUnits.{element_of, field_of, resolved_initial, resolved_element};
-ghost use Rattle.st_types.specs.ResolvedUnits.{resolved_elements, resolved_members};
 ghost use Rattle.st_names.specs.Fields.{ServesFields};
 ghost use Rattle.st_names.specs.PlaceTypes.{place_type_view};
 ghost use Rattle.st_names.specs.Tables.{ServesTables};
+ghost use Rattle.st_resolved.specs.Arms.{resolved_member};
 
 use crate::kinds::kind_there;
 use crate::literals::{taking_literal, taking_number};
@@ -54,6 +53,7 @@ fn field_of<'a>(
 
 /// An initial value of a variable of a type.
 #[cycle(resolved_initial)]
+#[tactic(auto, using(crate::proofs::ListLemmas::elements_resolved, crate::proofs::ListLemmas::members_resolved))]
 pub fn resolved_initial<'a>(
     alloc: Global,
     tables: &TextTables<'a>,
@@ -121,8 +121,8 @@ fn resolved_elements<'a>(
     elements: &[InitialElement],
 ) -> Result<Vec<InitialElement>, AllocError>
     ensures { IfOk result (λ list. (text : Declared) → ServesTables tables.now text → ServesFields fields.now text
-        → elements_of (map element_view list.items) ≡ resolved_elements text
-        (option_map place_type_view declared.entry) (elements_of (map element_view elements.now))) }
+        → map element_view list.items
+        ≡ map (resolved_element text (option_map place_type_view declared.entry)) (map element_view elements.now)) }
 {
     let mut resolved = Vec::new(alloc);
     for element in elements {
@@ -141,8 +141,8 @@ fn resolved_members<'a>(
     members: &[InitialMember],
 ) -> Result<Vec<InitialMember>, AllocError>
     ensures { IfOk result (λ list. (text : Declared) → ServesTables tables.now text → ServesFields fields.now text
-        → members_of (map member_view list.items) ≡ resolved_members text
-        (option_map place_type_view declared.entry) (members_of (map member_view members.now))) }
+        → map member_view list.items
+        ≡ map (resolved_member text (option_map place_type_view declared.entry)) (map member_view members.now)) }
 {
     let mut resolved = Vec::new(alloc);
     for member in members {

@@ -11,6 +11,7 @@ mod copies;
 mod declarations;
 mod expected;
 mod expressions;
+mod globals;
 mod initials;
 mod invocations;
 mod kinds;
@@ -20,4 +21,8 @@ mod members;
 mod operations;
 mod resolutions;
 mod settling;
+mod sources;
 mod statements;
+mod units;
+
+pub use sources::resolved_source;

@@ -1,15 +1,14 @@
 //! Statements of a unit's body.
 
 ghost use Rattle.std.specs.Prelude.{◌≡◌, IfOk, map, option_map};
-ghost use Rattle.st_trees.specs.Statements.{stmts_of, arms_of, case_arms_of};
 ghost use Rattle.st_trees.specs.ExpressionViews.{expr_view};
 ghost use Rattle.st_trees.specs.StatementViews.{stmt_view, arm_view, case_arm_view};
 ghost use Rattle.st_types.specs.NameTypes.{variable_type};
 ghost use Rattle.st_types.specs.Resolution.{resolved_expr};
-ghost use Rattle.st_types.specs.ResolvedUnits.{kind_there, resolved_stmt, resolved_stmts, resolved_arms};
-ghost use Rattle.st_types.specs.ResolvedUnits.{resolved_case_arms};
+ghost use Rattle.st_types.specs.ResolvedUnits.{kind_there, resolved_stmt};
 ghost use Rattle.st_statics.specs.Environments.{Environment};
 ghost use Rattle.st_names.specs.Serving.{Serves};
+ghost use Rattle.st_resolved.specs.Arms.{resolved_arm, resolved_case_arm};
 
 use crate::expressions::{resolve, resolved_expr};
 use crate::invocations::{resolved_assignment, resolved_invocation};
@@ -47,6 +46,7 @@ fn resolved_step(
 
 /// A statement with those inside it.
 #[cycle(resolved_stmt)]
+#[tactic(auto, using(crate::proofs::ListLemmas::stmts_resolved, crate::proofs::ListLemmas::arms_resolved, crate::proofs::ListLemmas::case_arms_resolved))]
 fn resolved_stmt(
     alloc: Global,
     names: &UnitNames,
@@ -108,8 +108,8 @@ pub fn resolved_stmts(
     names: &UnitNames,
     statements: &[Stmt],
 ) -> Result<Vec<Stmt>, AllocError>
-    ensures { IfOk result (λ list. (env : Environment) → Serves names.now env → stmts_of (map stmt_view list.items)
-        ≡ resolved_stmts env.text env.unit (stmts_of (map stmt_view statements.now))) }
+    ensures { IfOk result (λ list. (env : Environment) → Serves names.now env → map stmt_view list.items
+        ≡ map (resolved_stmt env.text env.unit) (map stmt_view statements.now)) }
 {
     let mut resolved = Vec::new(alloc);
     for statement in statements {
@@ -120,8 +120,8 @@ pub fn resolved_stmts(
 
 #[cycle(resolved_stmt)]
 fn resolved_arms(alloc: Global, names: &UnitNames, arms: &[Arm]) -> Result<Vec<Arm>, AllocError>
-    ensures { IfOk result (λ list. (env : Environment) → Serves names.now env → arms_of (map arm_view list.items)
-        ≡ resolved_arms env.text env.unit (arms_of (map arm_view arms.now))) }
+    ensures { IfOk result (λ list. (env : Environment) → Serves names.now env → map arm_view list.items
+        ≡ map (resolved_arm env.text env.unit) (map arm_view arms.now)) }
 {
     let mut resolved = Vec::new(alloc);
     for arm in arms {
@@ -140,9 +140,8 @@ fn resolved_case_arms(
     kind: Option<Kind>,
     arms: &[CaseArm],
 ) -> Result<Vec<CaseArm>, AllocError>
-    ensures { IfOk result (λ list. (env : Environment) → Serves names.now env
-        → case_arms_of (map case_arm_view list.items)
-        ≡ resolved_case_arms env.text env.unit kind (case_arms_of (map case_arm_view arms.now))) }
+    ensures { IfOk result (λ list. (env : Environment) → Serves names.now env → map case_arm_view list.items
+        ≡ map (resolved_case_arm env.text env.unit kind) (map case_arm_view arms.now)) }
 {
     let mut resolved = Vec::new(alloc);
     for arm in arms {
