@@ -1,5 +1,7 @@
 -- Lists of parts, resolved one by one.
-use Rattle.std.proofs.Common.{◌≡◌, List, [], ◌∷◌, map, Option, refl, ap}
+use Rattle.std.proofs.Common.{◌≡◌, ◌∙◌, sym, ap, refl, ℕ, ◌+◌, ◌<◌, List, [], ◌∷◌, ◌++◌, map, drop, length, Option}
+use Rattle.std.proofs.Common.{append_assoc, slice_index_or}
+use Rattle.std.proofs.lemmas.List.{drop_more, map-append}
 use Rattle.st_words.specs.declared.kind.Kind.{Kind}
 use Rattle.st_trees.specs.declared.data_type.VariableType.{VariableType}
 use Rattle.st_trees.specs.Expressions.{Selector, selectors_of, selector_then}
@@ -45,3 +47,18 @@ pub members_resolved : (text : Declared) (t : Option VariableType) (xs : List Me
 members_resolved text t [] = refl
 members_resolved text t (m ∷ xs) =
     let x = resolved_member text t m in ap (member_then x.0 x.1) (members_resolved text t xs)
+
+left_viewed : {A B : Type 0} (v : A → B) (xs : List A) (i : ℕ) (x : A) → i < length xs → x ≡ slice_index_or xs i x
+    → map v (drop i xs) ≡ v x ∷ map v (drop (i + 1) xs)
+left_viewed v xs i x h is = ap (map v) (drop_more xs i x h ∙ ap (λ y. y ∷ drop (i + 1) xs) (sym is))
+
+-- what is resolved and what is left to resolve are the whole after one turn
+pub resolved_turn : {A B : Type 0} (v : A → B) (f : B → B) (xs : List A) (i : ℕ) (x : A) (all : List B)
+    (done next : List A) (new : A) → i < length xs → x ≡ slice_index_or xs i x
+    → map v done ++ map f (map v (drop i xs)) ≡ all → next ≡ done ++ new ∷ [] → v new ≡ f (v x)
+    → map v next ++ map f (map v (drop (i + 1) xs)) ≡ all
+resolved_turn v f xs i x all done next new h is before pushed one =
+    let left = map f (map v (drop (i + 1) xs)) in
+    ap (λ ys. map v ys ++ left) pushed ∙ ap (λ ys. ys ++ left) (map-append v done (new ∷ []))
+    ∙ append_assoc (map v done) (v new ∷ []) left ∙ ap (λ y. map v done ++ y ∷ left) one
+    ∙ ap (λ ys. map v done ++ map f ys) (sym (left_viewed v xs i x h is)) ∙ before
