@@ -1,7 +1,8 @@
 #!/usr/bin/env bash
-# Commits a second of `plant run` over a real retain file with 1, 2, 4 and 8 resources, each with a program that counts in a variable of its
-# own, at both paces, beside SQLite's transactions that change one row, with synchronous=FULL, on the same disk in the same run. A save is
-# three writes and three syncs at most, the first of each aside.
+# Commits a second of `plant run` over a real retain file with 1, 2, 4 and 8 resources, each with one or eight programs that count in variables
+# of their own, at both paces, beside SQLite's transactions that change one row, with synchronous=FULL, on the same disk in the same run. A
+# save is three writes and three syncs, the first two of a file aside. At pace `free` a run is over in some 20 ms, so it is made 20 times.
+# Then how long one execution takes beside 4,095 variables that it does not name, since a snapshot copies them.
 #
 # usage: bench/run_threads.sh PLANT [FOLDER]     PLANT is the built program; FOLDER lies on the disk to be measured
 set -euo pipefail
@@ -12,15 +13,20 @@ work=$(mktemp -d -p "${2:-/tmp}")
 trap 'rm -rf "$work"' EXIT
 cd "$work"
 
-# text COUNT: a configuration of so many resources
+# text RESOURCES PROGRAMS OTHERS: a configuration of so many resources, so many programs on each, and so many variables that none names
 text() {
-    local k
-    for ((k = 0; k < $1; k++)); do echo "PROGRAM Unit$k VAR_EXTERNAL n$k : DINT; END_VAR n$k := n$k + 1; END_PROGRAM"; done
+    local j k
+    for ((k = 0; k < $1 * $2; k++)); do echo "PROGRAM Unit$k VAR_EXTERNAL n$k : DINT; END_VAR n$k := n$k + 1; END_PROGRAM"; done
     echo "CONFIGURATION C VAR_GLOBAL RETAIN"
-    for ((k = 0; k < $1; k++)); do echo "n$k : DINT;"; done
+    for ((k = 0; k < $1 * $2; k++)); do echo "n$k : DINT;"; done
+    echo "END_VAR VAR_GLOBAL"
+    for ((k = 0; k < $3; k++)); do echo "other$k : DINT;"; done
     echo "END_VAR"
     for ((k = 0; k < $1; k++)); do
-        echo "RESOURCE R$k ON CPU TASK T (INTERVAL := T#10ms, PRIORITY := 0); PROGRAM P WITH T : Unit$k; END_RESOURCE"
+        echo "RESOURCE R$k ON CPU"
+        for ((j = 0; j < $2; j++)); do echo "TASK T$j (INTERVAL := T#10ms, PRIORITY := 0);"; done
+        for ((j = 0; j < $2; j++)); do echo "PROGRAM P$j WITH T$j : Unit$((k * $2 + j));"; done
+        echo "END_RESOURCE"
     done
     echo "END_CONFIGURATION"
 }
@@ -45,22 +51,37 @@ milliseconds() {
     took=$((($(date +%s%N) - begin) / 1000000 + 1))
 }
 
-printf '%-28s %9s %9s %12s %8s %16s\n' what commits ms commits/s saves commits/save
-for pace in settle free; do
-    rows=$([ $pace = settle ] && echo 2000 || echo 10000)
-    { echo t; seq 0 10 $(((rows - 1) * 10)); } > rows.csv
-    for resources in 1 2 4 8; do
-        text $resources > text.st
+# measure WHAT PACE RUNS: so many runs of text.st, summed up
+measure() {
+    local commits=0 all=0 count=0 run
+    for ((run = 0; run < $3; run++)); do
         rm -f store
-        milliseconds "$plant" run text.st --plant rows.csv --store store --start cold --pace $pace
-        done=$(told done)
-        count=$(saves)
-        printf '%-28s %9s %9s %12s %8s %16s\n' "$resources resources, $pace" "$done" $took $((done * 1000 / took)) "$count" \
-            "$(awk -v d="$done" -v s="$count" 'BEGIN { printf "%.2f", d / s }')"
+        milliseconds "$plant" run text.st --plant rows.csv --store store --start cold --pace "$2"
+        commits=$((commits + $(told "done"))) all=$((all + took)) count=$((count + $(saves)))
+    done
+    printf '%-38s %9s %9s %12s %8s %13s %13s\n' "$1" $commits $all $((commits * 1000 / all)) $count \
+        "$(awk -v d=$commits -v s=$count 'BEGIN { printf "%.2f", d / s }')" "$(awk -v d=$commits -v s=$count 'BEGIN { printf "%.2f", 6 * s / d }')"
+}
+
+printf '%-38s %9s %9s %12s %8s %13s %13s\n' what commits ms commits/s saves commits/save steps/commit
+for programs in 1 8; do
+    for pace in settle free; do
+        rows=$([ $pace = settle ] && echo $((2000 / programs)) || echo 10000)
+        { echo t; seq 0 10 $(((rows - 1) * 10)); } > rows.csv
+        for resources in 1 2 4 8; do
+            text $resources $programs 0 > text.st
+            measure "$resources resources of $programs, $pace" $pace "$([ $pace = settle ] && echo 1 || echo 20)"
+        done
     done
 done
 
 for mode in DELETE WAL; do
     milliseconds "$bench/sqlite.py" $mode 4000
-    printf '%-28s %9s %9s %12s\n' "SQLite, $mode" 4000 $took $((4000 * 1000 / took))
+    printf '%-38s %9s %9s %12s\n' "SQLite, $mode" 4000 $took $((4000 * 1000 / took))
+done
+
+{ echo t; seq 0 10 19990; } > rows.csv
+for others in 0 4095; do
+    text 1 1 $others > text.st
+    measure "1 resource of 1, $others others, settle" settle 1
 done

@@ -1,8 +1,7 @@
 -- The typings of calls, from those of their arguments.
-use Rattle.std.proofs.Common.{◌≡◌, ◌∙◌, sym, ap, subst, ℕ, List, [], ◌∷◌, ◌++◌, ◌==◌, length, Bool, true, false}
-use Rattle.std.proofs.Common.{Option, Some, None, refl, append_assoc}
-use Rattle.std.specs.Prelude.{Result, Ok, Err}
-use Rattle.std.specs.List.{flat_map, Contains}
+use Rattle.std.proofs.Common.{◌≡◌, ◌∙◌, sym, ap, subst, ℕ, List, [], ◌∷◌, ◌++◌, ◌==◌, length, false}
+use Rattle.std.proofs.Common.{Option, Some, None, refl}
+use Rattle.std.specs.List.{Contains}
 use Rattle.std.proofs.lemmas.List.Elements.{Contains-append_left, Contains-append_right, Contains-push}
 use Rattle.std.proofs.lemmas.List.Concat.{flat_map-append}
 use Rattle.st_words.specs.declared.identifier.Identifier.{Identifier}
@@ -13,15 +12,15 @@ use Rattle.st_types.specs.StandardFunctions.{Standard, ABS, MIN, MAX, LIMIT, SEL
 use Rattle.st_statics.specs.declared.rule.Rule.TheVariants.{UnknownName, WrongArguments}
 use Rattle.st_statics.specs.declared.rule.Broken.{Broken}
 use Rattle.st_statics.specs.Faults.{Finds, breaking, unless}
-use Rattle.st_statics.specs.Environments.{Environment, Callee, standard, own, callee_of}
+use Rattle.st_statics.specs.Environments.{Environment, Callee, standard, callee_of}
 use Rattle.st_statics.specs.declared.demand.Demand.{Demand}
 use Rattle.st_statics.specs.declared.typings.Typing.{Typing}
-use Rattle.st_statics.specs.Demands.{demands_of_standard, demands_of_callee, expected_of}
-use Rattle.st_statics.specs.Typings.{kind_of, kinds_of, typing_of, typings_of, typing_of_kind, typing_of_callee, common_of}
-use Rattle.st_statics.specs.Nodes.{Node, first_demand, other_demands, demands_of, nodes_of, nodes_of_all}
+use Rattle.st_statics.specs.Demands.{demands_of_standard, demands_of_callee}
+use Rattle.st_statics.specs.Typings.{kinds_of, typings_of, typing_of_kind, typing_of_callee, common_of}
+use Rattle.st_statics.specs.Nodes.{first_demand, other_demands, demands_of, nodes_of, nodes_of_all}
 use Rattle.st_statics.specs.ExpressionRules.{wrong_node, wrong_call, wrong_expression, wrong_within, count_of}
 use Rattle.st_typing.specs.Verdicts.{or_broken, verdict}
-use Rattle.st_typing.specs.Answers.{IsTyped, Types}
+use Rattle.st_typing.specs.Answers.{Types}
 use Rattle.st_typing.specs.Arguments.{Calls, wrong_count, wrong_arguments, wrong_in_call}
 use Rattle.st_typing.proofs.Finding.{finds_front, finds_alone, finds_same}
 use Rattle.st_typing.proofs.TypingLemmas.{types_verdict, wrong_inside}
@@ -63,8 +62,8 @@ pub other_wrong : (env : Environment) (e : Expr) (es : Exprs) (b : Broken)
 other_wrong env e es b h ds = other_found env ds e es b (h (other_demands ds))
 
 -- a call with what its function asks
-call_faults : (env : Environment) (k : Option Kind) (f : Identifier) (es : Exprs) (o : Option Callee) (ds : List Demand)
-    → callee_of env f.name ≡ o → ds ≡ demands_of env o es
+pub call_faults : (env : Environment) (k : Option Kind) (f : Identifier) (es : Exprs) (o : Option Callee)
+    (ds : List Demand) → callee_of env f.name ≡ o → ds ≡ demands_of env o es
     → wrong_call f.place o ds es ++ wrong_arguments env ds es ≡ wrong_within env k (call f es)
 call_faults env k f es o ds is asks =
     ap (λ (xs : List Demand). wrong_call f.place o xs es ++ wrong_arguments env xs es) asks

@@ -2,3 +2,5 @@ pub mod Finding
 pub mod PartLemmas
 pub mod TypingLemmas
 pub mod CallLemmas
+pub mod SelectionLemmas
+pub mod ArgumentLemmas

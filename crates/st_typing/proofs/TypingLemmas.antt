@@ -1,5 +1,5 @@
 -- The typings of operations and of expressions at their places, from those of their parts.
-use Rattle.std.proofs.Common.{◌≡◌, ◌∙◌, sym, ap, subst, ℕ, List, [], ◌∷◌, ◌++◌, Bool, true, false, ◌&&◌, Option, Some}
+use Rattle.std.proofs.Common.{◌≡◌, ◌∙◌, sym, ap, subst, ℕ, List, [], ◌++◌, Bool, true, false, ◌&&◌, Option, Some}
 use Rattle.std.proofs.Common.{None, refl, append_assoc}
 use Rattle.std.specs.Prelude.{if◌then◌else◌, Result, Ok, Err}
 use Rattle.std.specs.List.{flat_map, Contains}
@@ -7,11 +7,9 @@ use Rattle.std.proofs.lemmas.List.Elements.{Contains-append_left, Contains-appen
 use Rattle.std.proofs.lemmas.List.Concat.{flat_map-append}
 use Rattle.st_words.specs.declared.kind.Kind.{Kind}
 use Rattle.st_words.specs.declared.kind.Kind.TheVariants.{Bool as Boolean}
-use Rattle.st_words.specs.declared.literal.Number.{Number}
-use Rattle.st_words.specs.declared.literal.Literal.TheVariants as literals
 use Rattle.st_words.specs.declared.operator.UnaryOperator.{UnaryOperator}
 use Rattle.st_words.specs.declared.operator.BinaryOperator.{BinaryOperator}
-use Rattle.st_trees.specs.Expressions.{Expr, literal, parenthesis, unary, binary}
+use Rattle.st_trees.specs.Expressions.{Expr, parenthesis, unary, binary}
 use Rattle.st_types.specs.Resolution.{is_untyped, is_joining, expected_of_both}
 use Rattle.st_statics.specs.declared.rule.Rule.TheVariants.{WrongType}
 use Rattle.st_statics.specs.declared.rule.Broken.{Broken}
@@ -84,7 +82,8 @@ negation_types env op at e t b typed h whole =
 pub operand_wrong : (env : Environment) (op : UnaryOperator) (at : ℕ) (e : Expr) (b : Broken)
     → ((k : Option Kind) → Contains (wrong_within env k e) b) → (k : Option Kind)
     → Contains (wrong_within env k (unary op at e)) b
-operand_wrong env op at e b h k = Contains-append_right (wrong_part env k (unary op at e)) (wrong_within env k e) b (h k)
+operand_wrong env op at e b h k =
+    Contains-append_right (wrong_part env k (unary op at e)) (wrong_within env k e) b (h k)
 
 -- an operator between its operands: what they are offered, where one of them has a type
 offered_cases : (j t u : Bool) (k a b : Option Kind) → (j && (t && u)) ≡ false

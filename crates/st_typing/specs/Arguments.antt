@@ -1,12 +1,15 @@
 -- The arguments of a call.
-use Rattle.std.specs.Prelude.{◌≡◌, ℕ, List, [], ◌∷◌, ◌++◌, ◌==◌, length, Some}
+use Rattle.std.specs.Prelude.{◌≡◌, ℕ, List, [], ◌∷◌, ◌++◌, ◌==◌, length, map, Option, Some}
 use Rattle.std.specs.List.{flat_map}
+use Rattle.st_words.specs.declared.kind.Kind.{Kind}
 use Rattle.st_trees.specs.Expressions.{Exprs}
 use Rattle.st_types.specs.Scopes.{Name}
-use Rattle.st_statics.specs.declared.rule.Rule.TheVariants.{WrongArguments}
+use Rattle.st_statics.specs.declared.rule.Rule.TheVariants.{UnknownName, WrongArguments}
 use Rattle.st_statics.specs.declared.rule.Broken.{Broken}
 use Rattle.st_statics.specs.Faults.{breaking, unless}
+use Rattle.st_statics.specs.declared.demand.Sorts.TheVariants.{Any}
 use Rattle.st_statics.specs.declared.demand.Demand.{Demand}
+use Rattle.st_statics.specs.declared.demand.Demand.TheVariants.{Asked}
 use Rattle.st_statics.specs.Environments.{Environment, Callee, callee_of}
 use Rattle.st_statics.specs.Nodes.{nodes_of_all}
 use Rattle.st_statics.specs.ExpressionRules.{wrong_node, count_of}
@@ -18,6 +21,14 @@ abbrev pub demands_view : Demands → List Demand
 demands_view (One d) = d ∷ []
 demands_view (Two d e) = d ∷ e ∷ []
 demands_view (Three d e f) = d ∷ e ∷ f ∷ []
+
+-- what a function of the text asks, whose inputs have these types
+abbrev pub demands_of_inputs : List (Option Kind) → List Demand
+demands_of_inputs ks = map (λ k. Asked k Any) ks
+
+-- a name that stands for nothing
+abbrev pub unknown_name : ℕ → Broken
+unknown_name at = record { rule = UnknownName; place = at }
 
 -- too few or too many arguments of a call
 abbrev pub wrong_count : ℕ → Broken

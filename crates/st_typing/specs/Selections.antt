@@ -3,13 +3,13 @@ use Rattle.std.specs.Prelude.{◌≡◌, ◌++◌, ℕ, List, [], Option, Some, 
 use Rattle.std.specs.Prelude.{if◌then◌else◌}
 use Rattle.std.specs.List.{Contains, flat_map}
 use Rattle.st_trees.specs.declared.data_type.VariableType.{VariableType}
-use Rattle.st_trees.specs.Expressions.{Selector, Selectors}
+use Rattle.st_trees.specs.Expressions.{Selector, Selectors, Variable}
 use Rattle.st_types.specs.NameTypes.{Declared, selected_type, type_behind}
 use Rattle.st_statics.specs.declared.rule.Broken.{Broken}
-use Rattle.st_statics.specs.Environments.{Environment}
+use Rattle.st_statics.specs.Environments.{Environment, type_of_place}
 use Rattle.st_statics.specs.Typings.{typing_of_type, is_nothing}
-use Rattle.st_statics.specs.Nodes.{nodes_of_selectors}
-use Rattle.st_statics.specs.ExpressionRules.{wrong_selector, wrong_selectors, wrong_node}
+use Rattle.st_statics.specs.Nodes.{nodes_of_selectors, nodes_of_place}
+use Rattle.st_statics.specs.ExpressionRules.{wrong_selector, wrong_selectors, wrong_variable, wrong_node}
 use Rattle.st_names.specs.declared.place_types.PlaceType.{PlaceType}
 use Rattle.st_names.specs.PlaceTypes.{place_type_view}
 
@@ -36,10 +36,21 @@ abbrev pub Selects : Declared → ℕ → Option VariableType → Selector → R
 Selects text at o x (Ok found) = (option_map place_type_view found ≡ selected text o x) × (wrong_step text at o x ≡ [])
 Selects text at o x (Err b) = Contains (wrong_step text at o x) b
 
+-- what is wrong in selectors of a variable and in their subscripts
+abbrev pub wrong_behind : Environment → ℕ → Option VariableType → Selectors → List Broken
+wrong_behind env at o xs = wrong_from env.text at o xs ++ flat_map (wrong_node env) (nodes_of_selectors env xs)
+
 -- the type behind selectors, or what is wrong in them and in their subscripts
 abbrev pub SelectsAll : Environment → ℕ → Option VariableType → Selectors → Result (Option PlaceType) Broken → Type 0
 SelectsAll env at o xs (Ok found) =
-    (option_map place_type_view found ≡ option_and_then (type_behind env.text xs) o)
-    × (wrong_from env.text at o xs ++ flat_map (wrong_node env) (nodes_of_selectors env xs) ≡ [])
-SelectsAll env at o xs (Err b) =
-    Contains (wrong_from env.text at o xs ++ flat_map (wrong_node env) (nodes_of_selectors env xs)) b
+    (option_map place_type_view found ≡ option_and_then (type_behind env.text xs) o) × (wrong_behind env at o xs ≡ [])
+SelectsAll env at o xs (Err b) = Contains (wrong_behind env at o xs) b
+
+-- what is wrong in a variable and in its subscripts
+abbrev pub wrong_place : Environment → Variable → List Broken
+wrong_place env v = wrong_variable env v ++ flat_map (wrong_node env) (nodes_of_place env v)
+
+-- the type of what a variable selects, or what is wrong in the variable
+abbrev pub SelectsPlace : Environment → Variable → Result (Option PlaceType) Broken → Type 0
+SelectsPlace env v (Ok found) = (option_map place_type_view found ≡ type_of_place env v) × (wrong_place env v ≡ [])
+SelectsPlace env v (Err b) = Contains (wrong_place env v) b

@@ -1,22 +1,24 @@
 //! The typings of calls of standard functions, from those of their arguments.
 
-ghost use Rattle.std.specs.Prelude.{◌≡◌};
+ghost use Rattle.std.specs.Prelude.{◌≡◌, drop};
 ghost use Rattle.st_trees.specs.Expressions.{call, no_exprs, expr_then};
 ghost use Rattle.st_trees.specs.ExpressionViews.{expr_view};
 ghost use Rattle.st_statics.specs.Environments.{Environment, standard};
 ghost use Rattle.st_statics.specs.Faults.{Finds};
+ghost use Rattle.st_statics.specs.Nodes.{first_demand};
 ghost use Rattle.st_names.specs.Standard.{standard_view};
 ghost use Rattle.st_typing.specs.Answers.{IsTyped, Types};
-ghost use Rattle.st_typing.specs.Arguments.{Calls, demands_view, wrong_count, wrong_in_call};
+ghost use Rattle.st_typing.specs.Arguments.{Calls, demands_of_inputs, demands_view, unknown_name, wrong_count};
+ghost use Rattle.st_typing.specs.Arguments.{wrong_in_call};
 
 use crate::demands::{Demands, common_of_three, common_of_two, demands_of_standard, standard_kind};
 use crate::operands::{kind_of, typing_of_kind};
 use crate::operations::wrong_at;
 use crate::verdicts::{either, verdict};
 use st_names::Standard;
-use st_statics::{Broken, Rule, Typing};
+use st_statics::{Broken, Demand, Rule, Sorts, Typing};
 use st_trees::Expr;
-use st_words::Identifier;
+use st_words::{Identifier, Kind};
 
 /// Too few or too many arguments of a call at a place (C10).
 pub fn wrong_count(place: usize) -> Broken
@@ -25,6 +27,27 @@ pub fn wrong_count(place: usize) -> Broken
     Broken {
         rule: Rule::WrongArguments,
         place,
+    }
+}
+
+/// A name that stands for nothing, at a place (C1).
+pub fn unknown_name(place: usize) -> Broken
+    ensures { result ≡ unknown_name place }
+{
+    Broken {
+        rule: Rule::UnknownName,
+        place,
+    }
+}
+
+/// What a function of the text asks of its argument of this number, counted from 0: its input's type. Of one too many
+/// nothing is asked.
+pub fn demand_of_input(inputs: &[Option<Kind>], number: usize) -> Demand
+    ensures { result ≡ first_demand (drop number (demands_of_inputs inputs.now)) }
+{
+    match inputs.get(number) {
+        Some(kind) => Demand::Asked(*kind, Sorts::Any),
+        None => Demand::Operand(None),
     }
 }
 

@@ -6,6 +6,7 @@
 
 mod calls;
 mod demands;
+mod expressions;
 mod kinds;
 mod literals;
 mod operands;
@@ -17,7 +18,11 @@ mod settling;
 mod sorts;
 mod verdicts;
 
+pub use expressions::{place_of, typing, wrong_expression};
+pub use kinds::{or_kind, taken_kind};
 pub use literals::wrong_number;
 pub use operands::{meets, settled};
 pub use places::first_byte;
+pub use selections::typing_of_place;
 pub use settling::settle;
+pub use sorts::is_joining;

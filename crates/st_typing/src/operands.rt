@@ -8,8 +8,8 @@ ghost use Rattle.st_statics.specs.declared.demand.Demand.TheVariants.{Asked};
 ghost use Rattle.st_statics.specs.declared.typings.Typing.TheVariants.{Elementary};
 ghost use Rattle.st_statics.specs.Faults.{Finds, breaking, unless};
 ghost use Rattle.st_statics.specs.Demands.{expected_of, sorts_of_unary, sorts_of_binary};
-ghost use Rattle.st_statics.specs.Typings.{kind_of, is_untyped_typing, is_nothing, typing_of_kind, joined, settled, meets};
-ghost use Rattle.st_statics.specs.Typings.{are_operands};
+ghost use Rattle.st_statics.specs.Typings.{kind_of, is_untyped_typing, is_nothing, typing_of_kind, joined, settled};
+ghost use Rattle.st_statics.specs.Typings.{meets, are_operands};
 ghost use Rattle.st_statics.specs.Nodes.{offered};
 
 use crate::kinds::{is_kind, taken_kind};

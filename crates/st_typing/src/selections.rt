@@ -5,12 +5,13 @@ ghost use Rattle.st_trees.specs.ExpressionViews.{selector_view};
 ghost use Rattle.st_types.specs.NameTypes.{Declared, selected_type};
 ghost use Rattle.st_names.specs.PlaceTypes.{place_type_view};
 ghost use Rattle.st_names.specs.Tables.{ServesTables};
+ghost use Rattle.st_statics.specs.Typings.{typing_of_type};
 ghost use Rattle.st_statics.specs.ExpressionRules.{wrong_selector};
 ghost use Rattle.st_typing.specs.Selections.{Selects};
 
 use crate::operands::is_nothing;
 use st_names::{PlaceType, TextTables};
-use st_statics::{Broken, Rule};
+use st_statics::{Broken, Rule, Typing};
 use st_trees::Selector;
 
 fn selected_type<'a>(
@@ -66,5 +67,16 @@ pub fn select<'a>(
                 Err(wrong_selector(place, selector))
             }
         }
+    }
+}
+
+/// The typing of what a variable selects. Of what is unknown there is none.
+pub fn typing_of_place(tables: &TextTables, declared: Option<PlaceType>) -> Typing
+    ensures { (text : Declared) → ServesTables tables.now text
+        → result ≡ typing_of_type text (option_map place_type_view declared.entry) }
+{
+    match declared {
+        Some(declared) => tables.typing_of_type(declared),
+        None => Typing::Nothing,
     }
 }

@@ -1,4 +1,4 @@
-use Rattle.std.proofs.Common.{◌∷◌, [], ◌∙◌, ap, refl}
+use Rattle.std.proofs.Common.{◌∷◌, [], ◌∙◌, ap}
 use Rattle.st_trees.specs.Expressions.{no_exprs, expr_then}
 use Rattle.st_trees.specs.ExpressionViews.{expr_view}
 use Rattle.st_statics.specs.Typings.{kind_of}

@@ -1,0 +1,3 @@
+pub mod OperationLemmas
+pub mod ListLemmas
+pub mod InitialLemmas
