@@ -3,3 +3,4 @@ pub mod Listings
 pub mod Assignments
 pub mod Findings
 pub mod Targets
+pub mod Roots

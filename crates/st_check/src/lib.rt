@@ -1,21 +1,25 @@
-//! The rules on bodies, judged statement by statement. So far: the labels of a CASE among themselves.
+//! The rules on bodies, judged statement by statement.
 #![tactic(auto)]
 
 mod assignments;
 mod exits;
 mod faults;
+mod invocations;
 mod kinds;
 mod labels;
 mod listings;
 mod places;
 mod readings;
+mod roots;
 mod selections;
 mod spans;
 mod targets;
 
 pub use assignments::{Assigned, assigned_in};
 pub use exits::first_wrong_exit;
+pub use invocations::first_wrong_invocation;
 pub use labels::wrong_labels;
 pub use listings::{Listed, listed_in};
+pub use roots::first_wrong_node;
 pub use spans::{Span, first_wrong_span};
 pub use targets::first_wrong_assigned;
