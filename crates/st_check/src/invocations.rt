@@ -36,7 +36,7 @@ fn argument_name(argument: &Argument) -> &Identifier
 }
 
 /// Whether an instance of the type has the argument: `:=` gives an input, `=>` copies an output.
-fn is_argument(tables: &TextTables, declared: PlaceType, argument: &Argument) -> bool
+fn is_argument<'a>(tables: &TextTables<'a>, declared: PlaceType<'a>, argument: &Argument) -> bool
     ensures { (env : Environment) (instance : Name) → ServesTables tables.now env.text
         → type_of_name env instance ≡ Some (place_type_view declared.entry)
         → result ≡ is_argument env instance (argument_view argument.now) }
@@ -52,10 +52,10 @@ fn is_argument(tables: &TextTables, declared: PlaceType, argument: &Argument) ->
 }
 
 /// A place at which an argument is none of the block, or stands again (C10).
-fn first_wrong_argument(
+fn first_wrong_argument<'a>(
     alloc: Global,
-    tables: &TextTables,
-    declared: PlaceType,
+    tables: &TextTables<'a>,
+    declared: PlaceType<'a>,
     arguments: &[Argument],
 ) -> Result<Option<usize>, AllocError>
     ensures { IfOk result (λ place. (env : Environment) (instance : Name) → ServesTables tables.now env.text
@@ -74,7 +74,11 @@ fn first_wrong_argument(
 }
 
 /// What is wrong where an output of a block of the type is copied (C3).
-fn wrong_copy(names: &UnitNames, declared: PlaceType, argument: &Argument) -> Option<Broken>
+fn wrong_copy<'a>(
+    names: &UnitNames<'_, 'a>,
+    declared: PlaceType<'a>,
+    argument: &Argument,
+) -> Option<Broken>
     ensures { (env : Environment) (instance : Name) → Serves names.now env
         → type_of_name env instance ≡ Some (place_type_view declared.entry)
         → Finds (wrong_copy env instance (argument_view argument.now)) result }
@@ -96,9 +100,9 @@ fn wrong_copy(names: &UnitNames, declared: PlaceType, argument: &Argument) -> Op
     }
 }
 
-fn first_wrong_copy(
-    names: &UnitNames,
-    declared: PlaceType,
+fn first_wrong_copy<'a>(
+    names: &UnitNames<'_, 'a>,
+    declared: PlaceType<'a>,
     arguments: &[Argument],
 ) -> Option<Broken>
     ensures { (env : Environment) (instance : Name) → Serves names.now env
@@ -114,10 +118,10 @@ fn first_wrong_copy(
 }
 
 /// What is wrong in the arguments of a call of an instance of the type.
-fn wrong_call(
+fn wrong_call<'a>(
     alloc: Global,
-    names: &UnitNames,
-    declared: PlaceType,
+    names: &UnitNames<'_, 'a>,
+    declared: PlaceType<'a>,
     arguments: &[Argument],
 ) -> Result<Option<Broken>, AllocError>
     ensures { IfOk result (λ broken. (env : Environment) (instance : Name) → Serves names.now env

@@ -3,6 +3,7 @@
 
 mod assignments;
 mod exits;
+mod expressions;
 mod faults;
 mod invocations;
 mod kinds;
@@ -17,9 +18,10 @@ mod targets;
 
 pub use assignments::{Assigned, assigned_in};
 pub use exits::first_wrong_exit;
+pub use expressions::first_wrong_root;
 pub use invocations::first_wrong_invocation;
 pub use labels::wrong_labels;
 pub use listings::{Listed, listed_in};
-pub use roots::first_wrong_node;
+pub use roots::{Root, roots_of};
 pub use spans::{Span, first_wrong_span};
 pub use targets::first_wrong_assigned;

@@ -1,71 +1,83 @@
-//! The expressions of statements, each judged for what its place asks.
+//! The expressions of statements as one list, each with what its place asks.
 
-ghost use Rattle.std.specs.Prelude.{◌≡◌, map, option_map};
+ghost use Rattle.std.specs.Prelude.{◌≡◌, ◌∷◌, ◌++◌, [], map, option_map, IfOk};
 ghost use Rattle.std.specs.List.{flat_map};
-ghost use Rattle.st_trees.specs.Expressions.{selectors_of};
 ghost use Rattle.st_trees.specs.ExpressionViews.{expr_view, variable_view, selector_view};
-ghost use Rattle.st_trees.specs.Statements.{arms_of, FOR, no_stmts};
+ghost use Rattle.st_trees.specs.Statements.{arms_of};
 ghost use Rattle.st_trees.specs.StatementViews.{argument_view, arm_view, stmt_view};
 ghost use Rattle.st_statics.specs.Demands.{condition};
 ghost use Rattle.st_statics.specs.Environments.{Environment, input_of};
-ghost use Rattle.st_statics.specs.ExpressionRules.{wrong_node};
-ghost use Rattle.st_statics.specs.Faults.{Finds};
-ghost use Rattle.st_statics.specs.Nodes.{nodes_of_selector};
+ghost use Rattle.st_statics.specs.Nodes.{node};
 ghost use Rattle.st_statics.specs.Roots.{conditions_of, roots_of, roots_of_argument, roots_of_step, targets_of};
-ghost use Rattle.st_statics.specs.Roots.{targets_of_arguments, wrong_nodes};
+ghost use Rattle.st_statics.specs.Roots.{targets_of_arguments};
 ghost use Rattle.st_names.specs.PlaceTypes.{place_type_view};
 ghost use Rattle.st_names.specs.Serving.{Serves};
 ghost use Rattle.st_check.specs.Listings.{listed_view};
-ghost use Rattle.st_check.specs.Roots.{wrong_root, wrong_subscripts};
+ghost use Rattle.st_check.specs.Roots.{root_view, roots_of_selector, roots_of_target, all_roots};
 
 use crate::listings::Listed;
 use crate::places::demand_of_type;
 use crate::selections::type_of_place;
 use st_names::{PlaceType, Side, UnitNames};
-use st_statics::{Broken, Demand, Sorts};
+use st_statics::{Demand, Sorts};
 use st_trees::{Argument, Arm, Expr, Selector, Stmt, Variable};
-use st_typing::wrong_expression;
-use st_words::{Identifier, Kind, Name};
+use st_words::{Kind, Name};
+use std::alloc::{AllocError, Global};
+
+/// An expression with what its place asks.
+#[derive(Clone, Copy)]
+pub struct Root<'a> {
+    pub demand: Demand,
+    pub tree: &'a Expr,
+}
+
+fn push_root<'a>(
+    roots: &mut Vec<Root<'a>>,
+    demand: Demand,
+    tree: &'a Expr,
+) -> Result<(), AllocError>
+    ensures { IfOk result (λ done. map root_view roots.new.items
+        ≡ map root_view roots.old.items ++ node demand (expr_view tree.now) ∷ []) }
+{
+    roots.push(Root { demand, tree })?;
+    Ok(())
+}
 
 /// What is asked of a condition: that it is a BOOL.
-fn condition_demand() -> Demand
+fn condition() -> Demand
     ensures { result ≡ condition }
 {
     Demand::Asked(Some(Kind::Bool), Sorts::Any)
 }
 
-/// What is wrong in a subscript, which is a whole number.
-fn wrong_subscript(names: &UnitNames, selector: &Selector) -> Option<Broken>
-    ensures { (env : Environment) → Serves names.now env
-        → Finds (flat_map (wrong_node env) (nodes_of_selector env (selector_view selector.now))) result }
+fn push_selector<'a>(
+    roots: &mut Vec<Root<'a>>,
+    selector: &'a Selector,
+) -> Result<(), AllocError>
+    ensures { IfOk result (λ done. map root_view roots.new.items
+        ≡ map root_view roots.old.items ++ roots_of_selector (selector_view selector.now)) }
 {
     match selector {
-        Selector::Member(_) => None,
+        Selector::Member(_) => Ok(()),
         Selector::Subscript(subscript) => {
-            wrong_expression(names, Demand::Asked(None, Sorts::Whole), subscript)
+            push_root(roots, Demand::Asked(None, Sorts::Whole), subscript)
         }
     }
 }
 
-/// What is wrong in the subscripts of a variable that is assigned.
-fn wrong_subscripts(names: &UnitNames, variable: &Variable) -> Option<Broken>
-    ensures { (env : Environment) → Serves names.now env
-        → Finds (wrong_subscripts env (variable_view variable.now)) result }
+/// Appends the subscripts of a variable that is assigned.
+fn push_target<'a>(roots: &mut Vec<Root<'a>>, variable: &'a Variable) -> Result<(), AllocError>
+    ensures { IfOk result (λ done. map root_view roots.new.items
+        ≡ map root_view roots.old.items ++ roots_of_target (variable_view variable.now)) }
 {
     for selector in &variable.selectors {
-        if let Some(broken) = wrong_subscript(names, selector) {
-            return Some(broken);
-        }
+        push_selector(roots, selector)?;
     }
-    None
+    Ok(())
 }
 
 /// The type of an input of an instance.
-fn input_of<'a>(
-    names: &UnitNames<'_, 'a>,
-    instance: &Name,
-    name: &Name,
-) -> Option<PlaceType<'a>>
+fn input_of<'a>(names: &UnitNames<'_, 'a>, instance: &Name, name: &Name) -> Option<PlaceType<'a>>
     ensures { (env : Environment) → Serves names.now env
         → option_map place_type_view result ≡ input_of env instance.now name.now }
 {
@@ -75,92 +87,105 @@ fn input_of<'a>(
     }
 }
 
-/// What is wrong in the value that an input of an instance is given.
-fn wrong_argument(names: &UnitNames, instance: &Name, argument: &Argument) -> Option<Broken>
-    ensures { (env : Environment) → Serves names.now env → Finds
-        (flat_map (wrong_root env) (roots_of_argument env instance.now (argument_view argument.now))) result }
+/// Appends the value that an input of an instance is given.
+fn push_argument<'a>(
+    roots: &mut Vec<Root<'a>>,
+    names: &UnitNames,
+    instance: &Name,
+    argument: &'a Argument,
+) -> Result<(), AllocError>
+    ensures { IfOk result (λ done. (env : Environment) → Serves names.now env
+        → map root_view roots.new.items ≡ map root_view roots.old.items
+        ++ roots_of_argument env instance.now (argument_view argument.now)) }
 {
     match argument {
         Argument::Input(input, value) => {
             let declared = input_of(names, instance, &input.name);
-            wrong_expression(names, demand_of_type(names.tables, declared), value)
+            push_root(roots, demand_of_type(names.tables, declared), value)
         }
-        Argument::Output(_, _) => None,
+        Argument::Output(_, _) => Ok(()),
     }
 }
 
-fn wrong_arguments(names: &UnitNames, instance: &Name, arguments: &[Argument]) -> Option<Broken>
-    ensures { (env : Environment) → Serves names.now env → Finds (flat_map (wrong_root env)
-        (flat_map (roots_of_argument env instance.now) (map argument_view arguments.now))) result }
+fn push_arguments<'a>(
+    roots: &mut Vec<Root<'a>>,
+    names: &UnitNames,
+    instance: &Name,
+    arguments: &'a [Argument],
+) -> Result<(), AllocError>
+    ensures { IfOk result (λ done. (env : Environment) → Serves names.now env
+        → map root_view roots.new.items ≡ map root_view roots.old.items
+        ++ flat_map (roots_of_argument env instance.now) (map argument_view arguments.now)) }
 {
     for argument in arguments {
-        if let Some(broken) = wrong_argument(names, instance, argument) {
-            return Some(broken);
-        }
+        push_argument(roots, names, instance, argument)?;
     }
-    None
+    Ok(())
 }
 
-/// What is wrong in the conditions of an IF.
-fn wrong_conditions(names: &UnitNames, arms: &[Arm]) -> Option<Broken>
-    ensures { (env : Environment) → Serves names.now env
-        → Finds (flat_map (wrong_root env) (conditions_of (arms_of (map arm_view arms.now)))) result }
+/// Appends the conditions of an IF.
+fn push_conditions<'a>(roots: &mut Vec<Root<'a>>, arms: &'a [Arm]) -> Result<(), AllocError>
+    ensures { IfOk result (λ done. map root_view roots.new.items
+        ≡ map root_view roots.old.items ++ conditions_of (arms_of (map arm_view arms.now))) }
 {
     for arm in arms {
-        if let Some(broken) = wrong_expression(names, condition_demand(), &arm.condition) {
-            return Some(broken);
-        }
+        push_root(roots, condition(), &arm.condition)?;
     }
-    None
+    Ok(())
 }
 
-/// What is wrong in what stands after BY.
-fn wrong_step(names: &UnitNames, demand: Demand, step: &Option<Expr>) -> Option<Broken>
-    ensures { (env : Environment) → Serves names.now env
-        → Finds (flat_map (wrong_root env) (roots_of_step demand (option_map expr_view step.now))) result }
+/// Appends what stands after BY.
+fn push_step<'a>(
+    roots: &mut Vec<Root<'a>>,
+    demand: Demand,
+    step: &'a Option<Expr>,
+) -> Result<(), AllocError>
+    ensures { IfOk result (λ done. map root_view roots.new.items
+        ≡ map root_view roots.old.items ++ roots_of_step demand (option_map expr_view step.now)) }
 {
     match step {
-        Some(step) => wrong_expression(names, demand, step),
-        None => None,
+        Some(step) => push_root(roots, demand, step),
+        None => Ok(()),
     }
 }
 
-/// What is wrong in the numbers that a FOR counts by.
-fn wrong_counts(
-    names: &UnitNames,
-    control: &Identifier,
-    start: &Expr,
-    limit: &Expr,
-    step: &Option<Expr>,
-) -> Option<Broken>
-    ensures { (env : Environment) → Serves names.now env → Finds (flat_map (wrong_root env)
-        (roots_of env (FOR control.now (expr_view start.now) (expr_view limit.now) (option_map expr_view step.now)
-        no_stmts))) result }
+/// Appends the numbers that a FOR counts by.
+fn push_counts<'a>(
+    roots: &mut Vec<Root<'a>>,
+    demand: Demand,
+    start: &'a Expr,
+    limit: &'a Expr,
+    step: &'a Option<Expr>,
+) -> Result<(), AllocError>
+    ensures { IfOk result (λ done. map root_view roots.new.items ≡ map root_view roots.old.items
+        ++ ((node demand (expr_view start.now) ∷ node demand (expr_view limit.now) ∷ [])
+        ++ roots_of_step demand (option_map expr_view step.now))) }
 {
-    let demand = demand_of_type(names.tables, names.type_of_name(&control.name));
-    if let Some(broken) = wrong_expression(names, demand, start) {
-        return Some(broken);
-    }
-    if let Some(broken) = wrong_expression(names, demand, limit) {
-        return Some(broken);
-    }
-    wrong_step(names, demand, step)
+    push_root(roots, demand, start)?;
+    push_root(roots, demand, limit)?;
+    push_step(roots, demand, step)
 }
 
-/// What is wrong in the expressions of a statement, not in those of the statements inside it.
-fn wrong_roots(names: &UnitNames, statement: &Stmt) -> Option<Broken>
-    ensures { (env : Environment) → Serves names.now env
-        → Finds (flat_map (wrong_root env) (roots_of env (stmt_view statement.now))) result }
+/// Appends the expressions of a statement, not those of the statements inside it.
+fn push_own<'a>(
+    roots: &mut Vec<Root<'a>>,
+    names: &UnitNames,
+    statement: &'a Stmt,
+) -> Result<(), AllocError>
+    ensures { IfOk result (λ done. (env : Environment) → Serves names.now env
+        → map root_view roots.new.items ≡ map root_view roots.old.items ++ roots_of env (stmt_view statement.now)) }
 {
     match statement {
         Stmt::Assign(variable, value) => {
             let declared = type_of_place(names, variable);
-            wrong_expression(names, demand_of_type(names.tables, declared), value)
+            push_root(roots, demand_of_type(names.tables, declared), value)
         }
-        Stmt::Invoke(instance, arguments) => wrong_arguments(names, &instance.name, arguments),
-        Stmt::If(arms, _) => wrong_conditions(names, arms),
+        Stmt::Invoke(instance, arguments) => {
+            push_arguments(roots, names, &instance.name, arguments)
+        }
+        Stmt::If(arms, _) => push_conditions(roots, arms),
         Stmt::Case(selector, _, _) => {
-            wrong_expression(names, Demand::Asked(None, Sorts::Selecting), selector)
+            push_root(roots, Demand::Asked(None, Sorts::Selecting), selector)
         }
         Stmt::For {
             control,
@@ -168,60 +193,73 @@ fn wrong_roots(names: &UnitNames, statement: &Stmt) -> Option<Broken>
             limit,
             step,
             body: _,
-        } => wrong_counts(names, control, start, limit, step),
-        Stmt::While(condition, _) => wrong_expression(names, condition_demand(), condition),
-        Stmt::Repeat(_, condition) => wrong_expression(names, condition_demand(), condition),
-        _ => None,
+        } => {
+            let declared = names.type_of_name(&control.name);
+            push_counts(roots, demand_of_type(names.tables, declared), start, limit, step)
+        }
+        Stmt::While(repeated, _) => push_root(roots, condition(), repeated),
+        Stmt::Repeat(_, repeated) => push_root(roots, condition(), repeated),
+        _ => Ok(()),
     }
 }
 
-/// What is wrong in the subscripts of where outputs are copied to.
-fn wrong_copies(names: &UnitNames, arguments: &[Argument]) -> Option<Broken>
-    ensures { (env : Environment) → Serves names.now env → Finds (flat_map (wrong_subscripts env)
-        (targets_of_arguments (map argument_view arguments.now))) result }
+/// Appends the subscripts of where an output is copied to.
+fn push_copy<'a>(roots: &mut Vec<Root<'a>>, argument: &'a Argument) -> Result<(), AllocError>
+    ensures { IfOk result (λ done. map root_view roots.new.items ≡ map root_view roots.old.items
+        ++ flat_map roots_of_target (targets_of_arguments (argument_view argument.now ∷ []))) }
+{
+    match argument {
+        Argument::Input(_, _) => Ok(()),
+        Argument::Output(_, variable) => push_target(roots, variable),
+    }
+}
+
+fn push_copies<'a>(roots: &mut Vec<Root<'a>>, arguments: &'a [Argument]) -> Result<(), AllocError>
+    ensures { IfOk result (λ done. map root_view roots.new.items ≡ map root_view roots.old.items
+        ++ flat_map roots_of_target (targets_of_arguments (map argument_view arguments.now))) }
 {
     for argument in arguments {
-        if let Argument::Output(_, variable) = argument
-            && let Some(broken) = wrong_subscripts(names, variable)
-        {
-            return Some(broken);
-        }
+        push_copy(roots, argument)?;
     }
-    None
+    Ok(())
 }
 
-/// What is wrong in the subscripts of what a statement assigns.
-fn wrong_targets(names: &UnitNames, statement: &Stmt) -> Option<Broken>
-    ensures { (env : Environment) → Serves names.now env
-        → Finds (flat_map (wrong_subscripts env) (targets_of (stmt_view statement.now))) result }
+/// Appends the subscripts of what a statement assigns.
+fn push_targets<'a>(roots: &mut Vec<Root<'a>>, statement: &'a Stmt) -> Result<(), AllocError>
+    ensures { IfOk result (λ done. map root_view roots.new.items ≡ map root_view roots.old.items
+        ++ flat_map roots_of_target (targets_of (stmt_view statement.now))) }
 {
     match statement {
-        Stmt::Assign(variable, _) => wrong_subscripts(names, variable),
-        Stmt::Invoke(_, arguments) => wrong_copies(names, arguments),
-        _ => None,
+        Stmt::Assign(variable, _) => push_target(roots, variable),
+        Stmt::Invoke(_, arguments) => push_copies(roots, arguments),
+        _ => Ok(()),
     }
 }
 
-/// What is wrong in the expressions of a statement, and in the subscripts of what it assigns.
-pub fn wrong_nodes(names: &UnitNames, statement: &Stmt) -> Option<Broken>
-    ensures { (env : Environment) → Serves names.now env
-        → Finds (wrong_nodes env (stmt_view statement.now)) result }
+fn push_statement<'a>(
+    roots: &mut Vec<Root<'a>>,
+    names: &UnitNames,
+    statement: &'a Stmt,
+) -> Result<(), AllocError>
+    ensures { IfOk result (λ done. (env : Environment) → Serves names.now env
+        → map root_view roots.new.items ≡ map root_view roots.old.items ++ all_roots env (stmt_view statement.now)) }
 {
-    if let Some(broken) = wrong_roots(names, statement) {
-        return Some(broken);
-    }
-    wrong_targets(names, statement)
+    push_own(roots, names, statement)?;
+    push_targets(roots, statement)
 }
 
-/// What is wrong in the expressions of statements.
-pub fn first_wrong_node(names: &UnitNames, statements: &[Listed]) -> Option<Broken>
-    ensures { (env : Environment) → Serves names.now env
-        → Finds (flat_map (λ l. wrong_nodes env l.statement) (map listed_view statements.now)) result }
+/// The expressions of statements, and those in the subscripts of what they assign.
+pub fn roots_of<'a>(
+    alloc: Global,
+    names: &UnitNames,
+    statements: &[Listed<'a>],
+) -> Result<Vec<Root<'a>>, AllocError>
+    ensures { IfOk result (λ roots. (env : Environment) → Serves names.now env → map root_view roots.items
+        ≡ flat_map (λ l. all_roots env l.statement) (map listed_view statements.now)) }
 {
+    let mut roots = Vec::new(alloc);
     for listed in statements {
-        if let Some(broken) = wrong_nodes(names, listed.statement) {
-            return Some(broken);
-        }
+        push_statement(&mut roots, names, listed.statement)?;
     }
-    None
+    Ok(roots)
 }
