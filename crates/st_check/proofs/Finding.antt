@@ -15,7 +15,7 @@ finds_front xs ys (Some x) b h k = Contains-append_left xs ys x h
 finds_front xs ys None (Some y) h k = Contains-append_right xs ys y k
 finds_front xs ys None None h k = rw (h, k) refl
 
-left_viewed : {A B : Type 0} (g : A → B) (xs : List A) (i : ℕ) (x : A) → i < length xs → x ≡ slice_index_or xs i x
+pub left_viewed : {A B : Type 0} (g : A → B) (xs : List A) (i : ℕ) (x : A) → i < length xs → x ≡ slice_index_or xs i x
     → map g (drop i xs) ≡ g x ∷ map g (drop (i + 1) xs)
 left_viewed g xs i x h is =
     ap (map g) (drop_more xs i x h ∙ ap (λ y. y ∷ drop (i + 1) xs) (sym is))

@@ -3,3 +3,4 @@ pub mod SpanLemmas
 pub mod Finding
 pub mod FlatLemmas
 pub mod TargetLemmas
+pub mod InvocationLemmas

@@ -1,5 +1,5 @@
 -- The expressions of statements as one list, each with what its place asks: those in subscripts of targets too.
-use Rattle.std.specs.Prelude.{List, [], ◌∷◌, ◌++◌, Option, Some, None}
+use Rattle.std.specs.Prelude.{List, [], ◌∷◌, ◌++◌, None}
 use Rattle.std.specs.List.{flat_map}
 use Rattle.st_trees.specs.ExpressionViews.{expr_view}
 use Rattle.st_trees.specs.Expressions.{Variable, variable, Selector, member, subscript, Selectors, no_selectors}

@@ -91,11 +91,7 @@ fn wrong_copy<'a>(
                 .block_variable(Side::Output, declared, &name.name);
             let demand = demand_of_type(names.tables, output);
             let typing = typing_of_place(names.tables, type_of_place(names, variable));
-            unless(
-                meets(demand, typing),
-                Rule::WrongType,
-                variable.name.place,
-            )
+            unless(meets(demand, typing), Rule::WrongType, variable.name.place)
         }
     }
 }
@@ -157,11 +153,7 @@ fn wrong_instance(
         wrong_call(alloc, names, declared, arguments)
     } else {
         let typing = names.tables.typing_of_type(declared);
-        Ok(unless(
-            is_nothing(typing),
-            Rule::WrongType,
-            instance.place,
-        ))
+        Ok(unless(is_nothing(typing), Rule::WrongType, instance.place))
     }
 }
 

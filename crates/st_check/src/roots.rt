@@ -50,10 +50,7 @@ fn condition() -> Demand
     Demand::Asked(Some(Kind::Bool), Sorts::Any)
 }
 
-fn push_selector<'a>(
-    roots: &mut Vec<Root<'a>>,
-    selector: &'a Selector,
-) -> Result<(), AllocError>
+fn push_selector<'a>(roots: &mut Vec<Root<'a>>, selector: &'a Selector) -> Result<(), AllocError>
     ensures { IfOk result (λ done. map root_view roots.new.items
         ≡ map root_view roots.old.items ++ roots_of_selector (selector_view selector.now)) }
 {
@@ -195,7 +192,13 @@ fn push_own<'a>(
             body: _,
         } => {
             let declared = names.type_of_name(&control.name);
-            push_counts(roots, demand_of_type(names.tables, declared), start, limit, step)
+            push_counts(
+                roots,
+                demand_of_type(names.tables, declared),
+                start,
+                limit,
+                step,
+            )
         }
         Stmt::While(repeated, _) => push_root(roots, condition(), repeated),
         Stmt::Repeat(_, repeated) => push_root(roots, condition(), repeated),
