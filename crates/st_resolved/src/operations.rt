@@ -66,13 +66,9 @@ pub fn operation(
     }
     let kind = kind_of_operation(operator, &left, &right);
     let offered = offered_to_operands(&left, &right);
-    let whole = Expr::binary(
-        alloc,
-        operator,
-        at_place(offered, left),
-        at_place(offered, right),
-    )?;
-    Ok(Resolution::Typed(kind, whole))
+    let left = at_place(alloc, offered, left)?;
+    let right = at_place(alloc, offered, right)?;
+    Ok(Resolution::Typed(kind, Expr::binary(alloc, operator, left, right)?))
 }
 
 /// What is resolved of an operator before its operand.

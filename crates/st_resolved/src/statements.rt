@@ -70,7 +70,8 @@ fn resolved_stmt(
             let selector = resolve(alloc, names, selector)?;
             let arms = resolved_case_arms(alloc, names, kind_told(&selector), arms)?;
             let otherwise = resolved_stmts(alloc, names, otherwise)?;
-            Ok(Stmt::select(at_place(None, selector), arms, otherwise))
+            let selector = at_place(alloc, None, selector)?;
+            Ok(Stmt::select(selector, arms, otherwise))
         }
         Stmt::For {
             control,
