@@ -1,4 +1,4 @@
-pub mod OperationLemmas
 pub mod ListLemmas
 pub mod InitialLemmas
 pub mod SettleLemmas
+pub mod AloneLemmas
