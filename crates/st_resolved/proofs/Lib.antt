@@ -2,3 +2,4 @@ pub mod ListLemmas
 pub mod InitialLemmas
 pub mod SettleLemmas
 pub mod AloneLemmas
+pub mod ExpectedLemmas

@@ -1,6 +1,6 @@
 //! The types that calls expect and give.
 
-ghost use Rattle.std.specs.Prelude.{◌≡◌, ℕ, List, Option, drop, map, option_map};
+ghost use Rattle.std.specs.Prelude.{◌≡◌, ℕ, List, Option, drop, replicate, map, option_map};
 ghost use Rattle.st_words.specs.declared.kind.Kind.{Kind};
 ghost use Rattle.st_types.specs.Resolution.{common_kind, expected_kinds, standard_kind, first_kind};
 ghost use Rattle.st_statics.specs.Typings.{common_of};
@@ -70,18 +70,30 @@ pub fn kind_of_call(callee: Option<Callee>, common: Option<Kind>) -> Option<Kind
     }
 }
 
+/// The type of each of so many arguments.
+fn among(count: usize, kind: Option<Kind>, index: usize) -> Option<Kind>
+    ensures { result ≡ first_kind (drop index (replicate count kind)) }
+{
+    if index < count { kind } else { None }
+}
+
 /// The type that a standard function expects of the argument at a place.
 fn expected_by_standard(called: Standard, common: Option<Kind>, index: usize) -> Option<Kind>
     ensures { (ks : List (Option Kind)) → common ≡ common_kind (standard_view called) ks
         → result ≡ first_kind (drop index (expected_kinds (standard_view called) ks)) }
 {
-    match (called, index) {
-        (Standard::Min, 0 | 1) => common,
-        (Standard::Max, 0 | 1) => common,
-        (Standard::Limit, 0 | 1 | 2) => common,
-        (Standard::Sel, 0) => Some(Kind::Bool),
-        (Standard::Sel, 1 | 2) => common,
-        (Standard::Convert(from, _), 0) => Some(from),
+    match called {
+        Standard::Min => among(2, common, index),
+        Standard::Max => among(2, common, index),
+        Standard::Limit => among(3, common, index),
+        Standard::Sel => {
+            if index == 0 {
+                Some(Kind::Bool)
+            } else {
+                among(3, common, index)
+            }
+        }
+        Standard::Convert(from, _) => among(1, Some(from), index),
         _ => None,
     }
 }
