@@ -3,3 +3,4 @@ pub mod InitialLemmas
 pub mod SettleLemmas
 pub mod AloneLemmas
 pub mod ExpectedLemmas
+pub mod CallLemmas
