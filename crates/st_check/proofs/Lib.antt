@@ -4,3 +4,4 @@ pub mod Finding
 pub mod FlatLemmas
 pub mod TargetLemmas
 pub mod InvocationLemmas
+pub mod ChoiceLemmas

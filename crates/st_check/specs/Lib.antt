@@ -4,3 +4,4 @@ pub mod Assignments
 pub mod Findings
 pub mod Targets
 pub mod Roots
+pub mod Choices

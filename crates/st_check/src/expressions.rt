@@ -12,8 +12,9 @@ use st_names::UnitNames;
 use st_statics::Broken;
 use st_typing::wrong_expression;
 
+/// What is wrong in an expression, for what its place asks.
 #[tactic(auto, unfolding(crate::specs::Roots::wrong_root))]
-fn wrong_root(names: &UnitNames, root: Root) -> Option<Broken>
+pub fn wrong_root(names: &UnitNames, root: Root) -> Option<Broken>
     ensures { (env : Environment) → Serves names.now env
         → Finds (wrong_root env (root_view root.entry)) result }
 {

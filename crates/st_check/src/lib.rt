@@ -2,6 +2,7 @@
 #![tactic(auto)]
 
 mod assignments;
+mod choices;
 mod exits;
 mod expressions;
 mod faults;
@@ -17,6 +18,7 @@ mod spans;
 mod targets;
 
 pub use assignments::{Assigned, assigned_in};
+pub use choices::first_wrong_choice;
 pub use exits::first_wrong_exit;
 pub use expressions::first_wrong_root;
 pub use invocations::first_wrong_invocation;
