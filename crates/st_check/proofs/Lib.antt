@@ -5,3 +5,4 @@ pub mod FlatLemmas
 pub mod TargetLemmas
 pub mod InvocationLemmas
 pub mod ChoiceLemmas
+pub mod BodyLemmas

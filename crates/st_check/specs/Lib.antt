@@ -5,3 +5,4 @@ pub mod Findings
 pub mod Targets
 pub mod Roots
 pub mod Choices
+pub mod Bodies

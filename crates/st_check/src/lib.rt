@@ -2,6 +2,7 @@
 #![tactic(auto)]
 
 mod assignments;
+mod bodies;
 mod choices;
 mod exits;
 mod expressions;
@@ -18,6 +19,7 @@ mod spans;
 mod targets;
 
 pub use assignments::{Assigned, assigned_in};
+pub use bodies::wrong_bodies;
 pub use choices::first_wrong_choice;
 pub use exits::first_wrong_exit;
 pub use expressions::first_wrong_root;
