@@ -6,3 +6,4 @@ pub mod TargetLemmas
 pub mod InvocationLemmas
 pub mod ChoiceLemmas
 pub mod BodyLemmas
+pub mod PassLemmas

@@ -29,6 +29,7 @@ use st_trees::{Stmt, Unit};
 use std::alloc::{AllocError, Global};
 
 /// What is wrong in the expressions of statements.
+#[tactic(auto, unfolding(crate::specs::Bodies::wrong_roots_of))]
 fn wrong_roots(
     alloc: Global,
     names: &UnitNames,
@@ -42,6 +43,7 @@ fn wrong_roots(
 }
 
 /// What is wrong in what a body assigns.
+#[tactic(auto, unfolding(crate::specs::Bodies::wrong_assigned_in))]
 fn wrong_targets(
     alloc: Global,
     names: &UnitNames,
@@ -55,6 +57,7 @@ fn wrong_targets(
 }
 
 /// A CASE or an EXIT that is wrong.
+#[tactic(auto, unfolding(crate::specs::Bodies::wrong_choices_of, crate::specs::Bodies::wrong_exits_of))]
 fn wrong_choice_or_exit(
     alloc: Global,
     names: &UnitNames,
@@ -71,6 +74,7 @@ fn wrong_choice_or_exit(
 }
 
 /// A call of an instance, a CASE or an EXIT that is wrong.
+#[tactic(auto, unfolding(crate::specs::Bodies::wrong_invocations_of))]
 fn wrong_statements(
     alloc: Global,
     names: &UnitNames,
@@ -118,10 +122,10 @@ fn wrong_passes(
 }
 
 /// What is wrong in the body of a unit.
-fn wrong_body(
+fn wrong_body<'a>(
     alloc: Global,
-    tables: &TextTables,
-    unit: &Unit,
+    tables: &TextTables<'a>,
+    unit: &'a Unit,
 ) -> Result<Option<Broken>, AllocError>
     ensures { IfOk result (λ broken. (text : Declared) → ServesTables tables.now text
         → Finds (wrong_body (environment text (unit_view unit.now))) broken) }
@@ -131,10 +135,10 @@ fn wrong_body(
 }
 
 /// What is wrong in the bodies of units (C1, C3, C4, C5, C7, C9, C10).
-pub fn wrong_bodies(
+pub fn wrong_bodies<'a>(
     alloc: Global,
-    tables: &TextTables,
-    units: &[&Unit],
+    tables: &TextTables<'a>,
+    units: &[&'a Unit],
 ) -> Result<Option<Broken>, AllocError>
     ensures { IfOk result (λ broken. (text : Declared) → ServesTables tables.now text
         → Finds (flat_map (λ u. wrong_body (environment text u)) (map (λ u. unit_view u.now) units.now)) broken) }
