@@ -1,5 +1,5 @@
 -- What the passes over a body tell of its statements.
-use Rattle.std.proofs.Common.{◌≡◌, refl, sym, ap, subst, ◌∙◌, List, [], ◌∷◌, ◌++◌, Option, Some, None, map, false}
+use Rattle.std.proofs.Common.{◌≡◌, refl, sym, ap, ◌∙◌, List, [], ◌∷◌, ◌++◌, Option, Some, None, map}
 use Rattle.std.proofs.Common.{append_assoc, append-nil}
 use Rattle.std.specs.List.{flat_map}
 use Rattle.std.proofs.lemmas.List.{map-append}
@@ -7,10 +7,11 @@ use Rattle.std.proofs.lemmas.List.Concat.{flat_map-append}
 use Rattle.st_words.specs.declared.identifier.Identifier.{Identifier}
 use Rattle.st_trees.specs.declared.data_type.VariableType.{VariableType}
 use Rattle.st_trees.specs.Expressions.{Variable, variable, no_selectors}
-use Rattle.st_trees.specs.Statements.{Argument, given, copied, Stmt, empty, assign, invoke, IF, CASE, FOR, WHILE, REPEAT}
+use Rattle.st_trees.specs.Statements.{Argument, given, copied, Stmt, empty, assign, invoke, IF, CASE, FOR, WHILE}
+use Rattle.st_trees.specs.Statements.{REPEAT}
 use Rattle.st_trees.specs.Statements.{EXIT, RETURN, Stmts, no_stmts, stmt_then, Arms, no_arms, arm_then, CaseArms}
 use Rattle.st_trees.specs.Statements.{no_case_arms, case_arm_then}
-use Rattle.st_types.specs.Scopes.{Name, contains_name}
+use Rattle.st_types.specs.Scopes.{contains_name}
 use Rattle.st_statics.specs.declared.rule.Rule.TheVariants.{UnknownName, WrongType, NotAssignable}
 use Rattle.st_statics.specs.declared.rule.Broken.{Broken}
 use Rattle.st_statics.specs.Environments.{Environment, type_of_name}
@@ -76,7 +77,8 @@ joined : {X Y : Type 0} (g : X → List Y) (ps qs : List X) (xs ys : List Y) →
 joined g ps qs xs ys h k = ap (λ zs. zs ++ ys) h ∙ ap (λ zs. flat_map g ps ++ zs) k ∙ sym (flat_map-append g ps qs)
 
 mutual
-  assigned_each_below : (c : Context) (x : Stmt) → assigned_below c.running x ≡ flat_map assigned_at (statements_below c x)
+  assigned_each_below : (c : Context) (x : Stmt)
+      → assigned_below c.running x ≡ flat_map assigned_at (statements_below c x)
   assigned_each_below c (IF arms otherwise) = joined assigned_at (statements_of_arms c arms)
       (statements_of c otherwise) (assigned_in_arms c.running arms) (assigned_in c.running otherwise)
       (assigned_each_arm c arms) (assigned_each c otherwise)
@@ -144,7 +146,8 @@ assigning_is : (env : Environment) (c : Context) (x : Stmt)
 assigning_is env c (assign v e) =
     ap (λ xs. xs ++ []) (target_is env c v) ∙ sym (append-nil (rules.wrong_target env c v ++ []))
 assigning_is env c (invoke x arguments) =
-    arguments_are env c arguments ∙ sym (append-nil (flat_map (rules.wrong_target env c) (targets_of_arguments arguments)))
+    arguments_are env c arguments
+    ∙ sym (append-nil (flat_map (rules.wrong_target env c) (targets_of_arguments arguments)))
 assigning_is env c (FOR x start limit step body) =
     append-nil (wrong_control_of env (contains_name c.running x.name) x (type_of_name env x.name))
     ∙ control_is env c x (type_of_name env x.name)
@@ -160,14 +163,16 @@ assigning_is env c RETURN = refl
 pub flat_of_flat : {X Y Z : Type 0} (f : Y → List Z) (g : X → List Y) (xs : List X)
     → flat_map f (flat_map g xs) ≡ flat_map (λ x. flat_map f (g x)) xs
 flat_of_flat f g [] = refl
-flat_of_flat f g (x ∷ xs) = flat_map-append f (g x) (flat_map g xs) ∙ ap (λ ys. flat_map f (g x) ++ ys) (flat_of_flat f g xs)
+flat_of_flat f g (x ∷ xs) =
+    flat_map-append f (g x) (flat_map g xs) ∙ ap (λ ys. flat_map f (g x) ++ ys) (flat_of_flat f g xs)
 
 pub flat_of_map : {X Y Z : Type 0} (f : Y → List Z) (g : X → Y) (xs : List X)
     → flat_map f (map g xs) ≡ flat_map (λ x. f (g x)) xs
 flat_of_map f g [] = refl
 flat_of_map f g (x ∷ xs) = ap (λ ys. f (g x) ++ ys) (flat_of_map f g xs)
 
-pub flat_same : {X Z : Type 0} (f g : X → List Z) → ((x : X) → f x ≡ g x) → (xs : List X) → flat_map f xs ≡ flat_map g xs
+pub flat_same : {X Z : Type 0} (f g : X → List Z) → ((x : X) → f x ≡ g x) → (xs : List X)
+    → flat_map f xs ≡ flat_map g xs
 flat_same f g h [] = refl
 flat_same f g h (x ∷ xs) = ap (λ ys. ys ++ flat_map f xs) (h x) ∙ ap (λ ys. g x ++ ys) (flat_same f g h xs)
 

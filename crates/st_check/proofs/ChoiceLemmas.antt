@@ -1,5 +1,5 @@
 -- What is wrong in a selector, and in a CASE as its mirror has it.
-use Rattle.std.proofs.Common.{◌≡◌, sym, subst, List, ◌++◌, Option, None, append_assoc}
+use Rattle.std.proofs.Common.{sym, subst, List, ◌++◌, Option, None, append_assoc}
 use Rattle.std.specs.List.{flat_map, Contains}
 use Rattle.std.proofs.lemmas.List.Elements.{Contains-append_right}
 use Rattle.st_words.specs.declared.kind.Kind.{Kind}
@@ -20,7 +20,8 @@ inserted ms ps rs b h =
     subst (λ xs. Contains xs b) (sym (append_assoc ms ps rs)) (Contains-append_right ms (ps ++ rs) b h)
 
 -- what is wrong whatever type a place offers is wrong in a selector
-pub selector_told : (env : Environment) (e : Expr) (b : Broken) → ((k : Option Kind) → Contains (wrong_within env k e) b)
+pub selector_told : (env : Environment) (e : Expr) (b : Broken)
+    → ((k : Option Kind) → Contains (wrong_within env k e) b)
     → Contains (wrong_root env (node (Asked None Selecting) e)) b
 unfolding wrong_root
 selector_told env e b h =

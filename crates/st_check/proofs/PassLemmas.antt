@@ -1,12 +1,12 @@
 -- What the passes over a body find is what is wrong in the body.
-use Rattle.std.proofs.Common.{◌≡◌, refl, sym, ap, subst, ◌∙◌, List, [], ◌∷◌, ◌++◌, Option, Some, None, map, false}
+use Rattle.std.proofs.Common.{◌≡◌, refl, sym, ap, subst, ◌∙◌, List, [], ◌∷◌, ◌++◌, Option, Some, None, false}
 use Rattle.std.proofs.Common.{append-nil, ⊎_elim, ◌⊎◌, inl, inr, arith}
 use Rattle.std.specs.List.{flat_map, Contains}
 use Rattle.std.proofs.lemmas.List.Concat.{flat_map-append}
 use Rattle.std.proofs.lemmas.List.Elements.{Contains-append_left, Contains-append_right, Contains-append_cases}
 use Rattle.st_trees.specs.Expressions.{Variable, variable, Selector, member, subscript, Selectors, no_selectors}
 use Rattle.st_trees.specs.Expressions.{selector_then}
-use Rattle.st_trees.specs.Statements.{Stmt, empty, assign, invoke, IF, CASE, FOR, WHILE, REPEAT, EXIT, RETURN, Stmts}
+use Rattle.st_trees.specs.Statements.{Stmt, CASE, Stmts}
 use Rattle.st_trees.specs.Statements.{stmts_of}
 use Rattle.st_statics.specs.declared.rule.Broken.{Broken}
 use Rattle.st_statics.specs.declared.demand.Sorts.TheVariants.{Selecting}

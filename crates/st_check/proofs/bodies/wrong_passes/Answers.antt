@@ -1,4 +1,4 @@
-use Rattle.std.proofs.Common.{◌≡◌, ◌++◌, subst, sym, ap, ◌∙◌, map, false}
+use Rattle.std.proofs.Common.{◌≡◌, ◌++◌, subst, ap, ◌∙◌, map, false}
 use Rattle.std.proofs.lemmas.Result.{IfOk-weaker}
 use Rattle.st_trees.specs.StatementViews.{stmts_view}
 use Rattle.st_statics.specs.Faults.{Finds}

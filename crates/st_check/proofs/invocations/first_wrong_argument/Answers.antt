@@ -28,7 +28,8 @@ loop-argument-preserved c =
           ∙ ap (λ n. bytes_eq q n || contains_name names q) is_name,
       λ env instance serves is. argument_passed env instance names a rest _
           (ap (wrong_arguments env instance names)
-          (sym (left_viewed argument_view arguments at c.argument-item.result c.loop-argument-test.true c.argument-item.is))
+          (sym (left_viewed argument_view arguments at c.argument-item.result c.loop-argument-test.true
+          c.argument-item.is))
           ∙ c.loop-argument.invariant.2 env instance serves is)
           (sym (c.is_argument.ensures env instance serves is) ∙ own) fresh,
     )
