@@ -4,6 +4,7 @@
 mod assignments;
 mod bodies;
 mod choices;
+mod declared_types;
 mod exits;
 mod expressions;
 mod faults;
