@@ -39,6 +39,13 @@ pub fn in_case(wrong: bool, rule: Rule, place: usize) -> Option<Broken>
     }
 }
 
+/// One of the places, where there are any.
+pub fn first_place(places: &[usize]) -> Option<usize>
+    ensures { (all : List ℕ) → places.now ≡ all → FindsPlace all result }
+{
+    places.first().copied()
+}
+
 /// The rule, where there is a place at which it is broken.
 pub fn broken_at(rule: Rule, place: Option<usize>) -> Option<Broken>
     ensures { (places : List ℕ) → FindsPlace places place → Finds (breaking rule places) result }

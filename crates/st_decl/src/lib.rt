@@ -29,4 +29,5 @@ pub use declarations::declare;
 pub use declarings::{Declaring, Role, declarings_in};
 pub use elements::{types_in, units_in};
 pub use judging::CheckError;
+pub use started::{array_at, field_of};
 pub use starts::{Start, starts_of};
