@@ -10,6 +10,7 @@ mod enumerations;
 mod exits;
 mod expressions;
 mod faults;
+mod initials;
 mod invocations;
 mod kinds;
 mod labels;
