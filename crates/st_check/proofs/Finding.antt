@@ -1,5 +1,6 @@
 -- What a search in parts, or step by step, tells of the whole.
-use Rattle.std.proofs.Common.{◌≡◌, refl, sym, ap, subst, ◌∙◌, ℕ, ◌+◌, ◌<◌, List, [], ◌∷◌, ◌++◌, Option, Some, None, drop}
+use Rattle.std.proofs.Common.{◌≡◌, refl, sym, ap, subst, ◌∙◌, ℕ, ◌+◌, ◌<◌, List, [], ◌∷◌, ◌++◌, Option, Some, None}
+use Rattle.std.proofs.Common.{drop}
 use Rattle.std.proofs.Common.{length, slice_index_or, map}
 use Rattle.std.specs.List.{flat_map, Contains}
 use Rattle.std.proofs.lemmas.List.{drop_more}
@@ -15,7 +16,7 @@ finds_front xs ys (Some x) b h k = Contains-append_left xs ys x h
 finds_front xs ys None (Some y) h k = Contains-append_right xs ys y k
 finds_front xs ys None None h k = rw (h, k) refl
 
-left_viewed : {A B : Type 0} (g : A → B) (xs : List A) (i : ℕ) (x : A) → i < length xs → x ≡ slice_index_or xs i x
+pub left_viewed : {A B : Type 0} (g : A → B) (xs : List A) (i : ℕ) (x : A) → i < length xs → x ≡ slice_index_or xs i x
     → map g (drop i xs) ≡ g x ∷ map g (drop (i + 1) xs)
 left_viewed g xs i x h is =
     ap (map g) (drop_more xs i x h ∙ ap (λ y. y ∷ drop (i + 1) xs) (sym is))

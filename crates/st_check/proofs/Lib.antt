@@ -3,3 +3,7 @@ pub mod SpanLemmas
 pub mod Finding
 pub mod FlatLemmas
 pub mod TargetLemmas
+pub mod InvocationLemmas
+pub mod ChoiceLemmas
+pub mod BodyLemmas
+pub mod PassLemmas

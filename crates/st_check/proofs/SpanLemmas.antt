@@ -1,5 +1,6 @@
 -- Spans that were sorted: none overlaps where each ends before the next, and neighbours that touch overlap.
-use Rattle.std.proofs.Common.{◌≡◌, refl, sym, ap, subst, ◌∙◌, ℕ, zero, suc, ◌+◌, ◌<◌, ◌≤◌, ℤ, ◌≤ℤ◌, ◌<ℤ◌, int_le, pos, arith}
+use Rattle.std.proofs.Common.{◌≡◌, refl, sym, ap, subst, ◌∙◌, ℕ, zero, suc, ◌+◌, ◌<◌, ◌≤◌, ℤ, ◌≤ℤ◌, ◌<ℤ◌, int_le, pos}
+use Rattle.std.proofs.Common.{arith}
 use Rattle.std.proofs.Common.{List, [], ◌∷◌, ◌++◌, Bool, true, false, ◌&&◌, if◌then◌else◌, length, slice_index_or, drop}
 use Rattle.std.proofs.Common.{⊎_elim}
 use Rattle.std.specs.Prelude.{int_lt, map, not, Option, Some, None, IfSome, ◌-◌}
@@ -10,9 +11,11 @@ use Rattle.std.specs.List.Sorted.{IsPermutation, IsSortedByKey}
 use Rattle.std.proofs.lemmas.Bool.{cases_eq}
 use Rattle.std.proofs.lemmas.Int.{ints, int_max_is}
 use Rattle.std.proofs.lemmas.List.{drop_more, get_or_default}
-use Rattle.std.proofs.lemmas.List.Elements.{Contains-append_left, Contains-append_right, All-nil, All-cons, All-contains}
+use Rattle.std.proofs.lemmas.List.Elements.{Contains-append_left, Contains-append_right, All-nil, All-cons}
+use Rattle.std.proofs.lemmas.List.Elements.{All-contains}
 use Rattle.std.proofs.lemmas.List.Sums.{sum_by-cons}
-use Rattle.std.proofs.lemmas.List.Sorted.{IsPermutation-sym, sum_by-IsPermutation, Contains-permutation, All-permutation}
+use Rattle.std.proofs.lemmas.List.Sorted.{IsPermutation-sym, sum_by-IsPermutation, Contains-permutation}
+use Rattle.std.proofs.lemmas.List.Sorted.{All-permutation}
 use Rattle.st_words.specs.declared.kind.Kind.{Kind}
 use Rattle.st_words.specs.declared.kind.Kind.TheVariants.{Sint}
 use Rattle.st_words.specs.Kinds.{same_kind, kind_index, names_in, number_of_type}
@@ -56,11 +59,13 @@ the_next j = omega arith
 
 later_apart : (s : Span) (ss : List Span) → AreApart (s ∷ ss) → AreApart ss
 later_apart s ss h j d lt =
-    subst (λ n. IsApart (slice_index_or ss j d) (slice_index_or (s ∷ ss) n d)) (the_next j) (h (suc j) d (omega (arith, lt)))
+    subst (λ n. IsApart (slice_index_or ss j d) (slice_index_or (s ∷ ss) n d)) (the_next j)
+    (h (suc j) d (omega (arith, lt)))
 
 later_ascend : (s : Span) (ss : List Span) → Ascend (s ∷ ss) → Ascend ss
 later_ascend s ss h j d lt =
-    subst (λ n. InOrder (slice_index_or ss j d) (slice_index_or (s ∷ ss) n d)) (the_next j) (h (suc j) d (omega (arith, lt)))
+    subst (λ n. InOrder (slice_index_or ss j d) (slice_index_or (s ∷ ss) n d)) (the_next j)
+    (h (suc j) d (omega (arith, lt)))
 
 later_sound : (s : Span) (ss : List Span) → All IsSound (s ∷ ss) → All IsSound ss
 later_sound s ss h j d lt = h (suc j) d (omega (arith, lt))
@@ -391,7 +396,8 @@ touched_told sorted ss place p up sound touched =
     let s = touched.before in
     let t = touched.span in
     let within = touched.within in
-    let first : slice_index_or sorted at t ≡ s = get_or_default sorted at t s (omega (arith, within)) ∙ touched.is_before in
+    let first : slice_index_or sorted at t ≡ s =
+    get_or_default sorted at t s (omega (arith, within)) ∙ touched.is_before in
     let rises = up at t within in
     let below : s.lower ≤ℤ t.lower =
     lower_in_order s t touched.is_same (rw (first, touched.is_span) at rises) in
@@ -410,7 +416,8 @@ touched_told sorted ss place p up sound touched =
     at_least v = grind (arith, ints)
 
 pub ascend_sorted : (ss : List Span)
-    → IsSortedByKey {K = ℕ × ℕ × ℕ × ℤ} (λ (s : Span). (kind_index s.kind, names_in s.kind, number_of_type s.kind, s.lower))
+    → IsSortedByKey {K = ℕ × ℕ × ℕ × ℤ}
+    (λ (s : Span). (kind_index s.kind, names_in s.kind, number_of_type s.kind, s.lower))
     (λ x y. ordering_then (ordering_then (ordering_then (nat_cmp x.0 y.0) (nat_cmp x.1 y.1)) (nat_cmp x.2 y.2))
     (int_cmp x.3 y.3)) ss
     → Ascend ss

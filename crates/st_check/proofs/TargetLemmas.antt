@@ -1,9 +1,9 @@
 -- What is wrong in variables and in what is assigned, by what their names stand for.
-use Rattle.std.proofs.Common.{◌≡◌, refl, sym, subst, List, [], ◌∷◌, map, rules, Option, Some, None}
+use Rattle.std.proofs.Common.{◌≡◌, subst, [], ◌∷◌, map, rules, Option, Some, None}
 use Rattle.st_words.specs.declared.identifier.Identifier.{Identifier}
 use Rattle.st_trees.specs.declared.data_type.VariableType.{VariableType}
 use Rattle.st_trees.specs.declared.expression.Variable as code_variable
-use Rattle.st_trees.specs.Expressions.{Variable, variable, Selectors, selectors_of}
+use Rattle.st_trees.specs.Expressions.{variable, Selectors, selectors_of}
 use Rattle.st_trees.specs.ExpressionViews.{variable_view, selector_view}
 use Rattle.st_statics.specs.declared.rule.Rule.TheVariants.{UnknownName}
 use Rattle.st_statics.specs.declared.rule.Broken.{Broken}

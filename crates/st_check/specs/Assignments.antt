@@ -3,7 +3,8 @@ use Rattle.std.specs.Prelude.{List, [], ◌∷◌, ◌++◌, Bool}
 use Rattle.st_words.specs.declared.identifier.Identifier.{Identifier}
 use Rattle.st_trees.specs.ExpressionViews.{variable_view}
 use Rattle.st_trees.specs.Expressions.{Variable, variable}
-use Rattle.st_trees.specs.Statements.{Argument, given, copied, Stmt, assign, invoke, IF, CASE, FOR, WHILE, REPEAT, Stmts}
+use Rattle.st_trees.specs.Statements.{Argument, given, copied, Stmt, assign, invoke, IF, CASE, FOR, WHILE, REPEAT}
+use Rattle.st_trees.specs.Statements.{Stmts}
 use Rattle.st_trees.specs.Statements.{no_stmts, stmt_then, Arms, no_arms, arm_then, CaseArms, no_case_arms}
 use Rattle.st_trees.specs.Statements.{case_arm_then}
 use Rattle.st_types.specs.Scopes.{Name, contains_name}

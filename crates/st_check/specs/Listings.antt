@@ -1,5 +1,5 @@
 -- All statements of a body, each with whether it stands in a loop.
-use Rattle.std.specs.Prelude.{List, [], ◌∷◌, ◌++◌, Bool, true, false}
+use Rattle.std.specs.Prelude.{List, [], ◌∷◌, ◌++◌, Bool, true}
 use Rattle.st_trees.specs.StatementViews.{stmt_view}
 use Rattle.st_trees.specs.Statements.{Stmt, IF, CASE, FOR, WHILE, REPEAT, Stmts, no_stmts, stmt_then, Arms, no_arms}
 use Rattle.st_trees.specs.Statements.{arm_then, CaseArms, no_case_arms, case_arm_then}

@@ -3,19 +3,30 @@
 ghost use Rattle.std.specs.Prelude.{◌≡◌, option_map};
 ghost use Rattle.st_types.specs.NameTypes.{Declared};
 ghost use Rattle.st_statics.specs.Environments.{Environment};
-ghost use Rattle.st_statics.specs.Typings.{is_nothing, typing_of_type};
+ghost use Rattle.st_statics.specs.Typings.{is_nothing, kind_of, typing_of_type};
 ghost use Rattle.st_statics.specs.Roots.{demand_of_typing, demand_of_type};
 ghost use Rattle.st_names.specs.PlaceTypes.{place_type_view};
 ghost use Rattle.st_names.specs.Tables.{ServesTables};
 
 use st_names::{PlaceType, TextTables};
 use st_statics::{Demand, Sorts, Typing};
+use st_words::Kind;
 
 /// Whether a typing hangs on an unknown name.
 pub fn is_nothing(typing: Typing) -> bool
     ensures { result ≡ is_nothing typing }
 {
     matches!(typing, Typing::Nothing)
+}
+
+/// The elementary or enumerated type that a typing is.
+pub fn kind_of(typing: Typing) -> Option<Kind>
+    ensures { result ≡ kind_of typing }
+{
+    match typing {
+        Typing::Elementary(kind) => Some(kind),
+        _ => None,
+    }
 }
 
 /// The typing of what has the type, where that is known.

@@ -24,6 +24,7 @@ push_below-returns-in_ok-push_case_arms-in-Case t c =
     let otherwise = c.in-Case.otherwise in
     let at = map (λ x. x.now.name) c.args.running.now in
     joined c.push_all-in-Case.result (seen c.args.assigned.now.items) (seen c.push_case_arms.new.assigned.items)
-    (seen c.push_all-in-Case.new.assigned.items) (assigned_in_case_arms at (case_arms_of (map case_arm_view arms.items)))
+    (seen c.push_all-in-Case.new.assigned.items)
+    (assigned_in_case_arms at (case_arms_of (map case_arm_view arms.items)))
     (assigned_in at (stmts_view otherwise.items)) (assigned_below at (stmt_view c.args.statement.now)) (search rules)
     (selected (assigned_below at) c.args.statement.now c.in-Case.field-0 arms otherwise c.in-Case.is) (search rules)

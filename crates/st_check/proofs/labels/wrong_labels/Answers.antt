@@ -1,12 +1,11 @@
-use Rattle.std.proofs.Common.{◌≡◌, List, subst, sym, ap, ◌∙◌, map}
+use Rattle.std.proofs.Common.{◌≡◌, subst, ap, ◌∙◌, map}
 use Rattle.std.specs.List.{flat_map}
 use Rattle.st_trees.specs.Statements.{case_arms_of}
 use Rattle.st_trees.specs.StatementViews.{case_arm_view}
 use Rattle.st_statics.specs.declared.rule.Rule.TheVariants.{WrongLabel}
 use Rattle.st_statics.specs.Faults.{Finds, breaking}
-use Rattle.st_statics.specs.LabelRules.{labels_of, wrong_label, wrong_labels, wrong_spans, spans_of}
+use Rattle.st_statics.specs.LabelRules.{labels_of, wrong_label, wrong_spans, spans_of}
 use Rattle.st_names.specs.Searches.{FindsPlace}
-use Rattle.st_check.specs.Spans.{span_view}
 use Rattle.st_check.proofs.Finding.{behind}
 use Rattle.st_check.proofs.labels.wrong_labels.Goals as goal
 

@@ -1,4 +1,4 @@
-use Rattle.std.proofs.Common.{subst, sym, map, ◌∙◌}
+use Rattle.std.proofs.Common.{subst, sym, map}
 use Rattle.st_trees.specs.Expressions.{selectors_of}
 use Rattle.st_trees.specs.ExpressionViews.{selector_view}
 use Rattle.st_statics.specs.ExpressionRules.{wrong_variable}

@@ -1,0 +1,8 @@
+use Rattle.std.proofs.Common.{◌≡◌, ◌++◌, map, drop}
+use Rattle.st_trees.specs.DeclarationViews.{type_declaration_view}
+use Rattle.st_resolved.proofs.sources.push_types.Given as goal
+
+abbrev pub invariant-loop-declaration : goal.invariant-loop-declaration
+invariant-loop-declaration l = map (λ t. type_declaration_view t.now) l.types.items
+    ++ map type_declaration_view (drop l.declaration-index l.declared)
+    ≡ map (λ t. type_declaration_view t.now) l.initial.types.items ++ map type_declaration_view l.declared

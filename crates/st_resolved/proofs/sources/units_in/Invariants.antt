@@ -1,0 +1,10 @@
+use Rattle.std.proofs.Common.{◌≡◌, ◌++◌, map, drop}
+use Rattle.st_trees.specs.UnitViews.{unit_view}
+use Rattle.st_trees.specs.SourceViews.{element_view}
+use Rattle.st_types.specs.NameTypes.{units_in}
+use Rattle.st_resolved.proofs.sources.units_in.Given as goal
+
+abbrev pub invariant-loop-element : goal.invariant-loop-element
+invariant-loop-element l = map (λ u. unit_view u.now) l.units.items
+    ++ units_in (map element_view (drop l.element-index l.source.elements.items))
+    ≡ units_in (map element_view l.source.elements.items)
