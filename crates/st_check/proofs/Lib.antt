@@ -7,3 +7,4 @@ pub mod InvocationLemmas
 pub mod ChoiceLemmas
 pub mod BodyLemmas
 pub mod PassLemmas
+pub mod TypeLemmas

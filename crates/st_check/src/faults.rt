@@ -1,7 +1,7 @@
 //! Faults one after another.
 
 ghost use Rattle.std.specs.Prelude.{◌≡◌, List, ℕ};
-ghost use Rattle.st_statics.specs.Faults.{Finds, breaking, unless};
+ghost use Rattle.st_statics.specs.Faults.{Finds, breaking, in_case, unless};
 ghost use Rattle.st_names.specs.Searches.{FindsPlace};
 ghost use Rattle.st_check.specs.Findings.{or_broken};
 
@@ -26,6 +26,24 @@ pub fn unless(right: bool, rule: Rule, place: usize) -> Option<Broken>
     } else {
         Some(Broken { rule, place })
     }
+}
+
+/// The rule broken at a place, where something holds that must not.
+pub fn in_case(wrong: bool, rule: Rule, place: usize) -> Option<Broken>
+    ensures { Finds (breaking rule (in_case wrong place)) result }
+{
+    if wrong {
+        Some(Broken { rule, place })
+    } else {
+        None
+    }
+}
+
+/// One of the places, where there are any.
+pub fn first_place(places: &[usize]) -> Option<usize>
+    ensures { (all : List ℕ) → places.now ≡ all → FindsPlace all result }
+{
+    places.first().copied()
 }
 
 /// The rule, where there is a place at which it is broken.

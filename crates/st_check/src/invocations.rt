@@ -17,12 +17,12 @@ ghost use Rattle.st_check.specs.Listings.{listed_view};
 
 use crate::faults::{broken_at, unless};
 use crate::listings::Listed;
-use crate::places::{demand_of_type, is_nothing, typing_of_place};
+use crate::places::{demand_of_type, is_nothing};
 use crate::selections::{is_instance, type_of_place};
 use st_names::{Index, PlaceType, Side, TextTables, UnitNames};
 use st_statics::{Broken, Rule};
 use st_trees::{Argument, Stmt};
-use st_typing::meets;
+use st_typing::{meets, typing_of_place};
 use st_words::Identifier;
 use std::alloc::{AllocError, Global};
 

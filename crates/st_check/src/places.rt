@@ -1,15 +1,15 @@
 //! What variables and other places of a type ask of a value.
 
 ghost use Rattle.std.specs.Prelude.{◌≡◌, option_map};
-ghost use Rattle.st_types.specs.NameTypes.{Declared};
 ghost use Rattle.st_statics.specs.Environments.{Environment};
-ghost use Rattle.st_statics.specs.Typings.{is_nothing, kind_of, typing_of_type};
+ghost use Rattle.st_statics.specs.Typings.{is_nothing, kind_of};
 ghost use Rattle.st_statics.specs.Roots.{demand_of_typing, demand_of_type};
 ghost use Rattle.st_names.specs.PlaceTypes.{place_type_view};
 ghost use Rattle.st_names.specs.Tables.{ServesTables};
 
 use st_names::{PlaceType, TextTables};
 use st_statics::{Demand, Sorts, Typing};
+use st_typing::typing_of_place;
 use st_words::Kind;
 
 /// Whether a typing hangs on an unknown name.
@@ -26,17 +26,6 @@ pub fn kind_of(typing: Typing) -> Option<Kind>
     match typing {
         Typing::Elementary(kind) => Some(kind),
         _ => None,
-    }
-}
-
-/// The typing of what has the type, where that is known.
-pub fn typing_of_place(tables: &TextTables, declared: Option<PlaceType>) -> Typing
-    ensures { (text : Declared) → ServesTables tables.now text
-        → result ≡ typing_of_type text (option_map place_type_view declared.entry) }
-{
-    match declared {
-        Some(declared) => tables.typing_of_type(declared),
-        None => Typing::Nothing,
     }
 }
 

@@ -24,7 +24,10 @@ mod statements;
 mod too_deep;
 mod twice_declared;
 
+pub use arrays::{named_arrays, unnamed_arrays};
 pub use declarations::declare;
 pub use declarings::{Declaring, Role, declarings_in};
+pub use elements::{types_in, units_in};
 pub use judging::CheckError;
+pub use started::{array_at, field_of};
 pub use starts::{Start, starts_of};

@@ -1,0 +1,189 @@
+//! Initial values, by the type of what they are for (C1, C3, C4).
+
+ghost use Rattle.std.specs.Prelude.{◌≡◌, ◌++◌, ◌||◌, [], map, option_map, is_some, if◌then◌else◌};
+ghost use Rattle.std.specs.List.{flat_map};
+ghost use Rattle.st_trees.specs.Initials.{elements_of, members_of};
+ghost use Rattle.st_trees.specs.InitialViews.{initial_view, element_view, member_view};
+ghost use Rattle.st_types.specs.NameTypes.{Declared};
+ghost use Rattle.st_statics.specs.ExpressionRules.{place_of_literal, wrong_literal};
+ghost use Rattle.st_statics.specs.Faults.{Finds};
+ghost use Rattle.st_statics.specs.InitialRules.{array_in, definition_at, is_structure, is_unknown, unread_value};
+ghost use Rattle.st_statics.specs.InitialRules.{wrong_constant, wrong_count, wrong_counts, wrong_fields, wrong_start};
+ghost use Rattle.st_statics.specs.InitialRules.{wrong_start_of};
+ghost use Rattle.st_statics.specs.Typings.{is_nothing, kind_of, typing_of_literal, typing_of_reading};
+ghost use Rattle.st_names.specs.Enumerated.{reading_view};
+ghost use Rattle.st_names.specs.Fields.{ServesFields};
+ghost use Rattle.st_names.specs.PlaceTypes.{place_type_view};
+ghost use Rattle.st_names.specs.Tables.{ServesTables};
+ghost use Rattle.st_names.specs.Texts.{ServesText};
+ghost use Rattle.st_decl.specs.StartViews.{start_view};
+
+use crate::faults::{either, unless};
+use crate::places::{demand_of_typing, is_nothing, kind_of};
+use crate::readings::wrong_reading;
+use st_decl::{Start, array_at, field_of};
+use st_names::{FieldNames, PlaceType, Reading, TextNames, TextTables};
+use st_statics::{Broken, Rule, Typing};
+use st_trees::{Initial, InitialElement, InitialMember, SimpleType, TypeDefinition};
+use st_typing::{meets, settled, typing_of_place, wrong_number};
+use st_words::{Kind, Literal};
+
+fn place_of_literal(literal: &Literal) -> usize
+    ensures { result ≡ place_of_literal literal.now }
+{
+    match literal {
+        Literal::Number(number) => number.place,
+        Literal::Truth(place, _) => *place,
+        Literal::Duration(place, _) => *place,
+        Literal::Enumerated(value) => value.place,
+    }
+}
+
+fn typing_of_reading(reading: Reading) -> Typing
+    ensures { result ≡ typing_of_reading (reading_view reading) }
+{
+    match reading {
+        Reading::Value(member) => Typing::Elementary(member.kind),
+        Reading::Unknown => Typing::Nothing,
+        Reading::Ambiguous => Typing::Nothing,
+    }
+}
+
+fn typing_of_literal(tables: &TextTables, literal: &Literal) -> Typing
+    ensures { (text : Declared) → ServesTables tables.now text → result ≡ typing_of_literal text literal.now }
+{
+    match literal {
+        Literal::Number(number) => match number.written {
+            Some(kind) => Typing::Elementary(kind),
+            None => Typing::Untyped,
+        },
+        Literal::Truth(_, _) => Typing::Elementary(Kind::Bool),
+        Literal::Duration(_, _) => Typing::Elementary(Kind::Time),
+        Literal::Enumerated(value) => typing_of_reading(tables.reading_written(value)),
+    }
+}
+
+/// A name that stands for no value of an enumerated type, where the type of what it is for is not known.
+fn unread_value(tables: &TextTables, literal: &Literal) -> Option<Broken>
+    ensures { (text : Declared) → ServesTables tables.now text → Finds (unread_value text literal.now) result }
+{
+    match literal {
+        Literal::Enumerated(value) => wrong_reading(value.place, tables.reading_written(value)),
+        _ => None,
+    }
+}
+
+/// A number outside its type, or a name that stands for no value of an enumerated type.
+fn wrong_literal(tables: &TextTables, offered: Option<Kind>, literal: &Literal) -> Option<Broken>
+    ensures { (text : Declared) → ServesTables tables.now text
+        → Finds (wrong_literal text offered literal.now) result }
+{
+    match literal {
+        Literal::Number(number) => wrong_number(offered, number),
+        Literal::Truth(_, _) => None,
+        Literal::Duration(_, _) => None,
+        Literal::Enumerated(value) => wrong_reading(value.place, tables.reading_written(value)),
+    }
+}
+
+/// What is wrong in a literal itself, for what has a typing.
+fn wrong_in_constant(tables: &TextTables, typing: Typing, literal: &Literal) -> Option<Broken>
+    ensures { (text : Declared) → ServesTables tables.now text
+        → Finds (if is_nothing typing then unread_value text literal.now
+        else wrong_literal text (kind_of typing) literal.now) result }
+{
+    if is_nothing(typing) {
+        unread_value(tables, literal)
+    } else {
+        wrong_literal(tables, kind_of(typing), literal)
+    }
+}
+
+/// What is wrong in a constant: it is none of its variable's type, or in itself.
+fn wrong_constant(tables: &TextTables, typing: Typing, literal: &Literal) -> Option<Broken>
+    ensures { (text : Declared) → ServesTables tables.now text
+        → Finds (wrong_constant text typing literal.now) result }
+{
+    let given = settled(kind_of(typing), typing_of_literal(tables, literal));
+    either(
+        unless(
+            meets(demand_of_typing(typing), given),
+            Rule::WrongType,
+            place_of_literal(literal),
+        ),
+        wrong_in_constant(tables, typing, literal),
+    )
+}
+
+/// Whether the type is not known, so that nothing is asked of a value.
+fn is_unknown(tables: &TextTables, declared: Option<PlaceType>) -> bool
+    ensures { (text : Declared) → ServesTables tables.now text
+        → result ≡ is_unknown text (option_map place_type_view declared.entry) }
+{
+    is_nothing(typing_of_place(tables, declared))
+}
+
+fn is_array(names: &TextNames, declared: Option<PlaceType>) -> bool
+    ensures { (text : Declared) → ServesText names.now text
+        → result ≡ is_some (array_in (definition_at text (option_map place_type_view declared.entry))) }
+{
+    array_at(names, declared).is_some()
+}
+
+fn is_structure(names: &TextNames, declared: Option<PlaceType>) -> bool
+    ensures { (text : Declared) → ServesText names.now text
+        → result ≡ is_structure (definition_at text (option_map place_type_view declared.entry)) }
+{
+    match declared {
+        Some(PlaceType::Simple(SimpleType::Named(name))) => match names.type_named(&name.name) {
+            Some(TypeDefinition::Array(_)) => false,
+            Some(TypeDefinition::Structure(_)) => true,
+            Some(TypeDefinition::Enumeration(_)) => false,
+            None => false,
+        },
+        _ => false,
+    }
+}
+
+/// A count outside its type.
+fn wrong_count(element: &InitialElement) -> Option<Broken>
+    ensures { Finds (wrong_count (element_view element.now)) result }
+{
+    match element {
+        InitialElement::Single(_) => None,
+        InitialElement::Repeated(count, _) => wrong_number(None, count),
+        InitialElement::Defaults(count) => wrong_number(None, count),
+    }
+}
+
+fn wrong_counts(elements: &[InitialElement]) -> Option<Broken>
+    ensures { Finds (wrong_counts (elements_of (map element_view elements.now))) result }
+{
+    for element in elements {
+        if let Some(broken) = wrong_count(element) {
+            return Some(broken);
+        }
+    }
+    None
+}
+
+/// A field that the structure has not.
+fn wrong_fields<'a>(
+    fields: &FieldNames<'a>,
+    declared: Option<PlaceType<'a>>,
+    members: &[InitialMember],
+) -> Option<Broken>
+    ensures { (text : Declared) → ServesFields fields.now text → Finds
+        (wrong_fields text (option_map place_type_view declared.entry) (members_of (map member_view members.now)))
+        result }
+{
+    for member in members {
+        if field_of(fields, declared, &member.name.name).is_none() {
+            return Some(Broken {
+                rule: Rule::UnknownName,
+                place: member.name.place,
+            });
+        }
+    }
+    None
+}

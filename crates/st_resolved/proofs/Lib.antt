@@ -1,0 +1,9 @@
+pub mod ListLemmas
+pub mod InitialLemmas
+pub mod SettleLemmas
+pub mod AloneLemmas
+pub mod ExpectedLemmas
+pub mod CallLemmas
+pub mod ReadLemmas
+pub mod StatementLemmas
+pub mod UnitLemmas

@@ -1,0 +1,12 @@
+use Rattle.std.proofs.Common.{◌≡◌, ◌++◌, map, drop}
+use Rattle.st_trees.specs.DeclarationViews.{type_declaration_view}
+use Rattle.st_types.specs.NameTypes.{Declared}
+use Rattle.st_types.specs.ResolvedUnits.{resolved_type_declaration}
+use Rattle.st_names.specs.Fields.{ServesFields}
+use Rattle.st_names.specs.Tables.{ServesTables}
+use Rattle.st_resolved.proofs.declarations.resolved_types.Given as goal
+
+abbrev pub invariant-loop-declaration : goal.invariant-loop-declaration
+invariant-loop-declaration l = (text : Declared) → ServesTables l.tables text → ServesFields l.fields text
+    → map type_declaration_view l.resolved.items ++ map (resolved_type_declaration text) (map type_declaration_view (drop l.declaration-index l.types))
+    ≡ map (resolved_type_declaration text) (map type_declaration_view l.types)

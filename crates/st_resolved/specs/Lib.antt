@@ -1,0 +1,4 @@
+pub mod Members
+pub mod Resolutions
+pub mod Calls
+pub mod Arms

@@ -1,0 +1,10 @@
+-- Values of enumerated types, as names stand for them.
+use Rattle.std.specs.Prelude.{Option, Some, None}
+use Rattle.st_types.specs.Enumerations.{Member}
+use Rattle.st_statics.specs.Readings.{Reading, value, unknown, ambiguous}
+
+-- the value that a name stands for; none of one that stands for several
+abbrev pub member_of_reading : Reading → Option Member
+member_of_reading (value m) = Some m
+member_of_reading unknown = None
+member_of_reading ambiguous = None

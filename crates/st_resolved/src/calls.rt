@@ -1,0 +1,56 @@
+//! Calls of functions, from what is resolved of their arguments.
+
+ghost use Rattle.std.specs.Prelude.{◌≡◌, IfOk, map, option_map};
+ghost use Rattle.st_trees.specs.Expressions as tree;
+ghost use Rattle.st_trees.specs.Expressions.{call, exprs_of};
+ghost use Rattle.st_trees.specs.ExpressionViews.{expr_view};
+ghost use Rattle.st_types.specs.Resolution.{resolved_exprs};
+ghost use Rattle.st_statics.specs.Environments.{Environment};
+ghost use Rattle.st_statics.specs.Typings.{common_of};
+ghost use Rattle.st_names.specs.Tables.{ServesTables, callee_view};
+ghost use Rattle.st_resolved.specs.Calls.{expected_of_call};
+ghost use Rattle.st_resolved.specs.Resolutions.{kind_told, Resolves, ResolvesAll};
+
+use crate::expected::{common_of, expected_at, kind_of_call};
+use crate::resolutions::{Resolution, at_place};
+use st_names::{Callee, TextTables};
+use st_trees::Expr;
+use st_words::{Identifier, Kind};
+use std::alloc::{AllocError, Global};
+
+/// The arguments of a call, each at its place.
+fn arguments_at_places(
+    alloc: Global,
+    callee: Option<Callee>,
+    common: Option<Kind>,
+    parts: Vec<Resolution>,
+) -> Result<Vec<Expr>, AllocError>
+    ensures { IfOk result (λ list. (env : Environment) (es : tree.Exprs) → ResolvesAll env es parts.items
+        → common ≡ common_of (option_map callee_view callee.entry) (map kind_told parts.items)
+        → exprs_of (map expr_view list.items) ≡ resolved_exprs env.text env.unit
+        (expected_of_call (option_map callee_view callee.entry) (map kind_told parts.items)) es) }
+{
+    let mut arguments = Vec::new(alloc);
+    for part in parts {
+        let expected = expected_at(callee, common, arguments.len());
+        arguments.push(at_place(alloc, expected, part)?)?;
+    }
+    Ok(arguments)
+}
+
+/// What is resolved of a call.
+pub fn called(
+    alloc: Global,
+    tables: &TextTables,
+    function: &Identifier,
+    parts: Vec<Resolution>,
+) -> Result<Resolution, AllocError>
+    ensures { IfOk result (λ whole. (env : Environment) (es : tree.Exprs) → ServesTables tables.now env.text
+        → ResolvesAll env es parts.items → Resolves env (call function.now es) whole) }
+{
+    let callee = tables.callee_of(&function.name);
+    let common = common_of(callee, &parts);
+    let kind = kind_of_call(callee, common);
+    let arguments = arguments_at_places(alloc, callee, common, parts)?;
+    Ok(Resolution::Typed(kind, Expr::call(function.copied(alloc)?, arguments)))
+}

@@ -1,0 +1,51 @@
+//! Values of enumerated types.
+
+ghost use Rattle.std.specs.Prelude.{◌≡◌, option_map};
+ghost use Rattle.st_types.specs.Enumerations.{member_named, member_written, number_of_member};
+ghost use Rattle.st_types.specs.NameTypes.{Declared};
+ghost use Rattle.st_names.specs.Enumerated.{member_view, reading_view};
+ghost use Rattle.st_names.specs.Tables.{ServesTables};
+ghost use Rattle.st_resolved.specs.Members.{member_of_reading};
+
+use st_names::{Member, Reading, TextTables};
+use st_words::{EnumeratedValue, Name, Number};
+
+fn member_of_reading(reading: Reading) -> Option<Member>
+    ensures { option_map member_view result ≡ member_of_reading (reading_view reading) }
+{
+    match reading {
+        Reading::Value(member) => Some(member),
+        Reading::Unknown => None,
+        Reading::Ambiguous => None,
+    }
+}
+
+/// The value that a name alone stands for.
+pub fn member_named(tables: &TextTables, name: &Name) -> Option<Member>
+    ensures { (text : Declared) → ServesTables tables.now text
+        → option_map member_view result ≡ member_named text.types name.now }
+{
+    member_of_reading(tables.reading_of_name(name))
+}
+
+/// The value that is written so.
+pub fn member_written(tables: &TextTables, value: &EnumeratedValue) -> Option<Member>
+    ensures { (text : Declared) → ServesTables tables.now text
+        → option_map member_view result ≡ member_written text.types value.now }
+{
+    member_of_reading(tables.reading_written(value))
+}
+
+/// The number of a value, with its type, where a name stands for it.
+pub fn number_of_member(place: usize, member: Member) -> Number
+    ensures { result ≡ number_of_member place (member_view member) }
+{
+    Number {
+        place,
+        is_negative: false,
+        magnitude: member.place as u64,
+        written: Some(member.kind),
+        is_decimal: false,
+        taken: None,
+    }
+}

@@ -1,0 +1,64 @@
+//! What is resolved of an expression by itself.
+
+ghost use Rattle.std.specs.Prelude.{◌≡◌, IfOk};
+ghost use Rattle.st_trees.specs.Expressions as tree;
+ghost use Rattle.st_trees.specs.ExpressionViews.{expr_view};
+ghost use Rattle.st_types.specs.Resolution.{resolved_expr};
+ghost use Rattle.st_statics.specs.Environments.{Environment};
+ghost use Rattle.st_resolved.specs.Resolutions.{is_left, kind_told, tree_told, Resolves};
+
+use crate::settling::settled;
+use st_trees::Expr;
+use st_words::Kind;
+use std::alloc::{AllocError, Global};
+
+/// An expression that is resolved as far as it can be without its place.
+#[derive(Drop)]
+pub enum Resolution {
+    /// Of literals without a type alone, which wait for the type that their place offers.
+    Untyped(Expr),
+    /// Resolved, with its elementary or enumerated type, where it has one.
+    Typed(Option<Kind>, Expr),
+}
+
+/// Whether the expression waits for its place.
+pub fn is_left(resolution: &Resolution) -> bool
+    ensures { result ≡ is_left resolution.now }
+{
+    matches!(resolution, Resolution::Untyped(_))
+}
+
+/// The type that the expression has by itself.
+pub fn kind_told(resolution: &Resolution) -> Option<Kind>
+    ensures { result ≡ kind_told resolution.now }
+{
+    match resolution {
+        Resolution::Untyped(_) => None,
+        Resolution::Typed(kind, _) => *kind,
+    }
+}
+
+/// The expression as far as it is resolved.
+pub fn into_tree(resolution: Resolution) -> Expr
+    ensures { expr_view result ≡ tree_told resolution }
+{
+    match resolution {
+        Resolution::Untyped(expression) => expression,
+        Resolution::Typed(_, expression) => expression,
+    }
+}
+
+/// The expression at a place that offers a type.
+pub fn at_place(
+    alloc: Global,
+    offered: Option<Kind>,
+    resolution: Resolution,
+) -> Result<Expr, AllocError>
+    ensures { IfOk result (λ x. (env : Environment) (e : tree.Expr) → Resolves env e resolution
+        → expr_view x ≡ resolved_expr env.text env.unit offered e) }
+{
+    match resolution {
+        Resolution::Untyped(expression) => settled(alloc, offered, expression),
+        Resolution::Typed(_, expression) => Ok(expression),
+    }
+}

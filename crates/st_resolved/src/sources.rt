@@ -1,0 +1,72 @@
+//! Whole texts.
+
+ghost use Rattle.std.specs.Prelude.{◌≡◌, IfOk, map};
+ghost use Rattle.st_trees.specs.SourceViews.{element_view, source_view};
+ghost use Rattle.st_types.specs.NameTypes.{Declared};
+ghost use Rattle.st_types.specs.ResolvedUnits.{resolved_element_of_text, resolved_source};
+ghost use Rattle.st_names.specs.Fields.{ServesFields};
+ghost use Rattle.st_names.specs.Tables.{ServesTables};
+
+use crate::declarations::resolved_types;
+use crate::globals::resolved_configuration;
+use crate::units::resolved_unit;
+use st_decl::{types_in, units_in};
+use st_names::{FieldNames, TextNames, TextTables};
+use st_trees::{LibraryElement, Source};
+use std::alloc::{AllocError, Global};
+
+fn resolved_element<'a>(
+    alloc: Global,
+    tables: &TextTables<'a>,
+    fields: &FieldNames<'a>,
+    element: &'a LibraryElement,
+) -> Result<LibraryElement, AllocError>
+    ensures { IfOk result (λ e. (text : Declared) → ServesTables tables.now text → ServesFields fields.now text
+        → element_view e ≡ resolved_element_of_text text (element_view element.now)) }
+{
+    match element {
+        LibraryElement::Types(types) => {
+            let types = resolved_types(alloc, tables, fields, types)?;
+            Ok(LibraryElement::Types(types))
+        }
+        LibraryElement::Unit(unit) => {
+            let unit = resolved_unit(alloc, tables, fields, unit)?;
+            Ok(LibraryElement::Unit(unit))
+        }
+        LibraryElement::Configuration(declared) => {
+            let declared = resolved_configuration(alloc, tables, fields, declared)?;
+            Ok(LibraryElement::Configuration(declared))
+        }
+    }
+}
+
+fn resolved_elements<'a>(
+    alloc: Global,
+    tables: &TextTables<'a>,
+    fields: &FieldNames<'a>,
+    elements: &'a [LibraryElement],
+) -> Result<Vec<LibraryElement>, AllocError>
+    ensures { IfOk result (λ list. (text : Declared) → ServesTables tables.now text → ServesFields fields.now text
+        → map element_view list.items ≡ map (resolved_element_of_text text) (map element_view elements.now)) }
+{
+    let mut resolved = Vec::new(alloc);
+    for element in elements {
+        resolved.push(resolved_element(alloc, tables, fields, element)?)?;
+    }
+    Ok(resolved)
+}
+
+/// The resolved tree of a text, whatever the text: the tree of its parse, in which each literal has its type and each
+/// name of a value of an enumerated type is a number of its type. It fails for want of memory alone; a type with more
+/// names than its rule allows may count as that.
+pub fn resolved_source(alloc: Global, source: &Source) -> Result<Source, AllocError>
+    ensures { IfOk result (λ s. source_view s ≡ resolved_source (source_view source.now)) }
+{
+    let names = TextNames::new(alloc, source)?;
+    let types = types_in(alloc, source)?;
+    let units = units_in(alloc, source)?;
+    let tables = TextTables::new(alloc, names, &types, &units)?;
+    let fields = FieldNames::new(alloc, &types)?;
+    let elements = resolved_elements(alloc, &tables, &fields, &source.elements)?;
+    Ok(Source { elements })
+}
