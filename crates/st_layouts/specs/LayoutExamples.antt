@@ -30,8 +30,8 @@ use Rattle.st_trees.specs.declared.unit.UnitSort.TheVariants as sorts
 use Rattle.st_trees.specs.Declarations.{Field, TypeDeclaration, Declaration, VariableBlock}
 use Rattle.st_trees.specs.Declarations as declarations
 use Rattle.st_trees.specs.Configurations.{GlobalDeclaration, GlobalBlock, Resource, Configuration, listed, located}
-use Rattle.st_trees.specs.Initials.{Initial, constant, list, structure, Element, repeated, defaults, elements_of}
-use Rattle.st_trees.specs.Initials.{members_of}
+use Rattle.st_trees.specs.Initials.{Initial, constant, list, structure, Element, single, repeated, defaults}
+use Rattle.st_trees.specs.Initials.{elements_of, members_of}
 use Rattle.st_trees.specs.Statements.{Stmt}
 use Rattle.st_trees.specs.Units.{OrganisationUnit}
 use Rattle.st_trees.specs.Sources.{Source}
@@ -57,6 +57,13 @@ array_of m n element = types.Array (bounds m n element)
 abbrev pub array_from_below : ℕ → ℕ → SimpleType → VariableType
 array_from_below m n element =
     types.Array (record (bounds m n element) { lower = record (plain_number None m) { is_negative = true } })
+
+-- ARRAY [-m..-n] OF a type
+abbrev pub array_below : ℕ → ℕ → SimpleType → VariableType
+array_below m n element = types.Array (record (bounds m n element) {
+  lower = record (plain_number None m) { is_negative = true };
+  upper = record (plain_number None n) { is_negative = true };
+})
 
 abbrev pub named : Name → SimpleType
 named x = Named (identifier x)
@@ -260,6 +267,36 @@ instances_of_no_program = text_of [] (fb ∷ one_variable ∷ []) (configured []
     ∷ instance (codes "F") (codes "FB")
     ∷ instance (codes "N") (codes "NOTHING")
     ∷ []) ∷ []))
+
+-- FUNCTION_BLOCK F0 END_FUNCTION_BLOCK, and a block of this name with VAR a : t; b : t; END_VAR
+abbrev pub empty_block : OrganisationUnit
+empty_block = unit_with sorts.FunctionBlock (codes "F0") [] []
+
+abbrev pub block_of_two : Name → Name → OrganisationUnit
+block_of_two x t = unit_with sorts.FunctionBlock x (variables_in (sections.Local None)
+    (without_initial (codes "A") (of_type t) ∷ without_initial (codes "B") (of_type t) ∷ []) ∷ []) []
+
+-- F1 with two instances of F0, F2 with two of F1; PROGRAM Pr VAR f : F2; END_VAR END_PROGRAM
+-- PROGRAM Qr VAR k : ARRAY [-3..-2] OF INT := [4]; END_VAR END_PROGRAM
+-- VAR_GLOBAL RETAIN a, b : INT := 3; END_VAR, the instances Q of Qr and P of Pr on R, and P of Qr on S
+abbrev pub order_of_a_text : Source
+order_of_a_text = text_of [] (
+    empty_block
+    ∷ block_of_two (codes "F1") (codes "F0")
+    ∷ block_of_two (codes "F2") (codes "F1")
+    ∷ program_with (variables_in (sections.Local None) (without_initial (codes "F") (of_type (codes "F2")) ∷ []) ∷ [])
+    ∷ unit_with sorts.Program (codes "QR") (variables_in (sections.Local None)
+    (with_initial (codes "K") (array_below 3 2 (Elementary Int 0)) (listing (single (amount 4) ∷ [])) ∷ []) ∷ []) []
+    ∷ []) (configured (
+    globals_of (Some qualifiers.Retain) (record {
+      names = listed (identifier (codes "A") ∷ identifier (codes "B") ∷ []);
+      declared = plain Int;
+      initial = Some (amount 3);
+    } ∷ [])
+    ∷ []) (
+    resource (codes "R") (instance (codes "Q") (codes "QR") ∷ instance (codes "P") (codes "PR") ∷ [])
+    ∷ resource (codes "S") (instance (codes "P") (codes "QR") ∷ [])
+    ∷ []))
 
 -- TYPE Point : STRUCT x : INT; y : INT; END_STRUCT; END_TYPE
 -- FUNCTION_BLOCK Words VAR_INPUT RETAIN a : INT; END_VAR VAR_OUTPUT NON_RETAIN b : INT; END_VAR

@@ -3,6 +3,7 @@
 ghost use Rattle.std.specs.Prelude.{◌≡◌, ◌∷◌, [], true, false, map, length, None, codes};
 ghost use Rattle.st_words.specs.declared.kind.Kind.TheVariants.{Int, Time, Word, Bool as Boolean};
 ghost use Rattle.st_layouts.specs.TextLayouts.{instances_of_text, slots_of_text, plan_variables_of_text};
+ghost use Rattle.st_layouts.specs.TextLayouts.{plan_inputs_of_text, initial_image};
 ghost use Rattle.st_layouts.specs.LayoutExamples.{instances_of_blocks, block_in_a_block, input_between_globals};
 ghost use Rattle.st_layouts.specs.LayoutExamples.{unconfigured, configured_twice, instances_of_no_program};
 ghost use Rattle.st_layouts.specs.Names.{has_different_names};
@@ -10,6 +11,8 @@ ghost use Rattle.st_layouts.specs.LayoutExamples.{plain, without_initial, variab
 ghost use Rattle.st_layouts.specs.LayoutExamples.{configured, resource, instance, globals_of, global};
 ghost use Rattle.st_layouts.specs.LayoutExamples.{result_and_variable, adder_configuration};
 ghost use Rattle.st_layouts.specs.LayoutExamples.{words_of_retention, types_that_are_none, adding, text_in, lines_of};
+ghost use Rattle.st_layouts.specs.LayoutExamples.{order_of_a_text};
+ghost use Rattle.st_layouts.specs.LibraryExamples.{shown};
 ghost use Rattle.st_layouts.specs.InitialExamples.{one_deep_variable};
 ghost use Rattle.st_layouts.specs.LayoutExamples.{retentions_in, values_in, slots_in, inputs_in, int, datum};
 
@@ -91,7 +94,19 @@ pub fn an_input_between_globals()
         ≡ (codes "A", true) ∷ (codes "Q", false) ∷ (codes "N", false) ∷ (codes "W[0]", false)
         ∷ (codes "W[1]", false) ∷ (codes "R/P.K", false) ∷ (codes "R/Q.K", false) ∷ (codes "S/P.K", false) ∷ [] }
     ensures inputs { inputs_in input_between_globals ≡ (codes "X", Boolean) ∷ [] }
+    ensures image { shown (initial_image (plan_inputs_of_text input_between_globals))
+        ≡ (codes "X", datum Boolean 0) ∷ [] }
     ensures instances { instances_of_text input_between_globals ≡ 0 }
+{}
+
+/// The names of one declaration stand in their order, and so do resources and instances, whatever the order of their
+/// programs; subscripts below 0 ascend. An instance of a block without variables has no path, and is one.
+#[tactic(auto, unfolding(crate::specs::Types::shape_within, st_types::specs::StandardBlocks::block_of))]
+pub fn a_text_in_order()
+    ensures values { values_in order_of_a_text ≡ (codes "A", int 3) ∷ (codes "B", int 3)
+        ∷ (codes "R/Q.K[-3]", int 4) ∷ (codes "R/Q.K[-2]", int 0)
+        ∷ (codes "S/P.K[-3]", int 4) ∷ (codes "S/P.K[-2]", int 0) ∷ [] }
+    ensures instances { instances_of_text order_of_a_text ≡ 7 }
 {}
 
 /// A text without exactly one configuration has no path, and an instance of what is no program has none.

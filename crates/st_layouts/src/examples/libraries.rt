@@ -9,7 +9,7 @@ ghost use Rattle.st_types.specs.CallExamples.{dotted, giving, copying, invoked};
 ghost use Rattle.st_types.specs.Examples.{identifier, name, number, set};
 ghost use Rattle.st_types.specs.Scopes.{function_in, block_in};
 ghost use Rattle.st_layouts.specs.Libraries.{library_of_text, programs_of_text};
-ghost use Rattle.st_layouts.specs.LayoutExamples.{int, datum, instances_of_no_program};
+ghost use Rattle.st_layouts.specs.LayoutExamples.{int, datum, instances_of_no_program, order_of_a_text};
 ghost use Rattle.st_layouts.specs.LibraryExamples.{text_of_calls, shown, owners_in};
 
 /// A function has its inputs in order, and starts with its result and all variables at their initial values.
@@ -54,6 +54,11 @@ pub fn programs_of_instances()
         ≡ (codes "R", codes "P") ∷ (codes "R", codes "Q") ∷ [] }
     // an instance of a block, and one of what is not there, have none
     ensures no_programs { owners_in instances_of_no_program ≡ (codes "R", codes "P") ∷ [] }
+    // by resources in order, each with its own program
+    ensures in_order { owners_in order_of_a_text
+        ≡ (codes "R", codes "Q") ∷ (codes "R", codes "P") ∷ (codes "S", codes "P") ∷ [] }
+    ensures programs { map (λ p. p.body.instances) (programs_of_text order_of_a_text)
+        ≡ [] ∷ ((codes "F", codes "F2") ∷ []) ∷ [] ∷ [] }
     ensures bodies { map (λ p. p.body) (programs_of_text text_of_calls)
         ≡ replicate 2 record {
           externals = codes "G" ∷ codes "H" ∷ [];
