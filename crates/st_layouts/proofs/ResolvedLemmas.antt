@@ -48,7 +48,7 @@ use Rattle.st_layouts.specs.LayoutVariables.{Owned, owned_variable, global_varia
 use Rattle.st_layouts.specs.LayoutVariables.{variables_of_names, variables_of_declarations, retention_of_globals}
 use Rattle.st_layouts.specs.LayoutVariables.{variables_of_globals, sites_of_program, program_sites, owner_in}
 use Rattle.st_layouts.specs.LayoutVariables.{variables_of_instances, variables_of_resources, configurations_in}
-use Rattle.st_layouts.specs.LayoutVariables.{only_configuration, variables_of_configuration}
+use Rattle.st_layouts.specs.LayoutVariables.{only_configuration, variables_of_configuration, configuration_of}
 use Rattle.st_layouts.specs.TextLayouts.{further, slots_of_variable, slots_of, slots_of_text}
 use Rattle.st_layouts.proofs.StoreLemmas.{map_append}
 
@@ -459,7 +459,7 @@ module _ (text : Declared) where
       (variables_of_resources (taken_text text) rs) (variables_of_instances text r.name.name r.instances)
       (variables_of_resources text rs) (taken_instances r.name.name r.instances) (taken_resources rs)
 
-  abbrev taken_configuration : Configuration → Configuration
+  abbrev pub taken_configuration : Configuration → Configuration
   taken_configuration c = record c { globals = map (resolved_globals text) c.globals }
 
   taken_layout : (o : Option Configuration)
@@ -503,6 +503,12 @@ module _ (text : Declared) where
   only_taken (c ∷ []) = refl
   only_taken (c ∷ d ∷ cs) = refl
 
+pub configuration_taken : (source : Source) → configuration_of source
+    ≡ option_map (taken_configuration (declared_in source)) (only_configuration (configurations_in source))
+configuration_taken source =
+    ap only_configuration (configurations_taken (declared_in source) source)
+    ∙ only_taken (declared_in source) (configurations_in source)
+
 pub slots_taken : (source : Source) → slots_of_text source
     ≡ slots_of (declared_in source)
     (variables_of_configuration (declared_in source) (only_configuration (configurations_in source)))
@@ -511,7 +517,7 @@ slots_taken source =
     let c = only_configuration (configurations_in source) in
     ap₂ (λ t o. slots_of t (variables_of_configuration t o))
     (ap₂ (λ ts us. record { types = ts; units = us }) (types_taken text source) (units_taken text source))
-    (ap only_configuration (configurations_taken text source) ∙ only_taken text (configurations_in source))
+    (configuration_taken source)
     ∙ slots_are (taken_text text)
     (variables_of_configuration (taken_text text) (option_map (taken_configuration text) c))
     ∙ ap (slots_by (taken_text text)) (taken_layout text c)

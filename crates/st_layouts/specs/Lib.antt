@@ -9,3 +9,4 @@ pub mod LayoutExamples
 pub mod Standing
 pub mod InitialExamples
 pub mod LibraryExamples
+pub mod PartExamples

@@ -20,3 +20,5 @@ pub mod ExternalNames
 pub mod GlobalVariables
 pub mod GlobalHomes
 pub mod GrammarFunctions
+pub mod GivenPrograms
+pub mod RunsAlike

@@ -46,6 +46,13 @@ LibrariesAreOfTexts =
 abbrev pub program_given : Source → Owner → OrganisationUnit → Program
 program_given source owner u = program_of_unit (declared_of source) owner (resolved (declared_in source) u)
 
+-- the program of an instance of the configuration
+pub record IsProgramOf (source : Source) (c : Configuration) (p : Program) : Type 0 where
+  pub owner : Owner
+  pub unit : OrganisationUnit
+  pub instance : IsInstanceOf (declared_in source) c owner unit
+  pub is : p ≡ program_given source owner unit
+
 -- a run of an instance's program, whose text breaks no rule, in a configuration whose globals its externals stand for, at
 -- a moment that a TIME may tell
 pub record IsWellTypedRun (source : Source) (owner : Owner) (u : OrganisationUnit) (now : ℕ) : Type 0 where

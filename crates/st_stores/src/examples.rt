@@ -4,6 +4,7 @@ ghost use Rattle.std.specs.Prelude.{codes};
 ghost use Rattle.st_types.specs.Scopes.{Scope, of_program};
 ghost use Rattle.st_layouts.specs.LayoutExamples.{adder, adding};
 ghost use Rattle.st_layouts.specs.LibraryExamples.{main};
+ghost use Rattle.st_layouts.specs.PartExamples.{over_parts, text_of_parts};
 ghost use Rattle.st_stores.specs.Homes.{RunsIn, IsProgramRun};
 ghost use Rattle.st_stores.specs.RunExamples.{calls_and_globals};
 ghost use Rattle.st_stores.specs.WellTypedRuns.{IsWellTypedRun};
@@ -19,4 +20,10 @@ pub fn a_run_of_a_program()
 /// well-typed runs asks is so.
 pub fn a_well_typed_run()
     ensures { IsWellTypedRun calls_and_globals record { resource = codes "R"; instance = codes "P" } main 0 }
+{}
+
+/// A program with a loop over elements and fields, values of an enumerated type, instances of a block and of a timer, a
+/// function and an input of the plant: all that the law of well-typed runs asks is so.
+pub fn a_well_typed_run_over_parts()
+    ensures { IsWellTypedRun text_of_parts record { resource = codes "R"; instance = codes "P" } over_parts 5 }
 {}

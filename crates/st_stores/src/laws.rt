@@ -1,6 +1,6 @@
 //! Laws of stores over the slots of a layout.
 
-ghost use Rattle.std.specs.Prelude.{◌≡◌, List, [], ◌∷◌, map, Option, Some, None, true, false, is_some, ◌+◌};
+ghost use Rattle.std.specs.Prelude.{◌≡◌, ℕ, List, [], ◌∷◌, map, Option, Some, None, true, false, is_some, ◌+◌};
 ghost use Rattle.st_words.specs.Values.{Datum};
 ghost use Rattle.st_words.specs.Paths.{Path};
 ghost use Rattle.st_trees.specs.declared.data_type.SimpleType.{SimpleType};
@@ -12,7 +12,9 @@ ghost use Rattle.st_trees.specs.Units.{OrganisationUnit};
 ghost use Rattle.st_trees.specs.Sources.{Source};
 ghost use Rattle.st_statements.specs.Tokens.{Tokens};
 ghost use Rattle.st_parse.specs.Sources.{IsSource};
+ghost use Rattle.st_types.specs.Failures.{StandIns};
 ghost use Rattle.st_types.specs.NameTypes.{Declared, declared_in, unit_named};
+ghost use Rattle.st_types.specs.Runs.{Program, ran_where};
 ghost use Rattle.st_types.specs.StandardBlocks.{block_of};
 ghost use Rattle.st_types.specs.Scopes.{Name, Scope, of_program, of_block, of_call};
 ghost use Rattle.st_types.specs.Slots.{IsLayout, variables_in, inputs_in};
@@ -23,14 +25,15 @@ ghost use Rattle.st_layouts.specs.LayoutVariables.{configurations_in, only_confi
 ghost use Rattle.st_statics.specs.TwiceDeclared.{twice_declared};
 ghost use Rattle.st_statics.specs.Containment.{part_of_type, has_chain};
 ghost use Rattle.st_statics.specs.declared.limits.TheConstants.{MAX_TYPE_DEPTH};
-ghost use Rattle.st_layouts.specs.Libraries.{result_site};
+ghost use Rattle.st_layouts.specs.Libraries.{result_site, programs_of_text};
 ghost use Rattle.st_layouts.specs.Types.{sites_of_blocks, instance_of, is_within_depth};
 ghost use Rattle.st_layouts.specs.Names.{are_types_and_units_different, is_configuration_different};
 ghost use Rattle.st_layouts.specs.TextLayouts.{slots_of, slots_of_text};
 ghost use Rattle.st_layouts.specs.Standing.{are_declared_once};
 ghost use Rattle.st_stores.specs.Homes.{HasHomes, are_names_different, AreValuesOf, IsInstanceOf, IsGrounded};
-ghost use Rattle.st_stores.specs.Homes.{RunsIn, environment_of, IsProgramRun, IsHome};
+ghost use Rattle.st_stores.specs.Homes.{RunsIn, environment_of, IsProgramRun, IsHome, IsAmong};
 ghost use Rattle.st_stores.specs.WellTypedRuns.{HaveFunctionsNoExternals, LibrariesAreOfTexts, RunsStand, RunsAreSound};
+ghost use Rattle.st_stores.specs.WellTypedRuns.{program_given, IsProgramOf, IsWellTypedRun};
 
 /// Where the names of a unit stand for parts of a layout, each place of the unit that has an elementary or enumerated
 /// type has a value of it, over all values of the layout's slots that are of their types.
@@ -116,4 +119,25 @@ pub fn runs_stand_in_their_layout()
 /// with a fault of the run that no stand-in tells. It keeps the variables with their types.
 pub fn runs_over_their_layout_are_sound()
     ensures { RunsAreSound }
+{}
+
+/// So what stands for what no well-typed text meets is never told: whatever it is, the run is the same.
+pub fn runs_hang_on_no_stand_in()
+    ensures { (source : Source) (owner : Owner) (u : OrganisationUnit) (vs : List Datum) (now budget : ℕ)
+        (i j : StandIns) → AreValuesOf (slots_of_text source) vs → IsWellTypedRun source owner u now
+        → ran_where i (program_given source owner u) (inputs_in (slots_of_text source) vs) now budget
+        (variables_in (slots_of_text source) vs)
+        ≡ ran_where j (program_given source owner u) (inputs_in (slots_of_text source) vs) now budget
+        (variables_in (slots_of_text source) vs) }
+{}
+
+/// The programs of a text, which its plan runs, are those of the instances of its configuration, of which the laws on
+/// runs speak.
+pub fn programs_of_a_text_are_of_its_instances()
+    ensures each { (source : Source) (c : Configuration) (owner : Owner) (u : OrganisationUnit)
+        → only_configuration (configurations_in source) ≡ Some c → IsInstanceOf (declared_in source) c owner u
+        → IsAmong (program_given source owner u) (programs_of_text source) }
+    ensures no_other { (source : Source) (c : Configuration) (p : Program)
+        → only_configuration (configurations_in source) ≡ Some c → IsAmong p (programs_of_text source)
+        → IsProgramOf source c p }
 {}
