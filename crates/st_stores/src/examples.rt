@@ -23,7 +23,8 @@ pub fn a_well_typed_run()
 {}
 
 /// A program with a loop over elements and fields, values of an enumerated type, instances of a block and of a timer, a
-/// function and an input of the plant: all that the law of well-typed runs asks is so.
+/// function and an input of the plant, at the greatest moment of a row: all that the law of well-typed runs asks is so.
 pub fn a_well_typed_run_over_parts()
-    ensures { IsWellTypedRun text_of_parts record { resource = codes "R"; instance = codes "P" } over_parts 5 }
+    ensures { IsWellTypedRun text_of_parts record { resource = codes "R"; instance = codes "P" } over_parts
+        4611686018427387903 }
 {}
