@@ -21,4 +21,5 @@ pub mod GlobalVariables
 pub mod GlobalHomes
 pub mod GrammarFunctions
 pub mod GivenPrograms
-pub mod RunsAlike
+pub mod SameRuns
+pub mod OverSlots

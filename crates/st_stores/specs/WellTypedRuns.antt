@@ -14,7 +14,8 @@ use Rattle.st_types.specs.NameTypes.{declared_in, unit_named}
 use Rattle.st_types.specs.ResolvedUnits.{resolved}
 use Rattle.st_types.specs.Runs.{Program, ran_where}
 use Rattle.st_types.specs.Scopes.{Name}
-use Rattle.st_types.specs.Slots.{variables_in, inputs_in}
+use Rattle.st_types.specs.Slots.{Slot, variables_in, inputs_in}
+use Rattle.st_types.specs.Stores.{Store}
 use Rattle.st_statics.specs.ConfigurationRules.{has_known_externals}
 use Rattle.st_statics.specs.Rules.{IsWellTyped}
 use Rattle.st_sound.specs.Soundness.{Alike}
@@ -64,6 +65,13 @@ pub record IsWellTypedRun (source : Source) (owner : Owner) (u : OrganisationUni
   pub externals : list_all (has_known_externals (declared_in source) configuration.globals) (declared_in source).units
       ≡ true
   pub functions : HaveFunctionsNoExternals source
+
+-- a store and an image that are values of slots
+pub record AreOver (layout : List Slot) (image s : Store) : Type 0 where
+  pub values : List Datum
+  pub are : AreValuesOf layout values
+  pub variables : variables_in layout values ≡ s
+  pub inputs : inputs_in layout values ≡ image
 
 -- Over any values of the layout's slots, of their types, the variables of such a run stand.
 abbrev pub RunsStand : Type 0

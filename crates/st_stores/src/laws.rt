@@ -17,7 +17,8 @@ ghost use Rattle.st_types.specs.NameTypes.{Declared, declared_in, unit_named};
 ghost use Rattle.st_types.specs.Runs.{Program, ran_where};
 ghost use Rattle.st_types.specs.StandardBlocks.{block_of};
 ghost use Rattle.st_types.specs.Scopes.{Name, Scope, of_program, of_block, of_call};
-ghost use Rattle.st_types.specs.Slots.{IsLayout, variables_in, inputs_in};
+ghost use Rattle.st_types.specs.Slots.{Slot, IsLayout, variables_in, inputs_in};
+ghost use Rattle.st_types.specs.Stores.{Store, shape_of, all_held};
 ghost use Rattle.st_statics.specs.Environments.{Environment};
 ghost use Rattle.st_sound.specs.Soundness.{Agrees};
 ghost use Rattle.st_layouts.specs.LayoutVariables.{Owned, owned_variable, variables_of_configuration};
@@ -28,12 +29,12 @@ ghost use Rattle.st_statics.specs.declared.limits.TheConstants.{MAX_TYPE_DEPTH};
 ghost use Rattle.st_layouts.specs.Libraries.{result_site, programs_of_text};
 ghost use Rattle.st_layouts.specs.Types.{sites_of_blocks, instance_of, is_within_depth};
 ghost use Rattle.st_layouts.specs.Names.{are_types_and_units_different, is_configuration_different};
-ghost use Rattle.st_layouts.specs.TextLayouts.{slots_of, slots_of_text};
+ghost use Rattle.st_layouts.specs.TextLayouts.{slots_of, slots_of_text, variable_slots, input_slots, types_of_slots};
 ghost use Rattle.st_layouts.specs.Standing.{are_declared_once};
 ghost use Rattle.st_stores.specs.Homes.{HasHomes, are_names_different, AreValuesOf, IsInstanceOf, IsGrounded};
 ghost use Rattle.st_stores.specs.Homes.{RunsIn, environment_of, IsProgramRun, IsHome, IsAmong};
 ghost use Rattle.st_stores.specs.WellTypedRuns.{HaveFunctionsNoExternals, LibrariesAreOfTexts, RunsStand, RunsAreSound};
-ghost use Rattle.st_stores.specs.WellTypedRuns.{program_given, IsProgramOf, IsWellTypedRun};
+ghost use Rattle.st_stores.specs.WellTypedRuns.{program_given, IsProgramOf, IsWellTypedRun, AreOver};
 
 /// Where the names of a unit stand for parts of a layout, each place of the unit that has an elementary or enumerated
 /// type has a value of it, over all values of the layout's slots that are of their types.
@@ -42,6 +43,15 @@ pub fn values_of_slots_agree()
         → are_names_different env.text ≡ true → are_declared_once env.text variables ≡ true
         → AreValuesOf (slots_of env.text variables) vs → w.image ≡ inputs_in (slots_of env.text variables) vs
         → HasHomes env variables w → Agrees env w (variables_in (slots_of env.text variables) vs) }
+{}
+
+/// A store of a layout's paths with values of their types, beside such an image of its inputs, is one of values of its
+/// slots. So the laws on values of slots speak of the initial variables, and of all that runs make of them: a run keeps
+/// the paths and types of its variables.
+pub fn stores_of_a_layout_are_values_of_its_slots()
+    ensures { (layout : List Slot) (image s : Store) → shape_of s ≡ types_of_slots (variable_slots layout)
+        → shape_of image ≡ types_of_slots (input_slots layout) → all_held s ≡ true → all_held image ≡ true
+        → AreOver layout image s }
 {}
 
 /// The names of a program's body stand for the variables of its instance and for globals: where names differ, no type

@@ -14,5 +14,6 @@ pub use laws::{
     names_differ_where_none_is_declared_twice, programs_agree_with_their_layout,
     programs_of_a_text_are_of_its_instances, programs_stand_in_their_layout,
     runs_hang_on_no_stand_in, runs_over_their_layout_are_sound, runs_stand_in_their_layout,
-    types_without_long_chains_are_within_depth, values_of_slots_agree,
+    stores_of_a_layout_are_values_of_its_slots, types_without_long_chains_are_within_depth,
+    values_of_slots_agree,
 };

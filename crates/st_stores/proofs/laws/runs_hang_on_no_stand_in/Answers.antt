@@ -3,7 +3,7 @@ use Rattle.st_types.specs.Slots.{variables_in, inputs_in}
 use Rattle.st_sound.specs.UnitSoundness.{LeavesKept}
 use Rattle.st_layouts.specs.TextLayouts.{slots_of_text}
 use Rattle.st_stores.specs.WellTypedRuns.{program_given}
-use Rattle.st_stores.proofs.RunsAlike.{alike_same}
+use Rattle.st_stores.proofs.SameRuns.{alike_same}
 use Rattle.st_stores.proofs.WellTypedRunLaw.{runs_are_sound}
 use Rattle.st_stores.proofs.laws.runs_hang_on_no_stand_in.Goals as goal
 
