@@ -26,7 +26,8 @@
 //! | `last`, `end`, `deep`, `memory` | how that refusal is told |
 //! | `depth FORM` | how deep the tree of that form is that the text is |
 //! | `same FORM` | whether the two texts with ` // ` between them have one tree of that form |
-//! | `rules` | the broken rule of the text, or that there is none |
+//! | `declared` | a rule on declarations that the text breaks, or that there is none |
+//! | `checked` | a rule that the text breaks, or that there is none |
 
 use crate::answer::Answer;
 use crate::kinds::write_kind;
@@ -48,7 +49,9 @@ use std::alloc::{AllocError, Global};
 /// What is answered of the tokens of a text.
 fn part(out: &mut Answer, alloc: Global, word: &str, tokens: &[Token]) {
     match word {
-        "source" | "declarations" | "rules" => shown_source(out, alloc, word, tokens),
+        "source" | "declarations" | "declared" | "checked" => {
+            shown_source(out, alloc, word, tokens)
+        }
         "expression" => shown_expression(out, alloc, tokens),
         "initial" => shown_initial(out, alloc, tokens),
         "number" => shown_number(out, tokens),

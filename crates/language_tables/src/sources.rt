@@ -2,10 +2,10 @@
 
 use crate::answer::Answer;
 use crate::shown_sources::declarations;
+use st_check::check;
 use st_decl::declare;
 use st_lex::{LexError, LexFault, Token, lex};
 use st_parse::{ParseError, parse};
-use st_rules::broken_rule;
 use st_trees::{LibraryElement, Source};
 use std::alloc::Global;
 
@@ -19,13 +19,18 @@ fn is_configured(source: &Source) -> bool {
     false
 }
 
-/// The broken rule of a source, or that there is none; those on declarations come first.
-fn broken(out: &mut Answer, alloc: Global, source: &Source) {
+/// A broken rule on the declarations of a source, or that there is none.
+fn declared(out: &mut Answer, alloc: Global, source: &Source) {
     match declare(alloc, source) {
-        Ok(()) => match broken_rule(source) {
-            Some(rule) => out.show(&rule),
-            None => out.put("none"),
-        },
+        Ok(()) => out.put("none"),
+        Err(error) => out.show(&error),
+    }
+}
+
+/// A broken rule of a source, or that there is none.
+fn checked(out: &mut Answer, alloc: Global, source: Source) {
+    match check(alloc, source) {
+        Ok(_) => out.put("none"),
         Err(error) => out.show(&error),
     }
 }
@@ -33,7 +38,8 @@ fn broken(out: &mut Answer, alloc: Global, source: &Source) {
 /// What is answered of the source that the tokens are, or why they are none.
 pub fn shown_source(out: &mut Answer, alloc: Global, word: &str, tokens: &[Token]) {
     match parse(alloc, tokens) {
-        Ok(source) if word == "rules" => broken(out, alloc, &source),
+        Ok(source) if word == "declared" => declared(out, alloc, &source),
+        Ok(source) if word == "checked" => checked(out, alloc, source),
         Ok(source) if word == "declarations" => declarations(out, &source),
         Ok(source) => {
             out.show(&source.elements.len());
