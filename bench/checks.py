@@ -75,8 +75,8 @@ def arguments(count):
     inputs = each(count, lambda k: f"i{k} : INT; ")
     given = ",".join(f"i{k} := {k % 9}" for k in reversed(range(count)))
     return (
-        f"FUNCTION f : INT VAR_INPUT {inputs}END_VAR f := 1; END_FUNCTION "
-        f"PROGRAM p VAR x : INT; END_VAR x := f({given}); END_PROGRAM"
+        f"FUNCTION_BLOCK b VAR_INPUT {inputs}END_VAR END_FUNCTION_BLOCK "
+        f"PROGRAM p VAR x : b; END_VAR x({given}); END_PROGRAM"
     )
 
 

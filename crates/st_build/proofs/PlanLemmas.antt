@@ -36,6 +36,7 @@ use Rattle.st_build.specs.declared.build_error.BuildError.TheVariants as errors
 use Rattle.st_types.specs.ResolvedUnits.{resolved_source}
 use Rattle.st_statics.specs.declared.rule.Broken.{Broken}
 use Rattle.st_statics.specs.Rules.{broken, Breaks, IsWellTyped}
+use Rattle.st_check.specs.Checked.{IsCheckedFrom}
 use Rattle.st_build.specs.TextParts.{configurations_in, has_types, IsNotConfigured}
 use Rattle.st_build.specs.Refusals.{HasGlobals, HasTooManyPaths, HasThinRecordTooLong}
 use Rattle.st_build.specs.Plans.{MeetsRules, HasPrograms, IsPlanFrom, IsPlanOfTree, IsPlanOf, IsUnsupported, IsBeyond}
@@ -334,6 +335,22 @@ ok_more P Q (Err e) f h = h
 pub err_more : {A E : Type 0} (P Q : E → Type 0) (r : Result A E) → ((x : E) → P x → Q x) → IfErr r P → IfErr r Q
 err_more P Q (Ok x) f h = h
 err_more P Q (Err e) f h = f e h
+
+-- what there is of a resolved tree is so of the text that was checked
+pub plan_of_checked : (source tree : Source) (budget : ℕ) (r : Result Plan BuildError) → IsCheckedFrom source tree
+    → IfOk r (λ p. IsPlanOfTree tree budget (plan_view p)) → IfOk r (λ p. IsPlanOf source budget (plan_view p))
+plan_of_checked source tree budget r from h =
+    ok_more (λ p. IsPlanOfTree tree budget (plan_view p)) (λ p. IsPlanOf source budget (plan_view p)) r
+    (λ p is. record {
+      well_typed = from.well_typed;
+      of_tree = subst (λ t. IsPlanOfTree t budget (plan_view p)) from.resolved is;
+    }) h
+
+pub lacks_of_checked : (source tree : Source) (budget : ℕ) (r : Result Plan BuildError) → IsCheckedFrom source tree
+    → IfErr r (λ e. TreeLacksPlan tree budget e) → IfErr r (λ e. SourceLacksPlan source budget e)
+lacks_of_checked source tree budget r from h =
+    err_more (λ e. TreeLacksPlan tree budget e) (λ e. SourceLacksPlan source budget e) r
+    (λ e is. lacks_of_tree source budget e from.well_typed (subst (λ t. TreeLacksPlan t budget e) from.resolved is)) h
 
 -- the plan of a text is given, unless memory ran out
 pub plan_given : (source : Source) (budget : ℕ) (plan : plans.Plan) (r : Result Plan BuildError)
