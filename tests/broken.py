@@ -4,12 +4,15 @@
 Each is accepted, or refused with one fault line and the status of its kind; a place lies inside the text, and a retain file that was
 there stays as it was. Nothing crashes.
 
-usage: tests/broken.py PLANT [TEXTS [PLANTS [STORES]]]     PLANT is the built program; 2000, 500 and 500 where no numbers are given
+Of the texts most are of the whole language; none takes more than a second of the processor.
+
+usage: tests/broken.py PLANT [TEXTS [PLANTS [STORES]]]     PLANT is the built program; 4000, 500 and 500 where no numbers are given
 """
 import os
 import pathlib
 import random
 import re
+import resource
 import subprocess
 import sys
 import tempfile
@@ -17,10 +20,18 @@ import tempfile
 TOKEN = re.compile(r"\(\*.*?\*\)|[A-Za-z0-9_#%]+|:=|=>|\.\.|<=|>=|<>|\S", re.DOTALL)
 FAULT = re.compile(r"fault ([A-Z])([0-9]+)(?: at ([0-9]+))?\n")
 ROOT = pathlib.Path(__file__).resolve().parent.parent
+# texts of the whole language, from which three of four broken ones are made
+WHOLE = ("conveyor.st", "recipe.st")
 
 
 def fail(what, told):
     sys.exit(f"broken.py: {what}: {told}")
+
+
+def spent():
+    """Seconds of the processor that the programs have taken that ended until now."""
+    used = resource.getrusage(resource.RUSAGE_CHILDREN)
+    return used.ru_utime + used.ru_stime
 
 
 class Plant:
@@ -30,7 +41,10 @@ class Plant:
         self.program = program
 
     def run(self, *words):
+        before = spent()
         done = subprocess.run([self.program, *words], capture_output=True, text=True, timeout=60)
+        if spent() - before > 1:
+            fail(words, "more than a second of the processor")
         return done.returncode, done.stdout, done.stderr
 
     def look(self, what, answer, status, codes):
@@ -63,15 +77,17 @@ def change(pick, tokens, pool):
 
 
 def texts(plant, pick, count):
-    sources = sorted(ROOT.glob("examples/*/*.st")) + sorted(ROOT.glob("tests/texts/*.st"))
-    tokens = [TOKEN.findall(source.read_text()) for source in sources]
-    pool = sorted({token for each in tokens for token in each})
+    whole, plain = [], []
+    for source in sorted(ROOT.glob("examples/*/*.st")) + sorted(ROOT.glob("tests/texts/*.st")):
+        (whole if source.name in WHOLE else plain).append(TOKEN.findall(source.read_text()))
+    pool = sorted({token for each in whole + plain for token in each})
     store = pathlib.Path("store")
     store.write_bytes(b"kept")
     pathlib.Path("plant.csv").write_text("t\n")
     accepted = 0
     for number in range(count):
-        text = " ".join(change(pick, tokens[number % len(tokens)], pool))
+        tokens = whole[number % 2] if number % 4 else plain[number // 4 % len(plain)]
+        text = " ".join(change(pick, tokens, pool))
         pathlib.Path("broken.st").write_text(text)
         fault = plant.look(text, plant.run("check", "broken.st"), 2, "LPCGMX")
         if fault is None:
@@ -140,7 +156,7 @@ def stores(plant, pick, count):
 
 def main():
     plant = Plant(str(pathlib.Path(sys.argv[1]).resolve()))
-    counts = [2000, 500, 500]
+    counts = [4000, 500, 500]
     for place, word in enumerate(sys.argv[2:5]):
         counts[place] = int(word)
     pick = random.Random(1)

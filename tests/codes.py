@@ -45,6 +45,7 @@ SOURCES = {
     "1,048,577 blanks": lambda: " " * 1048577,
     "an assignment of `1` in 63 parentheses": lambda: changed("(" * 63 + "1" + ")" * 63, "n + 1"),
     "nine resources": nine_resources,
+    "a type with 257 names of 3 letters": lambda: f"TYPE t : ({','.join([*(f'n{k:02x}' for k in range(256)), 'x00'])}); END_TYPE",
     "1,772 DINT more, with names of 64 letters": lambda: more_globals(f"v{k:063d} : DINT" for k in range(1772)),
     "4,096 globals more": lambda: more_globals(f"v{k} : INT" for k in range(4096)),
 }

@@ -492,7 +492,8 @@ change() {
 }
 change "an unknown global" 'RETAIN n' 'RETAIN m' G3
 change "a global of another type" 'RETAIN n : INT' 'RETAIN n : DINT' G3
-change "a constant external" 'VAR_EXTERNAL n' 'VAR_EXTERNAL CONSTANT n' G3
+change "a constant external" 'VAR_EXTERNAL n : INT; END_VAR n := n + 1;' 'VAR_EXTERNAL CONSTANT n : INT; END_VAR' G3
+change "a constant external that is assigned" 'VAR_EXTERNAL n' 'VAR_EXTERNAL CONSTANT n' 'C5 at 51'
 change "an unknown task" 'WITH T' 'WITH U' G3
 change "an unknown program" ': Add' ': Sub' G3
 change "a program without a task" 'WITH T ' '' G8
@@ -512,6 +513,9 @@ change "a literal outside its type" 'n + 1' 'n + 32768' 'C4 at 51'
 change "a variable that isn't declared" 'n + 1' 'm + 1' 'C1 at 47'
 change "a program declared twice" 'CONFIGURATION C' 'PROGRAM Add END_PROGRAM CONFIGURATION C' 'C2 at 74'
 change "a function that calls itself" 'CONFIGURATION C' 'FUNCTION f : INT f := f(); END_FUNCTION CONFIGURATION C' 'C6 at 75'
+change "a reversed range of labels" 'n := n + 1' 'CASE n OF 1..0: ; END_CASE' 'C7 at 52'
+change "an exit outside of loops" 'n := n + 1' 'EXIT' 'C9 at 42'
+change "an argument too many" 'n + 1' 'ABS(n, 1)' 'C10 at 47'
 change "bounds in the wrong order" 'VAR_GLOBAL RETAIN' 'VAR_GLOBAL a : ARRAY [2..1] OF INT; END_VAR VAR_GLOBAL RETAIN' 'C8 at 104'
 change "a list longer than its array" 'VAR_GLOBAL RETAIN' 'VAR_GLOBAL a : ARRAY [1..2] OF INT := [3(0)]; END_VAR VAR_GLOBAL RETAIN' 'C8 at 120'
 change "an address under RETAIN" 'RETAIN n : INT;' 'RETAIN m AT %IW0 : INT; n : INT;' 'C11 at 100'
@@ -541,6 +545,7 @@ change "a SINGLE that is no BOOL" 'INTERVAL' 'SINGLE := n, INTERVAL' G3
 
 # What is of the language and isn't run yet.
 scene "most of the language in one text" 2 "" "fault X2" check "$texts/conveyor.st"
+scene "the rest of the language in one text" 2 "" "fault X2" check "$texts/recipe.st"
 change "a type" 'CONFIGURATION C' 'TYPE Pair : ARRAY [0..1] OF INT; END_TYPE CONFIGURATION C' X2
 change "a constant" 'RETAIN n : INT;' 'RETAIN n : INT; END_VAR VAR_GLOBAL CONSTANT k : INT := 1;' X2
 change "a task without an interval" 'INTERVAL := T#10ms, ' '' X2

@@ -33,13 +33,14 @@ use Rattle.config.specs.ThinPlans.{is_thin, is_thin_variable, is_thin_input, nam
 use Rattle.config.specs.ThinPlans.{is_within, thin_plan}
 use Rattle.st_build.specs.declared.build_error.BuildError.{BuildError}
 use Rattle.st_build.specs.declared.build_error.BuildError.TheVariants as errors
-use Rattle.st_rules.specs.declared.rule.Broken.{Broken}
-use Rattle.st_statics.specs.Rules.{IsWellDeclared}
-use Rattle.st_rules.specs.Rules.{Breaks}
+use Rattle.st_types.specs.ResolvedUnits.{resolved_source}
+use Rattle.st_statics.specs.declared.rule.Broken.{Broken}
+use Rattle.st_statics.specs.Rules.{broken, Breaks, IsWellTyped}
+use Rattle.st_check.specs.Checked.{IsCheckedFrom}
 use Rattle.st_build.specs.TextParts.{configurations_in, has_types, IsNotConfigured}
 use Rattle.st_build.specs.Refusals.{HasGlobals, HasTooManyPaths, HasThinRecordTooLong}
-use Rattle.st_build.specs.Plans.{MeetsRules, HasPrograms, IsPlanFrom, IsPlanOf, IsUnsupported, IsBeyond, LacksPlan}
-use Rattle.st_build.specs.Plans.{TreeLacksPlan, IsMemory, GivesPlan}
+use Rattle.st_build.specs.Plans.{MeetsRules, HasPrograms, IsPlanFrom, IsPlanOfTree, IsPlanOf, IsUnsupported, IsBeyond}
+use Rattle.st_build.specs.Plans.{LacksPlan, TreeLacksPlan, SourceLacksPlan, IsMemory, GivesPlan}
 use Rattle.st_build.proofs.ListLemmas.{same_parts}
 
 -- the limits that a thin plan keeps
@@ -105,7 +106,6 @@ not_refused units c budget p errors.Unsupported a h = absurd (h.none p a)
 not_refused units c budget p errors.Memory a h = h
 not_refused units c budget p errors.Budget a h = h
 not_refused units c budget p errors.NoConfiguration a h = h
-not_refused units c budget p (errors.Declaration x) a h = absurd h
 not_refused units c budget p (errors.Rule x) a h = absurd h
 not_refused units c budget p (errors.Words x) a h = absurd h
 not_refused units c budget p (errors.Grammar x) a h = absurd h
@@ -139,63 +139,50 @@ head_or d (x ∷ xs) = x
 same_one : (c d : Configuration) → c ∷ [] ≡ d ∷ [] → c ≡ d
 same_one c d h = ap (head_or c) h
 
--- what there is of a whole text, of its units and its configuration
-pub plan_of_text :
-    (source : Source) (units : List OrganisationUnit) (c : Configuration) (budget : ℕ) (plan : plans.Plan)
-    → units ≡ units_in source → configurations_in source ≡ c ∷ [] → has_types source ≡ false
-    → IsWellDeclared source → ((broken : Broken) → Breaks source broken → ⊥)
-    → IsPlanFrom units c budget plan → IsPlanOf source budget plan
-plan_of_text source units c budget plan us one plain declared unbroken from =
-    record {
-      configuration = c;
-      one = one;
-      declared = declared;
-      unbroken = unbroken;
-      plain = plain;
-      from =
-          subst (λ x. IsPlanFrom x c budget plan) us from;
-    }
-
--- a text that has a plan has one of its units and its configuration
-from_text : (source : Source) (units : List OrganisationUnit) (c : Configuration) (budget : ℕ) (plan : plans.Plan)
-    → units ≡ units_in source → configurations_in source ≡ c ∷ [] → IsPlanOf source budget plan
-    → IsPlanFrom units c budget plan
-from_text source units c budget plan us one p =
-    let same = same_one p.configuration c (sym p.one ∙ one) in
-    subst (λ x. IsPlanFrom x c budget plan) (sym us)
-    (subst (λ x. IsPlanFrom (units_in source) x budget plan) same p.from)
-
-here : (source : Source) (units : List OrganisationUnit) (c : Configuration) (budget : ℕ) (e : BuildError)
-    → units ≡ units_in source → configurations_in source ≡ c ∷ [] → LacksPlan units c budget e
-    → (d : Configuration) × (configurations_in source ≡ d ∷ []) × LacksPlan (units_in source) d budget e
-here source units c budget e us one h = (c, one, subst (λ x. LacksPlan x c budget e) us h)
-
--- a text without a plan of its units and its configuration
-beyond : (source : Source) (units : List OrganisationUnit) (c : Configuration) (budget : ℕ) → units ≡ units_in source
-    → configurations_in source ≡ c ∷ []
-    → IsWellDeclared source → ((broken : Broken) → Breaks source broken → ⊥) → IsUnsupported units c budget
-    → IsBeyond source budget
-beyond source units c budget us one declared unbroken h = record {
+-- what there is of a whole tree, of its units and its configuration
+pub plan_of_tree : (tree : Source) (units : List OrganisationUnit) (c : Configuration) (budget : ℕ) (plan : plans.Plan)
+    → units ≡ units_in tree → configurations_in tree ≡ c ∷ [] → has_types tree ≡ false
+    → IsPlanFrom units c budget plan → IsPlanOfTree tree budget plan
+plan_of_tree tree units c budget plan us one plain from = record {
   configuration = c;
   one = one;
-  declared = declared;
-  unbroken = unbroken;
+  plain = plain;
+  from = subst (λ x. IsPlanFrom x c budget plan) us from;
+}
+
+-- a tree that has a plan has one of its units and its configuration
+from_tree : (tree : Source) (units : List OrganisationUnit) (c : Configuration) (budget : ℕ) (plan : plans.Plan)
+    → units ≡ units_in tree → configurations_in tree ≡ c ∷ [] → IsPlanOfTree tree budget plan
+    → IsPlanFrom units c budget plan
+from_tree tree units c budget plan us one p =
+    let same = same_one p.configuration c (sym p.one ∙ one) in
+    subst (λ x. IsPlanFrom x c budget plan) (sym us)
+    (subst (λ x. IsPlanFrom (units_in tree) x budget plan) same p.from)
+
+here : (tree : Source) (units : List OrganisationUnit) (c : Configuration) (budget : ℕ) (e : BuildError)
+    → units ≡ units_in tree → configurations_in tree ≡ c ∷ [] → LacksPlan units c budget e
+    → (d : Configuration) × (configurations_in tree ≡ d ∷ []) × LacksPlan (units_in tree) d budget e
+here tree units c budget e us one h = (c, one, subst (λ x. LacksPlan x c budget e) us h)
+
+-- a tree without a plan of its units and its configuration
+beyond : (tree : Source) (units : List OrganisationUnit) (c : Configuration) (budget : ℕ) → units ≡ units_in tree
+    → configurations_in tree ≡ c ∷ [] → IsUnsupported units c budget → IsBeyond tree budget
+beyond tree units c budget us one h = record {
+  configuration = c;
+  one = one;
   kept = subst (λ x. MeetsRules x c) us h.kept;
   few = h.few;
   short = h.short;
-  none = λ plan p. h.none plan (from_text source units c budget plan us one p);
+  none = λ plan p. h.none plan (from_tree tree units c budget plan us one p);
 }
 
--- a text whose units and configuration have a plan, and that has types
-pub beyond_types : (source : Source) (units : List OrganisationUnit) (c : Configuration) (budget : ℕ)
-    (plan : plans.Plan) → units ≡ units_in source → configurations_in source ≡ c ∷ []
-    → IsWellDeclared source → ((broken : Broken) → Breaks source broken → ⊥) → has_types source ≡ true
-    → IsPlanFrom units c budget plan → IsBeyond source budget
-beyond_types source units c budget plan us one declared unbroken types from = record {
+-- a tree whose units and configuration have a plan, and that has types
+pub beyond_types : (tree : Source) (units : List OrganisationUnit) (c : Configuration) (budget : ℕ)
+    (plan : plans.Plan) → units ≡ units_in tree → configurations_in tree ≡ c ∷ [] → has_types tree ≡ true
+    → IsPlanFrom units c budget plan → IsBeyond tree budget
+beyond_types tree units c budget plan us one types from = record {
   configuration = c;
   one = one;
-  declared = declared;
-  unbroken = unbroken;
   kept = subst (λ x. MeetsRules x c) us from.kept;
   few = λ many. not_refused units c budget plan errors.TooManyPaths from many;
   short = λ long. not_refused units c budget plan errors.RecordTooLong from
@@ -203,53 +190,67 @@ beyond_types source units c budget plan us one declared unbroken types from = re
   none = λ other p. let plain = p.plain in absurd (cc);
 }
 
-pub breaks_text : (source : Source) (units : List OrganisationUnit) (c : Configuration) (budget : ℕ) (e : BuildError)
-    → units ≡ units_in source → configurations_in source ≡ c ∷ []
-    → IsWellDeclared source → ((broken : Broken) → Breaks source broken → ⊥) → LacksPlan units c budget e → TreeLacksPlan source budget e
-breaks_text source units c budget errors.Unknown us one declared unbroken h = here source units c budget errors.Unknown us one h
-breaks_text source units c budget errors.Address us one declared unbroken h = here source units c budget errors.Address us one h
-breaks_text source units c budget errors.TooMany us one declared unbroken h = here source units c budget errors.TooMany us one h
-breaks_text source units c budget errors.NoTask us one declared unbroken h = here source units c budget errors.NoTask us one h
-breaks_text source units c budget errors.TooManyPaths us one declared unbroken h =
-    here source units c budget errors.TooManyPaths us one h
-breaks_text source units c budget errors.RecordTooLong us one declared unbroken h =
-    here source units c budget errors.RecordTooLong us one h
-breaks_text source units c budget errors.Unsupported us one declared unbroken h = beyond source units c budget us one declared unbroken h
-breaks_text source units c budget errors.Memory us one declared unbroken h = h
-breaks_text source units c budget errors.Budget us one declared unbroken h = absurd h
-breaks_text source units c budget errors.NoConfiguration us one declared unbroken h = absurd h
-breaks_text source units c budget (errors.Declaration x) us one declared unbroken h = absurd h
-breaks_text source units c budget (errors.Rule x) us one declared unbroken h = absurd h
-breaks_text source units c budget (errors.Words x) us one declared unbroken h = absurd h
-breaks_text source units c budget (errors.Grammar x) us one declared unbroken h = absurd h
+pub lacks_of_parts : (tree : Source) (units : List OrganisationUnit) (c : Configuration) (budget : ℕ) (e : BuildError)
+    → units ≡ units_in tree → configurations_in tree ≡ c ∷ [] → LacksPlan units c budget e
+    → TreeLacksPlan tree budget e
+lacks_of_parts tree units c budget errors.Unknown us one h = here tree units c budget errors.Unknown us one h
+lacks_of_parts tree units c budget errors.Address us one h = here tree units c budget errors.Address us one h
+lacks_of_parts tree units c budget errors.TooMany us one h = here tree units c budget errors.TooMany us one h
+lacks_of_parts tree units c budget errors.NoTask us one h = here tree units c budget errors.NoTask us one h
+lacks_of_parts tree units c budget errors.TooManyPaths us one h = here tree units c budget errors.TooManyPaths us one h
+lacks_of_parts tree units c budget errors.RecordTooLong us one h =
+    here tree units c budget errors.RecordTooLong us one h
+lacks_of_parts tree units c budget errors.Unsupported us one h = beyond tree units c budget us one h
+lacks_of_parts tree units c budget errors.Memory us one h = h
+lacks_of_parts tree units c budget errors.Budget us one h = absurd h
+lacks_of_parts tree units c budget errors.NoConfiguration us one h = absurd h
+lacks_of_parts tree units c budget (errors.Rule x) us one h = absurd h
+lacks_of_parts tree units c budget (errors.Words x) us one h = absurd h
+lacks_of_parts tree units c budget (errors.Grammar x) us one h = absurd h
 
-pub not_configured : (source : Source) (budget : ℕ) (e : BuildError) → IsNotConfigured source e
-    → TreeLacksPlan source budget e
-not_configured source budget errors.NoConfiguration h = h
-not_configured source budget errors.Unsupported h = absurd h
-not_configured source budget errors.Memory h = h
-not_configured source budget errors.Unknown h = absurd h
-not_configured source budget errors.Address h = absurd h
-not_configured source budget errors.TooMany h = absurd h
-not_configured source budget errors.NoTask h = absurd h
-not_configured source budget errors.TooManyPaths h = absurd h
-not_configured source budget errors.RecordTooLong h = absurd h
-not_configured source budget errors.Budget h = absurd h
-not_configured source budget (errors.Declaration x) h = absurd h
-not_configured source budget (errors.Rule x) h = absurd h
-not_configured source budget (errors.Words x) h = absurd h
-not_configured source budget (errors.Grammar x) h = absurd h
+pub not_configured : (tree : Source) (budget : ℕ) (e : BuildError) → IsNotConfigured tree e
+    → TreeLacksPlan tree budget e
+not_configured tree budget errors.NoConfiguration h = h
+not_configured tree budget errors.Unsupported h = absurd h
+not_configured tree budget errors.Memory h = h
+not_configured tree budget errors.Unknown h = absurd h
+not_configured tree budget errors.Address h = absurd h
+not_configured tree budget errors.TooMany h = absurd h
+not_configured tree budget errors.NoTask h = absurd h
+not_configured tree budget errors.TooManyPaths h = absurd h
+not_configured tree budget errors.RecordTooLong h = absurd h
+not_configured tree budget errors.Budget h = absurd h
+not_configured tree budget (errors.Rule x) h = absurd h
+not_configured tree budget (errors.Words x) h = absurd h
+not_configured tree budget (errors.Grammar x) h = absurd h
 
-there : (source : Source) (budget : ℕ) (p : plans.Plan) (e : BuildError) → IsPlanOf source budget p
-    → ((c : Configuration) × (configurations_in source ≡ c ∷ []) × LacksPlan (units_in source) c budget e) → IsMemory e
-there source budget p e a h =
-    not_refused (units_in source) h.0 budget p e (from_text source (units_in source) h.0 budget p refl h.1 a) h.2
+-- a text that breaks no rule, and whose resolved tree has no plan
+pub lacks_of_tree : (source : Source) (budget : ℕ) (e : BuildError) → IsWellTyped source
+    → TreeLacksPlan (resolved_source source) budget e → SourceLacksPlan source budget e
+lacks_of_tree source budget errors.Unsupported well h = (well, h)
+lacks_of_tree source budget (errors.Rule x) well h = absurd h.2
+lacks_of_tree source budget errors.NoConfiguration well h = h
+lacks_of_tree source budget errors.Memory well h = h
+lacks_of_tree source budget errors.Unknown well h = h
+lacks_of_tree source budget errors.Address well h = h
+lacks_of_tree source budget errors.TooMany well h = h
+lacks_of_tree source budget errors.NoTask well h = h
+lacks_of_tree source budget errors.TooManyPaths well h = h
+lacks_of_tree source budget errors.RecordTooLong well h = h
+lacks_of_tree source budget errors.Budget well h = h
+lacks_of_tree source budget (errors.Words x) well h = h
+lacks_of_tree source budget (errors.Grammar x) well h = h
 
--- a text has one plan
-pub text_plan : (source : Source) (budget : ℕ) (p q : plans.Plan) → IsPlanOf source budget p → IsPlanOf source budget q
-    → p ≡ q
-text_plan source budget p q a b = one_plan (units_in source) b.configuration budget p q
-    (from_text source (units_in source) b.configuration budget p refl b.one a) b.from
+there : (tree : Source) (budget : ℕ) (p : plans.Plan) (e : BuildError) → IsPlanOfTree tree budget p
+    → ((c : Configuration) × (configurations_in tree ≡ c ∷ []) × LacksPlan (units_in tree) c budget e) → IsMemory e
+there tree budget p e a h =
+    not_refused (units_in tree) h.0 budget p e (from_tree tree (units_in tree) h.0 budget p refl h.1 a) h.2
+
+-- a tree has one plan
+tree_plan : (tree : Source) (budget : ℕ) (p q : plans.Plan) → IsPlanOfTree tree budget p
+    → IsPlanOfTree tree budget q → p ≡ q
+tree_plan tree budget p q a b = one_plan (units_in tree) b.configuration budget p q
+    (from_tree tree (units_in tree) b.configuration budget p refl b.one a) b.from
 
 none_there : {X : Type 0} (x : X) → Contains [] x → ⊥
 none_there x h = let lt = h.1 in omega arith
@@ -257,25 +258,52 @@ none_there x h = let lt = h.1 in omega arith
 not_one : {X : Type 0} (xs : List X) (x : X) → xs ≡ x ∷ [] → (length xs == 1) ≡ false → ⊥
 not_one xs x is h = let none = subst (λ ys. (length ys == 1) ≡ false) is h in absurd (cc)
 
+-- a tree that has a plan is refused only where memory runs out
+tree_refused : (tree : Source) (budget : ℕ) (p : plans.Plan) (e : BuildError) → IsPlanOfTree tree budget p
+    → TreeLacksPlan tree budget e → IsMemory e
+tree_refused tree budget p errors.NoConfiguration a h =
+    absurd (not_one (configurations_in tree) a.configuration a.one h)
+tree_refused tree budget p errors.Unsupported a h = absurd (h.none p a)
+tree_refused tree budget p errors.Memory a h = h
+tree_refused tree budget p errors.Unknown a h = there tree budget p errors.Unknown a h
+tree_refused tree budget p errors.Address a h = there tree budget p errors.Address a h
+tree_refused tree budget p errors.TooMany a h = there tree budget p errors.TooMany a h
+tree_refused tree budget p errors.NoTask a h = there tree budget p errors.NoTask a h
+tree_refused tree budget p errors.TooManyPaths a h = there tree budget p errors.TooManyPaths a h
+tree_refused tree budget p errors.RecordTooLong a h = there tree budget p errors.RecordTooLong a h
+tree_refused tree budget p errors.Budget a h = there tree budget p errors.Budget a h
+tree_refused tree budget p (errors.Rule x) a h = there tree budget p (errors.Rule x) a h
+tree_refused tree budget p (errors.Words x) a h = there tree budget p (errors.Words x) a h
+tree_refused tree budget p (errors.Grammar x) a h = there tree budget p (errors.Grammar x) a h
+
 -- a text that has a plan is refused only where memory runs out
-pub text_refused : (source : Source) (budget : ℕ) (p : plans.Plan) (e : BuildError) → IsPlanOf source budget p
-    → TreeLacksPlan source budget e → IsMemory e
-text_refused source budget p errors.NoConfiguration a h =
-    absurd (not_one (configurations_in source) a.configuration a.one h)
-text_refused source budget p errors.Unsupported a h = absurd (h.none p a)
-text_refused source budget p (errors.Declaration x) a h =
-    absurd (none_there x (subst (λ xs. Contains xs x) a.declared h))
-text_refused source budget p (errors.Rule x) a h = absurd (a.unbroken x h)
-text_refused source budget p errors.Memory a h = h
-text_refused source budget p errors.Unknown a h = there source budget p errors.Unknown a h
-text_refused source budget p errors.Address a h = there source budget p errors.Address a h
-text_refused source budget p errors.TooMany a h = there source budget p errors.TooMany a h
-text_refused source budget p errors.NoTask a h = there source budget p errors.NoTask a h
-text_refused source budget p errors.TooManyPaths a h = there source budget p errors.TooManyPaths a h
-text_refused source budget p errors.RecordTooLong a h = there source budget p errors.RecordTooLong a h
-text_refused source budget p errors.Budget a h = there source budget p errors.Budget a h
-text_refused source budget p (errors.Words x) a h = there source budget p (errors.Words x) a h
-text_refused source budget p (errors.Grammar x) a h = there source budget p (errors.Grammar x) a h
+source_refused : (source : Source) (budget : ℕ) (p : plans.Plan) (e : BuildError) → IsPlanOf source budget p
+    → SourceLacksPlan source budget e → IsMemory e
+source_refused source budget p (errors.Rule x) a h =
+    absurd (none_there x (subst (λ xs. Contains xs x) a.well_typed h))
+source_refused source budget p errors.Unsupported a h =
+    tree_refused (resolved_source source) budget p errors.Unsupported a.of_tree h.1
+source_refused source budget p errors.NoConfiguration a h =
+    tree_refused (resolved_source source) budget p errors.NoConfiguration a.of_tree h
+source_refused source budget p errors.Memory a h = h
+source_refused source budget p errors.Unknown a h =
+    tree_refused (resolved_source source) budget p errors.Unknown a.of_tree h
+source_refused source budget p errors.Address a h =
+    tree_refused (resolved_source source) budget p errors.Address a.of_tree h
+source_refused source budget p errors.TooMany a h =
+    tree_refused (resolved_source source) budget p errors.TooMany a.of_tree h
+source_refused source budget p errors.NoTask a h =
+    tree_refused (resolved_source source) budget p errors.NoTask a.of_tree h
+source_refused source budget p errors.TooManyPaths a h =
+    tree_refused (resolved_source source) budget p errors.TooManyPaths a.of_tree h
+source_refused source budget p errors.RecordTooLong a h =
+    tree_refused (resolved_source source) budget p errors.RecordTooLong a.of_tree h
+source_refused source budget p errors.Budget a h =
+    tree_refused (resolved_source source) budget p errors.Budget a.of_tree h
+source_refused source budget p (errors.Words x) a h =
+    tree_refused (resolved_source source) budget p (errors.Words x) a.of_tree h
+source_refused source budget p (errors.Grammar x) a h =
+    tree_refused (resolved_source source) budget p (errors.Grammar x) a.of_tree h
 
 -- the lexer and the parser give what is there, or want memory
 pub words_refused : (e : LexError) (found : Result (Vec Token) LexError) (tokens : List Token) → found ≡ Err e
@@ -294,8 +322,8 @@ grammar_refused (grammar.Unexpected place) found source is h = absurd (subst (λ
 pub budget_refused : (source : Source) (budget : ℕ) (p : plans.Plan) → IsPlanOf source budget p
     → (1 ≤ budget) × (budget ≤ MAX_BUDGET)
 budget_refused source budget p a =
-    let f = a.from in
-    let limits = limits_of (units_in source) f.variables f.inputs f.programs budget f.thin in
+    let f = a.of_tree.from in
+    let limits = limits_of (units_in (resolved_source source)) f.variables f.inputs f.programs budget f.thin in
     let least = limits.least in
     let most = limits.most in
     (grind (arith, nat_tests), grind (arith, nat_tests))
@@ -308,10 +336,27 @@ pub err_more : {A E : Type 0} (P Q : E → Type 0) (r : Result A E) → ((x : E)
 err_more P Q (Ok x) f h = h
 err_more P Q (Err e) f h = f e h
 
+-- what there is of a resolved tree is so of the text that was checked
+pub plan_of_checked : (source tree : Source) (budget : ℕ) (r : Result Plan BuildError) → IsCheckedFrom source tree
+    → IfOk r (λ p. IsPlanOfTree tree budget (plan_view p)) → IfOk r (λ p. IsPlanOf source budget (plan_view p))
+plan_of_checked source tree budget r from h =
+    ok_more (λ p. IsPlanOfTree tree budget (plan_view p)) (λ p. IsPlanOf source budget (plan_view p)) r
+    (λ p is. record {
+      well_typed = from.well_typed;
+      of_tree = subst (λ t. IsPlanOfTree t budget (plan_view p)) from.resolved is;
+    }) h
+
+pub lacks_of_checked : (source tree : Source) (budget : ℕ) (r : Result Plan BuildError) → IsCheckedFrom source tree
+    → IfErr r (λ e. TreeLacksPlan tree budget e) → IfErr r (λ e. SourceLacksPlan source budget e)
+lacks_of_checked source tree budget r from h =
+    err_more (λ e. TreeLacksPlan tree budget e) (λ e. SourceLacksPlan source budget e) r
+    (λ e is. lacks_of_tree source budget e from.well_typed (subst (λ t. TreeLacksPlan t budget e) from.resolved is)) h
+
 -- the plan of a text is given, unless memory ran out
 pub plan_given : (source : Source) (budget : ℕ) (plan : plans.Plan) (r : Result Plan BuildError)
     → IsPlanOf source budget plan
-    → IfOk r (λ q. IsPlanOf source budget (plan_view q)) → IfErr r (λ e. TreeLacksPlan source budget e)
+    → IfOk r (λ q. IsPlanOf source budget (plan_view q)) → IfErr r (λ e. SourceLacksPlan source budget e)
     → GivesPlan r plan
-plan_given source budget plan (Ok q) is ok err = text_plan source budget (plan_view q) plan ok is
-plan_given source budget plan (Err e) is ok err = text_refused source budget plan e is err
+plan_given source budget plan (Ok q) is ok err =
+    tree_plan (resolved_source source) budget (plan_view q) plan ok.of_tree is.of_tree
+plan_given source budget plan (Err e) is ok err = source_refused source budget plan e is err

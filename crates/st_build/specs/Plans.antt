@@ -1,6 +1,5 @@
 -- The plan of a text, and why it has none.
 use Rattle.std.specs.Prelude.{◌≡◌, ◌<◌, ◌⊎◌, ◌==◌, ℕ, true, false, List, [], ◌∷◌, map, length, Some, Result, Ok, Err}
-use Rattle.std.specs.List.{Contains}
 use Rattle.st_words.specs.declared.limits.TheConstants.{MAX_BUDGET}
 use Rattle.st_trees.specs.Units.{OrganisationUnit}
 use Rattle.st_trees.specs.Configurations.{Configuration}
@@ -20,9 +19,8 @@ use Rattle.config.specs.declared.plan.Plan.{Plan}
 use Rattle.config.specs.declared.thin_program.ThinProgram.{ThinProgram}
 use Rattle.config.specs.PlanViews.{plan_view}
 use Rattle.config.specs.ThinPlans.{is_thin, thin_plan}
-use Rattle.st_rules.specs.declared.rule.Broken.{Broken}
-use Rattle.st_statics.specs.Rules.{wrong_declarations, IsWellDeclared}
-use Rattle.st_rules.specs.Rules.{Breaks}
+use Rattle.st_types.specs.ResolvedUnits.{resolved_source}
+use Rattle.st_statics.specs.Rules.{Breaks, IsWellTyped}
 use Rattle.st_build.specs.declared.build_error.BuildError.{BuildError}
 use Rattle.st_build.specs.declared.build_error.BuildError.TheVariants as errors
 use Rattle.st_build.specs.TextParts.{configurations_in, has_types}
@@ -56,14 +54,17 @@ pub record IsPlanFrom (units : List OrganisationUnit) (c : Configuration) (budge
   pub thin : is_thin units variables inputs programs budget ≡ true
   pub is : plan ≡ thin_plan units variables inputs programs budget
 
--- The plan of a tree that breaks no rule on names, types and ranges, and has no types and one configuration.
-pub record IsPlanOf (source : Source) (budget : ℕ) (plan : plans.Plan) : Type 0 where
+-- The plan of a tree that has no types and one configuration.
+pub record IsPlanOfTree (tree : Source) (budget : ℕ) (plan : plans.Plan) : Type 0 where
   pub configuration : Configuration
-  pub one : configurations_in source ≡ configuration ∷ []
-  pub declared : IsWellDeclared source
-  pub unbroken : (broken : Broken) → Breaks source broken → ⊥
-  pub plain : has_types source ≡ false
-  pub from : IsPlanFrom (units_in source) configuration budget plan
+  pub one : configurations_in tree ≡ configuration ∷ []
+  pub plain : has_types tree ≡ false
+  pub from : IsPlanFrom (units_in tree) configuration budget plan
+
+-- The plan of a parsed text that breaks no rule: that of its resolved tree.
+pub record IsPlanOf (source : Source) (budget : ℕ) (plan : plans.Plan) : Type 0 where
+  pub well_typed : IsWellTyped source
+  pub of_tree : IsPlanOfTree (resolved_source source) budget plan
 
 -- why a configuration is refused before its parts are made
 abbrev pub BreaksRule : List OrganisationUnit → Configuration → BuildError → Type 0
@@ -103,26 +104,29 @@ LacksPlan units c budget errors.RecordTooLong = HasTooLongRecord c
 LacksPlan units c budget errors.Unsupported = IsUnsupported units c budget
 LacksPlan units c budget e = BreaksRule units c e
 
--- A tree that no other number refuses so, and that yet has no plan.
-pub record IsBeyond (source : Source) (budget : ℕ) : Type 0 where
+-- A tree that no other number refuses, and that yet has no plan.
+pub record IsBeyond (tree : Source) (budget : ℕ) : Type 0 where
   pub configuration : Configuration
-  pub one : configurations_in source ≡ configuration ∷ []
-  pub declared : IsWellDeclared source
-  pub unbroken : (broken : Broken) → Breaks source broken → ⊥
-  pub kept : MeetsRules (units_in source) configuration
+  pub one : configurations_in tree ≡ configuration ∷ []
+  pub kept : MeetsRules (units_in tree) configuration
   pub few : HasTooManyPaths configuration → ⊥
   pub short : HasThinRecordTooLong configuration → ⊥
-  pub none : (plan : plans.Plan) → IsPlanOf source budget plan → ⊥
+  pub none : (plan : plans.Plan) → IsPlanOfTree tree budget plan → ⊥
 
 -- why a tree has no plan
 abbrev pub TreeLacksPlan : Source → ℕ → BuildError → Type 0
-TreeLacksPlan source budget (errors.Declaration broken) = Contains (wrong_declarations source) broken
-TreeLacksPlan source budget (errors.Rule broken) = Breaks source broken
-TreeLacksPlan source budget errors.NoConfiguration = (length (configurations_in source) == 1) ≡ false
-TreeLacksPlan source budget errors.Memory = Unit {0}
-TreeLacksPlan source budget errors.Unsupported = IsBeyond source budget
-TreeLacksPlan source budget e =
-    (c : Configuration) × (configurations_in source ≡ c ∷ []) × LacksPlan (units_in source) c budget e
+TreeLacksPlan tree budget errors.NoConfiguration = (length (configurations_in tree) == 1) ≡ false
+TreeLacksPlan tree budget errors.Memory = Unit {0}
+TreeLacksPlan tree budget errors.Unsupported = IsBeyond tree budget
+TreeLacksPlan tree budget e =
+    (c : Configuration) × (configurations_in tree ≡ c ∷ []) × LacksPlan (units_in tree) c budget e
+
+-- Why a parsed text has no plan: it breaks this rule; or its resolved tree has none, and then what this version can't
+-- run breaks no rule.
+abbrev pub SourceLacksPlan : Source → ℕ → BuildError → Type 0
+SourceLacksPlan source budget (errors.Rule b) = Breaks source b
+SourceLacksPlan source budget errors.Unsupported = IsWellTyped source × IsBeyond (resolved_source source) budget
+SourceLacksPlan source budget e = TreeLacksPlan (resolved_source source) budget e
 
 -- The bytes spell the source.
 pub record IsTextOf (text : List ℕ) (source : Source) : Type 0 where
@@ -137,7 +141,7 @@ TextLacksPlan text budget errors.Budget = (budget ≡ 0) ⊎ (MAX_BUDGET < budge
 TextLacksPlan text budget (errors.Words e) = LexErrorApplies text e
 TextLacksPlan text budget (errors.Grammar e) = (tokens : List Token) × IsSpelledBy text tokens × Refused tokens e
 TextLacksPlan text budget errors.Memory = Unit {0}
-TextLacksPlan text budget e = (source : Source) × IsTextOf text source × TreeLacksPlan source budget e
+TextLacksPlan text budget e = (source : Source) × IsTextOf text source × SourceLacksPlan source budget e
 
 -- out of memory, by whomever it is told
 abbrev pub IsMemory : BuildError → Type 0

@@ -4,7 +4,6 @@ ghost use Rattle.std.specs.Prelude.{◌≡◌};
 ghost use Rattle.st_build.specs.declared.build_error.BuildError.TheVariants.{Memory, Words, Grammar};
 
 use st_lex::LexError;
-use st_rules::Broken as BrokenRule;
 use st_statements::ParseError;
 use st_statics::Broken;
 use std::alloc::{AllocError, AllocFailed};
@@ -22,12 +21,9 @@ pub enum BuildError {
     /// The tokens have no tree.
     #[error("{0}")]
     Grammar(ParseError),
-    /// The text breaks a rule on declarations: C2, C6, C8 or C11.
+    /// The text breaks a rule of the language: C1 to C11 or C13.
     #[error("{0}")]
-    Declaration(Broken),
-    /// The text breaks a rule on names, types or ranges, as far as this version looks: C1, C3 or C4.
-    #[error("{0}")]
-    Rule(BrokenRule),
+    Rule(Broken),
     /// There is no CONFIGURATION, or a second one.
     #[error("G2")]
     NoConfiguration,

@@ -4,36 +4,31 @@ ghost use Rattle.std.specs.Prelude.{◌≡◌, ◌<◌, ◌⊎◌, IfOk, IfErr, 
 ghost use Rattle.st_trees.specs.SourceViews.{source_view};
 ghost use Rattle.st_trees.specs.Sources as tree;
 ghost use Rattle.st_plans.specs.Plans as plans;
-ghost use Rattle.st_statics.specs.Rules.{IsWellDeclared};
 ghost use Rattle.config.specs.PlanViews.{plan_view};
-ghost use Rattle.st_build.specs.Plans.{IsTextOf, IsPlanOf, TreeLacksPlan, TextLacksPlan, GivesPlan};
+ghost use Rattle.st_build.specs.Plans.{IsTextOf, IsPlanOfTree, IsPlanOf, TreeLacksPlan, SourceLacksPlan};
+ghost use Rattle.st_build.specs.Plans.{TextLacksPlan, GivesPlan};
 
 use crate::build_error::BuildError;
 use crate::making::plan_from;
 use crate::text_parts::{Configured, configuration_of};
 use config::Plan;
-use st_decl::{CheckError, declare};
+use st_check::{CheckError, check};
 use st_lex::lex;
 use st_parse::parse;
-use st_rules::broken_rule;
 use st_trees::Source;
 use st_words::limits::MAX_BUDGET;
 use std::alloc::Global;
 
-/// The plan of a tree whose declarations were judged.
-fn plan_of_declared(alloc: Global, source: Source, budget: u32) -> Result<Plan, BuildError>
-    requires { IsWellDeclared (source_view source) }
-    ensures plan { IfOk result (λ plan. IsPlanOf (source_view source) budget (plan_view plan)) }
-    ensures refused { IfErr result (λ e. TreeLacksPlan (source_view source) budget e) }
+/// The plan of a resolved tree.
+fn plan_of_tree(alloc: Global, tree: Source, budget: u32) -> Result<Plan, BuildError>
+    ensures plan { IfOk result (λ plan. IsPlanOfTree (source_view tree) budget (plan_view plan)) }
+    ensures refused { IfErr result (λ e. TreeLacksPlan (source_view tree) budget e) }
 {
-    if let Some(broken) = broken_rule(&source) {
-        return Err(BuildError::Rule(broken));
-    }
     let Configured {
         units,
         configuration,
         has_types,
-    } = configuration_of(alloc, source)?;
+    } = configuration_of(alloc, tree)?;
     let plan = plan_from(alloc, units, &configuration, budget)?;
     if has_types {
         return Err(BuildError::Unsupported);
@@ -41,14 +36,14 @@ fn plan_of_declared(alloc: Global, source: Source, budget: u32) -> Result<Plan, 
     Ok(plan)
 }
 
-/// The plan of a tree.
+/// The plan of a parsed text: that of its resolved tree, where it breaks no rule.
 fn plan_of(alloc: Global, source: Source, budget: u32) -> Result<Plan, BuildError>
     ensures plan { IfOk result (λ plan. IsPlanOf (source_view source) budget (plan_view plan)) }
-    ensures refused { IfErr result (λ e. TreeLacksPlan (source_view source) budget e) }
+    ensures refused { IfErr result (λ e. SourceLacksPlan (source_view source) budget e) }
 {
-    match declare(alloc, &source) {
-        Ok(()) => plan_of_declared(alloc, source, budget),
-        Err(CheckError::Broken(broken)) => Err(BuildError::Declaration(broken)),
+    match check(alloc, source) {
+        Ok(checked) => plan_of_tree(alloc, checked.source, budget),
+        Err(CheckError::Broken(broken)) => Err(BuildError::Rule(broken)),
         Err(CheckError::OutOfMemory) => Err(BuildError::Memory),
     }
 }

@@ -1,0 +1,137 @@
+#!/usr/bin/env python3
+"""Reports how long `plant check` takes on texts of up to 1 MiB that are as hard to judge as texts get.
+
+usage: bench/checks.py PLANT     PLANT is the built program
+
+Each is run five times; the shortest time counts, a start of the program and the reading of the text included.
+"""
+import pathlib
+import subprocess
+import sys
+import tempfile
+import time
+
+LIMIT = 1048576
+
+
+def each(count, part):
+    return "".join(part(k) for k in range(count))
+
+
+def variables(count):
+    return f"PROGRAM p VAR x{each(count, lambda k: f',n{k}')} : INT; END_VAR END_PROGRAM"
+
+
+def used_variables(count, uses, terms):
+    names = f"PROGRAM p VAR x{each(count, lambda k: f',n{k}')} : INT; END_VAR "
+    sums, at = [], 0
+    for first in range(0, uses, terms):
+        sums.append("x:=" + "+".join(f"n{(first + k) * 7919 % count}" for k in range(min(terms, uses - first))) + ";")
+    return names + "".join(sums) + "END_PROGRAM"
+
+
+def lists(count):
+    return f"PROGRAM p VAR {each(count, lambda k: f'n{k} : ARRAY [0..9] OF INT := [9(1), {k % 99}]; ')}END_VAR END_PROGRAM"
+
+
+def types(count):
+    first = "TYPE t0 : ARRAY [0..1] OF INT; "
+    return first + each(count - 1, lambda k: f"t{k + 1} : STRUCT n : INT; x : t{k}; END_STRUCT; ") + "END_TYPE"
+
+
+def functions(count):
+    first = "FUNCTION f0 : BOOL f0 := TRUE; END_FUNCTION "
+    return first + each(count - 1, lambda k: f"FUNCTION f{k + 1} : BOOL f{k + 1} := f{k}(); END_FUNCTION ")
+
+
+def fields(count):
+    structure = each(count, lambda k: f"f{k} : INT := {k % 9}; ")
+    values = ",".join(f"f{k} := {k % 9}" for k in range(count))
+    return f"TYPE s : STRUCT {structure}END_STRUCT; END_TYPE PROGRAM p VAR x : s := ({values}); END_VAR END_PROGRAM"
+
+
+def labels(count):
+    numbers = ",".join(str(k * 7919 % count) for k in range(count))
+    return f"PROGRAM p VAR x : LINT; END_VAR CASE x OF {numbers}: x := 1; END_CASE; END_PROGRAM"
+
+
+def nested(count, depth):
+    part = "IF b THEN " * depth + "b := NOT b; " + "END_IF; " * depth
+    return f"PROGRAM p VAR b : BOOL; END_VAR {part * (count // (depth + 1))}END_PROGRAM"
+
+
+def enumerations(count):
+    declared = each(count, lambda k: f"e{k} : (a{k}, b{k}, c{k}); ")
+    uses = each(count, lambda k: f"x{k} := b{k}; ")
+    held = each(count, lambda k: f"x{k} : e{k}; ")
+    return f"TYPE {declared}END_TYPE PROGRAM p VAR {held}END_VAR {uses}END_PROGRAM"
+
+
+def names_of_one_type(count):
+    return f"TYPE e : ({','.join(f'a{k}' for k in range(count))}); END_TYPE"
+
+
+def arguments(count):
+    inputs = each(count, lambda k: f"i{k} : INT; ")
+    given = ",".join(f"i{k} := {k % 9}" for k in reversed(range(count)))
+    return (
+        f"FUNCTION_BLOCK b VAR_INPUT {inputs}END_VAR END_FUNCTION_BLOCK "
+        f"PROGRAM p VAR x : b; END_VAR x({given}); END_PROGRAM"
+    )
+
+
+def calls(count):
+    return (
+        "FUNCTION_BLOCK b VAR_INPUT i : INT; END_VAR VAR_OUTPUT o : INT; END_VAR o := i; END_FUNCTION_BLOCK PROGRAM p VAR x : b; "
+        f"n : INT; END_VAR {'x(i := n, o => n);' * count}END_PROGRAM"
+    )
+
+
+def instances(count):
+    return (
+        "FUNCTION_BLOCK b END_FUNCTION_BLOCK PROGRAM p VAR "
+        f"{each(count, lambda k: f'x{k} : b; ')}END_VAR {each(count, lambda k: f'x{k}(); ')}END_PROGRAM"
+    )
+
+
+def parentheses(count):
+    return f"PROGRAM p VAR x : INT; END_VAR {('x := ' + '(' * 60 + '1' + ')' * 60 + ';') * count}END_PROGRAM"
+
+
+TEXTS = [
+    ("95,000 variables in one list", variables(95000)),
+    ("40,000 variables, used 28,000 times", used_variables(40000, 28000, 1)),
+    ("20,000 variables, used 130,000 times in sums of 62", used_variables(20000, 130000, 62)),
+    ("20,000 arrays with lists", lists(20000)),
+    ("10,000 types in a chain", types(10000)),
+    ("18,000 functions in a chain", functions(18000)),
+    ("20,000 fields, each with a value", fields(20000)),
+    ("a CASE of 150,000 labels", labels(150000)),
+    ("10,000 statements, 60 deep", nested(10000, 60)),
+    ("14,000 enumerated types, each used", enumerations(14000)),
+    ("140,000 names of one enumerated type", names_of_one_type(140000)),
+    ("a call with 30,000 named arguments", arguments(30000)),
+    ("50,000 calls of an instance", calls(50000)),
+    ("40,000 instances, each called", instances(40000)),
+    ("8,000 numbers in 60 parentheses", parentheses(8000)),
+]
+
+
+def main():
+    plant = str(pathlib.Path(sys.argv[1]).resolve())
+    with tempfile.TemporaryDirectory() as folder:
+        source = pathlib.Path(folder) / "text.st"
+        for what, text in TEXTS:
+            if len(text) > LIMIT:
+                sys.exit(f"checks.py: {what}: {len(text)} bytes")
+            source.write_text(text)
+            times = []
+            for _ in range(5):
+                start = time.monotonic()
+                done = subprocess.run([plant, "check", str(source)], capture_output=True, text=True, timeout=600)
+                times.append(time.monotonic() - start)
+            told = done.stderr.strip() or "accepted"
+            print(f"{what}, {len(text):,} bytes: {min(times) * 1000:.0f} ms, {told}", flush=True)
+
+
+main()

@@ -1,4 +1,0 @@
-pub mod PlaceLemmas
-pub mod KindLemmas
-pub mod StepLemmas
-pub mod LoopLemmas

@@ -1,5 +1,0 @@
-pub mod Places
-pub mod Expressions
-pub mod Bodies
-pub mod Initials
-pub mod Rules
