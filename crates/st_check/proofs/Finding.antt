@@ -44,3 +44,8 @@ in_front xs ys o b is h = Contains-append_left xs ys b (subst (λ p. Finds xs p)
 pub behind : (xs ys : List Broken) (o p : Option Broken) → o ≡ None → Finds xs o → Finds ys p → Finds (xs ++ ys) p
 behind xs ys o p is clean h =
     subst (λ zs. Finds (zs ++ ys) p) (sym (subst (λ q. Finds xs q) is clean)) h
+
+-- the same of what is one or else another
+pub finds_either : (xs ys : List Broken) (o a b : Option Broken) → o ≡ or_broken a b → Finds xs a → Finds ys b
+    → Finds (xs ++ ys) o
+finds_either xs ys o a b is h k = subst (λ p. Finds (xs ++ ys) p) (sym is) (finds_front xs ys a b h k)

@@ -6,3 +6,5 @@ pub mod Targets
 pub mod Roots
 pub mod Choices
 pub mod Bodies
+pub mod Lookups
+pub mod Checked

@@ -2,7 +2,7 @@
 
 ghost use Rattle.std.specs.Prelude.{◌≡◌, ◌++◌, ◌||◌, [], map, option_map, is_some, if◌then◌else◌};
 ghost use Rattle.std.specs.List.{flat_map};
-ghost use Rattle.st_trees.specs.Initials.{elements_of, members_of};
+ghost use Rattle.st_trees.specs.Initials.{elements_of, list, members_of, structure};
 ghost use Rattle.st_trees.specs.InitialViews.{initial_view, element_view, member_view};
 ghost use Rattle.st_types.specs.NameTypes.{Declared};
 ghost use Rattle.st_statics.specs.ExpressionRules.{place_of_literal, wrong_literal};
@@ -123,7 +123,7 @@ fn is_unknown(tables: &TextTables, declared: Option<PlaceType>) -> bool
     is_nothing(typing_of_place(tables, declared))
 }
 
-fn is_array(names: &TextNames, declared: Option<PlaceType>) -> bool
+fn is_array<'a>(names: &TextNames<'a>, declared: Option<PlaceType<'a>>) -> bool
     ensures { (text : Declared) → ServesText names.now text
         → result ≡ is_some (array_in (definition_at text (option_map place_type_view declared.entry))) }
 {
@@ -183,6 +183,114 @@ fn wrong_fields<'a>(
                 rule: Rule::UnknownName,
                 place: member.name.place,
             });
+        }
+    }
+    None
+}
+
+/// A field that is not there, where the type is a structure.
+fn wrong_fields_where<'a>(
+    fields: &FieldNames<'a>,
+    is_structure: bool,
+    declared: Option<PlaceType<'a>>,
+    members: &[InitialMember],
+) -> Option<Broken>
+    ensures { (text : Declared) → ServesFields fields.now text → Finds (if is_structure
+        then wrong_fields text (option_map place_type_view declared.entry) (members_of (map member_view members.now))
+        else []) result }
+{
+    if is_structure {
+        wrong_fields(fields, declared, members)
+    } else {
+        None
+    }
+}
+
+/// What is wrong in a list, whose `[` stands at the place: it is for no array, or a count is outside its type.
+fn wrong_list<'a>(
+    names: &TextNames<'a>,
+    tables: &TextTables<'a>,
+    declared: Option<PlaceType<'a>>,
+    place: usize,
+    elements: &[InitialElement],
+) -> Option<Broken>
+    ensures { (text : Declared) → ServesText names.now text → ServesTables tables.now text
+        → Finds (wrong_start_of text (option_map place_type_view declared.entry)
+        (list place (elements_of (map element_view elements.now)))) result }
+{
+    either(
+        unless(
+            is_unknown(tables, declared) || is_array(names, declared),
+            Rule::WrongType,
+            place,
+        ),
+        wrong_counts(elements),
+    )
+}
+
+/// What is wrong in a structure's value, whose `(` stands at the place: it is for no structure, or has a field that the
+/// structure has not.
+fn wrong_structure<'a>(
+    names: &TextNames<'a>,
+    tables: &TextTables<'a>,
+    fields: &FieldNames<'a>,
+    declared: Option<PlaceType<'a>>,
+    place: usize,
+    members: &[InitialMember],
+) -> Option<Broken>
+    ensures { (text : Declared) → ServesText names.now text → ServesTables tables.now text
+        → ServesFields fields.now text → Finds (wrong_start_of text (option_map place_type_view declared.entry)
+        (structure place (members_of (map member_view members.now)))) result }
+{
+    let is_structure = is_structure(names, declared);
+    either(
+        unless(
+            is_unknown(tables, declared) || is_structure,
+            Rule::WrongType,
+            place,
+        ),
+        wrong_fields_where(fields, is_structure, declared, members),
+    )
+}
+
+/// What is wrong in an initial value for a type. Values inside it are not looked at.
+fn wrong_start_of<'a>(
+    names: &TextNames<'a>,
+    tables: &TextTables<'a>,
+    fields: &FieldNames<'a>,
+    declared: Option<PlaceType<'a>>,
+    initial: &Initial,
+) -> Option<Broken>
+    ensures { (text : Declared) → ServesText names.now text → ServesTables tables.now text
+        → ServesFields fields.now text → Finds (wrong_start_of text (option_map place_type_view declared.entry)
+        (initial_view initial.now)) result }
+{
+    match initial {
+        Initial::Constant(literal) => {
+            wrong_constant(tables, typing_of_place(tables, declared), literal)
+        }
+        Initial::List(place, elements) => wrong_list(names, tables, declared, *place, elements),
+        Initial::Structure(place, members) => {
+            wrong_structure(names, tables, fields, declared, *place, members)
+        }
+    }
+}
+
+/// What is wrong in one of these initial values, none of them looked into.
+pub fn first_wrong_start<'a>(
+    names: &TextNames<'a>,
+    tables: &TextTables<'a>,
+    fields: &FieldNames<'a>,
+    starts: &[Start<'a>],
+) -> Option<Broken>
+    ensures { (text : Declared) → ServesText names.now text → ServesTables tables.now text
+        → ServesFields fields.now text → Finds (flat_map (wrong_start text) (map start_view starts.now)) result }
+{
+    for start in starts {
+        if let Some(broken) =
+            wrong_start_of(names, tables, fields, start.declared, start.initial)
+        {
+            return Some(broken);
         }
     }
     None

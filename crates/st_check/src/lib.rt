@@ -1,9 +1,11 @@
-//! The rules on bodies, judged statement by statement.
+//! Texts, judged by all rules: types and initial values of declarations, and bodies statement by statement.
 #![tactic(auto)]
 
 mod arrays;
 mod assignments;
 mod bodies;
+mod checked;
+mod checking;
 mod choices;
 mod declared_types;
 mod enumerations;
@@ -15,6 +17,7 @@ mod invocations;
 mod kinds;
 mod labels;
 mod listings;
+mod lookups;
 mod places;
 mod priorities;
 mod readings;
@@ -22,6 +25,9 @@ mod results;
 mod roots;
 mod selections;
 mod spans;
+mod starts;
 mod targets;
+mod types;
 
-pub use bodies::wrong_bodies;
+pub use checked::{Checked, check};
+pub use checking::judge;

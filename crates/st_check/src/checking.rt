@@ -1,0 +1,54 @@
+//! Texts, judged by all rules.
+
+ghost use Rattle.std.specs.Prelude.{◌++◌, IfOk};
+ghost use Rattle.st_trees.specs.SourceViews.{source_view};
+ghost use Rattle.st_statics.specs.Faults.{Finds};
+ghost use Rattle.st_statics.specs.Rules.{broken, wrong_types, wrong_starts, wrong_bodies};
+ghost use Rattle.st_decl.specs.Judgements.{Judges};
+
+use crate::bodies::wrong_bodies;
+use crate::lookups::Lookups;
+use crate::starts::wrong_starts;
+use crate::types::wrong_types;
+use st_decl::{CheckError, declare};
+use st_statics::Broken;
+use st_trees::Source;
+use std::alloc::{AllocError, Global};
+
+/// One of the rules that a text breaks beyond those on declarations alone: in its types, its initial values or its
+/// bodies.
+fn wrong_beyond(alloc: Global, source: &Source) -> Result<Option<Broken>, AllocError>
+    ensures { let s = source_view source.now in IfOk result
+        (λ broken. Finds (wrong_types s ++ wrong_starts s ++ wrong_bodies s) broken) }
+{
+    let lookups = Lookups::new(alloc, source)?;
+    if let Some(broken) = wrong_types(alloc, &lookups)? {
+        return Ok(Some(broken));
+    }
+    if let Some(broken) = wrong_starts(alloc, &lookups)? {
+        return Ok(Some(broken));
+    }
+    wrong_bodies(alloc, &lookups.tables, &lookups.units)
+}
+
+/// Judges a text by the rules that are not on declarations alone.
+fn judge_beyond(alloc: Global, source: &Source) -> Result<(), CheckError>
+    ensures { let s = source_view source.now in Judges (wrong_types s ++ wrong_starts s ++ wrong_bodies s) result }
+{
+    match wrong_beyond(alloc, source) {
+        Ok(None) => Ok(()),
+        Ok(Some(broken)) => Err(CheckError::Broken(broken)),
+        Err(_) => Err(CheckError::OutOfMemory),
+    }
+}
+
+/// Judges a text by all rules. It accepts exactly where none is broken anywhere; else it tells one that is, with its
+/// place, or that there is no memory (C12).
+pub fn judge(alloc: Global, source: &Source) -> Result<(), CheckError>
+    ensures { Judges (broken (source_view source.now)) result }
+{
+    match declare(alloc, source) {
+        Ok(()) => judge_beyond(alloc, source),
+        Err(error) => Err(error),
+    }
+}
