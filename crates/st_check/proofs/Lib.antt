@@ -8,3 +8,4 @@ pub mod ChoiceLemmas
 pub mod BodyLemmas
 pub mod PassLemmas
 pub mod TypeLemmas
+pub mod InitialLemmas

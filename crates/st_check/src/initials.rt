@@ -5,12 +5,15 @@ ghost use Rattle.std.specs.List.{flat_map};
 ghost use Rattle.st_trees.specs.Initials.{elements_of, list, members_of, structure};
 ghost use Rattle.st_trees.specs.InitialViews.{initial_view, element_view, member_view};
 ghost use Rattle.st_types.specs.NameTypes.{Declared};
+ghost use Rattle.st_types.specs.ResolvedUnits.{field_of};
+ghost use Rattle.st_statics.specs.declared.rule.Rule.TheVariants.{UnknownName};
 ghost use Rattle.st_statics.specs.ExpressionRules.{place_of_literal, wrong_literal};
-ghost use Rattle.st_statics.specs.Faults.{Finds};
+ghost use Rattle.st_statics.specs.Faults.{breaking, Finds, unless};
 ghost use Rattle.st_statics.specs.InitialRules.{array_in, definition_at, is_structure, is_unknown, unread_value};
 ghost use Rattle.st_statics.specs.InitialRules.{wrong_constant, wrong_count, wrong_counts, wrong_fields, wrong_start};
 ghost use Rattle.st_statics.specs.InitialRules.{wrong_start_of};
-ghost use Rattle.st_statics.specs.Typings.{is_nothing, kind_of, typing_of_literal, typing_of_reading};
+ghost use Rattle.st_statics.specs.Roots.{demand_of_typing};
+ghost use Rattle.st_statics.specs.Typings.{is_nothing, kind_of, meets, settled, typing_of_literal, typing_of_reading};
 ghost use Rattle.st_names.specs.Enumerated.{reading_view};
 ghost use Rattle.st_names.specs.Fields.{ServesFields};
 ghost use Rattle.st_names.specs.PlaceTypes.{place_type_view};
@@ -26,7 +29,7 @@ use st_names::{FieldNames, PlaceType, Reading, TextNames, TextTables};
 use st_statics::{Broken, Rule, Typing};
 use st_trees::{Initial, InitialElement, InitialMember, SimpleType, TypeDefinition};
 use st_typing::{meets, settled, typing_of_place, wrong_number};
-use st_words::{Kind, Literal};
+use st_words::{Identifier, Kind, Literal};
 
 fn place_of_literal(literal: &Literal) -> usize
     ensures { result ≡ place_of_literal literal.now }
@@ -99,15 +102,23 @@ fn wrong_in_constant(tables: &TextTables, typing: Typing, literal: &Literal) -> 
     }
 }
 
+/// Whether a constant is one that what has the typing takes.
+fn takes_constant(tables: &TextTables, typing: Typing, literal: &Literal) -> bool
+    ensures { (text : Declared) → ServesTables tables.now text → result
+        ≡ meets (demand_of_typing typing) (settled (kind_of typing) (typing_of_literal text literal.now)) }
+{
+    let given = settled(kind_of(typing), typing_of_literal(tables, literal));
+    meets(demand_of_typing(typing), given)
+}
+
 /// What is wrong in a constant: it is none of its variable's type, or in itself.
 fn wrong_constant(tables: &TextTables, typing: Typing, literal: &Literal) -> Option<Broken>
     ensures { (text : Declared) → ServesTables tables.now text
         → Finds (wrong_constant text typing literal.now) result }
 {
-    let given = settled(kind_of(typing), typing_of_literal(tables, literal));
     either(
         unless(
-            meets(demand_of_typing(typing), given),
+            takes_constant(tables, typing, literal),
             Rule::WrongType,
             place_of_literal(literal),
         ),
@@ -168,6 +179,25 @@ fn wrong_counts(elements: &[InitialElement]) -> Option<Broken>
 }
 
 /// A field that the structure has not.
+fn wrong_field<'a>(
+    fields: &FieldNames<'a>,
+    declared: Option<PlaceType<'a>>,
+    name: &Identifier,
+) -> Option<Broken>
+    ensures { (text : Declared) → ServesFields fields.now text → Finds (breaking UnknownName
+        (unless (is_some (field_of text (option_map place_type_view declared.entry) name.now.name)) name.now.place))
+        result }
+{
+    match field_of(fields, declared, &name.name) {
+        Some(_) => None,
+        None => Some(Broken {
+            rule: Rule::UnknownName,
+            place: name.place,
+        }),
+    }
+}
+
+/// A field that the structure has not, of some.
 fn wrong_fields<'a>(
     fields: &FieldNames<'a>,
     declared: Option<PlaceType<'a>>,
@@ -178,11 +208,8 @@ fn wrong_fields<'a>(
         result }
 {
     for member in members {
-        if field_of(fields, declared, &member.name.name).is_none() {
-            return Some(Broken {
-                rule: Rule::UnknownName,
-                place: member.name.place,
-            });
+        if let Some(broken) = wrong_field(fields, declared, &member.name) {
+            return Some(broken);
         }
     }
     None
@@ -191,19 +218,45 @@ fn wrong_fields<'a>(
 /// A field that is not there, where the type is a structure.
 fn wrong_fields_where<'a>(
     fields: &FieldNames<'a>,
-    is_structure: bool,
+    structured: bool,
     declared: Option<PlaceType<'a>>,
     members: &[InitialMember],
 ) -> Option<Broken>
-    ensures { (text : Declared) → ServesFields fields.now text → Finds (if is_structure
+    ensures { (text : Declared) → ServesFields fields.now text → Finds (if structured
         then wrong_fields text (option_map place_type_view declared.entry) (members_of (map member_view members.now))
         else []) result }
 {
-    if is_structure {
+    if structured {
         wrong_fields(fields, declared, members)
     } else {
         None
     }
+}
+
+/// Whether a list may stand here: for an array, or for what is not known.
+fn takes_list<'a>(
+    names: &TextNames<'a>,
+    tables: &TextTables<'a>,
+    declared: Option<PlaceType<'a>>,
+) -> bool
+    ensures { (text : Declared) → ServesText names.now text → ServesTables tables.now text → result
+        ≡ (is_unknown text (option_map place_type_view declared.entry)
+        || is_some (array_in (definition_at text (option_map place_type_view declared.entry)))) }
+{
+    is_unknown(tables, declared) || is_array(names, declared)
+}
+
+/// Whether a structure's value may stand here: for a structure, or for what is not known.
+fn takes_structure<'a>(
+    names: &TextNames<'a>,
+    tables: &TextTables<'a>,
+    declared: Option<PlaceType<'a>>,
+) -> bool
+    ensures { (text : Declared) → ServesText names.now text → ServesTables tables.now text → result
+        ≡ (is_unknown text (option_map place_type_view declared.entry)
+        || is_structure (definition_at text (option_map place_type_view declared.entry))) }
+{
+    is_unknown(tables, declared) || is_structure(names, declared)
 }
 
 /// What is wrong in a list, whose `[` stands at the place: it is for no array, or a count is outside its type.
@@ -220,7 +273,7 @@ fn wrong_list<'a>(
 {
     either(
         unless(
-            is_unknown(tables, declared) || is_array(names, declared),
+            takes_list(names, tables, declared),
             Rule::WrongType,
             place,
         ),
@@ -242,14 +295,14 @@ fn wrong_structure<'a>(
         → ServesFields fields.now text → Finds (wrong_start_of text (option_map place_type_view declared.entry)
         (structure place (members_of (map member_view members.now)))) result }
 {
-    let is_structure = is_structure(names, declared);
+    let structured = is_structure(names, declared);
     either(
         unless(
-            is_unknown(tables, declared) || is_structure,
+            takes_structure(names, tables, declared),
             Rule::WrongType,
             place,
         ),
-        wrong_fields_where(fields, is_structure, declared, members),
+        wrong_fields_where(fields, structured, declared, members),
     )
 }
 
