@@ -1,11 +1,17 @@
 -- What is wrong in an initial value, from its parts.
-use Rattle.std.proofs.Common.{◌≡◌, subst, ℕ, Bool, ◌||◌, [], if◌then◌else◌, Option}
+use Rattle.std.proofs.Common.{◌≡◌, subst, sym, ap, ◌∙◌, ℕ, ◌+◌, ◌<◌, Bool, ◌||◌, List, [], if◌then◌else◌, Option}
+use Rattle.std.proofs.Common.{drop, length, map, slice_index_or}
 use Rattle.std.specs.Prelude.{is_some}
+use Rattle.std.specs.List.{Contains}
+use Rattle.std.proofs.lemmas.List.Elements.{Contains-append_left}
 use Rattle.st_words.specs.declared.literal.Literal.{Literal}
 use Rattle.st_trees.specs.declared.data_type.VariableType.{VariableType}
-use Rattle.st_trees.specs.Initials.{Elements, Members, list, structure}
+use Rattle.st_trees.specs.declared.initial.InitialMember as code_member
+use Rattle.st_trees.specs.Initials.{Elements, Members, list, members_of, structure}
+use Rattle.st_trees.specs.InitialViews.{member_view}
 use Rattle.st_types.specs.NameTypes.{Declared}
-use Rattle.st_statics.specs.declared.rule.Rule.TheVariants.{WrongType}
+use Rattle.st_types.specs.ResolvedUnits.{field_of}
+use Rattle.st_statics.specs.declared.rule.Rule.TheVariants.{UnknownName, WrongType}
 use Rattle.st_statics.specs.declared.rule.Broken.{Broken}
 use Rattle.st_statics.specs.declared.typings.Typing.{Typing}
 use Rattle.st_statics.specs.ExpressionRules.{place_of_literal, wrong_literal}
@@ -15,7 +21,7 @@ use Rattle.st_statics.specs.InitialRules.{wrong_constant, wrong_counts, wrong_fi
 use Rattle.st_statics.specs.Roots.{demand_of_typing}
 use Rattle.st_statics.specs.Typings.{is_nothing, kind_of, meets, settled, typing_of_literal}
 use Rattle.st_check.specs.Findings.{or_broken}
-use Rattle.st_check.proofs.Finding.{finds_either}
+use Rattle.st_check.proofs.Finding.{finds_either, left_viewed}
 
 -- a test of a place, which is known under other names
 tested_as : (x y : Bool) (p q : ℕ) (o : Option Broken) → x ≡ y → p ≡ q
@@ -57,3 +63,15 @@ structure_told text t at xs takes structured o a b is h k test fields =
     (if is_structure (definition_at text t) then wrong_fields text t xs else []) o a b is
     (subst (λ z. Finds (breaking WrongType (unless z at)) a) h test)
     (subst (λ z. Finds (if z then wrong_fields text t xs else []) b) k fields)
+
+-- One of the fields is not there: that is wrong in the whole.
+pub field_here : (text : Declared) (t : Option VariableType) (ms : List code_member.InitialMember) (i : ℕ)
+    (m : code_member.InitialMember) (b : Broken) (all : List Broken) → i < length ms → m ≡ slice_index_or ms i m
+    → wrong_fields text t (members_of (map member_view (drop i ms))) ≡ all
+    → Contains (breaking UnknownName (unless (is_some (field_of text t m.name.name)) m.name.place)) b
+    → Contains all b
+field_here text t ms i m b all lt is left here =
+    subst (λ ys. Contains ys b)
+    (ap (λ xs. wrong_fields text t (members_of xs)) (sym (left_viewed member_view ms i m lt is)) ∙ left)
+    (Contains-append_left (breaking UnknownName (unless (is_some (field_of text t m.name.name)) m.name.place))
+    (wrong_fields text t (members_of (map member_view (drop (i + 1) ms)))) b here)
