@@ -49,3 +49,16 @@ behind xs ys o p is clean h =
 pub finds_either : (xs ys : List Broken) (o a b : Option Broken) → o ≡ or_broken a b → Finds xs a → Finds ys b
     → Finds (xs ++ ys) o
 finds_either xs ys o a b is h k = subst (λ p. Finds (xs ++ ys) p) (sym is) (finds_front xs ys a b h k)
+
+-- a search of three parts, one after another
+pub of_first : (xs ys zs : List Broken) (o : Option Broken) (b : Broken) → o ≡ Some b → Finds xs o
+    → Contains (xs ++ ys ++ zs) b
+of_first xs ys zs o b is h = Contains-append_left (xs ++ ys) zs b (in_front xs ys o b is h)
+
+pub of_second : (xs ys zs : List Broken) (o p : Option Broken) (b : Broken) → o ≡ None → Finds xs o → p ≡ Some b
+    → Finds ys p → Contains (xs ++ ys ++ zs) b
+of_second xs ys zs o p b clean h is k = in_front (xs ++ ys) zs p b is (behind xs ys o p clean h k)
+
+pub of_third : (xs ys zs : List Broken) (o p q : Option Broken) → o ≡ None → Finds xs o → p ≡ None → Finds ys p
+    → Finds zs q → Finds (xs ++ ys ++ zs) q
+of_third xs ys zs o p q clean h too k rest = behind (xs ++ ys) zs p q too (behind xs ys o p clean h k) rest
