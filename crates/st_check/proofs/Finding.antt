@@ -22,8 +22,9 @@ left_viewed g xs i x h is =
     ap (map g) (drop_more xs i x h ∙ ap (λ y. y ∷ drop (i + 1) xs) (sym is))
 
 -- One of a list is wrong: what is wrong in it is so in the whole.
-pub found_here : {A B C : Type 0} (f : B → List C) (g : A → B) (xs : List A) (i : ℕ) (x : A) (b : C) (all : List C) → i < length xs → x ≡ slice_index_or xs i x → flat_map f (map g (drop i xs)) ≡ all
-    → Contains (f (g x)) b → Contains all b
+pub found_here : {A B C : Type 0} (f : B → List C) (g : A → B) (xs : List A) (i : ℕ) (x : A) (b : C) (all : List C)
+    → i < length xs → x ≡ slice_index_or xs i x → flat_map f (map g (drop i xs)) ≡ all → Contains (f (g x)) b
+    → Contains all b
 found_here f g xs i x b all h is left here =
     subst (λ ys. Contains ys b) (ap (flat_map f) (sym (left_viewed g xs i x h is)) ∙ left)
     (Contains-append_left (f (g x)) (flat_map f (map g (drop (i + 1) xs))) b here)
