@@ -16,7 +16,8 @@ use std::alloc::Global;
 /// number of its type.
 #[derive(Drop)]
 pub struct Checked {
-    source: Source,
+    /// The resolved tree of the text.
+    pub source: Source,
     ghost checked: { IsChecked (source_view source) },
 }
 

@@ -31,3 +31,4 @@ mod types;
 
 pub use checked::{Checked, check};
 pub use checking::judge;
+pub use st_decl::CheckError;
