@@ -22,8 +22,9 @@ left_viewed g xs i x h is =
     ap (map g) (drop_more xs i x h ∙ ap (λ y. y ∷ drop (i + 1) xs) (sym is))
 
 -- One of a list is wrong: what is wrong in it is so in the whole.
-pub found_here : {A B C : Type 0} (f : B → List C) (g : A → B) (xs : List A) (i : ℕ) (x : A) (b : C) (all : List C) → i < length xs → x ≡ slice_index_or xs i x → flat_map f (map g (drop i xs)) ≡ all
-    → Contains (f (g x)) b → Contains all b
+pub found_here : {A B C : Type 0} (f : B → List C) (g : A → B) (xs : List A) (i : ℕ) (x : A) (b : C) (all : List C)
+    → i < length xs → x ≡ slice_index_or xs i x → flat_map f (map g (drop i xs)) ≡ all → Contains (f (g x)) b
+    → Contains all b
 found_here f g xs i x b all h is left here =
     subst (λ ys. Contains ys b) (ap (flat_map f) (sym (left_viewed g xs i x h is)) ∙ left)
     (Contains-append_left (f (g x)) (flat_map f (map g (drop (i + 1) xs))) b here)
@@ -49,3 +50,16 @@ behind xs ys o p is clean h =
 pub finds_either : (xs ys : List Broken) (o a b : Option Broken) → o ≡ or_broken a b → Finds xs a → Finds ys b
     → Finds (xs ++ ys) o
 finds_either xs ys o a b is h k = subst (λ p. Finds (xs ++ ys) p) (sym is) (finds_front xs ys a b h k)
+
+-- a search of three parts, one after another
+pub of_first : (xs ys zs : List Broken) (o : Option Broken) (b : Broken) → o ≡ Some b → Finds xs o
+    → Contains (xs ++ ys ++ zs) b
+of_first xs ys zs o b is h = Contains-append_left (xs ++ ys) zs b (in_front xs ys o b is h)
+
+pub of_second : (xs ys zs : List Broken) (o p : Option Broken) (b : Broken) → o ≡ None → Finds xs o → p ≡ Some b
+    → Finds ys p → Contains (xs ++ ys ++ zs) b
+of_second xs ys zs o p b clean h is k = in_front (xs ++ ys) zs p b is (behind xs ys o p clean h k)
+
+pub of_third : (xs ys zs : List Broken) (o p q : Option Broken) → o ≡ None → Finds xs o → p ≡ None → Finds ys p
+    → Finds zs q → Finds (xs ++ ys ++ zs) q
+of_third xs ys zs o p q clean h too k rest = behind (xs ++ ys) zs p q too (behind xs ys o p clean h k) rest

@@ -9,3 +9,4 @@ pub mod BodyLemmas
 pub mod PassLemmas
 pub mod TypeLemmas
 pub mod InitialLemmas
+pub mod JudgeLemmas

@@ -1,5 +1,5 @@
 -- What is wrong in declared types, from its parts.
-use Rattle.std.proofs.Common.{◌≡◌, refl, sym, ap, subst, ◌∙◌, ℕ, Bool, false, ◌++◌, ◌&&◌, Option, Some, None}
+use Rattle.std.proofs.Common.{◌≡◌, refl, ap, subst, ℕ, Bool, false, ◌++◌, ◌&&◌, Option, Some, None}
 use Rattle.std.specs.Prelude.{is_some, option_map}
 use Rattle.st_trees.specs.declared.data_type.SimpleType.{SimpleType}
 use Rattle.st_trees.specs.declared.data_type.VariableType.TheVariants as types
@@ -10,8 +10,8 @@ use Rattle.st_statics.specs.DeclaredTypes.{Declaring}
 use Rattle.st_statics.specs.Environments.{is_block_type}
 use Rattle.st_statics.specs.Faults.{breaking, in_case, Finds}
 use Rattle.st_statics.specs.Typings.{is_composite, typing_of_type}
-use Rattle.st_statics.specs.TypeRules.{is_without_parts, may_be_instance, place_of_simple, place_of_type, wrong_declaring}
-use Rattle.st_statics.specs.TypeRules.{wrong_name, wrong_result, wrong_simple}
+use Rattle.st_statics.specs.TypeRules.{is_without_parts, may_be_instance, place_of_simple, place_of_type}
+use Rattle.st_statics.specs.TypeRules.{wrong_declaring, wrong_name, wrong_result, wrong_simple}
 use Rattle.st_check.specs.Findings.{or_broken}
 use Rattle.st_check.proofs.Finding.{finds_front}
 
@@ -26,7 +26,8 @@ is_some_viewed : {A B : Type 0} (f : A → B) (o : Option A) → is_some o ≡ i
 is_some_viewed f None = refl
 is_some_viewed f (Some x) = refl
 
-pub is_started : {A B : Type 0} (f : A → B) (o : Option A) (b : Bool) → (b && is_some o) ≡ (b && is_some (option_map f o))
+pub is_started : {A B : Type 0} (f : A → B) (o : Option A) (b : Bool)
+    → (b && is_some o) ≡ (b && is_some (option_map f o))
 is_started f o b = ap (λ c. b && c) (is_some_viewed f o)
 
 pub declaring_told : (text : Declared) (d : Declaring) (a b c : Option Broken) (parts started : Bool) (at : ℕ)

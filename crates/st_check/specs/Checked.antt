@@ -11,4 +11,4 @@ pub record IsCheckedFrom (parsed tree : Source) : Type 0 where
 
 -- there is such a text
 abbrev pub IsChecked : Source → Type 0
-IsChecked tree = ∥ (parsed : Source) × IsCheckedFrom parsed tree ∥₁
+IsChecked tree = ∥ ((parsed : Source) × IsCheckedFrom parsed tree) ∥₁

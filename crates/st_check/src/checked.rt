@@ -16,6 +16,7 @@ use std::alloc::Global;
 /// number of its type.
 #[derive(Drop)]
 pub struct Checked {
+    /// The resolved tree of the text.
     pub source: Source,
     ghost checked: { IsChecked (source_view source) },
 }
@@ -30,8 +31,8 @@ impl Checked {
     }
 }
 
-/// Judges a text by all rules, and resolves it where it breaks none. Else it tells a rule that is broken, with its place,
-/// or that there is no memory (C12).
+/// Judges a text by all rules, and resolves it where it breaks none. Else it tells a rule that is broken, with its
+/// place, or that there is no memory (C12).
 pub fn check(alloc: Global, source: Source) -> Result<Checked, CheckError>
     ensures ok { IfOk result (λ c. IsCheckedFrom (source_view source) (source_view c.source)) }
     ensures err { IfErr result (λ e. Refuses (broken (source_view source)) e) }

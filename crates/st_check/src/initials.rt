@@ -1,6 +1,6 @@
 //! Initial values, by the type of what they are for (C1, C3, C4).
 
-ghost use Rattle.std.specs.Prelude.{◌≡◌, ◌++◌, ◌||◌, [], map, option_map, is_some, if◌then◌else◌};
+ghost use Rattle.std.specs.Prelude.{◌≡◌, ◌||◌, [], map, option_map, is_some, if◌then◌else◌};
 ghost use Rattle.std.specs.List.{flat_map};
 ghost use Rattle.st_trees.specs.Initials.{elements_of, list, members_of, structure};
 ghost use Rattle.st_trees.specs.InitialViews.{initial_view, element_view, member_view};
@@ -272,11 +272,7 @@ fn wrong_list<'a>(
         (list place (elements_of (map element_view elements.now)))) result }
 {
     either(
-        unless(
-            takes_list(names, tables, declared),
-            Rule::WrongType,
-            place,
-        ),
+        unless(takes_list(names, tables, declared), Rule::WrongType, place),
         wrong_counts(elements),
     )
 }
@@ -340,9 +336,7 @@ pub fn first_wrong_start<'a>(
         → ServesFields fields.now text → Finds (flat_map (wrong_start text) (map start_view starts.now)) result }
 {
     for start in starts {
-        if let Some(broken) =
-            wrong_start_of(names, tables, fields, start.declared, start.initial)
-        {
+        if let Some(broken) = wrong_start_of(names, tables, fields, start.declared, start.initial) {
             return Some(broken);
         }
     }

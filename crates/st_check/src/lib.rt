@@ -4,6 +4,7 @@
 mod arrays;
 mod assignments;
 mod bodies;
+mod checked;
 mod checking;
 mod choices;
 mod declared_types;
@@ -28,5 +29,6 @@ mod starts;
 mod targets;
 mod types;
 
-
+pub use checked::{Checked, check};
 pub use checking::judge;
+pub use st_decl::CheckError;

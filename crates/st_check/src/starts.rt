@@ -13,10 +13,7 @@ use st_statics::Broken;
 use std::alloc::{AllocError, Global};
 
 /// What is wrong in the initial values of a text.
-pub fn wrong_starts<'a>(
-    alloc: Global,
-    lookups: &Lookups<'a>,
-) -> Result<Option<Broken>, AllocError>
+pub fn wrong_starts<'a>(alloc: Global, lookups: &Lookups<'a>) -> Result<Option<Broken>, AllocError>
     ensures { IfOk result (λ broken. (source : tree.Source) → ServesSource lookups.now source
         → Finds (wrong_starts source) broken) }
 {

@@ -17,10 +17,7 @@ use st_statics::{Broken, Rule};
 use std::alloc::{AllocError, Global};
 
 /// What is wrong in the types and the numbers of a text's declarations.
-pub fn wrong_types<'a>(
-    alloc: Global,
-    lookups: &Lookups<'a>,
-) -> Result<Option<Broken>, AllocError>
+pub fn wrong_types<'a>(alloc: Global, lookups: &Lookups<'a>) -> Result<Option<Broken>, AllocError>
     ensures { IfOk result (λ broken. (source : tree.Source) → ServesSource lookups.now source
         → Finds (wrong_types source) broken) }
 {

@@ -15,5 +15,6 @@ returns c text names tables =
     c.is_started.result c.place_of_type-place.result
     (rw c.may_be_instance.ensures at (c.wrong_name.ensures text names tables)) c.in_case.ensures c.in_case-2.ensures
     (c.has_parts.ensures text tables)
-    (c.is_started.ensures text tables ∙ is_started initial_view c.args.declaring.initial.now (is_block_type text d.declared))
+    (c.is_started.ensures text tables
+    ∙ is_started initial_view c.args.declaring.initial.now (is_block_type text d.declared))
     c.place_of_type-place.ensures))

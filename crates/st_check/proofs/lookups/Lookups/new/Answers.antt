@@ -17,7 +17,7 @@ returns c =
       names = c.in_ok-names.ensures.serves;
       tables = c.in_ok-tables.ensures text c.in_ok-new.ensures.serves types units;
       fields = c.in_ok-fields.ensures text
-      (ap (map (λ t. type_declaration_view t.now)) c.deref-3.ensures.value ∙ c.in_ok-types.ensures);
+          (ap (map (λ t. type_declaration_view t.now)) c.deref-3.ensures.value ∙ c.in_ok-types.ensures);
       declarings = c.in_ok-declarings.ensures;
       units = c.in_ok-units.ensures;
     }
