@@ -8,7 +8,7 @@ use Rattle.st_trees.specs.declared.configuration.GlobalQualifier.TheVariants as 
 use Rattle.st_trees.specs.declared.declaration.Section.TheVariants as sections
 use Rattle.st_trees.specs.declared.unit.UnitSort.TheVariants as sorts
 use Rattle.st_trees.specs.Configurations.{Configuration}
-use Rattle.st_trees.specs.Expressions.{Expr, literal, read, call, exprs_of, Variable, variable, member, subscript}
+use Rattle.st_trees.specs.Expressions.{literal, read, call, exprs_of, Variable, variable, member, subscript}
 use Rattle.st_trees.specs.Expressions.{selectors_of}
 use Rattle.st_trees.specs.Initials.{single}
 use Rattle.st_trees.specs.Sources.{Source}
@@ -20,7 +20,6 @@ use Rattle.st_types.specs.Examples.{identifier, declared, name, set, untyped, A,
 use Rattle.st_types.specs.ResolutionExamples.{of_type}
 use Rattle.st_types.specs.Runs.{store_after}
 use Rattle.st_types.specs.Scopes.{Name, unowned}
-use Rattle.st_types.specs.Stores.{Store}
 use Rattle.st_layouts.specs.TextLayouts.{plan_variables_of_text, initial_values}
 use Rattle.st_layouts.specs.Libraries.{programs_of_text}
 use Rattle.st_layouts.specs.InitialExamples.{modes}

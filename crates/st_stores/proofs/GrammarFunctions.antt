@@ -1,13 +1,11 @@
 -- Functions as the grammar has them: no block of their variables is one of externals.
 use Rattle.std.proofs.Common.{◌≡◌, refl, sym, ap, subst, ◌∙◌, List, [], ◌∷◌, Bool, true, false, if◌then◌else◌, Option, Some}
-use Rattle.std.proofs.Common.{None}
 use Rattle.st_trees.specs.declared.declaration.Section.{Section}
 use Rattle.st_trees.specs.declared.data_type.SimpleType.{SimpleType}
-use Rattle.st_trees.specs.declared.unit.UnitSort.{UnitSort}
 use Rattle.st_trees.specs.declared.unit.UnitSort.TheVariants.{Function}
 use Rattle.st_trees.specs.Declarations.{VariableBlock}
 use Rattle.st_trees.specs.Units.{OrganisationUnit}
-use Rattle.st_trees.specs.Sources.{LibraryElement, Source}
+use Rattle.st_trees.specs.Sources.{Source}
 use Rattle.st_statements.specs.Tokens.{Tokens}
 use Rattle.st_parse.specs.Lists.{Many, no_more, one_more}
 use Rattle.st_parse.specs.Units.{IsDeclaration, IsFunctionSection, input, own, constant, IsBlock, block, IsUnit, function}

@@ -1,5 +1,5 @@
 -- A store and an image of the paths and types of slots are values of them.
-use Rattle.std.proofs.Common.{◌≡◌, Bool, true, false, not, ◌&&◌, if◌then◌else◌, List, [], ◌∷◌, map, refl, sym, ap, ap₂}
+use Rattle.std.proofs.Common.{◌≡◌, Bool, true, false, not, if◌then◌else◌, List, [], ◌∷◌, refl, sym, ap, ap₂}
 use Rattle.std.proofs.Common.{◌∙◌}
 use Rattle.std.specs.List.{list_all}
 use Rattle.st_words.specs.declared.kind.Kind.{Kind}

@@ -1,6 +1,8 @@
 //! Laws of stores over the slots of a layout.
 
 ghost use Rattle.std.specs.Prelude.{◌≡◌, ℕ, List, [], ◌∷◌, map, Option, Some, None, true, false, is_some, ◌+◌};
+ghost use Rattle.std.specs.Prelude.{option_map, Ok};
+ghost use Rattle.st_words.specs.declared.kind.Kind.{Kind};
 ghost use Rattle.st_words.specs.Values.{Datum};
 ghost use Rattle.st_words.specs.Paths.{Path};
 ghost use Rattle.st_trees.specs.declared.data_type.SimpleType.{SimpleType};
@@ -14,11 +16,13 @@ ghost use Rattle.st_statements.specs.Tokens.{Tokens};
 ghost use Rattle.st_parse.specs.Sources.{IsSource};
 ghost use Rattle.st_types.specs.Failures.{StandIns};
 ghost use Rattle.st_types.specs.NameTypes.{Declared, declared_in, unit_named};
-ghost use Rattle.st_types.specs.Runs.{Program, ran_where};
+ghost use Rattle.st_types.specs.Evaluation.{known};
+ghost use Rattle.st_types.specs.Loops.{End};
+ghost use Rattle.st_types.specs.Runs.{Program, ran_where, store_of};
 ghost use Rattle.st_types.specs.StandardBlocks.{block_of};
 ghost use Rattle.st_types.specs.Scopes.{Name, Scope, of_program, of_block, of_call};
 ghost use Rattle.st_types.specs.Slots.{Slot, IsLayout, variables_in, inputs_in};
-ghost use Rattle.st_types.specs.Stores.{Store, shape_of, all_held};
+ghost use Rattle.st_types.specs.Stores.{Store, get, shape_of, all_held};
 ghost use Rattle.st_statics.specs.Environments.{Environment};
 ghost use Rattle.st_sound.specs.Soundness.{Agrees};
 ghost use Rattle.st_layouts.specs.LayoutVariables.{Owned, owned_variable, variables_of_configuration};
@@ -131,14 +135,22 @@ pub fn runs_over_their_layout_are_sound()
     ensures { RunsAreSound }
 {}
 
-/// So what stands for what no well-typed text meets is never told: whatever it is, the run is the same.
+/// So what stands for what no well-typed text meets is never told: whatever it is, the run is the same. What had a value
+/// of a type before a run that is done has one after it.
 pub fn runs_hang_on_no_stand_in()
-    ensures { (source : Source) (owner : Owner) (u : OrganisationUnit) (vs : List Datum) (now budget : ℕ)
+    ensures same { (source : Source) (owner : Owner) (u : OrganisationUnit) (vs : List Datum) (now budget : ℕ)
         (i j : StandIns) → AreValuesOf (slots_of_text source) vs → IsWellTypedRun source owner u now
         → ran_where i (program_given source owner u) (inputs_in (slots_of_text source) vs) now budget
         (variables_in (slots_of_text source) vs)
         ≡ ran_where j (program_given source owner u) (inputs_in (slots_of_text source) vs) now budget
         (variables_in (slots_of_text source) vs) }
+    ensures kept { (source : Source) (owner : Owner) (u : OrganisationUnit) (vs : List Datum) (now budget left : ℕ)
+        (i : StandIns) (e : End) → AreValuesOf (slots_of_text source) vs → IsWellTypedRun source owner u now
+        → ran_where i (program_given source owner u) (inputs_in (slots_of_text source) vs) now budget
+        (variables_in (slots_of_text source) vs) ≡ Ok (e, left)
+        → (p : Path) (k : Kind)
+        → option_map (λ v. v.kind) (known (get (variables_in (slots_of_text source) vs) p)) ≡ Some k
+        → option_map (λ v. v.kind) (known (get (store_of e) p)) ≡ Some k }
 {}
 
 /// The programs of a text, which its plan runs, are those of the instances of its configuration, of which the laws on
