@@ -23,3 +23,4 @@ pub mod GrammarFunctions
 pub mod GivenPrograms
 pub mod SameRuns
 pub mod OverSlots
+pub mod AcceptedRuns

@@ -66,6 +66,11 @@ pub record IsWellTypedRun (source : Source) (owner : Owner) (u : OrganisationUni
       ≡ true
   pub functions : HaveFunctionsNoExternals source
 
+-- an instance's program, of which each run is such a one
+pub record HasRuns (source : Source) (owner : Owner) (now : ℕ) : Type 0 where
+  pub unit : OrganisationUnit
+  pub run : IsWellTypedRun source owner unit now
+
 -- a store and an image that are values of slots
 pub record AreOver (layout : List Slot) (image s : Store) : Type 0 where
   pub values : List Datum

@@ -9,7 +9,8 @@ ghost use Rattle.st_trees.specs.declared.data_type.SimpleType.{SimpleType};
 ghost use Rattle.st_trees.specs.declared.data_type.VariableType.{VariableType};
 ghost use Rattle.st_trees.specs.declared.unit.UnitSort.TheVariants as sorts;
 ghost use Rattle.st_words.specs.declared.path.Owner.{Owner};
-ghost use Rattle.st_trees.specs.Configurations.{Configuration};
+ghost use Rattle.st_trees.specs.declared.configuration.Instance.{Instance};
+ghost use Rattle.st_trees.specs.Configurations.{Resource, Configuration};
 ghost use Rattle.st_trees.specs.Units.{OrganisationUnit};
 ghost use Rattle.st_trees.specs.Sources.{Source};
 ghost use Rattle.st_statements.specs.Tokens.{Tokens};
@@ -23,10 +24,13 @@ ghost use Rattle.st_types.specs.StandardBlocks.{block_of};
 ghost use Rattle.st_types.specs.Scopes.{Name, Scope, of_program, of_block, of_call};
 ghost use Rattle.st_types.specs.Slots.{Slot, IsLayout, variables_in, inputs_in};
 ghost use Rattle.st_types.specs.Stores.{Store, get, shape_of, all_held};
+ghost use Rattle.st_statics.specs.ConfigurationRules.{has_one_configuration, are_known};
 ghost use Rattle.st_statics.specs.Environments.{Environment};
+ghost use Rattle.st_statics.specs.Rules.{IsWellTyped};
 ghost use Rattle.st_sound.specs.Soundness.{Agrees};
+ghost use Rattle.st_sound.specs.UnitSoundness.{IsMoment};
 ghost use Rattle.st_layouts.specs.LayoutVariables.{Owned, owned_variable, variables_of_configuration};
-ghost use Rattle.st_layouts.specs.LayoutVariables.{configurations_in, only_configuration};
+ghost use Rattle.st_layouts.specs.LayoutVariables.{configurations_in, only_configuration, owner_in};
 ghost use Rattle.st_statics.specs.TwiceDeclared.{twice_declared};
 ghost use Rattle.st_statics.specs.Containment.{part_of_type, has_chain};
 ghost use Rattle.st_statics.specs.declared.limits.TheConstants.{MAX_TYPE_DEPTH};
@@ -38,7 +42,7 @@ ghost use Rattle.st_layouts.specs.Standing.{are_declared_once};
 ghost use Rattle.st_stores.specs.Homes.{HasHomes, are_names_different, AreValuesOf, IsInstanceOf, IsGrounded};
 ghost use Rattle.st_stores.specs.Homes.{RunsIn, environment_of, IsProgramRun, IsHome, IsAmong};
 ghost use Rattle.st_stores.specs.WellTypedRuns.{HaveFunctionsNoExternals, LibrariesAreOfTexts, RunsStand, RunsAreSound};
-ghost use Rattle.st_stores.specs.WellTypedRuns.{program_given, IsProgramOf, IsWellTypedRun, AreOver};
+ghost use Rattle.st_stores.specs.WellTypedRuns.{program_given, IsProgramOf, IsWellTypedRun, HasRuns, AreOver};
 
 /// Where the names of a unit stand for parts of a layout, each place of the unit that has an elementary or enumerated
 /// type has a value of it, over all values of the layout's slots that are of their types.
@@ -162,4 +166,15 @@ pub fn programs_of_a_text_are_of_its_instances()
     ensures no_other { (source : Source) (c : Configuration) (p : Program)
         → only_configuration (configurations_in source) ≡ Some c → IsAmong p (programs_of_text source)
         → IsProgramOf source c p }
+{}
+
+/// What the laws on whole runs ask is so of each instance, at each moment that a TIME may tell, in a text that breaks no
+/// rule, has one configuration and names nothing there that is not known. The grammar gives no function externals.
+pub fn runs_of_known_instances_are_well_typed()
+    ensures one { (source : Source)
+        → has_one_configuration source ≡ is_some (only_configuration (configurations_in source)) }
+    ensures runs { (source : Source) (c : Configuration) (r : Resource) (i : Instance) (now : ℕ) → IsWellTyped source
+        → HaveFunctionsNoExternals source → only_configuration (configurations_in source) ≡ Some c
+        → are_known (declared_in source) c ≡ true → IsAmong r c.resources → IsAmong i r.instances → IsMoment now
+        → HasRuns source (owner_in r.name.name i) now }
 {}

@@ -13,7 +13,8 @@ pub use laws::{
     blocks_stand_in_their_instances, functions_stand_in_their_calls, libraries_are_of_their_texts,
     names_differ_where_none_is_declared_twice, programs_agree_with_their_layout,
     programs_of_a_text_are_of_its_instances, programs_stand_in_their_layout,
-    runs_hang_on_no_stand_in, runs_over_their_layout_are_sound, runs_stand_in_their_layout,
+    runs_hang_on_no_stand_in, runs_of_known_instances_are_well_typed,
+    runs_over_their_layout_are_sound, runs_stand_in_their_layout,
     stores_of_a_layout_are_values_of_its_slots, types_without_long_chains_are_within_depth,
     values_of_slots_agree,
 };
