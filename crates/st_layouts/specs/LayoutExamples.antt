@@ -231,7 +231,7 @@ block_in_a_block = text_of [] (fb ∷ outer ∷ program_with (
     variables_in (sections.Local (Some Retain)) (without_initial (codes "O") (of_type (codes "OUTER")) ∷ [])
     ∷ []) ∷ []) instance_p
 
--- VAR_GLOBAL RETAIN a : INT := 7; END_VAR VAR_GLOBAL x AT %IX0 : BOOL; q AT %QX0 : BOOL; END_VAR
+-- VAR_GLOBAL RETAIN a : INT := 7; END_VAR VAR_GLOBAL x AT %IX0 : BOOL; q AT %QX0 : BOOL := TRUE; END_VAR
 -- VAR_GLOBAL CONSTANT n : INT := 9; END_VAR VAR_GLOBAL w : ARRAY [0..1] OF WORD; END_VAR
 -- with two instances P and Q of a program with VAR k : INT; END_VAR VAR_EXTERNAL a : INT; END_VAR
 abbrev pub input_between_globals : Source
@@ -241,7 +241,9 @@ input_between_globals = text_of [] (program_with (
     ∷ []) ∷ []) (configured (
     globals_of (Some qualifiers.Retain) (global (codes "A") (plain Int) (Some (amount 7)) ∷ [])
     ∷ globals_of None (global_at (codes "X") (bit_at Input 0) (plain Boolean)
-    ∷ global_at (codes "Q") (bit_at Output 0) (plain Boolean) ∷ [])
+    ∷ record (global_at (codes "Q") (bit_at Output 0) (plain Boolean)) {
+      initial = Some (constant (literals.Truth 0 true));
+    } ∷ [])
     ∷ globals_of (Some qualifiers.Constant) (global (codes "N") (plain Int) (Some (amount 9)) ∷ [])
     ∷ globals_of None (global (codes "W") (array_of 0 1 (Elementary Word 0)) None ∷ [])
     ∷ []) (

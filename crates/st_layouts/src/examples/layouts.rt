@@ -87,7 +87,7 @@ pub fn an_input_between_globals()
         ∷ (codes "W[0]", Word, false) ∷ (codes "W[1]", Word, false) ∷ (codes "R/P.K", Int, false)
         ∷ (codes "R/Q.K", Int, false) ∷ (codes "S/P.K", Int, false) ∷ [] }
     ensures variables { values_in input_between_globals
-        ≡ (codes "A", int 7) ∷ (codes "Q", datum Boolean 0) ∷ (codes "N", int 9) ∷ (codes "W[0]", datum Word 0)
+        ≡ (codes "A", int 7) ∷ (codes "Q", datum Boolean 1) ∷ (codes "N", int 9) ∷ (codes "W[0]", datum Word 0)
         ∷ (codes "W[1]", datum Word 0) ∷ (codes "R/P.K", int 0) ∷ (codes "R/Q.K", int 0) ∷ (codes "S/P.K", int 0)
         ∷ [] }
     ensures retentions { retentions_in input_between_globals
