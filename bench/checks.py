@@ -12,6 +12,7 @@ import tempfile
 import time
 
 LIMIT = 1048576
+DIGITS = "0123456789abcdefghijklmnopqrstuvwxyz"
 
 
 def each(count, part):
@@ -22,11 +23,16 @@ def variables(count):
     return f"PROGRAM p VAR x{each(count, lambda k: f',n{k}')} : INT; END_VAR END_PROGRAM"
 
 
+def short(k):
+    """A name of four characters; its last one is a digit, so it is no word of the language."""
+    return "abcdefghijklmnopqrstuvwxyz"[k % 26] + DIGITS[k // 26 % 36] + DIGITS[k // 936 % 36] + DIGITS[k // 33696]
+
+
 def used_variables(count, uses, terms):
-    names = f"PROGRAM p VAR x{each(count, lambda k: f',n{k}')} : INT; END_VAR "
-    sums, at = [], 0
+    names = f"PROGRAM p VAR x{each(count, lambda k: f',{short(k)}')} : INT; END_VAR "
+    sums = []
     for first in range(0, uses, terms):
-        sums.append("x:=" + "+".join(f"n{(first + k) * 7919 % count}" for k in range(min(terms, uses - first))) + ";")
+        sums.append("x:=" + "+".join(short((first + k) * 7919 % count) for k in range(min(terms, uses - first))) + ";")
     return names + "".join(sums) + "END_PROGRAM"
 
 
@@ -101,7 +107,7 @@ def parentheses(count):
 TEXTS = [
     ("95,000 variables in one list", variables(95000)),
     ("40,000 variables, used 28,000 times", used_variables(40000, 28000, 1)),
-    ("20,000 variables, used 130,000 times in sums of 62", used_variables(20000, 130000, 62)),
+    ("20,000 variables, used 180,000 times in sums of 62", used_variables(20000, 180000, 62)),
     ("20,000 arrays with lists", lists(20000)),
     ("10,000 types in a chain", types(10000)),
     ("18,000 functions in a chain", functions(18000)),
