@@ -20,7 +20,7 @@ use Rattle.plant_program.specs.Jobs.{IsPlanIn, IsToldBy, IsTraceFault, RefusesSo
 -- the programs of the plan of a text are told apart
 pub apart_of : (text : List ℕ) (budget : ℕ) (plan : Plan) → IsPlanIn text budget plan → AreToldApart plan.programs.items
 apart_of text budget plan is =
-    let from = is.is.from in
+    let from = is.is.of_tree.from in
     apart_in _ from.variables from.inputs from.programs budget plan from.thin from.is
 
 -- V1 to V4 are no want of memory
