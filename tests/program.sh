@@ -606,4 +606,8 @@ named V4096 4 "fault N1"
 named V4094 4 "fault S2"
 named V1000 4 "fault S2"
 
+# More names of one type than a table of names has room for.
+{ printf 'TYPE T : (N0'; several 70000 ', N@'; printf '); END_TYPE\n'; } | tr -d '\n' > enumeration.st
+scene "70,000 names of one type" 2 "" "fault C13 at $(grep -bo 'N256,' enumeration.st | cut -d: -f1)" check enumeration.st
+
 echo "program.sh: $scenes scenes as they should be"

@@ -7,4 +7,5 @@ pub mod Roots
 pub mod Choices
 pub mod Bodies
 pub mod Lookups
+pub mod Surplus
 pub mod Checked

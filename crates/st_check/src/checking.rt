@@ -5,21 +5,23 @@ ghost use Rattle.st_trees.specs.SourceViews.{source_view};
 ghost use Rattle.st_statics.specs.Faults.{Finds};
 ghost use Rattle.st_statics.specs.Rules.{broken, wrong_types, wrong_starts, wrong_bodies};
 ghost use Rattle.st_decl.specs.Judgements.{Judges};
+ghost use Rattle.st_check.specs.Surplus.{HasNoSurplus};
 
 use crate::bodies::wrong_bodies;
+use crate::enumerations::surplus_names;
+use crate::faults::broken_at;
 use crate::lookups::Lookups;
 use crate::starts::wrong_starts;
 use crate::types::wrong_types;
 use st_decl::{CheckError, declare};
-use st_statics::Broken;
+use st_statics::{Broken, Rule};
 use st_trees::Source;
 use std::alloc::{AllocError, Global};
 
-/// One of the rules that a text breaks beyond those on declarations alone: in its types, its initial values or its
-/// bodies.
-fn wrong_beyond(alloc: Global, source: &Source) -> Result<Option<Broken>, AllocError>
-    ensures { let s = source_view source.now in IfOk result
-        (λ broken. Finds (wrong_types s ++ wrong_starts s ++ wrong_bodies s) broken) }
+/// One of the rules that a text breaks beyond those on declarations alone, where no enumerated type has too many names.
+fn wrong_by_names(alloc: Global, source: &Source) -> Result<Option<Broken>, AllocError>
+    ensures { let s = source_view source.now in IfOk result (λ broken. HasNoSurplus s
+        → Finds (wrong_types s ++ wrong_starts s ++ wrong_bodies s) broken) }
 {
     let lookups = Lookups::new(alloc, source)?;
     if let Some(broken) = wrong_types(alloc, &lookups)? {
@@ -29,6 +31,19 @@ fn wrong_beyond(alloc: Global, source: &Source) -> Result<Option<Broken>, AllocE
         return Ok(Some(broken));
     }
     wrong_bodies(alloc, &lookups.tables, &lookups.units)
+}
+
+/// One of the rules that a text breaks beyond those on declarations alone: in its types, its initial values or its
+/// bodies. The names of enumerated types are counted before any is looked up, since a table has no room for more.
+fn wrong_beyond(alloc: Global, source: &Source) -> Result<Option<Broken>, AllocError>
+    ensures { let s = source_view source.now in IfOk result
+        (λ broken. Finds (wrong_types s ++ wrong_starts s ++ wrong_bodies s) broken) }
+{
+    let surplus = surplus_names(alloc, source)?;
+    match broken_at(Rule::TooManyNames, surplus) {
+        Some(broken) => Ok(Some(broken)),
+        None => wrong_by_names(alloc, source),
+    }
 }
 
 /// Judges a text by the rules that are not on declarations alone.

@@ -7,6 +7,7 @@ ghost use Rattle.st_trees.specs.SourceViews.{element_view, source_view};
 ghost use Rattle.st_statics.specs.DeclaredTypes.{names_of_definition, enumerations_of_element, enumerations_in};
 ghost use Rattle.st_statics.specs.TypeRules.{surplus_name};
 ghost use Rattle.st_names.specs.Searches.{FindsPlace};
+ghost use Rattle.st_check.specs.Surplus.{surplus_names};
 
 use st_statics::limits::MAX_NAMES;
 use st_trees::{LibraryElement, Source, TypeDeclaration, TypeDefinition};
@@ -95,8 +96,7 @@ fn first_surplus(enumerations: &[&[Identifier]]) -> Option<usize>
 
 /// A name of an enumerated type that has too many.
 pub fn surplus_names(alloc: Global, source: &Source) -> Result<Option<usize>, AllocError>
-    ensures { IfOk result
-        (λ place. FindsPlace (flat_map surplus_name (enumerations_in (source_view source.now))) place) }
+    ensures { IfOk result (λ place. FindsPlace (surplus_names (source_view source.now)) place) }
 {
     let enumerations = enumerations_in(alloc, source)?;
     Ok(first_surplus(&enumerations))

@@ -3,38 +3,36 @@ use Rattle.std.specs.List.{flat_map}
 use Rattle.st_trees.specs.SourceViews.{source_view}
 use Rattle.st_types.specs.NameTypes.{declared_in}
 use Rattle.st_statics.specs.declared.rule.Rule.TheVariants.{TooManyNames, OutOfRange}
-use Rattle.st_statics.specs.DeclaredTypes.{declarings_in, arrays_in, results_in, enumerations_in}
+use Rattle.st_statics.specs.DeclaredTypes.{declarings_in, arrays_in, results_in}
 use Rattle.st_statics.specs.Faults.{breaking, Finds}
 use Rattle.st_statics.specs.TypeRules.{wrong_declaring, wrong_element, wrong_result, wrong_bound_numbers}
-use Rattle.st_statics.specs.TypeRules.{surplus_name, wrong_priorities_of}
+use Rattle.st_statics.specs.TypeRules.{wrong_priorities_of}
 use Rattle.st_names.specs.Searches.{FindsPlace}
 use Rattle.st_decl.specs.DeclaringViews.{declaring_view}
+use Rattle.st_check.specs.Surplus.{surplus_names}
 use Rattle.st_check.proofs.Finding.{finds_either}
 use Rattle.st_check.proofs.types.wrong_types.Goals as goal
 
 pub returns : goal.returns
-returns c s serves =
+returns c s serves none =
     let text = declared_in s in
     let is = serves.source_is in
     let viewed : map declaring_view c.deref.result.now ≡ declarings_in (source_view c.args.lookups.now.source.now) =
     ap (map declaring_view) c.deref.ensures.value ∙ serves.declarings ∙ ap declarings_in (sym is) in
     let all : map (λ a. a.now) c.in_ok-arrays.arrays.items ≡ arrays_in s =
     c.in_ok-arrays.ensures viewed ∙ ap arrays_in is in
-    let names = flat_map surplus_name (enumerations_in s) in
-    let surplus = breaking TooManyNames names in
+    let surplus = breaking TooManyNames (surplus_names s) in
     let declared = flat_map (wrong_declaring text) (declarings_in s) in
     let elements = flat_map (wrong_element text) (arrays_in s) in
     let results = flat_map (wrong_result text) (results_in s) in
     let bounds = flat_map wrong_bound_numbers (arrays_in s) in
     let places = flat_map wrong_priorities_of s in
-    let in_names : Finds surplus c.broken_at-surplus.result =
-    c.broken_at-surplus.ensures names
-    (subst (λ x. FindsPlace (flat_map surplus_name (enumerations_in x)) c.in_ok-surplus.surplus) is
-    c.in_ok-surplus.ensures) in
-    let in_declared : Finds declared c.first_wrong_declaring.result =
-    subst (λ ds. Finds (flat_map (wrong_declaring text) ds) c.first_wrong_declaring.result)
+    let of_declared : Finds declared c.first_wrong_declaring-declared.result =
+    subst (λ ds. Finds (flat_map (wrong_declaring text) ds) c.first_wrong_declaring-declared.result)
     (ap (map declaring_view) c.deref-2.ensures.value ∙ serves.declarings)
-    (c.first_wrong_declaring.ensures text serves.names serves.tables) in
+    (c.first_wrong_declaring-declared.ensures text serves.names serves.tables) in
+    let in_declared : Finds (surplus ++ declared) c.first_wrong_declaring-declared.result =
+    subst (λ ns. Finds (breaking TooManyNames ns ++ declared) c.first_wrong_declaring-declared.result) (sym none) of_declared in
     let in_elements : Finds elements c.first_wrong_element.result =
     subst (λ xs. Finds (flat_map (wrong_element text) xs) c.first_wrong_element.result)
     (ap (map (λ a. a.now)) c.deref-3.ensures.value ∙ all)
@@ -55,7 +53,5 @@ returns c s serves =
     c.first_wrong_bound.result c.either-bound.ensures
     (finds_either (surplus ++ declared ++ elements) results c.either-result.result c.either-element.result
     c.in_ok-result.result c.either-result.ensures
-    (finds_either (surplus ++ declared) elements c.either-element.result c.either-declared.result
-    c.first_wrong_element.result c.either-element.ensures
-    (finds_either surplus declared c.either-declared.result c.broken_at-surplus.result c.first_wrong_declaring.result
-    c.either-declared.ensures in_names in_declared) in_elements) in_results) in_bounds) in_priorities
+    (finds_either (surplus ++ declared) elements c.either-element.result c.first_wrong_declaring-declared.result
+    c.first_wrong_element.result c.either-element.ensures in_declared in_elements) in_results) in_bounds) in_priorities
