@@ -93,7 +93,11 @@ pub fn depths_of_units()
         (Array (array_of 2014 (pos 1) (pos 2) (Named (at 2030 (63 ∷ []))))) ∷ [])) ≡ breaks TooDeep 2014 ∷ [] }
     ensures deepest_array { broken (types (chain_of_types 62) ∷ local (declaring (at 2010 X)
         (Array (array_of 2014 (pos 1) (pos 2) (Named (at 2030 (62 ∷ []))))) ∷ [])) ≡ [] }
-    // TYPE n : ARRAY [1..2] OF the 63rd structure; END_TYPE
+    // TYPE n : ARRAY [1..2] OF the 62nd structure; END_TYPE
+    ensures deepest_array_type { broken (types (defining (at 2000 N)
+        (definitions.array (array_of 2004 (pos 1) (pos 2) (Named (at 2020 (62 ∷ []))))) ∷ chain_of_types 62) ∷ [])
+        ≡ [] }
+    // and OF the 63rd
     ensures array_type_too_deep { broken (types (defining (at 2000 N)
         (definitions.array (array_of 2004 (pos 1) (pos 2) (Named (at 2020 (63 ∷ []))))) ∷ chain_of_types 63) ∷ [])
         ≡ breaks TooDeep 2000 ∷ [] }

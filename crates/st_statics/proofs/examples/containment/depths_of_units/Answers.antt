@@ -52,6 +52,10 @@ pub returns-clause-deepest_array : goal.returns-clause-deepest_array
 unfolding standard_of standard_functions block_of has_chain leads_to
 returns-clause-deepest_array c = refl
 
+pub returns-clause-deepest_array_type : goal.returns-clause-deepest_array_type
+unfolding standard_of standard_functions block_of has_chain leads_to
+returns-clause-deepest_array_type c = refl
+
 pub returns-clause-array_type_too_deep : goal.returns-clause-array_type_too_deep
 unfolding standard_of standard_functions block_of has_chain leads_to
 returns-clause-array_type_too_deep c = refl
