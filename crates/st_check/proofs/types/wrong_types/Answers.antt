@@ -32,7 +32,8 @@ returns c s serves none =
     (ap (map declaring_view) c.deref-2.ensures.value ∙ serves.declarings)
     (c.first_wrong_declaring-declared.ensures text serves.names serves.tables) in
     let in_declared : Finds (surplus ++ declared) c.first_wrong_declaring-declared.result =
-    subst (λ ns. Finds (breaking TooManyNames ns ++ declared) c.first_wrong_declaring-declared.result) (sym none) of_declared in
+    subst (λ ns. Finds (breaking TooManyNames ns ++ declared) c.first_wrong_declaring-declared.result) (sym none)
+    of_declared in
     let in_elements : Finds elements c.first_wrong_element.result =
     subst (λ xs. Finds (flat_map (wrong_element text) xs) c.first_wrong_element.result)
     (ap (map (λ a. a.now)) c.deref-3.ensures.value ∙ all)
