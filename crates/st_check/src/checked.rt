@@ -2,7 +2,8 @@
 
 ghost use Rattle.std.specs.Prelude.{◌≡◌, IfOk, IfErr};
 ghost use Rattle.st_trees.specs.SourceViews.{source_view};
-ghost use Rattle.st_statics.specs.Rules.{broken};
+ghost use Rattle.st_types.specs.ResolvedUnits.{resolved_source};
+ghost use Rattle.st_statics.specs.Rules.{IsWellTyped, broken};
 ghost use Rattle.st_decl.specs.Judgements.{Refuses};
 ghost use Rattle.st_check.specs.Checked.{IsChecked, IsCheckedFrom};
 
@@ -35,6 +36,8 @@ impl Checked {
 /// place, or that there is no memory (C12).
 pub fn check(alloc: Global, source: Source) -> Result<Checked, CheckError>
     ensures ok { IfOk result (λ c. IsCheckedFrom (source_view source) (source_view c.source)) }
+    ensures well_typed { IfOk result (λ c. IsWellTyped (source_view source)) }
+    ensures resolved { IfOk result (λ c. source_view c.source ≡ resolved_source (source_view source)) }
     ensures err { IfErr result (λ e. Refuses (broken (source_view source)) e) }
 {
     match judge(alloc, &source) {

@@ -1,0 +1,2 @@
+pub mod SiteLemmas
+pub mod CompositionLemmas

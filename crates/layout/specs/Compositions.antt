@@ -1,0 +1,37 @@
+-- What declared types are made of, as the definitions see it.
+use Rattle.std.specs.Prelude.{ℕ, List, map}
+use Rattle.st_words.specs.declared.identifier.Identifier.{Identifier}
+use Rattle.st_trees.specs.declared.data_type.SimpleType.TheVariants.{Named}
+use Rattle.st_trees.specs.declared.data_type.VariableType.{VariableType}
+use Rattle.st_trees.specs.declared.data_type.VariableType.TheVariants.{Simple}
+use Rattle.st_trees.specs.DeclarationViews.{field_view, variable_block_view}
+use Rattle.st_types.specs.Enumerations.{enumerations_of}
+use Rattle.st_types.specs.NameTypes.{Declared}
+use Rattle.st_types.specs.Scopes.{Name}
+use Rattle.st_types.specs.StandardBlocks.{members_of}
+use Rattle.st_names.specs.Enumerated.{HasEnumerations}
+use Rattle.st_names.specs.Standard.{block_view}
+use Rattle.st_names.specs.Texts.{ServesText}
+use Rattle.st_layouts.specs.Shapes.{of_structure, of_instance}
+use Rattle.st_layouts.specs.Types as made
+use Rattle.st_layouts.specs.Types.{of_kind, of_elements, of_parts, nothing, site_of_field, site_of_member, sites_of_blocks}
+use Rattle.layout.specs.declared.compositions.Composition.{Composition}
+use Rattle.layout.specs.declared.compositions.Composition.TheVariants.{Kind, Elements, Fields, Block, Standard, Nothing}
+use Rattle.layout.specs.declared.compositions.Types.{Types}
+
+abbrev pub composition_view : Composition → made.Composition
+composition_view (Kind k) = of_kind k
+composition_view (Elements a) = of_elements a.now
+composition_view (Fields fs) = of_parts of_structure (map site_of_field (map field_view fs.now))
+composition_view (Block bs) = of_parts of_instance (sites_of_blocks (map variable_block_view bs.now))
+composition_view (Standard b) = of_parts of_instance (map site_of_member (members_of (block_view b)))
+composition_view Nothing = nothing
+
+-- a type of this name, wherever it stands
+abbrev pub named_type : Name → ℕ → VariableType
+named_type x at = Simple (Named (record { name = x; place = at }))
+
+-- They are those of the text.
+pub record ServesTypes (types : Types) (text : Declared) : Type 0 where
+  pub names : ServesText types.names text
+  pub enumerated : HasEnumerations types.enumerated (enumerations_of text.types)

@@ -1,0 +1,99 @@
+//! The parts of a whole, one level down, with what their declarations say.
+
+ghost use Rattle.std.specs.Prelude.{◌≡◌, ◌++◌, ◌∷◌, [], map, option_map, OnOk};
+ghost use Rattle.st_trees.specs.DeclarationViews.{field_view};
+ghost use Rattle.st_trees.specs.Initials.{members_of};
+ghost use Rattle.st_trees.specs.InitialViews.{initial_view, member_view};
+ghost use Rattle.st_plans.specs.Plans.{retained_so_far};
+ghost use Rattle.st_layouts.specs.Types as made;
+ghost use Rattle.st_layouts.specs.Types.{NamedSite};
+ghost use Rattle.st_layouts.specs.Types.{site_of_field};
+ghost use Rattle.st_layouts.specs.Sites.{field_initial, member_initial};
+ghost use Rattle.st_names.specs.PlaceTypes.{place_type_view};
+ghost use Rattle.layout.specs.Sites.{IsSaid, kept, kept_part, member_part, part_view, site_view};
+
+use crate::sites::{Part, PartStep, Site};
+use st_names::{PlaceType, place_type};
+use st_trees::{Field, Initial, InitialMember, Retention};
+use std::alloc::AllocError;
+
+/// What a list of a structure's fields gives a field.
+fn field_initial<'a>(members: &'a [InitialMember], name: &[u8]) -> Option<&'a Initial>
+    ensures { option_map (λ i. initial_view i.now) result
+        ≡ field_initial (members_of (map member_view members.now)) name.now }
+{
+    for member in members {
+        if name == member.name.name.as_slice() {
+            return Some(&member.value);
+        }
+    }
+    None
+}
+
+/// What the initial value of a whole gives a field or a member of it.
+fn member_initial<'a>(initial: Option<&'a Initial>, name: &[u8]) -> Option<&'a Initial>
+    ensures { option_map (λ i. initial_view i.now) result
+        ≡ member_initial (option_map (λ i. initial_view i.now) initial.entry) name.now }
+{
+    match initial {
+        Some(Initial::Structure(_, members)) => field_initial(members, name),
+        _ => None,
+    }
+}
+
+/// Whether what is declared so within what is retained or not is retained.
+fn is_retained_within(retained: bool, said: Option<Retention>) -> bool
+    ensures { result ≡ retained_so_far retained (said ∷ []) }
+{
+    match said {
+        Some(Retention::Retain) => true,
+        Some(Retention::NonRetain) => false,
+        None => retained,
+    }
+}
+
+/// A field or a member by its name, with what the whole gives it, and else with what its own declaration says.
+#[tactic(auto, using(crate::proofs::SiteLemmas::retained_appended))]
+fn member_of<'a>(
+    whole: Site<'a>,
+    name: &'a [u8],
+    declared: PlaceType<'a>,
+    initial: Option<&'a Initial>,
+    said: Option<Retention>,
+) -> Part<'a>
+    ensures { (s : made.Site) (d : NamedSite) → site_view whole.entry ≡ kept s → d.name ≡ name.now
+        → d.site.declared ≡ place_type_view declared.entry
+        → d.site.initial ≡ option_map (λ i. initial_view i.now) initial.entry
+        → IsSaid d.site.retentions said → part_view result ≡ kept_part (member_part s d) }
+{
+    let initial = match member_initial(whole.initial, name) {
+        Some(given) => Some(given),
+        None => initial,
+    };
+    Part {
+        step: PartStep::Member(name),
+        site: Site {
+            declared,
+            initial,
+            retained: is_retained_within(whole.retained, said),
+        },
+    }
+}
+
+/// Appends the fields of a structure.
+pub fn push_fields<'a>(
+    parts: &mut Vec<Part<'a>>,
+    whole: Site<'a>,
+    fields: &'a [Field],
+) -> Result<(), AllocError>
+    ensures { OnOk result ((s : made.Site) → site_view whole.entry ≡ kept s
+        → map part_view parts.new.items ≡ map part_view parts.old.items
+        ++ map kept_part (map (member_part s) (map site_of_field (map field_view fields.now)))) }
+{
+    for field in fields {
+        let declared = place_type(&field.declared);
+        let initial = field.initial.as_ref();
+        parts.push(member_of(whole, field.name.name.as_slice(), declared, initial, None))?;
+    }
+    Ok(())
+}
