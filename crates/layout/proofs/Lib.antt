@@ -1,2 +1,6 @@
 pub mod SiteLemmas
 pub mod CompositionLemmas
+pub mod ExpansionLemmas
+pub mod InitialLemmas
+pub mod PushLemmas
+pub mod GrowthLemmas

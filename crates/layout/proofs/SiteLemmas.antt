@@ -1,9 +1,11 @@
 -- What the declarations say of parts.
-use Rattle.std.proofs.Common.{◌≡◌, refl, sym, ap, subst, ◌∙◌, List, [], ◌∷◌, ◌++◌, Bool, true, false, Option, Some, None}
-use Rattle.std.specs.Prelude.{option_map}
+use Rattle.std.proofs.Common.{◌≡◌, refl, ap, arith, ℕ, suc, ◌+◌, ◌-◌, ◌<◌, List, [], ◌∷◌, ◌++◌, Bool, true, false, Option, Some, None}
+use Rattle.st_trees.specs.declared.data_type.ArrayType.{ArrayType}
 use Rattle.st_trees.specs.declared.declaration.Retention.{Retention}
 use Rattle.st_trees.specs.declared.declaration.Retention.TheVariants.{Retain, NonRetain}
-use Rattle.st_plans.specs.Plans.{is_retained_by, retained_so_far}
+use Rattle.st_plans.specs.Plans.{retained_so_far}
+use Rattle.st_layouts.specs.Types as made
+use Rattle.layout.specs.Sites.{element_part, element_parts}
 
 pub retained_appended : (so : Bool) (xs ys : List (Option Retention))
     → retained_so_far so (xs ++ ys) ≡ retained_so_far (retained_so_far so xs) ys
@@ -11,3 +13,10 @@ retained_appended so [] ys = refl
 retained_appended so (None ∷ xs) ys = retained_appended so xs ys
 retained_appended so (Some Retain ∷ xs) ys = retained_appended true xs ys
 retained_appended so (Some NonRetain ∷ xs) ys = retained_appended false xs ys
+
+pub elements_more : (s : made.Site) (a : ArrayType) (n k : ℕ) → k < n
+    → element_parts s a k (n - k) ≡ element_part s a k ∷ element_parts s a (k + 1) (n - (k + 1))
+elements_more s a n k h = ap (element_parts s a k) (one_less n k h)
+  where
+    one_less : (n k : ℕ) → k < n → n - k ≡ suc (n - (k + 1))
+    one_less n k h = omega (arith, h)

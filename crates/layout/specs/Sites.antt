@@ -1,9 +1,11 @@
 -- What the declarations say of a variable and of its parts, as code keeps it.
 use Rattle.std.specs.Prelude.{◌≡◌, ℕ, zero, suc, ◌+◌, ℤ, pos, ◌+ℤ◌, List, [], ◌∷◌, map, Bool, Option, option_map}
+use denote.Bor.{Bor}
 use Rattle.st_words.specs.declared.path.Step as path
 use Rattle.st_words.specs.declared.path.Step.TheVariants as steps
 use Rattle.st_trees.specs.declared.data_type.ArrayType.{ArrayType}
 use Rattle.st_trees.specs.declared.data_type.VariableType.{VariableType}
+use Rattle.st_trees.specs.declared.initial.Initial as code
 use Rattle.st_trees.specs.Initials.{Initial}
 use Rattle.st_trees.specs.InitialViews.{initial_view}
 use Rattle.st_trees.specs.declared.declaration.Retention.{Retention}
@@ -23,10 +25,14 @@ pub record KeptSite : Type 0 where
   pub initial : Option Initial
   pub retained : Bool
 
+-- what a declaration or a whole gives, or nothing
+abbrev pub given_view : Option (Bor code.Initial) → Option Initial
+given_view = option_map (λ i. initial_view i.now)
+
 abbrev pub site_view : Site → KeptSite
 site_view s = record {
   declared = place_type_view s.declared;
-  initial = option_map (λ i. initial_view i.now) s.initial;
+  initial = given_view s.initial;
   retained = s.retained;
 }
 
@@ -54,14 +60,17 @@ member_part s d = (steps.Member d.name, member_site s d.name d.site)
 abbrev pub IsSaid : List (Option Retention) → Option Retention → Type 0
 IsSaid rs said = (so : Bool) → retained_so_far so rs ≡ retained_so_far so (said ∷ [])
 
--- the elements from a subscript on, which is that of the element of this number
-abbrev pub element_parts : made.Site → ArrayType → ℤ → ℕ → ℕ → List (path.Step × made.Site)
-element_parts s a z i zero = []
-element_parts s a z i (suc n) =
-    (steps.Element z, element_site s a i) ∷ element_parts s a (z +ℤ pos 1) (i + 1) n
+-- the element of this number, from 0
+abbrev pub element_part : made.Site → ArrayType → ℕ → path.Step × made.Site
+element_part s a i = (steps.Element (lower_of a +ℤ pos i), element_site s a i)
+
+-- so many elements from this number on
+abbrev pub element_parts : made.Site → ArrayType → ℕ → ℕ → List (path.Step × made.Site)
+element_parts s a i zero = []
+element_parts s a i (suc n) = element_part s a i ∷ element_parts s a (i + 1) n
 
 -- the parts of what is made so, one level down, in the order of the layout
 abbrev pub parts_behind : made.Site → made.Composition → List (path.Step × made.Site)
 parts_behind s (of_kind k) = []
-parts_behind s (of_elements a) = element_parts s a (lower_of a) 0 (count_of a)
+parts_behind s (of_elements a) = element_parts s a 0 (count_of a)
 parts_behind s (of_parts w ds) = map (member_part s) ds

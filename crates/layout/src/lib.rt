@@ -3,10 +3,22 @@
 //! What a layout is stands in `st_layouts`. Here a declared type is taken apart, one level at a time.
 #![tactic(auto)]
 
+mod block_members;
 mod compositions;
+mod elements;
+mod growing;
+mod initials;
+mod layout_error;
+pub mod limits;
 mod members;
+mod parts;
 mod sites;
+mod slots;
+mod standard_members;
 
 pub use compositions::{Composition, Types};
-pub use members::push_fields;
+pub use growing::{Growing, push_site};
+pub use layout_error::LayoutError;
+pub use parts::parts_of;
 pub use sites::{Part, PartStep, Site};
+pub use slots::{LayoutSlot, Root};

@@ -1,16 +1,16 @@
 //! The parts of a whole, one level down, with what their declarations say.
 
-ghost use Rattle.std.specs.Prelude.{◌≡◌, ◌++◌, ◌∷◌, [], map, option_map, OnOk};
+ghost use Rattle.std.specs.Prelude.{◌≡◌, ◌++◌, ◌∷◌, [], map, OnOk};
 ghost use Rattle.st_trees.specs.DeclarationViews.{field_view};
 ghost use Rattle.st_trees.specs.Initials.{members_of};
-ghost use Rattle.st_trees.specs.InitialViews.{initial_view, member_view};
+ghost use Rattle.st_trees.specs.InitialViews.{member_view};
 ghost use Rattle.st_plans.specs.Plans.{retained_so_far};
 ghost use Rattle.st_layouts.specs.Types as made;
 ghost use Rattle.st_layouts.specs.Types.{NamedSite};
 ghost use Rattle.st_layouts.specs.Types.{site_of_field};
 ghost use Rattle.st_layouts.specs.Sites.{field_initial, member_initial};
 ghost use Rattle.st_names.specs.PlaceTypes.{place_type_view};
-ghost use Rattle.layout.specs.Sites.{IsSaid, kept, kept_part, member_part, part_view, site_view};
+ghost use Rattle.layout.specs.Sites.{IsSaid, given_view, kept, kept_part, member_part, part_view, site_view};
 
 use crate::sites::{Part, PartStep, Site};
 use st_names::{PlaceType, place_type};
@@ -19,7 +19,7 @@ use std::alloc::AllocError;
 
 /// What a list of a structure's fields gives a field.
 fn field_initial<'a>(members: &'a [InitialMember], name: &[u8]) -> Option<&'a Initial>
-    ensures { option_map (λ i. initial_view i.now) result
+    ensures { given_view result
         ≡ field_initial (members_of (map member_view members.now)) name.now }
 {
     for member in members {
@@ -32,8 +32,8 @@ fn field_initial<'a>(members: &'a [InitialMember], name: &[u8]) -> Option<&'a In
 
 /// What the initial value of a whole gives a field or a member of it.
 fn member_initial<'a>(initial: Option<&'a Initial>, name: &[u8]) -> Option<&'a Initial>
-    ensures { option_map (λ i. initial_view i.now) result
-        ≡ member_initial (option_map (λ i. initial_view i.now) initial.entry) name.now }
+    ensures { given_view result
+        ≡ member_initial (given_view initial.entry) name.now }
 {
     match initial {
         Some(Initial::Structure(_, members)) => field_initial(members, name),
@@ -54,7 +54,7 @@ fn is_retained_within(retained: bool, said: Option<Retention>) -> bool
 
 /// A field or a member by its name, with what the whole gives it, and else with what its own declaration says.
 #[tactic(auto, using(crate::proofs::SiteLemmas::retained_appended))]
-fn member_of<'a>(
+pub fn member_of<'a>(
     whole: Site<'a>,
     name: &'a [u8],
     declared: PlaceType<'a>,
@@ -63,7 +63,7 @@ fn member_of<'a>(
 ) -> Part<'a>
     ensures { (s : made.Site) (d : NamedSite) → site_view whole.entry ≡ kept s → d.name ≡ name.now
         → d.site.declared ≡ place_type_view declared.entry
-        → d.site.initial ≡ option_map (λ i. initial_view i.now) initial.entry
+        → d.site.initial ≡ given_view initial.entry
         → IsSaid d.site.retentions said → part_view result ≡ kept_part (member_part s d) }
 {
     let initial = match member_initial(whole.initial, name) {
@@ -80,6 +80,16 @@ fn member_of<'a>(
     }
 }
 
+/// A field of a structure.
+fn field_part<'a>(whole: Site<'a>, field: &'a Field) -> Part<'a>
+    ensures { (s : made.Site) → site_view whole.entry ≡ kept s
+        → part_view result ≡ kept_part (member_part s (site_of_field (field_view field.now))) }
+{
+    let name = field.name.name.as_slice();
+    let declared = place_type(&field.declared);
+    member_of(whole, name, declared, field.initial.as_ref(), None)
+}
+
 /// Appends the fields of a structure.
 pub fn push_fields<'a>(
     parts: &mut Vec<Part<'a>>,
@@ -91,9 +101,7 @@ pub fn push_fields<'a>(
         ++ map kept_part (map (member_part s) (map site_of_field (map field_view fields.now)))) }
 {
     for field in fields {
-        let declared = place_type(&field.declared);
-        let initial = field.initial.as_ref();
-        parts.push(member_of(whole, field.name.name.as_slice(), declared, initial, None))?;
+        parts.push(field_part(whole, field))?;
     }
     Ok(())
 }

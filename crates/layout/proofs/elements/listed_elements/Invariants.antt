@@ -1,0 +1,12 @@
+use Rattle.std.proofs.Common.{◌≡◌, ◌++◌, map, drop}
+use Rattle.st_trees.specs.Initials.{elements_of}
+use Rattle.st_trees.specs.InitialViews.{element_view}
+use Rattle.st_layouts.specs.Sites.{listed_elements}
+use Rattle.layout.specs.Sites.{given_view}
+use Rattle.layout.proofs.elements.listed_elements.Given as goal
+
+-- what is there and what is still to come
+abbrev pub invariant-loop-element : goal.invariant-loop-element
+invariant-loop-element l = map given_view l.given.items
+    ++ listed_elements (elements_of (map element_view (drop l.element-index l.elements)))
+    ≡ listed_elements (elements_of (map element_view l.elements))

@@ -1,0 +1,23 @@
+-- What a part of a variable adds to a layout, and when there is no room for it.
+use Rattle.std.specs.Prelude.{◌≡◌, ℕ, ◌+◌, nat_lt, ◌++◌, ◌||◌, true}
+use Rattle.st_words.specs.declared.limits.TheConstants.{MAX_PATHS}
+use Rattle.st_types.specs.NameTypes.{Declared}
+use Rattle.st_layouts.specs.Shapes.{instance_count}
+use Rattle.st_layouts.specs.Types as made
+use Rattle.st_layouts.specs.Types.{shape_within}
+use Rattle.layout.specs.Slots.{path_at, slots_within}
+use Rattle.layout.specs.declared.growing.Growing.{Growing}
+use Rattle.layout.specs.declared.layout_error.LayoutError.{LayoutError}
+use Rattle.layout.specs.declared.layout_error.LayoutError.TheVariants as errors
+use Rattle.layout.specs.declared.limits.TheConstants.{MAX_INSTANCES}
+use Rattle.layout.specs.declared.slots.Root.{Root}
+
+-- its slots behind those that were there, and its instances beside them
+pub record Grows (n : ℕ) (text : Declared) (s : made.Site) (r : Root) (old new : Growing) : Type 0 where
+  pub slots : new.slots.items ≡ old.slots.items ++ slots_within n text s r.is_input (path_at r old.trail.items)
+  pub instances : new.instances ≡ old.instances + instance_count (shape_within n text s.declared)
+
+-- so many slots or so many instances are too many, where that is what the error says
+abbrev pub Exceeds : ℕ → ℕ → LayoutError → Type 0
+Exceeds slots instances errors.TooLarge = (nat_lt MAX_PATHS slots || nat_lt MAX_INSTANCES instances) ≡ true
+Exceeds slots instances errors.OutOfMemory = Unit {0}

@@ -1,0 +1,73 @@
+-- The slots of a layout with what they start with, and those of the parts of a variable.
+use Rattle.std.specs.Prelude.{ℕ, ◌+◌, List, [], ◌∷◌, ◌++◌, map, Bool, option_map}
+use Rattle.st_words.specs.declared.path.Owner.{Owner}
+use Rattle.st_words.specs.declared.path.Step.{Step}
+use Rattle.st_words.specs.Paths.{Path}
+use Rattle.st_plans.specs.Plans.{initial_value}
+use Rattle.st_types.specs.NameTypes.{Declared}
+use Rattle.st_layouts.specs.Shapes.{Leaf, leaves_of, size, instance_count, instances_of_whole}
+use Rattle.st_layouts.specs.Types as made
+use Rattle.st_layouts.specs.Types.{of_kind, of_elements, of_parts, shape_within}
+use Rattle.st_layouts.specs.Sites.{initial_at, retained_at, constant_of}
+use Rattle.st_layouts.specs.TextLayouts.{further}
+use Rattle.layout.specs.Sites.{KeptSite, step_view}
+use Rattle.layout.specs.declared.sites.PartStep.{PartStep}
+use Rattle.layout.specs.declared.slots.LayoutSlot.{LayoutSlot}
+use Rattle.layout.specs.declared.slots.OwnerNames.{OwnerNames}
+use Rattle.layout.specs.declared.slots.Root.{Root}
+
+abbrev pub owner_view : OwnerNames → Owner
+owner_view o = record { resource = o.resource.now; instance = o.instance.now }
+
+-- the path of the part to which steps lead from a variable
+abbrev pub path_at : Root → List PartStep → Path
+path_at r xs = record { owner = option_map owner_view r.owner; name = r.name.now; steps = map step_view xs }
+
+-- the slot of an elementary part, of which the whole is declared so and reached by this path
+abbrev pub slot_at : Declared → made.Site → Bool → Path → Leaf → LayoutSlot
+slot_at text s input p l = record {
+  path = further p l.steps;
+  initial = initial_at text s l.steps l.kind;
+  retained = retained_at text s l.steps;
+  is_input = input;
+}
+
+-- the slots of what is declared so, of a type that is expanded so deep
+abbrev pub slots_within : ℕ → Declared → made.Site → Bool → Path → List LayoutSlot
+slots_within n text s input p = map (slot_at text s input p) (leaves_of (shape_within n text s.declared))
+
+-- those of its parts, each behind its step
+abbrev pub slots_of_parts : ℕ → Declared → Bool → Path → List (Step × made.Site) → List LayoutSlot
+slots_of_parts n text input p [] = []
+slots_of_parts n text input p (e ∷ es) =
+    slots_within n text e.1 input (further p (e.0 ∷ [])) ++ slots_of_parts n text input p es
+
+abbrev pub size_of_parts : ℕ → Declared → List (Step × made.Site) → ℕ
+size_of_parts n text [] = 0
+size_of_parts n text (e ∷ es) = size (shape_within n text e.1.declared) + size_of_parts n text es
+
+abbrev pub instances_of_parts : ℕ → Declared → List (Step × made.Site) → ℕ
+instances_of_parts n text [] = 0
+instances_of_parts n text (e ∷ es) = instance_count (shape_within n text e.1.declared) + instances_of_parts n text es
+
+-- what has no parts has a slot of its own
+abbrev pub own_slots : made.Composition → KeptSite → Bool → Path → List LayoutSlot
+own_slots (of_kind k) s input p = record {
+  path = p;
+  initial = initial_value k (constant_of k s.initial);
+  retained = s.retained;
+  is_input = input;
+} ∷ []
+own_slots (of_elements a) s input p = []
+own_slots (of_parts w ds) s input p = []
+
+abbrev pub own_size : made.Composition → ℕ
+own_size (of_kind k) = 1
+own_size (of_elements a) = 0
+own_size (of_parts w ds) = 0
+
+-- a block's instance is one itself
+abbrev pub own_instances : made.Composition → ℕ
+own_instances (of_kind k) = 0
+own_instances (of_elements a) = 0
+own_instances (of_parts w ds) = instances_of_whole w

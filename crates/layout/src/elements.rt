@@ -1,0 +1,159 @@
+//! The elements of an array, with what its initial value gives each.
+
+ghost use Rattle.std.specs.Prelude.{◌≡◌, ◌++◌, ◌≤ℤ◌, ◌^◌, neg_ℤ, pos, ℕ, map, option_map, replicate, slice_get, IfOk};
+ghost use Rattle.st_trees.specs.Initials.{Elements, element_then, elements_of};
+ghost use Rattle.st_trees.specs.InitialViews.{element_view};
+ghost use Rattle.st_types.specs.Operators.{natural, number_of};
+ghost use Rattle.st_layouts.specs.Types as made;
+ghost use Rattle.st_layouts.specs.Types.{count_of};
+ghost use Rattle.st_layouts.specs.Sites.{element_initial, given, listed_elements};
+ghost use Rattle.layout.specs.Sites.{element_part, element_parts, given_view, kept, kept_part, part_view, site_view};
+
+use crate::sites::{Part, PartStep, Site};
+use st_names::PlaceType;
+use st_trees::{ArrayType, Initial, InitialElement};
+use st_types::number_of;
+use st_words::Number;
+use std::alloc::{AllocError, Global};
+
+/// How many elements a count stands for.
+fn times_of(count: &Number) -> u64
+    ensures { result ≡ natural (number_of count.now) }
+{
+    if count.is_negative { 0 } else { count.magnitude }
+}
+
+/// Appends what so many elements are given.
+fn push_repeated<'a>(
+    given: &mut Vec<Option<&'a Initial>>,
+    times: u64,
+    initial: Option<&'a Initial>,
+) -> Result<(), AllocError>
+    ensures { IfOk result (λ done. map given_view given.new.items ≡ map given_view given.old.items
+        ++ replicate times (given_view initial.entry)) }
+{
+    for _ in 0..times {
+        given.push(initial)?;
+    }
+    Ok(())
+}
+
+/// Appends what an entry of a list gives the elements that it stands for.
+fn push_listed_element<'a>(
+    given: &mut Vec<Option<&'a Initial>>,
+    element: &'a InitialElement,
+) -> Result<(), AllocError>
+    ensures { IfOk result (λ done. (rest : Elements) → map given_view given.new.items ++ listed_elements rest
+        ≡ map given_view given.old.items ++ listed_elements (element_then (element_view element.now) rest)) }
+{
+    match element {
+        InitialElement::Single(initial) => {
+            given.push(Some(initial))?;
+            Ok(())
+        }
+        InitialElement::Repeated(times, initial) => {
+            push_repeated(given, times_of(times), Some(initial))
+        }
+        InitialElement::Defaults(times) => push_repeated(given, times_of(times), None),
+    }
+}
+
+/// What a list gives the elements of an array, from the first on.
+fn listed_elements<'a>(
+    alloc: Global,
+    elements: &'a [InitialElement],
+) -> Result<Vec<Option<&'a Initial>>, AllocError>
+    ensures { IfOk result (λ given. map given_view given.items
+        ≡ listed_elements (elements_of (map element_view elements.now))) }
+{
+    let mut given = Vec::new(alloc);
+    for element in elements {
+        push_listed_element(&mut given, element)?;
+    }
+    Ok(given)
+}
+
+/// What an initial value gives the elements of an array, from the first on. Those behind the last are given nothing.
+fn given_elements<'a>(
+    alloc: Global,
+    initial: Option<&'a Initial>,
+) -> Result<Vec<Option<&'a Initial>>, AllocError>
+    ensures { IfOk result (λ listed. (n : ℕ) → given (slice_get (map given_view listed.items) n)
+        ≡ element_initial (given_view initial.entry) n) }
+{
+    match initial {
+        Some(Initial::List(_, elements)) => listed_elements(alloc, elements),
+        _ => Ok(Vec::new(alloc)),
+    }
+}
+
+/// What the element of this number is given, from 0.
+fn element_initial<'a>(listed: &[Option<&'a Initial>], number: usize) -> Option<&'a Initial>
+    ensures { given_view result ≡ given (slice_get (map given_view listed.now) number) }
+{
+    match listed.get(number) {
+        Some(initial) => *initial,
+        None => None,
+    }
+}
+
+/// The number of a bound, of at most 64 bits.
+fn bound(number: &Number) -> i128
+    ensures value { result ≡ number_of number.now }
+    ensures least { neg_ℤ (pos (2 ^ 64)) ≤ℤ result }
+    ensures greatest { result ≤ℤ pos (2 ^ 64) }
+{
+    let _magnitude = number.magnitude;
+    number_of(number)
+}
+
+/// How many elements an array has.
+fn count_of(array: &ArrayType) -> u128
+    ensures { result ≡ count_of array.now }
+{
+    let lower = bound(&array.lower);
+    let upper = bound(&array.upper);
+    if upper < lower {
+        return 0;
+    }
+    (upper - lower + 1) as u128
+}
+
+/// The element of this number, from 0.
+fn element_part<'a>(
+    whole: Site<'a>,
+    array: &'a ArrayType,
+    listed: &[Option<&'a Initial>],
+    number: usize,
+) -> Part<'a>
+    ensures { (s : made.Site) → site_view whole.entry ≡ kept s
+        → ((n : ℕ) → given (slice_get (map given_view listed.now) n) ≡ element_initial s.initial n)
+        → part_view result ≡ kept_part (element_part s array.now number) }
+{
+    Part {
+        step: PartStep::Element(bound(&array.lower) + number as i128),
+        site: Site {
+            declared: PlaceType::Simple(&array.element),
+            initial: element_initial(listed, number),
+            retained: whole.retained,
+        },
+    }
+}
+
+/// The elements of an array in order, its subscripts ascending.
+pub fn elements_of<'a>(
+    alloc: Global,
+    whole: Site<'a>,
+    array: &'a ArrayType,
+) -> Result<Vec<Part<'a>>, AllocError>
+    ensures { IfOk result (λ parts. (s : made.Site) → site_view whole.entry ≡ kept s → map part_view parts.items
+        ≡ map kept_part (element_parts s array.now 0 (count_of array.now))) }
+{
+    let listed = given_elements(alloc, whole.initial)?;
+    let count = count_of(array);
+    let mut parts = Vec::new(alloc);
+    for _ in 0..count {
+        parts.push(element_part(whole, array, &listed, parts.len()))?;
+    }
+    Ok(parts)
+}

@@ -1,0 +1,69 @@
+//! The values that elementary parts start with.
+
+ghost use Rattle.std.specs.Prelude.{◌≡◌, Ok, None};
+ghost use Rattle.st_types.specs.Operators.{value_of_literal};
+ghost use Rattle.st_plans.specs.Plans.{initial_value};
+ghost use Rattle.st_layouts.specs.Sites.{constant_of, fitting};
+ghost use Rattle.layout.specs.Sites.{given_view};
+
+use st_trees::Initial;
+use st_types::value_of_number;
+use st_words::{Kind, Literal, Value};
+
+/// The value, where it is of the type.
+fn fitted(kind: Kind, value: Value) -> Option<Value>
+    ensures { result ≡ fitting kind (Ok value) }
+{
+    if kind.is(value.kind()) {
+        Some(value)
+    } else {
+        None
+    }
+}
+
+/// The value of a literal, where it is of the type.
+fn fitting(kind: Kind, literal: &Literal) -> Option<Value>
+    ensures { result ≡ fitting kind (value_of_literal literal.now) }
+{
+    match literal {
+        Literal::Number(number) => match value_of_number(number) {
+            Ok(value) => fitted(kind, value),
+            Err(_) => None,
+        },
+        Literal::Truth(_, truth) => fitted(kind, Value::truth(*truth)),
+        Literal::Duration(_, duration) => match Value::new(Kind::Time, i128::from(*duration)) {
+            Ok(value) => fitted(kind, value),
+            Err(_) => None,
+        },
+        Literal::Enumerated(_) => None,
+    }
+}
+
+fn constant_of(kind: Kind, initial: Option<&Initial>) -> Option<Value>
+    ensures { result ≡ constant_of kind (given_view initial.entry) }
+{
+    match initial {
+        Some(Initial::Constant(literal)) => fitting(kind, literal),
+        _ => None,
+    }
+}
+
+/// 0, FALSE, T#0s or the first name.
+fn default_of(kind: Kind) -> Value
+    ensures { result ≡ initial_value kind None }
+{
+    match Value::new(kind, 0) {
+        Ok(value) => value,
+        Err(_) => unreachable!(),
+    }
+}
+
+/// The value that a part of this type starts with: the declared one, else the default of its type.
+pub fn initial_value(kind: Kind, initial: Option<&Initial>) -> Value
+    ensures { result ≡ initial_value kind (constant_of kind (given_view initial.entry)) }
+{
+    match constant_of(kind, initial) {
+        Some(value) => value,
+        None => default_of(kind),
+    }
+}
