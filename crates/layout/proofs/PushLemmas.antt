@@ -35,3 +35,8 @@ replicate_more n k x h = ap (λ m. replicate m x) (one_less n k h)
   where
     one_less : (n k : ℕ) → k < n → n - k ≡ suc (n - (k + 1))
     one_less n k h = omega (arith, h)
+
+-- what is left begins with the element at hand
+pub left_begins : {A : Type 0} (xs : List A) (i : ℕ) (x : A) → i < length xs → x ≡ slice_index_or xs i x
+    → drop i xs ≡ x ∷ drop (i + 1) xs
+left_begins xs i x h is = drop_more xs i x h ∙ ap (λ y. y ∷ drop (i + 1) xs) (sym is)
