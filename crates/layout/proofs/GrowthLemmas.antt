@@ -181,7 +181,7 @@ length_map : {A B : Type 0} (f : A → B) (xs : List A) → length (map f xs) �
 length_map f [] = refl
 length_map f (x ∷ xs) = let h = length_map f xs in omega arith
 
-length_slots : (count : (sh : Shape) → length (leaves_of sh) ≡ size sh) (n : ℕ) (text : Declared) (s : made.Site)
+pub length_slots : (count : (sh : Shape) → length (leaves_of sh) ≡ size sh) (n : ℕ) (text : Declared) (s : made.Site)
     (input : Bool) (p : Path) → length (slots_within n text s input p) ≡ size (shape_within n text s.declared)
 length_slots count n text s input p =
     length_map (slot_at text s input p) (leaves_of (shape_within n text s.declared))

@@ -4,3 +4,4 @@ pub mod ExpansionLemmas
 pub mod InitialLemmas
 pub mod PushLemmas
 pub mod GrowthLemmas
+pub mod LayoutLemmas

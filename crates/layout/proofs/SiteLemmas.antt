@@ -1,11 +1,13 @@
 -- What the declarations say of parts.
 use Rattle.std.proofs.Common.{◌≡◌, refl, ap, arith, ℕ, suc, ◌+◌, ◌-◌, ◌<◌, List, [], ◌∷◌, ◌++◌, Bool, true, false, Option, Some, None}
 use Rattle.st_trees.specs.declared.data_type.ArrayType.{ArrayType}
+use Rattle.st_trees.specs.declared.data_type.VariableType.{VariableType}
+use Rattle.st_trees.specs.Initials.{Initial}
 use Rattle.st_trees.specs.declared.declaration.Retention.{Retention}
 use Rattle.st_trees.specs.declared.declaration.Retention.TheVariants.{Retain, NonRetain}
-use Rattle.st_plans.specs.Plans.{retained_so_far}
+use Rattle.st_plans.specs.Plans.{is_retained_by, retained_so_far}
 use Rattle.st_layouts.specs.Types as made
-use Rattle.layout.specs.Sites.{element_part, element_parts}
+use Rattle.layout.specs.Sites.{KeptSite, kept, element_part, element_parts}
 
 pub retained_appended : (so : Bool) (xs ys : List (Option Retention))
     → retained_so_far so (xs ++ ys) ≡ retained_so_far (retained_so_far so xs) ys
@@ -20,3 +22,9 @@ elements_more s a n k h = ap (element_parts s a k) (one_less n k h)
   where
     one_less : (n k : ℕ) → k < n → n - k ≡ suc (n - (k + 1))
     one_less n k h = omega (arith, h)
+
+-- a variable that its declaration alone tells of
+pub kept_alone : (t : VariableType) (i : Option Initial) (b : Bool) (rs : List (Option Retention)) → b ≡ is_retained_by rs
+    → ◌≡◌ {A = KeptSite} (record { declared = t; initial = i; retained = b })
+    (kept (record { declared = t; initial = i; retentions = rs }))
+kept_alone t i b rs h = ap (λ c. record { declared = t; initial = i; retained = c }) h

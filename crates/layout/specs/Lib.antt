@@ -1,5 +1,9 @@
 pub mod Compositions
 pub mod Growth
+pub mod Instances
+pub mod Layouts
+pub mod NamedSites
 pub mod Sites
 pub mod Slots
 pub mod StandardMembers
+pub mod Variables

@@ -1,12 +1,12 @@
 //! What declared types are made of.
 
-ghost use Rattle.std.specs.Prelude.{◌≡◌, ℕ, Some, IfOk};
+ghost use Rattle.std.specs.Prelude.{◌≡◌, ℕ, Some, IfOk, option_map};
 ghost use Rattle.st_trees.specs.DeclarationViews.{type_definition_view};
 ghost use Rattle.st_trees.specs.SourceViews.{source_view};
 ghost use Rattle.st_trees.specs.UnitViews.{unit_view};
 ghost use Rattle.st_trees.specs.declared.data_type.VariableType.{VariableType};
 ghost use Rattle.st_trees.specs.declared.data_type.VariableType.TheVariants.{Simple};
-ghost use Rattle.st_types.specs.NameTypes.{Declared, declared_in};
+ghost use Rattle.st_types.specs.NameTypes.{Declared, declared_in, unit_named};
 ghost use Rattle.st_layouts.specs.Types.{composition_of, defined_composition, instance_parts, own_block_type};
 ghost use Rattle.st_layouts.specs.Types.{block_type_named};
 ghost use Rattle.st_names.specs.PlaceTypes.{place_type_view};
@@ -75,6 +75,14 @@ impl<'a> Types<'a> {
             names: TextNames::new(alloc, source)?,
             enumerated: EnumeratedNames::new(alloc, &types)?,
         })
+    }
+
+    /// The unit of this name.
+    pub fn unit_named(&self, name: &Name) -> Option<&'a Unit>
+        ensures { (text : Declared) → ServesTypes self.now text
+            → option_map (λ u. unit_view u.now) result ≡ unit_named text.units name.now }
+    {
+        self.names.unit_named(name)
     }
 
     /// What an instance is made of, by the name of its block.

@@ -5,16 +5,20 @@
 
 mod block_members;
 mod compositions;
+mod configurations;
 mod elements;
 mod growing;
 mod initials;
 mod layout_error;
+mod layout_slots;
 pub mod limits;
 mod members;
+mod named_sites;
 mod parts;
 mod sites;
 mod slots;
 mod standard_members;
+mod variables;
 
 pub use compositions::{Composition, Types};
 pub use growing::{Growing, push_site};

@@ -42,7 +42,7 @@ fn member_initial<'a>(initial: Option<&'a Initial>, name: &[u8]) -> Option<&'a I
 }
 
 /// Whether what is declared so within what is retained or not is retained.
-fn is_retained_within(retained: bool, said: Option<Retention>) -> bool
+pub fn is_retained_within(retained: bool, said: Option<Retention>) -> bool
     ensures { result ≡ retained_so_far retained (said ∷ []) }
 {
     match said {

@@ -27,7 +27,7 @@ pub fn parts_of<'a>(
         Composition::Kind(_) => {}
         Composition::Elements(array) => return elements_of(alloc, whole, array),
         Composition::Fields(fields) => push_fields(&mut parts, whole, fields)?,
-        Composition::Block(blocks) => push_variables(&mut parts, whole, blocks)?,
+        Composition::Block(blocks) => push_variables(alloc, &mut parts, whole, blocks)?,
         Composition::Standard(block) => push_standard(&mut parts, whole, block)?,
         Composition::Nothing => {}
     }

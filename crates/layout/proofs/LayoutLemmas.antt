@@ -1,0 +1,120 @@
+-- The growth of a layout by variables, one after another.
+use Rattle.std.proofs.Common.{◌≡◌, refl, sym, ap, ap₂, subst, ◌∙◌, arith, ℕ, ◌+◌, List, [], ◌∷◌, ◌++◌, length, Bool, true, false}
+use Rattle.std.proofs.Common.{length-append}
+use Rattle.std.specs.Prelude.{◌&&◌}
+use Rattle.std.proofs.lemmas.List.{append_assoc, append-nil}
+use Rattle.st_types.specs.NameTypes.{Declared}
+use Rattle.st_statics.specs.declared.limits.TheConstants.{MAX_TYPE_DEPTH}
+use Rattle.st_layouts.specs.Shapes.{Shape, leaves_of, size, instance_count, is_sound}
+use Rattle.st_layouts.specs.LayoutVariables.{Owned}
+use Rattle.st_layouts.specs.TextLayouts.{instances_of, variable_path, variable_shape}
+use Rattle.layout.specs.Growth.{Exceeds, Grows}
+use Rattle.layout.specs.Layouts.{GrowsBy, are_expandable, layout_size, layout_slots}
+use Rattle.layout.specs.Slots.{path_at, slots_within}
+use Rattle.layout.specs.declared.growing.Growing.{Growing}
+use Rattle.layout.specs.declared.layout_error.LayoutError.{LayoutError}
+use Rattle.layout.specs.declared.slots.Root.{Root}
+use Rattle.layout.proofs.GrowthLemmas.{exceeds_more, length_slots}
+
+-- one variable
+pub grows_by_one : (text : Declared) (v : Owned) (r : Root) (old new : Growing) → old.trail.items ≡ []
+    → path_at r [] ≡ variable_path v → r.is_input ≡ v.is_input → Grows MAX_TYPE_DEPTH text v.site r old new
+    → GrowsBy text (v ∷ []) old new
+grows_by_one text v r old new trail path input g =
+    let i = g.instances in
+    record {
+      slots = g.slots
+          ∙ ap (λ xs. old.slots.items ++ slots_within MAX_TYPE_DEPTH text v.site r.is_input (path_at r xs)) trail
+          ∙ ap₂ (λ p b. old.slots.items ++ slots_within MAX_TYPE_DEPTH text v.site b p) path input
+          ∙ ap (λ xs. old.slots.items ++ xs)
+          (sym (append-nil (slots_within MAX_TYPE_DEPTH text v.site v.is_input (variable_path v))));
+      instances = omega (arith, i);
+    }
+
+pub both_sound : (a b : Bool) → (a && b) ≡ true → (a ≡ true) × (b ≡ true)
+both_sound true true h = (refl, refl)
+both_sound true false h = absurd (cc)
+both_sound false b h = absurd (cc)
+
+pub exceeds_one : (e : LayoutError) (k m n : ℕ) (i : ℕ) → Exceeds (k + m) (n + i) e → Exceeds (k + (m + 0)) (n + (i + 0)) e
+exceeds_one e k m n i h = exceeds_more e (k + m) (k + (m + 0)) (n + i) (n + (i + 0)) (omega arith) (omega arith) h
+
+-- several
+slots_append : (text : Declared) (xs ys : List Owned)
+    → layout_slots text (xs ++ ys) ≡ layout_slots text xs ++ layout_slots text ys
+slots_append text [] ys = refl
+slots_append text (x ∷ xs) ys =
+    ap (λ zs. slots_within MAX_TYPE_DEPTH text x.site x.is_input (variable_path x) ++ zs) (slots_append text xs ys)
+    ∙ sym (append_assoc (slots_within MAX_TYPE_DEPTH text x.site x.is_input (variable_path x)) (layout_slots text xs)
+    (layout_slots text ys))
+
+instances_append : (text : Declared) (xs ys : List Owned)
+    → instances_of text (xs ++ ys) ≡ instances_of text xs + instances_of text ys
+instances_append text [] ys = omega arith
+instances_append text (x ∷ xs) ys = let h = instances_append text xs ys in omega (arith, h)
+
+expandable_apart : (text : Declared) (xs ys : List Owned) → are_expandable text (xs ++ ys) ≡ true
+    → (are_expandable text xs ≡ true) × (are_expandable text ys ≡ true)
+expandable_apart text [] ys h = (refl, h)
+expandable_apart text (x ∷ xs) ys h =
+    let a = both_sound (is_sound (variable_shape text x)) (are_expandable text (xs ++ ys)) h in
+    let b = expandable_apart text xs ys a.1 in
+    (ap (λ c. c && are_expandable text xs) a.0 ∙ b.0, b.1)
+
+length_layout : (count : (sh : Shape) → length (leaves_of sh) ≡ size sh) (text : Declared) (vs : List Owned)
+    → length (layout_slots text vs) ≡ layout_size text vs
+length_layout count text [] = refl
+length_layout count text (v ∷ vs) =
+    let a = length-append (slots_within MAX_TYPE_DEPTH text v.site v.is_input (variable_path v)) (layout_slots text vs) in
+    let b = length_slots count MAX_TYPE_DEPTH text v.site v.is_input (variable_path v) in
+    let c = length_layout count text vs in omega (arith, a, b, c)
+
+-- These variables are left: with them the layout grows by all, from what it was.
+pub record Left (text : Declared) (all : List Owned) (old now : Growing) (left : List Owned) : Type 0 where
+  pub sound : are_expandable text left ≡ true
+  pub slots : now.slots.items ++ layout_slots text left ≡ old.slots.items ++ layout_slots text all
+  pub instances : now.instances + instances_of text left ≡ old.instances + instances_of text all
+
+pub left_all : (text : Declared) (all : List Owned) (old : Growing) → are_expandable text all ≡ true
+    → Left text all old old all
+left_all text all old h = record { sound = h; slots = refl; instances = refl }
+
+pub left_none : (text : Declared) (all : List Owned) (old now : Growing) → Left text all old now []
+    → GrowsBy text all old now
+left_none text all old now m =
+    let i = m.instances in
+    record { slots = sym (append-nil now.slots.items) ∙ m.slots; instances = omega (arith, i) }
+
+-- the first ones of those that are left are expandable, too
+pub first_sound : (text : Declared) (all : List Owned) (old now : Growing) (xs ys : List Owned)
+    → Left text all old now (xs ++ ys) → are_expandable text xs ≡ true
+first_sound text all old now xs ys m = (expandable_apart text xs ys m.sound).0
+
+pub left_after : (text : Declared) (all : List Owned) (old now next : Growing) (xs ys : List Owned)
+    → Left text all old now (xs ++ ys) → GrowsBy text xs now next → Left text all old next ys
+left_after text all old now next xs ys m g =
+    let a = m.instances in let b = g.instances in let c = instances_append text xs ys in
+    record {
+      sound = (expandable_apart text xs ys m.sound).1;
+      slots = ap (λ zs. zs ++ layout_slots text ys) g.slots
+          ∙ append_assoc now.slots.items (layout_slots text xs) (layout_slots text ys)
+          ∙ ap (λ zs. now.slots.items ++ zs) (sym (slots_append text xs ys)) ∙ m.slots;
+      instances = omega (arith, a, b, c);
+    }
+
+pub no_room_left : (count : (sh : Shape) → length (leaves_of sh) ≡ size sh) (text : Declared) (all : List Owned)
+    (old now : Growing) (xs ys : List Owned) (e : LayoutError) → Left text all old now (xs ++ ys)
+    → Exceeds (length now.slots.items + layout_size text xs) (now.instances + instances_of text xs) e
+    → Exceeds (length old.slots.items + layout_size text all) (old.instances + instances_of text all) e
+no_room_left count text all old now xs ys e m h =
+    let a = ap length m.slots in
+    let b = length-append now.slots.items (layout_slots text (xs ++ ys)) in
+    let c = length-append old.slots.items (layout_slots text all) in
+    let d = ap length (slots_append text xs ys) in
+    let f = length-append (layout_slots text xs) (layout_slots text ys) in
+    let g = length_layout count text xs in
+    let i = length_layout count text all in
+    let j = m.instances in let k = instances_append text xs ys in
+    exceeds_more e (length now.slots.items + layout_size text xs) (length old.slots.items + layout_size text all)
+    (now.instances + instances_of text xs) (old.instances + instances_of text all) (omega (arith, a, b, c, d, f, g, i))
+    (omega (arith, j, k)) h

@@ -1,0 +1,11 @@
+use Rattle.std.proofs.Common.{◌≡◌, ◌++◌, map, drop, None}
+use Rattle.st_trees.specs.ConfigurationViews.{global_block_view}
+use Rattle.st_layouts.specs.LayoutVariables.{variables_of_globals}
+use Rattle.layout.specs.Variables.{variable_view}
+use Rattle.layout.proofs.variables.globals_of.Given as goal
+
+-- what is there and what is still to come
+abbrev pub invariant-loop-block : goal.invariant-loop-block
+invariant-loop-block l = map (variable_view None) l.variables.items
+    ++ variables_of_globals (map global_block_view (drop l.block-index l.blocks))
+    ≡ variables_of_globals (map global_block_view l.blocks)

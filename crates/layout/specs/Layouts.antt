@@ -1,0 +1,29 @@
+-- The slots of a whole layout, and what variables add to it.
+use Rattle.std.specs.Prelude.{◌≡◌, ℕ, ◌+◌, List, [], ◌∷◌, ◌++◌, Bool, true, ◌&&◌}
+use Rattle.st_types.specs.NameTypes.{Declared}
+use Rattle.st_statics.specs.declared.limits.TheConstants.{MAX_TYPE_DEPTH}
+use Rattle.st_layouts.specs.Shapes.{is_sound, size}
+use Rattle.st_layouts.specs.LayoutVariables.{Owned}
+use Rattle.st_layouts.specs.TextLayouts.{instances_of, variable_path, variable_shape}
+use Rattle.layout.specs.Slots.{slots_within}
+use Rattle.layout.specs.declared.growing.Growing.{Growing}
+use Rattle.layout.specs.declared.slots.LayoutSlot.{LayoutSlot}
+
+abbrev pub layout_slots : Declared → List Owned → List LayoutSlot
+layout_slots text [] = []
+layout_slots text (v ∷ vs) =
+    slots_within MAX_TYPE_DEPTH text v.site v.is_input (variable_path v) ++ layout_slots text vs
+
+abbrev pub layout_size : Declared → List Owned → ℕ
+layout_size text [] = 0
+layout_size text (v ∷ vs) = size (variable_shape text v) + layout_size text vs
+
+-- No two parts of one whole have one name.
+abbrev pub are_expandable : Declared → List Owned → Bool
+are_expandable text [] = true
+are_expandable text (v ∷ vs) = is_sound (variable_shape text v) && are_expandable text vs
+
+-- their slots behind those that were there, and their instances beside them
+pub record GrowsBy (text : Declared) (vs : List Owned) (old new : Growing) : Type 0 where
+  pub slots : new.slots.items ≡ old.slots.items ++ layout_slots text vs
+  pub instances : new.instances ≡ old.instances + instances_of text vs

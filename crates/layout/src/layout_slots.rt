@@ -1,0 +1,114 @@
+//! The slots of a whole text.
+
+ghost use Rattle.std.specs.Prelude.{◌≡◌, ◌≤◌, ◌+◌, ◌∷◌, [], length, map, option_map, IfErr, IfOk, OnOk, true};
+ghost use Rattle.st_trees.specs.SourceViews.{source_view};
+ghost use Rattle.st_words.specs.declared.limits.TheConstants.{MAX_PATHS};
+ghost use Rattle.st_types.specs.NameTypes.{Declared, declared_in};
+ghost use Rattle.st_layouts.specs.LayoutVariables.{configurations_in, only_configuration, variables_of_configuration};
+ghost use Rattle.st_layouts.specs.TextLayouts.{instances_of};
+ghost use Rattle.layout.specs.Compositions.{ServesTypes};
+ghost use Rattle.layout.specs.Growth.{Exceeds};
+ghost use Rattle.layout.specs.Instances.{instance_view, variables_of_programs};
+ghost use Rattle.layout.specs.Layouts.{GrowsBy, are_expandable, layout_size, layout_slots};
+ghost use Rattle.layout.specs.Slots.{owner_view};
+ghost use Rattle.layout.specs.Variables.{variable_view};
+ghost use Rattle.layout.specs.declared.limits.TheConstants.{MAX_INSTANCES};
+
+use crate::compositions::Types;
+use crate::configurations::{ProgramInstance, instances_in, only_configuration};
+use crate::growing::{Growing, push_site};
+use crate::layout_error::LayoutError;
+use crate::members::is_retained_within;
+use crate::sites::Site;
+use crate::slots::{LayoutSlot, OwnerNames, Root};
+use crate::variables::{Variable, globals_of, program_variables};
+use st_layouts::leaves_of_shapes;
+use st_statics::limits::MAX_TYPE_DEPTH;
+use st_trees::{Configuration, Source};
+use std::alloc::Global;
+
+/// Appends the slots of a variable.
+fn push_variable<'a>(
+    alloc: Global,
+    grown: &mut Growing<'a>,
+    types: &Types<'a>,
+    owner: Option<OwnerNames<'a>>,
+    variable: Variable<'a>,
+) -> Result<(), LayoutError>
+    ensures ok { OnOk result ((text : Declared) → ServesTypes types.now text → grown.old.trail.items ≡ []
+        → are_expandable text (variable_view owner.entry variable.entry ∷ []) ≡ true
+        → GrowsBy text (variable_view owner.entry variable.entry ∷ []) grown.old grown.new) }
+    ensures trail { OnOk result (grown.new.trail.items ≡ grown.old.trail.items) }
+    ensures room { OnOk result (length grown.old.slots.items ≤ MAX_PATHS → length grown.new.slots.items ≤ MAX_PATHS) }
+    ensures few { OnOk result (grown.old.instances ≤ MAX_INSTANCES → grown.new.instances ≤ MAX_INSTANCES) }
+    ensures err { IfErr result (λ e. (text : Declared) → ServesTypes types.now text
+        → are_expandable text (variable_view owner.entry variable.entry ∷ []) ≡ true
+        → Exceeds (length grown.old.slots.items + layout_size text (variable_view owner.entry variable.entry ∷ []))
+        (grown.old.instances + instances_of text (variable_view owner.entry variable.entry ∷ [])) e) }
+{
+    let root = Root {
+        owner,
+        name: variable.site.name,
+        is_input: variable.is_input,
+    };
+    let site = Site {
+        declared: variable.site.declared,
+        initial: variable.site.initial,
+        retained: is_retained_within(false, variable.site.said),
+    };
+    push_site(MAX_TYPE_DEPTH, alloc, grown, types, root, site)?;
+    Ok(())
+}
+
+/// Appends the slots of variables of one owner.
+fn push_variables<'a>(
+    alloc: Global,
+    grown: &mut Growing<'a>,
+    types: &Types<'a>,
+    owner: Option<OwnerNames<'a>>,
+    variables: &[Variable<'a>],
+) -> Result<(), LayoutError>
+    ensures ok { OnOk result ((text : Declared) → ServesTypes types.now text → grown.old.trail.items ≡ []
+        → are_expandable text (map (variable_view owner.entry) variables.now) ≡ true
+        → GrowsBy text (map (variable_view owner.entry) variables.now) grown.old grown.new) }
+    ensures trail { OnOk result (grown.new.trail.items ≡ grown.old.trail.items) }
+    ensures room { OnOk result (length grown.old.slots.items ≤ MAX_PATHS → length grown.new.slots.items ≤ MAX_PATHS) }
+    ensures few { OnOk result (grown.old.instances ≤ MAX_INSTANCES → grown.new.instances ≤ MAX_INSTANCES) }
+    ensures err { IfErr result (λ e. (text : Declared) → ServesTypes types.now text → grown.old.trail.items ≡ []
+        → are_expandable text (map (variable_view owner.entry) variables.now) ≡ true
+        → Exceeds (length grown.old.slots.items + layout_size text (map (variable_view owner.entry) variables.now))
+        (grown.old.instances + instances_of text (map (variable_view owner.entry) variables.now)) e) }
+{
+    leaves_of_shapes();
+    for variable in variables {
+        push_variable(alloc, grown, types, owner, *variable)?;
+    }
+    Ok(())
+}
+
+/// Appends the slots of programs' instances.
+fn push_programs<'a>(
+    alloc: Global,
+    grown: &mut Growing<'a>,
+    types: &Types<'a>,
+    instances: &[ProgramInstance<'a>],
+) -> Result<(), LayoutError>
+    ensures ok { OnOk result ((text : Declared) → ServesTypes types.now text → grown.old.trail.items ≡ []
+        → are_expandable text (variables_of_programs text (map instance_view instances.now)) ≡ true
+        → GrowsBy text (variables_of_programs text (map instance_view instances.now)) grown.old grown.new) }
+    ensures trail { OnOk result (grown.new.trail.items ≡ grown.old.trail.items) }
+    ensures room { OnOk result (length grown.old.slots.items ≤ MAX_PATHS → length grown.new.slots.items ≤ MAX_PATHS) }
+    ensures few { OnOk result (grown.old.instances ≤ MAX_INSTANCES → grown.new.instances ≤ MAX_INSTANCES) }
+    ensures err { IfErr result (λ e. (text : Declared) → ServesTypes types.now text → grown.old.trail.items ≡ []
+        → are_expandable text (variables_of_programs text (map instance_view instances.now)) ≡ true
+        → Exceeds (length grown.old.slots.items
+        + layout_size text (variables_of_programs text (map instance_view instances.now)))
+        (grown.old.instances + instances_of text (variables_of_programs text (map instance_view instances.now))) e) }
+{
+    leaves_of_shapes();
+    for instance in instances {
+        let variables = program_variables(alloc, types.unit_named(instance.program))?;
+        push_variables(alloc, grown, types, Some(instance.owner), &variables)?;
+    }
+    Ok(())
+}
