@@ -1,14 +1,19 @@
 -- The growth of a layout by variables, one after another.
 use Rattle.std.proofs.Common.{◌≡◌, refl, sym, ap, ap₂, subst, ◌∙◌, arith, ℕ, ◌+◌, List, [], ◌∷◌, ◌++◌, length, Bool, true, false}
-use Rattle.std.proofs.Common.{length-append}
+use Rattle.std.proofs.Common.{length-append, map, Some}
 use Rattle.std.specs.Prelude.{◌&&◌}
 use Rattle.std.proofs.lemmas.List.{append_assoc, append-nil}
-use Rattle.st_types.specs.NameTypes.{Declared}
+use Rattle.st_trees.specs.declared.configuration.Instance.{Instance}
+use Rattle.st_trees.specs.Configurations.{Resource}
+use Rattle.st_types.specs.NameTypes.{Declared, unit_named}
+use Rattle.st_types.specs.Scopes.{Name}
 use Rattle.st_statics.specs.declared.limits.TheConstants.{MAX_TYPE_DEPTH}
 use Rattle.st_layouts.specs.Shapes.{Shape, leaves_of, size, instance_count, is_sound}
-use Rattle.st_layouts.specs.LayoutVariables.{Owned}
+use Rattle.st_layouts.specs.LayoutVariables.{Owned, owned_variable, owner_in, program_sites}
+use Rattle.st_layouts.specs.LayoutVariables.{variables_of_instances, variables_of_resources}
 use Rattle.st_layouts.specs.TextLayouts.{instances_of, variable_path, variable_shape}
 use Rattle.layout.specs.Growth.{Exceeds, Grows}
+use Rattle.layout.specs.Instances.{OwnedProgram, instance_on, instances_in, variables_of_programs}
 use Rattle.layout.specs.Layouts.{GrowsBy, are_expandable, layout_size, layout_slots}
 use Rattle.layout.specs.Slots.{path_at, slots_within}
 use Rattle.layout.specs.declared.growing.Growing.{Growing}
@@ -53,7 +58,7 @@ instances_append : (text : Declared) (xs ys : List Owned)
 instances_append text [] ys = omega arith
 instances_append text (x ∷ xs) ys = let h = instances_append text xs ys in omega (arith, h)
 
-expandable_apart : (text : Declared) (xs ys : List Owned) → are_expandable text (xs ++ ys) ≡ true
+pub expandable_apart : (text : Declared) (xs ys : List Owned) → are_expandable text (xs ++ ys) ≡ true
     → (are_expandable text xs ≡ true) × (are_expandable text ys ≡ true)
 expandable_apart text [] ys h = (refl, h)
 expandable_apart text (x ∷ xs) ys h =
@@ -118,3 +123,54 @@ no_room_left count text all old now xs ys e m h =
     exceeds_more e (length now.slots.items + layout_size text xs) (length old.slots.items + layout_size text all)
     (now.instances + instances_of text xs) (old.instances + instances_of text all) (omega (arith, a, b, c, d, f, g, i))
     (omega (arith, j, k)) h
+
+-- these and then those
+pub grows_by_both : (text : Declared) (xs ys : List Owned) (old mid new : Growing) → GrowsBy text xs old mid
+    → GrowsBy text ys mid new → GrowsBy text (xs ++ ys) old new
+grows_by_both text xs ys old mid new g h =
+    let a = g.instances in let b = h.instances in let c = instances_append text xs ys in
+    record {
+      slots = h.slots ∙ ap (λ zs. zs ++ layout_slots text ys) g.slots
+          ∙ append_assoc old.slots.items (layout_slots text xs) (layout_slots text ys)
+          ∙ ap (λ zs. old.slots.items ++ zs) (sym (slots_append text xs ys));
+      instances = omega (arith, a, b, c);
+    }
+
+pub no_room_first : (count : (sh : Shape) → length (leaves_of sh) ≡ size sh) (text : Declared) (xs ys : List Owned)
+    (old : Growing) (e : LayoutError) → are_expandable text (xs ++ ys) ≡ true
+    → Exceeds (length old.slots.items + layout_size text xs) (old.instances + instances_of text xs) e
+    → Exceeds (length old.slots.items + layout_size text (xs ++ ys)) (old.instances + instances_of text (xs ++ ys)) e
+no_room_first count text xs ys old e h =
+    no_room_left count text (xs ++ ys) old old xs ys e (left_all text (xs ++ ys) old h)
+
+pub no_room_last : (count : (sh : Shape) → length (leaves_of sh) ≡ size sh) (text : Declared) (xs ys : List Owned)
+    (old mid : Growing) (e : LayoutError) → are_expandable text (xs ++ ys) ≡ true → GrowsBy text xs old mid
+    → Exceeds (length mid.slots.items + layout_size text ys) (mid.instances + instances_of text ys) e
+    → Exceeds (length old.slots.items + layout_size text (xs ++ ys)) (old.instances + instances_of text (xs ++ ys)) e
+no_room_last count text xs ys old mid e h g =
+    no_room_left count text (xs ++ ys) old mid ys [] e
+    (subst (Left text (xs ++ ys) old mid) (sym (append-nil ys))
+    (left_after text (xs ++ ys) old old mid xs ys (left_all text (xs ++ ys) old h) g))
+
+-- variables of instances, resource by resource
+programs_append : (text : Declared) (xs ys : List OwnedProgram)
+    → variables_of_programs text (xs ++ ys) ≡ variables_of_programs text xs ++ variables_of_programs text ys
+programs_append text [] ys = refl
+programs_append text (x ∷ xs) ys =
+    let own = map (owned_variable (Some x.0)) (program_sites (unit_named text.units x.1)) in
+    ap (λ zs. own ++ zs) (programs_append text xs ys)
+    ∙ sym (append_assoc own (variables_of_programs text xs) (variables_of_programs text ys))
+
+programs_on : (text : Declared) (x : Name) (is : List Instance)
+    → variables_of_programs text (map (instance_on x) is) ≡ variables_of_instances text x is
+programs_on text x [] = refl
+programs_on text x (i ∷ is) =
+    ap (λ zs. map (owned_variable (Some (owner_in x i))) (program_sites (unit_named text.units i.program.name)) ++ zs)
+    (programs_on text x is)
+
+pub programs_of_resources : (text : Declared) (rs : List Resource)
+    → variables_of_programs text (instances_in rs) ≡ variables_of_resources text rs
+programs_of_resources text [] = refl
+programs_of_resources text (r ∷ rs) =
+    programs_append text (map (instance_on r.name.name) r.instances) (instances_in rs)
+    ∙ ap₂ (λ xs ys. xs ++ ys) (programs_on text r.name.name r.instances) (programs_of_resources text rs)

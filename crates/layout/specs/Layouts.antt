@@ -1,9 +1,10 @@
 -- The slots of a whole layout, and what variables add to it.
 use Rattle.std.specs.Prelude.{◌≡◌, ℕ, ◌+◌, List, [], ◌∷◌, ◌++◌, Bool, true, ◌&&◌}
-use Rattle.st_types.specs.NameTypes.{Declared}
+use Rattle.st_trees.specs.Sources.{Source}
+use Rattle.st_types.specs.NameTypes.{Declared, declared_in}
 use Rattle.st_statics.specs.declared.limits.TheConstants.{MAX_TYPE_DEPTH}
 use Rattle.st_layouts.specs.Shapes.{is_sound, size}
-use Rattle.st_layouts.specs.LayoutVariables.{Owned}
+use Rattle.st_layouts.specs.LayoutVariables.{Owned, configurations_in, only_configuration, variables_of_configuration}
 use Rattle.st_layouts.specs.TextLayouts.{instances_of, variable_path, variable_shape}
 use Rattle.layout.specs.Slots.{slots_within}
 use Rattle.layout.specs.declared.growing.Growing.{Growing}
@@ -22,6 +23,10 @@ layout_size text (v ∷ vs) = size (variable_shape text v) + layout_size text vs
 abbrev pub are_expandable : Declared → List Owned → Bool
 are_expandable text [] = true
 are_expandable text (v ∷ vs) = is_sound (variable_shape text v) && are_expandable text vs
+
+-- the variables of a text in which each literal has its type
+abbrev pub variables_in : Source → List Owned
+variables_in source = variables_of_configuration (declared_in source) (only_configuration (configurations_in source))
 
 -- their slots behind those that were there, and their instances beside them
 pub record GrowsBy (text : Declared) (vs : List Owned) (old new : Growing) : Type 0 where

@@ -1,16 +1,16 @@
 //! The slots of a whole text.
 
-ghost use Rattle.std.specs.Prelude.{◌≡◌, ◌≤◌, ◌+◌, ◌∷◌, [], length, map, option_map, IfErr, IfOk, OnOk, true};
+ghost use Rattle.std.specs.Prelude.{◌≡◌, ◌≤◌, ◌+◌, ◌∷◌, [], length, map, Some, IfErr, IfOk, OnOk, true};
+ghost use Rattle.st_trees.specs.ConfigurationViews.{configuration_view};
 ghost use Rattle.st_trees.specs.SourceViews.{source_view};
 ghost use Rattle.st_words.specs.declared.limits.TheConstants.{MAX_PATHS};
 ghost use Rattle.st_types.specs.NameTypes.{Declared, declared_in};
-ghost use Rattle.st_layouts.specs.LayoutVariables.{configurations_in, only_configuration, variables_of_configuration};
+ghost use Rattle.st_layouts.specs.LayoutVariables.{variables_of_configuration};
 ghost use Rattle.st_layouts.specs.TextLayouts.{instances_of};
 ghost use Rattle.layout.specs.Compositions.{ServesTypes};
 ghost use Rattle.layout.specs.Growth.{Exceeds};
 ghost use Rattle.layout.specs.Instances.{instance_view, variables_of_programs};
-ghost use Rattle.layout.specs.Layouts.{GrowsBy, are_expandable, layout_size, layout_slots};
-ghost use Rattle.layout.specs.Slots.{owner_view};
+ghost use Rattle.layout.specs.Layouts.{GrowsBy, are_expandable, layout_size, layout_slots, variables_in};
 ghost use Rattle.layout.specs.Variables.{variable_view};
 ghost use Rattle.layout.specs.declared.limits.TheConstants.{MAX_INSTANCES};
 
@@ -111,4 +111,60 @@ fn push_programs<'a>(
         push_variables(alloc, grown, types, Some(instance.owner), &variables)?;
     }
     Ok(())
+}
+
+/// Appends the slots of a configuration: of its globals as they stand, and then of its programs' instances.
+fn push_configuration<'a>(
+    alloc: Global,
+    grown: &mut Growing<'a>,
+    types: &Types<'a>,
+    configuration: &'a Configuration,
+) -> Result<(), LayoutError>
+    ensures ok { OnOk result ((text : Declared) → ServesTypes types.now text → grown.old.trail.items ≡ []
+        → are_expandable text (variables_of_configuration text (Some (configuration_view configuration.now))) ≡ true
+        → GrowsBy text (variables_of_configuration text (Some (configuration_view configuration.now)))
+        grown.old grown.new) }
+    ensures room { OnOk result (length grown.old.slots.items ≤ MAX_PATHS → length grown.new.slots.items ≤ MAX_PATHS) }
+    ensures few { OnOk result (grown.old.instances ≤ MAX_INSTANCES → grown.new.instances ≤ MAX_INSTANCES) }
+    ensures err { IfErr result (λ e. (text : Declared) → ServesTypes types.now text → grown.old.trail.items ≡ []
+        → are_expandable text (variables_of_configuration text (Some (configuration_view configuration.now))) ≡ true
+        → Exceeds (length grown.old.slots.items
+        + layout_size text (variables_of_configuration text (Some (configuration_view configuration.now))))
+        (grown.old.instances
+        + instances_of text (variables_of_configuration text (Some (configuration_view configuration.now)))) e) }
+{
+    leaves_of_shapes();
+    let globals = globals_of(alloc, &configuration.globals)?;
+    let instances = instances_in(alloc, &configuration.resources)?;
+    push_variables(alloc, grown, types, None, &globals)?;
+    push_programs(alloc, grown, types, &instances)?;
+    Ok(())
+}
+
+/// The slots of a text in which each literal has its type, in the order of its layout. A text that has not exactly one
+/// configuration has none.
+pub fn slots_in(alloc: Global, source: &Source) -> Result<Vec<LayoutSlot>, LayoutError>
+    ensures ok { IfOk result (λ slots. are_expandable (declared_in (source_view source.now))
+        (variables_in (source_view source.now)) ≡ true → slots.items
+        ≡ layout_slots (declared_in (source_view source.now)) (variables_in (source_view source.now))) }
+    ensures room { IfOk result (λ slots. length slots.items ≤ MAX_PATHS) }
+    ensures few { OnOk result (are_expandable (declared_in (source_view source.now))
+        (variables_in (source_view source.now)) ≡ true → instances_of (declared_in (source_view source.now))
+        (variables_in (source_view source.now)) ≤ MAX_INSTANCES) }
+    ensures err { IfErr result (λ e. are_expandable (declared_in (source_view source.now))
+        (variables_in (source_view source.now)) ≡ true → Exceeds
+        (layout_size (declared_in (source_view source.now)) (variables_in (source_view source.now)))
+        (instances_of (declared_in (source_view source.now)) (variables_in (source_view source.now))) e) }
+{
+    let Some(configuration) = only_configuration(source) else {
+        return Ok(Vec::new(alloc));
+    };
+    let types = Types::new(alloc, source)?;
+    let mut grown = Growing {
+        slots: Vec::new(alloc),
+        instances: 0,
+        trail: Vec::new(alloc),
+    };
+    push_configuration(alloc, &mut grown, &types, configuration)?;
+    Ok(grown.slots)
 }

@@ -23,6 +23,7 @@ mod variables;
 pub use compositions::{Composition, Types};
 pub use growing::{Growing, push_site};
 pub use layout_error::LayoutError;
+pub use layout_slots::slots_in;
 pub use parts::parts_of;
 pub use sites::{Part, PartStep, Site};
 pub use slots::{LayoutSlot, Root};
