@@ -66,7 +66,7 @@ expandable_apart text (x ∷ xs) ys h =
     let b = expandable_apart text xs ys a.1 in
     (ap (λ c. c && are_expandable text xs) a.0 ∙ b.0, b.1)
 
-length_layout : (count : (sh : Shape) → length (leaves_of sh) ≡ size sh) (text : Declared) (vs : List Owned)
+pub length_layout : (count : (sh : Shape) → length (leaves_of sh) ≡ size sh) (text : Declared) (vs : List Owned)
     → length (layout_slots text vs) ≡ layout_size text vs
 length_layout count text [] = refl
 length_layout count text (v ∷ vs) =

@@ -6,4 +6,5 @@ pub mod NamedSites
 pub mod Sites
 pub mod Slots
 pub mod StandardMembers
+pub mod TextLayouts
 pub mod Variables

@@ -1,0 +1,171 @@
+-- The slots of a layout are those of the definitions.
+use Rattle.std.proofs.Common.{◌≡◌, refl, sym, ap, ap₂, ◌∙◌, arith, ℕ, ◌+◌, List, [], ◌∷◌, ◌++◌, map, length, Bool, true}
+use Rattle.std.proofs.Common.{false, not, ◌&&◌, if◌then◌else◌, Option, Some, None, Result, Ok, Err, filter}
+use Rattle.std.specs.Prelude.{option_and_then}
+use Rattle.st_words.specs.declared.kind.Kind.{Kind}
+use Rattle.st_words.specs.Kinds.{holds, same_kind}
+use Rattle.st_words.specs.Paths.{Path}
+use Rattle.st_words.specs.Values.{Datum}
+use Rattle.st_words.proofs.KindLemmas.{same_kind_is}
+use Rattle.st_trees.specs.Initials.{Initial, constant, list, structure}
+use Rattle.st_types.specs.Failures.{Failure}
+use Rattle.st_types.specs.NameTypes.{Declared}
+use Rattle.st_types.specs.Operators.{value_of_literal}
+use Rattle.st_types.specs.Slots.{Slot}
+use Rattle.st_types.specs.Stores.{may_replace}
+use Rattle.st_plans.specs.Plans.{initial_value}
+use Rattle.st_plans.specs.declared.plan.PlanInput.{PlanInput}
+use Rattle.st_plans.specs.declared.plan.PlanVariable.{PlanVariable}
+use Rattle.st_statics.specs.declared.limits.TheConstants.{MAX_TYPE_DEPTH}
+use Rattle.st_layouts.specs.Shapes.{Shape, Leaf, leaves_of, size, is_sound}
+use Rattle.st_layouts.specs.Types.{Site}
+use Rattle.st_layouts.specs.Sites.{constant_of, default_of, fitting, initial_at, site_at}
+use Rattle.st_layouts.specs.LayoutVariables.{Owned}
+use Rattle.st_layouts.specs.TextLayouts.{variable_path, variable_shape, slot_of_leaf, slots_of_variable, slots_of}
+use Rattle.st_layouts.specs.TextLayouts.{variable_of_leaf, plan_variables_of, input_of_leaf, plan_inputs_of}
+use Rattle.st_layouts.specs.TextLayouts.{leaves_of_variable}
+use Rattle.st_layouts.specs.Standing.{are_declared_once, has_variable}
+use Rattle.layout.specs.Layouts.{are_expandable, layout_size, layout_slots}
+use Rattle.layout.specs.Slots.{slot_at, slots_within}
+use Rattle.layout.specs.TextLayouts.{slot_view, variable_of, input_of, variables_among, inputs_among}
+use Rattle.layout.specs.declared.slots.LayoutSlot.{LayoutSlot}
+use Rattle.layout.proofs.LayoutLemmas.{both_sound, length_layout}
+
+-- An initial value is one of its type.
+abbrev IsOfType : Kind → Option Datum → Type 0
+IsOfType k None = Unit {0}
+IsOfType k (Some v) = v.kind ≡ k
+
+fitting_type : (k : Kind) (r : Result Datum Failure) → IsOfType k (fitting k r)
+fitting_type k (Err e) = tt
+fitting_type k (Ok v) = by_test (may_replace (default_of k) v) refl
+  where
+    by_test : (b : Bool) → may_replace (default_of k) v ≡ b → IsOfType k (if b then Some v else None)
+    by_test true h = sym (same_kind_is k v.kind (both_sound (same_kind k v.kind) (holds v.kind v.number) h).0)
+    by_test false h = tt
+
+constant_type : (k : Kind) (i : Option Initial) → IsOfType k (constant_of k i)
+constant_type k (Some (constant l)) = fitting_type k (value_of_literal l)
+constant_type k (Some (list at xs)) = tt
+constant_type k (Some (structure at xs)) = tt
+constant_type k None = tt
+
+site_type : (k : Kind) (o : Option Site) → IsOfType k (option_and_then (λ u. constant_of k u.initial) o)
+site_type k None = tt
+site_type k (Some u) = constant_type k u.initial
+
+value_type : (k : Kind) (o : Option Datum) → IsOfType k o → (initial_value k o).kind ≡ k
+value_type k None h = refl
+value_type k (Some v) h = h
+
+initial_type : (text : Declared) (s : Site) (l : Leaf) → (initial_at text s l.steps l.kind).kind ≡ l.kind
+initial_type text s l =
+    value_type l.kind (option_and_then (λ u. constant_of l.kind u.initial) (site_at text s l.steps))
+    (site_type l.kind (site_at text s l.steps))
+
+-- lists
+map_append : {A B : Type 0} (f : A → B) (xs ys : List A) → map f (xs ++ ys) ≡ map f xs ++ map f ys
+map_append f [] ys = refl
+map_append f (x ∷ xs) ys = ap (λ zs. f x ∷ zs) (map_append f xs ys)
+
+filter_append : {A : Type 0} (f : A → Bool) (xs ys : List A) → filter f (xs ++ ys) ≡ filter f xs ++ filter f ys
+filter_append f [] ys = refl
+filter_append f (x ∷ xs) ys = by_test (f x) (filter_append f xs ys)
+  where
+    by_test : (b : Bool) → filter f (xs ++ ys) ≡ filter f xs ++ filter f ys
+        → (if b then x ∷ filter f (xs ++ ys) else filter f (xs ++ ys))
+        ≡ (if b then x ∷ filter f xs else filter f xs) ++ filter f ys
+    by_test true h = ap (λ zs. x ∷ zs) h
+    by_test false h = h
+
+-- slots of one variable
+slots_seen : (text : Declared) (v : Owned) (ls : List Leaf)
+    → map slot_view (map (slot_at text v.site v.is_input (variable_path v)) ls) ≡ map (slot_of_leaf v) ls
+slots_seen text v [] = refl
+slots_seen text v (l ∷ ls) =
+    ap₂ (λ k zs. record (slot_of_leaf v l) { kind = k } ∷ zs) (initial_type text v.site l) (slots_seen text v ls)
+
+variables_seen : (text : Declared) (v : Owned) → v.is_input ≡ false → (ls : List Leaf)
+    → variables_among (map (slot_at text v.site v.is_input (variable_path v)) ls) ≡ map (variable_of_leaf text v) ls
+variables_seen text v e [] = refl
+variables_seen text v e (l ∷ ls) = let h = variables_seen text v e ls in rw (e, h) refl
+
+no_variables_seen : (text : Declared) (v : Owned) → v.is_input ≡ true → (ls : List Leaf)
+    → variables_among (map (slot_at text v.site v.is_input (variable_path v)) ls) ≡ []
+no_variables_seen text v e [] = refl
+no_variables_seen text v e (l ∷ ls) = let h = no_variables_seen text v e ls in rw (e, h) refl
+
+inputs_seen : (text : Declared) (v : Owned) → v.is_input ≡ true → (ls : List Leaf)
+    → inputs_among (map (slot_at text v.site v.is_input (variable_path v)) ls) ≡ map (input_of_leaf v) ls
+inputs_seen text v e [] = refl
+inputs_seen text v e (l ∷ ls) =
+    let h = inputs_seen text v e ls in let k = initial_type text v.site l in rw (e, h, k) refl
+
+no_inputs_seen : (text : Declared) (v : Owned) → v.is_input ≡ false → (ls : List Leaf)
+    → inputs_among (map (slot_at text v.site v.is_input (variable_path v)) ls) ≡ []
+no_inputs_seen text v e [] = refl
+no_inputs_seen text v e (l ∷ ls) = let h = no_inputs_seen text v e ls in rw (e, h) refl
+
+-- those of several
+pub slots_are : (text : Declared) (vs : List Owned) → map slot_view (layout_slots text vs) ≡ slots_of text vs
+slots_are text [] = refl
+slots_are text (v ∷ vs) =
+    map_append slot_view (slots_within MAX_TYPE_DEPTH text v.site v.is_input (variable_path v)) (layout_slots text vs)
+    ∙ ap₂ (λ xs ys. xs ++ ys) (slots_seen text v (leaves_of_variable text v)) (slots_are text vs)
+
+variables_apart : (xs ys : List LayoutSlot) → variables_among (xs ++ ys) ≡ variables_among xs ++ variables_among ys
+variables_apart xs ys = ap (map variable_of) (filter_append (λ s. not s.is_input) xs ys)
+    ∙ map_append variable_of (filter (λ s. not s.is_input) xs) (filter (λ s. not s.is_input) ys)
+
+inputs_apart : (xs ys : List LayoutSlot) → inputs_among (xs ++ ys) ≡ inputs_among xs ++ inputs_among ys
+inputs_apart xs ys = ap (map input_of) (filter_append (λ s. s.is_input) xs ys)
+    ∙ map_append input_of (filter (λ s. s.is_input) xs) (filter (λ s. s.is_input) ys)
+
+pub variables_are : (text : Declared) (vs : List Owned)
+    → variables_among (layout_slots text vs) ≡ plan_variables_of text vs
+variables_are text [] = refl
+variables_are text (v ∷ vs) =
+    let own = slots_within MAX_TYPE_DEPTH text v.site v.is_input (variable_path v) in
+    variables_apart own (layout_slots text vs)
+    ∙ ap (λ ys. variables_among own ++ ys) (variables_are text vs) ∙ by_test v.is_input refl
+  where
+    by_test : (b : Bool) → v.is_input ≡ b
+        → variables_among (slots_within MAX_TYPE_DEPTH text v.site v.is_input (variable_path v))
+        ++ plan_variables_of text vs ≡ (if b then plan_variables_of text vs
+        else map (variable_of_leaf text v) (leaves_of_variable text v) ++ plan_variables_of text vs)
+    by_test true e = ap (λ xs. xs ++ plan_variables_of text vs) (no_variables_seen text v e (leaves_of_variable text v))
+    by_test false e = ap (λ xs. xs ++ plan_variables_of text vs) (variables_seen text v e (leaves_of_variable text v))
+
+pub inputs_are : (text : Declared) (vs : List Owned) → inputs_among (layout_slots text vs) ≡ plan_inputs_of text vs
+inputs_are text [] = refl
+inputs_are text (v ∷ vs) =
+    let own = slots_within MAX_TYPE_DEPTH text v.site v.is_input (variable_path v) in
+    inputs_apart own (layout_slots text vs)
+    ∙ ap (λ ys. inputs_among own ++ ys) (inputs_are text vs) ∙ by_test v.is_input refl
+  where
+    by_test : (b : Bool) → v.is_input ≡ b
+        → inputs_among (slots_within MAX_TYPE_DEPTH text v.site v.is_input (variable_path v))
+        ++ plan_inputs_of text vs ≡ (if b then map (input_of_leaf v) (leaves_of_variable text v) ++ plan_inputs_of text vs
+        else plan_inputs_of text vs)
+    by_test true e = ap (λ xs. xs ++ plan_inputs_of text vs) (inputs_seen text v e (leaves_of_variable text v))
+    by_test false e = ap (λ xs. xs ++ plan_inputs_of text vs) (no_inputs_seen text v e (leaves_of_variable text v))
+
+-- how many
+pub length_map : {A B : Type 0} (f : A → B) (xs : List A) → length (map f xs) ≡ length xs
+length_map f [] = refl
+length_map f (x ∷ xs) = let h = length_map f xs in omega arith
+
+pub length_slots_of : (count : (sh : Shape) → length (leaves_of sh) ≡ size sh) (text : Declared) (vs : List Owned)
+    → length (slots_of text vs) ≡ layout_size text vs
+length_slots_of count text vs =
+    ap length (sym (slots_are text vs)) ∙ length_map slot_view (layout_slots text vs) ∙ length_layout count text vs
+
+-- Variables that are declared once have parts that are.
+pub once_expandable : (text : Declared) (vs : List Owned) → are_declared_once text vs ≡ true
+    → are_expandable text vs ≡ true
+once_expandable text [] h = refl
+once_expandable text (v ∷ vs) h =
+    let a = both_sound (not (has_variable vs v.owner v.name))
+    (is_sound (variable_shape text v) && are_declared_once text vs) h in
+    let b = both_sound (is_sound (variable_shape text v)) (are_declared_once text vs) a.1 in
+    ap (λ c. c && are_expandable text vs) b.0 ∙ once_expandable text vs b.1

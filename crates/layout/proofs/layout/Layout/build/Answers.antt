@@ -1,0 +1,43 @@
+use Rattle.std.proofs.Common.{rules, ◌≡◌, ◌≤◌, ap, subst, sym, ◌∙◌, length, map, true, Err}
+use Rattle.st_types.specs.NameTypes.{declared_in}
+use Rattle.layout.specs.declared.limits.TheConstants.{MAX_INSTANCES}
+use Rattle.st_words.specs.declared.limits.TheConstants.{MAX_PATHS}
+use Rattle.st_layouts.specs.LayoutVariables.{declared_of, layout_variables}
+use Rattle.st_layouts.specs.TextLayouts.{instances_of, instances_of_text, slots_of_text}
+use Rattle.layout.specs.Growth.{Exceeds}
+use Rattle.layout.specs.Layouts.{are_expandable, layout_size, layout_slots, variables_in}
+use Rattle.layout.specs.TextLayouts.{IsLayoutOf, inputs_among, slot_view, variables_among}
+use Rattle.layout.proofs.PlanLemmas.{length_map, inputs_are, length_slots_of, once_expandable, slots_are, variables_are}
+use Rattle.layout.proofs.layout.Layout.build.Goals as goal
+
+pub returns-in_err-slots_in-clause-err : goal.returns-in_err-slots_in-clause-err
+returns-in_err-slots_in-clause-err c =
+    let fault : c.from_residual.result ≡ Err c.in_err-slots_in.field-0.0 = search rules in
+    rw fault (λ text is differ.
+    let sound : are_expandable (declared_of text) (layout_variables text) ≡ true =
+    once_expandable (declared_of text) (layout_variables text) (c.layouts_of_texts.ensures.once text differ) in
+    let there = c.in_err-slots_in.ensures.err
+    (ap (λ s. are_expandable (declared_in s) (variables_in s)) is ∙ sound) in
+    subst (λ n. Exceeds n (instances_of_text text) c.in_err-slots_in.field-0.0)
+    (sym (length_slots_of c.leaves_of_shapes.ensures.count (declared_of text) (layout_variables text)))
+    (subst (λ s. Exceeds (layout_size (declared_in s) (variables_in s)) (instances_of (declared_in s) (variables_in s))
+    c.in_err-slots_in.field-0.0) is there))
+
+pub returns-clause-ok : goal.returns-clause-ok
+returns-clause-ok c text is differ =
+    let sound : are_expandable (declared_of text) (layout_variables text) ≡ true =
+    once_expandable (declared_of text) (layout_variables text) (c.layouts_of_texts.ensures.once text differ) in
+    let held = ap (λ s. are_expandable (declared_in s) (variables_in s)) is ∙ sound in
+    let there : c.in_ok-slots_in.field-0.items ≡ layout_slots (declared_of text) (layout_variables text) =
+    c.in_ok-slots_in.ensures.ok held ∙ ap (λ s. layout_slots (declared_in s) (variables_in s)) is in
+    let seen : map slot_view c.in_ok-slots_in.field-0.items ≡ slots_of_text text =
+    ap (map slot_view) there ∙ slots_are (declared_of text) (layout_variables text) in
+    record {
+      slots = seen;
+      variables = ap variables_among there ∙ variables_are (declared_of text) (layout_variables text);
+      inputs = ap inputs_among there ∙ inputs_are (declared_of text) (layout_variables text);
+      room = subst (λ n. n ≤ MAX_PATHS)
+          (sym (length_map slot_view c.in_ok-slots_in.field-0.items) ∙ ap length seen) c.in_ok-slots_in.ensures.room;
+      few = subst (λ s. instances_of (declared_in s) (variables_in s) ≤ MAX_INSTANCES) is
+          (c.in_ok-slots_in.ensures.few held);
+    }

@@ -1,0 +1,35 @@
+-- The slots of a layout, as the definitions of layouts and plans see them.
+use Rattle.std.specs.Prelude.{◌≡◌, ℕ, ◌≤◌, List, map, filter, length, not}
+use Rattle.st_words.specs.declared.limits.TheConstants.{MAX_PATHS}
+use Rattle.st_trees.specs.Sources.{Source}
+use Rattle.st_types.specs.Slots.{Slot}
+use Rattle.st_plans.specs.declared.plan.PlanVariable.{PlanVariable}
+use Rattle.st_plans.specs.declared.plan.PlanInput.{PlanInput}
+use Rattle.st_layouts.specs.TextLayouts.{instances_of_text, slots_of_text, plan_inputs_of_text, plan_variables_of_text}
+use Rattle.layout.specs.declared.limits.TheConstants.{MAX_INSTANCES}
+use Rattle.layout.specs.declared.slots.LayoutSlot.{LayoutSlot}
+
+abbrev pub slot_view : LayoutSlot → Slot
+slot_view s = record { path = s.path; kind = s.initial.kind; is_input = s.is_input }
+
+-- a slot of a variable, and one of an input
+abbrev pub variable_of : LayoutSlot → PlanVariable
+variable_of s = record { path = s.path; initial = s.initial; retained = s.retained }
+
+abbrev pub input_of : LayoutSlot → PlanInput
+input_of s = record { path = s.path; kind = s.initial.kind }
+
+abbrev pub variables_among : List LayoutSlot → List PlanVariable
+variables_among ss = map variable_of (filter (λ s. not s.is_input) ss)
+
+abbrev pub inputs_among : List LayoutSlot → List PlanInput
+inputs_among ss = map input_of (filter (λ s. s.is_input) ss)
+
+-- The slots are those of the text, with the initial values and the retention that its declarations tell, and not too
+-- many; nor are its instances of blocks.
+pub record IsLayoutOf (source : Source) (ss : List LayoutSlot) : Type 0 where
+  pub slots : map slot_view ss ≡ slots_of_text source
+  pub variables : variables_among ss ≡ plan_variables_of_text source
+  pub inputs : inputs_among ss ≡ plan_inputs_of_text source
+  pub room : length (slots_of_text source) ≤ MAX_PATHS
+  pub few : instances_of_text source ≤ MAX_INSTANCES
