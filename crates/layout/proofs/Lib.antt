@@ -5,3 +5,4 @@ pub mod InitialLemmas
 pub mod PushLemmas
 pub mod GrowthLemmas
 pub mod LayoutLemmas
+pub mod NameLaws

@@ -9,6 +9,7 @@ mod configurations;
 mod elements;
 mod growing;
 mod initials;
+mod laws;
 mod layout_error;
 mod layout_slots;
 pub mod limits;
@@ -22,6 +23,7 @@ mod variables;
 
 pub use compositions::{Composition, Types};
 pub use growing::{Growing, push_site};
+pub use laws::accepted_texts_declare_names_once;
 pub use layout_error::LayoutError;
 pub use parts::parts_of;
 pub use sites::{Part, PartStep, Site};
