@@ -9,5 +9,5 @@ use Rattle.st_layouts.specs.Types.{of_kind, composition_of, defined_composition}
 pub composed_by : (text : Declared) (t : VariableType) (d : Option TypeDefinition) → kind_among text.types t ≡ None
     → definition_of text t ≡ d → composition_of text t ≡ defined_composition text t d
 composed_by text t d none is =
-    ap (λ m. elim m [ | Some k ↦ of_kind k | None ↦ defined_composition text t (definition_of text t) ]) none
+    ap (λ m. elim m [ Some k ↦ of_kind k | None ↦ defined_composition text t (definition_of text t) ]) none
     ∙ ap (defined_composition text t) is

@@ -2,7 +2,6 @@
 use Rattle.std.proofs.Common.{◌≡◌, refl, sym, ap, ap₂, ◌∙◌, ℕ, zero, suc, ◌+◌, ◌*◌, ℤ, pos, ◌+ℤ◌, arith, List, [], ◌∷◌}
 use Rattle.std.proofs.Common.{◌++◌, map, Bool, true, false, not, ◌&&◌, Option, Some, None, option_map}
 use Rattle.std.specs.Prelude.{bytes_eq, if◌then◌else◌, option_and_then, ◌||◌}
-use Rattle.std.proofs.lemmas.Bool.Decides.{Decides-int_eq}
 use Rattle.std.proofs.lemmas.Int.{ints}
 use Rattle.std.proofs.lemmas.Slice.Eq.{bytes_eq-Decides}
 use Rattle.st_words.specs.declared.path.Step.{Step}
@@ -14,7 +13,7 @@ use Rattle.st_trees.specs.declared.data_type.VariableType.{VariableType}
 use Rattle.st_types.specs.NameTypes.{Declared}
 use Rattle.st_types.specs.Scopes.{Name}
 use Rattle.st_plans.specs.Plans.{initial_value, is_retained_by}
-use Rattle.st_layouts.specs.Shapes.{Shape, Parts, Leaf, below, leaves_of, leaves_of_parts, leaves_of_elements, in_bounds}
+use Rattle.st_layouts.specs.Shapes.{Shape, Leaf, below, leaves_of, leaves_of_parts, leaves_of_elements, in_bounds}
 use Rattle.st_layouts.specs.Shapes.{distance, has_name, is_sound, are_sound, size, sizes, instance_count, instance_counts}
 use Rattle.st_layouts.specs.Shapes.{Whole}
 use Rattle.st_layouts.specs.Types.{Site, NamedSite, site_named, Composition, of_kind, of_elements, of_parts, composition_of}
@@ -115,9 +114,10 @@ found_all inner [] h = tt
 found_all inner (d ∷ ds) h =
     let a = both (not (has_name (parts_of inner ds) d.name))
     (is_sound (inner d.site.declared) && are_sound (parts_of inner ds)) h in
-    let b = both (is_sound (inner d.site.declared)) (are_sound (parts_of inner ds)) a.1 in
-    (ap (λ t. if t then Some d.site else site_named ds d.name) (name_itself d.name),
-    found_behind inner d ds ds (turned (has_name (parts_of inner ds) d.name) a.0) (found_all inner ds b.1))
+    let b = both (is_sound (inner d.site.declared)) (are_sound (parts_of inner ds)) a.1 in (
+      ap (λ t. if t then Some d.site else site_named ds d.name) (name_itself d.name),
+      found_behind inner d ds ds (turned (has_name (parts_of inner ds) d.name) a.0) (found_all inner ds b.1),
+    )
 
 -- A slot is that of a part, seen from one step further in.
 abbrev slot_from : Option Site → Bool → Path → Kind → LayoutSlot

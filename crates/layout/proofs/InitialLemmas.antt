@@ -2,7 +2,6 @@
 use Rattle.std.proofs.Common.{◌≡◌, Ok, Err}
 use Rattle.std.specs.Prelude.{Result}
 use Rattle.st_words.specs.Values.{Datum}
-use Rattle.st_words.specs.declared.fault.Fault.{Fault}
 use Rattle.st_types.specs.Failures.{Failure, run_result}
 
 pub ran_ok : (r : Result Datum Failure) (v : Datum) → run_result r ≡ Ok v → r ≡ Ok v

@@ -8,7 +8,7 @@ use Rattle.st_trees.specs.Configurations.{Resource}
 use Rattle.st_types.specs.NameTypes.{Declared, unit_named}
 use Rattle.st_types.specs.Scopes.{Name}
 use Rattle.st_statics.specs.declared.limits.TheConstants.{MAX_TYPE_DEPTH}
-use Rattle.st_layouts.specs.Shapes.{Shape, leaves_of, size, instance_count, is_sound}
+use Rattle.st_layouts.specs.Shapes.{Shape, leaves_of, size, is_sound}
 use Rattle.st_layouts.specs.LayoutVariables.{Owned, owned_variable, owner_in, program_sites}
 use Rattle.st_layouts.specs.LayoutVariables.{variables_of_instances, variables_of_resources}
 use Rattle.st_layouts.specs.TextLayouts.{instances_of, variable_path, variable_shape}

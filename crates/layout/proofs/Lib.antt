@@ -1,8 +1,9 @@
-pub mod SiteLemmas
 pub mod CompositionLemmas
 pub mod ExpansionLemmas
-pub mod InitialLemmas
-pub mod PushLemmas
 pub mod GrowthLemmas
+pub mod InitialLemmas
 pub mod LayoutLemmas
+pub mod NameLaws
 pub mod PlanLemmas
+pub mod PushLemmas
+pub mod SiteLemmas

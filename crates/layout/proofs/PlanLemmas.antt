@@ -1,27 +1,23 @@
 -- The slots of a layout are those of the definitions.
-use Rattle.std.proofs.Common.{◌≡◌, refl, sym, ap, ap₂, ◌∙◌, arith, ℕ, ◌+◌, List, [], ◌∷◌, ◌++◌, map, length, Bool, true}
+use Rattle.std.proofs.Common.{◌≡◌, refl, sym, ap, ap₂, ◌∙◌, arith, List, [], ◌∷◌, ◌++◌, map, length, Bool, true}
 use Rattle.std.proofs.Common.{false, not, ◌&&◌, if◌then◌else◌, Option, Some, None, Result, Ok, Err, filter}
 use Rattle.std.specs.Prelude.{option_and_then}
 use Rattle.st_words.specs.declared.kind.Kind.{Kind}
 use Rattle.st_words.specs.Kinds.{holds, same_kind}
-use Rattle.st_words.specs.Paths.{Path}
 use Rattle.st_words.specs.Values.{Datum}
 use Rattle.st_words.proofs.KindLemmas.{same_kind_is}
 use Rattle.st_trees.specs.Initials.{Initial, constant, list, structure}
 use Rattle.st_types.specs.Failures.{Failure}
 use Rattle.st_types.specs.NameTypes.{Declared}
 use Rattle.st_types.specs.Operators.{value_of_literal}
-use Rattle.st_types.specs.Slots.{Slot}
 use Rattle.st_types.specs.Stores.{may_replace}
 use Rattle.st_plans.specs.Plans.{initial_value}
-use Rattle.st_plans.specs.declared.plan.PlanInput.{PlanInput}
-use Rattle.st_plans.specs.declared.plan.PlanVariable.{PlanVariable}
 use Rattle.st_statics.specs.declared.limits.TheConstants.{MAX_TYPE_DEPTH}
 use Rattle.st_layouts.specs.Shapes.{Shape, Leaf, leaves_of, size, is_sound}
 use Rattle.st_layouts.specs.Types.{Site}
 use Rattle.st_layouts.specs.Sites.{constant_of, default_of, fitting, initial_at, site_at}
 use Rattle.st_layouts.specs.LayoutVariables.{Owned}
-use Rattle.st_layouts.specs.TextLayouts.{variable_path, variable_shape, slot_of_leaf, slots_of_variable, slots_of}
+use Rattle.st_layouts.specs.TextLayouts.{variable_path, variable_shape, slot_of_leaf, slots_of}
 use Rattle.st_layouts.specs.TextLayouts.{variable_of_leaf, plan_variables_of, input_of_leaf, plan_inputs_of}
 use Rattle.st_layouts.specs.TextLayouts.{leaves_of_variable}
 use Rattle.st_layouts.specs.Standing.{are_declared_once, has_variable}

@@ -1,6 +1,5 @@
 -- What declared types are made of, as the definitions see it.
-use Rattle.std.specs.Prelude.{ℕ, List, map}
-use Rattle.st_words.specs.declared.identifier.Identifier.{Identifier}
+use Rattle.std.specs.Prelude.{ℕ, map}
 use Rattle.st_trees.specs.declared.data_type.SimpleType.TheVariants.{Named}
 use Rattle.st_trees.specs.declared.data_type.VariableType.{VariableType}
 use Rattle.st_trees.specs.declared.data_type.VariableType.TheVariants.{Simple}

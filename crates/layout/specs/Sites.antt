@@ -1,5 +1,5 @@
 -- What the declarations say of a variable and of its parts, as code keeps it.
-use Rattle.std.specs.Prelude.{◌≡◌, ℕ, zero, suc, ◌+◌, ℤ, pos, ◌+ℤ◌, List, [], ◌∷◌, map, Bool, Option, option_map}
+use Rattle.std.specs.Prelude.{◌≡◌, ℕ, zero, suc, ◌+◌, pos, ◌+ℤ◌, List, [], ◌∷◌, map, Bool, Option, option_map}
 use denote.Bor.{Bor}
 use Rattle.st_words.specs.declared.path.Step as path
 use Rattle.st_words.specs.declared.path.Step.TheVariants as steps

@@ -1,5 +1,5 @@
 -- The slots of a layout, as the definitions of layouts and plans see them.
-use Rattle.std.specs.Prelude.{◌≡◌, ℕ, ◌≤◌, List, map, filter, length, not}
+use Rattle.std.specs.Prelude.{◌≡◌, ◌≤◌, List, map, filter, length, not}
 use Rattle.st_words.specs.declared.limits.TheConstants.{MAX_PATHS}
 use Rattle.st_trees.specs.Sources.{Source}
 use Rattle.st_types.specs.Slots.{Slot}

@@ -18,7 +18,13 @@ fn variable_part<'a>(whole: Site<'a>, variable: NamedSite<'a>) -> Part<'a>
     ensures { (s : made.Site) → site_view whole.entry ≡ kept s
         → part_view result ≡ kept_part (member_part s (named_site_view variable.entry)) }
 {
-    member_of(whole, variable.name, variable.declared, variable.initial, variable.said)
+    member_of(
+        whole,
+        variable.name,
+        variable.declared,
+        variable.initial,
+        variable.said,
+    )
 }
 
 fn push_members<'a>(

@@ -14,7 +14,9 @@ ghost use Rattle.layout.specs.Compositions.{ServesTypes, composition_view, named
 
 use st_decl::types_in;
 use st_names::{EnumeratedNames, PlaceType, StandardBlock, TextNames, standard_block};
-use st_trees::{ArrayType, Field, SimpleType, Source, TypeDefinition, Unit, UnitSort, VariableBlock};
+use st_trees::{
+    ArrayType, Field, SimpleType, Source, TypeDefinition, Unit, UnitSort, VariableBlock,
+};
 use st_words::{Kind, Name};
 use std::alloc::{AllocError, Global};
 

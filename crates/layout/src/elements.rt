@@ -20,7 +20,11 @@ use std::alloc::{AllocError, Global};
 fn times_of(count: &Number) -> u64
     ensures { result ≡ natural (number_of count.now) }
 {
-    if count.is_negative { 0 } else { count.magnitude }
+    if count.is_negative {
+        0
+    } else {
+        count.magnitude
+    }
 }
 
 /// Appends what so many elements are given.

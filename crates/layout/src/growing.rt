@@ -21,7 +21,8 @@ use crate::sites::{PartStep, Site};
 use crate::slots::{LayoutSlot, Root, path_to};
 use st_layouts::leaves_of_shapes;
 use st_names::StandardBlock;
-use st_words::{Kind, limits::MAX_PATHS};
+use st_words::Kind;
+use st_words::limits::MAX_PATHS;
 use std::alloc::Global;
 
 /// The slots so far, and where the next ones stand.

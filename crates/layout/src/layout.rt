@@ -1,18 +1,19 @@
 //! Layouts of texts.
 
-ghost use Rattle.std.specs.Prelude.{◌≡◌, IfErr, IfOk, length, true};
+ghost use Rattle.std.specs.Prelude.{◌≡◌, IfErr, IfOk, length};
 ghost use Rattle.st_trees.specs.SourceViews.{source_view};
 ghost use Rattle.st_trees.specs.Sources as trees;
 ghost use Rattle.st_types.specs.ResolvedUnits.{resolved_source};
-ghost use Rattle.st_layouts.specs.Names.{has_different_names};
+ghost use Rattle.st_statics.specs.Rules.{IsWellTyped};
 ghost use Rattle.st_layouts.specs.TextLayouts.{instances_of_text, slots_of_text};
 ghost use Rattle.layout.specs.Growth.{Exceeds};
 ghost use Rattle.layout.specs.TextLayouts.{IsLayoutOf, inputs_among, variables_among};
 
+use crate::laws::accepted_texts_declare_names_once;
 use crate::layout_error::LayoutError;
 use crate::layout_slots::slots_in;
 use crate::slots::LayoutSlot;
-use st_layouts::{layouts_of_texts, leaves_of_shapes};
+use st_layouts::leaves_of_shapes;
 use st_plans::{PlanInput, PlanVariable};
 use st_trees::Source;
 use std::alloc::{AllocError, Global};
@@ -25,20 +26,20 @@ pub struct Layout {
 }
 
 impl Layout {
-    /// The layout of a text in which each literal has its type.
+    /// The layout of a text that breaks no rule, from its tree in which each literal has its type.
     ///
     /// It has exactly the paths of the text in order, with their types, their initial values and their retention. It is
     /// refused (M1) exactly where these are more than 4,096, or where the text has more than 4,096 instances of
     /// function blocks at every depth; the expansion stops there.
     pub fn build(alloc: Global, source: &Source) -> Result<Layout, LayoutError>
         ensures ok { IfOk result (λ layout. (text : trees.Source) → source_view source.now ≡ resolved_source text
-            → has_different_names text ≡ true → IsLayoutOf text layout.slots.items) }
+            → IsWellTyped text → IsLayoutOf text layout.slots.items) }
         ensures err { IfErr result (λ e. (text : trees.Source) → source_view source.now ≡ resolved_source text
-            → has_different_names text ≡ true
+            → IsWellTyped text
             → Exceeds (length (slots_of_text text)) (instances_of_text text) e) }
     {
         leaves_of_shapes();
-        layouts_of_texts();
+        accepted_texts_declare_names_once();
         Ok(Layout {
             slots: slots_in(alloc, source)?,
         })

@@ -9,6 +9,7 @@ mod configurations;
 mod elements;
 mod growing;
 mod initials;
+mod laws;
 mod layout;
 mod layout_error;
 mod layout_slots;
@@ -21,6 +22,7 @@ mod slots;
 mod standard_members;
 mod variables;
 
+pub use laws::accepted_texts_declare_names_once;
 pub use layout::Layout;
 pub use layout_error::LayoutError;
 pub use slots::LayoutSlot;

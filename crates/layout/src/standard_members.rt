@@ -56,7 +56,13 @@ fn member_part<'a>(whole: Site<'a>, member: StandardMember) -> Part<'a>
     ensures { (s : made.Site) → site_view whole.entry ≡ kept s
         → part_view result ≡ kept_part (member_part s (site_of_member (standard_member_view member))) }
 {
-    member_of(whole, member.name, PlaceType::Standard(member.kind), None, None)
+    member_of(
+        whole,
+        member.name,
+        PlaceType::Standard(member.kind),
+        None,
+        None,
+    )
 }
 
 fn push_members<'a>(
@@ -96,7 +102,13 @@ fn push_inputs<'a>(
         StandardBlock::Ctud => push_members(
             parts,
             whole,
-            &[truth(b"CU"), truth(b"CD"), truth(b"R"), truth(b"LD"), number(b"PV")],
+            &[
+                truth(b"CU"),
+                truth(b"CD"),
+                truth(b"R"),
+                truth(b"LD"),
+                number(b"PV"),
+            ],
         ),
         StandardBlock::Ton | StandardBlock::Tof | StandardBlock::Tp => {
             push_members(parts, whole, &[truth(b"IN"), duration(b"PT")])

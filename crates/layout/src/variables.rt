@@ -13,7 +13,10 @@ ghost use Rattle.layout.specs.declared.slots.OwnerNames.{OwnerNames};
 
 use crate::named_sites::{NamedSite, renamed, sites_of_blocks};
 use st_names::place_type;
-use st_trees::{Direction, GlobalBlock, GlobalDeclaration, GlobalNames, GlobalQualifier, Retention, Unit, UnitSort};
+use st_trees::{
+    Direction, GlobalBlock, GlobalDeclaration, GlobalNames, GlobalQualifier, Retention, Unit,
+    UnitSort,
+};
 use st_words::Identifier;
 use std::alloc::{AllocError, Global};
 

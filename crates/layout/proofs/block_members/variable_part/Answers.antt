@@ -1,4 +1,4 @@
-use Rattle.std.proofs.Common.{◌≡◌, refl}
+use Rattle.std.proofs.Common.{refl}
 use Rattle.layout.specs.NamedSites.{named_site_view}
 use Rattle.layout.proofs.block_members.variable_part.Goals as goal
 

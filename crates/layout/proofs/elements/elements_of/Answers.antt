@@ -1,4 +1,4 @@
-use Rattle.std.proofs.Common.{rules, arith, ◌≡◌, refl, ap, sym, ◌∙◌, ◌∷◌, [], ◌++◌, ◌+◌, ◌-◌, map, length, slice_get}
+use Rattle.std.proofs.Common.{rules, arith, ap, ◌∙◌, ◌∷◌, [], ◌++◌, ◌+◌, ◌-◌, map, slice_get}
 use Rattle.std.proofs.lemmas.List.{map-append}
 use Rattle.st_layouts.specs.Types.{count_of}
 use Rattle.st_layouts.specs.Sites.{element_initial, given}

@@ -1,4 +1,4 @@
-use Rattle.std.proofs.Common.{◌≡◌, ap, ◌∙◌, ◌∷◌, [], ◌++◌, ◌+◌, ◌-◌, arith, map, replicate}
+use Rattle.std.proofs.Common.{ap, ◌∙◌, ◌∷◌, [], ◌++◌, ◌+◌, ◌-◌, arith, map, replicate}
 use Rattle.std.proofs.lemmas.List.{map-append}
 use Rattle.layout.specs.Sites.{given_view}
 use Rattle.layout.proofs.PushLemmas.{moved, replicate_more}

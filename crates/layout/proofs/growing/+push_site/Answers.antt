@@ -1,10 +1,8 @@
-use Rattle.std.proofs.Common.{rules, arith, ◌≡◌, refl, ap, sym, subst, ◌∙◌, ℕ, suc, ◌+◌, ◌-◌, ◌∷◌, [], ◌++◌, length, map}
-use Rattle.std.proofs.Common.{drop, true, false, Err}
+use Rattle.std.proofs.Common.{rules, arith, ◌≡◌, refl, ap, subst, ◌∙◌, suc, ◌+◌, ◌-◌, ◌∷◌, [], ◌++◌, length, map}
+use Rattle.std.proofs.Common.{drop, Err}
 use Rattle.std.proofs.Math.ListN.{drop_of_length-le}
 use Rattle.std.specs.Vec.{vec_len}
-use Rattle.st_types.specs.NameTypes.{Declared}
 use Rattle.st_layouts.specs.Shapes.{is_sound, size, instance_count}
-use Rattle.st_layouts.specs.Types as made
 use Rattle.st_layouts.specs.Types.{composition_of, shape_within}
 use Rattle.layout.specs.Compositions.{composition_view}
 use Rattle.layout.specs.Growth.{Exceeds, Grows}

@@ -1,4 +1,4 @@
-use Rattle.std.proofs.Common.{◌≡◌, ap, sym, ◌∙◌, Ok}
+use Rattle.std.proofs.Common.{ap, sym, ◌∙◌}
 use Rattle.st_types.specs.Operators.{value_of_literal, value_of_number}
 use Rattle.st_layouts.specs.Sites.{fitting}
 use Rattle.layout.proofs.InitialLemmas.{ran_ok}

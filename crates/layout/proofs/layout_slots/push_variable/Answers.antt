@@ -1,5 +1,4 @@
-use Rattle.std.proofs.Common.{rules, ◌≡◌, refl, ◌+◌, length, true, Err}
-use Rattle.st_statics.specs.declared.limits.TheConstants.{MAX_TYPE_DEPTH}
+use Rattle.std.proofs.Common.{rules, ◌≡◌, refl, length, true, Err}
 use Rattle.st_layouts.specs.Shapes.{is_sound, size, instance_count}
 use Rattle.st_layouts.specs.TextLayouts.{variable_shape}
 use Rattle.layout.specs.Variables.{variable_view}

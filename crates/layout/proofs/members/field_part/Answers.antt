@@ -1,4 +1,4 @@
-use Rattle.std.proofs.Common.{rules, ◌≡◌, refl, sym}
+use Rattle.std.proofs.Common.{rules, refl, sym}
 use Rattle.st_trees.specs.DeclarationViews.{field_view}
 use Rattle.st_layouts.specs.Types.{site_of_field}
 use Rattle.layout.proofs.members.field_part.Goals as goal

@@ -1,4 +1,4 @@
-use Rattle.std.proofs.Common.{arith, sym, ◌≡◌, refl, ◌++◌, map}
+use Rattle.std.proofs.Common.{arith, refl, ◌++◌, map}
 use Rattle.st_trees.specs.DeclarationViews.{field_view}
 use Rattle.st_layouts.specs.Types.{site_of_field}
 use Rattle.layout.specs.Sites.{kept_part, member_part, part_view}

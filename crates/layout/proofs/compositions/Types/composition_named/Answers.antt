@@ -1,4 +1,4 @@
-use Rattle.std.proofs.Common.{◌≡◌, ap, sym, ◌∙◌, Some}
+use Rattle.std.proofs.Common.{ap, sym, ◌∙◌, Some}
 use Rattle.std.specs.Prelude.{option_map}
 use Rattle.st_trees.specs.DeclarationViews.{type_definition_view}
 use Rattle.st_types.specs.Enumerations.{enumerations_of}

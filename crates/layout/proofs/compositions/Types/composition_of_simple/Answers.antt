@@ -1,4 +1,4 @@
-use Rattle.std.proofs.Common.{◌≡◌, ap, sym, ◌∙◌}
+use Rattle.std.proofs.Common.{ap, sym, ◌∙◌}
 use Rattle.st_trees.specs.declared.data_type.VariableType.TheVariants.{Simple}
 use Rattle.st_layouts.specs.Types.{composition_of}
 use Rattle.layout.proofs.compositions.Types.composition_of_simple.Goals as goal

@@ -6,16 +6,16 @@ use Rattle.st_layouts.specs.LayoutVariables.{declared_of, layout_variables}
 use Rattle.st_layouts.specs.TextLayouts.{instances_of, instances_of_text, slots_of_text}
 use Rattle.layout.specs.Growth.{Exceeds}
 use Rattle.layout.specs.Layouts.{are_expandable, layout_size, layout_slots, variables_in}
-use Rattle.layout.specs.TextLayouts.{IsLayoutOf, inputs_among, slot_view, variables_among}
+use Rattle.layout.specs.TextLayouts.{inputs_among, slot_view, variables_among}
 use Rattle.layout.proofs.PlanLemmas.{length_map, inputs_are, length_slots_of, once_expandable, slots_are, variables_are}
 use Rattle.layout.proofs.layout.Layout.build.Goals as goal
 
 pub returns-in_err-slots_in-clause-err : goal.returns-in_err-slots_in-clause-err
 returns-in_err-slots_in-clause-err c =
     let fault : c.from_residual.result ≡ Err c.in_err-slots_in.field-0.0 = search rules in
-    rw fault (λ text is differ.
+    rw fault (λ text is typed.
     let sound : are_expandable (declared_of text) (layout_variables text) ≡ true =
-    once_expandable (declared_of text) (layout_variables text) (c.layouts_of_texts.ensures.once text differ) in
+    once_expandable (declared_of text) (layout_variables text) (c.accepted_texts_declare_names_once.ensures.once text typed) in
     let there = c.in_err-slots_in.ensures.err
     (ap (λ s. are_expandable (declared_in s) (variables_in s)) is ∙ sound) in
     subst (λ n. Exceeds n (instances_of_text text) c.in_err-slots_in.field-0.0)
@@ -24,9 +24,9 @@ returns-in_err-slots_in-clause-err c =
     c.in_err-slots_in.field-0.0) is there))
 
 pub returns-clause-ok : goal.returns-clause-ok
-returns-clause-ok c text is differ =
+returns-clause-ok c text is typed =
     let sound : are_expandable (declared_of text) (layout_variables text) ≡ true =
-    once_expandable (declared_of text) (layout_variables text) (c.layouts_of_texts.ensures.once text differ) in
+    once_expandable (declared_of text) (layout_variables text) (c.accepted_texts_declare_names_once.ensures.once text typed) in
     let held = ap (λ s. are_expandable (declared_in s) (variables_in s)) is ∙ sound in
     let there : c.in_ok-slots_in.field-0.items ≡ layout_slots (declared_of text) (layout_variables text) =
     c.in_ok-slots_in.ensures.ok held ∙ ap (λ s. layout_slots (declared_in s) (variables_in s)) is in
