@@ -14,9 +14,11 @@ use Rattle.st_types.specs.NameTypes.{Declared}
 use Rattle.st_types.specs.Scopes.{Name}
 use Rattle.st_plans.specs.Plans.{initial_value, is_retained_by}
 use Rattle.st_layouts.specs.Shapes.{Shape, Leaf, below, leaves_of, leaves_of_parts, leaves_of_elements, in_bounds}
-use Rattle.st_layouts.specs.Shapes.{distance, has_name, is_sound, are_sound, size, sizes, instance_count, instance_counts}
+use Rattle.st_layouts.specs.Shapes.{distance, has_name, is_sound, are_sound, size, sizes, instance_count}
+use Rattle.st_layouts.specs.Shapes.{instance_counts}
 use Rattle.st_layouts.specs.Shapes.{Whole}
-use Rattle.st_layouts.specs.Types.{Site, NamedSite, site_named, Composition, of_kind, of_elements, of_parts, composition_of}
+use Rattle.st_layouts.specs.Types.{Site, NamedSite, site_named, Composition, of_kind, of_elements, of_parts}
+use Rattle.st_layouts.specs.Types.{composition_of}
 use Rattle.st_layouts.specs.Types.{shape_within, composed_shape, parts_of, lower_of, count_of, element_of}
 use Rattle.st_layouts.specs.Sites.{site_at, site_behind, element_site, member_site, constant_of}
 use Rattle.st_layouts.specs.TextLayouts.{further}
@@ -199,7 +201,8 @@ slots_composed : (n : ℕ) (text : Declared) (s : Site) (input : Bool) (p : Path
     → map (slot_at text s input p) (leaves_of (composed_shape (shape_within n text) c))
     ≡ own_slots c (kept s) input p ++ slots_of_parts n text input p (parts_behind s c)
 slots_composed n text s input p (of_kind k) made h =
-    ap (λ xs. slot_from (Some s) input (record { owner = p.owner; name = p.name; steps = xs }) k ∷ []) (append_nil p.steps)
+    ap (λ xs. slot_from (Some s) input (record { owner = p.owner; name = p.name; steps = xs }) k ∷ [])
+    (append_nil p.steps)
 slots_composed n text s input p (of_elements a) made h =
     slots_of_elements n text s input p a (lower_of a) 0 (count_of a) made (grind (arith, ints)) (omega arith)
 slots_composed n text s input p (of_parts w ds) made h =

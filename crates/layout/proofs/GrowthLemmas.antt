@@ -1,5 +1,6 @@
 -- The growth of a layout by the parts of a whole, one after another.
-use Rattle.std.proofs.Common.{◌≡◌, refl, sym, ap, subst, ◌∙◌, arith, ℕ, suc, ◌+◌, ◌≤◌, List, [], ◌∷◌, ◌++◌, length, map, Bool, true}
+use Rattle.std.proofs.Common.{◌≡◌, refl, sym, ap, subst, ◌∙◌, arith, ℕ, suc, ◌+◌, ◌≤◌, List, [], ◌∷◌, ◌++◌, length}
+use Rattle.std.proofs.Common.{map, Bool, true}
 use Rattle.std.proofs.Common.{false, option_map, length-append, ◌-◌, take}
 use Rattle.std.proofs.Math.Seq.{take-append_seam}
 use Rattle.std.specs.Prelude.{nat_lt, ◌||◌}
@@ -27,7 +28,8 @@ use Rattle.layout.proofs.ExpansionLemmas.{ArePartsSound, sound_parts, slots_expa
 use Rattle.layout.proofs.ExpansionLemmas.{instances_expanded}
 
 -- These parts are left: with them the layout grows by the whole, from what it was.
-pub record Remains (n : ℕ) (text : Declared) (s : made.Site) (r : Root) (old now : Growing) (left : List Part) : Type 0 where
+pub record Remains (n : ℕ) (text : Declared) (s : made.Site) (r : Root) (old now : Growing) (left : List Part)
+    : Type 0 where
   pub es : List (Step × made.Site)
   pub parts : map part_view left ≡ map kept_part es
   pub sound : ArePartsSound n text es
@@ -88,7 +90,8 @@ begun n text s r old now c k left made site sound slots instances parts =
     }
 
 -- The part that comes next, and what is left behind it.
-pub record Next (n : ℕ) (text : Declared) (s : made.Site) (r : Root) (old now : Growing) (p : Part) (left : List Part) : Type 0 where
+pub record Next (n : ℕ) (text : Declared) (s : made.Site) (r : Root) (old now : Growing) (p : Part)
+    (left : List Part) : Type 0 where
   pub site : made.Site
   pub rest : List (Step × made.Site)
   pub is : site_view p.site ≡ kept site

@@ -1,5 +1,6 @@
 -- The growth of a layout by variables, one after another.
-use Rattle.std.proofs.Common.{◌≡◌, refl, sym, ap, ap₂, subst, ◌∙◌, arith, ℕ, ◌+◌, List, [], ◌∷◌, ◌++◌, length, Bool, true, false}
+use Rattle.std.proofs.Common.{◌≡◌, refl, sym, ap, ap₂, subst, ◌∙◌, arith, ℕ, ◌+◌, List, [], ◌∷◌, ◌++◌, length, Bool}
+use Rattle.std.proofs.Common.{true, false}
 use Rattle.std.proofs.Common.{length-append, map, Some}
 use Rattle.std.specs.Prelude.{◌&&◌}
 use Rattle.std.proofs.lemmas.List.{append_assoc, append-nil}
@@ -41,7 +42,8 @@ both_sound true true h = (refl, refl)
 both_sound true false h = absurd (cc)
 both_sound false b h = absurd (cc)
 
-pub exceeds_one : (e : LayoutError) (k m n : ℕ) (i : ℕ) → Exceeds (k + m) (n + i) e → Exceeds (k + (m + 0)) (n + (i + 0)) e
+pub exceeds_one : (e : LayoutError) (k m n i : ℕ) → Exceeds (k + m) (n + i) e
+    → Exceeds (k + (m + 0)) (n + (i + 0)) e
 exceeds_one e k m n i h = exceeds_more e (k + m) (k + (m + 0)) (n + i) (n + (i + 0)) (omega arith) (omega arith) h
 
 -- several
@@ -70,7 +72,8 @@ pub length_layout : (count : (sh : Shape) → length (leaves_of sh) ≡ size sh)
     → length (layout_slots text vs) ≡ layout_size text vs
 length_layout count text [] = refl
 length_layout count text (v ∷ vs) =
-    let a = length-append (slots_within MAX_TYPE_DEPTH text v.site v.is_input (variable_path v)) (layout_slots text vs) in
+    let a = length-append (slots_within MAX_TYPE_DEPTH text v.site v.is_input (variable_path v))
+    (layout_slots text vs) in
     let b = length_slots count MAX_TYPE_DEPTH text v.site v.is_input (variable_path v) in
     let c = length_layout count text vs in omega (arith, a, b, c)
 

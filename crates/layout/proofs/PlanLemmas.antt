@@ -141,7 +141,8 @@ inputs_are text (v ∷ vs) =
   where
     by_test : (b : Bool) → v.is_input ≡ b
         → inputs_among (slots_within MAX_TYPE_DEPTH text v.site v.is_input (variable_path v))
-        ++ plan_inputs_of text vs ≡ (if b then map (input_of_leaf v) (leaves_of_variable text v) ++ plan_inputs_of text vs
+        ++ plan_inputs_of text vs
+        ≡ (if b then map (input_of_leaf v) (leaves_of_variable text v) ++ plan_inputs_of text vs
         else plan_inputs_of text vs)
     by_test true e = ap (λ xs. xs ++ plan_inputs_of text vs) (inputs_seen text v e (leaves_of_variable text v))
     by_test false e = ap (λ xs. xs ++ plan_inputs_of text vs) (no_inputs_seen text v e (leaves_of_variable text v))

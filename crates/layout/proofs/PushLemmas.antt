@@ -1,5 +1,6 @@
 -- What was pushed for a list, element by element.
-use Rattle.std.proofs.Common.{◌≡◌, sym, ap, ◌∙◌, arith, ℕ, suc, ◌+◌, ◌-◌, ◌<◌, List, replicate, [], ◌∷◌, ◌++◌, map, drop, length}
+use Rattle.std.proofs.Common.{◌≡◌, sym, ap, ◌∙◌, arith, ℕ, suc, ◌+◌, ◌-◌, ◌<◌, List, replicate, [], ◌∷◌, ◌++◌, map}
+use Rattle.std.proofs.Common.{drop, length}
 use Rattle.std.proofs.Common.{slice_index_or}
 use Rattle.std.proofs.lemmas.List.{drop_more, append_assoc, map-append}
 

@@ -1,5 +1,6 @@
 -- What the declarations say of parts.
-use Rattle.std.proofs.Common.{◌≡◌, refl, ap, arith, ℕ, suc, ◌+◌, ◌-◌, ◌<◌, List, [], ◌∷◌, ◌++◌, Bool, true, false, Option, Some, None}
+use Rattle.std.proofs.Common.{◌≡◌, refl, ap, arith, ℕ, suc, ◌+◌, ◌-◌, ◌<◌, List, [], ◌∷◌, ◌++◌, Bool, true, false}
+use Rattle.std.proofs.Common.{Option, Some, None}
 use Rattle.st_trees.specs.declared.data_type.ArrayType.{ArrayType}
 use Rattle.st_trees.specs.declared.data_type.VariableType.{VariableType}
 use Rattle.st_trees.specs.Initials.{Initial}
@@ -24,7 +25,8 @@ elements_more s a n k h = ap (element_parts s a k) (one_less n k h)
     one_less n k h = omega (arith, h)
 
 -- a variable that its declaration alone tells of
-pub kept_alone : (t : VariableType) (i : Option Initial) (b : Bool) (rs : List (Option Retention)) → b ≡ is_retained_by rs
+pub kept_alone : (t : VariableType) (i : Option Initial) (b : Bool) (rs : List (Option Retention))
+    → b ≡ is_retained_by rs
     → ◌≡◌ {A = KeptSite} (record { declared = t; initial = i; retained = b })
     (kept (record { declared = t; initial = i; retentions = rs }))
 kept_alone t i b rs h = ap (λ c. record { declared = t; initial = i; retained = c }) h

@@ -13,7 +13,8 @@ use Rattle.st_names.specs.Standard.{block_view}
 use Rattle.st_names.specs.Texts.{ServesText}
 use Rattle.st_layouts.specs.Shapes.{of_structure, of_instance}
 use Rattle.st_layouts.specs.Types as made
-use Rattle.st_layouts.specs.Types.{of_kind, of_elements, of_parts, nothing, site_of_field, site_of_member, sites_of_blocks}
+use Rattle.st_layouts.specs.Types.{of_kind, of_elements, of_parts, nothing, site_of_field, site_of_member}
+use Rattle.st_layouts.specs.Types.{sites_of_blocks}
 use Rattle.layout.specs.declared.compositions.Composition.{Composition}
 use Rattle.layout.specs.declared.compositions.Composition.TheVariants.{Kind, Elements, Fields, Block, Standard, Nothing}
 use Rattle.layout.specs.declared.compositions.Types.{Types}

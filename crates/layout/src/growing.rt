@@ -43,7 +43,8 @@ fn push_slot(
     kind: Kind,
 ) -> Result<(), LayoutError>
     ensures slots { OnOk result (grown.new.slots.items ≡ grown.old.slots.items
-        ++ own_slots (made.of_kind kind) (site_view site.entry) root.entry.is_input (path_at root.entry grown.old.trail.items)) }
+        ++ own_slots (made.of_kind kind) (site_view site.entry) root.entry.is_input
+        (path_at root.entry grown.old.trail.items)) }
     ensures instances { grown.new.instances ≡ grown.old.instances }
     ensures trail { grown.new.trail ≡ grown.old.trail }
     ensures bounded { OnOk result (length grown.new.slots.items ≤ MAX_PATHS) }

@@ -3,7 +3,8 @@
 ghost use Rattle.std.specs.Prelude.{◌≡◌, ◌++◌, map, Option, option_map, IfOk, None};
 ghost use Rattle.st_trees.specs.ConfigurationViews.{global_block_view, global_declaration_view, global_names_view};
 ghost use Rattle.st_trees.specs.UnitViews.{unit_view};
-ghost use Rattle.st_layouts.specs.LayoutVariables.{is_input_address, owned_variable, program_sites, retention_of_globals};
+ghost use Rattle.st_layouts.specs.LayoutVariables.{is_input_address, owned_variable, program_sites};
+ghost use Rattle.st_layouts.specs.LayoutVariables.{retention_of_globals};
 ghost use Rattle.st_layouts.specs.LayoutVariables.{site_of_global, variables_of_declarations, variables_of_globals};
 ghost use Rattle.st_layouts.specs.LayoutVariables.{variables_of_names};
 ghost use Rattle.layout.specs.NamedSites.{named_as, named_site_view};
@@ -148,7 +149,8 @@ pub fn program_variables<'a>(
     unit: Option<&'a Unit>,
 ) -> Result<Vec<Variable<'a>>, AllocError>
     ensures { IfOk result (λ variables. (o : Option OwnerNames) → map (variable_view o) variables.items
-        ≡ map (owned_variable (option_map owner_view o)) (program_sites (option_map (λ u. unit_view u.now) unit.entry))) }
+        ≡ map (owned_variable (option_map owner_view o))
+        (program_sites (option_map (λ u. unit_view u.now) unit.entry))) }
 {
     let sites = program_sites(alloc, unit)?;
     let mut variables = Vec::new(alloc);

@@ -6,7 +6,8 @@ use Rattle.layout.specs.Growth.{Exceeds}
 use Rattle.layout.specs.Instances.{instance_view, instances_in, variables_of_programs}
 use Rattle.layout.specs.Layouts.{GrowsBy, are_expandable, layout_size}
 use Rattle.layout.specs.Variables.{variable_view}
-use Rattle.layout.proofs.LayoutLemmas.{expandable_apart, grows_by_both, no_room_first, no_room_last, programs_of_resources}
+use Rattle.layout.proofs.LayoutLemmas.{expandable_apart, grows_by_both, no_room_first, no_room_last}
+use Rattle.layout.proofs.LayoutLemmas.{programs_of_resources}
 use Rattle.layout.proofs.layout_slots.push_configuration.Goals as goal
 
 pub returns-in_err-push_variables-clause-err : goal.returns-in_err-push_variables-clause-err

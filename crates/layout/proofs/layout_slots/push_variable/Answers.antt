@@ -23,7 +23,11 @@ pub returns-clause-ok : goal.returns-clause-ok
 returns-clause-ok c text serves trail h =
     let v = variable_view c.args.owner c.args.variable in
     let sh = variable_shape text v in
-    grows_by_one text v (record { owner = c.args.owner; name = c.args.variable.site.name; is_input = c.args.variable.is_input })
+    grows_by_one text v (record {
+      owner = c.args.owner;
+      name = c.args.variable.site.name;
+      is_input = c.args.variable.is_input;
+    })
     c.args.grown.now c.push_site.new.grown trail refl refl
     (c.in_ok-push_site.ensures.ok text v.site serves
     (kept_alone v.site.declared v.site.initial c.is_retained_within.result v.site.retentions

@@ -15,7 +15,8 @@ returns-in_err-slots_in-clause-err c =
     let fault : c.from_residual.result ≡ Err c.in_err-slots_in.field-0.0 = search rules in
     rw fault (λ text is typed.
     let sound : are_expandable (declared_of text) (layout_variables text) ≡ true =
-    once_expandable (declared_of text) (layout_variables text) (c.accepted_texts_declare_names_once.ensures.once text typed) in
+    once_expandable (declared_of text) (layout_variables text)
+    (c.accepted_texts_declare_names_once.ensures.once text typed) in
     let there = c.in_err-slots_in.ensures.err
     (ap (λ s. are_expandable (declared_in s) (variables_in s)) is ∙ sound) in
     subst (λ n. Exceeds n (instances_of_text text) c.in_err-slots_in.field-0.0)
@@ -26,7 +27,8 @@ returns-in_err-slots_in-clause-err c =
 pub returns-clause-ok : goal.returns-clause-ok
 returns-clause-ok c text is typed =
     let sound : are_expandable (declared_of text) (layout_variables text) ≡ true =
-    once_expandable (declared_of text) (layout_variables text) (c.accepted_texts_declare_names_once.ensures.once text typed) in
+    once_expandable (declared_of text) (layout_variables text)
+    (c.accepted_texts_declare_names_once.ensures.once text typed) in
     let held = ap (λ s. are_expandable (declared_in s) (variables_in s)) is ∙ sound in
     let there : c.in_ok-slots_in.field-0.items ≡ layout_slots (declared_of text) (layout_variables text) =
     c.in_ok-slots_in.ensures.ok held ∙ ap (λ s. layout_slots (declared_in s) (variables_in s)) is in
