@@ -4,6 +4,7 @@
 mod answer;
 mod depths;
 mod kinds;
+mod layouts;
 mod lexed;
 mod names;
 mod numbers;

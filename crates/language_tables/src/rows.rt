@@ -28,6 +28,8 @@
 //! | `same FORM` | whether the two texts with ` // ` between them have one tree of that form |
 //! | `declared` | a rule on declarations that the text breaks, or that there is none |
 //! | `checked` | a rule that the text breaks, or that there is none |
+//! | `layout` | the slots of its layout, each with its type, and as an input or with what it starts with and its retention |
+//! | `slots` | how many these are |
 
 use crate::answer::Answer;
 use crate::kinds::write_kind;
@@ -49,7 +51,7 @@ use std::alloc::{AllocError, Global};
 /// What is answered of the tokens of a text.
 fn part(out: &mut Answer, alloc: Global, word: &str, tokens: &[Token]) {
     match word {
-        "source" | "declarations" | "declared" | "checked" => {
+        "source" | "declarations" | "declared" | "checked" | "layout" | "slots" => {
             shown_source(out, alloc, word, tokens)
         }
         "expression" => shown_expression(out, alloc, tokens),

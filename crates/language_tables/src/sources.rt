@@ -1,6 +1,7 @@
 //! What the parser makes of whole texts and of their prefixes.
 
 use crate::answer::Answer;
+use crate::layouts::shown_layout;
 use crate::shown_sources::declarations;
 use st_check::check;
 use st_decl::declare;
@@ -41,6 +42,11 @@ pub fn shown_source(out: &mut Answer, alloc: Global, word: &str, tokens: &[Token
         Ok(source) if word == "declared" => declared(out, alloc, &source),
         Ok(source) if word == "checked" => checked(out, alloc, source),
         Ok(source) if word == "declarations" => declarations(out, &source),
+        Ok(source) if word == "layout" || word == "slots" => {
+            if shown_layout(out, alloc, word, source).is_none() {
+                out.put("no memory");
+            }
+        }
         Ok(source) => {
             out.show(&source.elements.len());
             out.put(" read");

@@ -1,0 +1,74 @@
+//! The layouts of texts.
+
+use crate::answer::Answer;
+use layout::{Layout, LayoutSlot};
+use st_check::check;
+use st_print::{write_path, write_value};
+use st_trees::Source;
+use st_words::Kind;
+use std::alloc::Global;
+
+/// The type of a slot: its keyword, or the number of an enumerated type among those of the text.
+fn shown_type(out: &mut Answer, kind: Kind) {
+    match kind {
+        Kind::Enumerated { number, .. } => {
+            out.put("type ");
+            out.show(&number);
+        }
+        _ => out.put(kind.row().keyword),
+    }
+}
+
+/// A slot: its path, its type, and that it is an input, or the value that it starts with and whether it is retained.
+fn shown_slot(out: &mut Answer, alloc: Global, slot: &LayoutSlot) -> Option<()> {
+    let mut path = Vec::new(alloc);
+    write_path(&mut path, &slot.path).ok()?;
+    out.name(&path);
+    out.put(" ");
+    shown_type(out, slot.initial.kind());
+    if slot.is_input {
+        out.put(" input");
+        return Some(());
+    }
+    let mut value = Vec::new(alloc);
+    write_value(&mut value, slot.initial, &[]).ok()?;
+    out.put(" ");
+    out.name(&value);
+    if slot.retained {
+        out.put(" retained");
+    }
+    Some(())
+}
+
+fn shown_slots(out: &mut Answer, alloc: Global, layout: &Layout) -> Option<()> {
+    let mut between = "";
+    for slot in &layout.slots {
+        out.put(between);
+        shown_slot(out, alloc, slot)?;
+        between = ", ";
+    }
+    Some(())
+}
+
+/// How many slots there are, and what a plan has of them: variables and inputs.
+fn counted(out: &mut Answer, alloc: Global, layout: &Layout) -> Option<()> {
+    out.show(&layout.slots.len());
+    out.put(" slots, ");
+    out.show(&layout.plan_variables(alloc).ok()?.len());
+    out.put(" variables, ");
+    out.show(&layout.plan_inputs(alloc).ok()?.len());
+    out.put(" inputs");
+    Some(())
+}
+
+/// What is answered of the layout of a source, or why it has none.
+pub fn shown_layout(out: &mut Answer, alloc: Global, word: &str, source: Source) -> Option<()> {
+    match check(alloc, source) {
+        Ok(checked) => match Layout::build(alloc, checked.source()) {
+            Ok(layout) if word == "slots" => counted(out, alloc, &layout),
+            Ok(layout) => shown_slots(out, alloc, &layout),
+            Err(error) => Some(out.show(&error)),
+        },
+        Err(error) => Some(out.show(&error)),
+    }
+}
