@@ -1,37 +1,14 @@
-//! What is told of a run, in words.
+//! What is told of a run in threads, in words.
 
 use crate::watch::Watch;
 use commit_lock::Core;
 use disk::SimDisk;
 use plc_threads::{RunFault, Told};
 use st_plans::Entry;
-use st_words::{Name, Path};
-use std::alloc::{AllocError, Global};
+use std::alloc::AllocError;
 use std::fmt::Write;
 use std::rt::Clock;
 use std::sync::atomic::Ordering;
-
-/// The number of a global; -1 where it isn't there.
-pub fn number_of(alloc: Global, core: &Core<SimDisk>, global: &str) -> Result<i128, AllocError> {
-    let name = Name::from_slice(alloc, global.as_bytes())?;
-    match core.value(&Path::global(alloc, name)) {
-        Some(value) => Ok(value.number()),
-        None => Ok(-1),
-    }
-}
-
-/// Writes each global with its number.
-pub fn write_globals(
-    text: &mut String,
-    alloc: Global,
-    core: &Core<SimDisk>,
-    globals: &str,
-) -> Result<(), AllocError> {
-    for global in globals.split_whitespace() {
-        write!(text, "{global} {}; ", number_of(alloc, core, global)?)?;
-    }
-    Ok(())
-}
 
 /// Writes the entries of the log.
 pub fn write_log(text: &mut String, core: &Core<SimDisk>) -> Result<(), AllocError> {
@@ -76,12 +53,7 @@ pub fn write_counts(
     write!(text, "rows {rows}, done {done}, committed {committed}; ")
 }
 
-/// Writes how much of the log is acknowledged.
-pub fn write_acked(text: &mut String, core: &Core<SimDisk>) -> Result<(), AllocError> {
-    write!(text, "acked {} of {}", core.acked(), core.len())
-}
-
 /// Writes why a run was stopped.
-pub fn write_fault(text: &mut String, fault: RunFault) -> Result<(), AllocError> {
+pub fn write_run_fault(text: &mut String, fault: RunFault) -> Result<(), AllocError> {
     write!(text, "{fault}; ")
 }

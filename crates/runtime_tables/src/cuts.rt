@@ -1,9 +1,11 @@
-//! Runs that are cut off by a stop of the machine within each of some device steps.
+//! Runs in threads that are cut off by a stop of the machine within each of some device steps.
 
+use crate::disks::Cut;
+use crate::living::{Setting, plan_of};
 use crate::row_error::RowError;
-use crate::running::{Terms, restarted, run};
-use crate::setting::Setting;
 use crate::telling::number_of;
+use crate::terms::Terms;
+use crate::thread_runs::{restarted, run};
 use crate::watch::Watch;
 use crate::words::{number, split};
 use commit_lock::Core;
@@ -15,6 +17,9 @@ use std::fmt::Write;
 use std::rt::Clock;
 use std::sync::Wait;
 use std::thread::Threads;
+
+/// The byte that a stop leaves where one was written since the last sync.
+const TORN: &str = "\\A5";
 
 /// How many executions the first entries of a log have.
 fn done_count(core: &Core<SimDisk>, entries: usize) -> i128 {
@@ -28,7 +33,7 @@ fn done_count(core: &Core<SimDisk>, entries: usize) -> i128 {
 }
 
 /// Whether a warm restart gives the first global what a front of the log gives that holds all that is acknowledged.
-fn is_kept(alloc: Global, setting: &Setting<'_>, core: Core<SimDisk>) -> Result<bool, RowError> {
+fn is_kept(alloc: Global, setting: Setting<'_>, core: Core<SimDisk>) -> Result<bool, RowError> {
     let least = done_count(&core, core.acked());
     let most = done_count(&core, core.len());
     let (global, _) = split(setting.globals, " ");
@@ -40,12 +45,13 @@ fn is_kept(alloc: Global, setting: &Setting<'_>, core: Core<SimDisk>) -> Result<
 fn is_right<R: Threads + Wait + Clock + Sync>(
     rt: &R,
     alloc: Global,
-    setting: &Setting<'_>,
-    terms: Terms,
+    setting: Setting<'_>,
+    terms: Terms<'_>,
     rows: u64,
 ) -> Result<bool, RowError> {
-    let watch = Watch::new(rt, alloc, setting.resources(), 0)?;
-    match run(rt, alloc, setting.plan(alloc)?, terms, rows, &watch)? {
+    let plan = plan_of(alloc, setting.text)?;
+    let watch = Watch::new(rt, alloc, plan.resources(), 0)?;
+    match run(rt, alloc, plan, terms, rows, &watch)? {
         Ok(Report { .. }) => Ok(false),
         Err(RunError { core, .. }) => is_kept(alloc, setting, core),
     }
@@ -56,8 +62,8 @@ pub fn write_cuts<R: Threads + Wait + Clock + Sync>(
     text: &mut String,
     rt: &R,
     alloc: Global,
-    setting: &Setting<'_>,
-    terms: Terms,
+    setting: Setting<'_>,
+    terms: Terms<'_>,
     written: &str,
 ) -> Result<(), RowError> {
     let (rows, steps) = split(written, " ");
@@ -66,7 +72,11 @@ pub fn write_cuts<R: Threads + Wait + Clock + Sync>(
     let mut terms = terms;
     let mut right: u64 = 0;
     for step in number(from)?..number(to)? {
-        terms.stops = Some(step);
+        terms.mishap.stops = Some(Cut {
+            step,
+            torn: TORN,
+            len: u64::MAX,
+        });
         if is_right(rt, alloc, setting, terms, rows)? {
             right = right.saturating_add(1);
         }

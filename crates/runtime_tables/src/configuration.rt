@@ -2,13 +2,8 @@
 
 use crate::row_error::RowError;
 use crate::words::{number, split};
-use st_build::{Plan, build};
 use std::alloc::{AllocError, Global};
 use std::fmt::Write;
-use std::sync::Arc;
-
-/// The ticks of an execution.
-const BUDGET: u32 = 10_000;
 
 /// Whether statements name this global.
 fn names(body: &str, global: &str) -> bool {
@@ -17,7 +12,7 @@ fn names(body: &str, global: &str) -> bool {
 
 /// Globals and resources.
 #[derive(Drop)]
-pub struct Setting<'a> {
+pub struct Configuration<'a> {
     kind: &'a str,
     /// The names of the globals, with blanks between them.
     pub globals: &'a str,
@@ -28,9 +23,9 @@ pub struct Setting<'a> {
     program_count: u64,
 }
 
-impl<'a> Setting<'a> {
-    pub fn new(alloc: Global) -> Setting<'a> {
-        Setting {
+impl<'a> Configuration<'a> {
+    pub fn new(alloc: Global) -> Configuration<'a> {
+        Configuration {
             kind: "",
             globals: "",
             units: String::new(alloc),
@@ -45,11 +40,6 @@ impl<'a> Setting<'a> {
         let (kind, globals) = split(written, " ");
         self.kind = kind;
         self.globals = globals;
-    }
-
-    /// How many resources it has.
-    pub fn resources(&self) -> usize {
-        self.resource_count
     }
 
     /// The type of the program of this number.
@@ -85,7 +75,8 @@ impl<'a> Setting<'a> {
         Ok(())
     }
 
-    fn text(&self, alloc: Global) -> Result<String, AllocError> {
+    /// Its text, with all globals retained.
+    pub fn text(&self, alloc: Global) -> Result<String, AllocError> {
         let mut text = String::new(alloc);
         text.push_str(self.units.as_str())?;
         text.push_str("CONFIGURATION C VAR_GLOBAL RETAIN ")?;
@@ -96,12 +87,5 @@ impl<'a> Setting<'a> {
         text.push_str(self.resources.as_str())?;
         text.push_str("END_CONFIGURATION\n")?;
         Ok(text)
-    }
-
-    /// The plan of the text.
-    pub fn plan(&self, alloc: Global) -> Result<Arc<Plan>, RowError> {
-        let text = self.text(alloc)?;
-        let plan = build(alloc, text.as_str().as_bytes(), BUDGET)?;
-        Ok(Arc::new(alloc, plan)?)
     }
 }
