@@ -2,15 +2,16 @@
 
 use crate::calls::events_of;
 use crate::row_error::RowError;
-use crate::telling::{write_fault, write_outcomes, write_overruns, write_replies};
+use crate::telling::{
+    write_acked, write_fault, write_globals, write_outcomes, write_overruns, write_replies,
+};
 use crate::trace_texts::{write_short_trace, write_trace_of};
 use crate::words::write_number;
 use commit_lock::{Core, StartMode, drive};
 use disk::{Disk, SimDisk};
 use st_build::{Plan, build};
 use st_words::limits::MAX_LOG_ROOM;
-use st_words::{Name, Path};
-use std::alloc::{AllocError, Global};
+use std::alloc::Global;
 use std::sync::Arc;
 
 /// The ticks of an execution.
@@ -64,30 +65,6 @@ pub fn plan_of(alloc: Global, text: &str) -> Result<Arc<Plan>, RowError> {
     Ok(Arc::new(alloc, plan)?)
 }
 
-/// The number of a global; -1 where it isn't there.
-fn number_of(core: &Core<SimDisk>, alloc: Global, global: &str) -> Result<i128, AllocError> {
-    let name = Name::from_slice(alloc, global.as_bytes())?;
-    match core.value(&Path::global(alloc, name)) {
-        Some(value) => Ok(value.number()),
-        None => Ok(-1),
-    }
-}
-
-/// Writes each global with its number.
-fn write_globals(
-    text: &mut String,
-    core: &Core<SimDisk>,
-    alloc: Global,
-    globals: &str,
-) -> Result<(), AllocError> {
-    for global in globals.split_whitespace() {
-        text.push_str(global)?;
-        write_number(text, " ", number_of(core, alloc, global)?)?;
-        text.push_str("; ")?;
-    }
-    Ok(())
-}
-
 /// Makes the calls of a life, and tells the replies.
 fn answer_calls(
     text: &mut String,
@@ -128,15 +105,14 @@ fn tell_course(
     programs: usize,
     life: Life<'_>,
 ) -> Result<(), RowError> {
-    write_globals(text, core, alloc, globals)?;
+    write_globals(text, alloc, core, globals)?;
     answer_calls(text, core, alloc, life)?;
     if matches!(life.telling, Telling::Whole) {
         write_outcomes(text, core)?;
         write_overruns(text, core, programs)?;
     }
-    write_globals(text, core, alloc, globals)?;
-    write_number(text, "acked ", core.acked() as i128)?;
-    Ok(write_number(text, " of ", core.len() as i128)?)
+    write_globals(text, alloc, core, globals)?;
+    Ok(write_acked(text, core)?)
 }
 
 fn left_of(disk: SimDisk) -> Lived {

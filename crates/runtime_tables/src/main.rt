@@ -1,15 +1,18 @@
-//! Tests of the runtime as the rows of a table: disks and real files, recorded plants, runs of code, the ready list, and
-//! whole lives of a core over a simulated disk that fails or is stopped at any step.
+//! Tests of the runtime as the rows of a table: disks and real files, recorded plants, runs of code, the ready list,
+//! and whole lives of a core, by one thread or many, over a simulated disk that fails or is stopped at any step.
 #![tactic(auto)]
 
 mod calls;
 mod chains;
+mod configuration;
+mod cuts;
 mod disk_calls;
 mod disks;
 mod executions;
 mod files;
 mod lives_in_turn;
 mod living;
+mod marks;
 mod numbers;
 mod odd_file;
 mod plants;
@@ -20,8 +23,12 @@ mod row;
 mod row_error;
 mod scene;
 mod telling;
+mod terms;
+mod thread_runs;
+mod told_runs;
 mod trace_replays;
 mod trace_texts;
+mod watch;
 mod words;
 
 use crate::row::answer;
@@ -30,5 +37,8 @@ use std::alloc::Global;
 use std::io;
 
 fn main(rt: HostRuntime) -> io::Result<()> {
-    read_table(&rt, |alloc: Global, given: &str| answer(&rt, alloc, given))
+    read_table(
+        &rt,
+        |alloc: Global, given: &str| answer(&rt, &rt, alloc, given),
+    )
 }

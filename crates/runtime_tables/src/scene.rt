@@ -1,12 +1,15 @@
 //! The parts of a row, one after another.
 
 use crate::chains::write_chain;
+use crate::configuration::Configuration;
+use crate::cuts::write_cuts;
 use crate::disk_calls::{play, write_content};
-use crate::disks::{Cut, Mishap, disk_with};
+use crate::disks::{Cut, disk_with};
 use crate::executions::{committed, execution_of};
 use crate::files::file_of;
 use crate::lives_in_turn::write_lives;
 use crate::living::{Life, Setting, Telling, live};
+use crate::marks::write_loads;
 use crate::numbers::{write_refusals, write_start_faults};
 use crate::plants::{write_plant, write_row_count};
 use crate::ready_lists::write_ready;
@@ -14,12 +17,18 @@ use crate::real_files::{write_folderless, write_real};
 use crate::records::{resaved, write_recovered};
 use crate::row_error::RowError;
 use crate::telling::{write_execution, write_reply};
+use crate::terms::{TERMS, Terms};
+use crate::thread_runs::write_run;
 use crate::trace_replays::{write_budget, write_replay};
 use crate::words::{count, number, split, write_bytes, write_number};
 use commit_lock::StartMode;
+use plc_threads::Pace;
 use scene_tables::unescaped;
 use slot_run::Execution;
 use std::alloc::{AllocError, Global};
+use std::rt::Clock;
+use std::sync::Wait;
+use std::thread::Threads;
 
 /// The plan of a row that says none.
 const COUNTER: Setting<'static> = Setting {
@@ -29,31 +38,16 @@ const COUNTER: Setting<'static> = Setting {
     globals: "N",
 };
 
-/// What the next disk, life or reader meets, and what is told of it.
-#[derive(Clone, Copy)]
-struct Terms<'a> {
-    mishap: Mishap<'a>,
-    /// Room in the log.
-    room: usize,
-    telling: Telling,
-}
-
-/// The terms of a part before which none are said.
-const TERMS: Terms<'static> = Terms {
-    mishap: Mishap {
-        fails: None,
-        stops: None,
-    },
-    room: 100,
-    telling: Telling::Replies,
-};
-
 /// What the parts of a row have made so far.
 #[derive(Drop)]
-pub struct Scene<'a> {
+pub struct Scene<'a, R: Threads + Wait + Clock + Sync> {
     rt: &'a HostRuntime,
+    /// What starts threads and waits for them.
+    threads: &'a R,
     alloc: Global,
     setting: Setting<'a>,
+    /// What is run in threads.
+    configuration: Configuration<'a>,
     /// The inputs of plants.
     inputs: &'a str,
     terms: Terms<'a>,
@@ -65,13 +59,15 @@ pub struct Scene<'a> {
     pub answer: String,
 }
 
-impl<'a> Scene<'a> {
+impl<'a, R: Threads + Wait + Clock + Sync> Scene<'a, R> {
     /// An empty file, and a plan that counts.
-    pub fn new(rt: &'a HostRuntime, alloc: Global) -> Scene<'a> {
+    pub fn new(rt: &'a HostRuntime, threads: &'a R, alloc: Global) -> Scene<'a, R> {
         Scene {
             rt,
+            threads,
             alloc,
             setting: COUNTER,
+            configuration: Configuration::new(alloc),
             inputs: "",
             terms: TERMS,
             file: Vec::new(alloc),
@@ -136,6 +132,33 @@ impl<'a> Scene<'a> {
         Ok(())
     }
 
+    /// Runs the configuration in threads, and tells of the runs what is asked.
+    fn run_in_threads(&mut self, asked: &str) -> Result<(), RowError> {
+        let text = self.configuration.text(self.alloc)?;
+        let setting = Setting {
+            text: text.as_str(),
+            globals: self.configuration.globals,
+        };
+        match split(asked, " ") {
+            ("cuts", steps) => write_cuts(
+                &mut self.answer,
+                self.threads,
+                self.alloc,
+                setting,
+                self.terms,
+                steps,
+            ),
+            _ => write_run(
+                &mut self.answer,
+                self.threads,
+                self.alloc,
+                setting,
+                self.terms,
+                asked,
+            ),
+        }
+    }
+
     /// Reads a recorded plant, and tells its rows.
     fn read_plant(&mut self, written: &str) -> Result<(), RowError> {
         let plant = unescaped(self.alloc, written)?;
@@ -195,6 +218,8 @@ impl<'a> Scene<'a> {
                 )
             }
             "chain" => write_chain(&mut self.answer, self.alloc, self.setting, given),
+            "threads:" => self.run_in_threads(given),
+            "mark" => write_loads(&mut self.answer, self.alloc, given),
             "bytes" => self.tell_bytes(given),
             "length" => Ok(self.tell_length()?),
             "same" => Ok(self.tell_same()?),
@@ -226,12 +251,16 @@ impl<'a> Scene<'a> {
                 let (globals, text) = split(given, ": ");
                 self.setting = Setting { text, globals };
             }
+            "globals" => self.configuration.set_globals(given),
+            "resource" => self.configuration.add_resource(given)?,
             "inputs" => self.inputs = given,
             "file" => self.file = file_of(self.alloc, given)?,
             "resaved" => self.file = resaved(self.alloc, &self.file)?,
             "fails" => self.terms.mishap.fails = Some(number(given)?),
             "stops" => self.terms.mishap.stops = Some(Cut::read(given)?),
             "room" => self.terms.room = count(given)?,
+            "free" => self.terms.pace = Pace::Free,
+            "turns" => self.terms.turns = number(given)?,
             "untold" => self.terms.telling = Telling::Nothing,
             "numbers" => self.terms.telling = Telling::Numbers,
             "whole" => self.terms.telling = Telling::Whole,

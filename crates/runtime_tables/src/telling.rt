@@ -5,7 +5,8 @@ use commit_lock::{Answer, Core, Refusal, Reply, StartFault};
 use disk::SimDisk;
 use slot_run::{Cell, Execution};
 use st_types::Outcome;
-use std::alloc::AllocError;
+use st_words::{Name, Path};
+use std::alloc::{AllocError, Global};
 use std::fmt::Write;
 
 pub fn write_fault(text: &mut String, fault: StartFault) -> Result<(), AllocError> {
@@ -93,4 +94,31 @@ pub fn write_execution(text: &mut String, execution: &Execution) -> Result<(), A
     write_cells(text, execution.writes())?;
     text.push_str("; ")?;
     write_outcome(text, Some(execution.outcome()))
+}
+
+/// The number of a global; -1 where it isn't there.
+pub fn number_of(alloc: Global, core: &Core<SimDisk>, global: &str) -> Result<i128, AllocError> {
+    let name = Name::from_slice(alloc, global.as_bytes())?;
+    match core.value(&Path::global(alloc, name)) {
+        Some(value) => Ok(value.number()),
+        None => Ok(-1),
+    }
+}
+
+/// Writes each global with its number.
+pub fn write_globals(
+    text: &mut String,
+    alloc: Global,
+    core: &Core<SimDisk>,
+    globals: &str,
+) -> Result<(), AllocError> {
+    for global in globals.split_whitespace() {
+        write!(text, "{global} {}; ", number_of(alloc, core, global)?)?;
+    }
+    Ok(())
+}
+
+/// Writes how much of the log is acknowledged.
+pub fn write_acked(text: &mut String, core: &Core<SimDisk>) -> Result<(), AllocError> {
+    write!(text, "acked {} of {}", core.acked(), core.len())
 }

@@ -1,12 +1,1 @@
-pub mod KindOrder
-pub mod SpanLemmas
-pub mod Finding
-pub mod FlatLemmas
-pub mod TargetLemmas
-pub mod InvocationLemmas
-pub mod ChoiceLemmas
-pub mod BodyLemmas
-pub mod PassLemmas
-pub mod TypeLemmas
-pub mod InitialLemmas
 pub mod JudgeLemmas

@@ -1,11 +1,1 @@
-pub mod Spans
-pub mod Listings
-pub mod Assignments
-pub mod Findings
-pub mod Targets
-pub mod Roots
-pub mod Choices
-pub mod Bodies
-pub mod Lookups
-pub mod Surplus
 pub mod Checked

@@ -19,10 +19,12 @@ mod sorts;
 mod verdicts;
 
 pub use expressions::{place_of, typing, wrong_expression};
-pub use kinds::{or_kind, taken_kind};
+pub use kinds::{kind_or_taken, or_kind, taken_kind};
 pub use literals::wrong_number;
-pub use operands::{meets, settled};
-pub use places::first_byte;
-pub use selections::typing_of_place;
+pub use operands::{demand_of_typing, is_nothing, kind_of, meets, settled};
+pub use places::{first_byte, place_of_literal};
+pub use readings::wrong_reading;
+pub use selections::{demand_of_type, typing_of_place};
 pub use settling::settle;
 pub use sorts::is_joining;
+pub use verdicts::{broken_at, either, in_case, unless};

@@ -11,13 +11,14 @@ ghost use Rattle.st_statics.specs.Demands.{expected_of, sorts_of_unary, sorts_of
 ghost use Rattle.st_statics.specs.Typings.{kind_of, is_untyped_typing, is_nothing, typing_of_kind, joined, settled};
 ghost use Rattle.st_statics.specs.Typings.{meets, are_operands};
 ghost use Rattle.st_statics.specs.Nodes.{offered};
+ghost use Rattle.st_statics.specs.Roots.{demand_of_typing};
 
 use crate::kinds::{is_kind, taken_kind};
 use crate::sorts::{in_sorts, is_joining, sorts_of_binary, sorts_of_unary};
 use st_statics::{Broken, Demand, Rule, Sorts, Typing};
 use st_words::{BinaryOperator, Kind, UnaryOperator};
 
-/// The elementary type that a typing is.
+/// The elementary or enumerated type that a typing is.
 pub fn kind_of(typing: Typing) -> Option<Kind>
     ensures { result ≡ kind_of typing }
 {
@@ -49,10 +50,22 @@ pub fn are_untyped(left: Typing, right: Typing) -> bool
     is_untyped_typing(left) && is_untyped_typing(right)
 }
 
+/// Whether a typing hangs on an unknown name.
 pub fn is_nothing(typing: Typing) -> bool
     ensures { result ≡ is_nothing typing }
 {
     matches!(typing, Typing::Nothing)
+}
+
+/// What a variable asks of a value: its type. What has parts takes none, and of what is unknown nothing is asked.
+pub fn demand_of_typing(typing: Typing) -> Demand
+    ensures { result ≡ demand_of_typing typing }
+{
+    match typing {
+        Typing::Elementary(kind) => Demand::Asked(Some(kind), Sorts::Any),
+        Typing::Composite => Demand::Asked(None, Sorts::NoSort),
+        Typing::Untyped | Typing::Nothing => Demand::Operand(None),
+    }
 }
 
 /// What a place offers to an untyped expression.

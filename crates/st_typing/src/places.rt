@@ -7,7 +7,8 @@ ghost use Rattle.st_statics.specs.ExpressionRules.{place_of_literal, first_byte}
 use st_trees::Expr;
 use st_words::Literal;
 
-fn place_of_literal(literal: &Literal) -> usize
+/// The offset of the first byte of a literal.
+pub fn place_of_literal(literal: &Literal) -> usize
     ensures { result ≡ place_of_literal literal.now }
 {
     match literal {

@@ -3,6 +3,7 @@
 ghost use Rattle.std.specs.Prelude.{◌≡◌};
 ghost use Rattle.st_trees.specs.Expressions.{literal};
 ghost use Rattle.st_statics.specs.Environments.{Environment, type_of_name};
+ghost use Rattle.st_statics.specs.Faults.{Finds};
 ghost use Rattle.st_statics.specs.Readings.{wrong_reading};
 ghost use Rattle.st_statics.specs.Typings.{typing_of_reading, typing_of_alone};
 ghost use Rattle.st_statics.specs.ExpressionRules.{wrong_alone};
@@ -16,6 +17,23 @@ use crate::verdicts::verdict;
 use st_names::{Reading, UnitNames};
 use st_statics::{Broken, Rule, Typing};
 use st_words::{Identifier, Kind, Literal, Number};
+
+/// What is wrong where a value of an enumerated type is named at a place: no type has it (C1), or several (C3).
+pub fn wrong_reading(place: usize, reading: Reading) -> Option<Broken>
+    ensures { Finds (wrong_reading place (reading_view reading)) result }
+{
+    match reading {
+        Reading::Value(_) => None,
+        Reading::Unknown => Some(Broken {
+            rule: Rule::UnknownName,
+            place,
+        }),
+        Reading::Ambiguous => Some(Broken {
+            rule: Rule::WrongType,
+            place,
+        }),
+    }
+}
 
 /// The typing of a value of an enumerated type, or what is wrong in it (C1, C3).
 fn typing_of_reading(place: usize, reading: Reading) -> Result<Typing, Broken>

@@ -5,13 +5,15 @@ ghost use Rattle.st_trees.specs.ExpressionViews.{selector_view};
 ghost use Rattle.st_types.specs.NameTypes.{Declared, selected_type};
 ghost use Rattle.st_names.specs.PlaceTypes.{place_type_view};
 ghost use Rattle.st_names.specs.Tables.{ServesTables};
+ghost use Rattle.st_statics.specs.Environments.{Environment};
+ghost use Rattle.st_statics.specs.Roots.{demand_of_type};
 ghost use Rattle.st_statics.specs.Typings.{typing_of_type};
 ghost use Rattle.st_statics.specs.ExpressionRules.{wrong_selector};
 ghost use Rattle.st_typing.specs.Selections.{Selects};
 
-use crate::operands::is_nothing;
+use crate::operands::{demand_of_typing, is_nothing};
 use st_names::{PlaceType, TextTables};
-use st_statics::{Broken, Rule, Typing};
+use st_statics::{Broken, Demand, Rule, Typing};
 use st_trees::Selector;
 
 fn selected_type<'a>(
@@ -79,4 +81,12 @@ pub fn typing_of_place(tables: &TextTables, declared: Option<PlaceType>) -> Typi
         Some(declared) => tables.typing_of_type(declared),
         None => Typing::Nothing,
     }
+}
+
+/// What a place of this type asks of a value.
+pub fn demand_of_type(tables: &TextTables, declared: Option<PlaceType>) -> Demand
+    ensures { (env : Environment) → ServesTables tables.now env.text
+        → result ≡ demand_of_type env (option_map place_type_view declared.entry) }
+{
+    demand_of_typing(typing_of_place(tables, declared))
 }

@@ -1,9 +1,11 @@
 //! Faults one after another.
 
-ghost use Rattle.std.specs.Prelude.{◌≡◌};
+ghost use Rattle.std.specs.Prelude.{◌≡◌, List, ℕ};
+ghost use Rattle.st_statics.specs.Faults.{Finds, breaking, in_case, unless};
+ghost use Rattle.st_names.specs.Searches.{FindsPlace};
 ghost use Rattle.st_typing.specs.Verdicts.{or_broken, verdict};
 
-use st_statics::{Broken, Typing};
+use st_statics::{Broken, Rule, Typing};
 
 /// One fault, or else the other.
 pub fn either(fault: Option<Broken>, other: Option<Broken>) -> Option<Broken>
@@ -12,6 +14,38 @@ pub fn either(fault: Option<Broken>, other: Option<Broken>) -> Option<Broken>
     match fault {
         Some(_) => fault,
         None => other,
+    }
+}
+
+/// The rule broken at a place, where what has to hold there does not.
+pub fn unless(right: bool, rule: Rule, place: usize) -> Option<Broken>
+    ensures { Finds (breaking rule (unless right place)) result }
+{
+    if right {
+        None
+    } else {
+        Some(Broken { rule, place })
+    }
+}
+
+/// The rule broken at a place, where something holds that must not.
+pub fn in_case(wrong: bool, rule: Rule, place: usize) -> Option<Broken>
+    ensures { Finds (breaking rule (in_case wrong place)) result }
+{
+    if wrong {
+        Some(Broken { rule, place })
+    } else {
+        None
+    }
+}
+
+/// The rule, where there is a place at which it is broken.
+pub fn broken_at(rule: Rule, place: Option<usize>) -> Option<Broken>
+    ensures { (places : List ℕ) → FindsPlace places place → Finds (breaking rule places) result }
+{
+    match place {
+        Some(place) => Some(Broken { rule, place }),
+        None => None,
     }
 }
 

@@ -7,7 +7,7 @@ use Rattle.st_types.specs.NameTypes.{declared_in, units_in}
 use Rattle.st_statics.specs.BodyRules.{wrong_body}
 use Rattle.st_statics.specs.Faults.{Finds}
 use Rattle.st_statics.specs.Rules.{environment, wrong_types, wrong_starts, wrong_bodies}
-use Rattle.st_check.proofs.Finding.{of_first, of_second, of_third}
+use Rattle.st_typing.proofs.Finding.{of_first, of_second, of_third}
 use Rattle.st_check.proofs.checking.wrong_by_names.Goals as goal
 
 pub returns-in-Some : goal.returns-in-Some

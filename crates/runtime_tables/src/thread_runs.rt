@@ -1,0 +1,140 @@
+//! Runs in threads, and the lives after them.
+
+use crate::disks::disk_with;
+use crate::living::{Setting, plan_of};
+use crate::row_error::RowError;
+use crate::telling::{write_acked, write_globals};
+use crate::terms::Terms;
+use crate::told_runs::{write_counts, write_log, write_run_fault, write_told};
+use crate::watch::Watch;
+use crate::words::{number, split};
+use commit_lock::{Core, StartMode};
+use disk::SimDisk;
+use plc_threads::{Report, RunError, run_plant};
+use st_build::Plan;
+use st_plans::Row;
+use st_words::limits::MAX_LOG_ROOM;
+use std::alloc::{AllocError, Global};
+use std::fmt::Write;
+use std::rt::Clock;
+use std::sync::{Arc, Wait};
+use std::thread::Threads;
+
+/// So many rows, 10 ms apart.
+fn rows_of(alloc: Global, count: u64) -> Result<Vec<Row>, AllocError> {
+    let mut rows = Vec::new(alloc);
+    for k in 0..count {
+        rows.push(Row::new(k.saturating_mul(10), Vec::new(alloc)))?;
+    }
+    Ok(rows)
+}
+
+/// Runs so many rows over an empty disk.
+pub fn run<R: Threads + Wait + Clock + Sync>(
+    rt: &R,
+    alloc: Global,
+    plan: Arc<Plan>,
+    terms: Terms<'_>,
+    count: u64,
+    watch: &Watch<'_, R>,
+) -> Result<Result<Report<SimDisk>, RunError<SimDisk>>, RowError> {
+    let disk = disk_with(alloc, &[], terms.mishap)?;
+    let rows = rows_of(alloc, count)?;
+    let own = Arc::clone(&plan)?;
+    match Core::start(
+        alloc,
+        own,
+        disk,
+        StartMode::Cold,
+        terms.room.min(MAX_LOG_ROOM),
+    ) {
+        Ok(core) => Ok(run_plant(rt, alloc, &plan, core, rows, terms.pace, watch)),
+        Err((fault, _disk)) => Err(RowError::Start(fault)),
+    }
+}
+
+/// The life that begins with what a core leaves when power goes.
+pub fn restarted(
+    alloc: Global,
+    setting: Setting<'_>,
+    core: Core<SimDisk>,
+) -> Result<Core<SimDisk>, RowError> {
+    let disk = SimDisk::new(alloc, core.stop().left())?;
+    match Core::start(
+        alloc,
+        plan_of(alloc, setting.text)?,
+        disk,
+        StartMode::Warm,
+        1,
+    ) {
+        Ok(core) => Ok(core),
+        Err((fault, _disk)) => Err(RowError::Start(fault)),
+    }
+}
+
+/// Tells of a run that came to its end what the word asks.
+fn tell_report<R: Clock>(
+    text: &mut String,
+    alloc: Global,
+    globals: &str,
+    word: &str,
+    report: Report<SimDisk>,
+    watch: &Watch<'_, R>,
+) -> Result<(), RowError> {
+    let Report { core, told } = report;
+    match word {
+        "run" => {
+            write_log(text, &core)?;
+            write_told(text, &told, watch)?;
+        }
+        "count" => write_counts(text, &core, &told)?,
+        _ => return Err(RowError::Form),
+    }
+    write_globals(text, alloc, &core, globals)?;
+    write_acked(text, &core)?;
+    Ok(())
+}
+
+/// Tells of a run that was stopped what the word asks.
+fn tell_error(
+    text: &mut String,
+    alloc: Global,
+    setting: Setting<'_>,
+    word: &str,
+    error: RunError<SimDisk>,
+) -> Result<(), RowError> {
+    let RunError { core, fault } = error;
+    write_run_fault(text, fault)?;
+    match word {
+        "length" => write!(text, "length {}", core.len())?,
+        "acked" => {
+            write!(text, "acked {}; ", core.acked())?;
+            let next = restarted(alloc, setting, core)?;
+            write_globals(text, alloc, &next, setting.globals)?;
+        }
+        _ => {}
+    }
+    Ok(())
+}
+
+/// Runs in threads as is written `WORD ROWS`, and tells of the run what the word asks.
+pub fn write_run<R: Threads + Wait + Clock + Sync>(
+    text: &mut String,
+    rt: &R,
+    alloc: Global,
+    setting: Setting<'_>,
+    terms: Terms<'_>,
+    asked: &str,
+) -> Result<(), RowError> {
+    let (word, rows) = split(asked, " ");
+    let plan = plan_of(alloc, setting.text)?;
+    let watch = Watch::new(rt, alloc, plan.resources(), terms.turns)?;
+    match run(rt, alloc, plan, terms, number(rows)?, &watch)? {
+        Ok(report) => tell_report(text, alloc, setting.globals, word, report, &watch)?,
+        Err(error) => tell_error(text, alloc, setting, word, error)?,
+    }
+    if watch.is_late() {
+        text.push_str("; late")?;
+    }
+    Ok(())
+}

@@ -1,0 +1,7 @@
+pub mod Assignments
+pub mod Bodies
+pub mod Choices
+pub mod Listings
+pub mod Roots
+pub mod Spans
+pub mod Targets

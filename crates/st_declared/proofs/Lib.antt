@@ -1,0 +1,2 @@
+pub mod InitialLemmas
+pub mod TypeLemmas

@@ -1,0 +1,225 @@
+//! The types that a text declares things of, by their names (C1, C3).
+
+ghost use Rattle.std.specs.Prelude.{◌≡◌, ◌&&◌, map, Some, is_some};
+ghost use Rattle.std.specs.List.{flat_map};
+ghost use Rattle.st_types.specs.NameTypes.{Declared};
+ghost use Rattle.st_statics.specs.Environments.{is_block_type};
+ghost use Rattle.st_statics.specs.Faults.{Finds};
+ghost use Rattle.st_statics.specs.Typings.{is_composite, typing_of_type};
+ghost use Rattle.st_statics.specs.TypeRules.{place_of_type, wrong_named, wrong_simple, wrong_name, may_be_instance};
+ghost use Rattle.st_statics.specs.TypeRules.{is_program_or_block, is_without_parts, wrong_declaring, wrong_element};
+ghost use Rattle.st_statics.specs.TypeRules.{place_of_simple, wrong_result};
+ghost use Rattle.st_names.specs.Tables.{ServesTables};
+ghost use Rattle.st_names.specs.Texts.{ServesText};
+ghost use Rattle.st_decl.specs.DeclaringViews.{role_view, declaring_view};
+
+use st_decl::{Declaring, Role};
+use st_names::{PlaceType, TextNames, TextTables, place_type, standard_function};
+use st_statics::{Broken, Rule, Typing};
+use st_trees::{ArrayType, Section, SimpleType, UnitSort, VariableType};
+use st_typing::{either, in_case};
+use st_words::Identifier;
+
+/// Where the name of a type stands.
+fn place_of_simple(declared: &SimpleType) -> usize
+    ensures { result ≡ place_of_simple declared.now }
+{
+    match declared {
+        SimpleType::Elementary(_, place) => *place,
+        SimpleType::Named(name) => name.place,
+    }
+}
+
+/// Where the name of a type stands, or the word ARRAY.
+fn place_of_type(declared: &VariableType) -> usize
+    ensures { result ≡ place_of_type declared.now }
+{
+    match declared {
+        VariableType::Simple(simple) => place_of_simple(simple),
+        VariableType::Array(array) => array.place,
+    }
+}
+
+/// What is wrong in the name of a type: it stands for nothing (C1), or for something else (C3). A block may stand where
+/// instances may.
+fn wrong_named(
+    names: &TextNames,
+    tables: &TextTables,
+    blocks: bool,
+    name: &Identifier,
+) -> Option<Broken>
+    ensures { (text : Declared) → ServesText names.now text → ServesTables tables.now text
+        → Finds (wrong_named text blocks name.now) result }
+{
+    if names.type_named(&name.name).is_some() {
+        return None;
+    }
+    if tables.is_block(&name.name) {
+        return in_case(!blocks, Rule::WrongType, name.place);
+    }
+    let stands = names.unit_named(&name.name).is_some() || standard_function(&name.name).is_some();
+    let rule = if stands {
+        Rule::WrongType
+    } else {
+        Rule::UnknownName
+    };
+    Some(Broken {
+        rule,
+        place: name.place,
+    })
+}
+
+fn wrong_simple(
+    names: &TextNames,
+    tables: &TextTables,
+    blocks: bool,
+    declared: &SimpleType,
+) -> Option<Broken>
+    ensures { (text : Declared) → ServesText names.now text → ServesTables tables.now text
+        → Finds (wrong_simple text blocks declared.now) result }
+{
+    match declared {
+        SimpleType::Elementary(_, _) => None,
+        SimpleType::Named(name) => wrong_named(names, tables, blocks, name),
+    }
+}
+
+/// What is wrong in the name of a declared type. The element of an array is judged with the array.
+fn wrong_name(
+    names: &TextNames,
+    tables: &TextTables,
+    blocks: bool,
+    declared: &VariableType,
+) -> Option<Broken>
+    ensures { (text : Declared) → ServesText names.now text → ServesTables tables.now text
+        → Finds (wrong_name text blocks declared.now) result }
+{
+    match declared {
+        VariableType::Simple(simple) => wrong_simple(names, tables, blocks, simple),
+        VariableType::Array(_) => None,
+    }
+}
+
+fn is_program_or_block(sort: &UnitSort) -> bool
+    ensures { result ≡ is_program_or_block sort.now }
+{
+    match sort {
+        UnitSort::Function(_) => false,
+        UnitSort::FunctionBlock => true,
+        UnitSort::Program => true,
+    }
+}
+
+/// Whether an instance may stand here: in a VAR of a program or function block.
+fn may_be_instance(role: Role) -> bool
+    ensures { result ≡ may_be_instance (role_view role.entry) }
+{
+    match role {
+        Role::Variable(sort, Section::Local(_)) => is_program_or_block(sort),
+        _ => false,
+    }
+}
+
+/// Whether what stands here has no parts: an input or an output of a unit.
+fn is_without_parts(role: Role) -> bool
+    ensures { result ≡ is_without_parts (role_view role.entry) }
+{
+    match role {
+        Role::Variable(_, Section::Input(_)) => true,
+        Role::Variable(_, Section::Output(_)) => true,
+        _ => false,
+    }
+}
+
+fn is_composite(typing: Typing) -> bool
+    ensures { result ≡ is_composite typing }
+{
+    matches!(typing, Typing::Composite)
+}
+
+/// Whether variables of the type are instances of blocks.
+fn is_block_type(tables: &TextTables, declared: &VariableType) -> bool
+    ensures { (text : Declared) → ServesTables tables.now text → result ≡ is_block_type text declared.now }
+{
+    match declared {
+        VariableType::Array(_) => false,
+        VariableType::Simple(SimpleType::Elementary(_, _)) => false,
+        VariableType::Simple(SimpleType::Named(name)) => tables.is_block(&name.name),
+    }
+}
+
+/// Whether an input or an output has parts.
+fn has_parts(tables: &TextTables, declaring: Declaring) -> bool
+    ensures { (text : Declared) → ServesTables tables.now text → result
+        ≡ (is_without_parts (role_view declaring.entry.role)
+        && is_composite (typing_of_type text (Some declaring.entry.declared.now))) }
+{
+    is_without_parts(declaring.role)
+        && is_composite(tables.typing_of_type(place_type(declaring.declared)))
+}
+
+/// Whether an instance has an initial value.
+fn is_started(tables: &TextTables, declaring: Declaring) -> bool
+    ensures { (text : Declared) → ServesTables tables.now text → result
+        ≡ (is_block_type text declaring.entry.declared.now && is_some declaring.entry.initial.now) }
+{
+    is_block_type(tables, declaring.declared) && declaring.initial.is_some()
+}
+
+/// What is wrong in a declaration's type: an unknown or wrong name (C1, C3), an input or output with parts, an instance
+/// with an initial value (C3).
+fn wrong_declaring(names: &TextNames, tables: &TextTables, declaring: Declaring) -> Option<Broken>
+    ensures { (text : Declared) → ServesText names.now text → ServesTables tables.now text
+        → Finds (wrong_declaring text (declaring_view declaring.entry)) result }
+{
+    let declared = declaring.declared;
+    let place = place_of_type(declared);
+    either(
+        either(
+            wrong_name(names, tables, may_be_instance(declaring.role), declared),
+            in_case(has_parts(tables, declaring), Rule::WrongType, place),
+        ),
+        in_case(is_started(tables, declaring), Rule::WrongType, place),
+    )
+}
+
+/// What is wrong in the types of declarations.
+pub fn first_wrong_declaring(
+    names: &TextNames,
+    tables: &TextTables,
+    declarings: &[Declaring],
+) -> Option<Broken>
+    ensures { (text : Declared) → ServesText names.now text → ServesTables tables.now text
+        → Finds (flat_map (wrong_declaring text) (map declaring_view declarings.now)) result }
+{
+    for declaring in declarings {
+        if let Some(broken) = wrong_declaring(names, tables, *declaring) {
+            return Some(broken);
+        }
+    }
+    None
+}
+
+/// What is wrong in the type of an array's elements, which is no block's.
+pub fn wrong_element(names: &TextNames, tables: &TextTables, array: &ArrayType) -> Option<Broken>
+    ensures { (text : Declared) → ServesText names.now text → ServesTables tables.now text
+        → Finds (wrong_element text array.now) result }
+{
+    wrong_simple(names, tables, false, &array.element)
+}
+
+/// What is wrong in the type of a function's result: its name, or that it has parts.
+pub fn wrong_result(names: &TextNames, tables: &TextTables, declared: &SimpleType) -> Option<Broken>
+    ensures { (text : Declared) → ServesText names.now text → ServesTables tables.now text
+        → Finds (wrong_result text declared.now) result }
+{
+    let typing = tables.typing_of_type(PlaceType::Simple(declared));
+    either(
+        wrong_simple(names, tables, false, declared),
+        in_case(
+            is_composite(typing),
+            Rule::WrongType,
+            place_of_simple(declared),
+        ),
+    )
+}
