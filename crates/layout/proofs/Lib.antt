@@ -7,3 +7,4 @@ pub mod NameLaws
 pub mod PlanLemmas
 pub mod PushLemmas
 pub mod SiteLemmas
+pub mod SizeLemmas

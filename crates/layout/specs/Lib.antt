@@ -4,6 +4,7 @@ pub mod Instances
 pub mod Layouts
 pub mod NamedSites
 pub mod Sites
+pub mod Sizes
 pub mod Slots
 pub mod StandardMembers
 pub mod TextLayouts

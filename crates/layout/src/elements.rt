@@ -112,7 +112,7 @@ fn bound(number: &Number) -> i128
 }
 
 /// How many elements an array has.
-fn count_of(array: &ArrayType) -> u128
+pub fn count_of(array: &ArrayType) -> u128
     ensures { result ≡ count_of array.now }
 {
     let lower = bound(&array.lower);

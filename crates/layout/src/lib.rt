@@ -18,11 +18,14 @@ mod members;
 mod named_sites;
 mod parts;
 mod sites;
+mod sizes;
 mod slots;
 mod standard_members;
 mod variables;
 
+pub use compositions::Types;
 pub use laws::accepted_texts_declare_names_once;
 pub use layout::Layout;
 pub use layout_error::LayoutError;
+pub use sizes::Sizes;
 pub use slots::LayoutSlot;

@@ -1,0 +1,187 @@
+//! Sizes of types: how many slots a variable of a type takes, cut off where a layout has no room for them.
+
+ghost use Rattle.std.specs.Prelude.{◌≡◌, ◌+◌, ◌*◌, ℕ, IfNone, IfOk, IfSome, OnOk, Some, false, option_map, true};
+ghost use Rattle.st_statics.specs.declared.limits.TheConstants.{MAX_TYPE_DEPTH};
+ghost use Rattle.st_trees.specs.declared.data_type.VariableType.TheVariants.{Simple};
+ghost use Rattle.st_types.specs.NameTypes.{Declared};
+ghost use Rattle.st_names.specs.PlaceTypes.{place_type_view};
+ghost use Rattle.st_layouts.specs.Shapes.{size};
+ghost use Rattle.st_layouts.specs.Types.{is_within_depth, shape_of_type};
+ghost use Rattle.layout.specs.Compositions.{ServesTypes, composition_view};
+ghost use Rattle.layout.specs.Sizes.{IsSized, KnowsSizes, ServesSizes, cut, name_in};
+ghost use Rattle.layout.specs.Slots.{own_size};
+
+use crate::compositions::{Composition, Types};
+use crate::elements::count_of;
+use crate::parts::parts_of;
+use crate::sites::Site;
+use st_names::{Index, PlaceType};
+use st_statics::limits::MAX_TYPE_DEPTH;
+use st_trees::SimpleType;
+use st_words::Identifier;
+use st_words::limits::MAX_PATHS;
+use std::alloc::{AllocError, Global};
+
+/// The sum of two sizes, cut off.
+fn sum(a: usize, b: usize) -> usize
+    ensures { result ≡ cut (a + b) }
+{
+    a.saturating_add(b).min(MAX_PATHS + 1)
+}
+
+/// The size of so many elements, cut off.
+fn product(count: u128, size: usize) -> usize
+    ensures { result ≡ cut (count * size) }
+{
+    count
+        .saturating_mul(size as u128)
+        .min(MAX_PATHS as u128 + 1) as usize
+}
+
+/// The size of what has no parts.
+fn own_size(composed: Composition) -> usize
+    ensures { result ≡ own_size (composition_view composed.entry) }
+{
+    match composed {
+        Composition::Kind(_) => 1,
+        Composition::Elements(_) => 0,
+        Composition::Fields(_) => 0,
+        Composition::Block(_) => 0,
+        Composition::Standard(_) => 0,
+        Composition::Nothing => 0,
+    }
+}
+
+fn name_of_simple(declared: &SimpleType) -> Option<&Identifier>
+    ensures { option_map (λ x. x.now) result ≡ name_in (Simple declared.now) }
+{
+    match declared {
+        SimpleType::Elementary(_, _) => None,
+        SimpleType::Named(name) => Some(name),
+    }
+}
+
+/// The name that a type is.
+fn name_of<'a>(declared: PlaceType<'a>) -> Option<&'a Identifier>
+    ensures { option_map (λ x. x.now) result ≡ name_in (place_type_view declared.entry) }
+{
+    match declared {
+        PlaceType::Simple(simple) => name_of_simple(simple),
+        PlaceType::Array(_) => None,
+        PlaceType::Standard(_) => None,
+    }
+}
+
+/// The size of a type whose name was asked for before.
+fn known_size<'a>(known: &Index<'a, usize>, declared: PlaceType<'a>) -> Option<usize>
+    ensures { IfSome result (λ size. (text : Declared) → KnowsSizes text known.now
+        → IsSized text (place_type_view declared.entry) size) }
+{
+    match name_of(declared) {
+        Some(name) => known.find(&name.name),
+        None => None,
+    }
+}
+
+/// Keeps the size of a type that has a name.
+fn remember<'a>(
+    known: &mut Index<'a, usize>,
+    declared: PlaceType<'a>,
+    size: usize,
+) -> Result<(), AllocError>
+    ensures { OnOk result ((text : Declared) → KnowsSizes text known.old
+        → IsSized text (place_type_view declared.entry) size → KnowsSizes text known.new) }
+{
+    if let Some(name) = name_of(declared) {
+        known.add(&name.name, size)?;
+    }
+    Ok(())
+}
+
+/// The size of a type, where it is at most so deep.
+fn size_within<'a>(
+    depth: usize,
+    alloc: Global,
+    known: &mut Index<'a, usize>,
+    types: &Types<'a>,
+    declared: PlaceType<'a>,
+) -> Result<Option<usize>, AllocError>
+    ensures known { OnOk result ((text : Declared) → ServesTypes types.now text → KnowsSizes text known.old
+        → KnowsSizes text known.new) }
+    ensures size { IfOk result (λ answer. IfSome answer (λ size. (text : Declared) → ServesTypes types.now text
+        → KnowsSizes text known.old → IsSized text (place_type_view declared.entry) size)) }
+    ensures deep { IfOk result (λ answer. IfNone answer ((text : Declared) → ServesTypes types.now text
+        → KnowsSizes text known.old → is_within_depth depth text (place_type_view declared.entry) ≡ false)) }
+{
+    if depth == 0 {
+        return Ok(None);
+    }
+    if let Some(size) = known_size(known, declared) {
+        return Ok(Some(size));
+    }
+    let composed = types.composition_of(declared);
+    if let Composition::Elements(array) = composed {
+        let element = PlaceType::Simple(&array.element);
+        let Some(size) = size_within(depth - 1, alloc, known, types, element)? else {
+            return Ok(None);
+        };
+        let size = product(count_of(array), size);
+        remember(known, declared, size)?;
+        return Ok(Some(size));
+    }
+    let whole = Site {
+        declared,
+        initial: None,
+        retained: false,
+    };
+    let mut total = own_size(composed);
+    let parts = parts_of(alloc, whole, composed)?;
+    for part in &parts {
+        let Some(size) = size_within(depth - 1, alloc, known, types, part.site.declared)? else {
+            return Ok(None);
+        };
+        total = sum(total, size);
+    }
+    remember(known, declared, total)?;
+    Ok(Some(total))
+}
+
+/// The sizes of a text's types, each found once.
+#[derive(Drop)]
+pub struct Sizes<'a> {
+    types: Types<'a>,
+    known: Index<'a, usize>,
+}
+
+impl<'a> Sizes<'a> {
+    pub fn new(alloc: Global, types: Types<'a>) -> Sizes<'a>
+        ensures { (text : Declared) → ServesTypes types.entry text → ServesSizes result text }
+    {
+        Sizes {
+            types,
+            known: Index::new(alloc),
+        }
+    }
+
+    /// How many slots a variable of the type takes; 4,097 where it takes more than 4,096. None where the type is more than
+    /// 64 deep, as none is of a text that breaks no rule.
+    pub fn size_of(
+        &mut self,
+        alloc: Global,
+        declared: PlaceType<'a>,
+    ) -> Result<Option<usize>, AllocError>
+        ensures serves { OnOk result ((text : Declared) → ServesSizes self.old text → ServesSizes self.new text) }
+        ensures size { IfOk result (λ answer. (text : Declared) → ServesSizes self.old text
+            → is_within_depth MAX_TYPE_DEPTH text (place_type_view declared.entry) ≡ true
+            → answer ≡ Some (cut (size (shape_of_type text (place_type_view declared.entry))))) }
+    {
+        let answer = size_within(
+            MAX_TYPE_DEPTH,
+            alloc,
+            &mut self.known,
+            &self.types,
+            declared,
+        )?;
+        Ok(answer)
+    }
+}
