@@ -126,7 +126,8 @@ sized_more text ts t before a b some one = record {
       let e = sum_append m text ts (t ∷ []) in
       ap (λ x. cut (x + b)) c ∙ ap (λ x. cut (cut (before + sum_within m text ts) + x)) d
       ∙ cut_sum (before + sum_within m text ts) (size (shape_within m text t))
-      ∙ ap cut (regrouped before (sum_within m text ts) (size (shape_within m text t)) (sum_within m text (ts ++ t ∷ [])) e);
+      ∙ ap cut (regrouped before (sum_within m text ts) (size (shape_within m text t))
+      (sum_within m text (ts ++ t ∷ [])) e);
 }
   where
     regrouped : (k l n o : ℕ) → o ≡ l + (n + 0) → k + l + n ≡ k + o
@@ -238,7 +239,8 @@ too_deep_array n text t a made h = ap (parts_within (is_within_depth n text)) ma
 pub size_whole : (n : ℕ) (text : Declared) (t : VariableType) (found : ℕ) → is_within_depth n text t ≡ true
     → IsSized text t found → found ≡ cut (size (shape_within n text t))
 size_whole n text t found within h =
-    h.is (h.depth + n) (omega arith) ∙ ap (λ sh. cut (size sh)) (expanded_whole text n (h.depth + n) t within (omega arith))
+    h.is (h.depth + n) (omega arith)
+    ∙ ap (λ sh. cut (size sh)) (expanded_whole text n (h.depth + n) t within (omega arith))
 
 pub own_small : (c : Composition) → own_size c ≤ MAX_PATHS
 own_small (of_kind k) = omega arith
@@ -309,8 +311,9 @@ no_elements (Standard b) h = tt
 no_elements Nothing h = tt
 
 -- where no part is left, the size is that of the whole
-pub sized_all : (text : Declared) (s : Site) (t : VariableType) (c : Composition) (before total : ℕ) (ps left : List Part)
-    → composition_of text t ≡ c → HasNoElements c → before ≡ own_size c → map part_view ps ≡ map kept_part (parts_behind s c)
+pub sized_all : (text : Declared) (s : Site) (t : VariableType) (c : Composition) (before total : ℕ)
+    (ps left : List Part) → composition_of text t ≡ c → HasNoElements c → before ≡ own_size c
+    → map part_view ps ≡ map kept_part (parts_behind s c)
     → left ≡ [] → SizedSoFar text before total ps left → IsSized text t total
 sized_all text s t c before total ps left made none own parts ended m =
     let all : m.ts ≡ types_of (parts_behind s c) =

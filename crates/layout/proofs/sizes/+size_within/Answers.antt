@@ -85,7 +85,8 @@ loop-part-preserved d c = record {
       c.in_ok-size-2.ensures.known text serves (c.loop-part.invariant.known text serves knows);
   sized = λ text serves knows.
       let left = drop (c.loop-part.part-index + 1) c.deref-part-items.result.now in
-      subst (λ n. SizedSoFar text c.own_size-total.result n c.deref-part-items.result.now left) (sym c.sum-total.ensures)
+      subst (λ n. SizedSoFar text c.own_size-total.result n c.deref-part-items.result.now left)
+      (sym c.sum-total.ensures)
       (sized_next text c.own_size-total.result c.loop-part.total c.deref-part-items.result.now c.part-item.result left
       c.in-Some-3.size
       (subst (SizedSoFar text c.own_size-total.result c.loop-part.total c.deref-part-items.result.now)
