@@ -1,6 +1,6 @@
 //! Runs in threads that are cut off by a stop of the machine within each of some device steps.
 
-use crate::disks::Cut;
+use crate::disks::{Cut, Mishap};
 use crate::living::{Setting, plan_of};
 use crate::row_error::RowError;
 use crate::telling::number_of;
@@ -32,12 +32,20 @@ fn done_count(core: &Core<SimDisk>, entries: usize) -> i128 {
     count
 }
 
+/// The first global after a warm restart over the file.
+fn first_restarted(alloc: Global, setting: Setting<'_>, file: Vec<u8>) -> Result<i128, RowError> {
+    let (global, _) = split(setting.globals, " ");
+    let next = restarted(alloc, setting, file)?;
+    let found = number_of(alloc, &next, global);
+    let _ = next.stop();
+    Ok(found?)
+}
+
 /// Whether a warm restart gives the first global what a front of the log gives that holds all that is acknowledged.
 fn is_kept(alloc: Global, setting: Setting<'_>, core: Core<SimDisk>) -> Result<bool, RowError> {
     let least = done_count(&core, core.acked());
     let most = done_count(&core, core.len());
-    let (global, _) = split(setting.globals, " ");
-    let now = number_of(alloc, &restarted(alloc, setting, core)?, global)?;
+    let now = first_restarted(alloc, setting, core.stop().left())?;
     Ok(least <= now && now <= most)
 }
 
@@ -69,15 +77,18 @@ pub fn write_cuts<R: Threads + Wait + Clock + Sync>(
     let (rows, steps) = split(written, " ");
     let (from, to) = split(steps, " ");
     let rows = number(rows)?;
-    let mut terms = terms;
     let mut right: u64 = 0;
     for step in number(from)?..number(to)? {
-        terms.mishap.stops = Some(Cut {
+        let cut = Cut {
             step,
             torn: TORN,
             len: u64::MAX,
-        });
-        if is_right(rt, alloc, setting, terms, rows)? {
+        };
+        let mishap = Mishap {
+            stops: Some(cut),
+            ..terms.mishap
+        };
+        if is_right(rt, alloc, setting, Terms { mishap, ..terms }, rows)? {
             right = right.saturating_add(1);
         }
     }

@@ -1,5 +1,6 @@
 //! Executions of what a core gives at its first row, as it is or changed.
 
+use crate::cores::started;
 use crate::living::plan_of;
 use crate::row_error::RowError;
 use crate::words::{count, number, split};
@@ -62,15 +63,9 @@ fn changed(snapshot: Snapshot, change: Change) -> Snapshot {
 /// A core of the text's plan, at its first row.
 fn at_a_row(alloc: Global, text: &str) -> Result<Core<SimDisk>, RowError> {
     let disk = SimDisk::new(alloc, Vec::new(alloc))?;
-    let plan = plan_of(alloc, text)?;
-    match Core::start(alloc, plan, disk, StartMode::Cold, ROOM) {
-        Ok(core) => {
-            let mut core = core;
-            let _ = core.latch(Row::new(MOMENT, Vec::<Value>::new(alloc)));
-            Ok(core)
-        }
-        Err((fault, _)) => Err(RowError::Start(fault)),
-    }
+    let mut core = started(alloc, plan_of(alloc, text)?, disk, StartMode::Cold, ROOM)?;
+    let _ = core.latch(Row::new(MOMENT, Vec::<Value>::new(alloc)));
+    Ok(core)
 }
 
 /// What the plan's first resource gives at the first row.

@@ -5,6 +5,7 @@
 mod calls;
 mod chains;
 mod configuration;
+mod cores;
 mod cuts;
 mod disk_calls;
 mod disks;

@@ -1,5 +1,6 @@
 //! Runs in threads, and the lives after them.
 
+use crate::cores::started;
 use crate::disks::disk_with;
 use crate::living::{Setting, plan_of};
 use crate::row_error::RowError;
@@ -10,10 +11,9 @@ use crate::watch::Watch;
 use crate::words::{number, split};
 use commit_lock::{Core, StartMode};
 use disk::SimDisk;
-use plc_threads::{Report, RunError, run_plant};
+use plc_threads::{Report, RunError, RunFault, Told, run_plant};
 use st_build::Plan;
 use st_plans::Row;
-use st_words::limits::MAX_LOG_ROOM;
 use std::alloc::{AllocError, Global};
 use std::fmt::Write;
 use std::rt::Clock;
@@ -41,58 +41,75 @@ pub fn run<R: Threads + Wait + Clock + Sync>(
     let disk = disk_with(alloc, &[], terms.mishap)?;
     let rows = rows_of(alloc, count)?;
     let own = Arc::clone(&plan)?;
-    match Core::start(
-        alloc,
-        own,
-        disk,
-        StartMode::Cold,
-        terms.room.min(MAX_LOG_ROOM),
-    ) {
-        Ok(core) => Ok(run_plant(rt, alloc, &plan, core, rows, terms.pace, watch)),
-        Err((fault, _disk)) => Err(RowError::Start(fault)),
-    }
+    let core = started(alloc, own, disk, StartMode::Cold, terms.room)?;
+    Ok(run_plant(rt, alloc, &plan, core, rows, terms.pace, watch))
 }
 
-/// The life that begins with what a core leaves when power goes.
+/// The life that begins with the file that a core leaves when power goes.
 pub fn restarted(
     alloc: Global,
     setting: Setting<'_>,
-    core: Core<SimDisk>,
+    file: Vec<u8>,
 ) -> Result<Core<SimDisk>, RowError> {
-    let disk = SimDisk::new(alloc, core.stop().left())?;
-    match Core::start(
+    let disk = SimDisk::new(alloc, file)?;
+    started(
         alloc,
         plan_of(alloc, setting.text)?,
         disk,
         StartMode::Warm,
         1,
-    ) {
-        Ok(core) => Ok(core),
-        Err((fault, _disk)) => Err(RowError::Start(fault)),
-    }
+    )
 }
 
 /// Tells of a run that came to its end what the word asks.
-fn tell_report<R: Clock>(
+fn tell_end<R: Clock>(
     text: &mut String,
     alloc: Global,
     globals: &str,
     word: &str,
-    report: Report<SimDisk>,
+    core: &Core<SimDisk>,
+    told: &[Told],
     watch: &Watch<'_, R>,
 ) -> Result<(), RowError> {
-    let Report { core, told } = report;
     match word {
         "run" => {
-            write_log(text, &core)?;
-            write_told(text, &told, watch)?;
+            write_log(text, core)?;
+            write_told(text, told, watch)?;
         }
-        "count" => write_counts(text, &core, &told)?,
+        "count" => write_counts(text, core, told)?,
         _ => return Err(RowError::Form),
     }
-    write_globals(text, alloc, &core, globals)?;
-    write_acked(text, &core)?;
+    write_globals(text, alloc, core, globals)?;
+    write_acked(text, core)?;
     Ok(())
+}
+
+/// Tells why a run was stopped, and how far it came.
+fn tell_stopped(
+    text: &mut String,
+    word: &str,
+    fault: RunFault,
+    core: &Core<SimDisk>,
+) -> Result<(), AllocError> {
+    write_run_fault(text, fault)?;
+    match word {
+        "length" => write!(text, "length {}", core.len()),
+        "acked" => write!(text, "acked {}; ", core.acked()),
+        _ => Ok(()),
+    }
+}
+
+/// Tells the globals after a warm restart over the file.
+fn tell_restarted(
+    text: &mut String,
+    alloc: Global,
+    setting: Setting<'_>,
+    file: Vec<u8>,
+) -> Result<(), RowError> {
+    let next = restarted(alloc, setting, file)?;
+    let written = write_globals(text, alloc, &next, setting.globals);
+    let _ = next.stop();
+    Ok(written?)
 }
 
 /// Tells of a run that was stopped what the word asks.
@@ -104,17 +121,32 @@ fn tell_error(
     error: RunError<SimDisk>,
 ) -> Result<(), RowError> {
     let RunError { core, fault } = error;
-    write_run_fault(text, fault)?;
+    let written = tell_stopped(text, word, fault, &core);
+    let file = core.stop().left();
+    written?;
     match word {
-        "length" => write!(text, "length {}", core.len())?,
-        "acked" => {
-            write!(text, "acked {}; ", core.acked())?;
-            let next = restarted(alloc, setting, core)?;
-            write_globals(text, alloc, &next, setting.globals)?;
-        }
-        _ => {}
+        "acked" => tell_restarted(text, alloc, setting, file),
+        _ => Ok(()),
     }
-    Ok(())
+}
+
+/// Tells of a run what the word asks.
+fn tell_run<R: Clock>(
+    text: &mut String,
+    alloc: Global,
+    setting: Setting<'_>,
+    word: &str,
+    ended: Result<Report<SimDisk>, RunError<SimDisk>>,
+    watch: &Watch<'_, R>,
+) -> Result<(), RowError> {
+    match ended {
+        Ok(Report { core, told }) => {
+            let written = tell_end(text, alloc, setting.globals, word, &core, &told, watch);
+            let _ = core.stop();
+            written
+        }
+        Err(error) => tell_error(text, alloc, setting, word, error),
+    }
 }
 
 /// Runs in threads as is written `WORD ROWS`, and tells of the run what the word asks.
@@ -127,12 +159,11 @@ pub fn write_run<R: Threads + Wait + Clock + Sync>(
     asked: &str,
 ) -> Result<(), RowError> {
     let (word, rows) = split(asked, " ");
+    let rows = number(rows)?;
     let plan = plan_of(alloc, setting.text)?;
     let watch = Watch::new(rt, alloc, plan.resources(), terms.turns)?;
-    match run(rt, alloc, plan, terms, number(rows)?, &watch)? {
-        Ok(report) => tell_report(text, alloc, setting.globals, word, report, &watch)?,
-        Err(error) => tell_error(text, alloc, setting, word, error)?,
-    }
+    let ended = run(rt, alloc, plan, terms, rows, &watch)?;
+    tell_run(text, alloc, setting, word, ended, &watch)?;
     if watch.is_late() {
         text.push_str("; late")?;
     }

@@ -64,9 +64,10 @@ fn resolved_stmt(alloc: Global, names: &UnitNames, statement: &Stmt) -> Result<S
         }
         Stmt::Case(selector, arms, otherwise) => {
             let selector = resolve(alloc, names, selector)?;
-            let arms = resolved_case_arms(alloc, names, kind_told(&selector), arms)?;
-            let otherwise = resolved_stmts(alloc, names, otherwise)?;
+            let kind = kind_told(&selector);
             let selector = at_place(alloc, None, selector)?;
+            let arms = resolved_case_arms(alloc, names, kind, arms)?;
+            let otherwise = resolved_stmts(alloc, names, otherwise)?;
             Ok(Stmt::select(selector, arms, otherwise))
         }
         Stmt::For {
@@ -77,11 +78,12 @@ fn resolved_stmt(alloc: Global, names: &UnitNames, statement: &Stmt) -> Result<S
             body,
         } => {
             let kind = kind_of_name(names, &control.name);
+            let control = control.copied(alloc)?;
             let start = resolved_expr(alloc, names, kind, start)?;
             let limit = resolved_expr(alloc, names, kind, limit)?;
             let step = resolved_step(alloc, names, kind, step)?;
             let body = resolved_stmts(alloc, names, body)?;
-            Ok(Stmt::count(control.copied(alloc)?, start, limit, step, body))
+            Ok(Stmt::count(control, start, limit, step, body))
         }
         Stmt::While(condition, body) => {
             let condition = resolved_expr(alloc, names, Some(Kind::Bool), condition)?;
@@ -89,8 +91,8 @@ fn resolved_stmt(alloc: Global, names: &UnitNames, statement: &Stmt) -> Result<S
             Ok(Stmt::repeat_while(condition, body))
         }
         Stmt::Repeat(body, condition) => {
-            let body = resolved_stmts(alloc, names, body)?;
             let condition = resolved_expr(alloc, names, Some(Kind::Bool), condition)?;
+            let body = resolved_stmts(alloc, names, body)?;
             Ok(Stmt::repeat_until(body, condition))
         }
         Stmt::Exit(place) => Ok(Stmt::exit(*place)),

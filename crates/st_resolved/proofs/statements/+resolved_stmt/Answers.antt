@@ -50,8 +50,8 @@ resolved_stmt-returns-in_ok-otherwise-in-If t c env serves =
     arms _ (rw c.deref-in-If.ensures.value at (c.in_ok-arms-in-If.ensures env serves))
     ∙ sym (ap (resolved_stmt env.text env.unit) seen)
 
-pub resolved_stmt-returns-in_ok-selector-in-Case-2 : goal.resolved_stmt-returns-in_ok-selector-in-Case-2
-resolved_stmt-returns-in_ok-selector-in-Case-2 t c env serves =
+pub resolved_stmt-returns-in_ok-otherwise-in-Case : goal.resolved_stmt-returns-in_ok-otherwise-in-Case
+resolved_stmt-returns-in_ok-otherwise-in-Case t c env serves =
     let is = c.in-Case.is in
     let e = expr_view c.in-Case.selector in
     let arms = map case_arm_view c.in-Case.arms.items in
@@ -61,13 +61,13 @@ resolved_stmt-returns-in_ok-selector-in-Case-2 t c env serves =
     let resolves = c.in_ok-selector-in-Case.ensures env serves in
     c.select.ensures
     ∙ case_resolved env.text env.unit xs _
-    (rw c.deref-in-Case-2.ensures.value at (c.in_ok-otherwise-in-Case.ensures env serves)) e _ c.kind_told.result arms _
-    (c.kind_told.ensures ∙ resolves.kind) (c.in_ok-selector-in-Case-2.ensures env e resolves)
+    (rw c.deref-in-Case-2.ensures.value at (c.in_ok-otherwise-in-Case.ensures env serves)) e _ c.kind_told-kind.result arms _
+    (c.kind_told-kind.ensures ∙ resolves.kind) (c.in_ok-selector-in-Case-2.ensures env e resolves)
     (rw c.deref-in-Case.ensures.value at (c.in_ok-arms-in-Case.ensures env serves))
     ∙ sym (ap (resolved_stmt env.text env.unit) seen)
 
-pub resolved_stmt-returns-in_ok-copied-in-For : goal.resolved_stmt-returns-in_ok-copied-in-For
-resolved_stmt-returns-in_ok-copied-in-For t c env serves =
+pub resolved_stmt-returns-in_ok-body-in-For : goal.resolved_stmt-returns-in_ok-body-in-For
+resolved_stmt-returns-in_ok-body-in-For t c env serves =
     let is = c.in-For.is in
     let s = expr_view c.in-For.start in
     let l = expr_view c.in-For.limit in
@@ -77,7 +77,7 @@ resolved_stmt-returns-in_ok-copied-in-For t c env serves =
     rw is (search (rules, code_stmt.the_lemmas)) in
     c.count.ensures
     ∙ for_resolved env.text env.unit xs _ (rw c.deref-in-For.ensures.value at (c.in_ok-body-in-For.ensures env serves))
-    c.in-For.control _ c.kind_of_name-kind.result s _ l _ by _ c.in_ok-copied-in-For.ensures
+    c.in-For.control _ c.kind_of_name-kind.result s _ l _ by _ c.in_ok-control-in-For.ensures
     (c.kind_of_name-kind.ensures env serves) (c.in_ok-start-in-For.ensures env serves)
     (c.in_ok-limit-in-For.ensures env serves) (c.in_ok-step-in-For.ensures env serves)
     ∙ sym (ap (resolved_stmt env.text env.unit) seen)
@@ -94,8 +94,8 @@ resolved_stmt-returns-in_ok-body-in-While t c env serves =
     (c.in_ok-condition-in-While.ensures env serves)
     ∙ sym (ap (resolved_stmt env.text env.unit) seen)
 
-pub resolved_stmt-returns-in_ok-condition-in-Repeat : goal.resolved_stmt-returns-in_ok-condition-in-Repeat
-resolved_stmt-returns-in_ok-condition-in-Repeat t c env serves =
+pub resolved_stmt-returns-in_ok-body-in-Repeat : goal.resolved_stmt-returns-in_ok-body-in-Repeat
+resolved_stmt-returns-in_ok-body-in-Repeat t c env serves =
     let is = c.in-Repeat.is in
     let e = expr_view c.in-Repeat.condition in
     let xs = map stmt_view c.in-Repeat.body.items in
