@@ -1,10 +1,11 @@
 //! The layouts of texts.
 
 use crate::answer::Answer;
-use layout::{Layout, LayoutSlot};
+use layout::{Layout, LayoutSlot, Sizes, Types};
 use st_check::check;
+use st_names::place_type;
 use st_print::{write_path, write_value};
-use st_trees::Source;
+use st_trees::{Declaration, LibraryElement, Source};
 use st_words::Kind;
 use std::alloc::Global;
 
@@ -61,14 +62,57 @@ fn counted(out: &mut Answer, alloc: Global, layout: &Layout) -> Option<()> {
     Some(())
 }
 
+/// The sizes of the types of declarations, each under the first name.
+fn declared_sizes<'a>(
+    out: &mut Answer,
+    alloc: Global,
+    sizes: &mut Sizes<'a>,
+    declarations: &'a [Declaration],
+) -> Option<()> {
+    for declaration in declarations {
+        out.name(declaration.names.first()?.name.as_slice());
+        out.put(" ");
+        match sizes
+            .size_of(alloc, place_type(&declaration.declared))
+            .ok()?
+        {
+            Some(size) => out.show(&size),
+            None => out.put("deep"),
+        }
+        out.put(";");
+    }
+    Some(())
+}
+
+/// The sizes of the types of all variables of units.
+fn shown_sizes(out: &mut Answer, alloc: Global, source: &Source) -> Option<()> {
+    let mut sizes = Sizes::new(alloc, Types::new(alloc, source).ok()?);
+    for element in &source.elements {
+        if let LibraryElement::Unit(unit) = element {
+            for block in &unit.blocks {
+                declared_sizes(out, alloc, &mut sizes, &block.declarations)?;
+            }
+        }
+    }
+    Some(())
+}
+
+/// What is answered of the layout of a checked source, or why it has none.
+fn laid_out(out: &mut Answer, alloc: Global, word: &str, source: &Source) -> Option<()> {
+    if word == "sizes" {
+        return shown_sizes(out, alloc, source);
+    }
+    match Layout::build(alloc, source) {
+        Ok(layout) if word == "slots" => counted(out, alloc, &layout),
+        Ok(layout) => shown_slots(out, alloc, &layout),
+        Err(error) => Some(out.show(&error)),
+    }
+}
+
 /// What is answered of the layout of a source, or why it has none.
 pub fn shown_layout(out: &mut Answer, alloc: Global, word: &str, source: Source) -> Option<()> {
     match check(alloc, source) {
-        Ok(checked) => match Layout::build(alloc, checked.source()) {
-            Ok(layout) if word == "slots" => counted(out, alloc, &layout),
-            Ok(layout) => shown_slots(out, alloc, &layout),
-            Err(error) => Some(out.show(&error)),
-        },
+        Ok(checked) => laid_out(out, alloc, word, checked.source()),
         Err(error) => Some(out.show(&error)),
     }
 }

@@ -30,6 +30,7 @@
 //! | `checked` | a rule that the text breaks, or that there is none |
 //! | `layout` | the slots of its layout, each with its type, and as an input or with what it starts with and its retention |
 //! | `slots` | how many these are |
+//! | `sizes` | of each declaration of a unit the first name and the size of its type |
 
 use crate::answer::Answer;
 use crate::kinds::write_kind;
@@ -51,7 +52,7 @@ use std::alloc::{AllocError, Global};
 /// What is answered of the tokens of a text.
 fn part(out: &mut Answer, alloc: Global, word: &str, tokens: &[Token]) {
     match word {
-        "source" | "declarations" | "declared" | "checked" | "layout" | "slots" => {
+        "source" | "declarations" | "declared" | "checked" | "layout" | "slots" | "sizes" => {
             shown_source(out, alloc, word, tokens)
         }
         "expression" => shown_expression(out, alloc, tokens),

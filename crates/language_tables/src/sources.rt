@@ -42,7 +42,7 @@ pub fn shown_source(out: &mut Answer, alloc: Global, word: &str, tokens: &[Token
         Ok(source) if word == "declared" => declared(out, alloc, &source),
         Ok(source) if word == "checked" => checked(out, alloc, source),
         Ok(source) if word == "declarations" => declarations(out, &source),
-        Ok(source) if word == "layout" || word == "slots" => {
+        Ok(source) if matches!(word, "layout" | "slots" | "sizes") => {
             if shown_layout(out, alloc, word, source).is_none() {
                 out.put("no memory");
             }
