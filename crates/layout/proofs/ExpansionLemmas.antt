@@ -20,7 +20,7 @@ use Rattle.st_layouts.specs.Shapes.{Whole}
 use Rattle.st_layouts.specs.Types.{Site, NamedSite, site_named, Composition, of_kind, of_elements, of_parts}
 use Rattle.st_layouts.specs.Types.{composition_of}
 use Rattle.st_layouts.specs.Types.{shape_within, composed_shape, parts_of, lower_of, count_of, element_of}
-use Rattle.st_layouts.specs.Sites.{site_at, site_behind, element_site, member_site, constant_of}
+use Rattle.st_layouts.specs.Sites.{site_at, site_behind, element_site, member_site, constant_of, default_of}
 use Rattle.st_layouts.specs.TextLayouts.{further}
 use Rattle.layout.specs.Sites.{kept, element_parts, member_part, parts_behind}
 use Rattle.layout.specs.Slots.{slot_at, slots_within, slots_of_parts, size_of_parts, instances_of_parts}
@@ -125,8 +125,8 @@ found_all inner (d ∷ ds) h =
 abbrev slot_from : Option Site → Bool → Path → Kind → LayoutSlot
 slot_from u input p k = record {
   path = p;
-  initial = initial_value k (option_and_then (λ v. constant_of k v.initial) u);
-  retained = elim u [ Some v ↦ is_retained_by v.retentions | None ↦ false ];
+  initial = if input then default_of k else initial_value k (option_and_then (λ v. constant_of k v.initial) u);
+  retained = if input then false else elim u [ Some v ↦ is_retained_by v.retentions | None ↦ false ];
   is_input = input;
 }
 

@@ -2,6 +2,7 @@
 use Rattle.std.proofs.Common.{◌≡◌, refl, sym, ap, ap₂, ◌∙◌, arith, List, [], ◌∷◌, ◌++◌, map, length, Bool, true}
 use Rattle.std.proofs.Common.{false, not, ◌&&◌, if◌then◌else◌, Option, Some, None, Result, Ok, Err, filter}
 use Rattle.std.specs.Prelude.{option_and_then}
+use Rattle.std.specs.List.{list_all}
 use Rattle.st_words.specs.declared.kind.Kind.{Kind}
 use Rattle.st_words.specs.Kinds.{holds, same_kind}
 use Rattle.st_words.specs.Values.{Datum}
@@ -15,15 +16,16 @@ use Rattle.st_plans.specs.Plans.{initial_value}
 use Rattle.st_statics.specs.declared.limits.TheConstants.{MAX_TYPE_DEPTH}
 use Rattle.st_layouts.specs.Shapes.{Shape, Leaf, leaves_of, size, is_sound}
 use Rattle.st_layouts.specs.Types.{Site}
-use Rattle.st_layouts.specs.Sites.{constant_of, default_of, fitting, initial_at, site_at}
+use Rattle.st_layouts.specs.Sites.{constant_of, default_of, fitting, initial_at, retained_at, site_at}
 use Rattle.st_layouts.specs.LayoutVariables.{Owned}
 use Rattle.st_layouts.specs.TextLayouts.{variable_path, variable_shape, slot_of_leaf, slots_of}
 use Rattle.st_layouts.specs.TextLayouts.{variable_of_leaf, plan_variables_of, input_of_leaf, plan_inputs_of}
-use Rattle.st_layouts.specs.TextLayouts.{leaves_of_variable}
+use Rattle.st_layouts.specs.TextLayouts.{leaves_of_variable, initial_image}
 use Rattle.st_layouts.specs.Standing.{are_declared_once, has_variable}
 use Rattle.layout.specs.Layouts.{are_expandable, layout_size, layout_slots}
 use Rattle.layout.specs.Slots.{slot_at, slots_within}
-use Rattle.layout.specs.TextLayouts.{slot_view, variable_of, input_of, variables_among, inputs_among}
+use Rattle.layout.specs.TextLayouts.{slot_view, variable_of, input_of, variables_among, inputs_among, image_among}
+use Rattle.layout.specs.TextLayouts.{retains_no_input}
 use Rattle.layout.specs.declared.slots.LayoutSlot.{LayoutSlot}
 use Rattle.layout.proofs.LayoutLemmas.{both_sound, length_layout}
 
@@ -75,11 +77,19 @@ filter_append f (x ∷ xs) ys = by_test (f x) (filter_append f xs ys)
     by_test false h = h
 
 -- slots of one variable
+started_type : (text : Declared) (v : Owned) (l : Leaf)
+    → (slot_at text v.site v.is_input (variable_path v) l).initial.kind ≡ l.kind
+started_type text v l = by_test v.is_input
+  where
+    by_test : (b : Bool) → (if b then default_of l.kind else initial_at text v.site l.steps l.kind).kind ≡ l.kind
+    by_test true = refl
+    by_test false = initial_type text v.site l
+
 slots_seen : (text : Declared) (v : Owned) (ls : List Leaf)
     → map slot_view (map (slot_at text v.site v.is_input (variable_path v)) ls) ≡ map (slot_of_leaf v) ls
 slots_seen text v [] = refl
 slots_seen text v (l ∷ ls) =
-    ap₂ (λ k zs. record (slot_of_leaf v l) { kind = k } ∷ zs) (initial_type text v.site l) (slots_seen text v ls)
+    ap₂ (λ k zs. record (slot_of_leaf v l) { kind = k } ∷ zs) (started_type text v l) (slots_seen text v ls)
 
 variables_seen : (text : Declared) (v : Owned) → v.is_input ≡ false → (ls : List Leaf)
     → variables_among (map (slot_at text v.site v.is_input (variable_path v)) ls) ≡ map (variable_of_leaf text v) ls
@@ -95,7 +105,7 @@ inputs_seen : (text : Declared) (v : Owned) → v.is_input ≡ true → (ls : Li
     → inputs_among (map (slot_at text v.site v.is_input (variable_path v)) ls) ≡ map (input_of_leaf v) ls
 inputs_seen text v e [] = refl
 inputs_seen text v e (l ∷ ls) =
-    let h = inputs_seen text v e ls in let k = initial_type text v.site l in rw (e, h, k) refl
+    let h = inputs_seen text v e ls in rw (e, h) refl
 
 no_inputs_seen : (text : Declared) (v : Owned) → v.is_input ≡ false → (ls : List Leaf)
     → inputs_among (map (slot_at text v.site v.is_input (variable_path v)) ls) ≡ []
@@ -166,3 +176,61 @@ once_expandable text (v ∷ vs) h =
     (is_sound (variable_shape text v) && are_declared_once text vs) h in
     let b = both_sound (is_sound (variable_shape text v)) (are_declared_once text vs) a.1 in
     ap (λ c. c && are_expandable text vs) b.0 ∙ once_expandable text vs b.1
+
+-- inputs as they start
+image_seen : (text : Declared) (v : Owned) → v.is_input ≡ true → (ls : List Leaf)
+    → image_among (map (slot_at text v.site v.is_input (variable_path v)) ls) ≡ initial_image (map (input_of_leaf v) ls)
+image_seen text v e [] = refl
+image_seen text v e (l ∷ ls) = let h = image_seen text v e ls in rw (e, h) refl
+
+no_image_seen : (text : Declared) (v : Owned) → v.is_input ≡ false → (ls : List Leaf)
+    → image_among (map (slot_at text v.site v.is_input (variable_path v)) ls) ≡ []
+no_image_seen text v e [] = refl
+no_image_seen text v e (l ∷ ls) = let h = no_image_seen text v e ls in rw (e, h) refl
+
+image_apart : (xs ys : List LayoutSlot) → image_among (xs ++ ys) ≡ image_among xs ++ image_among ys
+image_apart xs ys = ap (map (λ s. (s.path, s.initial))) (filter_append (λ s. s.is_input) xs ys)
+    ∙ map_append (λ s. (s.path, s.initial)) (filter (λ s. s.is_input) xs) (filter (λ s. s.is_input) ys)
+
+pub image_is : (text : Declared) (vs : List Owned)
+    → image_among (layout_slots text vs) ≡ initial_image (plan_inputs_of text vs)
+image_is text [] = refl
+image_is text (v ∷ vs) =
+    let own = slots_within MAX_TYPE_DEPTH text v.site v.is_input (variable_path v) in
+    image_apart own (layout_slots text vs) ∙ ap (λ ys. image_among own ++ ys) (image_is text vs) ∙ by_test v.is_input refl
+  where
+    by_test : (b : Bool) → v.is_input ≡ b
+        → image_among (slots_within MAX_TYPE_DEPTH text v.site v.is_input (variable_path v))
+        ++ initial_image (plan_inputs_of text vs)
+        ≡ initial_image (if b then map (input_of_leaf v) (leaves_of_variable text v) ++ plan_inputs_of text vs
+        else plan_inputs_of text vs)
+    by_test true e = ap (λ xs. xs ++ initial_image (plan_inputs_of text vs)) (image_seen text v e (leaves_of_variable text v))
+        ∙ sym (map_append (λ i. (i.path, default_of i.kind)) (map (input_of_leaf v) (leaves_of_variable text v))
+        (plan_inputs_of text vs))
+    by_test false e =
+        ap (λ xs. xs ++ initial_image (plan_inputs_of text vs)) (no_image_seen text v e (leaves_of_variable text v))
+
+unretained_one : (text : Declared) (v : Owned) (ls : List Leaf)
+    → retains_no_input (map (slot_at text v.site v.is_input (variable_path v)) ls) ≡ true
+unretained_one text v [] = refl
+unretained_one text v (l ∷ ls) = by_test v.is_input (unretained_one text v ls)
+  where
+    by_test : (b : Bool) → retains_no_input (map (slot_at text v.site v.is_input (variable_path v)) ls) ≡ true
+        → (not (b && (if b then false else retained_at text v.site l.steps))
+        && retains_no_input (map (slot_at text v.site v.is_input (variable_path v)) ls)) ≡ true
+    by_test true h = h
+    by_test false h = h
+
+all_append : (f : LayoutSlot → Bool) (xs ys : List LayoutSlot) → list_all f xs ≡ true → list_all f ys ≡ true
+    → list_all f (xs ++ ys) ≡ true
+all_append f [] ys a b = b
+all_append f (x ∷ xs) ys a b =
+    let c = both_sound (f x) (list_all f xs) a in
+    ap (λ y. y && list_all f (xs ++ ys)) c.0 ∙ all_append f xs ys c.1 b
+
+pub unretained_all : (text : Declared) (vs : List Owned) → retains_no_input (layout_slots text vs) ≡ true
+unretained_all text [] = refl
+unretained_all text (v ∷ vs) =
+    all_append (λ s. not (s.is_input && s.retained))
+    (slots_within MAX_TYPE_DEPTH text v.site v.is_input (variable_path v)) (layout_slots text vs)
+    (unretained_one text v (leaves_of_variable text v)) (unretained_all text vs)

@@ -1,5 +1,5 @@
 -- The slots of a layout with what they start with, and those of the parts of a variable.
-use Rattle.std.specs.Prelude.{ℕ, ◌+◌, List, [], ◌∷◌, ◌++◌, map, Bool, option_map}
+use Rattle.std.specs.Prelude.{ℕ, ◌+◌, List, [], ◌∷◌, ◌++◌, map, Bool, false, if◌then◌else◌, option_map}
 use Rattle.st_words.specs.declared.path.Owner.{Owner}
 use Rattle.st_words.specs.declared.path.Step.{Step}
 use Rattle.st_words.specs.Paths.{Path}
@@ -8,7 +8,7 @@ use Rattle.st_types.specs.NameTypes.{Declared}
 use Rattle.st_layouts.specs.Shapes.{Leaf, leaves_of, size, instance_count, instances_of_whole}
 use Rattle.st_layouts.specs.Types as made
 use Rattle.st_layouts.specs.Types.{of_kind, of_elements, of_parts, shape_within}
-use Rattle.st_layouts.specs.Sites.{initial_at, retained_at, constant_of}
+use Rattle.st_layouts.specs.Sites.{initial_at, retained_at, constant_of, default_of}
 use Rattle.st_layouts.specs.TextLayouts.{further}
 use Rattle.layout.specs.Sites.{KeptSite, step_view}
 use Rattle.layout.specs.declared.sites.PartStep.{PartStep}
@@ -23,12 +23,13 @@ owner_view o = record { resource = o.resource.now; instance = o.instance.now }
 abbrev pub path_at : Root → List PartStep → Path
 path_at r xs = record { owner = option_map owner_view r.owner; name = r.name.now; steps = map step_view xs }
 
--- the slot of an elementary part, of which the whole is declared so and reached by this path
+-- the slot of an elementary part, of which the whole is declared so and reached by this path; an input starts as its
+-- type does and is never retained, whatever is declared
 abbrev pub slot_at : Declared → made.Site → Bool → Path → Leaf → LayoutSlot
 slot_at text s input p l = record {
   path = further p l.steps;
-  initial = initial_at text s l.steps l.kind;
-  retained = retained_at text s l.steps;
+  initial = if input then default_of l.kind else initial_at text s l.steps l.kind;
+  retained = if input then false else retained_at text s l.steps;
   is_input = input;
 }
 
@@ -54,8 +55,8 @@ instances_of_parts n text (e ∷ es) = instance_count (shape_within n text e.1.d
 abbrev pub own_slots : made.Composition → KeptSite → Bool → Path → List LayoutSlot
 own_slots (of_kind k) s input p = record {
   path = p;
-  initial = initial_value k (constant_of k s.initial);
-  retained = s.retained;
+  initial = if input then default_of k else initial_value k (constant_of k s.initial);
+  retained = if input then false else s.retained;
   is_input = input;
 } ∷ []
 own_slots (of_elements a) s input p = []

@@ -1,11 +1,14 @@
 -- The slots of a layout, as the definitions of layouts and plans see them.
-use Rattle.std.specs.Prelude.{◌≡◌, ◌≤◌, List, map, filter, length, not}
+use Rattle.std.specs.Prelude.{◌≡◌, ◌≤◌, List, map, filter, length, Bool, true, not, ◌&&◌}
+use Rattle.std.specs.List.{list_all}
 use Rattle.st_words.specs.declared.limits.TheConstants.{MAX_PATHS}
 use Rattle.st_trees.specs.Sources.{Source}
 use Rattle.st_types.specs.Slots.{Slot}
+use Rattle.st_types.specs.Stores.{Store}
 use Rattle.st_plans.specs.declared.plan.PlanVariable.{PlanVariable}
 use Rattle.st_plans.specs.declared.plan.PlanInput.{PlanInput}
-use Rattle.st_layouts.specs.TextLayouts.{instances_of_text, slots_of_text, plan_inputs_of_text, plan_variables_of_text}
+use Rattle.st_layouts.specs.TextLayouts.{initial_image, instances_of_text, slots_of_text, plan_inputs_of_text}
+use Rattle.st_layouts.specs.TextLayouts.{plan_variables_of_text}
 use Rattle.layout.specs.declared.limits.TheConstants.{MAX_INSTANCES}
 use Rattle.layout.specs.declared.slots.LayoutSlot.{LayoutSlot}
 
@@ -25,11 +28,20 @@ variables_among ss = map variable_of (filter (λ s. not s.is_input) ss)
 abbrev pub inputs_among : List LayoutSlot → List PlanInput
 inputs_among ss = map input_of (filter (λ s. s.is_input) ss)
 
--- The slots are those of the text, with the initial values and the retention that its declarations tell, and not too
--- many; nor are its instances of blocks.
+-- inputs as they start, and that none is retained
+abbrev pub image_among : List LayoutSlot → Store
+image_among ss = map (λ s. (s.path, s.initial)) (filter (λ s. s.is_input) ss)
+
+abbrev pub retains_no_input : List LayoutSlot → Bool
+retains_no_input ss = list_all (λ s. not (s.is_input && s.retained)) ss
+
+-- The slots are those of the text, with the initial values and the retention that its declarations tell, and inputs as
+-- a life starts; they are not too many, nor are its instances of blocks.
 pub record IsLayoutOf (source : Source) (ss : List LayoutSlot) : Type 0 where
   pub slots : map slot_view ss ≡ slots_of_text source
   pub variables : variables_among ss ≡ plan_variables_of_text source
   pub inputs : inputs_among ss ≡ plan_inputs_of_text source
+  pub image : image_among ss ≡ initial_image (plan_inputs_of_text source)
+  pub unretained : retains_no_input ss ≡ true
   pub room : length (slots_of_text source) ≤ MAX_PATHS
   pub few : instances_of_text source ≤ MAX_INSTANCES

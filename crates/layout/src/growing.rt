@@ -13,7 +13,7 @@ ghost use Rattle.layout.specs.Slots.{own_instances, own_size, own_slots, path_at
 ghost use Rattle.layout.specs.declared.limits.TheConstants.{MAX_INSTANCES};
 
 use crate::compositions::{Composition, Types};
-use crate::initials::initial_value;
+use crate::initials::started;
 use crate::layout_error::LayoutError;
 use crate::limits::MAX_INSTANCES;
 use crate::parts::parts_of;
@@ -55,8 +55,8 @@ fn push_slot(
     }
     grown.slots.push(LayoutSlot {
         path: path_to(alloc, root, &grown.trail)?,
-        initial: initial_value(kind, site.initial),
-        retained: site.retained,
+        initial: started(kind, site.initial, root.is_input),
+        retained: !root.is_input && site.retained,
         is_input: root.is_input,
     })?;
     Ok(())

@@ -1,9 +1,9 @@
 //! The values that elementary parts start with.
 
-ghost use Rattle.std.specs.Prelude.{◌≡◌, Ok, None};
+ghost use Rattle.std.specs.Prelude.{◌≡◌, Ok, if◌then◌else◌};
 ghost use Rattle.st_types.specs.Operators.{value_of_literal};
 ghost use Rattle.st_plans.specs.Plans.{initial_value};
-ghost use Rattle.st_layouts.specs.Sites.{constant_of, fitting};
+ghost use Rattle.st_layouts.specs.Sites.{constant_of, default_of, fitting};
 ghost use Rattle.layout.specs.Sites.{given_view};
 
 use st_trees::Initial;
@@ -50,7 +50,7 @@ fn constant_of(kind: Kind, initial: Option<&Initial>) -> Option<Value>
 
 /// 0, FALSE, T#0s or the first name.
 fn default_of(kind: Kind) -> Value
-    ensures { result ≡ initial_value kind None }
+    ensures { result ≡ default_of kind }
 {
     match Value::new(kind, 0) {
         Ok(value) => value,
@@ -58,10 +58,15 @@ fn default_of(kind: Kind) -> Value
     }
 }
 
-/// The value that a part of this type starts with: the declared one, else the default of its type.
-pub fn initial_value(kind: Kind, initial: Option<&Initial>) -> Value
-    ensures { result ≡ initial_value kind (constant_of kind (given_view initial.entry)) }
+/// The value that a part of this type starts with: the declared one, else the default of its type; an input starts with
+/// the default.
+pub fn started(kind: Kind, initial: Option<&Initial>, is_input: bool) -> Value
+    ensures { result ≡ (if is_input then default_of kind
+        else initial_value kind (constant_of kind (given_view initial.entry))) }
 {
+    if is_input {
+        return default_of(kind);
+    }
     match constant_of(kind, initial) {
         Some(value) => value,
         None => default_of(kind),

@@ -6,6 +6,8 @@ ghost use Rattle.st_statics.specs.Rules.{IsWellTyped};
 ghost use Rattle.st_layouts.specs.LayoutVariables.{declared_of, layout_variables};
 ghost use Rattle.st_layouts.specs.Names.{has_different_names};
 ghost use Rattle.st_layouts.specs.Standing.{are_declared_once};
+ghost use Rattle.layout.specs.Growth.{Exceeds};
+ghost use Rattle.layout.specs.declared.layout_error.LayoutError.TheVariants.{TooLarge};
 
 use st_layouts::layouts_of_texts;
 
@@ -18,3 +20,10 @@ pub fn accepted_texts_declare_names_once()
 {
     layouts_of_texts();
 }
+
+/// 4,096 paths and 4,096 instances of blocks are not too many, and one more of either is.
+pub fn what_is_too_large()
+    ensures fits { Exceeds 4096 4096 TooLarge → ⊥ }
+    ensures paths { Exceeds 4097 0 TooLarge }
+    ensures instances { Exceeds 0 4097 TooLarge }
+{}

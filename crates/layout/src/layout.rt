@@ -30,7 +30,8 @@ impl Layout {
     ///
     /// It has exactly the paths of the text in order, with their types, their initial values and their retention. It is
     /// refused (M1) exactly where these are more than 4,096, or where the text has more than 4,096 instances of
-    /// function blocks at every depth; the expansion stops there.
+    /// function blocks at every depth; the expansion stops there. Of the tree of another text nothing is said, nor how
+    /// long it takes.
     pub fn build(alloc: Global, source: &Source) -> Result<Layout, LayoutError>
         ensures ok { IfOk result (λ layout. (text : trees.Source) → source_view source.now ≡ resolved_source text
             → IsWellTyped text → IsLayoutOf text layout.slots.items) }

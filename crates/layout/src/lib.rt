@@ -24,7 +24,7 @@ mod standard_members;
 mod variables;
 
 pub use compositions::Types;
-pub use laws::accepted_texts_declare_names_once;
+pub use laws::{accepted_texts_declare_names_once, what_is_too_large};
 pub use layout::Layout;
 pub use layout_error::LayoutError;
 pub use sizes::Sizes;

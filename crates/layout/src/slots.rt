@@ -12,9 +12,9 @@ use std::alloc::{AllocError, Global};
 #[derive(Drop)]
 pub struct LayoutSlot {
     pub path: Path,
-    /// The value that it starts with, which has its type.
+    /// The value that it starts with, which has its type: 0, FALSE, T#0s or the first name for an input.
     pub initial: Value,
-    /// Whether it is kept over a power failure (RETAIN).
+    /// Whether it is kept over a power failure (RETAIN). An input never is.
     pub retained: bool,
     /// Whether its value comes from the plant.
     pub is_input: bool,

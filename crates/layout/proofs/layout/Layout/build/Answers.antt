@@ -6,8 +6,9 @@ use Rattle.st_layouts.specs.LayoutVariables.{declared_of, layout_variables}
 use Rattle.st_layouts.specs.TextLayouts.{instances_of, instances_of_text, slots_of_text}
 use Rattle.layout.specs.Growth.{Exceeds}
 use Rattle.layout.specs.Layouts.{are_expandable, layout_size, layout_slots, variables_in}
-use Rattle.layout.specs.TextLayouts.{inputs_among, slot_view, variables_among}
-use Rattle.layout.proofs.PlanLemmas.{length_map, inputs_are, length_slots_of, once_expandable, slots_are, variables_are}
+use Rattle.layout.specs.TextLayouts.{image_among, inputs_among, retains_no_input, slot_view, variables_among}
+use Rattle.layout.proofs.PlanLemmas.{image_is, length_map, unretained_all, inputs_are, length_slots_of}
+use Rattle.layout.proofs.PlanLemmas.{once_expandable, slots_are, variables_are}
 use Rattle.layout.proofs.layout.Layout.build.Goals as goal
 
 pub returns-in_err-slots_in-clause-err : goal.returns-in_err-slots_in-clause-err
@@ -38,6 +39,8 @@ returns-clause-ok c text is typed =
       slots = seen;
       variables = ap variables_among there ∙ variables_are (declared_of text) (layout_variables text);
       inputs = ap inputs_among there ∙ inputs_are (declared_of text) (layout_variables text);
+      image = ap image_among there ∙ image_is (declared_of text) (layout_variables text);
+      unretained = ap retains_no_input there ∙ unretained_all (declared_of text) (layout_variables text);
       room = subst (λ n. n ≤ MAX_PATHS)
           (sym (length_map slot_view c.in_ok-slots_in.field-0.items) ∙ ap length seen) c.in_ok-slots_in.ensures.room;
       few = subst (λ s. instances_of (declared_in s) (variables_in s) ≤ MAX_INSTANCES) is
