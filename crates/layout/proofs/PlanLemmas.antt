@@ -197,14 +197,16 @@ pub image_is : (text : Declared) (vs : List Owned)
 image_is text [] = refl
 image_is text (v ∷ vs) =
     let own = slots_within MAX_TYPE_DEPTH text v.site v.is_input (variable_path v) in
-    image_apart own (layout_slots text vs) ∙ ap (λ ys. image_among own ++ ys) (image_is text vs) ∙ by_test v.is_input refl
+    image_apart own (layout_slots text vs) ∙ ap (λ ys. image_among own ++ ys) (image_is text vs)
+    ∙ by_test v.is_input refl
   where
     by_test : (b : Bool) → v.is_input ≡ b
         → image_among (slots_within MAX_TYPE_DEPTH text v.site v.is_input (variable_path v))
         ++ initial_image (plan_inputs_of text vs)
         ≡ initial_image (if b then map (input_of_leaf v) (leaves_of_variable text v) ++ plan_inputs_of text vs
         else plan_inputs_of text vs)
-    by_test true e = ap (λ xs. xs ++ initial_image (plan_inputs_of text vs)) (image_seen text v e (leaves_of_variable text v))
+    by_test true e =
+        ap (λ xs. xs ++ initial_image (plan_inputs_of text vs)) (image_seen text v e (leaves_of_variable text v))
         ∙ sym (map_append (λ i. (i.path, default_of i.kind)) (map (input_of_leaf v) (leaves_of_variable text v))
         (plan_inputs_of text vs))
     by_test false e =
