@@ -1,6 +1,5 @@
 -- When the units of a text are linked.
 use Rattle.std.specs.Prelude.{◌≡◌, ℕ, List, [], ◌∷◌, map, true, false, Some, None, slice_get}
-use Rattle.st_words.specs.declared.kind.Kind.{Kind}
 use Rattle.st_words.specs.Values.{Datum}
 use Rattle.st_types.specs.Stores.{Store}
 use Rattle.st_types.specs.Slots.{Slot, IsLayout}
@@ -15,6 +14,7 @@ use Rattle.slot_trees.specs.SlotTrees.{SlotLibrary}
 use Rattle.slot_trees.specs.SlotEvaluation.{slot_at}
 use Rattle.slot_trees.specs.Tables.{Symbol, Table, symbol_of, named_in, part_at}
 use Rattle.slot_trees.specs.LinkedStatements.{linked_stmts}
+use Rattle.slot_trees.specs.Seeing.{IsSlotOf}
 
 -- what the units of a text are numbered, and the members of an instance of each block
 pub record Numbers : Type 0 where
@@ -38,15 +38,10 @@ layout_of_fresh s = map (λ e. slot e.0 e.1.kind false) s
 abbrev pub values_of_fresh : Store → List Datum
 values_of_fresh s = map (λ e. e.1) s
 
--- a variable's own slot, which no input of the plant has
-pub record HasSlotAt (layout : List Slot) (x : Name) (k : ℕ) : Type 0 where
-  pub kind : Kind
-  pub there : slice_get layout k ≡ Some (slot (unowned x) kind false)
-
 -- the inputs of a function stand in these slots
 abbrev pub InputsStand : List Slot → List Name → List ℕ → Type 0
 InputsStand layout [] [] = Unit {0}
-InputsStand layout (x ∷ xs) (k ∷ ks) = HasSlotAt layout x k × InputsStand layout xs ks
+InputsStand layout (x ∷ xs) (k ∷ ks) = IsSlotOf layout false (unowned x) k × InputsStand layout xs ks
 InputsStand layout [] (k ∷ ks) = ⊥
 InputsStand layout (x ∷ xs) [] = ⊥
 
@@ -56,7 +51,7 @@ pub record IsFunctionLink (numbers : Numbers) (f : Function) (g : SlotFunction) 
   pub fresh : g.fresh ≡ values_of_fresh f.fresh
   pub distinct : IsLayout (layout_of_fresh f.fresh)
   pub inputs : InputsStand (layout_of_fresh f.fresh) f.inputs g.inputs
-  pub result : HasSlotAt (layout_of_fresh f.fresh) f.name g.result
+  pub result : IsSlotOf (layout_of_fresh f.fresh) false (unowned f.name) g.result
   pub names : (x : Name) (y : Symbol) → symbol_of symbols x ≡ Some y
       → Stands (layout_of_fresh f.fresh) y.is_input (path_in of_call f.body x) y.shape (slot_at 0 y.anchor)
   pub instances : f.body.instances ≡ []
