@@ -5,3 +5,5 @@ pub mod Standings
 pub mod Sights
 pub mod ExpressionSim
 pub mod StatementSim
+pub mod UnitSim
+pub mod ProgramSim

@@ -1,10 +1,14 @@
-//! Programs whose names are slots: trees, what they do, and when one is what a program with names is linked to.
+//! Programs whose names are slots, and that they mean the same as those with names.
 //!
-//! All this stands in `specs/`. Lemmas say that linked expressions and statements do to the slots what those with names
-//! do to the variables, where the table of names says the truth; no contract names them yet.
+//! A place is a slot and the subscripts that lead on from it; functions and blocks of a text are numbers. Such trees,
+//! what they do to a list of the slots' values, tables of names, how a tree with names is linked by a table, and when a
+//! whole program is: all this stands in `specs/`. The functions here hold it to a law and to worked examples, by
+//! contracts of functions that do nothing.
 //!
-//! Open: that the units of a linked text do the same, so that the tables of a text say the truth, and that a linked
-//! program means the same as the one with names.
+//! Open: tables made from the declarations of a text, that what the checker takes is linked, and the code that links.
 #![tactic(auto)]
 
 pub mod examples;
+mod laws;
+
+pub use laws::linked_programs_mean_the_same;

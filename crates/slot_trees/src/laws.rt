@@ -1,0 +1,32 @@
+//! The law of linking, proved of the definitions. The function does nothing: its contract is the law.
+
+ghost use Rattle.std.specs.Prelude.{◌≡◌, ◌≤◌, ℕ, List};
+ghost use Rattle.st_words.specs.Values.{Datum};
+ghost use Rattle.st_types.specs.Failures.{StandIns, in_runs};
+ghost use Rattle.st_types.specs.Stores.{Store};
+ghost use Rattle.st_types.specs.Slots.{Slot};
+ghost use Rattle.st_types.specs.Runs.{Program, ran_where, outcome_of, store_after};
+ghost use Rattle.slot_trees.specs.SlotTrees.{SlotStmts, SlotLibrary};
+ghost use Rattle.slot_trees.specs.SlotRuns.{slots_ran, slot_outcome_in, slots_in};
+ghost use Rattle.slot_trees.specs.Seeing.{Sees};
+ghost use Rattle.slot_trees.specs.Alike.{EndAlike, EndsAlike};
+ghost use Rattle.slot_trees.specs.LinkedTexts.{IsProgramLink};
+
+/// Over any values of the slots, a linked program ends as the program does over the variables that have these values:
+/// with the same fault, whatever faults stand for what no well-typed text meets, or with as many ticks left, and it
+/// leaves the same variables. How deep calls of the linked program may be does not matter from the budget on.
+pub fn linked_programs_mean_the_same()
+    ensures ends { (layout : List Slot) (p : Program) (base : ℕ) (code : SlotLibrary) (body : SlotStmts)
+        → IsProgramLink layout p base code body → (stand_ins : StandIns) (image : Store) (now budget : ℕ) (s : Store)
+        (vs : List Datum) → Sees layout image s vs
+        → EndAlike (EndsAlike (Sees layout image)) (ran_where stand_ins p image now budget s)
+        (slots_ran stand_ins code base body now budget vs budget) }
+    ensures outcome { (layout : List Slot) (p : Program) (base : ℕ) (code : SlotLibrary) (body : SlotStmts)
+        → IsProgramLink layout p base code body → (image : Store) (now budget depth : ℕ) (s : Store) (vs : List Datum)
+        → budget ≤ depth → Sees layout image s vs → outcome_of p budget s image now
+        ≡ slot_outcome_in (slots_ran in_runs code base body now depth vs budget) }
+    ensures store { (layout : List Slot) (p : Program) (base : ℕ) (code : SlotLibrary) (body : SlotStmts)
+        → IsProgramLink layout p base code body → (image : Store) (now budget depth : ℕ) (s : Store) (vs : List Datum)
+        → budget ≤ depth → Sees layout image s vs → Sees layout image (store_after p budget s image now)
+        (slots_in (slots_ran in_runs code base body now depth vs budget) vs) }
+{}
