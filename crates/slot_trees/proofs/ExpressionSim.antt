@@ -1,7 +1,7 @@
 -- A linked expression gives of the slots what its named one gives of the variables.
 use Rattle.std.proofs.Common.{◌≡◌, ℕ, ◌+◌, ◌*◌, ℤ, Bool, true, false, ◌&&◌, ◌||◌, if◌then◌else◌, List, [], ◌∷◌}
 use Rattle.std.proofs.Common.{slice_get}
-use Rattle.std.proofs.Common.{Option, Some, None, option_map, option_and_then, Result, refl, sym, ap, ap₂, ◌∙◌, subst}
+use Rattle.std.proofs.Common.{Option, Some, None, option_map, option_and_then, Result, refl, sym, ap₂, ◌∙◌, subst}
 use Rattle.std.proofs.Common.{add_assoc, add-zero, arith}
 use Rattle.std.specs.Prelude.{nat_lt}
 use Rattle.st_words.specs.declared.fault.Fault.TheVariants.{Index}
@@ -24,8 +24,8 @@ use Rattle.st_types.specs.Slots.{Slot, IsLayout}
 use Rattle.st_layouts.specs.Shapes.{Shape, plain, array, parts, size, in_bounds, distance, leads_on}
 use Rattle.st_layouts.specs.Standing.{Stands}
 use Rattle.st_layouts.proofs.ListLemmas.{map_some, if_some, some_is}
-use Rattle.slot_trees.specs.SlotTrees.{Anchor, own, absolute, SlotExpr, constant, load, compute, call, unary, binary}
-use Rattle.slot_trees.specs.SlotTrees.{SlotExprs, no_exprs, expr_then, Place, place, Subscripts}
+use Rattle.slot_trees.specs.SlotTrees.{Anchor, own, absolute, SlotExpr, load, call, unary, binary}
+use Rattle.slot_trees.specs.SlotTrees.{SlotExprs, expr_then, Place, place, Subscripts}
 use Rattle.slot_trees.specs.SlotEvaluation.{SlotScope, slot_at, loaded, slot_value, slot_values, placed, led}
 use Rattle.slot_trees.specs.SlotEvaluation.{slot_truth}
 use Rattle.slot_trees.specs.Tables.{Symbol, Table, symbol_of, named_in, moved, part_at}
@@ -149,7 +149,7 @@ module _ (layout : List Slot) (distinct : IsLayout layout) (w : Scope) (z : Slot
     subscript_sim input p lower count sh k room st n xs r ih =
         let b = bounds_are input p lower count sh k room st n in
         let a : (k + r.offset) + distance lower n * size sh ≡ (k + distance lower n * size sh) + r.offset =
-            omega arith in
+        omega arith in
         subst
         (λ m. RunAlike Path ℕ (λ u j. Stands layout input u r.shape j)
         (bounded w.image s (element_at p n) >>= (λ u. selected w s u xs))
@@ -169,11 +169,11 @@ module _ (layout : List Slot) (distinct : IsLayout layout) (w : Scope) (z : Slot
       value_sim (read (variable v xs)) x e =
           let i = map_some load (linked_variable t (variable v xs)) x e in
           let y = then_some (λ y. option_and_then (place_if_plain y.anchor) (linked_selectors t y.shape xs))
-              (symbol_of t.symbols v.name) i.0 i.1 in
+          (symbol_of t.symbols v.name) i.0 i.1 in
           let r = then_some (place_if_plain y.0.anchor) (linked_selectors t y.0.shape xs) i.0 y.2 in
           let p : Path = path_in w.frame w.body v.name in
           let g = selected_sim y.0.is_input p y.0.shape (slot_at z.base y.0.anchor) (truths.names v.name y.0 y.1) xs
-              r.0 r.1 in
+          r.0 r.1 in
           subst (λ a. ValueRun s vs (read (variable v xs)) a) i.2
           (sim_then (place_sim y.0.is_input p y.0 xs r.0 i.0 g r.2) (λ q k at. looked_sim y.0.is_input q k at))
       value_sim (named.call f es) x e =
@@ -207,20 +207,20 @@ module _ (layout : List Slot) (distinct : IsLayout layout) (w : Scope) (z : Slot
           (sim_give p (k + 0) (let b = add-zero k in rw b st))
       selected_sim input p (parts of ps) k st (selector_then (member x) xs) r e =
           let i = then_some (λ e. option_map (behind_offset e.offset) (linked_selectors t e.shape xs))
-              (part_at ps x.name) r e in
+          (part_at ps x.name) r e in
           let j = map_some (behind_offset i.0.offset) (linked_selectors t i.0.shape xs) r i.2 in
           let ih = selected_sim input (member_at p x.name) i.0.shape (k + i.0.offset)
-              (stands_member layout input p of ps k x.name i.0 i.1 st) xs j.0 j.1 in
+          (stands_member layout input p of ps k x.name i.0 i.1 st) xs j.0 j.1 in
           subst (λ y. SelectedRun input p k (selector_then (member x) xs) y) j.2
           (subst
           (λ n. RunAlike Path ℕ (λ q m. Stands layout input q j.0.shape m) (selected w s (member_at p x.name) xs)
           (led z vs n j.0.subscripts)) (add_assoc k i.0.offset j.0.offset) ih)
       selected_sim input p (array lower count sh) k st (selector_then (subscript a) xs) r e =
           let c = if_some (nat_lt 0 (size sh))
-              (option_and_then (λ i. option_map (behind_subscript i lower count (size sh)) (linked_selectors t sh xs))
-              (linked t a)) r e in
+          (option_and_then (λ i. option_map (behind_subscript i lower count (size sh)) (linked_selectors t sh xs))
+          (linked t a)) r e in
           let i = then_some (λ i. option_map (behind_subscript i lower count (size sh)) (linked_selectors t sh xs))
-              (linked t a) r c.1 in
+          (linked t a) r c.1 in
           let j = map_some (behind_subscript i.0 lower count (size sh)) (linked_selectors t sh xs) r i.2 in
           subst (λ y. SelectedRun input p k (selector_then (subscript a) xs) y) j.2
           (sim_apart (value w s a) (λ v. bounded w.image s (element_at p v.number)) (λ q. selected w s q xs) _
@@ -242,10 +242,10 @@ module _ (layout : List Slot) (distinct : IsLayout layout) (w : Scope) (z : Slot
     target_sim (variable x xs) p e =
         let y = then_some (λ y. target_of t y xs) (symbol_of t.symbols x.name) p e in
         let c = not_some y.0.is_input
-            (option_and_then (place_if_plain y.0.anchor) (linked_selectors t y.0.shape xs)) p y.2 in
+        (option_and_then (place_if_plain y.0.anchor) (linked_selectors t y.0.shape xs)) p y.2 in
         let r = then_some (place_if_plain y.0.anchor) (linked_selectors t y.0.shape xs) p c.1 in
         let q : Path = path_in w.frame w.body x.name in
         let st = subst (λ b. Stands layout b q y.0.shape (slot_at z.base y.0.anchor)) c.0
-            (truths.names x.name y.0 y.1) in
+        (truths.names x.name y.0 y.1) in
         place_sim false q y.0 xs r.0 p
         (selected_sim false q y.0.shape (slot_at z.base y.0.anchor) st xs r.0 r.1) r.2

@@ -7,3 +7,4 @@ pub mod ExpressionSim
 pub mod StatementSim
 pub mod UnitSim
 pub mod ProgramSim
+pub mod ProgramTableLemmas

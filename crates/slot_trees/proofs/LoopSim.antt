@@ -1,7 +1,7 @@
 -- Ends of statements and loops over two states that are related.
-use Rattle.std.proofs.Common.{◌≡◌, ℕ, zero, suc, Bool, true, false, if◌then◌else◌, Option, Some, None}
+use Rattle.std.proofs.Common.{ℕ, zero, suc, Bool, true, false, if◌then◌else◌, Option, Some, None}
 use Rattle.st_words.specs.declared.fault.Fault.TheVariants.{Budget}
-use Rattle.st_types.specs.Ticks.{Run, ◌>>=◌, give}
+use Rattle.st_types.specs.Ticks.{Run}
 use Rattle.st_types.specs.Loops.{EndOf, goes_on, exits, returns, behind, TurnOf, again, over, turned, resumed, go_back}
 use Rattle.st_types.specs.Loops.{turns, looped, guarded, asked, until}
 use Rattle.slot_trees.specs.Alike.{RunAlike, EndsAlike}

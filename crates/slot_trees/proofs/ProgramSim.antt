@@ -9,7 +9,7 @@ use Rattle.st_types.specs.Slots.{Slot}
 use Rattle.st_types.specs.Scopes.{of_program, path_in}
 use Rattle.st_types.specs.Loops.{End}
 use Rattle.st_types.specs.Execution.{exec_all}
-use Rattle.st_types.specs.Runs.{Program, scope_of, scope_where, ran_where, ran, units_within, outcome_in, store_in}
+use Rattle.st_types.specs.Runs.{Program, scope_where, ran_where, ran, units_within, outcome_in, store_in}
 use Rattle.st_types.specs.Runs.{outcome_of, store_after}
 use Rattle.st_types.proofs.Agrees.{ran_agrees}
 use Rattle.slot_trees.specs.SlotTrees.{SlotStmts, SlotLibrary}

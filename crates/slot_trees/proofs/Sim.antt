@@ -1,5 +1,5 @@
 -- Runs that end alike, put together.
-use Rattle.std.proofs.Common.{◌≡◌, ℕ, zero, suc, Bool, true, false, if◌then◌else◌, Option, Some, None, Result, Ok, Err}
+use Rattle.std.proofs.Common.{◌≡◌, ℕ, zero, suc, Bool, true, false, if◌then◌else◌, Result, Ok, Err}
 use Rattle.std.proofs.Common.{refl, sym, subst}
 use Rattle.st_words.specs.declared.fault.Fault.{Fault}
 use Rattle.st_types.specs.Failures.{Failure, StandIns, fault_for}

@@ -1,5 +1,5 @@
 -- A part of a variable stands where its position says.
-use Rattle.std.proofs.Common.{◌≡◌, ℕ, ◌+◌, ◌*◌, ℤ, Bool, true, false, if◌then◌else◌, List, [], ◌∷◌, ◌++◌, slice_get}
+use Rattle.std.proofs.Common.{◌≡◌, ℕ, ◌+◌, ◌*◌, ℤ, Bool, true, false, if◌then◌else◌, List, [], ◌∷◌}
 use Rattle.std.proofs.Common.{Option, Some, None, option_map, refl, sym, ap, ◌∙◌, subst, append_assoc, append-nil}
 use Rattle.std.proofs.Common.{add_assoc, add-zero, arith}
 use Rattle.std.specs.Prelude.{bytes_eq}
@@ -12,7 +12,7 @@ use Rattle.st_types.specs.Evaluation.{element_at}
 use Rattle.st_types.specs.Slots.{Slot}
 use Rattle.st_layouts.specs.Shapes.{Whole, Shape, plain, array, parts, Parts, no_parts, part_then, size, in_bounds}
 use Rattle.st_layouts.specs.Shapes.{distance, Position, beyond, position_of, position_in, leads_on, leads_in}
-use Rattle.st_layouts.specs.Standing.{Stands, slot, has_slot_within}
+use Rattle.st_layouts.specs.Standing.{Stands, has_slot_within}
 use Rattle.st_layouts.specs.TextLayouts.{further}
 use Rattle.st_layouts.proofs.ListLemmas.{some_is}
 use Rattle.slot_trees.specs.Tables.{Part, part_beyond, part_at}

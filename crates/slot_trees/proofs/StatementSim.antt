@@ -1,6 +1,6 @@
 -- A linked statement does to the slots what its named statement does to the variables.
-use Rattle.std.proofs.Common.{◌≡◌, ℕ, zero, ◌+◌, ℤ, pos, Bool, true, false, if◌then◌else◌, List, [], ◌∷◌, slice_get}
-use Rattle.std.proofs.Common.{Option, Some, None, option_map, option_and_then, Result, Ok, Err, refl, sym, ap, ◌∙◌}
+use Rattle.std.proofs.Common.{◌≡◌, ℕ, zero, ◌+◌, ℤ, pos, Bool, false, List, [], ◌∷◌, slice_get}
+use Rattle.std.proofs.Common.{Option, Some, None, option_map, option_and_then, Ok, refl, sym, ap, ◌∙◌}
 use Rattle.std.proofs.Common.{subst}
 use Rattle.std.specs.List.{list_any}
 use Rattle.st_words.specs.declared.fault.Fault.TheVariants.{ZeroStep}
@@ -9,12 +9,11 @@ use Rattle.st_words.specs.Paths.{Path}
 use Rattle.st_trees.specs.Expressions.{Expr, Variable}
 use Rattle.st_trees.specs.Statements as text
 use Rattle.st_trees.specs.Statements.{Argument, Stmt, Stmts, Arms, CaseArms}
-use Rattle.st_types.specs.Failures.{Failure, ill_typed, or_failure}
+use Rattle.st_types.specs.Failures.{ill_typed, or_failure}
 use Rattle.st_types.specs.Stores.{Store, assigned}
 use Rattle.st_types.specs.Ticks.{Run, ◌>>◌, give, attempt, proceed, tick}
 use Rattle.st_types.specs.Scopes.{Name, Scope, path_in, member_at, block_named}
-use Rattle.st_types.specs.Evaluation.{truth_of}
-use Rattle.st_types.specs.Loops.{EndOf, End, goes_on, exits, returns, guarded, until, runs_on, step_on, stepped_on}
+use Rattle.st_types.specs.Loops.{End, goes_on, exits, returns, runs_on, step_on, stepped_on}
 use Rattle.st_types.specs.Loops.{stored}
 use Rattle.st_types.specs.Loops.{no_step, nonzero}
 use Rattle.st_types.specs.Execution.{label_holds, given_inputs, assigned_inputs, copied_outputs, step_of, counting}
@@ -27,11 +26,11 @@ use Rattle.slot_trees.specs.SlotTrees.{Anchor, SlotExpr, Place, BlockCode, SlotA
 use Rattle.slot_trees.specs.SlotTrees.{assign, invoke, IF, CASE, FOR, WHILE, REPEAT, SlotStmts, stmt_then, SlotArms}
 use Rattle.slot_trees.specs.SlotTrees.{arm_then}
 use Rattle.slot_trees.specs.SlotTrees.{SlotCaseArms, case_arm_then}
-use Rattle.slot_trees.specs.SlotEvaluation.{SlotScope, slot_at, slot_truth}
+use Rattle.slot_trees.specs.SlotEvaluation.{SlotScope, slot_at}
 use Rattle.slot_trees.specs.SlotExecution.{SlotEnd, stored_at, slot_inputs, stored_inputs, slot_outputs, slot_step}
 use Rattle.slot_trees.specs.SlotExecution.{slot_runs_on, slot_stored, slot_step_on, slot_assigning, slot_invoking}
 use Rattle.slot_trees.specs.SlotExecution.{slot_counting, slot_exec, slot_exec_all, slot_exec_arms, slot_exec_case}
-use Rattle.slot_trees.specs.Tables.{Symbol, Table, symbol_of, named_in, Part, part_at}
+use Rattle.slot_trees.specs.Tables.{Table, symbol_of, named_in, part_at}
 use Rattle.slot_trees.specs.Linking.{linked, linked_target}
 use Rattle.slot_trees.specs.LinkedStatements.{plain_anchor, control_of, Instance, instance_at, instance_of_symbol}
 use Rattle.slot_trees.specs.LinkedStatements.{plain_offset, offset_of, linked_argument, linked_arguments, linked_step}
@@ -42,7 +41,7 @@ use Rattle.slot_trees.specs.Alike.{RunAlike, EndsAlike}
 use Rattle.slot_trees.specs.TrueTables.{IsTableOf}
 use Rattle.slot_trees.proofs.Sim.{Same, sim_give, sim_fault, sim_then, sim_same, sim_tick, sim_if, ResultAlike}
 use Rattle.slot_trees.proofs.Sim.{proceed_alike}
-use Rattle.slot_trees.proofs.LoopSim.{EndedRun, BodyRun, StepAlike, StepRun, sim_behind, sim_loop, sim_guarded}
+use Rattle.slot_trees.proofs.LoopSim.{StepAlike, StepRun, sim_behind, sim_loop, sim_guarded}
 use Rattle.slot_trees.proofs.LoopSim.{sim_until}
 use Rattle.slot_trees.proofs.OptionLemmas.{then_some, not_some}
 use Rattle.slot_trees.proofs.Standings.{stands_member, plain_at}
@@ -197,10 +196,10 @@ module _ (layout : List Slot) (distinct : IsLayout layout) (w : Scope) (z : Slot
         subst (λ y. InputsRun (give []) (slot_inputs z vs y)) (some_is e) (sim_give [] [] tt)
     given_sim (text.given x a ∷ rest) xs e s vs h =
         let i = then_some (λ y. option_map (λ ys. y ∷ ys) (linked_arguments t ps rest))
-            (linked_argument t ps (text.given x a)) xs e in
+        (linked_argument t ps (text.given x a)) xs e in
         let j = map_some (λ ys. i.0 ∷ ys) (linked_arguments t ps rest) xs i.2 in
         let o = then_some (λ o. option_map (given o) (linked t a)) (option_and_then offset_of (part_at ps x.name)) i.0
-            i.1 in
+        i.1 in
         let v = map_some (given o.0) (linked t a) i.0 o.2 in
         subst (λ y. InputsRun (given_inputs w s (text.given x a ∷ rest)) (slot_inputs z vs y))
         (ap (λ y. y ∷ j.0) v.2 ∙ j.2)
@@ -209,10 +208,10 @@ module _ (layout : List Slot) (distinct : IsLayout layout) (w : Scope) (z : Slot
         (λ es fs g. sim_give ((x.name, u) ∷ es) ((o.0, u) ∷ fs) (member_slot x.name o.0 o.1, refl, g))))
     given_sim (text.copied x v ∷ rest) xs e s vs h =
         let i = then_some (λ y. option_map (λ ys. y ∷ ys) (linked_arguments t ps rest))
-            (linked_argument t ps (text.copied x v)) xs e in
+        (linked_argument t ps (text.copied x v)) xs e in
         let j = map_some (λ ys. i.0 ∷ ys) (linked_arguments t ps rest) xs i.2 in
         let o = then_some (λ o. option_map (copied o) (linked_target t v))
-            (option_and_then offset_of (part_at ps x.name)) i.0 i.1 in
+        (option_and_then offset_of (part_at ps x.name)) i.0 i.1 in
         let l = map_some (copied o.0) (linked_target t v) i.0 o.2 in
         subst (λ y. InputsRun (given_inputs w s (text.copied x v ∷ rest)) (slot_inputs z vs y))
         (ap (λ y. y ∷ j.0) l.2 ∙ j.2) (given_sim rest j.0 j.1 s vs h)
@@ -235,19 +234,19 @@ module _ (layout : List Slot) (distinct : IsLayout layout) (w : Scope) (z : Slot
     copied_sim [] xs e s vs h = subst (λ y. StateRun (give s) (slot_outputs z k y vs)) (some_is e) (sim_give s vs h)
     copied_sim (text.given x a ∷ rest) xs e s vs h =
         let i = then_some (λ y. option_map (λ ys. y ∷ ys) (linked_arguments t ps rest))
-            (linked_argument t ps (text.given x a)) xs e in
+        (linked_argument t ps (text.given x a)) xs e in
         let j = map_some (λ ys. i.0 ∷ ys) (linked_arguments t ps rest) xs i.2 in
         let o = then_some (λ o. option_map (given o) (linked t a)) (option_and_then offset_of (part_at ps x.name)) i.0
-            i.1 in
+        i.1 in
         let v = map_some (given o.0) (linked t a) i.0 o.2 in
         subst (λ y. StateRun (copied_outputs w at (text.given x a ∷ rest) s) (slot_outputs z k y vs))
         (ap (λ y. y ∷ j.0) v.2 ∙ j.2) (copied_sim rest j.0 j.1 s vs h)
     copied_sim (text.copied x v ∷ rest) xs e s vs h =
         let i = then_some (λ y. option_map (λ ys. y ∷ ys) (linked_arguments t ps rest))
-            (linked_argument t ps (text.copied x v)) xs e in
+        (linked_argument t ps (text.copied x v)) xs e in
         let j = map_some (λ ys. i.0 ∷ ys) (linked_arguments t ps rest) xs i.2 in
         let o = then_some (λ o. option_map (copied o) (linked_target t v))
-            (option_and_then offset_of (part_at ps x.name)) i.0 i.1 in
+        (option_and_then offset_of (part_at ps x.name)) i.0 i.1 in
         let l = map_some (copied o.0) (linked_target t v) i.0 o.2 in
         let g = got_there layout distinct w.image s vs h (member_at at x.name) (k + o.0) (member_slot x.name o.0 o.1) in
         subst (λ y. StateRun (copied_outputs w at (text.copied x v ∷ rest) s) (slot_outputs z k y vs))
@@ -274,18 +273,18 @@ module _ (layout : List Slot) (distinct : IsLayout layout) (w : Scope) (z : Slot
   invoke_sim x as' y e s vs h =
       let a = then_some (linked_call_of t x as') (option_and_then instance_of_symbol (symbol_of t.symbols x)) y e in
       let c = then_some (λ code. option_map (invoke a.0.anchor code) (linked_arguments t a.0.members as'))
-          (code_of t x) y a.2 in
+      (code_of t x) y a.2 in
       let l = map_some (invoke a.0.anchor c.0) (linked_arguments t a.0.members as') y c.2 in
       let n = then_some instance_of_symbol (symbol_of t.symbols x) a.0 a.1 in
       let i = not_some n.0.is_input (instance_at n.0.anchor n.0.shape) a.0 n.2 in
       let p = instance_at_is n.0.anchor n.0.shape a.0 i.1 in
       let b = then_some (named_in t.blocks) (block_named t.instances x) c.0 c.1 in
       let st = subst (λ u. Stands layout u (path_in w.frame w.body x) n.0.shape (slot_at z.base n.0.anchor)) i.0
-          (truths.names x n.0 n.1) in
+      (truths.names x n.0 n.1) in
       let st' = subst (λ u. Stands layout false (path_in w.frame w.body x) n.0.shape (slot_at z.base u)) p.1 st in
       let st'' = subst (λ u. Stands layout false (path_in w.frame w.body x) u (slot_at z.base a.0.anchor)) p.2 st' in
       let named : block_named w.body.instances x ≡ Some b.0 =
-          ap (λ u. block_named u x) (sym truths.instances) ∙ b.1 in
+      ap (λ u. block_named u x) (sym truths.instances) ∙ b.1 in
       subst
       (λ u. StmtRun (tick >> invoking w (path_in w.frame w.body x) (block_named w.body.instances x) as' s)
       (slot_exec z u vs)) l.2
@@ -316,8 +315,8 @@ module _ (layout : List Slot) (distinct : IsLayout layout) (w : Scope) (z : Slot
         (exec_all_sim otherwise o.0 o.1) s vs h))
     exec_sim (text.CASE a arms otherwise) y e s vs h =
         let x = then_some
-            (λ x. option_and_then (λ a. option_map (CASE x a) (linked_stmts t otherwise)) (linked_case_arms t arms))
-            (linked t a) y e in
+        (λ x. option_and_then (λ a. option_map (CASE x a) (linked_stmts t otherwise)) (linked_case_arms t arms))
+        (linked t a) y e in
         let c = then_some (λ a. option_map (CASE x.0 a) (linked_stmts t otherwise)) (linked_case_arms t arms) y x.2 in
         let o = map_some (CASE x.0 c.0) (linked_stmts t otherwise) y c.2 in
         subst (λ u. StmtRun (exec w (text.CASE a arms otherwise) s) (slot_exec z u vs)) o.2
@@ -326,15 +325,15 @@ module _ (layout : List Slot) (distinct : IsLayout layout) (w : Scope) (z : Slot
         (exec_all_sim otherwise o.0 o.1) s vs h)))
     exec_sim (text.FOR x start limit step body) y e s vs h =
         let o = then_some
-            (λ a. option_and_then (λ i. option_and_then (λ n. option_and_then
-            (λ d. option_map (FOR a i n d) (linked_stmts t body)) (linked_step t step)) (linked t limit))
-            (linked t start)) (option_and_then control_of (symbol_of t.symbols x.name)) y e in
+        (λ a. option_and_then (λ i. option_and_then (λ n. option_and_then
+        (λ d. option_map (FOR a i n d) (linked_stmts t body)) (linked_step t step)) (linked t limit))
+        (linked t start)) (option_and_then control_of (symbol_of t.symbols x.name)) y e in
         let i = then_some
-            (λ i. option_and_then (λ n. option_and_then (λ d. option_map (FOR o.0 i n d) (linked_stmts t body))
-            (linked_step t step)) (linked t limit)) (linked t start) y o.2 in
+        (λ i. option_and_then (λ n. option_and_then (λ d. option_map (FOR o.0 i n d) (linked_stmts t body))
+        (linked_step t step)) (linked t limit)) (linked t start) y o.2 in
         let n = then_some
-            (λ n. option_and_then (λ d. option_map (FOR o.0 i.0 n d) (linked_stmts t body)) (linked_step t step))
-            (linked t limit) y i.2 in
+        (λ n. option_and_then (λ d. option_map (FOR o.0 i.0 n d) (linked_stmts t body)) (linked_step t step))
+        (linked t limit) y i.2 in
         let d = then_some (λ d. option_map (FOR o.0 i.0 n.0 d) (linked_stmts t body)) (linked_step t step) y n.2 in
         let b = map_some (FOR o.0 i.0 n.0 d.0) (linked_stmts t body) y d.2 in
         subst (λ u. StmtRun (exec w (text.FOR x start limit step body) s) (slot_exec z u vs)) b.2
@@ -383,8 +382,8 @@ module _ (layout : List Slot) (distinct : IsLayout layout) (w : Scope) (z : Slot
         subst (λ u. StmtRun (otherwise s) (slot_exec_arms z u otherwise' vs)) (some_is e) (k s vs h)
     arms_sim (text.arm_then a body arms) ys e otherwise otherwise' k s vs h =
         let x = then_some
-            (λ x. option_and_then (λ b. option_map (arm_then x b) (linked_arms t arms)) (linked_stmts t body))
-            (linked t a) ys e in
+        (λ x. option_and_then (λ b. option_map (arm_then x b) (linked_arms t arms)) (linked_stmts t body))
+        (linked t a) ys e in
         let b = then_some (λ b. option_map (arm_then x.0 b) (linked_arms t arms)) (linked_stmts t body) ys x.2 in
         let c = map_some (arm_then x.0 b.0) (linked_arms t arms) ys b.2 in
         subst
@@ -399,7 +398,7 @@ module _ (layout : List Slot) (distinct : IsLayout layout) (w : Scope) (z : Slot
         subst (λ u. StmtRun (otherwise s) (slot_exec_case z n u otherwise' vs)) (some_is e) (k s vs h)
     case_sim n (text.case_arm_then labels body arms) ys e otherwise otherwise' k s vs h =
         let b = then_some (λ b. option_map (case_arm_then labels b) (linked_case_arms t arms)) (linked_stmts t body)
-            ys e in
+        ys e in
         let c = map_some (case_arm_then labels b.0) (linked_case_arms t arms) ys b.2 in
         subst
         (λ u. StmtRun (exec_case w n (text.case_arm_then labels body arms) otherwise s)

@@ -1,6 +1,6 @@
 -- The units of a linked text do to the slots what they do to the variables.
 use Rattle.std.proofs.Common.{◌≡◌, ℕ, zero, suc, ◌+◌, Bool, true, false, if◌then◌else◌, List, [], ◌∷◌, length}
-use Rattle.std.proofs.Common.{slice_get, Some, option_map, option_and_then, Result, Ok, Err, refl, sym, ap, ap₂, subst}
+use Rattle.std.proofs.Common.{slice_get, Some, option_map, option_and_then, refl, sym, ap, ap₂, subst}
 use Rattle.std.proofs.Common.{add-zero, add-suc, arith}
 use Rattle.st_words.specs.declared.fault.Fault.TheVariants.{Budget}
 use Rattle.st_words.specs.Values.{Datum}
@@ -8,7 +8,7 @@ use Rattle.st_words.specs.Paths.{Path}
 use Rattle.st_types.specs.Failures.{StandIns, ill_typed, or_failure}
 use Rattle.st_types.specs.Stores.{Store, get, assigned}
 use Rattle.st_types.specs.Slots.{Slot, IsLayout, variables_in, inputs_in}
-use Rattle.st_types.specs.Ticks.{attempt, proceed}
+use Rattle.st_types.specs.Ticks.{attempt}
 use Rattle.st_types.specs.StandardBlocks as standard
 use Rattle.st_types.specs.StandardBlocks.{StandardBlock, BlockMember, block_of, members_of, stepped}
 use Rattle.st_types.specs.Scopes.{Name, of_block, of_call, Function, Block, Library, Units, Scope, unowned, member_at}
@@ -96,7 +96,7 @@ members_from : (layout : List Slot) (at : Path) (of : Whole) (ps : Parts) (k : �
 members_from layout at of ps k st i [] h = tt
 members_from layout at of ps k st i (m ∷ ms) h = (
   plain_at layout false (member_at at m.0) m.1 (k + i)
-  (stands_member layout false at of ps k m.0 (plain_part i m) h.0 st),
+      (stands_member layout false at of ps k m.0 (plain_part i m) h.0 st),
   subst (λ n. MembersStand layout at n ms) (add-suc k i) (members_from layout at of ps k st (suc i) ms h.1),
 )
 
@@ -204,7 +204,7 @@ module _ (stand_ins : StandIns) (now : ℕ) (numbers : Numbers) (layout : List S
           (attempt stand_ins (or_failure ill_typed (slice_get (state_of d) g.result)))
       result e d k =
           let r = got_there (layout_of_fresh f.fresh) link.distinct [] (store_of e) (state_of d)
-              (ended (Sees (layout_of_fresh f.fresh) []) e d k) (unowned f.name) g.result link.result in
+          (ended (Sees (layout_of_fresh f.fresh) []) e d k) (unowned f.name) g.result link.result in
           rw r (sim_attempted stand_ins (or_failure ill_typed (slice_get (state_of d) g.result)))
 
   -- where a body's instances stand, their calls are alike

@@ -10,3 +10,4 @@ pub mod Seeing
 pub mod TrueTables
 pub mod LinkedTexts
 pub mod LinkExamples
+pub mod ProgramTables

@@ -1,5 +1,5 @@
 -- From statements with names to statements with slots.
-use Rattle.std.specs.Prelude.{ℕ, List, [], ◌∷◌, Bool, if◌then◌else◌, Option, Some, None, option_map, option_and_then}
+use Rattle.std.specs.Prelude.{ℕ, List, [], ◌∷◌, if◌then◌else◌, Option, Some, None, option_map, option_and_then}
 use Rattle.st_trees.specs.Expressions.{Expr}
 use Rattle.st_trees.specs.Statements as text
 use Rattle.st_trees.specs.Statements.{Argument, Stmt, Stmts, Arms, CaseArms}

@@ -1,11 +1,19 @@
-//! The law of linking, proved of the definitions. The function does nothing: its contract is the law.
+//! Laws of linking, each proved of the definitions. The functions do nothing: their contracts are the laws.
 
-ghost use Rattle.std.specs.Prelude.{◌≡◌, ◌≤◌, ℕ, List};
+ghost use Rattle.std.specs.Prelude.{◌≡◌, ◌≤◌, ℕ, List, Some, true};
 ghost use Rattle.st_words.specs.Values.{Datum};
 ghost use Rattle.st_types.specs.Failures.{StandIns, in_runs};
 ghost use Rattle.st_types.specs.Stores.{Store};
 ghost use Rattle.st_types.specs.Slots.{Slot};
 ghost use Rattle.st_types.specs.Runs.{Program, ran_where, outcome_of, store_after};
+ghost use Rattle.st_types.specs.NameTypes.{Declared};
+ghost use Rattle.st_types.specs.Scopes.{Name, of_program, path_in};
+ghost use Rattle.st_layouts.specs.LayoutVariables.{Owned};
+ghost use Rattle.st_layouts.specs.Standing.{Stands, are_declared_once};
+ghost use Rattle.st_layouts.specs.TextLayouts.{slots_of};
+ghost use Rattle.slot_trees.specs.SlotEvaluation.{slot_at};
+ghost use Rattle.slot_trees.specs.Tables.{Symbol, symbol_of};
+ghost use Rattle.slot_trees.specs.ProgramTables.{program_symbols};
 ghost use Rattle.slot_trees.specs.SlotTrees.{SlotStmts, SlotLibrary};
 ghost use Rattle.slot_trees.specs.SlotRuns.{slots_ran, slot_outcome_in, slots_in};
 ghost use Rattle.slot_trees.specs.Seeing.{Sees};
@@ -29,4 +37,12 @@ pub fn linked_programs_mean_the_same()
         → IsProgramLink layout p base code body → (image : Store) (now budget depth : ℕ) (s : Store) (vs : List Datum)
         → budget ≤ depth → Sees layout image s vs → Sees layout image (store_after p budget s image now)
         (slots_in (slots_ran in_runs code base body now depth vs budget) vs) }
+{}
+
+/// In the layout of variables that are declared once, each name of a program stands where its declaration tells, with
+/// all its parts: the program's own variables, and its externals at their globals.
+pub fn names_of_programs_stand()
+    ensures { (text : Declared) (vs : List Owned) → are_declared_once text vs ≡ true → (p : Program) (xs : List Name)
+        (base : ℕ) (x : Name) (y : Symbol) → symbol_of (program_symbols text vs p xs) x ≡ Some y
+        → Stands (slots_of text vs) y.is_input (path_in (of_program p.owner) p.body x) y.shape (slot_at base y.anchor) }
 {}

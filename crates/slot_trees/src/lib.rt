@@ -11,4 +11,4 @@
 pub mod examples;
 mod laws;
 
-pub use laws::linked_programs_mean_the_same;
+pub use laws::{linked_programs_mean_the_same, names_of_programs_stand};
