@@ -8,3 +8,4 @@ pub mod StatementSim
 pub mod UnitSim
 pub mod ProgramSim
 pub mod ProgramTableLemmas
+pub mod ProgramExampleLemmas

@@ -11,3 +11,4 @@ pub mod TrueTables
 pub mod LinkedTexts
 pub mod LinkExamples
 pub mod ProgramTables
+pub mod ProgramExample
