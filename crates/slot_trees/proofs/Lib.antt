@@ -9,3 +9,4 @@ pub mod UnitSim
 pub mod ProgramSim
 pub mod ProgramTableLemmas
 pub mod ProgramExampleLemmas
+pub mod BlockTableLemmas

@@ -11,4 +11,5 @@ pub mod TrueTables
 pub mod LinkedTexts
 pub mod LinkExamples
 pub mod ProgramTables
+pub mod BlockTables
 pub mod ProgramExample

@@ -5,10 +5,11 @@
 //! whole program is: all this stands in `specs/`. The functions here hold it to a law and to worked examples, by
 //! contracts of functions that do nothing.
 //!
-//! Open: tables made from the declarations of a text, that what the checker takes is linked, and the code that links.
+//! Open: the tables of functions, that whole texts are linked so, that what the checker takes is linked, and the code
+//! that links.
 #![tactic(auto)]
 
 pub mod examples;
 mod laws;
 
-pub use laws::{linked_programs_mean_the_same, names_of_programs_stand};
+pub use laws::{linked_programs_mean_the_same, names_of_blocks_stand, names_of_programs_stand};
