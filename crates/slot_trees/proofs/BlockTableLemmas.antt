@@ -1,5 +1,5 @@
 -- The names of a block's body stand where declarations tell.
-use Rattle.std.proofs.Common.{◌≡◌, ℕ, Bool, true, false, if◌then◌else◌, List, [], ◌∷◌, Option, Some, None, option_map}
+use Rattle.std.proofs.Common.{◌≡◌, Bool, true, false, if◌then◌else◌, List, [], ◌∷◌, Option, Some, None, option_map}
 use Rattle.std.proofs.Common.{refl, sym, ap, ◌∙◌, subst}
 use Rattle.std.specs.Prelude.{bytes_eq}
 use Rattle.st_types.specs.NameTypes.{Declared}
@@ -55,8 +55,8 @@ module _ (text : Declared) (vs : List Owned) (ps : Parts) (externals : List Name
       → IsExternal (slots_of text vs) x y
   externals_stand once xs x y h e =
       let i = map_some (symbol_at text x) (variable_at text vs None x) y
-          (of_two (contains_name externals x) true (option_map (symbol_at text x) (variable_at text vs None x))
-          (option_map (part_symbol x) (part_at ps x)) (Some y) e (found x y xs h)) in
+      (of_two (contains_name externals x) true (option_map (symbol_at text x) (variable_at text vs None x))
+      (option_map (part_symbol x) (part_at ps x)) (Some y) e (found x y xs h)) in
       subst (λ u. IsExternal (slots_of text vs) x u) i.2
       (record {
         first = i.0.0;
@@ -69,7 +69,7 @@ module _ (text : Declared) (vs : List Owned) (ps : Parts) (externals : List Name
       → IsPart ps x y
   members_stand xs x y h e =
       let i = map_some (part_symbol x) (part_at ps x) y
-          (of_two (contains_name externals x) false (option_map (symbol_at text x) (variable_at text vs None x))
-          (option_map (part_symbol x) (part_at ps x)) (Some y) e (found x y xs h)) in
+      (of_two (contains_name externals x) false (option_map (symbol_at text x) (variable_at text vs None x))
+      (option_map (part_symbol x) (part_at ps x)) (Some y) e (found x y xs h)) in
       subst (λ u. IsPart ps x u) i.2
       (record { offset = i.0.offset; anchor = refl; is_variable = refl; part = i.1 })

@@ -1,5 +1,5 @@
 -- The worked program is linked.
-use Rattle.std.proofs.Common.{◌≡◌, ℕ, Bool, true, false, if◌then◌else◌, List, [], ◌∷◌, Option, Some, None, refl, sym}
+use Rattle.std.proofs.Common.{◌≡◌, ℕ, Bool, true, false, if◌then◌else◌, List, [], ◌∷◌, Some, None, refl, sym}
 use Rattle.std.proofs.Common.{ap, ◌∙◌, subst, codes}
 use Rattle.std.specs.Prelude.{bytes_eq}
 use Rattle.st_types.specs.CallExamples.{T}
@@ -11,7 +11,7 @@ use Rattle.st_layouts.specs.Standing.{Stands, are_declared_once}
 use Rattle.st_layouts.specs.Types.{shape_within}
 use Rattle.st_layouts.proofs.ListLemmas.{some_is, same_name}
 use Rattle.st_layouts.proofs.VariableLemmas.{variables_layout}
-use Rattle.slot_trees.specs.SlotTrees.{BlockCode, own_block, standard_block}
+use Rattle.slot_trees.specs.SlotTrees.{own_block, standard_block}
 use Rattle.slot_trees.specs.SlotEvaluation.{slot_at}
 use Rattle.slot_trees.specs.Tables.{Symbol, symbol_of}
 use Rattle.slot_trees.specs.LinkedStatements.{linked_stmts}
@@ -47,7 +47,7 @@ instance_cases : (x b : Name) (y : Symbol) (c : Bool) → bytes_eq x T ≡ c
 instance_cases x b y false q h g = absurd (cc)
 instance_cases x b y true q h g =
     let at : symbol_of its_symbols T ≡ Some y =
-        subst (λ n. symbol_of its_symbols n ≡ Some y) (same_name x T q) g in
+    subst (λ n. symbol_of its_symbols n ≡ Some y) (same_name x T q) g in
     let e : symbol_with T 4 (parts of_instance timer_members) ≡ y = some_is at in
     subst (λ n. IsInstance its_numbers n y) (some_is h) (subst (λ u. IsInstance its_numbers (codes "TON") u) e timer)
 

@@ -1,6 +1,6 @@
 -- The names of a block's body as declarations tell: externals at slots of the whole layout, its own variables so many
 -- slots behind the first one of the instance.
-use Rattle.std.specs.Prelude.{List, [], ◌∷◌, Bool, false, if◌then◌else◌, Option, Some, None, option_map}
+use Rattle.std.specs.Prelude.{List, [], ◌∷◌, false, if◌then◌else◌, Option, Some, None, option_map}
 use Rattle.st_types.specs.NameTypes.{Declared}
 use Rattle.st_types.specs.Scopes.{Name, contains_name}
 use Rattle.st_layouts.specs.LayoutVariables.{Owned}

@@ -28,7 +28,7 @@ use Rattle.st_layouts.specs.Shapes.{array, parts, of_instance, Parts}
 use Rattle.st_layouts.specs.TextLayouts.{slots_of}
 use Rattle.st_layouts.specs.Types.{sites_of_blocks}
 use Rattle.slot_trees.specs.SlotTrees.{absolute, SlotExpr, constant, load, binary, place, Place, no_subscripts}
-use Rattle.slot_trees.specs.SlotTrees.{subscript_then, standard_block, given, assign, invoke, FOR, SlotStmt, SlotStmts}
+use Rattle.slot_trees.specs.SlotTrees.{subscript_then, standard_block, given, assign, invoke, FOR, SlotStmts}
 use Rattle.slot_trees.specs.SlotTrees.{no_stmts, stmt_then, SlotLibrary}
 use Rattle.slot_trees.specs.Tables.{Symbol}
 use Rattle.slot_trees.specs.LinkedTexts.{Numbers, parts_of_members}

@@ -1,5 +1,5 @@
 -- The names of a program's instance as its declarations tell: each stands at slots of the whole layout.
-use Rattle.std.specs.Prelude.{ℕ, List, [], ◌∷◌, Bool, if◌then◌else◌, Option, Some, None}
+use Rattle.std.specs.Prelude.{ℕ, List, [], ◌∷◌, if◌then◌else◌, Option, Some, None}
 use Rattle.st_words.specs.declared.path.Owner.{Owner}
 use Rattle.st_types.specs.NameTypes.{Declared}
 use Rattle.st_types.specs.Runs.{Program}

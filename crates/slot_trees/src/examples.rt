@@ -25,7 +25,6 @@ pub fn places_are_linked()
 
 /// A program of elements, a timer and a loop is linked by the table that its declarations make. Its slots hold after a
 /// run what its variables would; a subscript that is out of bounds is F3.
-#[tactic(auto, unfolding(crate::specs::SlotRuns::slots_ran, crate::specs::SlotRuns::slot_units_within, crate::specs::SlotExecution::slot_runs_on, crate::specs::SlotExecution::slot_step_on, st_types::specs::Loops::turns, st_types::specs::Loops::looped, st_types::specs::Loops::guarded))]
 pub fn a_linked_program()
     ensures link { IsProgramLink its_layout its_program 0 no_units its_code }
     ensures run { slots_ran in_runs no_units 0 its_code 5 9 (values_of 4 2 3 0 0) 9
