@@ -10,3 +10,4 @@ pub mod ProgramSim
 pub mod ProgramTableLemmas
 pub mod ProgramExampleLemmas
 pub mod BlockTableLemmas
+pub mod FunctionLayouts

@@ -1,6 +1,6 @@
 //! Laws of linking, each proved of the definitions. The functions do nothing: their contracts are the laws.
 
-ghost use Rattle.std.specs.Prelude.{◌≡◌, ◌≤◌, ℕ, List, Some, true, false};
+ghost use Rattle.std.specs.Prelude.{◌≡◌, ◌≤◌, ℕ, List, Some, None, true, false, map};
 ghost use Rattle.st_words.specs.Values.{Datum};
 ghost use Rattle.st_types.specs.Failures.{StandIns, in_runs};
 ghost use Rattle.st_types.specs.Stores.{Store};
@@ -8,7 +8,9 @@ ghost use Rattle.st_types.specs.Slots.{Slot};
 ghost use Rattle.st_types.specs.Runs.{Program, ran_where, outcome_of, store_after};
 ghost use Rattle.st_types.specs.NameTypes.{Declared};
 ghost use Rattle.st_types.specs.Scopes.{Name, of_program, path_in, contains_name};
-ghost use Rattle.st_layouts.specs.LayoutVariables.{Owned};
+ghost use Rattle.st_layouts.specs.LayoutVariables.{Owned, owned_variable};
+ghost use Rattle.st_layouts.specs.Libraries.{fresh_values};
+ghost use Rattle.st_layouts.specs.Types.{NamedSite};
 ghost use Rattle.st_layouts.specs.Shapes.{Parts};
 ghost use Rattle.st_layouts.specs.Standing.{Stands, are_declared_once};
 ghost use Rattle.st_layouts.specs.TextLayouts.{slots_of};
@@ -20,7 +22,7 @@ ghost use Rattle.slot_trees.specs.SlotTrees.{SlotStmts, SlotLibrary};
 ghost use Rattle.slot_trees.specs.SlotRuns.{slots_ran, slot_outcome_in, slots_in};
 ghost use Rattle.slot_trees.specs.Seeing.{Sees};
 ghost use Rattle.slot_trees.specs.Alike.{EndAlike, EndsAlike};
-ghost use Rattle.slot_trees.specs.LinkedTexts.{IsProgramLink, IsExternal, IsPart};
+ghost use Rattle.slot_trees.specs.LinkedTexts.{IsProgramLink, IsExternal, IsPart, layout_of_fresh};
 
 /// Over any values of the slots, a linked program ends as the program does over the variables that have these values:
 /// with the same fault, whatever faults stand for what no well-typed text meets, or with as many ticks left, and it
@@ -59,4 +61,11 @@ pub fn names_of_blocks_stand()
     ensures members { (text : Declared) (vs : List Owned) (ps : Parts) (externals xs : List Name) (x : Name)
         (y : Symbol) → symbol_of (block_symbols text vs ps externals xs) x ≡ Some y
         → contains_name externals x ≡ false → IsPart ps x y }
+{}
+
+/// The variables with which a call of a function begins are, in their order and with their types, the layout of what
+/// the function declares.
+pub fn functions_lie_as_declared()
+    ensures { (text : Declared) (ds : List NamedSite)
+        → layout_of_fresh (fresh_values text ds) ≡ slots_of text (map (owned_variable None) ds) }
 {}

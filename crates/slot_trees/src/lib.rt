@@ -12,4 +12,7 @@
 pub mod examples;
 mod laws;
 
-pub use laws::{linked_programs_mean_the_same, names_of_blocks_stand, names_of_programs_stand};
+pub use laws::{
+    functions_lie_as_declared, linked_programs_mean_the_same, names_of_blocks_stand,
+    names_of_programs_stand,
+};
