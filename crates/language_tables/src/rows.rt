@@ -28,7 +28,7 @@
 //! | `same FORM` | whether the two texts with ` // ` between them have one tree of that form |
 //! | `declared` | a rule on declarations that the text breaks, or that there is none |
 //! | `checked` | a rule that the text breaks, or that there is none |
-//! | `layout` | the slots of its layout, each with its type, and as an input or with what it starts with and its retention |
+//! | `layout` | the slots of its layout, each with its type, and `input`, or what it starts with and `retained` |
 //! | `slots` | how many these are |
 //! | `sizes` | of each declaration of a unit the first name and the size of its type |
 
