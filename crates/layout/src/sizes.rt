@@ -163,8 +163,8 @@ impl<'a> Sizes<'a> {
         }
     }
 
-    /// How many slots a variable of the type takes; 4,097 where it takes more than 4,096. Of a type that is more than 64
-    /// deep, as none is of a text that breaks no rule, nothing is said, and the answer may be None.
+    /// How many slots a variable of the type takes; 4,097 where it takes more than 4,096. Of a type that is more than
+    /// 64 deep, as none is of a text that breaks no rule, nothing is said, and the answer may be None.
     pub fn size_of(
         &mut self,
         alloc: Global,
