@@ -102,7 +102,7 @@ variable_cases l ls v vs p i m false true (Some j) e t at out rest h = let z : i
 variable_cases l ls v vs p i m false false (Some j) e t at out rest h = let z : i ≡ suc j = cc in
     let at' : slice_get ls j ≡ Some m = rw z at at in rw (z, ← t) (rest j refl at')
 
-get_variable : (layout : List Slot) (vs : List Datum) (p : Path) (i : ℕ) (m : Slot) → length layout ≡ length vs
+pub get_variable : (layout : List Slot) (vs : List Datum) (p : Path) (i : ℕ) (m : Slot) → length layout ≡ length vs
     → slot_of layout p ≡ Some i → slice_get layout i ≡ Some m → m.is_input ≡ false
     → get (variables_in layout vs) p ≡ slice_get vs i
 get_variable [] vs p i m len h at out = absurd (cc)

@@ -1,0 +1,13 @@
+pub mod Sim
+pub mod LoopSim
+pub mod OptionLemmas
+pub mod Standings
+pub mod Sights
+pub mod ExpressionSim
+pub mod StatementSim
+pub mod UnitSim
+pub mod ProgramSim
+pub mod ProgramTableLemmas
+pub mod ProgramExampleLemmas
+pub mod BlockTableLemmas
+pub mod FunctionLayouts

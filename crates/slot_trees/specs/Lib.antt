@@ -1,0 +1,15 @@
+pub mod SlotTrees
+pub mod SlotEvaluation
+pub mod SlotExecution
+pub mod SlotRuns
+pub mod Tables
+pub mod Linking
+pub mod LinkedStatements
+pub mod Alike
+pub mod Seeing
+pub mod TrueTables
+pub mod LinkedTexts
+pub mod LinkExamples
+pub mod ProgramTables
+pub mod BlockTables
+pub mod ProgramExample

@@ -1,0 +1,19 @@
+-- What a store of paths has in common with the values of slots.
+use Rattle.std.specs.Prelude.{◌≡◌, ℕ, List, length, Bool, Some, slice_get}
+use Rattle.st_words.specs.declared.kind.Kind.{Kind}
+use Rattle.st_words.specs.Values.{Datum}
+use Rattle.st_words.specs.Paths.{Path}
+use Rattle.st_types.specs.Slots.{Slot, variables_in, inputs_in}
+use Rattle.st_types.specs.Stores.{Store}
+use Rattle.st_layouts.specs.Standing.{slot}
+
+-- the variables of a store and the inputs of an image are the values in the slots
+pub record Sees (layout : List Slot) (image s : Store) (vs : List Datum) : Type 0 where
+  pub variables : s ≡ variables_in layout vs
+  pub inputs : image ≡ inputs_in layout vs
+  pub length : length layout ≡ length vs
+
+-- an elementary variable or input has this slot
+pub record IsSlotOf (layout : List Slot) (input : Bool) (p : Path) (k : ℕ) : Type 0 where
+  pub kind : Kind
+  pub there : slice_get layout k ≡ Some (slot p kind input)

@@ -1,0 +1,33 @@
+//! Worked examples of linked trees, each proved by computation.
+
+ghost use Rattle.std.specs.Prelude.{◌≡◌, ◌∷◌, [], Some, None, pos, codes, Ok, Err};
+ghost use Rattle.st_words.specs.declared.fault.Fault.{Fault};
+ghost use Rattle.st_trees.specs.Expressions.{read, variable, member, subscript, selectors_of};
+ghost use Rattle.st_types.specs.Examples.{identifier, target, name};
+ghost use Rattle.st_types.specs.Failures.{in_runs};
+ghost use Rattle.st_types.specs.Loops.{goes_on};
+ghost use Rattle.slot_trees.specs.LinkedTexts.{IsProgramLink};
+ghost use Rattle.slot_trees.specs.ProgramExample.{its_layout, its_program, no_units, its_code, values_of};
+ghost use Rattle.slot_trees.specs.SlotRuns.{slots_ran};
+ghost use Rattle.slot_trees.specs.SlotTrees.{own, load, place, no_subscripts, subscript_then};
+ghost use Rattle.slot_trees.specs.Linking.{linked, linked_target};
+ghost use Rattle.slot_trees.specs.LinkExamples.{indexed_table};
+
+/// A[I].X begins one slot behind A's first, and goes on by two slots an element. A name that is not there has no place,
+/// nor has an array.
+pub fn places_are_linked()
+    ensures whole { linked_target indexed_table (variable (identifier (codes "A"))
+        (selectors_of (subscript (name (codes "I")) ∷ member (identifier (codes "X")) ∷ [])))
+        ≡ Some (place (own 2) (subscript_then (load (place (own 0) no_subscripts)) (pos 1) 3 2 no_subscripts)) }
+    ensures unknown { linked indexed_table (read (target (codes "B"))) ≡ None }
+    ensures array { linked indexed_table (read (target (codes "A"))) ≡ None }
+{}
+
+/// A program of elements, a timer and a loop is linked by the table that its declarations make. Its slots hold after a
+/// run what its variables would; a subscript that is out of bounds is F3.
+pub fn a_linked_program()
+    ensures link { IsProgramLink its_layout its_program 0 no_units its_code }
+    ensures run { slots_ran in_runs no_units 0 its_code 5 9 (values_of 4 2 3 0 0) 9
+        ≡ Ok (goes_on (values_of 12 3 3 5 10), 2) }
+    ensures fault { slots_ran in_runs no_units 0 its_code 5 9 (values_of 4 3 3 0 0) 9 ≡ Err Fault.Index }
+{}

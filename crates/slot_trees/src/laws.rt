@@ -1,0 +1,71 @@
+//! Laws of linking, each proved of the definitions. The functions do nothing: their contracts are the laws.
+
+ghost use Rattle.std.specs.Prelude.{◌≡◌, ◌≤◌, ℕ, List, Some, None, true, false, map};
+ghost use Rattle.st_words.specs.Values.{Datum};
+ghost use Rattle.st_types.specs.Failures.{StandIns, in_runs};
+ghost use Rattle.st_types.specs.Stores.{Store};
+ghost use Rattle.st_types.specs.Slots.{Slot};
+ghost use Rattle.st_types.specs.Runs.{Program, ran_where, outcome_of, store_after};
+ghost use Rattle.st_types.specs.NameTypes.{Declared};
+ghost use Rattle.st_types.specs.Scopes.{Name, of_program, path_in, contains_name};
+ghost use Rattle.st_layouts.specs.LayoutVariables.{Owned, owned_variable};
+ghost use Rattle.st_layouts.specs.Libraries.{fresh_values};
+ghost use Rattle.st_layouts.specs.Types.{NamedSite};
+ghost use Rattle.st_layouts.specs.Shapes.{Parts};
+ghost use Rattle.st_layouts.specs.Standing.{Stands, are_declared_once};
+ghost use Rattle.st_layouts.specs.TextLayouts.{slots_of};
+ghost use Rattle.slot_trees.specs.SlotEvaluation.{slot_at};
+ghost use Rattle.slot_trees.specs.Tables.{Symbol, symbol_of};
+ghost use Rattle.slot_trees.specs.ProgramTables.{program_symbols};
+ghost use Rattle.slot_trees.specs.BlockTables.{block_symbols};
+ghost use Rattle.slot_trees.specs.SlotTrees.{SlotStmts, SlotLibrary};
+ghost use Rattle.slot_trees.specs.SlotRuns.{slots_ran, slot_outcome_in, slots_in};
+ghost use Rattle.slot_trees.specs.Seeing.{Sees};
+ghost use Rattle.slot_trees.specs.Alike.{EndAlike, EndsAlike};
+ghost use Rattle.slot_trees.specs.LinkedTexts.{IsProgramLink, IsExternal, IsPart, layout_of_fresh};
+
+/// Over any values of the slots, a linked program ends as the program does over the variables that have these values:
+/// with the same fault, whatever faults stand for what no well-typed text meets, or with as many ticks left, and it
+/// leaves the same variables. How deep calls of the linked program may be does not matter from the budget on.
+pub fn linked_programs_mean_the_same()
+    ensures ends { (layout : List Slot) (p : Program) (base : ℕ) (code : SlotLibrary) (body : SlotStmts)
+        → IsProgramLink layout p base code body → (stand_ins : StandIns) (image : Store) (now budget : ℕ) (s : Store)
+        (vs : List Datum) → Sees layout image s vs
+        → EndAlike (EndsAlike (Sees layout image)) (ran_where stand_ins p image now budget s)
+        (slots_ran stand_ins code base body now budget vs budget) }
+    ensures outcome { (layout : List Slot) (p : Program) (base : ℕ) (code : SlotLibrary) (body : SlotStmts)
+        → IsProgramLink layout p base code body → (image : Store) (now budget depth : ℕ) (s : Store) (vs : List Datum)
+        → budget ≤ depth → Sees layout image s vs → outcome_of p budget s image now
+        ≡ slot_outcome_in (slots_ran in_runs code base body now depth vs budget) }
+    ensures store { (layout : List Slot) (p : Program) (base : ℕ) (code : SlotLibrary) (body : SlotStmts)
+        → IsProgramLink layout p base code body → (image : Store) (now budget depth : ℕ) (s : Store) (vs : List Datum)
+        → budget ≤ depth → Sees layout image s vs → Sees layout image (store_after p budget s image now)
+        (slots_in (slots_ran in_runs code base body now depth vs budget) vs) }
+{}
+
+/// In the layout of variables that are declared once, each name of a program stands where its declaration tells, with
+/// all its parts: the program's own variables, and its externals at their globals.
+pub fn names_of_programs_stand()
+    ensures { (text : Declared) (vs : List Owned) → are_declared_once text vs ≡ true → (p : Program) (xs : List Name)
+        (base : ℕ) (x : Name) (y : Symbol) → symbol_of (program_symbols text vs p xs) x ≡ Some y
+        → Stands (slots_of text vs) y.is_input (path_in (of_program p.owner) p.body x) y.shape (slot_at base y.anchor) }
+{}
+
+/// Each name of a block's body stands where declarations tell, for every instance: an external at its global, another
+/// one at the member of its name.
+pub fn names_of_blocks_stand()
+    ensures externals { (text : Declared) (vs : List Owned) → are_declared_once text vs ≡ true → (ps : Parts)
+        (externals xs : List Name) (x : Name) (y : Symbol)
+        → symbol_of (block_symbols text vs ps externals xs) x ≡ Some y → contains_name externals x ≡ true
+        → IsExternal (slots_of text vs) x y }
+    ensures members { (text : Declared) (vs : List Owned) (ps : Parts) (externals xs : List Name) (x : Name)
+        (y : Symbol) → symbol_of (block_symbols text vs ps externals xs) x ≡ Some y
+        → contains_name externals x ≡ false → IsPart ps x y }
+{}
+
+/// The variables with which a call of a function begins are, in their order and with their types, the layout of what
+/// the function declares.
+pub fn functions_lie_as_declared()
+    ensures { (text : Declared) (ds : List NamedSite)
+        → layout_of_fresh (fresh_values text ds) ≡ slots_of text (map (owned_variable None) ds) }
+{}
