@@ -3,7 +3,6 @@ use Rattle.std.proofs.Common.{◌≡◌, ◌≢◌, Bool, true, false, if◌then
 use mir.Syntax.{w128}
 use Rattle.std.specs.Prelude.{ℤ, pos, negsuc, neg_ℤ, ◌≤ℤ◌, int_div, int_le, ◌-◌, Ok}
 use Rattle.std.specs.Int.RustNames.{FitsSigned}
-use Rattle.std.specs.Ordering.{int_eq}
 use Rattle.std.proofs.Math.Nat.{div-le_self}
 use Rattle.std.proofs.lemmas.Int.{ints}
 use Rattle.std.proofs.lemmas.Bool.Decides.{Decides-int_eq}
@@ -36,8 +35,10 @@ beyond_each_type k z l g h = by_test (holds k z) refl
   where
     inside : (a b : ℤ) → FitsSigned w128 a → FitsSigned w128 b → (int_le a z && int_le z b) ≡ true → FitsSigned w128 z
     inside a b f g e = grind (arith, ints)
+
     fits : holds k z ≡ true → FitsSigned w128 z
     fits e = inside (least k) (greatest k) l g e
+
     by_test : (t : Bool) → holds k z ≡ t → or_range t k z ≡ Err Range
     by_test false e = refl
     by_test true e = absurd (h (fits e))

@@ -4,9 +4,17 @@
 //! fault that stands for it in a run. None of them takes memory.
 #![tactic(auto)]
 
+mod bistables;
+mod blocks;
+mod counters;
+mod edges;
 mod functions;
+mod members;
 mod operators;
 mod shifts;
+mod timer;
+mod timers;
 
+pub use blocks::step;
 pub use functions::standard_value;
 pub use operators::{apply, apply_unary, truth};

@@ -1,4 +1,4 @@
-use Rattle.std.proofs.Common.{◌≡◌, sym, rules, ◌∙◌, ap}
+use Rattle.std.proofs.Common.{sym, rules, ◌∙◌, ap}
 use mir.Syntax.{w128}
 use Rattle.std.specs.Int.RustNames.{FitsSigned}
 use Rattle.std.proofs.lemmas.Int.{ints, to_z-of_z}

@@ -1,10 +1,9 @@
-use Rattle.std.proofs.Common.{◌≡◌, sym, rules, subst, ◌∙◌, ap}
+use Rattle.std.proofs.Common.{sym, rules, subst, ◌∙◌, ap}
 use mir.Syntax.{w128}
 use mir.Val.{to_z, of_z}
 use Rattle.std.specs.Prelude.{ℤ, ◌*ℤ◌}
 use Rattle.std.specs.Int.RustNames.{FitsSigned}
 use Rattle.std.proofs.lemmas.Int.{ints, to_z-of_z}
-use Rattle.st_words.specs.Kinds.{least, greatest}
 use Rattle.std_blocks.proofs.NumberLemmas.{beyond_each_type}
 use Rattle.std_blocks.proofs.operators.product.Goals as goal
 

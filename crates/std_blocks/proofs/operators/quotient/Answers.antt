@@ -1,4 +1,4 @@
-use Rattle.std.proofs.Common.{◌≡◌, ◌≢◌, ap, ◌∙◌, rules}
+use Rattle.std.proofs.Common.{◌≢◌, ap, ◌∙◌, rules}
 use mir.Syntax.{w128}
 use Rattle.std.specs.Prelude.{pos}
 use Rattle.std.specs.Int.RustNames.{FitsSigned}

@@ -1,6 +1,6 @@
-use Rattle.std.proofs.Common.{◌≡◌, ◌≢◌, ap, sym, ◌∙◌, rules, subst}
+use Rattle.std.proofs.Common.{ap, ◌∙◌, rules}
 use mir.Syntax.{w128}
-use Rattle.std.specs.Prelude.{neg_ℤ, pos, ◌≤ℤ◌, ◌^◌, ◌-◌, int_div}
+use Rattle.std.specs.Prelude.{int_div}
 use Rattle.std.specs.Int.RustNames.{FitsSigned}
 use Rattle.std.proofs.lemmas.Int.{ints, quot_is}
 use Rattle.std_blocks.proofs.NumberLemmas.{quotient_fits}

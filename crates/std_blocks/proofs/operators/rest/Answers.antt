@@ -1,4 +1,4 @@
-use Rattle.std.proofs.Common.{◌≡◌, ap, ◌∙◌, arith, rules}
+use Rattle.std.proofs.Common.{ap, ◌∙◌, rules}
 use mir.Syntax.{w128}
 use Rattle.std.specs.Int.RustNames.{FitsSigned, int_rem}
 use Rattle.std.proofs.lemmas.Int.{ints, rem_is}
