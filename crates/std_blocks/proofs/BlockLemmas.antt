@@ -1,11 +1,13 @@
 -- Calls of standard blocks on members that are there, and on ones that are not.
 use Rattle.std.proofs.Common.{◌≡◌, ℕ, suc, List, [], ◌∷◌, ◌++◌, length, refl, sym, ap, subst, ◌∙◌, arith}
-use Rattle.std.proofs.Common.{Option, Some, None, Result, Ok, Err, option_map, Bool, true, false, not, if◌then◌else◌, ◌&&◌}
+use Rattle.std.proofs.Common.{Option, Some, None, Result, Ok, Err, option_map, Bool, true, false, not, if◌then◌else◌}
+use Rattle.std.proofs.Common.{◌&&◌}
 use Rattle.std.specs.Prelude.{ℤ, pos, int_le, option_and_then, slice_get, slice_set}
 use Rattle.st_words.specs.Values.{Datum, datum_of_truth, is_true}
 use Rattle.st_types.specs.Failures.{Failure, ill_typed, or_failure}
 use Rattle.st_types.specs.Ticks.{proceed}
-use Rattle.st_types.specs.StandardBlocks.{StandardBlock, BlockMember, members_of, stepped, SR, RS, R_TRIG, F_TRIG, set_first}
+use Rattle.st_types.specs.StandardBlocks.{StandardBlock, BlockMember, members_of, stepped, SR, RS, R_TRIG, F_TRIG}
+use Rattle.st_types.specs.StandardBlocks.{set_first}
 use Rattle.st_types.specs.StandardBlocks.{CTU, CTD, CTUD, up_count, down_count, up_down_count, int}
 use Rattle.st_words.specs.declared.kind.Kind.TheVariants.{Int}
 use Rattle.std.specs.Int.{int_max}
@@ -23,7 +25,8 @@ use Rattle.std_blocks.specs.Members.{values_from, all_stored, block_stepped, Lea
 read_so : (vs : Slots) (k : ℕ) (ms : List BlockMember) → member_slots vs k ms ≡ values_from vs k (length ms)
 unfolding values_from
 read_so vs k [] = refl
-read_so vs k (m ∷ ms) = ap (λ r. option_and_then (λ v. option_map (λ xs. v ∷ xs) r) (slice_get vs k)) (read_so vs (suc k) ms)
+read_so vs k (m ∷ ms) = ap (λ r. option_and_then (λ v. option_map (λ xs. v
+    ∷ xs) r) (slice_get vs k)) (read_so vs (suc k) ms)
 
 by_first : (f g : Slots → Result Slots Failure) (r : Result Slots Failure) → ((us : Slots) → f us ≡ g us)
     → proceed r f ≡ proceed r g
@@ -99,25 +102,29 @@ stepped_so b now at vs new xs ys r e f l h =
 -- the blocks of three members
 pub set_first_steps : (now at : ℕ) (vs new : Slots) (set reset q : Datum) (r : Result (Unit {0}) Fault)
     → values_from vs at 3 ≡ Some (set ∷ reset ∷ q ∷ [])
-    → Leaves r (all_stored vs at (set ∷ reset ∷ datum_of_truth (set_first (is_true set) (is_true reset) (is_true q)) ∷ [])) new
+    → Leaves r (all_stored vs at (set ∷ reset ∷ datum_of_truth (set_first (is_true set) (is_true reset) (is_true q))
+    ∷ [])) new
     → Leaves r (block_stepped SR now at vs) new
 set_first_steps now at vs new set reset q r e h = stepped_so SR now at vs new _ _ r e refl refl h
 
 pub reset_first_steps : (now at : ℕ) (vs new : Slots) (set reset q : Datum) (r : Result (Unit {0}) Fault)
     → values_from vs at 3 ≡ Some (set ∷ reset ∷ q ∷ [])
-    → Leaves r (all_stored vs at (set ∷ reset ∷ datum_of_truth (reset_first (is_true set) (is_true reset) (is_true q)) ∷ [])) new
+    → Leaves r (all_stored vs at (set ∷ reset ∷ datum_of_truth (reset_first (is_true set) (is_true reset) (is_true q))
+    ∷ [])) new
     → Leaves r (block_stepped RS now at vs) new
 reset_first_steps now at vs new set reset q r e h = stepped_so RS now at vs new _ _ r e refl refl h
 
 pub rising_steps : (now at : ℕ) (vs new : Slots) (clk q m : Datum) (r : Result (Unit {0}) Fault)
     → values_from vs at 3 ≡ Some (clk ∷ q ∷ m ∷ [])
-    → Leaves r (all_stored vs at (clk ∷ datum_of_truth (edge (is_true clk) (is_true m)) ∷ datum_of_truth (is_true clk) ∷ [])) new
+    → Leaves r (all_stored vs at (clk ∷ datum_of_truth (edge (is_true clk) (is_true m)) ∷ datum_of_truth (is_true clk)
+    ∷ [])) new
     → Leaves r (block_stepped R_TRIG now at vs) new
 rising_steps now at vs new clk q m r e h = stepped_so R_TRIG now at vs new _ _ r e refl refl h
 
 pub falling_steps : (now at : ℕ) (vs new : Slots) (clk q m : Datum) (r : Result (Unit {0}) Fault)
     → values_from vs at 3 ≡ Some (clk ∷ q ∷ m ∷ [])
-    → Leaves r (all_stored vs at (clk ∷ datum_of_truth (edge (not (is_true clk)) (is_true m)) ∷ datum_of_truth (not (is_true clk)) ∷ [])) new
+    → Leaves r (all_stored vs at (clk ∷ datum_of_truth (edge (not (is_true clk)) (is_true m))
+    ∷ datum_of_truth (not (is_true clk)) ∷ [])) new
     → Leaves r (block_stepped F_TRIG now at vs) new
 falling_steps now at vs new clk q m r e h = stepped_so F_TRIG now at vs new _ _ r e refl refl h
 

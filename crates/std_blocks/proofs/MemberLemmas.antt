@@ -13,7 +13,8 @@ use Rattle.st_types.specs.Failures.{ill_typed}
 use Rattle.slot_trees.specs.SlotExecution.{stored_at, stored_over}
 use Rattle.std_blocks.specs.Members.{values_from}
 
-front_is : (vs : List Datum) (k n : ℕ) (v : Datum) → slice_get vs k ≡ Some v → take (suc n) (drop k vs) ≡ v ∷ take n (drop (suc k) vs)
+front_is : (vs : List Datum) (k n : ℕ) (v : Datum) → slice_get vs k ≡ Some v → take (suc n) (drop k vs) ≡ v
+    ∷ take n (drop (suc k) vs)
 front_is [] k n v e = absurd cc
 front_is (x ∷ vs) zero n v e = let same : x ≡ v = cc in rw same refl
 front_is (x ∷ vs) (suc k) n v e = front_is vs k n v e
@@ -101,12 +102,16 @@ ten (x0 ∷ x1 ∷ x2 ∷ []) a b c d e f g h i j l e0 e1 e2 e3 e4 e5 e6 e7 e8 e
 ten (x0 ∷ x1 ∷ x2 ∷ x3 ∷ []) a b c d e f g h i j l e0 e1 e2 e3 e4 e5 e6 e7 e8 e9 = absurd (omega (arith, l))
 ten (x0 ∷ x1 ∷ x2 ∷ x3 ∷ x4 ∷ []) a b c d e f g h i j l e0 e1 e2 e3 e4 e5 e6 e7 e8 e9 = absurd (omega (arith, l))
 ten (x0 ∷ x1 ∷ x2 ∷ x3 ∷ x4 ∷ x5 ∷ []) a b c d e f g h i j l e0 e1 e2 e3 e4 e5 e6 e7 e8 e9 = absurd (omega (arith, l))
-ten (x0 ∷ x1 ∷ x2 ∷ x3 ∷ x4 ∷ x5 ∷ x6 ∷ []) a b c d e f g h i j l e0 e1 e2 e3 e4 e5 e6 e7 e8 e9 = absurd (omega (arith, l))
-ten (x0 ∷ x1 ∷ x2 ∷ x3 ∷ x4 ∷ x5 ∷ x6 ∷ x7 ∷ []) a b c d e f g h i j l e0 e1 e2 e3 e4 e5 e6 e7 e8 e9 = absurd (omega (arith, l))
-ten (x0 ∷ x1 ∷ x2 ∷ x3 ∷ x4 ∷ x5 ∷ x6 ∷ x7 ∷ x8 ∷ []) a b c d e f g h i j l e0 e1 e2 e3 e4 e5 e6 e7 e8 e9 = absurd (omega (arith, l))
+ten (x0 ∷ x1 ∷ x2 ∷ x3 ∷ x4 ∷ x5 ∷ x6 ∷ []) a b c d e f g h i j l e0 e1 e2 e3 e4 e5 e6 e7 e8 e9 = absurd (omega
+    (arith, l))
+ten (x0 ∷ x1 ∷ x2 ∷ x3 ∷ x4 ∷ x5 ∷ x6 ∷ x7
+    ∷ []) a b c d e f g h i j l e0 e1 e2 e3 e4 e5 e6 e7 e8 e9 = absurd (omega (arith, l))
+ten (x0 ∷ x1 ∷ x2 ∷ x3 ∷ x4 ∷ x5 ∷ x6 ∷ x7 ∷ x8
+    ∷ []) a b c d e f g h i j l e0 e1 e2 e3 e4 e5 e6 e7 e8 e9 = absurd (omega (arith, l))
 ten (x0 ∷ x1 ∷ x2 ∷ x3 ∷ x4 ∷ x5 ∷ x6 ∷ x7 ∷ x8 ∷ x9 ∷ []) a b c d e f g h i j l e0 e1 e2 e3 e4 e5 e6 e7 e8 e9 =
     rw (e0, e1, e2, e3, e4, e5, e6, e7, e8, e9) refl
-ten (x0 ∷ x1 ∷ x2 ∷ x3 ∷ x4 ∷ x5 ∷ x6 ∷ x7 ∷ x8 ∷ x9 ∷ y ∷ xs) a b c d e f g h i j l e0 e1 e2 e3 e4 e5 e6 e7 e8 e9 = absurd (omega (arith, l))
+ten (x0 ∷ x1 ∷ x2 ∷ x3 ∷ x4 ∷ x5 ∷ x6 ∷ x7 ∷ x8 ∷ x9 ∷ y
+    ∷ xs) a b c d e f g h i j l e0 e1 e2 e3 e4 e5 e6 e7 e8 e9 = absurd (omega (arith, l))
 
 -- a number that is one of the type is its value, and there is none of another
 pub value_of : (k : Kind) (z : ℤ) (v : Datum) → in_range k z ≡ Ok v → v ≡ record { kind = k; number = z }

@@ -22,8 +22,12 @@ returns c now =
     let s1 = to_z-of_z w128 c.number.result f1 in
     let f2 : FitsSigned w128 c.number-2.result = search (rules, ints) in
     let s2 = to_z-of_z w128 c.number-2.result f2 in
-    let told : z ≡ down_count (is_true m.load) m.preset.number (edge (is_true m.down) (is_true m.memory)) m.count.number = cc in
-    let same : m.down ∷ m.load ∷ m.preset ∷ datum_of_truth (int_le (to_z w128 (of_z w128 z)) (pos 0)) ∷ int (to_z w128 (of_z w128 z)) ∷ datum_of_truth c.is_true-4.result ∷ []
-    ≡ m.down ∷ m.load ∷ m.preset ∷ datum_of_truth (int_le z (pos 0)) ∷ int z ∷ datum_of_truth (is_true m.down) ∷ [] = cc in
-    down_steps now c.args.at c.args.slots.now c.put_counter.new.slots m.down m.load m.preset m.field-0-3 m.count m.memory c.put_counter.result m.ensures.there z told
+    let told : z ≡ down_count (is_true m.load) m.preset.number (edge (is_true m.down) (is_true m.memory))
+    m.count.number = cc in
+    let same : m.down ∷ m.load ∷ m.preset ∷ datum_of_truth (int_le (to_z w128 (of_z w128 z)) (pos 0))
+    ∷ int (to_z w128 (of_z w128 z)) ∷ datum_of_truth c.is_true-4.result ∷ []
+    ≡ m.down ∷ m.load ∷ m.preset ∷ datum_of_truth (int_le z (pos 0)) ∷ int z ∷ datum_of_truth (is_true m.down)
+    ∷ [] = cc in
+    down_steps now c.args.at c.args.slots.now c.put_counter.new.slots m.down m.load m.preset m.field-0-3 m.count
+    m.memory c.put_counter.result m.ensures.there z told
     (subst P same c.put_counter.ensures)

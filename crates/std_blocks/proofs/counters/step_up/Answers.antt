@@ -23,7 +23,10 @@ returns c now =
     let f2 : FitsSigned w128 c.number-2.result = search (rules, ints) in
     let s2 = to_z-of_z w128 c.number-2.result f2 in
     let told : z ≡ up_count (is_true m.reset) (edge (is_true m.up) (is_true m.memory)) m.count.number = cc in
-    let same : m.up ∷ m.reset ∷ m.preset ∷ datum_of_truth (int_le (to_z w128 (of_z w128 c.number-2.result)) (to_z w128 (of_z w128 z))) ∷ int (to_z w128 (of_z w128 z)) ∷ datum_of_truth c.is_true-4.result ∷ []
-    ≡ m.up ∷ m.reset ∷ m.preset ∷ datum_of_truth (int_le m.preset.number z) ∷ int z ∷ datum_of_truth (is_true m.up) ∷ [] = cc in
-    up_steps now c.args.at c.args.slots.now c.put_counter.new.slots m.up m.reset m.preset m.field-0-3 m.count m.memory c.put_counter.result m.ensures.there z told
+    let same : m.up ∷ m.reset ∷ m.preset ∷ datum_of_truth (int_le (to_z w128 (of_z w128 c.number-2.result)) (to_z
+    w128 (of_z w128 z))) ∷ int (to_z w128 (of_z w128 z)) ∷ datum_of_truth c.is_true-4.result ∷ []
+    ≡ m.up ∷ m.reset ∷ m.preset ∷ datum_of_truth (int_le m.preset.number z) ∷ int z ∷ datum_of_truth (is_true m.up)
+    ∷ [] = cc in
+    up_steps now c.args.at c.args.slots.now c.put_counter.new.slots m.up m.reset m.preset m.field-0-3 m.count
+    m.memory c.put_counter.result m.ensures.there z told
     (subst P same c.put_counter.ensures)

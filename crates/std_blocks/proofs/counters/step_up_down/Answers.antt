@@ -21,9 +21,11 @@ returns c now =
     let s1 = to_z-of_z w128 c.number.result f1 in
     let f2 : FitsSigned w128 c.number-2.result = search (rules, ints) in
     let s2 = to_z-of_z w128 c.number-2.result f2 in
-    let told : z ≡ up_down_count (is_true m.reset) (is_true m.load) m.preset.number (edge (is_true m.up) (is_true m.up_memory)) (edge (is_true m.down) (is_true m.down_memory)) m.count.number = cc in
+    let told : z ≡ up_down_count (is_true m.reset) (is_true m.load) m.preset.number (edge (is_true m.up) (is_true
+    m.up_memory)) (edge (is_true m.down) (is_true m.down_memory)) m.count.number = cc in
     let Q : ℤ → Type 0 = λ y. P (m.up ∷ m.down ∷ m.reset ∷ m.load ∷ m.preset ∷ datum_of_truth (int_le m.preset.number y)
     ∷ datum_of_truth (int_le y (pos 0)) ∷ int y ∷ datum_of_truth (is_true m.up) ∷ datum_of_truth (is_true m.down)
     ∷ []) in
-    up_down_steps now c.args.at c.args.slots.now c.put_up_down.new.slots m.up m.down m.reset m.load m.preset m.field-0-5 m.field-0-6 m.count m.up_memory m.down_memory c.put_up_down.result m.ensures.there z told
+    up_down_steps now c.args.at c.args.slots.now c.put_up_down.new.slots m.up m.down m.reset m.load m.preset
+    m.field-0-5 m.field-0-6 m.count m.up_memory m.down_memory c.put_up_down.result m.ensures.there z told
     (subst Q s0 c.put_up_down.ensures)

@@ -21,4 +21,5 @@ returns-in-None c =
     let F : ℤ → Type 0 = λ z. FitsSigned w128 z in
     sym (beyond_each_type c.args.kind (c.args.a.number *ℤ c.args.b.number) (subst F c.least.ensures fl)
     (subst F c.greatest.ensures fg)
-    (λ f. c.in-None.ensures (subst F (sym (ap (λ x. x *ℤ mir_of c.number-2.result) a ∙ ap (λ y. c.args.a.number *ℤ y) b)) f)))
+    (λ f. c.in-None.ensures (subst F (sym (ap (λ x. x *ℤ mir_of c.number-2.result) a
+    ∙ ap (λ y. c.args.a.number *ℤ y) b)) f)))

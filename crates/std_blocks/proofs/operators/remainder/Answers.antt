@@ -11,4 +11,5 @@ pub returns : goal.returns
 returns c =
     let apart : c.args.b.number ≢ pos 0 = search rules in
     let fits : FitsSigned w128 c.rest.result = search (rules, ints) in
-    c.new-2.ensures ∙ ap (in_range c.args.kind) (to_z-of_z w128 c.rest.result fits ∙ c.rest.ensures ∙ remainder_is c.args.a.number c.args.b.number apart)
+    c.new-2.ensures ∙ ap (in_range c.args.kind) (to_z-of_z w128 c.rest.result fits ∙ c.rest.ensures
+    ∙ remainder_is c.args.a.number c.args.b.number apart)

@@ -10,4 +10,5 @@ returns c =
     let y = c.number-2.result in
     let fa : FitsSigned w128 x = search (rules, ints) in
     let fb : FitsSigned w128 y = search (rules, ints) in
-    rem_is w128 x y fa fb ∙ ap (λ z. int_rem z y) c.number.ensures.number ∙ ap (λ z. int_rem c.args.a.number z) c.number-2.ensures.number
+    rem_is w128 x y fa fb ∙ ap (λ z. int_rem z y) c.number.ensures.number
+    ∙ ap (λ z. int_rem c.args.a.number z) c.number-2.ensures.number

@@ -14,7 +14,8 @@ pub returns-in-Err : goal.returns-in-Err
 returns-in-Err c =
     let t = c.args.timer in
     let fits : FitsSigned w128 t.elapsed = search (rules, ints) in
-    let none : holds Time t.elapsed ≡ false = ap (holds Time) (sym (to_z-of_z w128 t.elapsed fits)) ∙ c.in-Err.ensures.none in (
+    let none : holds Time t.elapsed ≡ false = ap (holds Time) (sym (to_z-of_z w128 t.elapsed fits))
+    ∙ c.in-Err.ensures.none in (
       unheld c.args.slots.now c.args.at (c.args.input ∷ c.args.preset ∷ datum_of_truth t.q ∷ [])
           (datum_of_truth t.run ∷ time t.start ∷ []) (time t.elapsed) none,
       c.in-Err.ensures.fault,
@@ -24,7 +25,8 @@ pub returns-in-Err-held_value : goal.returns-in-Err-held_value
 returns-in-Err-held_value c =
     let t = c.args.timer in
     let fits : FitsSigned w128 t.start = search (rules, ints) in
-    let none : holds Time t.start ≡ false = ap (holds Time) (sym (to_z-of_z w128 t.start fits)) ∙ c.in-Err-held_value.ensures.none in (
+    let none : holds Time t.start ≡ false = ap (holds Time) (sym (to_z-of_z w128 t.start fits))
+    ∙ c.in-Err-held_value.ensures.none in (
       unheld c.args.slots.now c.args.at (c.args.input ∷ c.args.preset ∷ datum_of_truth t.q ∷ time t.elapsed
           ∷ datum_of_truth t.run ∷ []) [] (time t.start) none,
       c.in-Err-held_value.ensures.fault,

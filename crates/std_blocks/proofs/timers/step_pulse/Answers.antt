@@ -19,8 +19,10 @@ returns c =
     let same = to_z-of_z w128 pt fits ∙ c.preset_time.ensures in
     let told : timer_view c.pulse-after.result ≡ pulse c.args.now (is_true m.input) (int_max (pos 0) m.preset.number)
     (timer_of m.q m.elapsed m.run' m.start) =
-    c.pulse-after.ensures ∙ ap (λ b. pulse c.args.now b (to_z w128 (of_z w128 pt)) (timer_view c.timer_of-before.result)) c.is_true.ensures
+    c.pulse-after.ensures ∙ ap (λ b. pulse c.args.now b (to_z w128 (of_z w128 pt)) (timer_view
+    c.timer_of-before.result)) c.is_true.ensures
     ∙ ap (λ z. pulse c.args.now (is_true m.input) z (timer_view c.timer_of-before.result)) same
     ∙ ap (pulse c.args.now (is_true m.input) (int_max (pos 0) m.preset.number)) c.timer_of-before.ensures in
-    pulse_steps c.args.now c.args.at c.args.slots.now c.put_timer.new.slots m.input m.preset m.q m.elapsed m.run' m.start
+    pulse_steps c.args.now c.args.at c.args.slots.now c.put_timer.new.slots m.input m.preset m.q m.elapsed m.run'
+    m.start
     c.put_timer.result m.ensures.there (timer_view c.pulse-after.result) told c.put_timer.ensures
