@@ -1,6 +1,6 @@
 -- The names of a function's body as its declarations tell: each call has values of its own, and so many of them stand
 -- before those of a variable.
-use Rattle.std.specs.Prelude.{ℕ, List, [], ◌∷◌, map, Option, None, option_map}
+use Rattle.std.specs.Prelude.{ℕ, List, [], ◌∷◌, map, None, option_map}
 use Rattle.st_types.specs.NameTypes.{Declared}
 use Rattle.st_types.specs.Scopes.{Name}
 use Rattle.st_layouts.specs.LayoutVariables.{Owned, owned_variable}

@@ -16,3 +16,6 @@ pub mod ProgramExample
 pub mod TextNumbers
 pub mod FunctionTables
 pub mod TextLinks
+pub mod Orderly
+pub mod LinkedPrograms
+pub mod TextExample
