@@ -47,12 +47,12 @@ pub data Among {A : Type 0} : A → List A → Type 0 where
   here : {a : A} {rest : List A} → Among a (a ∷ rest)
   behind : {a b : A} {rest : List A} → Among a rest → Among a (b ∷ rest)
 
-among_left : {A : Type 0} (a : A) (xs ys : List A) → Among a xs → Among a (xs ++ ys)
+pub among_left : {A : Type 0} (a : A) (xs ys : List A) → Among a xs → Among a (xs ++ ys)
 among_left {A = A} a [] ys h = elim h [ ]
 among_left a (x ∷ xs) ys here = here
 among_left a (x ∷ xs) ys (behind h) = behind (among_left a xs ys h)
 
-among_right : {A : Type 0} (a : A) (xs ys : List A) → Among a ys → Among a (xs ++ ys)
+pub among_right : {A : Type 0} (a : A) (xs ys : List A) → Among a ys → Among a (xs ++ ys)
 among_right a [] ys h = h
 among_right a (x ∷ xs) ys h = behind (among_right a xs ys h)
 
@@ -91,7 +91,7 @@ module _ (text : Declared) where
       (is_named_so v.owner v.name w) refl
 
 -- the variable of a site
-site_among : (o : Option Owner) (ds : List NamedSite) (x : Name) (s : Site) → site_named ds x ≡ Some s
+pub site_among : (o : Option Owner) (ds : List NamedSite) (x : Name) (s : Site) → site_named ds x ≡ Some s
     → Among (owned_variable o (record { name = x; site = s })) (map (owned_variable o) ds)
 site_among o [] x s h = absurd (cc)
 site_among o (d ∷ ds) x s h = by_test (bytes_eq x d.name) refl h (site_among o ds x s)

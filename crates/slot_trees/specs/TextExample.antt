@@ -5,7 +5,8 @@ use Rattle.st_words.specs.declared.operator.BinaryOperator.TheVariants.{Add}
 use Rattle.st_words.specs.Values.{Datum}
 use Rattle.st_types.specs.Examples.{number}
 use Rattle.st_layouts.specs.LayoutExamples.{datum, int}
-use Rattle.slot_trees.specs.SlotTrees.{Anchor, own, absolute, SlotExpr, load, call, binary, no_exprs, expr_then, Place, place}
+use Rattle.slot_trees.specs.SlotTrees.{Anchor, own, absolute, SlotExpr, load, call, binary, no_exprs, expr_then, Place}
+use Rattle.slot_trees.specs.SlotTrees.{place}
 use Rattle.slot_trees.specs.SlotTrees.{no_subscripts, own_block, given, copied, SlotStmt, assign, invoke, SlotStmts}
 use Rattle.slot_trees.specs.SlotTrees.{no_stmts, stmt_then, SlotFunction, SlotLibrary}
 use Rattle.slot_trees.specs.ProgramExample.{constant_of, amount}
