@@ -1,16 +1,20 @@
 -- A worked example: the text of calls, with functions, blocks in a block and externals, and what it is linked to.
-use Rattle.std.specs.Prelude.{ℕ, pos, List, [], ◌∷◌, ◌++◌, None}
+use Rattle.std.specs.Prelude.{ℕ, pos, List, [], ◌∷◌, ◌++◌, map, None, Option, option_map, option_and_then, slice_get}
 use Rattle.st_words.specs.declared.kind.Kind.TheVariants.{Int, Dint, Time, Bool as Boolean}
 use Rattle.st_words.specs.declared.operator.BinaryOperator.TheVariants.{Add}
 use Rattle.st_words.specs.Values.{Datum}
+use Rattle.st_trees.specs.Sources.{Source}
 use Rattle.st_types.specs.Examples.{number}
+use Rattle.st_types.specs.Failures.{in_runs}
+use Rattle.st_layouts.specs.InitialExamples.{mode}
 use Rattle.st_layouts.specs.LayoutExamples.{datum, int}
 use Rattle.slot_trees.specs.SlotTrees.{Anchor, own, absolute, SlotExpr, load, call, binary, no_exprs, expr_then, Place}
 use Rattle.slot_trees.specs.SlotTrees.{place}
 use Rattle.slot_trees.specs.SlotTrees.{no_subscripts, own_block, given, copied, SlotStmt, assign, invoke, SlotStmts}
 use Rattle.slot_trees.specs.SlotTrees.{no_stmts, stmt_then, SlotFunction, SlotLibrary}
 use Rattle.slot_trees.specs.ProgramExample.{constant_of, amount}
-use Rattle.slot_trees.specs.TextLinks.{LinkedText}
+use Rattle.slot_trees.specs.SlotRuns.{slots_ran, slots_in}
+use Rattle.slot_trees.specs.TextLinks.{LinkedText, linked_source}
 
 abbrev pub slot_place : Anchor → Place
 slot_place a = place a no_subscripts
@@ -78,3 +82,18 @@ instance_values step total p x =
 
 abbrev pub its_values : ℕ → List Datum → List Datum → List Datum
 its_values g first second = int g ∷ int 0 ∷ first ++ second
+
+-- the values that a run of a text's first program leaves, over its linked form
+abbrev pub first_run : Source → ℕ → ℕ → List Datum → Option (List Datum)
+first_run source now budget vs = option_and_then
+    (λ l. option_map (λ body. slots_in (slots_ran in_runs l.library 0 body now budget vs budget) vs)
+    (slice_get l.programs 0)) (linked_source source)
+
+-- of the text over parts: s is TRUE; g; m and n of a's elements; i and k; the step and the total of c; and the timer
+abbrev pub values_of_parts : ℕ → List ℕ → ℕ → ℕ → ℕ → ℕ → List Datum → List Datum
+values_of_parts g modes i k step total timer =
+    datum Boolean 1 ∷ int g ∷ map (datum mode) modes ++ int i ∷ int k ∷ int step ∷ int total ∷ timer
+
+abbrev pub timer_values : ℕ → ℕ → ℕ → ℕ → List Datum
+timer_values input pt run start =
+    datum Boolean input ∷ datum Time pt ∷ datum Boolean 0 ∷ datum Time 0 ∷ datum Boolean run ∷ datum Time start ∷ []
