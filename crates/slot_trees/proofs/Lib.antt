@@ -17,3 +17,4 @@ pub mod FunctionLinks
 pub mod BlockLinks
 pub mod LibraryLinks
 pub mod ProgramLinks
+pub mod LookedUp

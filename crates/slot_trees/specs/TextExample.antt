@@ -1,6 +1,6 @@
 -- A worked example: the text of calls, with functions, blocks in a block and externals, and what it is linked to.
-use Rattle.std.specs.Prelude.{ℕ, pos, List, [], ◌∷◌, ◌++◌, map, None, Option, option_map, option_and_then, slice_get}
-use Rattle.st_words.specs.declared.kind.Kind.TheVariants.{Int, Dint, Time, Bool as Boolean}
+use Rattle.std.specs.Prelude.{ℕ, pos, List, [], ◌∷◌, ◌++◌, map, Option, option_map, option_and_then, slice_get}
+use Rattle.st_words.specs.declared.kind.Kind.TheVariants.{Dint, Time, Bool as Boolean}
 use Rattle.st_words.specs.declared.operator.BinaryOperator.TheVariants.{Add}
 use Rattle.st_words.specs.Values.{Datum}
 use Rattle.st_trees.specs.Sources.{Source}

@@ -1,5 +1,5 @@
 -- The numbers of a text's functions and blocks: their positions among those that the text declares.
-use Rattle.std.specs.Prelude.{ℕ, suc, List, [], ◌∷◌, ◌++◌, map, codes}
+use Rattle.std.specs.Prelude.{ℕ, suc, List, [], ◌∷◌, ◌++◌, map, codes, Option, Some, None, option_map}
 use Rattle.st_trees.specs.declared.unit.UnitSort.{UnitSort}
 use Rattle.st_trees.specs.declared.unit.UnitSort.TheVariants as units
 use Rattle.st_trees.specs.Units.{OrganisationUnit}
@@ -10,6 +10,7 @@ use Rattle.st_types.specs.StandardBlocks.{TP}
 use Rattle.st_layouts.specs.Shapes.{Parts}
 use Rattle.st_layouts.specs.Types.{shape_of_type, parts_of, sites_of_blocks}
 use Rattle.slot_trees.specs.SlotTrees.{BlockCode, own_block, standard_block}
+use Rattle.slot_trees.specs.Tables.{named_in}
 use Rattle.slot_trees.specs.LinkedTexts.{Numbers, parts_of_members}
 
 -- names with their positions, where the first one has this number
@@ -72,3 +73,8 @@ numbers_of text = record {
   blocks = standard_codes ++ own_codes 0 (block_names text.units);
   members = standard_members ++ own_members text text.units;
 }
+
+-- the block of a name, where this is the standard one: else one of the text
+abbrev pub code_named : Declared → Name → Option StandardBlock → Option BlockCode
+code_named text x (Some k) = Some (standard_block k)
+code_named text x None = option_map own_block (named_in (numbered_from 0 (block_names text.units)) x)

@@ -13,5 +13,6 @@ mod laws;
 
 pub use laws::{
     functions_lie_as_declared, linked_programs_mean_the_same, linked_texts_have_their_programs,
-    linked_texts_mean_the_same, names_of_blocks_stand, names_of_programs_stand,
+    linked_texts_mean_the_same, names_are_looked_up, names_of_blocks_stand,
+    names_of_programs_stand,
 };

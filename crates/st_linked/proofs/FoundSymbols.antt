@@ -16,14 +16,15 @@ use Rattle.st_layouts.specs.Shapes.{Parts, size}
 use Rattle.st_layouts.specs.Standing.{variable_at}
 use Rattle.st_layouts.specs.TextLayouts.{variable_shape}
 use Rattle.st_layouts.specs.Types.{Site, NamedSite, site_named}
-use Rattle.st_layouts.proofs.ListLemmas.{map_some, some_is, same_name, name_itself, any_append}
+use Rattle.st_layouts.proofs.ListLemmas.{some_is, same_name, any_append}
 use Rattle.st_layouts.proofs.ListLemmas.{or_here, or_later}
 use Rattle.st_stores.proofs.TakenBodies.{names_taken}
-use Rattle.slot_trees.specs.Tables.{Symbol, symbol_of, part_at}
-use Rattle.slot_trees.specs.ProgramTables.{owner_of_name, symbol_at, symbol_then, program_symbols}
-use Rattle.slot_trees.specs.BlockTables.{part_symbol, block_symbol, if_there, block_symbols}
+use Rattle.slot_trees.specs.Tables.{Symbol, symbol_of}
+use Rattle.slot_trees.specs.ProgramTables.{owner_of_name, symbol_at, program_symbols}
+use Rattle.slot_trees.specs.BlockTables.{block_symbol, block_symbols}
 use Rattle.slot_trees.specs.FunctionTables.{call_symbol, function_symbols}
 use Rattle.slot_trees.specs.TextLinks.{names_in}
+use Rattle.slot_trees.proofs.LookedUp.{program_looked_up, block_looked_up, call_looked_up}
 
 -- names hang on no literal
 pub all_names_taken : (text : Declared) (bs : List VariableBlock)
@@ -73,119 +74,35 @@ name_of_unit (b ∷ bs) x t h =
     by_type None e g ih =
         or_later (contains_name (declared_names b.declarations) x) (contains_name (names_in bs) x) (ih g)
 
--- the symbols of names, each of which makes its own
-symbols_by : (Name → Option Symbol) → List Name → List Symbol
-symbols_by make [] = []
-symbols_by make (x ∷ xs) = if_there (make x) (symbols_by make xs)
+-- the symbol of a name that is there
+if_named : {A : Type 0} (b : Bool) (o : Option A) (y : A) → b ≡ true → o ≡ Some y
+    → ◌≡◌ {A = Option A} (if b then o else None) (Some y)
+if_named true o y h g = g
+if_named false o y h g = absurd (cc)
 
-module _ (make : Name → Option Symbol) (own : (z : Name) (u : Symbol) → make z ≡ Some u → u.name ≡ z) (x : Name)
-    (y : Symbol) (made : make x ≡ Some y) where
-  first_symbol : (z : Name) (rest : List Symbol) → x ≡ z → symbol_of (if_there (make z) rest) x ≡ Some y
-  first_symbol z rest same =
-      let it : make z ≡ Some y = ap make (sym same) ∙ made in
-      let name : bytes_eq x y.name ≡ true = ap (bytes_eq x) (own x y made) ∙ name_itself x in
-      ap (λ o. symbol_of (if_there o rest) x) it ∙ ap (λ b. if b then Some y else symbol_of rest x) name
+pub program_symbol_found : (text : Declared) (vs : List Owned) (p : Program) (xs : List Name) (x : Name)
+    (e : ℕ × Owned) → contains_name xs x ≡ true → variable_at text vs (owner_of_name p x) x ≡ Some e
+    → symbol_of (program_symbols text vs p xs) x ≡ Some (symbol_at text x e)
+program_symbol_found text vs p xs x e h there =
+    program_looked_up text vs p xs x
+    ∙ if_named (contains_name xs x) (option_map (symbol_at text x) (variable_at text vs (owner_of_name p x) x))
+    (symbol_at text x e) h (ap (option_map (symbol_at text x)) there)
 
-  later_symbol : (z : Name) (rest : List Symbol) → bytes_eq x z ≡ false → symbol_of rest x ≡ Some y
-      → (o : Option Symbol) → make z ≡ o → symbol_of (if_there o rest) x ≡ Some y
-  later_symbol z rest e h None is = h
-  later_symbol z rest e h (Some u) is =
-      ap (λ b. if b then Some u else symbol_of rest x) (ap (bytes_eq x) (own z u is) ∙ e) ∙ h
+pub block_symbol_found : (text : Declared) (vs : List Owned) (ps : Parts) (externals xs : List Name) (x : Name)
+    (y : Symbol) → contains_name xs x ≡ true → block_symbol text vs ps externals x ≡ Some y
+    → symbol_of (block_symbols text vs ps externals xs) x ≡ Some y
+block_symbol_found text vs ps externals xs x y h there =
+    block_looked_up text vs ps externals xs x
+    ∙ if_named (contains_name xs x) (block_symbol text vs ps externals x) y h there
 
-  symbol_found : (xs : List Name) → contains_name xs x ≡ true → symbol_of (symbols_by make xs) x ≡ Some y
-  unfolding symbols_by
-  symbol_found [] h = absurd (cc)
-  symbol_found (z ∷ zs) h = by_test (bytes_eq x z) refl h (symbol_found zs)
-    where
-      by_test : (b : Bool) → bytes_eq x z ≡ b → (b || contains_name zs x) ≡ true
-          → (contains_name zs x ≡ true → symbol_of (symbols_by make zs) x ≡ Some y)
-          → symbol_of (if_there (make z) (symbols_by make zs)) x ≡ Some y
-      by_test true e g ih = first_symbol z (symbols_by make zs) (same_name x z e)
-      by_test false e g ih = later_symbol z (symbols_by make zs) e (ih g) (make z) refl
-
--- a program's
-module _ (text : Declared) (vs : List Owned) (p : Program) where
-  program_symbol : Name → Option Symbol
-  program_symbol x = option_map (symbol_at text x) (variable_at text vs (owner_of_name p x) x)
-
-  program_symbols_are : (xs : List Name) → program_symbols text vs p xs ≡ symbols_by program_symbol xs
-  unfolding symbols_by program_symbol
-  program_symbols_are [] = refl
-  program_symbols_are (x ∷ xs) =
-      by_variable (variable_at text vs (owner_of_name p x) x) (program_symbols_are xs)
-    where
-      by_variable : (o : Option (ℕ × Owned)) → program_symbols text vs p xs ≡ symbols_by program_symbol xs
-          → symbol_then text x o (program_symbols text vs p xs)
-          ≡ if_there (option_map (symbol_at text x) o) (symbols_by program_symbol xs)
-      by_variable None ih = ih
-      by_variable (Some e) ih = ap (λ ys. symbol_at text x e ∷ ys) ih
-
-  program_symbol_name : (z : Name) (u : Symbol) → program_symbol z ≡ Some u → u.name ≡ z
-  unfolding program_symbol
-  program_symbol_name z u h =
-      let i = map_some (symbol_at text z) (variable_at text vs (owner_of_name p z) z) u h in
-      ap (λ y. y.name) (sym i.2)
-
-  pub program_symbol_found : (xs : List Name) (x : Name) (e : ℕ × Owned) → contains_name xs x ≡ true
-      → variable_at text vs (owner_of_name p x) x ≡ Some e
-      → symbol_of (program_symbols text vs p xs) x ≡ Some (symbol_at text x e)
-  unfolding program_symbol
-  program_symbol_found xs x e h there =
-      ap (λ ys. symbol_of ys x) (program_symbols_are xs)
-      ∙ symbol_found program_symbol program_symbol_name x (symbol_at text x e)
-      (ap (option_map (symbol_at text x)) there) xs h
-
--- a block's
-module _ (text : Declared) (vs : List Owned) (ps : Parts) (externals : List Name) where
-  block_symbols_are : (xs : List Name)
-      → block_symbols text vs ps externals xs ≡ symbols_by (block_symbol text vs ps externals) xs
-  unfolding symbols_by
-  block_symbols_are [] = refl
-  block_symbols_are (x ∷ xs) = ap (if_there (block_symbol text vs ps externals x)) (block_symbols_are xs)
-
-  block_symbol_name : (z : Name) (u : Symbol) → block_symbol text vs ps externals z ≡ Some u → u.name ≡ z
-  block_symbol_name z u h = by_test (contains_name externals z) h
-    where
-      by_test : (b : Bool) → (if b then option_map (symbol_at text z) (variable_at text vs None z)
-          else option_map (part_symbol z) (part_at ps z)) ≡ Some u → u.name ≡ z
-      by_test true g =
-          let i = map_some (symbol_at text z) (variable_at text vs None z) u g in ap (λ y. y.name) (sym i.2)
-      by_test false g =
-          let i = map_some (part_symbol z) (part_at ps z) u g in ap (λ y. y.name) (sym i.2)
-
-  pub block_symbol_found : (xs : List Name) (x : Name) (y : Symbol) → contains_name xs x ≡ true
-      → block_symbol text vs ps externals x ≡ Some y
-      → symbol_of (block_symbols text vs ps externals xs) x ≡ Some y
-  block_symbol_found xs x y h there =
-      ap (λ ys. symbol_of ys x) (block_symbols_are xs)
-      ∙ symbol_found (block_symbol text vs ps externals) block_symbol_name x y there xs h
-
--- a function's
-module _ (text : Declared) (ds : List NamedSite) where
-  call_symbol_of : Name → Option Symbol
-  call_symbol_of x = option_map (call_symbol text x) (variable_at text (map (owned_variable None) ds) None x)
-
-  call_symbols_are : (xs : List Name) → function_symbols text ds xs ≡ symbols_by call_symbol_of xs
-  unfolding symbols_by call_symbol_of
-  call_symbols_are [] = refl
-  call_symbols_are (x ∷ xs) =
-      ap (if_there (option_map (call_symbol text x) (variable_at text (map (owned_variable None) ds) None x)))
-      (call_symbols_are xs)
-
-  call_symbol_name : (z : Name) (u : Symbol) → call_symbol_of z ≡ Some u → u.name ≡ z
-  unfolding call_symbol_of
-  call_symbol_name z u h =
-      let i = map_some (call_symbol text z) (variable_at text (map (owned_variable None) ds) None z) u h in
-      ap (λ y. y.name) (sym i.2)
-
-  pub call_symbol_found : (xs : List Name) (x : Name) (e : ℕ × Owned) → contains_name xs x ≡ true
-      → variable_at text (map (owned_variable None) ds) None x ≡ Some e
-      → symbol_of (function_symbols text ds xs) x ≡ Some (call_symbol text x e)
-  unfolding call_symbol_of
-  call_symbol_found xs x e h there =
-      ap (λ ys. symbol_of ys x) (call_symbols_are xs)
-      ∙ symbol_found call_symbol_of call_symbol_name x (call_symbol text x e)
-      (ap (option_map (call_symbol text x)) there) xs h
+pub call_symbol_found : (text : Declared) (ds : List NamedSite) (xs : List Name) (x : Name) (e : ℕ × Owned)
+    → contains_name xs x ≡ true → variable_at text (map (owned_variable None) ds) None x ≡ Some e
+    → symbol_of (function_symbols text ds xs) x ≡ Some (call_symbol text x e)
+call_symbol_found text ds xs x e h there =
+    call_looked_up text ds xs x
+    ∙ if_named (contains_name xs x)
+    (option_map (call_symbol text x) (variable_at text (map (owned_variable None) ds) None x)) (call_symbol text x e) h
+    (ap (option_map (call_symbol text x)) there)
 
 -- a variable of a call
 pub record IsCallVariable (text : Declared) (ds : List NamedSite) (x : Name) (s : Site) : Type 0 where
