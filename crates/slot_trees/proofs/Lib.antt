@@ -11,3 +11,10 @@ pub mod ProgramTableLemmas
 pub mod ProgramExampleLemmas
 pub mod BlockTableLemmas
 pub mod FunctionLayouts
+pub mod NamedLemmas
+pub mod InstanceLemmas
+pub mod FunctionLinks
+pub mod BlockLinks
+pub mod LibraryLinks
+pub mod ProgramLinks
+pub mod LookedUp

@@ -16,7 +16,7 @@ use Rattle.slot_trees.specs.Tables.{Symbol, symbol_of}
 use Rattle.slot_trees.specs.ProgramTables.{owner_of_name, symbol_at, symbol_then, program_symbols}
 
 -- the name has a declaration, which the symbol tells
-record IsNamed (text : Declared) (vs : List Owned) (p : Program) (x : Name) (y : Symbol) : Type 0 where
+pub record IsNamed (text : Declared) (vs : List Owned) (p : Program) (x : Name) (y : Symbol) : Type 0 where
   pub entry : ℕ × Owned
   pub there : variable_at text vs (owner_of_name p x) x ≡ Some entry
   pub is : symbol_at text x entry ≡ y
@@ -40,7 +40,7 @@ module _ (text : Declared) (vs : List Owned) (p : Program) (x : Name) (y : Symbo
   named_cases z rest ih None at h = ih h
   named_cases z rest ih (Some e) at h = here_or z e rest ih at (bytes_eq x z) refl h
 
-  named : (xs : List Name) → symbol_of (program_symbols text vs p xs) x ≡ Some y → IsNamed text vs p x y
+  pub named : (xs : List Name) → symbol_of (program_symbols text vs p xs) x ≡ Some y → IsNamed text vs p x y
   named [] h = absurd (cc)
   named (z ∷ xs) h =
       named_cases z (program_symbols text vs p xs) (named xs) (variable_at text vs (owner_of_name p z) z) refl h

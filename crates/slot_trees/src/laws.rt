@@ -1,25 +1,33 @@
 //! Laws of linking, each proved of the definitions. The functions do nothing: their contracts are the laws.
 
-ghost use Rattle.std.specs.Prelude.{◌≡◌, ◌≤◌, ℕ, List, Some, None, true, false, map};
+ghost use Rattle.std.specs.Prelude.{◌≡◌, ◌≤◌, ℕ, List, Some, None, true, false, map, slice_get};
+ghost use Rattle.std.specs.Prelude.{if◌then◌else◌, option_map, bytes_eq};
+ghost use Rattle.std.specs.List.{position_from};
 ghost use Rattle.st_words.specs.Values.{Datum};
+ghost use Rattle.st_trees.specs.Sources.{Source};
 ghost use Rattle.st_types.specs.Failures.{StandIns, in_runs};
 ghost use Rattle.st_types.specs.Stores.{Store};
 ghost use Rattle.st_types.specs.Slots.{Slot};
 ghost use Rattle.st_types.specs.Runs.{Program, ran_where, outcome_of, store_after};
 ghost use Rattle.st_types.specs.NameTypes.{Declared};
 ghost use Rattle.st_types.specs.Scopes.{Name, of_program, path_in, contains_name};
+ghost use Rattle.st_types.specs.StandardBlocks.{block_of};
 ghost use Rattle.st_layouts.specs.LayoutVariables.{Owned, owned_variable};
-ghost use Rattle.st_layouts.specs.Libraries.{fresh_values};
+ghost use Rattle.st_layouts.specs.Libraries.{fresh_values, programs_of_text};
 ghost use Rattle.st_layouts.specs.Types.{NamedSite};
 ghost use Rattle.st_layouts.specs.Shapes.{Parts};
-ghost use Rattle.st_layouts.specs.Standing.{Stands, are_declared_once};
-ghost use Rattle.st_layouts.specs.TextLayouts.{slots_of};
+ghost use Rattle.st_layouts.specs.Standing.{Stands, are_declared_once, variable_at};
+ghost use Rattle.st_layouts.specs.TextLayouts.{slots_of, slots_of_text};
 ghost use Rattle.slot_trees.specs.SlotEvaluation.{slot_at};
-ghost use Rattle.slot_trees.specs.Tables.{Symbol, symbol_of};
-ghost use Rattle.slot_trees.specs.ProgramTables.{program_symbols};
-ghost use Rattle.slot_trees.specs.BlockTables.{block_symbols};
+ghost use Rattle.slot_trees.specs.Tables.{Symbol, symbol_of, named_in};
+ghost use Rattle.slot_trees.specs.ProgramTables.{owner_of_name, symbol_at, program_symbols};
+ghost use Rattle.slot_trees.specs.BlockTables.{block_symbol, block_symbols};
+ghost use Rattle.slot_trees.specs.FunctionTables.{call_symbol, function_symbols};
+ghost use Rattle.slot_trees.specs.TextNumbers.{numbered_from, numbers_of, code_named};
 ghost use Rattle.slot_trees.specs.SlotTrees.{SlotStmts, SlotLibrary};
 ghost use Rattle.slot_trees.specs.SlotRuns.{slots_ran, slot_outcome_in, slots_in};
+ghost use Rattle.slot_trees.specs.TextLinks.{LinkedText};
+ghost use Rattle.slot_trees.specs.LinkedPrograms.{IsLinkOf, HasProgram};
 ghost use Rattle.slot_trees.specs.Seeing.{Sees};
 ghost use Rattle.slot_trees.specs.Alike.{EndAlike, EndsAlike};
 ghost use Rattle.slot_trees.specs.LinkedTexts.{IsProgramLink, IsExternal, IsPart, layout_of_fresh};
@@ -68,4 +76,52 @@ pub fn names_of_blocks_stand()
 pub fn functions_lie_as_declared()
     ensures { (text : Declared) (ds : List NamedSite)
         → layout_of_fresh (fresh_values text ds) ≡ slots_of text (map (owned_variable None) ds) }
+{}
+
+/// Where a whole text is linked, each program of its instances is: the body of its number, with the functions and
+/// blocks of the text, is linked by tables that say the truth.
+pub fn linked_texts_have_their_programs()
+    ensures { (source : Source) (linked : LinkedText) → IsLinkOf source linked → (n : ℕ) (p : Program)
+        → slice_get (programs_of_text source) n ≡ Some p → HasProgram (slots_of_text source) linked n p }
+{}
+
+/// So each program of a linked text runs as it does in the text, over any values of the slots of the text's layout: it
+/// ends alike, and leaves the same variables.
+pub fn linked_texts_mean_the_same()
+    ensures ends { (source : Source) (linked : LinkedText) → IsLinkOf source linked → (n : ℕ) (p : Program)
+        (body : SlotStmts) → slice_get (programs_of_text source) n ≡ Some p → slice_get linked.programs n ≡ Some body
+        → (stand_ins : StandIns) (image : Store) (now budget : ℕ) (s : Store) (vs : List Datum)
+        → Sees (slots_of_text source) image s vs → EndAlike (EndsAlike (Sees (slots_of_text source) image))
+        (ran_where stand_ins p image now budget s) (slots_ran stand_ins linked.library 0 body now budget vs budget) }
+    ensures outcome { (source : Source) (linked : LinkedText) → IsLinkOf source linked → (n : ℕ) (p : Program)
+        (body : SlotStmts) → slice_get (programs_of_text source) n ≡ Some p → slice_get linked.programs n ≡ Some body
+        → (image : Store) (now budget depth : ℕ) (s : Store) (vs : List Datum) → budget ≤ depth
+        → Sees (slots_of_text source) image s vs → outcome_of p budget s image now
+        ≡ slot_outcome_in (slots_ran in_runs linked.library 0 body now depth vs budget) }
+    ensures store { (source : Source) (linked : LinkedText) → IsLinkOf source linked → (n : ℕ) (p : Program)
+        (body : SlotStmts) → slice_get (programs_of_text source) n ≡ Some p → slice_get linked.programs n ≡ Some body
+        → (image : Store) (now budget depth : ℕ) (s : Store) (vs : List Datum) → budget ≤ depth
+        → Sees (slots_of_text source) image s vs
+        → Sees (slots_of_text source) image (store_after p budget s image now)
+        (slots_in (slots_ran in_runs linked.library 0 body now depth vs budget) vs) }
+{}
+
+/// A table made of declarations has for each of its names the symbol that its declaration tells, and for no other name
+/// one. The number of a function or a block is its position; a standard block stands for its name first.
+pub fn names_are_looked_up()
+    ensures programs { (text : Declared) (vs : List Owned) (p : Program) (xs : List Name) (x : Name)
+        → symbol_of (program_symbols text vs p xs) x
+        ≡ (if contains_name xs x then option_map (symbol_at text x) (variable_at text vs (owner_of_name p x) x)
+        else None) }
+    ensures blocks { (text : Declared) (vs : List Owned) (ps : Parts) (externals xs : List Name) (x : Name)
+        → symbol_of (block_symbols text vs ps externals xs) x
+        ≡ (if contains_name xs x then block_symbol text vs ps externals x else None) }
+    ensures functions { (text : Declared) (ds : List NamedSite) (xs : List Name) (x : Name)
+        → symbol_of (function_symbols text ds xs) x
+        ≡ (if contains_name xs x
+        then option_map (call_symbol text x) (variable_at text (map (owned_variable None) ds) None x) else None) }
+    ensures numbers { (n : ℕ) (xs : List Name) (x : Name)
+        → named_in (numbered_from n xs) x ≡ position_from (λ y. bytes_eq x y) n xs }
+    ensures codes { (text : Declared) (x : Name)
+        → named_in (numbers_of text).blocks x ≡ code_named text x (block_of x) }
 {}

@@ -5,14 +5,14 @@
 //! whole program is: all this stands in `specs/`. The functions here hold it to a law and to worked examples, by
 //! contracts of functions that do nothing.
 //!
-//! Open: the tables of functions, that whole texts are linked so, that what the checker takes is linked, and the code
-//! that links.
+//! Open: that what the checker takes is linked, and the code that links.
 #![tactic(auto)]
 
 pub mod examples;
 mod laws;
 
 pub use laws::{
-    functions_lie_as_declared, linked_programs_mean_the_same, names_of_blocks_stand,
+    functions_lie_as_declared, linked_programs_mean_the_same, linked_texts_have_their_programs,
+    linked_texts_mean_the_same, names_are_looked_up, names_of_blocks_stand,
     names_of_programs_stand,
 };

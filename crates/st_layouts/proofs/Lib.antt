@@ -9,3 +9,4 @@ pub mod ValueLemmas
 pub mod LibraryLemmas
 pub mod DepthLemmas
 pub mod ResolvedLemmas
+pub mod ResolvedDepths

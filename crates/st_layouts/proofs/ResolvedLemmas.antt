@@ -99,7 +99,7 @@ same_parts inner other same (e ∷ es) =
     ap₂ (λ sh ps. part_then e.0 sh ps) (same e.1) (same_parts inner other same es)
 
 module _ (text : Declared) where
-  fields_typed : (fields : List Field)
+  pub fields_typed : (fields : List Field)
       → map typed (map site_of_field (map (resolved_field text) fields))
       ≡ map taking (map typed (map site_of_field fields))
   fields_typed [] = refl
@@ -201,22 +201,22 @@ module _ (text : Declared) where
   taken_text =
       record { types = map (resolved_type_declaration text) text.types; units = map (resolved text) text.units }
 
-  same_kind_among : (t : VariableType) → kind_among taken_text.types (resolved_type t) ≡ kind_among text.types t
+  pub same_kind_among : (t : VariableType) → kind_among taken_text.types (resolved_type t) ≡ kind_among text.types t
   same_kind_among (types.Simple (Elementary k at)) = refl
   same_kind_among (types.Array a) = refl
   same_kind_among (types.Simple (Named x)) =
       ap (λ es. option_map kind_of_enumeration (enumeration_named es x.name)) (same_enumerations 0 text.types)
 
-  same_definition : (t : VariableType)
+  pub same_definition : (t : VariableType)
       → definition_of taken_text (resolved_type t) ≡ option_map (resolved_definition text) (definition_of text t)
   same_definition (types.Simple (Elementary k at)) = refl
   same_definition (types.Array a) = refl
   same_definition (types.Simple (Named x)) = same_type_named text.types x.name
 
   -- blocks
-  record SameBlock (o p : Option BlockType) : Type 0 where
-    there : is_none o ≡ is_none p
-    members : (b c : BlockType) → o ≡ Some b → p ≡ Some c → map typed b.members ≡ map taking (map typed c.members)
+  pub record SameBlock (o p : Option BlockType) : Type 0 where
+    pub there : is_none o ≡ is_none p
+    pub members : (b c : BlockType) → o ≡ Some b → p ≡ Some c → map typed b.members ≡ map taking (map typed c.members)
 
   same_own : (o : Option OrganisationUnit)
       → SameBlock (own_block_type (option_map (resolved text) o)) (own_block_type o)
@@ -262,7 +262,7 @@ module _ (text : Declared) where
       by_block None =
           let e = same_unit_named text.units x in rw e (same_own (unit_named text.units x))
 
-  same_instance : (t : VariableType) → SameBlock (instance_of taken_text (resolved_type t)) (instance_of text t)
+  pub same_instance : (t : VariableType) → SameBlock (instance_of taken_text (resolved_type t)) (instance_of text t)
   same_instance (types.Simple (Elementary k at)) = record { there = refl; members = λ b c e f. absurd (cc) }
   same_instance (types.Array a) = record { there = refl; members = λ b c e f. absurd (cc) }
   same_instance (types.Simple (Named x)) =
@@ -415,7 +415,7 @@ module _ (text : Declared) where
       (taken_names (site_of_global keep d) (site_of_global keep (resolved_global text d)) refl d.names)
       (taken_declarations keep ds)
 
-  taken_globals : (bs : List GlobalBlock)
+  pub taken_globals : (bs : List GlobalBlock)
       → IsTaken (variables_of_globals (map (resolved_globals text) bs)) (variables_of_globals bs)
   taken_globals [] = refl
   taken_globals (b ∷ bs) =
@@ -462,7 +462,7 @@ module _ (text : Declared) where
   abbrev pub taken_configuration : Configuration → Configuration
   taken_configuration c = record c { globals = map (resolved_globals text) c.globals }
 
-  taken_layout : (o : Option Configuration)
+  pub taken_layout : (o : Option Configuration)
       → IsTaken (variables_of_configuration (taken_text text) (option_map taken_configuration o))
       (variables_of_configuration text o)
   taken_layout None = refl

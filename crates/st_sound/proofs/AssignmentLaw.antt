@@ -178,12 +178,12 @@ target_and_nodes env c v e h =
     (front_empty d (wrong_for env c x)
     (front_empty (d ++ wrong_for env c x) (wrong_exit c.in_loop x) h)))
 
-target_right : (env : Environment) (c : Context) (v : Variable) (e : Expr)
+pub target_right : (env : Environment) (c : Context) (v : Variable) (e : Expr)
     → wrong_statement env (placed c (assign v e)) ≡ [] → wrong_target env c v ≡ []
 target_right env c v e h = sym (append_nothing (wrong_target env c v))
     ∙ back_empty (in_nodes env v e) (wrong_targets env c (assign v e)) (target_and_nodes env c v e h)
 
-nodes_right : (env : Environment) (c : Context) (v : Variable) (e : Expr)
+pub nodes_right : (env : Environment) (c : Context) (v : Variable) (e : Expr)
     → wrong_statement env (placed c (assign v e)) ≡ []
     → (wrong_expression env (demand_of_type env (type_of_place env v)) e ≡ [])
     × (flat_map (wrong_node env) (nodes_of_place env v) ≡ [])

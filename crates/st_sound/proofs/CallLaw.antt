@@ -62,7 +62,7 @@ pub places_none : (rule : Rule) (ps : List ℕ) → breaking rule ps ≡ [] → 
 places_none rule [] h = refl
 places_none rule (p ∷ ps) h = absurd (cc)
 
-place_right : (b : Bool) (at : ℕ) (rest : List ℕ) → unless b at ++ rest ≡ [] → (b ≡ true) × (rest ≡ [])
+pub place_right : (b : Bool) (at : ℕ) (rest : List ℕ) → unless b at ++ rest ≡ [] → (b ≡ true) × (rest ≡ [])
 place_right true at rest h = (refl, h)
 place_right false at rest h = absurd (cc)
 
@@ -89,7 +89,7 @@ target_is env known c x xs h =
     record { there = there; free = not_true (is_fixed (section_of env x.name)) free }
 
 -- a type that what has it must be, and the elementary type that both are
-demanded_kind : (t u : Typing) → is_nothing t ≡ false → is_untyped_typing t ≡ false → is_nothing u ≡ false
+pub demanded_kind : (t u : Typing) → is_nothing t ≡ false → is_untyped_typing t ≡ false → is_nothing u ≡ false
     → meets (demand_of_typing t) u ≡ true → (k : Kind) × (t ≡ elementary k) × (u ≡ elementary k)
 demanded_kind untyped u h i j m = absurd (cc)
 demanded_kind nothing u h i j m = absurd (cc)

@@ -87,7 +87,7 @@ right_there true p h = refl
 right_there false p h = absurd (cc)
 
 -- what is settled to an elementary type is not of nothing
-operands_alike : (ss : Sorts) (t u : Typing) → are_operands ss t u ≡ true → is_nothing t ≡ false
+pub operands_alike : (ss : Sorts) (t u : Typing) → are_operands ss t u ≡ true → is_nothing t ≡ false
     → is_nothing u ≡ false
     → (k : Kind) × (l : Kind) × (t ≡ elementary k) × (u ≡ elementary l) × (same_kind k l ≡ true)
 operands_alike ss nothing u h p q = absurd (cc)
@@ -132,11 +132,11 @@ operation_kind true k t u m l p q h = joined_kind k t u m l p q h
 operation_kind false k t u m l p q h = elementary_same Boolean l h
 
 -- resolution offers what typing offers
-offers : (env : Environment) (k : Option Kind) (op : BinaryOperator) (l r : Expr)
+pub offers : (env : Environment) (k : Option Kind) (op : BinaryOperator) (l r : Expr)
     → operand_kind env.text env.unit k op l r ≡ offered k op (typing_of env l) (typing_of env r)
 offers env k op l r = rw (untyped_told env l, untyped_told env r, kinds_told env l, kinds_told env r) refl
 
-operands_right : (env : Environment) (k : Option Kind) (op : BinaryOperator) (l r : Expr)
+pub operands_right : (env : Environment) (k : Option Kind) (op : BinaryOperator) (l r : Expr)
     → wrong_within env k (binary op l r) ≡ []
     → are_operands (sorts_of_binary op) (settled (offered k op (typing_of env l) (typing_of env r)) (typing_of env l))
     (settled (offered k op (typing_of env l) (typing_of env r)) (typing_of env r)) ≡ true
@@ -217,7 +217,7 @@ literal_succeeds env k (literals.Duration at n) l h i =
 literal_succeeds env k (literals.Enumerated v) l h i = written_succeeds env.text k v v.type_name l h i
 
 -- what a variable of an elementary type is
-kind_there : (text : Declared) (k : Option Kind) (o : Option VariableType) (l : Kind)
+pub kind_there : (text : Declared) (k : Option Kind) (o : Option VariableType) (l : Kind)
     → settled k (typing_of_type text o) ≡ elementary l → option_and_then (kind_among text.types) o ≡ Some l
 kind_there text k o l h = kind_of_declared text o ∙ kind_settled (typing_of_type text o) (typed o) h
   where
@@ -270,11 +270,11 @@ then_some : {A B : Type 0} (f : A → Option B) (o : Option A) (y : B) → optio
 then_some f (Some x) y h = (x, refl, h)
 then_some f None y h = absurd (cc)
 
-abbrev is_asked : Demand → Bool
+abbrev pub is_asked : Demand → Bool
 is_asked (operand k) = false
 is_asked (asked k ss) = true
 
-abbrev are_asked : List Demand → Bool
+abbrev pub are_asked : List Demand → Bool
 are_asked ds = list_all is_asked ds
 
 bounded_alike : (env : Environment) (w : Scope) (s : Store) (x : Name) (p : Path) (t u : VariableType) (z : ℤ)
@@ -296,7 +296,7 @@ padded_two : (text : Declared) (u : OrganisationUnit) (es : Exprs)
 padded_two text u no_exprs = refl
 padded_two text u (expr_then e es) = ap (expr_then (resolved_expr text u None e)) (padded_one text u es)
 
-standard_expected : (text : Declared) (u : OrganisationUnit) (std : Standard) (ks : List (Option Kind)) (es : Exprs)
+pub standard_expected : (text : Declared) (u : OrganisationUnit) (std : Standard) (ks : List (Option Kind)) (es : Exprs)
     → resolved_exprs text u (expected_kinds std ks) es
     ≡ resolved_exprs text u (map expected_of (demands_of_standard std (common_kind std ks))) es
 standard_expected text u ABS ks es = padded_one text u es
@@ -310,11 +310,11 @@ standard_expected text u ROL ks es = padded_two text u es
 standard_expected text u ROR ks es = padded_two text u es
 standard_expected text u (CONVERT k l) ks es = refl
 
-inputs_expected : (inputs : List (Option Kind)) → map expected_of (map (λ i. asked i any) inputs) ≡ inputs
+pub inputs_expected : (inputs : List (Option Kind)) → map expected_of (map (λ i. asked i any) inputs) ≡ inputs
 inputs_expected [] = refl
 inputs_expected (k ∷ ks) = ap (λ ls. k ∷ ls) (inputs_expected ks)
 
-standard_asked : (std : Standard) (k : Option Kind) → are_asked (demands_of_standard std k) ≡ true
+pub standard_asked : (std : Standard) (k : Option Kind) → are_asked (demands_of_standard std k) ≡ true
 standard_asked ABS k = refl
 standard_asked MIN k = refl
 standard_asked MAX k = refl
@@ -326,7 +326,7 @@ standard_asked ROL k = refl
 standard_asked ROR k = refl
 standard_asked (CONVERT k l) j = refl
 
-inputs_asked : (inputs : List (Option Kind)) → are_asked (map (λ i. asked i any) inputs) ≡ true
+pub inputs_asked : (inputs : List (Option Kind)) → are_asked (map (λ i. asked i any) inputs) ≡ true
 inputs_asked [] = refl
 inputs_asked (k ∷ ks) = inputs_asked ks
 
@@ -334,12 +334,12 @@ kind_given : (k : Option Kind) (o : Option Kind) (l : Kind) → settled k (typin
 kind_given k None l h = absurd (cc)
 kind_given k (Some m) l h = ap (λ (j : Kind). Some j) (elementary_same m l h)
 
-count_right : (b : Bool) (p : ℕ) → breaking WrongArguments (unless b p) ≡ [] → b ≡ true
+pub count_right : (b : Bool) (p : ℕ) → breaking WrongArguments (unless b p) ≡ [] → b ≡ true
 count_right true p h = refl
 count_right false p h = absurd (cc)
 
 -- a name alone: a variable of the unit, or a value of an enumerated type
-abbrev alone_expr : Identifier → Option Member → Expr
+abbrev pub alone_expr : Identifier → Option Member → Expr
 alone_expr x o = elim o
     [ Some m ↦ literal (literals.Number (number_of_member x.place m)) | None ↦ read (variable x no_selectors) ]
 
@@ -434,7 +434,7 @@ call_own env w s u v i j p k f inputs result es l is all n h t b =
     (inputs_fit env inputs (p.known.inputs f inputs (Some l) callee) fit)))
 
 -- a function of the text by its unit
-abbrev own_callee : Declared → Option OrganisationUnit → Option Callee
+abbrev pub own_callee : Declared → Option OrganisationUnit → Option Callee
 own_callee text o = option_and_then (λ u. callee_of_sort text u.sort u.blocks) o
 
 call_unit : (env : Environment) (w : Scope) (s : Store) (u v : Units) (i j : StandIns) → Premises env w s u v
@@ -466,7 +466,7 @@ call_unit env w s u v i j p k at f es l (Some g) is all n h t b = by_sort g.sort
     by_sort FunctionBlock bs e m g r = absurd (cc)
     by_sort Program bs e m g r = absurd (cc)
 
-abbrev callee_by : Environment → Name → Option Standard → Option Callee
+abbrev pub callee_by : Environment → Name → Option Standard → Option Callee
 callee_by env f o = elim o [ Some std ↦ Some (standard std) | None ↦ own_callee env.text (unit_named env.text.units f) ]
 
 call_alike : (env : Environment) (w : Scope) (s : Store) (u v : Units) (i j : StandIns) → Premises env w s u v
@@ -491,16 +491,16 @@ call_alike env w s u v i j p k at f es l (Some std) is all n h t b =
 call_alike env w s u v i j p k at f es l None is all n h t b =
     call_unit env w s u v i j p k at f es l (unit_named env.text.units f) is all n h t b
 
-never : false ≡ true → ⊥
+pub never : false ≡ true → ⊥
 never h = cc
 
-too_few : (n : ℕ) → (0 == suc n) ≡ true → ⊥
+pub too_few : (n : ℕ) → (0 == suc n) ≡ true → ⊥
 too_few n h = grind (arith, nat_tests)
 
-too_many : (n : ℕ) → (1 + n == 0) ≡ true → ⊥
+pub too_many : (n : ℕ) → (1 + n == 0) ≡ true → ⊥
 too_many n h = grind (arith, nat_tests)
 
-one_less : (m n : ℕ) → (1 + m == suc n) ≡ true → (m == n) ≡ true
+pub one_less : (m n : ℕ) → (1 + m == suc n) ≡ true → (m == n) ≡ true
 one_less m n h = grind (arith, nat_tests)
 
 mutual

@@ -98,7 +98,7 @@ take_blocks text s (b ∷ bs) h =
     (λ is. take_declarations text s b.declarations (h b here is))
     (take_blocks text s bs (λ c among. h c (later among)))
 
-inputs_taken : (text : Declared) (bs : List VariableBlock)
+pub inputs_taken : (text : Declared) (bs : List VariableBlock)
     → input_names (map (resolved_block text) bs) ≡ input_names bs
 inputs_taken text [] = refl
 inputs_taken text (b ∷ bs) = ap₂ (λ xs ys. if is_input b.section then xs ++ ys else ys)

@@ -1,0 +1,11 @@
+pub mod LinkedParts
+pub mod TypeShapes
+pub mod ExpressionLinks
+pub mod StatementLinks
+pub mod FoundSymbols
+pub mod TakenTexts
+pub mod BoundedArrays
+pub mod UnitServes
+pub mod DeclaredSites
+pub mod FunctionServes
+pub mod TextTotals
