@@ -13,3 +13,6 @@ pub mod LinkExamples
 pub mod ProgramTables
 pub mod BlockTables
 pub mod ProgramExample
+pub mod TextNumbers
+pub mod FunctionTables
+pub mod TextLinks

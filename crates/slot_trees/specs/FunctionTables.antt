@@ -1,0 +1,24 @@
+-- The names of a function's body as its declarations tell: each call has values of its own, and so many of them stand
+-- before those of a variable.
+use Rattle.std.specs.Prelude.{ℕ, List, [], ◌∷◌, map, Option, None, option_map}
+use Rattle.st_types.specs.NameTypes.{Declared}
+use Rattle.st_types.specs.Scopes.{Name}
+use Rattle.st_layouts.specs.LayoutVariables.{Owned, owned_variable}
+use Rattle.st_layouts.specs.Standing.{variable_at}
+use Rattle.st_layouts.specs.TextLayouts.{variable_shape}
+use Rattle.st_layouts.specs.Types.{NamedSite}
+use Rattle.slot_trees.specs.SlotTrees.{own}
+use Rattle.slot_trees.specs.Tables.{Symbol}
+use Rattle.slot_trees.specs.BlockTables.{if_there}
+
+-- the name of a variable with its first value
+abbrev pub call_symbol : Declared → Name → ℕ × Owned → Symbol
+call_symbol text x e =
+    record { name = x; anchor = own e.0; is_input = e.1.is_input; shape = variable_shape text e.1 }
+
+-- what the names stand for in a call with these variables; one that is not declared stands for nothing
+abbrev pub function_symbols : Declared → List NamedSite → List Name → List Symbol
+function_symbols text ds [] = []
+function_symbols text ds (x ∷ xs) =
+    if_there (option_map (call_symbol text x) (variable_at text (map (owned_variable None) ds) None x))
+    (function_symbols text ds xs)
