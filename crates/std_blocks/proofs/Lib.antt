@@ -1,0 +1,5 @@
+pub mod BlockLemmas
+pub mod MemberLemmas
+pub mod NumberLemmas
+pub mod Remainders
+pub mod ShiftLemmas

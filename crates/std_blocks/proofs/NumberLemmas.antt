@@ -1,0 +1,55 @@
+-- Numbers that the code can hold.
+use Rattle.std.proofs.Common.{◌≡◌, ◌≢◌, Bool, true, false, if◌then◌else◌, arith, refl, Err, ◌&&◌, ◌^◌, suc, Result}
+use mir.Syntax.{w128}
+use Rattle.std.specs.Prelude.{ℤ, pos, negsuc, neg_ℤ, ◌≤ℤ◌, int_div, int_le, ◌-◌, Ok}
+use Rattle.std.specs.Int.RustNames.{FitsSigned}
+use Rattle.std.proofs.Math.Nat.{div-le_self}
+use Rattle.std.proofs.lemmas.Int.{ints}
+use Rattle.std.proofs.lemmas.Bool.Decides.{Decides-int_eq}
+use Rattle.std.proofs.lemmas.Grind.{common_steps}
+use Rattle.st_words.specs.declared.kind.Kind.{Kind}
+use Rattle.st_words.specs.declared.fault.Fault.{Fault}
+use Rattle.st_words.specs.declared.fault.Fault.TheVariants.{Range, Conversion}
+use Rattle.st_words.specs.Kinds.{least, greatest, holds}
+use Rattle.st_words.specs.Values.{Datum, in_range}
+use Rattle.st_types.specs.Operators.{quotient}
+use Rattle.st_types.specs.StandardFunctions.{conversion}
+
+-- the quotient of two numbers of which the first is one of some type
+pub quotient_fits : (a d : ℤ) → neg_ℤ (pos (2 ^ 63)) ≤ℤ a → a ≤ℤ pos (2 ^ 64 - 1) → FitsSigned w128 (int_div a d)
+quotient_fits (pos a) (pos b) l h = record { sfits = omega (arith, ints, div-le_self a b) }
+quotient_fits (pos a) (negsuc b) l h = omega (arith, ints, div-le_self a (suc b))
+quotient_fits (negsuc a) (pos b) l h = omega (arith, ints, div-le_self (suc a) b)
+quotient_fits (negsuc a) (negsuc b) l h = record { sfits = omega (arith, ints, div-le_self (suc a) (suc b)) }
+
+pub divided : (k : Kind) (x y : ℤ) → y ≢ pos 0 → in_range k (int_div x y) ≡ quotient k x y
+divided k x y h = grind (arith, common_steps, Decides-int_eq)
+
+abbrev or_range : Bool → Kind → ℤ → Result Datum Fault
+or_range t k z = if t then Ok (record { kind = k; number = z }) else Err Range
+
+-- what the code can't hold is beyond the bounds of a type that it can
+pub beyond_each_type : (k : Kind) (z : ℤ) → FitsSigned w128 (least k) → FitsSigned w128 (greatest k)
+    → (FitsSigned w128 z → ⊥) → in_range k z ≡ Err Range
+beyond_each_type k z l g h = by_test (holds k z) refl
+  where
+    inside : (a b : ℤ) → FitsSigned w128 a → FitsSigned w128 b → (int_le a z && int_le z b) ≡ true → FitsSigned w128 z
+    inside a b f g e = grind (arith, ints)
+
+    fits : holds k z ≡ true → FitsSigned w128 z
+    fits e = inside (least k) (greatest k) l g e
+
+    by_test : (t : Bool) → holds k z ≡ t → or_range t k z ≡ Err Range
+    by_test false e = refl
+    by_test true e = absurd (h (fits e))
+
+-- the value of a type that a number is, where there is one
+abbrev or_conversion : Bool → Kind → ℤ → Result Datum Fault
+or_conversion t k z = if t then Ok (record { kind = k; number = z }) else Err Conversion
+
+pub converted : (k : Kind) (z : ℤ) (v : Datum) → in_range k z ≡ Ok v → conversion k z ≡ Ok v
+converted k z v = by_test (holds k z)
+  where
+    by_test : (t : Bool) → or_range t k z ≡ Ok v → or_conversion t k z ≡ Ok v
+    by_test true e = e
+    by_test false e = cc

@@ -1,0 +1,201 @@
+//! Counters.
+
+ghost use Rattle.std.specs.Prelude.{◌≡◌, ◌+◌, ◌∷◌, [], ◌≤◌, ℕ, int_le, pos, length};
+ghost use Rattle.st_types.specs.StandardBlocks.{CTU, CTD, CTUD, one_up, one_down, counted, up_count, down_count};
+ghost use Rattle.st_types.specs.StandardBlocks.{up_down_count, int};
+ghost use Rattle.st_words.specs.Values.{datum_of_truth, is_true};
+ghost use Rattle.std_blocks.specs.Members.{all_stored, block_stepped, Leaves};
+
+use crate::edges::edge;
+use crate::members::{held_value, put_all, six_members, ten_members};
+use st_words::{Fault, Kind, Value};
+
+/// One more, but not past the end of INT.
+fn one_up(z: i128) -> i128
+    ensures { result ≡ one_up z }
+{
+    if z < Kind::Int.greatest() { z + 1 } else { z }
+}
+
+/// One less, but not past the end of INT.
+fn one_down(z: i128) -> i128
+    ensures { result ≡ one_down z }
+{
+    if Kind::Int.least() < z { z - 1 } else { z }
+}
+
+/// What a counter counts where it is neither reset nor loaded. Two edges at once count nothing.
+fn counted(up: bool, down: bool, z: i128) -> i128
+    ensures { result ≡ counted up down z }
+{
+    if up && down {
+        z
+    } else if up {
+        one_up(z)
+    } else if down {
+        one_down(z)
+    } else {
+        z
+    }
+}
+
+fn up_count(reset: bool, up: bool, z: i128) -> i128
+    ensures { result ≡ up_count reset up z }
+{
+    if reset { 0 } else { counted(up, false, z) }
+}
+
+fn down_count(load: bool, preset: i128, down: bool, z: i128) -> i128
+    ensures { result ≡ down_count load preset down z }
+{
+    if load {
+        preset
+    } else {
+        counted(false, down, z)
+    }
+}
+
+fn up_down_count(reset: bool, load: bool, preset: i128, up: bool, down: bool, z: i128) -> i128
+    ensures { result ≡ up_down_count reset load preset up down z }
+{
+    if reset {
+        0
+    } else if load {
+        preset
+    } else {
+        counted(up, down, z)
+    }
+}
+
+/// Assigns the six members of an up counter or a down counter; F4 where one is of another type, or the count is none.
+
+#[tactic(auto, using(crate::proofs::BlockLemmas::unheld_count))]
+fn put_counter(
+    slots: &mut [Value],
+    at: usize,
+    inputs: (Value, Value, Value),
+    q: bool,
+    count: i128,
+    memory: bool,
+) -> Result<(), Fault>
+    requires { at + 6 ≤ length slots.old }
+    ensures { Leaves result (all_stored slots.old at (inputs.0 ∷ inputs.1 ∷ inputs.2 ∷ datum_of_truth q ∷ int count
+        ∷ datum_of_truth memory ∷ [])) slots.new }
+{
+    let count = held_value(Kind::Int, count)?;
+    let (edge, other, preset) = inputs;
+    let values = [
+        edge,
+        other,
+        preset,
+        Value::truth(q),
+        count,
+        Value::truth(memory),
+    ];
+    put_all(slots, at, &values)
+}
+
+/// CTU: counts up.
+#[tactic(auto, using(crate::proofs::BlockLemmas::no_members))]
+pub fn step_up(slots: &mut [Value], at: usize) -> Result<(), Fault>
+    ensures { (now : ℕ) → Leaves result (block_stepped CTU now at slots.old) slots.new }
+{
+    let (up, reset, preset, _, count, memory) = six_members(slots, at)?;
+    let edge = edge(up.is_true(), memory.is_true());
+    let count = up_count(reset.is_true(), edge, count.number());
+    put_counter(
+        slots,
+        at,
+        (up, reset, preset),
+        preset.number() <= count,
+        count,
+        up.is_true(),
+    )
+}
+
+/// CTD: counts down.
+#[tactic(auto, using(crate::proofs::BlockLemmas::no_members))]
+pub fn step_down(slots: &mut [Value], at: usize) -> Result<(), Fault>
+    ensures { (now : ℕ) → Leaves result (block_stepped CTD now at slots.old) slots.new }
+{
+    let (down, load, preset, _, count, memory) = six_members(slots, at)?;
+    let edge = edge(down.is_true(), memory.is_true());
+    let count = down_count(load.is_true(), preset.number(), edge, count.number());
+    put_counter(
+        slots,
+        at,
+        (down, load, preset),
+        count <= 0,
+        count,
+        down.is_true(),
+    )
+}
+
+/// The inputs of an up and down counter.
+#[derive(Clone, Copy)]
+struct UpDown {
+    up: Value,
+    down: Value,
+    reset: Value,
+    load: Value,
+    preset: Value,
+}
+
+/// Assigns the ten members of an up and down counter; F4 where one is of another type, or the count is none.
+
+#[tactic(auto, using(crate::proofs::BlockLemmas::unheld_up_down))]
+fn put_up_down(slots: &mut [Value], at: usize, inputs: UpDown, count: i128) -> Result<(), Fault>
+    requires { at + 10 ≤ length slots.old }
+    ensures { Leaves result (all_stored slots.old at (inputs.up ∷ inputs.down ∷ inputs.reset ∷ inputs.load
+        ∷ inputs.preset ∷ datum_of_truth (int_le inputs.preset.number count) ∷ datum_of_truth (int_le count (pos 0))
+        ∷ int count ∷ datum_of_truth (is_true inputs.up) ∷ datum_of_truth (is_true inputs.down) ∷ [])) slots.new }
+{
+    let up_q = Value::truth(inputs.preset.number() <= count);
+    let down_q = Value::truth(count <= 0);
+    let count = match held_value(Kind::Int, count) {
+        Ok(count) => count,
+        Err(fault) => return Err(fault),
+    };
+    let values = [
+        inputs.up,
+        inputs.down,
+        inputs.reset,
+        inputs.load,
+        inputs.preset,
+        up_q,
+        down_q,
+        count,
+        Value::truth(inputs.up.is_true()),
+        Value::truth(inputs.down.is_true()),
+    ];
+    put_all(slots, at, &values)
+}
+
+/// CTUD: counts up and down. Two edges at once count nothing.
+#[tactic(auto, using(crate::proofs::BlockLemmas::no_members))]
+pub fn step_up_down(slots: &mut [Value], at: usize) -> Result<(), Fault>
+    ensures { (now : ℕ) → Leaves result (block_stepped CTUD now at slots.old) slots.new }
+{
+    let (up, down, reset, load, preset, _, _, count, up_memory, down_memory) = ten_members(
+        slots, at,
+    )?;
+    let inputs = UpDown {
+        up,
+        down,
+        reset,
+        load,
+        preset,
+    };
+    let up_edge = edge(up.is_true(), up_memory.is_true());
+    let down_edge = edge(down.is_true(), down_memory.is_true());
+    let (reset, load) = (reset.is_true(), load.is_true());
+    let count = up_down_count(
+        reset,
+        load,
+        preset.number(),
+        up_edge,
+        down_edge,
+        count.number(),
+    );
+    put_up_down(slots, at, inputs, count)
+}

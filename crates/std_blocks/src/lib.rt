@@ -1,0 +1,20 @@
+//! What operators, standard functions and standard function blocks make of values.
+//!
+//! Each call is exactly its definition, whatever the types of its operands: what no well-typed text meets ends with the
+//! fault that stands for it in a run. None of them takes memory.
+#![tactic(auto)]
+
+mod bistables;
+mod blocks;
+mod counters;
+mod edges;
+mod functions;
+mod members;
+mod operators;
+mod shifts;
+mod timer;
+mod timers;
+
+pub use blocks::step;
+pub use functions::standard_value;
+pub use operators::{apply, apply_unary, truth};
