@@ -6,6 +6,8 @@
 
 mod instr;
 mod laws;
+mod mark;
 
 pub use instr::Instr;
-pub use laws::machine_goes_on;
+pub use laws::{machine_goes_on, reads_suffice};
+pub use mark::Mark;

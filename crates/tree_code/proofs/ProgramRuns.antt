@@ -1,5 +1,5 @@
 -- The machine does on a program's code what the program does.
-use Rattle.std.proofs.Common.{◌≡◌, ℕ, ◌+◌, ◌≤◌, ◌<◌, List, [], ◌++◌, length, take, Result, Ok, Err, refl, sym, ap}
+use Rattle.std.proofs.Common.{◌≡◌, ℕ, ◌+◌, ◌≤◌, ◌<◌, List, [], ◌++◌, length, take, Result, Ok, Err, refl, sym, ap, subst}
 use Rattle.std.proofs.Common.{◌∙◌, arith}
 use Rattle.std.specs.Prelude.{slice_get}
 use Rattle.st_words.specs.Values.{Datum}
@@ -49,8 +49,9 @@ ends_so : (memory base size : ℕ) (below : Slots) → size ≤ memory → (r : 
     → GivesBy r b (λ t n. Holds memory (program_site base size) below (state_of t) n) (λ t n a. finished n a) e
     → EndsSo size r e
 ends_so memory base size below le (Ok r) b e h =
-    (h.0, (h.1.2, first_values memory base size below (state_of r.0) h.0 le h.1.0))
-ends_so memory base size below le (Err f) b e h = h
+    let values = first_values memory base size below (state_of r.0) h.0 le h.1.0 in
+    subst (EndsSo size (Ok r)) (sym h.1.2) (refl, values)
+ends_so memory base size below le (Err f) b e h = subst (EndsSo size (Err f)) (sym h.1) refl
 
 pub program_runs : (t : StandIns) (library : SlotLibrary) (base : ℕ) (body : SlotStmts) (now n depth memory : ℕ)
     (vs rest : List Datum) (b : ℕ) → ProgramFits memory library base (length vs) body n → n ≤ depth

@@ -30,5 +30,7 @@ pub record ProgramFits (memory : ℕ) (library : SlotLibrary) (base size : ℕ) 
 -- The machine ends as the program does: with the ticks that it leaves and its values in the first slots, or with its
 -- fault.
 abbrev pub EndsSo : ℕ → Result (SlotEnd × ℕ) Fault → Ending (List Datum) → Type 0
-EndsSo size (Ok r) e = (m : List Datum) × ((e ≡ finished m r.1) × (take size m ≡ state_of r.0))
-EndsSo size (Err f) e = (m : List Datum) × (e ≡ failed m f)
+EndsSo size (Ok r) (finished m b) = (b ≡ r.1) × (take size m ≡ state_of r.0)
+EndsSo size (Err f) (failed m g) = g ≡ f
+EndsSo size (Ok r) (failed m g) = ⊥
+EndsSo size (Err f) (finished m b) = ⊥
