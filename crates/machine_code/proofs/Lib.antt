@@ -1,4 +1,4 @@
 pub mod Simulating
 pub mod Fixpoint
-pub mod Reading
-pub mod OwnRun
+pub mod MarkLemmas
+pub mod Tracks

@@ -4,6 +4,7 @@
 //! behind all values of the unit that calls it. When a program fits a memory, and its code, stand in `specs/`.
 #![tactic(auto)]
 
+pub mod examples;
 mod laws;
 mod ways;
 
