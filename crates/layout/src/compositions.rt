@@ -102,7 +102,7 @@ impl<'a> Types<'a> {
     }
 
     /// What a type is made of, by its name.
-    fn composition_named(&self, name: &Name) -> Composition<'a>
+    pub fn composition_named(&self, name: &Name) -> Composition<'a>
         ensures { (text : Declared) (at : ℕ) → ServesTypes self.now text
             → composition_view result ≡ composition_of text (named_type name.now at) }
     {

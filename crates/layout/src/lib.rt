@@ -23,9 +23,12 @@ mod slots;
 mod standard_members;
 mod variables;
 
-pub use compositions::Types;
+pub use compositions::{Composition, Types};
+pub use elements::count_of;
 pub use laws::{accepted_texts_declare_names_once, what_is_too_large};
 pub use layout::Layout;
 pub use layout_error::LayoutError;
-pub use sizes::Sizes;
+pub use parts::parts_of;
+pub use sites::{Part, PartStep, Site};
+pub use sizes::{Sizes, product, sum};
 pub use slots::LayoutSlot;

@@ -23,14 +23,14 @@ use st_words::limits::MAX_PATHS;
 use std::alloc::{AllocError, Global};
 
 /// The sum of two sizes, cut off.
-fn sum(a: usize, b: usize) -> usize
+pub fn sum(a: usize, b: usize) -> usize
     ensures { result ≡ cut (a + b) }
 {
     a.saturating_add(b).min(MAX_PATHS + 1)
 }
 
 /// The size of so many elements, cut off.
-fn product(count: u128, size: usize) -> usize
+pub fn product(count: u128, size: usize) -> usize
     ensures { result ≡ cut (count * size) }
 {
     count
@@ -161,6 +161,13 @@ impl<'a> Sizes<'a> {
             types,
             known: Index::new(alloc),
         }
+    }
+
+    /// The text's types.
+    pub fn types(&self) -> &Types<'a>
+        ensures { result.now ≡ self.now.types }
+    {
+        &self.types
     }
 
     /// How many slots a variable of the type takes; 4,097 where it takes more than 4,096. Of a type that is more than

@@ -1,0 +1,4 @@
+pub mod Simulating
+pub mod Fixpoint
+pub mod MarkLemmas
+pub mod Tracks

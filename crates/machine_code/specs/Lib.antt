@@ -1,0 +1,4 @@
+pub mod Memories
+pub mod Machine
+pub mod Simulation
+pub mod Tracking

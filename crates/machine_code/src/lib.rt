@@ -1,0 +1,13 @@
+//! Instructions over slots, and the machine that runs them.
+//!
+//! What an instruction does is defined over any memory that is looked up, put and reset. So one law on two memories
+//! serves all instructions, and a memory that records what is read runs as one that does not.
+#![tactic(auto)]
+
+mod instr;
+mod laws;
+mod mark;
+
+pub use instr::Instr;
+pub use laws::{machine_goes_on, reads_suffice};
+pub use mark::Mark;

@@ -1,0 +1,4 @@
+pub mod Chains
+pub mod ExpressionViews
+pub mod StatementViews
+pub mod LibraryViews

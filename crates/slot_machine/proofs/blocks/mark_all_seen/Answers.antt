@@ -1,0 +1,15 @@
+use Rattle.std.proofs.Common.{arith}
+use Rattle.machine_code.specs.Tracking.{seen}
+use Rattle.slot_machine.proofs.Marks.{marks_begin, marks_more, marks_done}
+use Rattle.slot_machine.proofs.blocks.mark_all_seen.Goals as goal
+
+pub loop-i-init : goal.loop-i-init
+loop-i-init c = marks_begin seen c.args.marks.now c.args.first c.args.count
+
+pub loop-i-preserved : goal.loop-i-preserved
+loop-i-preserved c =
+    marks_more seen c.loop-i.marks c.mark_seen.new.marks c.args.first c.loop-i.i c.args.count _ (omega arith)
+    c.mark_seen.ensures c.loop-i.invariant
+
+pub returns : goal.returns
+returns c = marks_done seen c.loop-i.marks c.args.first c.loop-i.i c.args.count _ (omega arith) c.loop-i.invariant

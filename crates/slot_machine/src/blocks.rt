@@ -1,0 +1,69 @@
+//! The instruction that steps a standard block.
+
+ghost use Rattle.std.specs.Prelude.{◌≡◌, ℕ, List, Some, length};
+ghost use Rattle.st_words.specs.Values.{Datum};
+ghost use Rattle.st_types.specs.StandardBlocks.{members_of};
+ghost use Rattle.st_names.specs.Standard.{block_view};
+ghost use Rattle.machine_code.specs.Tracking.{tracked, seen, assigned};
+ghost use Rattle.machine_code.specs.declared.instr.Instr.TheVariants as instrs;
+ghost use Rattle.slot_machine.specs.Steps.{StepsOn, marks_from};
+
+use crate::memory::{mark_assigned, mark_seen};
+use crate::stop::Stop;
+use machine_code::Mark;
+use st_names::StandardBlock;
+use st_words::Value;
+use std_blocks::step;
+
+/// How many members an instance has.
+fn member_count(block: StandardBlock) -> u16
+    ensures { result ≡ length (members_of (block_view block)) }
+{
+    match block {
+        StandardBlock::Sr | StandardBlock::Rs => 3,
+        StandardBlock::RTrig | StandardBlock::FTrig => 3,
+        StandardBlock::Ctu | StandardBlock::Ctd => 6,
+        StandardBlock::Ctud => 10,
+        StandardBlock::Ton | StandardBlock::Tof | StandardBlock::Tp => 6,
+    }
+}
+
+/// Marks that so many slots were looked up.
+fn mark_all_seen(marks: &mut [Mark], first: u16, count: u16)
+    ensures { marks.new ≡ marks_from seen marks.old first count }
+{
+    for i in 0..count {
+        mark_seen(marks, first as usize + i as usize);
+    }
+}
+
+/// Marks that so many slots were assigned.
+fn mark_all_assigned(marks: &mut [Mark], first: u16, count: u16)
+    ensures { marks.new ≡ marks_from assigned marks.old first count }
+{
+    for i in 0..count {
+        mark_assigned(marks, first as usize + i as usize);
+    }
+}
+
+/// A step of a standard block whose members stand from a slot on.
+pub fn step_block(
+    block: StandardBlock,
+    first: u16,
+    now: u64,
+    values: &mut [Value],
+    marks: &mut [Mark],
+) -> Result<(), Stop>
+    ensures { (size p b : ℕ) (st : List Datum) → StepsOn result now size (Some (instrs.Step block first)) p st
+        (tracked values.old marks.old) b p st (tracked values.new marks.new) b }
+{
+    let count = member_count(block);
+    mark_all_seen(marks, first, count);
+    match step(block, values, first as usize, now) {
+        Ok(()) => {
+            mark_all_assigned(marks, first, count);
+            Ok(())
+        }
+        Err(fault) => Err(Stop::Fault(fault)),
+    }
+}

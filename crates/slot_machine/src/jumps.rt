@@ -1,0 +1,141 @@
+//! Instructions that go elsewhere, and ticks.
+
+ghost use Rattle.std.specs.Prelude.{◌≡◌, ◌≤◌, ℕ, List, Some};
+ghost use Rattle.st_words.specs.Values.{Datum};
+ghost use Rattle.machine_code.specs.Machine.{is_within};
+ghost use Rattle.machine_code.specs.Tracking.{Tracked};
+ghost use Rattle.machine_code.specs.declared.instr.Instr.TheVariants as instrs;
+ghost use Rattle.slot_machine.specs.Steps.{Steps, IsDown, IsTick};
+
+use crate::stack::Stack;
+use crate::stop::Stop;
+use st_words::{Fault, Value};
+use std_blocks::truth;
+
+/// A jump to a place that is at most the one behind the instruction.
+#[inline(always)]
+pub fn go_down(place: &mut usize, to: u16) -> Result<(), Stop>
+    ensures down { IsDown result to place.old place.new }
+    ensures within { place.new ≤ place.old }
+{
+    if to as usize > *place {
+        return Err(Stop::Fault(Fault::Conversion));
+    }
+    *place = to as usize;
+    Ok(())
+}
+
+/// A tick of the budget.
+#[inline(always)]
+fn take_tick(ticks: &mut u32) -> Result<(), Stop>
+    ensures { IsTick result ticks.old ticks.new }
+{
+    if *ticks == 0 {
+        return Err(Stop::Fault(Fault::Budget));
+    }
+    *ticks -= 1;
+    Ok(())
+}
+
+#[inline(always)]
+pub fn tick(ticks: &mut u32) -> Result<(), Stop>
+    ensures { (now size p : ℕ) (st : List Datum) (m : Tracked)
+        → Steps result now size (Some instrs.Tick) p st m ticks.old p st m ticks.new }
+{
+    take_tick(ticks)
+}
+
+#[inline(always)]
+pub fn jump(to: u16, place: &mut usize) -> Result<(), Stop>
+    ensures steps { (now size b : ℕ) (st : List Datum) (m : Tracked)
+        → Steps result now size (Some (instrs.Jump to)) place.old st m b place.new st m b }
+    ensures within { place.new ≤ place.old }
+{
+    go_down(place, to)
+}
+
+#[inline(always)]
+pub fn go_back(size: usize, to: u16, place: &mut usize, ticks: &mut u32) -> Result<(), Stop>
+    requires { place.old ≤ size }
+    ensures steps { (now : ℕ) (st : List Datum) (m : Tracked)
+        → Steps result now size (Some (instrs.Back to)) place.old st m ticks.old place.new st m ticks.new }
+    ensures within { place.new ≤ size }
+{
+    take_tick(ticks)?;
+    if to as usize > size {
+        return Err(Stop::Fault(Fault::Conversion));
+    }
+    *place = to as usize;
+    Ok(())
+}
+
+/// A condition: where it is FALSE, the jump is made.
+#[inline(always)]
+#[tactic(auto, using(crate::proofs::Results::result_ok, crate::proofs::Results::result_err))]
+pub fn unless(to: u16, place: &mut usize, stack: &mut Stack) -> Result<(), Stop>
+    ensures steps { (now size b : ℕ) (m : Tracked)
+        → Steps result now size (Some (instrs.Unless to)) place.old stack.old m b place.new stack.new m b }
+    ensures within { place.new ≤ place.old }
+{
+    let x = stack.pop()?;
+    match truth(x) {
+        Ok(true) => Ok(()),
+        Ok(false) => go_down(place, to),
+        Err(fault) => Err(Stop::Fault(fault)),
+    }
+}
+
+/// A condition: where it is TRUE, the jump is made.
+#[inline(always)]
+#[tactic(auto, using(crate::proofs::Results::result_ok, crate::proofs::Results::result_err))]
+pub fn when(to: u16, place: &mut usize, stack: &mut Stack) -> Result<(), Stop>
+    ensures steps { (now size b : ℕ) (m : Tracked)
+        → Steps result now size (Some (instrs.When to)) place.old stack.old m b place.new stack.new m b }
+    ensures within { place.new ≤ place.old }
+{
+    let x = stack.pop()?;
+    match truth(x) {
+        Ok(true) => go_down(place, to),
+        Ok(false) => Ok(()),
+        Err(fault) => Err(Stop::Fault(fault)),
+    }
+}
+
+#[inline(always)]
+pub fn equals(to: u16, place: &mut usize, stack: &mut Stack) -> Result<(), Stop>
+    ensures steps { (now size b : ℕ) (m : Tracked)
+        → Steps result now size (Some (instrs.Equals to)) place.old stack.old m b place.new stack.new m b }
+    ensures within { place.new ≤ place.old }
+{
+    let wanted = stack.pop()?;
+    let value = stack.pop()?;
+    stack.push(value)?;
+    if value.number() == wanted.number() {
+        return go_down(place, to);
+    }
+    Ok(())
+}
+
+#[inline(always)]
+fn is_within(least: Value, greatest: Value, value: Value) -> bool
+    ensures { result ≡ is_within least.number greatest.number value.number }
+{
+    let number = value.number();
+    least.number() <= number && number <= greatest.number()
+}
+
+#[inline(always)]
+pub fn within(to: u16, place: &mut usize, stack: &mut Stack) -> Result<(), Stop>
+    ensures steps { (now size b : ℕ) (m : Tracked)
+        → Steps result now size (Some (instrs.Within to)) place.old stack.old m b place.new stack.new m b }
+    ensures within { place.new ≤ place.old }
+{
+    let greatest = stack.pop()?;
+    let least = stack.pop()?;
+    let value = stack.pop()?;
+    stack.push(value)?;
+    if is_within(least, greatest, value) {
+        return go_down(place, to);
+    }
+    Ok(())
+}

@@ -1,0 +1,103 @@
+//! Instructions that compute with the values on the stack.
+
+ghost use Rattle.std.specs.Prelude.{◌≡◌, drop, ℕ, List, Some};
+ghost use Rattle.st_words.specs.Values.{Datum};
+ghost use Rattle.machine_code.specs.Tracking.{Tracked};
+ghost use Rattle.machine_code.specs.declared.instr.Instr.TheVariants as instrs;
+ghost use Rattle.slot_machine.specs.Steps.{Steps, operated};
+ghost use Rattle.st_names.specs.Standard.{standard_view};
+ghost use Rattle.st_types.specs.Failures.{run_result};
+
+use crate::stack::Stack;
+use crate::stop::Stop;
+use st_names::Standard;
+use st_words::{BinaryOperator, Fault, UnaryOperator, Value};
+use std_blocks::{apply, apply_unary, standard_value};
+
+#[inline(always)]
+pub fn push_constant(value: Value, stack: &mut Stack) -> Result<(), Stop>
+    ensures { (now size p b : ℕ) (m : Tracked)
+        → Steps result now size (Some (instrs.Push value)) p stack.old m b p stack.new m b }
+{
+    stack.push(value)
+}
+
+#[inline(always)]
+#[tactic(auto, using(crate::proofs::Results::result_ok, crate::proofs::Results::result_err))]
+pub fn unary(op: UnaryOperator, stack: &mut Stack) -> Result<(), Stop>
+    ensures { (now size p b : ℕ) (m : Tracked)
+        → Steps result now size (Some (instrs.Unary op)) p stack.old m b p stack.new m b }
+{
+    let x = stack.pop()?;
+    match apply_unary(op, x) {
+        Ok(value) => stack.push(value),
+        Err(fault) => Err(Stop::Fault(fault)),
+    }
+}
+
+#[inline(always)]
+#[tactic(auto, using(crate::proofs::Results::result_ok, crate::proofs::Results::result_err))]
+pub fn binary(op: BinaryOperator, stack: &mut Stack) -> Result<(), Stop>
+    ensures { (now size p b : ℕ) (m : Tracked)
+        → Steps result now size (Some (instrs.Binary op)) p stack.old m b p stack.new m b }
+{
+    let y = stack.pop()?;
+    let x = stack.pop()?;
+    match apply(op, x, y) {
+        Ok(value) => stack.push(value),
+        Err(fault) => Err(Stop::Fault(fault)),
+    }
+}
+
+/// Takes so many values away, or all.
+fn drop_values(n: u16, stack: &mut Stack)
+    ensures { stack.new ≡ drop n stack.old }
+{
+    for i in 0..n {
+        let _ = stack.take();
+    }
+}
+
+#[inline(always)]
+pub fn leave(n: u16, stack: &mut Stack) -> Result<(), Stop>
+    ensures { (now size p b : ℕ) (m : Tracked)
+        → Steps result now size (Some (instrs.Leave n)) p stack.old m b p stack.new m b }
+{
+    drop_values(n, stack);
+    Ok(())
+}
+
+/// What a standard function gives for so many topmost values; F4 where there are fewer.
+fn operated(function: Standard, n: u16, stack: &Stack) -> Result<Value, Fault>
+    ensures { result ≡ run_result (operated (standard_view function) n stack.now) }
+{
+    match stack.tops(n) {
+        Some(arguments) => standard_value(function, arguments),
+        None => Err(Fault::Conversion),
+    }
+}
+
+/// A standard function on so many topmost values.
+pub fn compute(function: Standard, n: u16, stack: &mut Stack) -> Result<(), Stop>
+    ensures { (now size p b : ℕ) (m : Tracked)
+        → Steps result now size (Some (instrs.Compute function n)) p stack.old m b p stack.new m b }
+{
+    match operated(function, n, stack) {
+        Ok(value) => {
+            drop_values(n, stack);
+            stack.push(value)
+        }
+        Err(fault) => Err(Stop::Fault(fault)),
+    }
+}
+
+/// Turns so many topmost values round.
+pub fn turn(n: u16, stack: &mut Stack) -> Result<(), Stop>
+    ensures { (now size p b : ℕ) (m : Tracked)
+        → Steps result now size (Some (instrs.Turn n)) p stack.old m b p stack.new m b }
+{
+    match stack.turn(n) {
+        Some(()) => Ok(()),
+        None => Err(Stop::Fault(Fault::Conversion)),
+    }
+}

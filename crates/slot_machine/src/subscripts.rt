@@ -1,0 +1,90 @@
+//! The instruction that moves a slot's number on to an element.
+
+ghost use Rattle.std.specs.Prelude.{◌≡◌, ◌+◌, ◌*◌, ◌-ℤ◌, ℕ, Some, true};
+ghost use Rattle.st_types.specs.Failures.{run_result};
+ghost use Rattle.st_types.specs.Operators.{natural};
+ghost use Rattle.st_layouts.specs.Shapes.{in_bounds, distance};
+ghost use Rattle.machine_code.specs.Machine.{element, slot_number};
+ghost use Rattle.machine_code.specs.Tracking.{Tracked};
+ghost use Rattle.machine_code.specs.declared.instr.Instr.TheVariants as instrs;
+ghost use Rattle.slot_machine.specs.Steps.{Steps};
+
+use crate::slots::slot_of;
+use crate::stack::Stack;
+use crate::stop::Stop;
+use st_words::{Fault, Kind, Value};
+
+fn is_bounded(lower: i64, count: u16, subscript: Value) -> bool
+    ensures { result ≡ in_bounds lower count subscript.number }
+{
+    let number = subscript.number();
+    let lower = lower as i128;
+    lower <= number && number < lower + count as i128
+}
+
+fn behind(lower: i64, subscript: Value) -> i128
+    ensures { result ≡ subscript.number -ℤ lower }
+{
+    subscript.number() - lower as i128
+}
+
+/// How many elements stand before the one at a subscript.
+fn distance(lower: i64, count: u16, subscript: Value) -> u16
+    requires { in_bounds lower count subscript.number ≡ true }
+    ensures { result ≡ distance lower subscript.number }
+{
+    behind(lower, subscript) as u16
+}
+
+fn moved(first: u16, distance: u16, stride: u16) -> u64
+    ensures { result ≡ first + distance * stride }
+{
+    first as u64 + distance as u64 * stride as u64
+}
+
+/// The slot of an element.
+fn element(
+    lower: i64,
+    count: u16,
+    stride: u16,
+    subscript: Value,
+    first: Value,
+) -> Result<u16, Fault>
+    ensures { result ≡ run_result (element lower count stride subscript.number (natural first.number)) }
+{
+    if !is_bounded(lower, count, subscript) {
+        return Err(Fault::Index);
+    }
+    let first = slot_of(first);
+    if first >= 65536 {
+        return Err(Fault::Conversion);
+    }
+    let slot = moved(first as u16, distance(lower, count, subscript), stride);
+    if slot >= 65536 {
+        return Err(Fault::Conversion);
+    }
+    Ok(slot as u16)
+}
+
+/// A slot's number as it stands on the stack.
+fn slot_value(slot: u16) -> Value
+    ensures { result ≡ slot_number slot }
+{
+    match Value::new(Kind::Lint, slot as i128) {
+        Ok(value) => value,
+        Err(_) => unreachable!(),
+    }
+}
+
+#[tactic(auto, using(crate::proofs::Results::result_ok, crate::proofs::Results::result_err))]
+pub fn subscript(lower: i64, count: u16, stride: u16, stack: &mut Stack) -> Result<(), Stop>
+    ensures { (now size p b : ℕ) (m : Tracked)
+        → Steps result now size (Some (instrs.Subscript lower count stride)) p stack.old m b p stack.new m b }
+{
+    let number = stack.pop()?;
+    let first = stack.pop()?;
+    match element(lower, count, stride, number, first) {
+        Ok(slot) => stack.push(slot_value(slot)),
+        Err(fault) => Err(Stop::Fault(fault)),
+    }
+}

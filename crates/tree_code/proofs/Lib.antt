@@ -1,0 +1,13 @@
+pub mod Gives
+pub mod LoopGives
+pub mod Places
+pub mod Growth
+pub mod Regions
+pub mod Steps
+pub mod Bounds
+pub mod UnitCalls
+pub mod Expressions
+pub mod Arguments
+pub mod Statements
+pub mod Units
+pub mod ProgramRuns
