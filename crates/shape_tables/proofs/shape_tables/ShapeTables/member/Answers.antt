@@ -1,0 +1,30 @@
+use Rattle.std.proofs.Common.{◌≡◌, refl, ap, sym, subst}
+use Rattle.std.proofs.lemmas.Result.{IfOk-weaker}
+use Rattle.st_types.specs.NameTypes.{Declared}
+use Rattle.st_names.specs.Agreeing.{Agree}
+use Rattle.st_names.specs.PlaceTypes.{place_type_view}
+use Rattle.st_layouts.specs.Types.{composition_of, of_elements, of_kind, shape_of_type}
+use Rattle.shape_tables.specs.Shapes.{IsExpanded, IsMemberPlace, ServesShapes, member_of}
+use Rattle.shape_tables.proofs.WholeLemmas.{no_members}
+use Rattle.shape_tables.proofs.shape_tables.ShapeTables.member.Goals as goal
+
+pub returns-in-Simple : goal.returns-in-Simple
+returns-in-Simple c =
+    IfOk-weaker c.member_of_simple.result _ (λ place. (text : Declared) → ServesShapes c.args.self.now text
+    → IsExpanded text (place_type_view c.args.declared) → Agree (IsMemberPlace text 0) place
+    (member_of (shape_of_type text (place_type_view c.args.declared)) c.args.name.now))
+    (λ place is text serves expanded.
+    subst (λ d. IsExpanded text (place_type_view d) → Agree (IsMemberPlace text 0) place
+    (member_of (shape_of_type text (place_type_view d)) c.args.name.now)) (sym c.in-Simple.is)
+    (is text serves) expanded)
+    c.member_of_simple.ensures
+
+pub returns-in-Array : goal.returns-in-Array
+returns-in-Array c text serves expanded =
+    no_members text (place_type_view c.args.declared) (of_elements c.in-Array.field-0.now) c.args.name.now
+    (ap (λ d. composition_of text (place_type_view d)) c.in-Array.is) refl expanded
+
+pub returns-in-Standard : goal.returns-in-Standard
+returns-in-Standard c text serves expanded =
+    no_members text (place_type_view c.args.declared) (of_kind c.in-Standard.field-0) c.args.name.now
+    (ap (λ d. composition_of text (place_type_view d)) c.in-Standard.is) refl expanded

@@ -1,0 +1,3 @@
+pub mod Members
+pub mod NamedMembers
+pub mod Shapes

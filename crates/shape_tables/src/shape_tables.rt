@@ -1,0 +1,172 @@
+//! The types of a text, each taken apart once.
+
+ghost use Rattle.std.specs.Prelude.{◌≡◌, ℕ, IfOk, false, MatchOption};
+ghost use Rattle.st_trees.specs.SourceViews.{source_view};
+ghost use Rattle.st_trees.specs.declared.data_type.VariableType.TheVariants as types;
+ghost use Rattle.st_types.specs.NameTypes.{Declared, declared_in};
+ghost use Rattle.st_names.specs.Agreeing.{Agree};
+ghost use Rattle.st_names.specs.PlaceTypes.{place_type_view};
+ghost use Rattle.st_layouts.specs.Shapes.{size};
+ghost use Rattle.st_layouts.specs.Types.{shape_of_type};
+ghost use Rattle.layout.specs.Compositions.{named_type};
+ghost use Rattle.layout.specs.Sizes.{cut};
+ghost use Rattle.shape_tables.specs.Shapes.{AreElements, IsExpanded, IsMemberPlace, ServesShapes, has_parts};
+ghost use Rattle.shape_tables.specs.Shapes.{is_array, is_plain, member_of};
+
+use crate::elements::Elements;
+use crate::members::MemberPlace;
+use crate::wholes::{Whole, add_types, add_units, standard_whole};
+use layout::{Composition, Sizes, Types, count_of};
+use st_decl::{types_in, units_in};
+use st_names::{Index, PlaceType, standard_block};
+use st_trees::{SimpleType, Source};
+use st_types::number_of;
+use st_words::Name;
+use std::alloc::{AllocError, Global};
+
+/// The types and blocks of a text, with their sizes and members.
+#[derive(Drop)]
+pub struct ShapeTables<'a> {
+    types: Types<'a>,
+    wholes: Index<'a, Whole<'a>>,
+}
+
+impl<'a> ShapeTables<'a> {
+    /// The types and blocks of a text.
+    pub fn new(alloc: Global, source: &'a Source) -> Result<ShapeTables<'a>, AllocError>
+        ensures { IfOk result (λ tables. ServesShapes tables (declared_in (source_view source.now))) }
+    {
+        let mut sizes = Sizes::new(alloc, Types::new(alloc, source)?);
+        let mut wholes = Index::new(alloc);
+        add_types(alloc, &mut sizes, &mut wholes, &types_in(alloc, source)?)?;
+        add_units(alloc, &mut sizes, &mut wholes, &units_in(alloc, source)?)?;
+        Ok(ShapeTables {
+            types: Types::new(alloc, source)?,
+            wholes,
+        })
+    }
+
+    /// How many slots a variable of a type or a block of this name takes, cut off.
+    fn size_named(&self, alloc: Global, name: &Name) -> Result<usize, AllocError>
+        ensures { IfOk result (λ n. (text : Declared) (at : ℕ) → ServesShapes self.now text
+            → IsExpanded text (named_type name.now at)
+            → n ≡ cut (size (shape_of_type text (named_type name.now at)))) }
+    {
+        if let Some(whole) = self.wholes.get(name) {
+            return Ok(whole.size);
+        }
+        match standard_block(name) {
+            Some(block) => Ok(standard_whole(alloc, block)?.size),
+            None => Ok(0),
+        }
+    }
+
+    /// How many slots a variable of a type takes, cut off.
+    fn size_of_simple(&self, alloc: Global, declared: &SimpleType) -> Result<usize, AllocError>
+        ensures { IfOk result (λ n. (text : Declared) → ServesShapes self.now text
+            → IsExpanded text (types.Simple declared.now)
+            → n ≡ cut (size (shape_of_type text (types.Simple declared.now)))) }
+    {
+        match declared {
+            SimpleType::Elementary(_, _) => Ok(1),
+            SimpleType::Named(name) => self.size_named(alloc, &name.name),
+        }
+    }
+
+    /// A member of what has the type or the block of this name.
+    fn member_named(
+        &self,
+        alloc: Global,
+        whole: &Name,
+        name: &Name,
+    ) -> Result<Option<MemberPlace<'a>>, AllocError>
+        ensures { IfOk result (λ place. (text : Declared) (at : ℕ) → ServesShapes self.now text
+            → IsExpanded text (named_type whole.now at) → Agree (IsMemberPlace text 0) place
+            (member_of (shape_of_type text (named_type whole.now at)) name.now)) }
+    {
+        if let Some(whole) = self.wholes.get(whole) {
+            return Ok(whole.members.find(name));
+        }
+        match standard_block(whole) {
+            Some(block) => Ok(standard_whole(alloc, block)?.members.find(name)),
+            None => Ok(None),
+        }
+    }
+
+    /// A member of what has a type of one word.
+    fn member_of_simple(
+        &self,
+        alloc: Global,
+        declared: &SimpleType,
+        name: &Name,
+    ) -> Result<Option<MemberPlace<'a>>, AllocError>
+        ensures { IfOk result (λ place. (text : Declared) → ServesShapes self.now text
+            → IsExpanded text (types.Simple declared.now) → Agree (IsMemberPlace text 0) place
+            (member_of (shape_of_type text (types.Simple declared.now)) name.now)) }
+    {
+        match declared {
+            SimpleType::Elementary(_, _) => Ok(None),
+            SimpleType::Named(whole) => self.member_named(alloc, &whole.name, name),
+        }
+    }
+
+    /// A member of a structure or of a block's instance; none of what has no members.
+    pub fn member(
+        &self,
+        alloc: Global,
+        declared: PlaceType<'a>,
+        name: &Name,
+    ) -> Result<Option<MemberPlace<'a>>, AllocError>
+        ensures { IfOk result (λ place. (text : Declared) → ServesShapes self.now text
+            → IsExpanded text (place_type_view declared.entry) → Agree (IsMemberPlace text 0) place
+            (member_of (shape_of_type text (place_type_view declared.entry)) name.now)) }
+    {
+        match declared {
+            PlaceType::Simple(simple) => self.member_of_simple(alloc, simple, name),
+            PlaceType::Array(_) => Ok(None),
+            PlaceType::Standard(_) => Ok(None),
+        }
+    }
+
+    /// The elements of an array; none of what is no array.
+    pub fn elements(
+        &self,
+        alloc: Global,
+        declared: PlaceType<'a>,
+    ) -> Result<Option<Elements<'a>>, AllocError>
+        ensures { IfOk result (λ elements. (text : Declared) → ServesShapes self.now text
+            → IsExpanded text (place_type_view declared.entry) → MatchOption elements
+            (is_array (shape_of_type text (place_type_view declared.entry)) ≡ false)
+            (AreElements text (shape_of_type text (place_type_view declared.entry)))) }
+    {
+        let Composition::Elements(array) = self.types.composition_of(declared) else {
+            return Ok(None);
+        };
+        Ok(Some(Elements {
+            lower: number_of(&array.lower),
+            count: count_of(array),
+            stride: self.size_of_simple(alloc, &array.element)?,
+            declared: PlaceType::Simple(&array.element),
+        }))
+    }
+
+    /// Whether a variable of the type is elementary.
+    pub fn is_elementary(&self, declared: PlaceType<'a>) -> bool
+        ensures { (text : Declared) → ServesShapes self.now text → IsExpanded text (place_type_view declared.entry)
+            → result ≡ is_plain (shape_of_type text (place_type_view declared.entry)) }
+    {
+        matches!(self.types.composition_of(declared), Composition::Kind(_))
+    }
+
+    /// Whether a variable of the type has members: it is a structure or a block's instance.
+    pub fn has_members(&self, declared: PlaceType<'a>) -> bool
+        ensures { (text : Declared) → ServesShapes self.now text → IsExpanded text (place_type_view declared.entry)
+            → result ≡ has_parts (shape_of_type text (place_type_view declared.entry)) }
+    {
+        match self.types.composition_of(declared) {
+            Composition::Kind(_) => false,
+            Composition::Elements(_) => false,
+            _ => true,
+        }
+    }
+}
