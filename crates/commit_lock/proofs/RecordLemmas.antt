@@ -268,9 +268,10 @@ placed_first : (v : PlanVariable) (r : Bool) (ws : List Datum) (ks : List Kind)
     → map (λ d. d.kind) ws ≡ (if r then v.initial.kind ∷ ks else ks)
     → AllByRecursion (λ d. is_byte_place d ≡ true) ws
 placed_first v true [] ks spelled again e = tt
-placed_first v true (w ∷ ws) ks spelled again e =
-    (place_of_keyword w.kind w.number (ap (λ k. is_spelled (row_of k).keyword) (head_is e) ∙ spelled),
-    again ws (tail_is e))
+placed_first v true (w ∷ ws) ks spelled again e = (
+  place_of_keyword w.kind w.number (ap (λ k. is_spelled (row_of k).keyword) (head_is e) ∙ spelled),
+  again ws (tail_is e),
+)
   where
     head_is : {a b : Kind} {xs ys : List Kind} → a ∷ xs ≡ b ∷ ys → a ≡ b
     head_is h = cc

@@ -22,6 +22,7 @@ parted_at_none mark (b ∷ bytes) e =
   where
     one_more : List ℕ × List ℕ → Option (List ℕ × List ℕ)
     one_more p = Some (b ∷ p.0, p.1)
+
     none_before : (o : Option (List ℕ × List ℕ)) → (o >>= one_more) ≡ None → o ≡ None
     none_before None e = refl
     none_before (Some p) e = absurd cc
@@ -30,8 +31,11 @@ pub parted_at : (mark : ℕ) (bytes front behind : List ℕ) → cut mark bytes 
     → parted mark bytes ≡ front ∷ parted mark behind
 parted_at mark [] front behind e = absurd cc
 parted_at mark (b ∷ bytes) front behind e =
-    elim (chosen (b == mark) (Some ([], bytes)) (cut mark bytes >>= λ p. Some (b
-        ∷ p.0, p.1)) (Some (front, behind)) e) [
+    elim (chosen (b == mark) (Some ([], bytes)) (cut mark bytes >>= λ p. Some (
+      b
+          ∷ p.0,
+      p.1,
+    )) (Some (front, behind)) e) [
       | inl here ↦
           let same = some_is ([], bytes) (front, behind) here.1 in
           rw here.0 (ap (λ (p : List ℕ × List ℕ). p.0 ∷ parted mark p.1) same)
@@ -39,7 +43,7 @@ parted_at mark (b ∷ bytes) front behind e =
           let a = bind_some (cut mark bytes) (λ p. Some (b ∷ p.0, p.1)) (front, behind) later.1 in
           let same = some_is (b ∷ a.0.0, a.0.1) (front, behind) a.2 in
           rw (later.0, parted_at mark bytes a.0.0 a.0.1 a.1)
-              (ap (λ (p : List ℕ × List ℕ). p.0 ∷ parted mark p.1) same)
+          (ap (λ (p : List ℕ × List ℕ). p.0 ∷ parted mark p.1) same)
     ]
 
 -- names behind so many that are counted

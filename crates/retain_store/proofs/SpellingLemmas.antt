@@ -99,7 +99,7 @@ bits_are d k number span is held kind exact low high number_fits span_fits test 
     let up : pos 0 ≤ℤ span = rw exact (omega (arith, ints)) in
     let sum : SFits w128 (number +ℤ span) = sum_fits number span low negative up high in
     let near : mag number < 2 ^ bits (wide_of d.kind) = rw is (near_of d.kind d.number held (subst (λ (z : ℤ). z <ℤ
-        pos 0) is negative)) in
+    pos 0) is negative)) in
     let whole : nat_abs (to_z w128 (of_z w128 (to_z w128 (of_z w128 number) +ℤ to_z w128 (of_z w128 span))))
     ≡ nat_abs (number +ℤ span) = rw (plain, plain_span, to_z-of_z w128 (number +ℤ span) sum) refl in
     let wide : nat_abs (number +ℤ span) ≡ nat_abs (number +ℤ pos (2 ^ bits (wide_of d.kind))) =

@@ -183,6 +183,7 @@ name_has_no mark low (b ∷ x) h =
   where
     other : (b : ℕ) → 48 ≤ b → not (b == mark) ≡ true
     other b high = not_from_false (b == mark) (ne_eqb b mark (λ e. omega (arith, e)))
+
     all_others : (y : List ℕ) → list_all is_letter_or_digit y ≡ true → has_no mark y ≡ true
     all_others [] h = refl
     all_others (c ∷ y) h =
@@ -195,7 +196,7 @@ enumeration_made : (bytes x : List ℕ) (n : ℕ) → bytes ≡ x ++ 41 ∷ [] �
     → IsEnumeration (40 ∷ bytes) n
 enumeration_made bytes x n last counted =
     let h = when_some (list_all is_upper_name (parted 44 x) && nat_le (length (parted 44 x)) 65535)
-        (length (parted 44 x)) n counted in
+    (length (parted 44 x)) n counted in
     let p = and_parts (list_all is_upper_name (parted 44 x)) (nat_le (length (parted 44 x)) 65535) h.0 in
     let some = parts_are_some 44 x in
     record {
@@ -211,9 +212,9 @@ enumeration_spells : (word : List ℕ) (k : Kind) → enumeration_in word ≡ So
 enumeration_spells [] k e = absurd cc
 enumeration_spells (b ∷ bytes) k e =
     let h = when_kept (b == 40)
-        (before_last 41 bytes >>= λ x. names_counted (parted 44 x) >>= λ n. Some (Enumerated n 0)) k e in
+    (before_last 41 bytes >>= λ x. names_counted (parted 44 x) >>= λ n. Some (Enumerated n 0)) k e in
     let x = bind_some (before_last 41 bytes)
-        (λ x. names_counted (parted 44 x) >>= λ n. Some (Enumerated n 0)) k h.1 in
+    (λ x. names_counted (parted 44 x) >>= λ n. Some (Enumerated n 0)) k h.1 in
     let n = bind_some (names_counted (parted 44 x.0)) (λ n. Some (Enumerated n 0)) k x.2 in
     let first : b ≡ 40 = eqb-true b 40 h.0 in
     let made = enumeration_made bytes x.0 n.0 (before_last_takes 41 bytes x.0 x.1) n.1 in
@@ -257,8 +258,14 @@ pub type_told_again : (word : List ℕ) (k : Kind) → Spells word k → type_to
 unfolding type_told
 type_told_again word k (by_keyword named is) = rw (is, kind_of_keyword k named) refl
 type_told_again word k (by_names n is e) =
-    rw (e.spelled, no_keyword (joined e.names ++ 41
-        ∷ []), enumeration_again e.names e.each e.some e.most, is, e.count) refl
+    rw (
+      e.spelled,
+      no_keyword (joined e.names ++ 41
+          ∷ []),
+      enumeration_again e.names e.each e.some e.most,
+      is,
+      e.count,
+    ) refl
 
 -- a name has no line feed, and neither have names with commas
 has_no_in_both : (mark : ℕ) (x y : List ℕ) → has_no mark x ≡ true → has_no mark y ≡ true → has_no mark (x ++ y) ≡ true
@@ -419,13 +426,13 @@ type_of Sint named = signed_type Sint w8 (2 ^ 7 - 1) (2 ^ 8) refl wide8 refl ref
     m. refl) (λ z. refl)
 type_of Int named =
     signed_type Int w16 (2 ^ 15 - 1) (2 ^ 16) refl wide16 refl refl (lit< tt) (lit< tt) (λ z. refl) (λ m. refl) (λ z.
-        refl)
+    refl)
 type_of Dint named =
     signed_type Dint w32 (2 ^ 31 - 1) (2 ^ 32) refl wide32 refl refl (lit< tt) (lit< tt) (λ z. refl) (λ m. refl) (λ
-        z. refl)
+    z. refl)
 type_of Lint named =
     signed_type Lint w64 (2 ^ 63 - 1) (2 ^ 64) refl wide64 refl refl (lit< tt) (lit< tt) (λ z. refl) (λ m. refl) (λ
-        z. refl)
+    z. refl)
 type_of Usint named = unsigned_type Usint w8 (2 ^ 8 - 1) (2 ^ 8) refl wide8 refl refl (lit< tt) (λ z. refl) (λ m.
     refl) (λ z. refl)
 type_of Uint named = unsigned_type Uint w16 (2 ^ 16 - 1) (2 ^ 16) refl wide16 refl refl (lit< tt) (λ z. refl) (λ m.
@@ -444,7 +451,7 @@ type_of Lword named = unsigned_type Lword w64 (2 ^ 64 - 1) (2 ^ 64) refl wide64 
     refl) (λ z. refl)
 type_of Time named =
     signed_type Time w64 (2 ^ 63 - 1) (2 ^ 64) refl wide64 refl refl (lit< tt) (lit< tt) (λ z. refl) (λ m. refl) (λ
-        z. refl)
+    z. refl)
 type_of Boolean named = unsigned_type Boolean w8 1 (2 ^ 8) refl wide8 refl refl (lit< tt) (λ z. refl) (λ m. refl) (λ
     z. refl)
 type_of (Enumerated names number) named = absurd cc

@@ -193,8 +193,13 @@ record_made body p vs c short fits first second once is =
     ∙ ap (λ (x : List ℕ). body_of p.moment p.layout x) (r.1 ∙ values_are vs) in
     subst (λ (d : Content). IsRecord body d) is (record {
       short = short;
-      sound = record { moment = f.2; layout = layout_of p.layout vs r.0 r.2 once; values = values_held vs r.2; places
-          = values_placed vs r.2 };
+      sound = record {
+        moment = f.2;
+        layout = layout_of p.layout vs r.0 r.2 once;
+        values = values_held vs r.2;
+        places
+            = values_placed vs r.2;
+      };
       spelled = spelled;
     })
 
@@ -227,7 +232,7 @@ decoded_of body c h =
     ≡ Some (record { moment = c.moment; layout = c.layout; rest = flat_map value_bytes c.values }) =
     ap parts_at same ∙ parts_again c.moment c.layout (flat_map value_bytes c.values) h.sound.moment long in
     let all = variables_again layout.lines c.values (length c.layout) layout.typed layout.sound h.sound.values
-        h.sound.places
+    h.sound.places
     (omega (arith, ap length layout.spelled)) in
     let second : variables_in (length c.layout) c.layout (flat_map value_bytes c.values) ≡ Some all.vs =
     ap (λ (t : List ℕ). variables_in (length c.layout) t (flat_map value_bytes c.values)) layout.spelled

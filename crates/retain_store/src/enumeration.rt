@@ -76,7 +76,11 @@ fn names_counted(text: &[u8]) -> Option<u16>
     if count == u16::MAX {
         return None;
     }
-    if is_upper_name(rest) { Some(count + 1) } else { None }
+    if is_upper_name(rest) {
+        Some(count + 1)
+    } else {
+        None
+    }
 }
 
 /// What stands before a last byte, where it is this one.

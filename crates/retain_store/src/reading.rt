@@ -56,8 +56,11 @@ fn variable_at<'a>(
     text: &'a [u8],
     bytes: &'a [u8],
 ) -> Option<(RecordedVariable<'a>, &'a [u8], &'a [u8])>
-    ensures { option_map (λ p. (record { path = p.0.path.now; spelling = p.0.spelling.now; value = p.0.value },
-        p.1.now, p.2.now)) result ≡ variable_at text.now bytes.now }
+    ensures { option_map (λ p. (
+      record { path = p.0.path.now; spelling = p.0.spelling.now; value = p.0.value },
+      p.1.now,
+      p.2.now,
+    )) result ≡ variable_at text.now bytes.now }
 {
     let (line, text_behind) = line_at(text)?;
     let Some((value, bytes_behind)) = value_at(line.kind, bytes) else {
