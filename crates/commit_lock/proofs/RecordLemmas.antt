@@ -1,11 +1,13 @@
 -- The record of a plan's variables.
 use Rattle.std.proofs.Common.{◌≡◌, ℕ, ◌+◌, ◌<◌, Bool, true, false, not, if◌then◌else◌, List, [], ◌∷◌, ◌++◌, length}
 use Rattle.std.proofs.Common.{map, Option, Some, refl, sym, ap, subst, ◌∙◌, arith, length-append}
-use Rattle.std.specs.Prelude.{IfSome, bytes_eq, codes}
+use Rattle.std.specs.Prelude.{ℤ, IfSome, bytes_eq, codes}
 use Rattle.std.specs.List.{list_all, flat_map, AllByRecursion, IsDistinct}
 use Rattle.std.proofs.lemmas.Bool.{and_parts, or_parts, not-true}
 use Rattle.st_words.specs.declared.limits.TheConstants.{MOMENT_LIMIT}
 use Rattle.st_words.specs.declared.kind.Kind.{Kind}
+use Rattle.st_words.specs.declared.kind.Kind.TheVariants.{Sint, Int, Dint, Lint, Usint, Uint, Udint, Ulint, Byte, Word}
+use Rattle.st_words.specs.declared.kind.Kind.TheVariants.{Dword, Lword, Time, Bool as Boolean, Enumerated}
 use Rattle.st_words.specs.Kinds.{row_of, width_of}
 use Rattle.st_words.specs.Values.{Datum, IsHeld}
 use Rattle.st_plans.specs.declared.plan.PlanVariable.{PlanVariable}
@@ -14,20 +16,21 @@ use Rattle.st_plans.specs.Layouts.{path_text, line_of, layout_text, values_lengt
 use Rattle.config.specs.Sound.{are_different, is_spelled, has_line}
 use Rattle.st_plans.specs.Restarts.{line_with, lines_with}
 use Rattle.config.specs.declared.plan.Plan.{Plan}
-use Rattle.retain_store.specs.Records.{Content, Line, line_text, text_of, is_path_text, is_visible, has_keyword}
-use Rattle.retain_store.specs.Records.{is_line, IsLayoutText}
+use Rattle.retain_store.specs.Records.{Content, Line, line_text, text_of, is_path_text, is_visible, by_keyword}
+use Rattle.retain_store.specs.Records.{IsLine, IsLayoutText, is_byte_place}
 use Rattle.retain_store.specs.Records.{IsRecordable}
 use Rattle.retain_store.specs.Records.{value_bytes, record_bytes}
 use Rattle.retain_store.specs.Reading.{line_at}
 use Rattle.retain_store.specs.FieldLaws.{some_is, cut_again}
-use Rattle.retain_store.specs.LineLaws.{line_again, value_length, line_parts, path_has_no_space, keyword_in_line}
+use Rattle.retain_store.specs.LineLaws.{line_again, value_length, line_parts, path_has_no_space, spelling_in_line}
 use Rattle.retain_store.specs.RecordLaws.{body_length}
 use Rattle.serial_core.specs.Retained.{retained_kinds, retained_paths, paired, told_by}
 use Rattle.commit_lock.specs.Told.{words_at, line_then, lines_in, told}
 
 -- the line of a variable
 abbrev line_for : PlanVariable → Line
-line_for v = record { path = path_text v.path; kind = v.initial.kind }
+line_for v =
+    record { path = path_text v.path; spelling = (row_of v.initial.kind).keyword; kind = v.initial.kind }
 
 abbrev lines_for : List PlanVariable → List Line
 lines_for [] = []
@@ -55,19 +58,22 @@ path_spelled : (x : Name) → is_spelled x ≡ true → is_path_text x ≡ true
 path_spelled [] e = e
 path_spelled (b ∷ bs) e = (and_parts _ (list_all is_visible (b ∷ bs)) e).1
 
-line_spelled : (v : PlanVariable) → has_line v ≡ true → is_line (line_for v) ≡ true
+line_spelled : (v : PlanVariable) → has_line v ≡ true → IsLine (line_for v)
 line_spelled v e =
     let p = and_parts (is_spelled (path_text v.path)) (is_spelled (row_of v.initial.kind).keyword) e in
-    rw (path_spelled (path_text v.path) p.0, path_spelled (row_of v.initial.kind).keyword p.1) refl
+    record {
+      path = path_spelled (path_text v.path) p.0;
+      spells = by_keyword (path_spelled (row_of v.initial.kind).keyword p.1) refl;
+    }
 
-spelled_first : (v : PlanVariable) (r : Bool) (ls : List Line) → is_line (line_for v) ≡ true
-    → AllByRecursion (λ l. is_line l ≡ true) ls
-    → AllByRecursion (λ l. is_line l ≡ true) (if r then line_for v ∷ ls else ls)
+spelled_first : (v : PlanVariable) (r : Bool) (ls : List Line) → IsLine (line_for v)
+    → AllByRecursion IsLine ls
+    → AllByRecursion IsLine (if r then line_for v ∷ ls else ls)
 spelled_first v true ls h rest = (h, rest)
 spelled_first v false ls h rest = rest
 
 spelled_are : (vs : List PlanVariable) → list_all has_line vs ≡ true
-    → AllByRecursion (λ l. is_line l ≡ true) (lines_for vs)
+    → AllByRecursion IsLine (lines_for vs)
 spelled_are [] e = tt
 spelled_are (v ∷ vs) e =
     let p = and_parts (has_line v) (list_all has_line vs) e in
@@ -126,16 +132,16 @@ some_lines : (l m : Line) (s t : List ℕ) → ◌≡◌ {A = Option (Line × Li
 some_lines l m s t e = let same = some_is (l, s) (m, t) e in
     (ap (λ (p : Line × List ℕ). p.0) same, ap (λ (p : Line × List ℕ). p.1) same)
 
-no_line : (l : Line) (rest : List ℕ) → is_line l ≡ true → [] ≡ line_text l ++ rest → ⊥
+no_line : (l : Line) (rest : List ℕ) → IsLine l → [] ≡ line_text l ++ rest → ⊥
 no_line l rest h e = absurd (omega (
   arith,
   ap length e,
   length-append (line_text l) rest,
-  length-append (l.path ++ codes " " ++ (row_of l.kind).keyword) (10 ∷ []),
+  length-append (l.path ++ codes " " ++ l.spelling) (10 ∷ []),
 ))
 
-lines_once : (ls ms : List Line) → AllByRecursion (λ l. is_line l ≡ true) ls
-    → AllByRecursion (λ l. is_line l ≡ true) ms → text_of ls ≡ text_of ms
+lines_once : (ls ms : List Line) → AllByRecursion IsLine ls
+    → AllByRecursion IsLine ms → text_of ls ≡ text_of ms
     → map (λ l. l.kind) ls ≡ map (λ l. l.kind) ms
 lines_once [] [] h k e = refl
 lines_once [] (m ∷ ms) h k e = absurd (no_line m (text_of ms) k.0 e)
@@ -155,17 +161,16 @@ kinds_told vs text ks spelled is layout =
 
 -- ---- what a record tells
 
-words_again : (l : Line) (rest : List ℕ) → is_line l ≡ true → words_at (line_text l ++ rest)
-    ≡ Some (record { path = l.path; spelling = (row_of l.kind).keyword; behind = rest })
+words_again : (l : Line) (rest : List ℕ) → IsLine l → words_at (line_text l ++ rest)
+    ≡ Some (record { path = l.path; spelling = l.spelling; behind = rest })
 words_again l rest sound = ap words_at (line_parts l rest)
     ∙ rw (
-      cut_again 32 l.path ((row_of l.kind).keyword ++ 10 ∷ rest) (path_has_no_space l.path
-          (and_parts (is_path_text l.path) (has_keyword l.kind) sound).0),
-      cut_again 10 (row_of l.kind).keyword rest (keyword_in_line l.kind),
+      cut_again 32 l.path (l.spelling ++ 10 ∷ rest) (path_has_no_space l.path sound.path),
+      cut_again 10 l.spelling rest (spelling_in_line l.spelling l.kind sound.spells),
     ) refl
 
 told_first : (v : PlanVariable) (r : Bool) (vs : List PlanVariable) (ws : List Datum)
-    → is_line (line_for v) ≡ true
+    → IsLine (line_for v)
     → ((us : List Datum) → map (λ d. d.kind) us ≡ retained_kinds vs
     → lines_in (layout_text vs) us ≡ lines_with (paired (retained_paths vs) us))
     → map (λ d. d.kind) ws ≡ (if r then v.initial.kind ∷ retained_kinds vs else retained_kinds vs)
@@ -238,6 +243,52 @@ pub record_long : (vs : List PlanVariable) (ws : List Datum) (moment : Option �
 record_long vs ws moment text is e = body_length moment text (flat_map value_bytes ws)
     ∙ omega (arith, values_long vs ws e, ap length is)
 
+-- a type with a keyword is no enumerated one
+place_of_keyword : (k : Kind) (z : ℤ) → is_spelled (row_of k).keyword ≡ true
+    → is_byte_place (record { kind = k; number = z }) ≡ true
+place_of_keyword Sint z e = refl
+place_of_keyword Int z e = refl
+place_of_keyword Dint z e = refl
+place_of_keyword Lint z e = refl
+place_of_keyword Usint z e = refl
+place_of_keyword Uint z e = refl
+place_of_keyword Udint z e = refl
+place_of_keyword Ulint z e = refl
+place_of_keyword Byte z e = refl
+place_of_keyword Word z e = refl
+place_of_keyword Dword z e = refl
+place_of_keyword Lword z e = refl
+place_of_keyword Time z e = refl
+place_of_keyword Boolean z e = refl
+place_of_keyword (Enumerated names number) z e = absurd cc
+
+placed_first : (v : PlanVariable) (r : Bool) (ws : List Datum) (ks : List Kind)
+    → is_spelled (row_of v.initial.kind).keyword ≡ true
+    → ((us : List Datum) → map (λ d. d.kind) us ≡ ks → AllByRecursion (λ d. is_byte_place d ≡ true) us)
+    → map (λ d. d.kind) ws ≡ (if r then v.initial.kind ∷ ks else ks)
+    → AllByRecursion (λ d. is_byte_place d ≡ true) ws
+placed_first v true [] ks spelled again e = tt
+placed_first v true (w ∷ ws) ks spelled again e = (
+  place_of_keyword w.kind w.number (ap (λ k. is_spelled (row_of k).keyword) (head_is e) ∙ spelled),
+  again ws (tail_is e),
+)
+  where
+    head_is : {a b : Kind} {xs ys : List Kind} → a ∷ xs ≡ b ∷ ys → a ≡ b
+    head_is h = cc
+
+    tail_is : {a b : Kind} {xs ys : List Kind} → a ∷ xs ≡ b ∷ ys → xs ≡ ys
+    tail_is h = cc
+placed_first v false ws ks spelled again e = again ws e
+
+places_are : (vs : List PlanVariable) (ws : List Datum) → list_all has_line vs ≡ true
+    → map (λ d. d.kind) ws ≡ retained_kinds vs → AllByRecursion (λ d. is_byte_place d ≡ true) ws
+places_are [] [] spelled e = tt
+places_are [] (w ∷ ws) spelled e = absurd (omega (arith, ap length e))
+places_are (v ∷ vs) ws spelled e =
+    let p = and_parts (has_line v) (list_all has_line vs) spelled in
+    let q = and_parts (is_spelled (path_text v.path)) (is_spelled (row_of v.initial.kind).keyword) p.0 in
+    placed_first v v.retained ws (retained_kinds vs) q.1 (λ us. places_are vs us p.1) e
+
 pub record_sound : (vs : List PlanVariable) (ws : List Datum) (moment : Option ℕ) (text : List ℕ)
     → list_all has_line vs ≡ true → are_different (texts vs) ≡ true → text ≡ layout_text vs
     → IfSome moment (λ t. t < MOMENT_LIMIT) → map (λ d. d.kind) ws ≡ retained_kinds vs → AllByRecursion IsHeld ws
@@ -247,4 +298,5 @@ record_sound vs ws moment text spelled d is early e held = record {
   layout = subst (λ (t : List ℕ). IsLayoutText t (map (λ w. w.kind) ws)) (sym is)
       (layout_is vs (map (λ w. w.kind) ws) spelled d e);
   values = held;
+  places = places_are vs ws spelled e;
 }

@@ -1,4 +1,5 @@
 mod Areas
+mod EnumerationLemmas
 mod Formats
 mod Frames
 mod Keeps

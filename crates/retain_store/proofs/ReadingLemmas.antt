@@ -3,6 +3,7 @@ use Rattle.std.proofs.Common.{◌≡◌, ℕ, zero, suc, ◌+◌, ◌-◌, ◌*�
 use Rattle.std.proofs.lemmas.Bool.{and_parts}
 use Rattle.std.proofs.Common.{length, map, drop, Option, Some, None, refl, sym, ap, ◌∙◌, arith, append_assoc, lit≤}
 use Rattle.std.specs.Prelude.{◌==◌}
+use Rattle.std.specs.List.{list_all}
 use Rattle.std.proofs.lemmas.Bool.{eqb-true, eqb-false}
 use Rattle.std.proofs.lemmas.List.{length-append, append-nil, map_push, length_push, drop_at, drop-drop}
 use Rattle.retain_store.specs.declared.format.TheConstants.{MAX_LAYOUT_BYTES, MAX_LINES}
@@ -11,11 +12,12 @@ use Rattle.st_words.specs.declared.kind.Kind.TheVariants.{Sint, Int, Dint, Lint,
 use Rattle.st_words.specs.declared.kind.Kind.TheVariants.{Dword, Lword, Time, Bool as Boolean, Enumerated}
 use Rattle.st_words.specs.Kinds.{row_of}
 use Rattle.st_words.specs.Values.{Datum}
-use Rattle.retain_store.specs.Records.{Line, line_text, is_path_text, has_keyword, is_line}
+use Rattle.retain_store.specs.Records.{Line, line_text, is_path_text, has_keyword, IsLine, Spells, by_keyword}
+use Rattle.retain_store.specs.Records.{by_names, joined, is_upper_name}
 use Rattle.retain_store.specs.Reading.{◌>>=◌, cut, line_at, value_at, RecordedVariable, variable_at, variables_in}
 use Rattle.retain_store.specs.Reading.{path_from, first_word, AreVariables}
 use Rattle.retain_store.specs.FieldLaws.{bind_some, some_is, cut_again}
-use Rattle.retain_store.specs.LineLaws.{line_parts, line_takes, path_has_no_space}
+use Rattle.retain_store.specs.LineLaws.{line_parts, line_takes, path_has_no_space, made}
 
 -- variables before, and those that are read
 abbrev pub with_front : List RecordedVariable → Option (List RecordedVariable) → Option (List RecordedVariable)
@@ -54,32 +56,46 @@ path_long : (path : List ℕ) → is_path_text path ≡ true → 1 ≤ length pa
 path_long [] h = absurd cc
 path_long (b ∷ bytes) h = omega arith
 
+joined_long : (names : List (List ℕ)) → list_all is_upper_name names ≡ true → 0 < length names
+    → 1 ≤ length (joined names)
+joined_long [] each some = absurd (omega (arith, some))
+joined_long ([] ∷ names) each some = let bad : false
+    ≡ true = (and_parts false (list_all is_upper_name names) each).0 in absurd cc
+joined_long ((b ∷ x) ∷ []) each some = omega arith
+joined_long ((b ∷ x) ∷ y ∷ ys) each some = omega arith
+
+spelling_long : (word : List ℕ) (k : Kind) → Spells word k → 3 ≤ length word
+spelling_long word k (by_keyword named is) = omega (arith, keyword_long k named, ap length is)
+spelling_long word k (by_names n is e) = omega (
+  arith,
+  ap length e.spelled,
+  joined_long e.names e.each e.some,
+  length-append (40 ∷ joined e.names) (41 ∷ []),
+)
+
 -- a line has at least six bytes
-pub line_long : (l : Line) (rest : List ℕ) → is_line l ≡ true → 6 + length rest ≤ length (line_text l ++ rest)
-line_long l rest sound =
-    let p = and_parts (is_path_text l.path) (has_keyword l.kind) sound in
-    omega (
-      arith,
-      keyword_long l.kind p.1,
-      path_long l.path p.0,
-      ap length (line_parts l rest),
-      length-append l.path
-          (32 ∷ ((row_of l.kind).keyword ++ 10 ∷ rest)),
-      length-append (row_of l.kind).keyword (10 ∷ rest),
-    )
+pub line_long : (l : Line) (rest : List ℕ) → IsLine l → 6 + length rest ≤ length (line_text l ++ rest)
+line_long l rest sound = omega (
+  arith,
+  spelling_long l.spelling l.kind sound.spells,
+  path_long l.path sound.path,
+  ap length (line_parts l rest),
+  length-append l.path (32 ∷ (l.spelling ++ 10 ∷ rest)),
+  length-append l.spelling (10 ∷ rest),
+)
 
 -- the line of a variable that is read
 pub variable_line : (text bytes : List ℕ) (p : RecordedVariable × List ℕ × List ℕ) → variable_at text bytes ≡ Some p
-    → (l : Line) × (text ≡ line_text l ++ p.1) × (is_line l ≡ true) × (p.0.path ≡ l.path)
+    → (l : Line) × (text ≡ line_text l ++ p.1) × IsLine l × (p.0.path ≡ l.path)
 unfolding variable_at
 variable_line text bytes p e =
     let a = bind_some (line_at text) (λ line. value_at line.0.kind bytes >>=
-    λ value. Some (record { path = line.0.path; value = value.0 }, line.1, value.1)) p e in
+    λ value. Some (made line.0 value.0, line.1, value.1)) p e in
     let b = bind_some (value_at a.0.0.kind bytes)
-    (λ value. Some (record { path = a.0.0.path; value = value.0 }, a.0.1, value.1)) p a.2 in
+    (λ value. Some (made a.0.0 value.0, a.0.1, value.1)) p a.2 in
     let l = line_takes text a.0 a.1 in
-    let is : (record { path = a.0.0.path; value = b.0.0 }, a.0.1, b.0.1) ≡ p =
-    some_is (record { path = a.0.0.path; value = b.0.0 }, a.0.1, b.0.1) p b.2 in (
+    let is : (made a.0.0 b.0.0, a.0.1, b.0.1) ≡ p =
+    some_is (made a.0.0 b.0.0, a.0.1, b.0.1) p b.2 in (
       a.0.0,
       l.0 ∙ ap (λ (q : RecordedVariable × List ℕ × List ℕ). line_text a.0.0 ++ q.1) is,
       l.1,
@@ -88,13 +104,12 @@ variable_line text bytes p e =
 
 -- the path where a line begins
 path_there : (text left behind : List ℕ) (start : ℕ) (l : Line) → left ≡ drop start text → left ≡ line_text l ++ behind
-    → is_line l ≡ true → path_from text start ≡ l.path
+    → IsLine l → path_from text start ≡ l.path
 path_there text left behind start l offset is sound =
-    let line : drop start text ≡ l.path ++ 32 ∷ ((row_of l.kind).keyword ++ 10 ∷ behind) = sym offset ∙ is
+    let line : drop start text ≡ l.path ++ 32 ∷ (l.spelling ++ 10 ∷ behind) = sym offset ∙ is
     ∙ line_parts l behind in
     ap (λ (t : List ℕ). first_word (cut 32 t)) line
-    ∙ ap first_word (cut_again 32 l.path ((row_of l.kind).keyword ++ 10 ∷ behind) (path_has_no_space l.path
-    (and_parts (is_path_text l.path) (has_keyword l.kind) sound).0))
+    ∙ ap first_word (cut_again 32 l.path (l.spelling ++ 10 ∷ behind) (path_has_no_space l.path sound.path))
 
 with_nothing : (o : Option (List RecordedVariable)) → with_front [] o ≡ o
 with_nothing None = refl

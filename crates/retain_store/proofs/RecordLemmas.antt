@@ -8,7 +8,7 @@ use Rattle.std.proofs.lemmas.List.{length-map}
 use Rattle.retain_store.specs.declared.format.TheConstants.{MAX_LAYOUT_BYTES, MAX_LINES}
 use Rattle.st_words.specs.declared.limits.TheConstants.{MAX_RECORD_BODY}
 use Rattle.st_words.specs.Values.{Datum}
-use Rattle.retain_store.specs.Records.{Content, Line, text_of, is_line, value_bytes, record_bytes, IsRecordable}
+use Rattle.retain_store.specs.Records.{Content, Line, text_of, IsLine, value_bytes, record_bytes, IsRecordable}
 use Rattle.retain_store.specs.Reading.{Parts, parts_at, variables_in, are_distinct, path_from, AreVariables, decoded}
 use Rattle.retain_store.specs.FieldLaws.{IsBytes}
 use Rattle.retain_store.specs.RecordLaws.{parts_take, body_length}
@@ -50,7 +50,7 @@ layout_short body p fits parts short = let t = parts_take body p fits parts in
 
 -- ---- as many values as lines, of at least six bytes each
 
-lines_long : (lines : List Line) → AllByRecursion (λ l. is_line l ≡ true) lines
+lines_long : (lines : List Line) → AllByRecursion IsLine lines
     → 6 * length lines ≤ length (text_of lines)
 lines_long [] sound = omega arith
 lines_long (l ∷ lines) sound = omega (arith, line_long l (text_of lines) sound.0, lines_long lines sound.1)

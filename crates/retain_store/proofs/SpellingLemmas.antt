@@ -1,5 +1,6 @@
 -- Writing a record's fields one after the other.
-use Rattle.std.proofs.Common.{subst, ◌≡◌, ℕ, suc, ◌+◌, ◌-◌, ◌<◌, ◌≤◌, ◌^◌, ◌++◌, [], List, length, take, drop, get_or, refl}
+use Rattle.std.proofs.Common.{subst, ◌≡◌, ℕ, suc, ◌+◌, ◌-◌, ◌<◌, ◌≤◌, ◌^◌, ◌++◌, [], List, length, take, drop, get_or}
+use Rattle.std.proofs.Common.{refl}
 use Rattle.std.proofs.Common.{sym, ap, ◌∙◌, arith, append_assoc}
 use Rattle.std.specs.Int.{Width, w64, w128, to_be_bytes, cast_unsigned}
 use Rattle.std.specs.Prelude.{ℤ, pos, negsuc, ◌+ℤ◌, ◌<ℤ◌, ◌≤ℤ◌, neg_ℤ, true}
@@ -97,7 +98,8 @@ bits_are d k number span is held kind exact low high number_fits span_fits test 
     let negative : number <ℤ pos 0 = negative_from number (ap (λ (z : ℤ). lt_z z (pos 0)) (sym plain) ∙ test) in
     let up : pos 0 ≤ℤ span = rw exact (omega (arith, ints)) in
     let sum : SFits w128 (number +ℤ span) = sum_fits number span low negative up high in
-    let near : mag number < 2 ^ bits (wide_of d.kind) = rw is (near_of d.kind d.number held (subst (λ (z : ℤ). z <ℤ pos 0) is negative)) in
+    let near : mag number < 2 ^ bits (wide_of d.kind) = rw is (near_of d.kind d.number held (subst (λ (z : ℤ). z <ℤ
+    pos 0) is negative)) in
     let whole : nat_abs (to_z w128 (of_z w128 (to_z w128 (of_z w128 number) +ℤ to_z w128 (of_z w128 span))))
     ≡ nat_abs (number +ℤ span) = rw (plain, plain_span, to_z-of_z w128 (number +ℤ span) sum) refl in
     let wide : nat_abs (number +ℤ span) ≡ nat_abs (number +ℤ pos (2 ^ bits (wide_of d.kind))) =

@@ -1,15 +1,15 @@
 -- The record that a body spells, field by field from the front.
 use Rattle.std.specs.Prelude.{◌≡◌, ◌-◌, nat_le, nat_lt, ◌==◌, ℕ, zero, suc, ℤ, pos, Bool, true, ◌&&◌, not}
 use Rattle.std.specs.Prelude.{if◌then◌else◌, Option, Some, None, List, [], ◌∷◌, length, map, take, drop, bytes_eq}
-use Rattle.std.specs.List.{find, list_any}
+use Rattle.std.specs.List.{find, list_any, list_all}
 use Rattle.std.specs.Int.{Width, w32, w64, byte_len, from_be_bytes, cast_signed}
 use Rattle.st_words.specs.declared.limits.TheConstants.{MAX_RECORD_BODY, MOMENT_LIMIT}
 use Rattle.st_words.specs.declared.kind.Kind.{Kind}
 use Rattle.st_words.specs.declared.kind.Kind.TheVariants.{Sint, Int, Dint, Lint, Usint, Uint, Udint, Ulint, Byte, Word}
-use Rattle.st_words.specs.declared.kind.Kind.TheVariants.{Dword, Lword, Time, Bool as Boolean}
+use Rattle.st_words.specs.declared.kind.Kind.TheVariants.{Dword, Lword, Time, Bool as Boolean, Enumerated}
 use Rattle.st_words.specs.Kinds.{row_of, is_signed, holds}
 use Rattle.st_words.specs.Values.{Datum}
-use Rattle.retain_store.specs.Records.{Content, Line, is_path_text, wide_of}
+use Rattle.retain_store.specs.Records.{Content, Line, is_path_text, is_upper_name, wide_of}
 
 infixl 10 ◌>>=◌
 abbrev pub ◌>>=◌ : {A B : Type 0} → Option A → (A → Option B) → Option B
@@ -33,13 +33,46 @@ all_kinds = Sint ∷ Int ∷ Dint ∷ Lint ∷ Usint ∷ Uint ∷ Udint ∷ Ulin
 unfoldable pub kind_of : List ℕ → Option Kind
 kind_of word = find (λ k. bytes_eq (row_of k).keyword word) all_kinds
 
+-- what stands between the marks
+abbrev pub onto_first : ℕ → List (List ℕ) → List (List ℕ)
+onto_first b [] = (b ∷ []) ∷ []
+onto_first b (x ∷ xs) = (b ∷ x) ∷ xs
+
+abbrev pub parted : ℕ → List ℕ → List (List ℕ)
+parted mark [] = [] ∷ []
+parted mark (b ∷ bs) = if b == mark then [] ∷ parted mark bs else onto_first b (parted mark bs)
+
+-- how many names stand there with commas between them, where each is one
+abbrev pub names_counted : List (List ℕ) → Option ℕ
+names_counted names = if list_all is_upper_name names && nat_le (length names) 65535 then Some (length names) else None
+
+-- what stands before a last byte, where it is this one
+abbrev pub before_last : ℕ → List ℕ → Option (List ℕ)
+before_last mark [] = None
+before_last mark (b ∷ []) = if b == mark then Some [] else None
+before_last mark (b ∷ c ∷ bs) = before_last mark (c ∷ bs) >>= λ x. Some (b ∷ x)
+
+-- the enumerated type that is spelled so
+abbrev pub enumeration_in : List ℕ → Option Kind
+enumeration_in [] = None
+enumeration_in (b ∷ bs) = if b == 40
+    then (before_last 41 bs >>= λ x. names_counted (parted 44 x) >>= λ n. Some (Enumerated n 0)) else None
+
+-- the type that is spelled so
+abbrev pub or_kind : Option Kind → Option Kind → Option Kind
+or_kind (Some k) other = Some k
+or_kind None other = other
+
+unfoldable pub type_told : List ℕ → Option Kind
+type_told word = or_kind (kind_of word) (enumeration_in word)
+
 -- a line, and the text after it
 unfoldable pub line_at : List ℕ → Option (Line × List ℕ)
 line_at text = do
   word ← cut 32 text
   line ← cut 10 word.1
-  kind ← kind_of line.0
-  if is_path_text word.0 then Some (record { path = word.0; kind = kind }, line.1) else None
+  kind ← type_told line.0
+  if is_path_text word.0 then Some (record { path = word.0; spelling = line.0; kind = kind }, line.1) else None
 
 -- the number that these bits stand for
 abbrev pub number_of : Kind → ℕ → ℤ
@@ -51,9 +84,10 @@ value_at k bytes = do
   n ← number_at (wide_of k) bytes
   if holds k (number_of k n.0) then Some (record { kind = k; number = number_of k n.0 }, n.1) else None
 
--- a retained variable: its path, and its value
+-- a retained variable: its path, the spelling of its type, and its value
 pub record RecordedVariable : Type 0 where
   pub path : List ℕ
+  pub spelling : List ℕ
   pub value : Datum
 
 -- a line and a value at the front of the two, and what is after them
@@ -61,7 +95,7 @@ unfoldable pub variable_at : List ℕ → List ℕ → Option (RecordedVariable 
 variable_at text bytes = do
   line ← line_at text
   value ← value_at line.0.kind bytes
-  Some (record { path = line.0.path; value = value.0 }, line.1, value.1)
+  Some (record { path = line.0.path; spelling = line.0.spelling; value = value.0 }, line.1, value.1)
 
 -- the lines and their values to the end of both; no more than so many
 unfoldable pub variables_in : ℕ → List ℕ → List ℕ → Option (List RecordedVariable)

@@ -11,7 +11,7 @@ use Rattle.std.proofs.lemmas.List.{take_at, drop_at, take-append-drop, length-ap
 use Rattle.st_words.specs.declared.limits.TheConstants.{MAX_RECORD_BODY, MOMENT_LIMIT}
 use Rattle.st_words.specs.declared.kind.Kind.{Kind}
 use Rattle.st_words.specs.Values.{IsHeld}
-use Rattle.retain_store.specs.Records.{Content, line_text, text_of, is_line, IsLayoutText, moment_code}
+use Rattle.retain_store.specs.Records.{Content, line_text, text_of, IsLine, is_byte_place, IsLayoutText, moment_code}
 use Rattle.retain_store.specs.Records.{value_bytes, record_bytes, IsRecord}
 use Rattle.retain_store.specs.Reading.{◌>>=◌, number_at, RecordedVariable, variables_in, are_distinct, moment_of, Parts}
 use Rattle.retain_store.specs.Reading.{parts_at, decoded}
@@ -156,7 +156,7 @@ lines_kinds [] = refl
 lines_kinds (v ∷ vs) = ap (λ (x : List Kind). v.value.kind ∷ x) (lines_kinds vs)
 
 lines_sound : (vs : List RecordedVariable) → AllByRecursion IsSoundVariable vs
-    → AllByRecursion (λ l. is_line l ≡ true) (map line_of vs)
+    → AllByRecursion IsLine (map line_of vs)
 lines_sound [] h = tt
 lines_sound (v ∷ vs) h = (h.0.line, lines_sound vs h.1)
 
@@ -164,6 +164,11 @@ values_held : (vs : List RecordedVariable) → AllByRecursion IsSoundVariable vs
     → AllByRecursion IsHeld (map (λ v. v.value) vs)
 values_held [] h = tt
 values_held (v ∷ vs) h = (h.0.value, values_held vs h.1)
+
+values_placed : (vs : List RecordedVariable) → AllByRecursion IsSoundVariable vs
+    → AllByRecursion (λ d. is_byte_place d ≡ true) (map (λ v. v.value) vs)
+values_placed [] h = tt
+values_placed (v ∷ vs) h = (h.0.place, values_placed vs h.1)
 
 pub layout_of : (text : List ℕ) (vs : List RecordedVariable) → text ≡ texts vs → AllByRecursion IsSoundVariable vs
     → are_distinct (paths_of vs) ≡ true → IsLayoutText text (map (λ d. d.kind) (map (λ v. v.value) vs))
@@ -188,7 +193,13 @@ record_made body p vs c short fits first second once is =
     ∙ ap (λ (x : List ℕ). body_of p.moment p.layout x) (r.1 ∙ values_are vs) in
     subst (λ (d : Content). IsRecord body d) is (record {
       short = short;
-      sound = record { moment = f.2; layout = layout_of p.layout vs r.0 r.2 once; values = values_held vs r.2 };
+      sound = record {
+        moment = f.2;
+        layout = layout_of p.layout vs r.0 r.2 once;
+        values = values_held vs r.2;
+        places
+            = values_placed vs r.2;
+      };
       spelled = spelled;
     })
 
@@ -221,6 +232,7 @@ decoded_of body c h =
     ≡ Some (record { moment = c.moment; layout = c.layout; rest = flat_map value_bytes c.values }) =
     ap parts_at same ∙ parts_again c.moment c.layout (flat_map value_bytes c.values) h.sound.moment long in
     let all = variables_again layout.lines c.values (length c.layout) layout.typed layout.sound h.sound.values
+    h.sound.places
     (omega (arith, ap length layout.spelled)) in
     let second : variables_in (length c.layout) c.layout (flat_map value_bytes c.values) ≡ Some all.vs =
     ap (λ (t : List ℕ). variables_in (length c.layout) t (flat_map value_bytes c.values)) layout.spelled

@@ -1,11 +1,13 @@
 -- Records: what a body of an area holds, and the bytes that spell it.
-use Rattle.std.specs.Prelude.{◌≡◌, ◌+◌, ◌<◌, ◌≤◌, nat_le, ℕ, Bool, false, true, ◌&&◌, if◌then◌else◌, Option, Some, None}
+use Rattle.std.specs.Prelude.{◌≡◌, ◌+◌, ◌<◌, ◌≤◌, nat_le, ◌==◌, ℕ, pos, int_lt, Bool, false, true, not, ◌&&◌, ◌||◌}
+use Rattle.std.specs.Prelude.{if◌then◌else◌, Option, Some, None}
 use Rattle.std.specs.Prelude.{IfSome, List, [], ◌∷◌, ◌++◌, length, map, bytes_eq, codes}
 use Rattle.std.specs.List.{flat_map, list_all, AllByRecursion, IsDistinct}
 use Rattle.std.specs.Int.{Width, w8, w16, w32, w64, to_be_bytes, cast_unsigned}
-use Rattle.st_words.specs.declared.limits.TheConstants.{MAX_RECORD_BODY, MOMENT_LIMIT}
+use Rattle.st_words.specs.declared.limits.TheConstants.{MAX_NAME_LENGTH, MAX_RECORD_BODY, MOMENT_LIMIT}
 use Rattle.st_words.specs.declared.kind.Kind.{Kind}
-use Rattle.st_words.specs.Kinds.{row_of}
+use Rattle.st_words.specs.declared.kind.Kind.TheVariants.{Enumerated}
+use Rattle.st_words.specs.Kinds.{row_of, names_in}
 use Rattle.st_words.specs.Values.{Datum, IsHeld}
 
 -- what a record holds: the moment of the last row in milliseconds, the layout text, and the values in order
@@ -14,17 +16,42 @@ pub record Content : Type 0 where
   pub layout : List ℕ
   pub values : List Datum
 
--- a line of a layout text
-pub record Line : Type 0 where
-  pub path : List ℕ
-  pub kind : Kind
+-- a character of a name in upper case: a letter, a digit or an underscore; a digit is never the first
+abbrev pub is_letter : ℕ → Bool
+is_letter b = (nat_le 65 b && nat_le b 90) || (b == 95)
 
--- PATH TYPE and LF
-abbrev pub line_text : Line → List ℕ
-line_text l = l.path ++ codes " " ++ (row_of l.kind).keyword ++ 10 ∷ []
+abbrev pub is_letter_or_digit : ℕ → Bool
+is_letter_or_digit b = is_letter b || (nat_le 48 b && nat_le b 57)
 
-abbrev pub text_of : List Line → List ℕ
-text_of lines = flat_map line_text lines
+-- no two underscores in a row, and none at the end
+abbrev pub ends_or_underscore : List ℕ → Bool
+ends_or_underscore [] = true
+ends_or_underscore (b ∷ bs) = b == 95
+
+abbrev pub is_spaced : List ℕ → Bool
+is_spaced [] = true
+is_spaced (b ∷ bs) = if (b == 95) && ends_or_underscore bs then false else is_spaced bs
+
+-- an identifier in upper case, of at most 64 characters
+abbrev pub is_upper_name : List ℕ → Bool
+is_upper_name [] = false
+is_upper_name (b ∷ bs) = is_letter b && list_all is_letter_or_digit bs && is_spaced (b ∷ bs)
+    && nat_le (length (b ∷ bs)) MAX_NAME_LENGTH
+
+-- names one behind another, with commas between them
+abbrev pub joined : List (List ℕ) → List ℕ
+joined [] = []
+joined (x ∷ []) = x
+joined (x ∷ y ∷ ys) = x ++ 44 ∷ joined (y ∷ ys)
+
+-- an enumerated type of so many names as it is spelled: its names between parentheses
+pub record IsEnumeration (word : List ℕ) (n : ℕ) : Type 0 where
+  pub names : List (List ℕ)
+  pub spelled : word ≡ 40 ∷ joined names ++ 41 ∷ []
+  pub each : list_all is_upper_name names ≡ true
+  pub some : 0 < length names
+  pub most : length names ≤ 65535
+  pub count : length names ≡ n
 
 -- a byte that a path may have: a visible one
 abbrev pub is_visible : ℕ → Bool
@@ -38,14 +65,34 @@ is_path_text (b ∷ bs) = list_all is_visible (b ∷ bs)
 abbrev pub has_keyword : Kind → Bool
 has_keyword k = is_path_text (row_of k).keyword
 
+-- A type as a layout text spells it: an elementary one by its keyword, an enumerated one by its names. A record knows
+-- the types of its text no further, so each enumerated type is the first one.
+pub data Spells (word : List ℕ) (k : Kind) : Type 0 where
+  by_keyword : has_keyword k ≡ true → word ≡ (row_of k).keyword → Spells word k
+  by_names : (n : ℕ) → k ≡ Enumerated n 0 → IsEnumeration word n → Spells word k
+
+-- a line of a layout text, with the type that it spells
+pub record Line : Type 0 where
+  pub path : List ℕ
+  pub spelling : List ℕ
+  pub kind : Kind
+
+-- PATH TYPE and LF
+abbrev pub line_text : Line → List ℕ
+line_text l = l.path ++ codes " " ++ l.spelling ++ 10 ∷ []
+
+abbrev pub text_of : List Line → List ℕ
+text_of lines = flat_map line_text lines
+
 -- a line that a layout text may have
-abbrev pub is_line : Line → Bool
-is_line l = is_path_text l.path && has_keyword l.kind
+pub record IsLine (l : Line) : Type 0 where
+  pub path : is_path_text l.path ≡ true
+  pub spells : Spells l.spelling l.kind
 
 -- a text that is lines for variables of these types: each line is sound, and no path stands twice
 pub record IsLayoutText (text : List ℕ) (kinds : List Kind) : Type 0 where
   pub lines : List Line
-  pub sound : AllByRecursion (λ l. is_line l ≡ true) lines
+  pub sound : AllByRecursion IsLine lines
   pub once : IsDistinct bytes_eq (map (λ l. l.path) lines)
   pub spelled : text ≡ text_of lines
   pub typed : kinds ≡ map (λ l. l.kind) lines
@@ -69,11 +116,16 @@ abbrev pub record_bytes : Content → List ℕ
 record_bytes c = to_be_bytes w64 (moment_code c.moment) ++ to_be_bytes w32 (length c.layout) ++ c.layout
     ++ flat_map value_bytes c.values
 
+-- a place of an enumerated type is one byte
+abbrev pub is_byte_place : Datum → Bool
+is_byte_place d = (names_in d.kind == 0) || int_lt d.number (pos 256)
+
 -- what a record may hold: a moment below its limit, values that their types hold, and a line for each of them
 pub record IsRecordable (c : Content) : Type 0 where
   pub moment : IfSome c.moment (λ t. t < MOMENT_LIMIT)
   pub layout : IsLayoutText c.layout (map (λ d. d.kind) c.values)
   pub values : AllByRecursion IsHeld c.values
+  pub places : AllByRecursion (λ d. is_byte_place d ≡ true) c.values
 
 -- a body of an area that is a record of this content
 pub record IsRecord (body : List ℕ) (c : Content) : Type 0 where

@@ -7,6 +7,7 @@
 #![tactic(auto)]
 
 mod area;
+mod enumeration;
 mod fault;
 mod format;
 mod frame;

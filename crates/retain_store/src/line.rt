@@ -3,8 +3,9 @@
 ghost use Rattle.std.specs.Prelude.{◌≡◌, ◌==◌, option_map, position};
 ghost use Rattle.std.specs.List.{list_all};
 ghost use Rattle.retain_store.specs.Records.{is_path_text, is_visible};
-ghost use Rattle.retain_store.specs.Reading.{cut, kind_of, line_at};
+ghost use Rattle.retain_store.specs.Reading.{cut, kind_of, line_at, type_told};
 
+use crate::enumeration::enumeration_in;
 use st_words::Kind;
 
 const KINDS: [Kind; 14] = [
@@ -24,25 +25,31 @@ const KINDS: [Kind; 14] = [
     Kind::Bool,
 ];
 
-/// A line of a layout text: a path and its type.
+/// A line of a layout text: a path, the spelling of its type, and this type.
 #[derive(Clone, Copy)]
 pub(crate) struct Line<'a> {
     pub(crate) path: &'a [u8],
+    pub(crate) spelling: &'a [u8],
     pub(crate) kind: Kind,
 }
 
 /// The line at the front of the text, and the text after it.
 #[tactic(auto, unfolding(crate::specs::Reading::line_at))]
 pub(crate) fn line_at(text: &[u8]) -> Option<(Line<'_>, &[u8])>
-    ensures { option_map (λ p. (record { path = p.0.path.now; kind = p.0.kind }, p.1.now)) result ≡ line_at text.now }
+    ensures { option_map (λ p. (record { path = p.0.path.now; spelling = p.0.spelling.now; kind = p.0.kind }, p.1.now)) result ≡ line_at text.now }
 {
     let (path, behind_path) = cut(b' ', text)?;
-    let (keyword, behind) = cut(b'\n', behind_path)?;
-    let kind = kind_of(keyword)?;
+    let (spelling, behind) = cut(b'\n', behind_path)?;
+    let kind = type_told(spelling)?;
     if !is_path_text(path) {
         return None;
     }
-    Some((Line { path, kind }, behind))
+    let line = Line {
+        path,
+        spelling,
+        kind,
+    };
+    Some((line, behind))
 }
 
 /// What stands before the first such byte, and what stands after it.
@@ -68,6 +75,17 @@ fn kind_of(word: &[u8]) -> Option<Kind>
         .iter()
         .copied()
         .find(|kind| kind.row().keyword.as_bytes() == word)
+}
+
+/// The type that is spelled so: an elementary one by its keyword, an enumerated one by its names.
+#[tactic(auto, unfolding(crate::specs::Reading::type_told))]
+fn type_told(word: &[u8]) -> Option<Kind>
+    ensures { result ≡ type_told word.now }
+{
+    match kind_of(word) {
+        Some(kind) => Some(kind),
+        None => enumeration_in(word),
+    }
 }
 
 /// Whether the bytes may be a path: at least one, and each of them visible.

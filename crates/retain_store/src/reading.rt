@@ -9,10 +9,11 @@ use crate::line::line_at;
 use crate::value_bytes::value_at;
 use st_words::Value;
 
-/// A retained variable: its path, and its value.
+/// A retained variable: its path, the spelling of its type, and its value.
 #[derive(Clone, Copy)]
 struct RecordedVariable<'a> {
     path: &'a [u8],
+    spelling: &'a [u8],
     value: Value,
 }
 
@@ -55,15 +56,22 @@ fn variable_at<'a>(
     text: &'a [u8],
     bytes: &'a [u8],
 ) -> Option<(RecordedVariable<'a>, &'a [u8], &'a [u8])>
-    ensures { option_map (λ p. (record { path = p.0.path.now; value = p.0.value }, p.1.now, p.2.now)) result
-        ≡ variable_at text.now bytes.now }
+    ensures { option_map (λ p. (
+      record { path = p.0.path.now; spelling = p.0.spelling.now; value = p.0.value },
+      p.1.now,
+      p.2.now,
+    )) result ≡ variable_at text.now bytes.now }
 {
     let (line, text_behind) = line_at(text)?;
     let Some((value, bytes_behind)) = value_at(line.kind, bytes) else {
         return None;
     };
-    let path = line.path;
-    Some((RecordedVariable { path, value }, text_behind, bytes_behind))
+    let variable = RecordedVariable {
+        path: line.path,
+        spelling: line.spelling,
+        value,
+    };
+    Some((variable, text_behind, bytes_behind))
 }
 
 /// Adds an item where there is room for it.

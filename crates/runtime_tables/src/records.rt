@@ -7,6 +7,7 @@ use crate::words::write_number;
 use commit_lock::StartFault;
 use disk::SimDisk;
 use retain_store::{Record, Store};
+use st_words::Kind;
 use st_words::limits::MAX_RECORD_BODY;
 use std::alloc::{AllocError, Global};
 
@@ -22,6 +23,14 @@ pub fn opened(alloc: Global, file: &[u8]) -> Result<Store<SimDisk>, RowError> {
     }
 }
 
+/// Writes a type by its keyword, or by how many names it has.
+fn write_kind(text: &mut String, kind: Kind) -> Result<(), AllocError> {
+    match kind {
+        Kind::Enumerated { names, .. } => write_number(text, "one of ", i128::from(names)),
+        _ => text.push_str(kind.row().keyword),
+    }
+}
+
 fn write_record(text: &mut String, record: &Record) -> Result<(), AllocError> {
     match record.moment() {
         Some(moment) => write_number(text, "moment ", i128::from(moment))?,
@@ -29,7 +38,7 @@ fn write_record(text: &mut String, record: &Record) -> Result<(), AllocError> {
     }
     for value in record.values() {
         text.push_str(", ")?;
-        text.push_str(value.kind().row().keyword)?;
+        write_kind(text, value.kind())?;
         write_number(text, " ", value.number())?;
     }
     Ok(())
