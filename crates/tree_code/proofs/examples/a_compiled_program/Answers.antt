@@ -10,10 +10,13 @@ unfolding CallFitsWithin
 returns-clause-fits c = record {
   numbered = lit≤ tt;
   room = lit≤ tt;
-  body_fits =
-      (((lit< tt, ((lit< tt, tt), tt)), ((lit< tt, tt), tt)),
-      ((lit≤ tt, (lit< tt, tt, tt)),
-      ((lit< tt, tt, tt, tt, (((lit< tt, tt), ((lit< tt, tt), (lit< tt, ((lit< tt, tt), tt)))), tt)), tt)));
+  body_fits = (
+    ((lit< tt, ((lit< tt, tt), tt)), ((lit< tt, tt), tt)),
+    (
+      (lit≤ tt, (lit< tt, tt, tt)),
+      ((lit< tt, tt, tt, tt, (((lit< tt, tt), ((lit< tt, tt), (lit< tt, ((lit< tt, tt), tt)))), tt)), tt),
+    ),
+  );
 }
 
 pub returns-clause-run : goal.returns-clause-run
