@@ -104,7 +104,8 @@ selected_element : (t : Table) (sh element : Shape) (lower : ℤ) (count stride 
 selected_element t sh element lower count stride e i rest is takes room there =
     ap (λ s. linked_selectors t s (selector_then (subscript e) rest)) is
     ∙ ap (λ b. if b then option_and_then (λ i. option_map (behind_subscript i lower count (size element))
-    (linked_selectors t element rest)) (linked t e) else None) (has_room (size element) (subst (λ n. 0 < n) takes room))
+    (linked_selectors t element rest)) (linked t e) else None) (has_room (size element) (subst (λ n. 0 < n) takes
+    room))
     ∙ ap (option_and_then (λ i. option_map (behind_subscript i lower count (size element))
     (linked_selectors t element rest))) there
     ∙ ap (λ n. option_map (behind_subscript i lower count n) (linked_selectors t element rest)) (sym takes)
@@ -113,7 +114,8 @@ selected_element t sh element lower count stride e i rest is takes room there =
     has_room n h = grind (arith, h)
 
 before_one : (ss : List Subscript) (s : Subscript) (rest : Subscripts)
-    → subscripts_before (ss ++ s ∷ []) rest ≡ subscripts_before ss (subscript_then s.index s.lower s.count s.stride rest)
+    → subscripts_before (ss ++ s ∷ []) rest ≡ subscripts_before ss (subscript_then s.index s.lower s.count s.stride
+    rest)
 before_one [] s rest = refl
 before_one (x ∷ ss) s rest = ap (subscript_then x.index x.lower x.count x.stride) (before_one ss s rest)
 
@@ -182,7 +184,8 @@ no_index t (array lower count sh) e rest h = by_room (nat_lt 0 (size sh))
     by_room : (b : Bool) → (if b then option_and_then (λ i. option_map (behind_subscript i lower count (size sh))
         (linked_selectors t sh rest)) (linked t e) else None) ≡ None
     by_room true =
-        ap (option_and_then (λ i. option_map (behind_subscript i lower count (size sh)) (linked_selectors t sh rest))) h
+        ap (option_and_then (λ i. option_map (behind_subscript i lower count (size sh)) (linked_selectors t sh
+        rest))) h
     by_room false = refl
 
 -- where no selector is left

@@ -52,7 +52,8 @@ link-returns-in_err-arguments-in-Call-clause-none n c =
 pub link-returns-in_err-operand-in-Unary-clause-none : goal.link-returns-in_err-operand-in-Unary-clause-none
 link-returns-in_err-operand-in-Unary-clause-none n c =
     let op = c.in-Unary.operator in
-    let seen : expr_view c.args.expression.now ≡ trees.unary op c.in-Unary.field-1 (expr_view c.in-Unary.operand.value) =
+    let seen : expr_view c.args.expression.now ≡ trees.unary op c.in-Unary.field-1 (expr_view
+    c.in-Unary.operand.value) =
     rw c.in-Unary.is (search (rules, code_expr.the_lemmas)) in
     none_then _ c.in_err-operand-in-Unary.field-0.0 _ _ c.in_err-operand-in-Unary.ensures.none
     (λ h text t serves. ap (linked t) seen
@@ -196,7 +197,8 @@ link_selectors-loop-selector-preserved n c text t serves expanded =
     let rest = selectors_of (map selector_view (drop (c.loop-selector.selector-index + 1) xs)) in
     c.in_ok-reached.ensures.linked text t whole rest serves
     (subst (λ ys. LeadsOn text t whole c.loop-selector.reached (selectors_of (map selector_view ys)))
-    (left_begins xs c.loop-selector.selector-index c.selector-item.result c.loop-selector-test.true c.selector-item.is)
+    (left_begins xs c.loop-selector.selector-index c.selector-item.result c.loop-selector-test.true
+    c.selector-item.is)
     (c.loop-selector.invariant text t serves expanded))
 
 pub link_selectors-returns-in_err-reached-clause-none : goal.link_selectors-returns-in_err-reached-clause-none
@@ -209,7 +211,8 @@ link_selectors-returns-in_err-reached-clause-none n c =
     let rest = selectors_of (map selector_view (drop (c.loop-selector.selector-index + 1) xs)) in
     h text t whole rest serves
     (subst (λ ys. LeadsOn text t whole c.loop-selector.reached (selectors_of (map selector_view ys)))
-    (left_begins xs c.loop-selector.selector-index c.selector-item.result c.loop-selector-test.true c.selector-item.is)
+    (left_begins xs c.loop-selector.selector-index c.selector-item.result c.loop-selector-test.true
+    c.selector-item.is)
     (c.loop-selector.invariant text t serves expanded))) (search rules)
 
 pub link_selectors-returns-clause-linked : goal.link_selectors-returns-clause-linked

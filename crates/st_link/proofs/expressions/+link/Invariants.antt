@@ -23,5 +23,6 @@ invariant-link_all-loop-expression l = (text : Declared) (t : Table) → ServesB
 abbrev pub invariant-link_selectors-loop-selector : goal.invariant-link_selectors-loop-selector
 invariant-link_selectors-loop-selector l = (text : Declared) (t : Table) → ServesBody l.table text t
     → IsExpanded text (place_type_view l.declared) → LeadsOn text t
-    (linked_selectors t (shape_of_type text (place_type_view l.declared)) (selectors_of (map selector_view l.selectors)))
+    (linked_selectors t (shape_of_type text (place_type_view l.declared)) (selectors_of (map selector_view
+    l.selectors)))
     l.reached (selectors_of (map selector_view (drop l.selector-index l.selectors)))

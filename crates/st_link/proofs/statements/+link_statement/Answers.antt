@@ -25,7 +25,8 @@ use Rattle.st_link.proofs.statements.+link_statement.Goals as goal
 pub link_statement-returns-in_err-target-in-Assign-clause-none :
     goal.link_statement-returns-in_err-target-in-Assign-clause-none
 link_statement-returns-in_err-target-in-Assign-clause-none n c =
-    let seen : stmt_view c.args.statement.now ≡ trees.assign (variable_view c.in-Assign.target) (expr_view c.in-Assign.value) =
+    let seen : stmt_view c.args.statement.now ≡ trees.assign (variable_view c.in-Assign.target) (expr_view
+    c.in-Assign.value) =
     rw c.in-Assign.is (search (rules, code_stmt.the_lemmas)) in
     none_then _ c.in_err-target-in-Assign.field-0.0 _ _ c.in_err-target-in-Assign.ensures.none
     (λ h text t serves. ap (linked_stmt t) seen
@@ -35,200 +36,265 @@ link_statement-returns-in_err-target-in-Assign-clause-none n c =
 pub link_statement-returns-in_err-value-in-Assign-clause-none :
     goal.link_statement-returns-in_err-value-in-Assign-clause-none
 link_statement-returns-in_err-value-in-Assign-clause-none n c =
-    let seen : stmt_view c.args.statement.now ≡ trees.assign (variable_view c.in-Assign.target) (expr_view c.in-Assign.value) =
+    let seen : stmt_view c.args.statement.now ≡ trees.assign (variable_view c.in-Assign.target) (expr_view
+    c.in-Assign.value) =
     rw c.in-Assign.is (search (rules, code_stmt.the_lemmas)) in
     none_then _ c.in_err-value-in-Assign.field-0.0 _ _ c.in_err-value-in-Assign.ensures.none
     (λ h text t serves. ap (linked_stmt t) seen
     ∙ parts.no_value t (variable_view c.in-Assign.target) (expr_view c.in-Assign.value)
-    (place_view c.in_ok-target-in-Assign.target) (c.in_ok-target-in-Assign.ensures.linked text t serves) (h text t serves)) (search rules)
+    (place_view c.in_ok-target-in-Assign.target) (c.in_ok-target-in-Assign.ensures.linked text t serves) (h text t
+    serves)) (search rules)
 
 pub link_statement-returns-in_err-arms-in-If-clause-none :
     goal.link_statement-returns-in_err-arms-in-If-clause-none
 link_statement-returns-in_err-arms-in-If-clause-none n c =
-    let seen : stmt_view c.args.statement.now ≡ trees.IF (trees.arms_of (map arm_view c.in-If.arms.items)) (trees.stmts_of (map stmt_view c.in-If.otherwise.items)) =
+    let seen : stmt_view c.args.statement.now ≡ trees.IF (trees.arms_of (map arm_view c.in-If.arms.items))
+    (trees.stmts_of (map stmt_view c.in-If.otherwise.items)) =
     ap stmt_view c.in-If.is ∙ choose_view c.in-If.arms c.in-If.otherwise in
     none_then _ c.in_err-arms-in-If.field-0.0 _ _ c.in_err-arms-in-If.ensures.none
     (λ h text t serves. ap (linked_stmt t) seen
-    ∙ parts.no_choice t (trees.arms_of (map arm_view c.in-If.arms.items)) (trees.stmts_of (map stmt_view c.in-If.otherwise.items))
+    ∙ parts.no_choice t (trees.arms_of (map arm_view c.in-If.arms.items)) (trees.stmts_of (map stmt_view
+    c.in-If.otherwise.items))
     (rw c.deref-in-If.ensures.value at (h text t serves))) (search rules)
 
 pub link_statement-returns-in_err-otherwise-in-If-clause-none :
     goal.link_statement-returns-in_err-otherwise-in-If-clause-none
 link_statement-returns-in_err-otherwise-in-If-clause-none n c =
-    let seen : stmt_view c.args.statement.now ≡ trees.IF (trees.arms_of (map arm_view c.in-If.arms.items)) (trees.stmts_of (map stmt_view c.in-If.otherwise.items)) =
+    let seen : stmt_view c.args.statement.now ≡ trees.IF (trees.arms_of (map arm_view c.in-If.arms.items))
+    (trees.stmts_of (map stmt_view c.in-If.otherwise.items)) =
     ap stmt_view c.in-If.is ∙ choose_view c.in-If.arms c.in-If.otherwise in
     none_then _ c.in_err-otherwise-in-If.field-0.0 _ _ c.in_err-otherwise-in-If.ensures.none
     (λ h text t serves. ap (linked_stmt t) seen
-    ∙ parts.no_otherwise t (trees.arms_of (map arm_view c.in-If.arms.items)) (trees.stmts_of (map stmt_view c.in-If.otherwise.items))
-    (arms_of (map slot_arm_view c.in_ok-arms-in-If.arms.items)) (rw c.deref-in-If.ensures.value at (c.in_ok-arms-in-If.ensures.linked text t serves)) (rw c.deref-in-If-2.ensures.value at (h text t serves))) (search rules)
+    ∙ parts.no_otherwise t (trees.arms_of (map arm_view c.in-If.arms.items)) (trees.stmts_of (map stmt_view
+    c.in-If.otherwise.items))
+    (arms_of (map slot_arm_view c.in_ok-arms-in-If.arms.items)) (rw c.deref-in-If.ensures.value at
+    (c.in_ok-arms-in-If.ensures.linked text t serves)) (rw c.deref-in-If-2.ensures.value at (h text t serves)))
+    (search rules)
 
 pub link_statement-returns-in_err-selector-in-Case-clause-none :
     goal.link_statement-returns-in_err-selector-in-Case-clause-none
 link_statement-returns-in_err-selector-in-Case-clause-none n c =
-    let seen : stmt_view c.args.statement.now ≡ trees.CASE (expr_view c.in-Case.selector) (trees.case_arms_of (map case_arm_view c.in-Case.arms.items)) (trees.stmts_of (map stmt_view c.in-Case.otherwise.items)) =
+    let seen : stmt_view c.args.statement.now ≡ trees.CASE (expr_view c.in-Case.selector) (trees.case_arms_of (map
+    case_arm_view c.in-Case.arms.items)) (trees.stmts_of (map stmt_view c.in-Case.otherwise.items)) =
     ap stmt_view c.in-Case.is ∙ select_view c.in-Case.selector c.in-Case.arms c.in-Case.otherwise in
     none_then _ c.in_err-selector-in-Case.field-0.0 _ _ c.in_err-selector-in-Case.ensures.none
     (λ h text t serves. ap (linked_stmt t) seen
-    ∙ parts.no_selector t (expr_view c.in-Case.selector) (trees.case_arms_of (map case_arm_view c.in-Case.arms.items)) (trees.stmts_of (map stmt_view c.in-Case.otherwise.items))
+    ∙ parts.no_selector t (expr_view c.in-Case.selector) (trees.case_arms_of (map case_arm_view
+    c.in-Case.arms.items)) (trees.stmts_of (map stmt_view c.in-Case.otherwise.items))
     (h text t serves)) (search rules)
 
 pub link_statement-returns-in_err-arms-in-Case-clause-none :
     goal.link_statement-returns-in_err-arms-in-Case-clause-none
 link_statement-returns-in_err-arms-in-Case-clause-none n c =
-    let seen : stmt_view c.args.statement.now ≡ trees.CASE (expr_view c.in-Case.selector) (trees.case_arms_of (map case_arm_view c.in-Case.arms.items)) (trees.stmts_of (map stmt_view c.in-Case.otherwise.items)) =
+    let seen : stmt_view c.args.statement.now ≡ trees.CASE (expr_view c.in-Case.selector) (trees.case_arms_of (map
+    case_arm_view c.in-Case.arms.items)) (trees.stmts_of (map stmt_view c.in-Case.otherwise.items)) =
     ap stmt_view c.in-Case.is ∙ select_view c.in-Case.selector c.in-Case.arms c.in-Case.otherwise in
     none_then _ c.in_err-arms-in-Case.field-0.0 _ _ c.in_err-arms-in-Case.ensures.none
     (λ h text t serves. ap (linked_stmt t) seen
-    ∙ parts.no_selection t (expr_view c.in-Case.selector) (trees.case_arms_of (map case_arm_view c.in-Case.arms.items)) (trees.stmts_of (map stmt_view c.in-Case.otherwise.items))
-    (slot_expr_view c.in_ok-selector-in-Case.selector) (c.in_ok-selector-in-Case.ensures.linked text t serves) (rw c.deref-in-Case.ensures.value at (h text t serves))) (search rules)
+    ∙ parts.no_selection t (expr_view c.in-Case.selector) (trees.case_arms_of (map case_arm_view
+    c.in-Case.arms.items)) (trees.stmts_of (map stmt_view c.in-Case.otherwise.items))
+    (slot_expr_view c.in_ok-selector-in-Case.selector) (c.in_ok-selector-in-Case.ensures.linked text t serves) (rw
+    c.deref-in-Case.ensures.value at (h text t serves))) (search rules)
 
 pub link_statement-returns-in_err-otherwise-in-Case-clause-none :
     goal.link_statement-returns-in_err-otherwise-in-Case-clause-none
 link_statement-returns-in_err-otherwise-in-Case-clause-none n c =
-    let seen : stmt_view c.args.statement.now ≡ trees.CASE (expr_view c.in-Case.selector) (trees.case_arms_of (map case_arm_view c.in-Case.arms.items)) (trees.stmts_of (map stmt_view c.in-Case.otherwise.items)) =
+    let seen : stmt_view c.args.statement.now ≡ trees.CASE (expr_view c.in-Case.selector) (trees.case_arms_of (map
+    case_arm_view c.in-Case.arms.items)) (trees.stmts_of (map stmt_view c.in-Case.otherwise.items)) =
     ap stmt_view c.in-Case.is ∙ select_view c.in-Case.selector c.in-Case.arms c.in-Case.otherwise in
     none_then _ c.in_err-otherwise-in-Case.field-0.0 _ _ c.in_err-otherwise-in-Case.ensures.none
     (λ h text t serves. ap (linked_stmt t) seen
-    ∙ parts.no_other t (expr_view c.in-Case.selector) (trees.case_arms_of (map case_arm_view c.in-Case.arms.items)) (trees.stmts_of (map stmt_view c.in-Case.otherwise.items))
-    (slot_expr_view c.in_ok-selector-in-Case.selector) (case_arms_of (map slot_case_arm_view c.in_ok-arms-in-Case.arms.items)) (c.in_ok-selector-in-Case.ensures.linked text t serves) (rw c.deref-in-Case.ensures.value at (c.in_ok-arms-in-Case.ensures.linked text t serves)) (rw c.deref-in-Case-2.ensures.value at (h text t serves))) (search rules)
+    ∙ parts.no_other t (expr_view c.in-Case.selector) (trees.case_arms_of (map case_arm_view c.in-Case.arms.items))
+    (trees.stmts_of (map stmt_view c.in-Case.otherwise.items))
+    (slot_expr_view c.in_ok-selector-in-Case.selector) (case_arms_of (map slot_case_arm_view
+    c.in_ok-arms-in-Case.arms.items)) (c.in_ok-selector-in-Case.ensures.linked text t serves) (rw
+    c.deref-in-Case.ensures.value at (c.in_ok-arms-in-Case.ensures.linked text t serves)) (rw
+    c.deref-in-Case-2.ensures.value at (h text t serves))) (search rules)
 
 pub link_statement-returns-in_err-control-in-For-clause-none :
     goal.link_statement-returns-in_err-control-in-For-clause-none
 link_statement-returns-in_err-control-in-For-clause-none n c =
-    let seen : stmt_view c.args.statement.now ≡ trees.FOR c.in-For.control (expr_view c.in-For.start) (expr_view c.in-For.limit) (option_map expr_view c.in-For.step) (trees.stmts_of (map stmt_view c.in-For.body.items)) =
+    let seen : stmt_view c.args.statement.now ≡ trees.FOR c.in-For.control (expr_view c.in-For.start) (expr_view
+    c.in-For.limit) (option_map expr_view c.in-For.step) (trees.stmts_of (map stmt_view c.in-For.body.items)) =
     rw c.in-For.is (search (rules, code_stmt.the_lemmas)) in
     none_then _ c.in_err-control-in-For.field-0.0 _ _ c.in_err-control-in-For.ensures.none
     (λ h text t serves. ap (linked_stmt t) seen
-    ∙ parts.no_control t c.in-For.control (expr_view c.in-For.start) (expr_view c.in-For.limit) (option_map expr_view c.in-For.step) (trees.stmts_of (map stmt_view c.in-For.body.items))
+    ∙ parts.no_control t c.in-For.control (expr_view c.in-For.start) (expr_view c.in-For.limit) (option_map
+    expr_view c.in-For.step) (trees.stmts_of (map stmt_view c.in-For.body.items))
     (h text t serves)) (search rules)
 
 pub link_statement-returns-in_err-start-in-For-clause-none :
     goal.link_statement-returns-in_err-start-in-For-clause-none
 link_statement-returns-in_err-start-in-For-clause-none n c =
-    let seen : stmt_view c.args.statement.now ≡ trees.FOR c.in-For.control (expr_view c.in-For.start) (expr_view c.in-For.limit) (option_map expr_view c.in-For.step) (trees.stmts_of (map stmt_view c.in-For.body.items)) =
+    let seen : stmt_view c.args.statement.now ≡ trees.FOR c.in-For.control (expr_view c.in-For.start) (expr_view
+    c.in-For.limit) (option_map expr_view c.in-For.step) (trees.stmts_of (map stmt_view c.in-For.body.items)) =
     rw c.in-For.is (search (rules, code_stmt.the_lemmas)) in
     none_then _ c.in_err-start-in-For.field-0.0 _ _ c.in_err-start-in-For.ensures.none
     (λ h text t serves. ap (linked_stmt t) seen
-    ∙ parts.no_start t c.in-For.control (expr_view c.in-For.start) (expr_view c.in-For.limit) (option_map expr_view c.in-For.step) (trees.stmts_of (map stmt_view c.in-For.body.items))
-    (anchor_view c.in_ok-control-in-For.control) (c.in_ok-control-in-For.ensures.linked text t serves) (h text t serves)) (search rules)
+    ∙ parts.no_start t c.in-For.control (expr_view c.in-For.start) (expr_view c.in-For.limit) (option_map expr_view
+    c.in-For.step) (trees.stmts_of (map stmt_view c.in-For.body.items))
+    (anchor_view c.in_ok-control-in-For.control) (c.in_ok-control-in-For.ensures.linked text t serves) (h text t
+    serves)) (search rules)
 
 pub link_statement-returns-in_err-limit-in-For-clause-none :
     goal.link_statement-returns-in_err-limit-in-For-clause-none
 link_statement-returns-in_err-limit-in-For-clause-none n c =
-    let seen : stmt_view c.args.statement.now ≡ trees.FOR c.in-For.control (expr_view c.in-For.start) (expr_view c.in-For.limit) (option_map expr_view c.in-For.step) (trees.stmts_of (map stmt_view c.in-For.body.items)) =
+    let seen : stmt_view c.args.statement.now ≡ trees.FOR c.in-For.control (expr_view c.in-For.start) (expr_view
+    c.in-For.limit) (option_map expr_view c.in-For.step) (trees.stmts_of (map stmt_view c.in-For.body.items)) =
     rw c.in-For.is (search (rules, code_stmt.the_lemmas)) in
     none_then _ c.in_err-limit-in-For.field-0.0 _ _ c.in_err-limit-in-For.ensures.none
     (λ h text t serves. ap (linked_stmt t) seen
-    ∙ parts.no_limit t c.in-For.control (expr_view c.in-For.start) (expr_view c.in-For.limit) (option_map expr_view c.in-For.step) (trees.stmts_of (map stmt_view c.in-For.body.items))
-    (anchor_view c.in_ok-control-in-For.control) (slot_expr_view c.in_ok-start-in-For.start) (c.in_ok-control-in-For.ensures.linked text t serves) (c.in_ok-start-in-For.ensures.linked text t serves) (h text t serves)) (search rules)
+    ∙ parts.no_limit t c.in-For.control (expr_view c.in-For.start) (expr_view c.in-For.limit) (option_map expr_view
+    c.in-For.step) (trees.stmts_of (map stmt_view c.in-For.body.items))
+    (anchor_view c.in_ok-control-in-For.control) (slot_expr_view c.in_ok-start-in-For.start)
+    (c.in_ok-control-in-For.ensures.linked text t serves) (c.in_ok-start-in-For.ensures.linked text t serves) (h
+    text t serves)) (search rules)
 
 pub link_statement-returns-in_err-step-in-For-clause-none :
     goal.link_statement-returns-in_err-step-in-For-clause-none
 link_statement-returns-in_err-step-in-For-clause-none n c =
-    let seen : stmt_view c.args.statement.now ≡ trees.FOR c.in-For.control (expr_view c.in-For.start) (expr_view c.in-For.limit) (option_map expr_view c.in-For.step) (trees.stmts_of (map stmt_view c.in-For.body.items)) =
+    let seen : stmt_view c.args.statement.now ≡ trees.FOR c.in-For.control (expr_view c.in-For.start) (expr_view
+    c.in-For.limit) (option_map expr_view c.in-For.step) (trees.stmts_of (map stmt_view c.in-For.body.items)) =
     rw c.in-For.is (search (rules, code_stmt.the_lemmas)) in
     none_then _ c.in_err-step-in-For.field-0.0 _ _ c.in_err-step-in-For.ensures.none
     (λ h text t serves. ap (linked_stmt t) seen
-    ∙ parts.no_step t c.in-For.control (expr_view c.in-For.start) (expr_view c.in-For.limit) (option_map expr_view c.in-For.step) (trees.stmts_of (map stmt_view c.in-For.body.items))
-    (anchor_view c.in_ok-control-in-For.control) (slot_expr_view c.in_ok-start-in-For.start) (slot_expr_view c.in_ok-limit-in-For.limit) (c.in_ok-control-in-For.ensures.linked text t serves) (c.in_ok-start-in-For.ensures.linked text t serves) (c.in_ok-limit-in-For.ensures.linked text t serves) (h text t serves)) (search rules)
+    ∙ parts.no_step t c.in-For.control (expr_view c.in-For.start) (expr_view c.in-For.limit) (option_map expr_view
+    c.in-For.step) (trees.stmts_of (map stmt_view c.in-For.body.items))
+    (anchor_view c.in_ok-control-in-For.control) (slot_expr_view c.in_ok-start-in-For.start) (slot_expr_view
+    c.in_ok-limit-in-For.limit) (c.in_ok-control-in-For.ensures.linked text t serves)
+    (c.in_ok-start-in-For.ensures.linked text t serves) (c.in_ok-limit-in-For.ensures.linked text t serves) (h text
+    t serves)) (search rules)
 
 pub link_statement-returns-in_err-body-in-For-clause-none :
     goal.link_statement-returns-in_err-body-in-For-clause-none
 link_statement-returns-in_err-body-in-For-clause-none n c =
-    let seen : stmt_view c.args.statement.now ≡ trees.FOR c.in-For.control (expr_view c.in-For.start) (expr_view c.in-For.limit) (option_map expr_view c.in-For.step) (trees.stmts_of (map stmt_view c.in-For.body.items)) =
+    let seen : stmt_view c.args.statement.now ≡ trees.FOR c.in-For.control (expr_view c.in-For.start) (expr_view
+    c.in-For.limit) (option_map expr_view c.in-For.step) (trees.stmts_of (map stmt_view c.in-For.body.items)) =
     rw c.in-For.is (search (rules, code_stmt.the_lemmas)) in
     none_then _ c.in_err-body-in-For.field-0.0 _ _ c.in_err-body-in-For.ensures.none
     (λ h text t serves. ap (linked_stmt t) seen
-    ∙ parts.no_body t c.in-For.control (expr_view c.in-For.start) (expr_view c.in-For.limit) (option_map expr_view c.in-For.step) (trees.stmts_of (map stmt_view c.in-For.body.items))
-    (anchor_view c.in_ok-control-in-For.control) (slot_expr_view c.in_ok-start-in-For.start) (slot_expr_view c.in_ok-limit-in-For.limit) (option_map slot_expr_view c.in_ok-step-in-For.step) (c.in_ok-control-in-For.ensures.linked text t serves) (c.in_ok-start-in-For.ensures.linked text t serves) (c.in_ok-limit-in-For.ensures.linked text t serves) (c.in_ok-step-in-For.ensures.linked text t serves) (rw c.deref-in-For.ensures.value at (h text t serves))) (search rules)
+    ∙ parts.no_body t c.in-For.control (expr_view c.in-For.start) (expr_view c.in-For.limit) (option_map expr_view
+    c.in-For.step) (trees.stmts_of (map stmt_view c.in-For.body.items))
+    (anchor_view c.in_ok-control-in-For.control) (slot_expr_view c.in_ok-start-in-For.start) (slot_expr_view
+    c.in_ok-limit-in-For.limit) (option_map slot_expr_view c.in_ok-step-in-For.step)
+    (c.in_ok-control-in-For.ensures.linked text t serves) (c.in_ok-start-in-For.ensures.linked text t serves)
+    (c.in_ok-limit-in-For.ensures.linked text t serves) (c.in_ok-step-in-For.ensures.linked text t serves) (rw
+    c.deref-in-For.ensures.value at (h text t serves))) (search rules)
 
 pub link_statement-returns-in_err-condition-in-While-clause-none :
     goal.link_statement-returns-in_err-condition-in-While-clause-none
 link_statement-returns-in_err-condition-in-While-clause-none n c =
-    let seen : stmt_view c.args.statement.now ≡ trees.WHILE (expr_view c.in-While.condition) (trees.stmts_of (map stmt_view c.in-While.body.items)) =
+    let seen : stmt_view c.args.statement.now ≡ trees.WHILE (expr_view c.in-While.condition) (trees.stmts_of (map
+    stmt_view c.in-While.body.items)) =
     rw c.in-While.is (search (rules, code_stmt.the_lemmas)) in
     none_then _ c.in_err-condition-in-While.field-0.0 _ _ c.in_err-condition-in-While.ensures.none
     (λ h text t serves. ap (linked_stmt t) seen
-    ∙ parts.while_no_condition t (expr_view c.in-While.condition) (trees.stmts_of (map stmt_view c.in-While.body.items))
+    ∙ parts.while_no_condition t (expr_view c.in-While.condition) (trees.stmts_of (map stmt_view
+    c.in-While.body.items))
     (h text t serves)) (search rules)
 
 pub link_statement-returns-in_err-body-in-While-clause-none :
     goal.link_statement-returns-in_err-body-in-While-clause-none
 link_statement-returns-in_err-body-in-While-clause-none n c =
-    let seen : stmt_view c.args.statement.now ≡ trees.WHILE (expr_view c.in-While.condition) (trees.stmts_of (map stmt_view c.in-While.body.items)) =
+    let seen : stmt_view c.args.statement.now ≡ trees.WHILE (expr_view c.in-While.condition) (trees.stmts_of (map
+    stmt_view c.in-While.body.items)) =
     rw c.in-While.is (search (rules, code_stmt.the_lemmas)) in
     none_then _ c.in_err-body-in-While.field-0.0 _ _ c.in_err-body-in-While.ensures.none
     (λ h text t serves. ap (linked_stmt t) seen
     ∙ parts.while_no_body t (expr_view c.in-While.condition) (trees.stmts_of (map stmt_view c.in-While.body.items))
-    (slot_expr_view c.in_ok-condition-in-While.condition) (c.in_ok-condition-in-While.ensures.linked text t serves) (rw c.deref-in-While.ensures.value at (h text t serves))) (search rules)
+    (slot_expr_view c.in_ok-condition-in-While.condition) (c.in_ok-condition-in-While.ensures.linked text t serves)
+    (rw c.deref-in-While.ensures.value at (h text t serves))) (search rules)
 
 pub link_statement-returns-in_err-condition-in-Repeat-clause-none :
     goal.link_statement-returns-in_err-condition-in-Repeat-clause-none
 link_statement-returns-in_err-condition-in-Repeat-clause-none n c =
-    let seen : stmt_view c.args.statement.now ≡ trees.REPEAT (trees.stmts_of (map stmt_view c.in-Repeat.body.items)) (expr_view c.in-Repeat.condition) =
+    let seen : stmt_view c.args.statement.now ≡ trees.REPEAT (trees.stmts_of (map stmt_view
+    c.in-Repeat.body.items)) (expr_view c.in-Repeat.condition) =
     rw c.in-Repeat.is (search (rules, code_stmt.the_lemmas)) in
     none_then _ c.in_err-condition-in-Repeat.field-0.0 _ _ c.in_err-condition-in-Repeat.ensures.none
     (λ h text t serves. ap (linked_stmt t) seen
-    ∙ parts.until_no_condition t (expr_view c.in-Repeat.condition) (trees.stmts_of (map stmt_view c.in-Repeat.body.items))
+    ∙ parts.until_no_condition t (expr_view c.in-Repeat.condition) (trees.stmts_of (map stmt_view
+    c.in-Repeat.body.items))
     (h text t serves)) (search rules)
 
 pub link_statement-returns-in_err-body-in-Repeat-clause-none :
     goal.link_statement-returns-in_err-body-in-Repeat-clause-none
 link_statement-returns-in_err-body-in-Repeat-clause-none n c =
-    let seen : stmt_view c.args.statement.now ≡ trees.REPEAT (trees.stmts_of (map stmt_view c.in-Repeat.body.items)) (expr_view c.in-Repeat.condition) =
+    let seen : stmt_view c.args.statement.now ≡ trees.REPEAT (trees.stmts_of (map stmt_view
+    c.in-Repeat.body.items)) (expr_view c.in-Repeat.condition) =
     rw c.in-Repeat.is (search (rules, code_stmt.the_lemmas)) in
     none_then _ c.in_err-body-in-Repeat.field-0.0 _ _ c.in_err-body-in-Repeat.ensures.none
     (λ h text t serves. ap (linked_stmt t) seen
     ∙ parts.until_no_body t (expr_view c.in-Repeat.condition) (trees.stmts_of (map stmt_view c.in-Repeat.body.items))
-    (slot_expr_view c.in_ok-condition-in-Repeat.condition) (c.in_ok-condition-in-Repeat.ensures.linked text t serves) (rw c.deref-in-Repeat.ensures.value at (h text t serves))) (search rules)
+    (slot_expr_view c.in_ok-condition-in-Repeat.condition) (c.in_ok-condition-in-Repeat.ensures.linked text t
+    serves) (rw c.deref-in-Repeat.ensures.value at (h text t serves))) (search rules)
 
 pub link_statement-returns-in_ok-otherwise-in-If-clause-linked :
     goal.link_statement-returns-in_ok-otherwise-in-If-clause-linked
 link_statement-returns-in_ok-otherwise-in-If-clause-linked n c text t serves =
-    let seen : stmt_view c.args.statement.now ≡ trees.IF (trees.arms_of (map arm_view c.in-If.arms.items)) (trees.stmts_of (map stmt_view c.in-If.otherwise.items)) =
+    let seen : stmt_view c.args.statement.now ≡ trees.IF (trees.arms_of (map arm_view c.in-If.arms.items))
+    (trees.stmts_of (map stmt_view c.in-If.otherwise.items)) =
     ap stmt_view c.in-If.is ∙ choose_view c.in-If.arms c.in-If.otherwise in
     ap (linked_stmt t) seen
-    ∙ parts.choice t (trees.arms_of (map arm_view c.in-If.arms.items)) (trees.stmts_of (map stmt_view c.in-If.otherwise.items))
-    (arms_of (map slot_arm_view c.in_ok-arms-in-If.arms.items)) (stmts_of (map slot_stmt_view c.in_ok-otherwise-in-If.otherwise.items))
-    (rw c.deref-in-If.ensures.value at (c.in_ok-arms-in-If.ensures.linked text t serves)) (rw c.deref-in-If-2.ensures.value at (c.in_ok-otherwise-in-If.ensures.linked text t serves))
+    ∙ parts.choice t (trees.arms_of (map arm_view c.in-If.arms.items)) (trees.stmts_of (map stmt_view
+    c.in-If.otherwise.items))
+    (arms_of (map slot_arm_view c.in_ok-arms-in-If.arms.items)) (stmts_of (map slot_stmt_view
+    c.in_ok-otherwise-in-If.otherwise.items))
+    (rw c.deref-in-If.ensures.value at (c.in_ok-arms-in-If.ensures.linked text t serves)) (rw
+    c.deref-in-If-2.ensures.value at (c.in_ok-otherwise-in-If.ensures.linked text t serves))
     ∙ ap Some (sym c.choose.ensures)
 
 pub link_statement-returns-in_ok-otherwise-in-Case-clause-linked :
     goal.link_statement-returns-in_ok-otherwise-in-Case-clause-linked
 link_statement-returns-in_ok-otherwise-in-Case-clause-linked n c text t serves =
-    let seen : stmt_view c.args.statement.now ≡ trees.CASE (expr_view c.in-Case.selector) (trees.case_arms_of (map case_arm_view c.in-Case.arms.items)) (trees.stmts_of (map stmt_view c.in-Case.otherwise.items)) =
+    let seen : stmt_view c.args.statement.now ≡ trees.CASE (expr_view c.in-Case.selector) (trees.case_arms_of (map
+    case_arm_view c.in-Case.arms.items)) (trees.stmts_of (map stmt_view c.in-Case.otherwise.items)) =
     ap stmt_view c.in-Case.is ∙ select_view c.in-Case.selector c.in-Case.arms c.in-Case.otherwise in
     ap (linked_stmt t) seen
-    ∙ parts.selection t (expr_view c.in-Case.selector) (trees.case_arms_of (map case_arm_view c.in-Case.arms.items)) (trees.stmts_of (map stmt_view c.in-Case.otherwise.items))
-    (slot_expr_view c.in_ok-selector-in-Case.selector) (case_arms_of (map slot_case_arm_view c.in_ok-arms-in-Case.arms.items)) (stmts_of (map slot_stmt_view c.in_ok-otherwise-in-Case.otherwise.items))
-    (c.in_ok-selector-in-Case.ensures.linked text t serves) (rw c.deref-in-Case.ensures.value at (c.in_ok-arms-in-Case.ensures.linked text t serves)) (rw c.deref-in-Case-2.ensures.value at (c.in_ok-otherwise-in-Case.ensures.linked text t serves))
+    ∙ parts.selection t (expr_view c.in-Case.selector) (trees.case_arms_of (map case_arm_view
+    c.in-Case.arms.items)) (trees.stmts_of (map stmt_view c.in-Case.otherwise.items))
+    (slot_expr_view c.in_ok-selector-in-Case.selector) (case_arms_of (map slot_case_arm_view
+    c.in_ok-arms-in-Case.arms.items)) (stmts_of (map slot_stmt_view c.in_ok-otherwise-in-Case.otherwise.items))
+    (c.in_ok-selector-in-Case.ensures.linked text t serves) (rw c.deref-in-Case.ensures.value at
+    (c.in_ok-arms-in-Case.ensures.linked text t serves)) (rw c.deref-in-Case-2.ensures.value at
+    (c.in_ok-otherwise-in-Case.ensures.linked text t serves))
     ∙ ap Some (sym c.select.ensures)
 
 pub link_statement-returns-in_ok-body-in-For-clause-linked :
     goal.link_statement-returns-in_ok-body-in-For-clause-linked
 link_statement-returns-in_ok-body-in-For-clause-linked n c text t serves =
-    let seen : stmt_view c.args.statement.now ≡ trees.FOR c.in-For.control (expr_view c.in-For.start) (expr_view c.in-For.limit) (option_map expr_view c.in-For.step) (trees.stmts_of (map stmt_view c.in-For.body.items)) =
+    let seen : stmt_view c.args.statement.now ≡ trees.FOR c.in-For.control (expr_view c.in-For.start) (expr_view
+    c.in-For.limit) (option_map expr_view c.in-For.step) (trees.stmts_of (map stmt_view c.in-For.body.items)) =
     rw c.in-For.is (search (rules, code_stmt.the_lemmas)) in
     ap (linked_stmt t) seen
-    ∙ parts.counted t c.in-For.control (expr_view c.in-For.start) (expr_view c.in-For.limit) (option_map expr_view c.in-For.step) (trees.stmts_of (map stmt_view c.in-For.body.items))
-    (anchor_view c.in_ok-control-in-For.control) (slot_expr_view c.in_ok-start-in-For.start) (slot_expr_view c.in_ok-limit-in-For.limit) (option_map slot_expr_view c.in_ok-step-in-For.step) (stmts_of (map slot_stmt_view c.in_ok-body-in-For.body.items))
-    (c.in_ok-control-in-For.ensures.linked text t serves) (c.in_ok-start-in-For.ensures.linked text t serves) (c.in_ok-limit-in-For.ensures.linked text t serves) (c.in_ok-step-in-For.ensures.linked text t serves) (rw c.deref-in-For.ensures.value at (c.in_ok-body-in-For.ensures.linked text t serves))
+    ∙ parts.counted t c.in-For.control (expr_view c.in-For.start) (expr_view c.in-For.limit) (option_map expr_view
+    c.in-For.step) (trees.stmts_of (map stmt_view c.in-For.body.items))
+    (anchor_view c.in_ok-control-in-For.control) (slot_expr_view c.in_ok-start-in-For.start) (slot_expr_view
+    c.in_ok-limit-in-For.limit) (option_map slot_expr_view c.in_ok-step-in-For.step) (stmts_of (map slot_stmt_view
+    c.in_ok-body-in-For.body.items))
+    (c.in_ok-control-in-For.ensures.linked text t serves) (c.in_ok-start-in-For.ensures.linked text t serves)
+    (c.in_ok-limit-in-For.ensures.linked text t serves) (c.in_ok-step-in-For.ensures.linked text t serves) (rw
+    c.deref-in-For.ensures.value at (c.in_ok-body-in-For.ensures.linked text t serves))
     ∙ ap Some (sym c.count.ensures)
 
 pub link_statements-loop-statement-init : goal.link_statements-loop-statement-init
 link_statements-loop-statement-init n c text t serves =
     let xs = map stmt_view c.args.statements.now in
-    subst (λ ds. Turned trees.Stmt SlotStmt (linked_stmt t) xs (map slot_stmt_view ds) xs) (sym c.new-linked.ensures.items)
+    subst (λ ds. Turned trees.Stmt SlotStmt (linked_stmt t) xs (map slot_stmt_view ds) xs) (sym
+    c.new-linked.ensures.items)
     (turned_first (linked_stmt t) xs)
 
 pub link_statements-loop-statement-preserved : goal.link_statements-loop-statement-preserved
 link_statements-loop-statement-preserved n c text t serves =
-    turned_more stmt_view slot_stmt_view (linked_stmt t) c.args.statements.now c.loop-statement.statement-index c.statement-item.result
-    c.loop-statement.linked.items c.push.new.self.items c.in_ok-link_statement.field-0 c.loop-statement-test.true c.statement-item.is
+    turned_more stmt_view slot_stmt_view (linked_stmt t) c.args.statements.now c.loop-statement.statement-index
+    c.statement-item.result
+    c.loop-statement.linked.items c.push.new.self.items c.in_ok-link_statement.field-0 c.loop-statement-test.true
+    c.statement-item.is
     c.in_ok-push.ensures.items (c.in_ok-link_statement.ensures.linked text t serves)
     (c.loop-statement.invariant text t serves)
 
-pub link_statements-returns-in_err-link_statement-clause-none : goal.link_statements-returns-in_err-link_statement-clause-none
+pub link_statements-returns-in_err-link_statement-clause-none :
+    goal.link_statements-returns-in_err-link_statement-clause-none
 link_statements-returns-in_err-link_statement-clause-none n c =
     let xs = c.args.statements.now in
     none_then _ c.in_err-link_statement.field-0.0 _ _ c.in_err-link_statement.ensures.none
@@ -278,17 +344,20 @@ link_arms-returns-clause-linked n c text t serves =
 pub link_case_arms-loop-arm-init : goal.link_case_arms-loop-arm-init
 link_case_arms-loop-arm-init n c text t serves =
     let xs = map case_arm_view c.args.arms.now in
-    subst (λ ds. Turned trees.CaseArm CaseArm (linked_case_arm t) xs (map slot_case_arm_view ds) xs) (sym c.new-linked.ensures.items)
+    subst (λ ds. Turned trees.CaseArm CaseArm (linked_case_arm t) xs (map slot_case_arm_view ds) xs) (sym
+    c.new-linked.ensures.items)
     (turned_first (linked_case_arm t) xs)
 
 pub link_case_arms-loop-arm-preserved : goal.link_case_arms-loop-arm-preserved
 link_case_arms-loop-arm-preserved n c text t serves =
-    turned_more case_arm_view slot_case_arm_view (linked_case_arm t) c.args.arms.now c.loop-arm.arm-index c.arm-item.result
+    turned_more case_arm_view slot_case_arm_view (linked_case_arm t) c.args.arms.now c.loop-arm.arm-index
+    c.arm-item.result
     c.loop-arm.linked.items c.push.new.self.items c.in_ok-link_case_arm.field-0 c.loop-arm-test.true c.arm-item.is
     c.in_ok-push.ensures.items (c.in_ok-link_case_arm.ensures.linked text t serves)
     (c.loop-arm.invariant text t serves)
 
-pub link_case_arms-returns-in_err-link_case_arm-clause-none : goal.link_case_arms-returns-in_err-link_case_arm-clause-none
+pub link_case_arms-returns-in_err-link_case_arm-clause-none :
+    goal.link_case_arms-returns-in_err-link_case_arm-clause-none
 link_case_arms-returns-in_err-link_case_arm-clause-none n c =
     let xs = c.args.arms.now in
     none_then _ c.in_err-link_case_arm.field-0.0 _ _ c.in_err-link_case_arm.ensures.none
