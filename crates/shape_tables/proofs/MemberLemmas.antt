@@ -63,7 +63,8 @@ grown_first text es w expanded none empty = record {
       subst (λ o. Agree (IsMemberPlace text 0) (or_found o r) (part_at (typed_parts text es) x)) (sym (empty x)) here;
 }
 
-pub grown_next : (text : Declared) (es left : List NamedType) (e : NamedType) (m : MemberPlace) (own : ℕ) (w v : Whole)
+pub grown_next : (text : Declared) (es left : List NamedType) (e : NamedType) (m : MemberPlace) (own : ℕ) (w v :
+    Whole)
     → m.offset ≡ w.size → place_type_view m.declared ≡ e.1 → own ≡ cut (size (shape_of_type text e.1))
     → ((x : Name) → member_found v.members x
     ≡ or_found (member_found w.members x) (if bytes_eq x e.0 then Some m else None))
@@ -100,7 +101,8 @@ pub grown_all : (text : Declared) (es : List NamedType) (w : Whole) → GrownSoF
 grown_all text es w g = record {
   slots = sym (cut_small w.size g.room) ∙ ap cut (grind (arith)) ∙ sym g.slots;
   members = λ x.
-      subst (λ o. Agree (IsMemberPlace text 0) o (part_at (typed_parts text es) x)) (nothing_behind (member_found w.members x))
+      subst (λ o. Agree (IsMemberPlace text 0) o (part_at (typed_parts text es) x)) (nothing_behind (member_found
+      w.members x))
       (g.members x None tt);
 }
   where

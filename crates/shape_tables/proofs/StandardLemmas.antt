@@ -39,4 +39,5 @@ pub elementary_size : (text : Declared) (t : VariableType) (k : Kind) → t ≡ 
     → 1 ≡ cut (size (shape_of_type text t))
 elementary_size text t k is =
     sym (ap (λ u. cut (size (shape_of_type text u))) is
-    ∙ ap (λ sh. cut (size sh)) (composed_whole MAX_TYPE_DEPTH text (elementary k) (of_kind k) refl (expanded_kind text k)))
+    ∙ ap (λ sh. cut (size sh)) (composed_whole MAX_TYPE_DEPTH text (elementary k) (of_kind k) refl (expanded_kind
+    text k)))

@@ -7,7 +7,8 @@ use Rattle.shape_tables.proofs.wholes.add_types.Goals as goal
 pub loop-declaration-preserved : goal.loop-declaration-preserved
 loop-declaration-preserved c =
     let h = c.loop-declaration.invariant in
-    let rest = map (λ t. type_declaration_view t.now) (drop (c.loop-declaration.declaration-index + 1) c.args.types.now) in
+    let rest = map (λ t. type_declaration_view t.now) (drop (c.loop-declaration.declaration-index + 1)
+    c.args.types.now) in
     record {
       serves = λ text serves. c.in_ok-add_whole.ensures.serves text (h.serves text serves);
       known = λ text serves knows.
@@ -17,7 +18,9 @@ loop-declaration-preserved c =
             before.0,
             λ others.
                 before.1 (ap (λ ts. type_named (map (λ t. type_declaration_view t.now) ts) x)
-                (left_begins c.args.types.now c.loop-declaration.declaration-index c.declaration-item.result c.loop-declaration-test.true c.declaration-item.is)
-                ∙ ap (λ b. if b then Some (type_declaration_view c.declaration-item.result.now).definition else type_named rest x) here.1 ∙ others),
+                (left_begins c.args.types.now c.loop-declaration.declaration-index c.declaration-item.result
+                c.loop-declaration-test.true c.declaration-item.is)
+                ∙ ap (λ b. if b then Some (type_declaration_view c.declaration-item.result.now).definition else
+                type_named rest x) here.1 ∙ others),
           );
     }

@@ -17,7 +17,8 @@ loop-unit-preserved c =
             before.0,
             λ others.
                 before.1 (ap (λ ts. unit_named (map (λ t. unit_view t.now) ts) x)
-                (left_begins c.args.units.now c.loop-unit.unit-index c.unit-item.result c.loop-unit-test.true c.unit-item.is)
+                (left_begins c.args.units.now c.loop-unit.unit-index c.unit-item.result c.loop-unit-test.true
+                c.unit-item.is)
                 ∙ ap (λ b. if b then Some (unit_view c.unit-item.result.now) else unit_named rest x) here.1 ∙ others),
           );
     }

@@ -1,0 +1,258 @@
+-- One selector further, and where the last one has led.
+use Rattle.std.proofs.Common.{◌≡◌, refl, sym, ap, subst, ◌∙◌, arith, ℕ, ◌+◌, ◌<◌, ◌≤◌, List, [], ◌∷◌, ◌++◌, map}
+use Rattle.std.proofs.Common.{Bool, true, false, if◌then◌else◌, Option, Some, None}
+use Rattle.std.specs.Prelude.{nat_lt, option_map, option_and_then, ℤ}
+use Rattle.st_words.specs.declared.identifier.Identifier.{Identifier}
+use Rattle.st_words.specs.declared.limits.TheConstants.{MAX_PATHS}
+use Rattle.st_trees.specs.Expressions.{Expr, Selectors, no_selectors, selector_then, member, subscript}
+use Rattle.st_types.specs.NameTypes.{Declared}
+use Rattle.st_types.specs.Scopes.{Name}
+use Rattle.st_names.specs.Agreeing.{Agree}
+use Rattle.st_names.specs.PlaceTypes.{place_type_view}
+use Rattle.st_layouts.specs.Shapes.{Shape, plain, array, parts, size}
+use Rattle.st_layouts.specs.Types.{shape_of_type}
+use Rattle.layout.specs.Sizes.{cut}
+use Rattle.slot_trees.specs.SlotTrees.{Anchor, SlotExpr, Subscripts, Place, no_subscripts, subscript_then}
+use Rattle.slot_trees.specs.SlotTrees as trees
+use Rattle.slot_trees.specs.Linking.{Selected, behind_offset, behind_subscript, linked, linked_selectors}
+use Rattle.slot_trees.specs.Linking.{place_if_plain, place_of_shape}
+use Rattle.slot_trees.specs.Tables.{Part, Table, moved, part_at}
+use Rattle.slot_bodies.specs.Chains.{Subscript, subscripts_of}
+use Rattle.slot_bodies.specs.ExpressionViews.{subscript_view}
+use Rattle.shape_tables.specs.Shapes.{IsExpanded, IsMemberPlace, is_plain, is_array, member_of}
+use Rattle.shape_tables.specs.declared.elements.Elements.{Elements}
+use Rattle.shape_tables.specs.declared.members.MemberPlace.{MemberPlace}
+use Rattle.st_link.specs.Places.{HasElements, LeadsOn, joined, subscripts_before}
+use Rattle.st_link.specs.declared.places.Reached.{Reached}
+
+-- a member, by the part of the shape that it is
+selected_member : (t : Table) (sh : Shape) (x : Identifier) (rest : Selectors)
+    → linked_selectors t sh (selector_then (member x) rest)
+    ≡ option_and_then (λ e. option_map (behind_offset e.offset) (linked_selectors t e.shape rest))
+    (member_of sh x.name)
+selected_member t (plain k) x rest = refl
+selected_member t (array lower count sh) x rest = refl
+selected_member t (parts w ps) x rest = refl
+
+cut_behind : (n o more : ℕ) → cut (cut (n + cut (0 + o)) + more) ≡ cut (n + (o + more))
+cut_behind n o more = grind (arith)
+
+joined_member : (n o after : ℕ) (ss : List Subscript) (s : Option Selected) → after ≡ cut (n + cut (0 + o))
+    → option_map (joined n ss) (option_map (behind_offset o) s) ≡ option_map (joined after ss) s
+joined_member n o after ss None is = refl
+joined_member n o after ss (Some s) is =
+    ap (λ k. Some (record { offset = k; subscripts = subscripts_before ss s.subscripts; shape = s.shape }))
+    (sym (ap (λ k. cut (k + s.offset)) is ∙ cut_behind n o s.offset))
+
+pub leads_to_member : (text : Declared) (t : Table) (whole : Option Selected) (r next : Reached) (x : Identifier)
+    (rest : Selectors) (m : MemberPlace)
+    → Agree (IsMemberPlace text 0) (Some m) (member_of (shape_of_type text (place_type_view r.declared)) x.name)
+    → next.offset ≡ cut (r.offset + m.offset) → next.subscripts ≡ r.subscripts → next.declared ≡ m.declared
+    → LeadsOn text t whole r (selector_then (member x) rest) → LeadsOn text t whole next rest
+leads_to_member text t whole r next x rest m there moved_on same declared h =
+    by_part (member_of (shape_of_type text (place_type_view r.declared)) x.name) refl there
+  where
+    by_part : (e : Option Part) → member_of (shape_of_type text (place_type_view r.declared)) x.name ≡ e
+        → Agree (IsMemberPlace text 0) (Some m) e → LeadsOn text t whole next rest
+    by_part None is a = absurd a
+    by_part (Some e) is a = record {
+      is = h.is
+          ∙ ap (option_map (joined r.offset (map subscript_view r.subscripts.items)))
+          (selected_member t (shape_of_type text (place_type_view r.declared)) x rest
+          ∙ ap (option_and_then (λ y. option_map (behind_offset y.offset) (linked_selectors t y.shape rest))) is)
+          ∙ joined_member r.offset e.offset next.offset (map subscript_view r.subscripts.items)
+          (linked_selectors t e.shape rest) (moved_on ∙ ap (λ k. cut (r.offset + k)) a.offset)
+          ∙ ap (λ vs. option_map (joined next.offset (map subscript_view vs.items)) (linked_selectors t e.shape rest))
+          (sym same)
+          ∙ ap (λ sh. option_map (joined next.offset (map subscript_view next.subscripts.items))
+          (linked_selectors t sh rest))
+          (a.shape ∙ ap (λ d. shape_of_type text (place_type_view d)) (sym declared));
+      expanded = subst (λ d. IsExpanded text (place_type_view d)) (sym declared) a.expanded;
+    }
+
+-- what is joined to nothing is nothing
+none_joined : (n : ℕ) (ss : List Subscript) (o : Option Selected) → option_map (joined n ss) o ≡ None → o ≡ None
+none_joined n ss None h = refl
+none_joined n ss (Some s) h = absurd (cc)
+
+pub leads_nowhere : (text : Declared) (t : Table) (whole : Option Selected) (r : Reached) (rest : Selectors)
+    → linked_selectors t (shape_of_type text (place_type_view r.declared)) rest ≡ None
+    → LeadsOn text t whole r rest → whole ≡ None
+leads_nowhere text t whole r rest none h =
+    none_joined 0 [] whole (h.is ∙ ap (option_map (joined r.offset (map subscript_view r.subscripts.items))) none)
+
+pub no_member : (text : Declared) (t : Table) (whole : Option Selected) (r : Reached) (x : Identifier)
+    (rest : Selectors)
+    → Agree (IsMemberPlace text 0) None (member_of (shape_of_type text (place_type_view r.declared)) x.name)
+    → LeadsOn text t whole r (selector_then (member x) rest) → whole ≡ None
+no_member text t whole r x rest there h =
+    by_part (member_of (shape_of_type text (place_type_view r.declared)) x.name) refl there
+  where
+    by_part : (e : Option Part) → member_of (shape_of_type text (place_type_view r.declared)) x.name ≡ e
+        → Agree (IsMemberPlace text 0) None e → whole ≡ None
+    by_part (Some e) is a = absurd a
+    by_part None is a =
+        leads_nowhere text t whole r (selector_then (member x) rest)
+        (selected_member t (shape_of_type text (place_type_view r.declared)) x rest
+        ∙ ap (option_and_then (λ y. option_map (behind_offset y.offset) (linked_selectors t y.shape rest))) is) h
+
+-- an element of an array whose elements take room
+selected_element : (t : Table) (sh element : Shape) (lower : ℤ) (count stride : ℕ) (e : Expr) (i : SlotExpr)
+    (rest : Selectors) → sh ≡ array lower count element → stride ≡ size element → 0 < stride → linked t e ≡ Some i
+    → linked_selectors t sh (selector_then (subscript e) rest)
+    ≡ option_map (behind_subscript i lower count stride) (linked_selectors t element rest)
+selected_element t sh element lower count stride e i rest is takes room there =
+    ap (λ s. linked_selectors t s (selector_then (subscript e) rest)) is
+    ∙ ap (λ b. if b then option_and_then (λ i. option_map (behind_subscript i lower count (size element))
+    (linked_selectors t element rest)) (linked t e) else None) (has_room (size element) (subst (λ n. 0 < n) takes
+    room))
+    ∙ ap (option_and_then (λ i. option_map (behind_subscript i lower count (size element))
+    (linked_selectors t element rest))) there
+    ∙ ap (λ n. option_map (behind_subscript i lower count n) (linked_selectors t element rest)) (sym takes)
+  where
+    has_room : (n : ℕ) → 0 < n → nat_lt 0 n ≡ true
+    has_room n h = grind (arith, h)
+
+before_one : (ss : List Subscript) (s : Subscript) (rest : Subscripts)
+    → subscripts_before (ss ++ s ∷ []) rest ≡ subscripts_before ss (subscript_then s.index s.lower s.count s.stride
+    rest)
+before_one [] s rest = refl
+before_one (x ∷ ss) s rest = ap (subscript_then x.index x.lower x.count x.stride) (before_one ss s rest)
+
+joined_element : (n : ℕ) (ss : List Subscript) (s : Subscript) (o : Option Selected)
+    → option_map (joined n ss) (option_map (behind_subscript s.index s.lower s.count s.stride) o)
+    ≡ option_map (joined n (ss ++ s ∷ [])) o
+joined_element n ss s None = refl
+joined_element n ss s (Some x) =
+    ap (λ y. Some (record { offset = cut (n + x.offset); subscripts = y; shape = x.shape }))
+    (sym (before_one ss s x.subscripts))
+
+pub leads_to_element : (text : Declared) (t : Table) (whole : Option Selected) (r next : Reached) (el : Elements)
+    (e : Expr) (i : SlotExpr) (s : Subscript) (rest : Selectors)
+    → HasElements text (shape_of_type text (place_type_view r.declared)) el → linked t e ≡ Some i
+    → s ≡ record { index = i; lower = el.lower; count = el.count; stride = el.stride }
+    → next.offset ≡ r.offset
+    → map subscript_view next.subscripts.items ≡ map subscript_view r.subscripts.items ++ s ∷ []
+    → next.declared ≡ el.declared
+    → LeadsOn text t whole r (selector_then (subscript e) rest) → LeadsOn text t whole next rest
+leads_to_element text t whole r next el e i s rest has there is at more declared h = record {
+  is = h.is
+      ∙ ap (option_map (joined r.offset (map subscript_view r.subscripts.items)))
+      (selected_element t (shape_of_type text (place_type_view r.declared))
+      (shape_of_type text (place_type_view el.declared)) el.lower el.count el.stride e i rest has.shape has.stride
+      has.room there)
+      ∙ ap (λ x. option_map (joined r.offset (map subscript_view r.subscripts.items))
+      (option_map (behind_subscript x.index x.lower x.count x.stride)
+      (linked_selectors t (shape_of_type text (place_type_view el.declared)) rest))) (sym is)
+      ∙ joined_element r.offset (map subscript_view r.subscripts.items) s
+      (linked_selectors t (shape_of_type text (place_type_view el.declared)) rest)
+      ∙ ap (λ ss. option_map (joined r.offset ss)
+      (linked_selectors t (shape_of_type text (place_type_view el.declared)) rest)) (sym more)
+      ∙ ap (λ n. option_map (joined n (map subscript_view next.subscripts.items))
+      (linked_selectors t (shape_of_type text (place_type_view el.declared)) rest)) (sym at)
+      ∙ ap (λ d. option_map (joined next.offset (map subscript_view next.subscripts.items))
+      (linked_selectors t (shape_of_type text (place_type_view d)) rest)) (sym declared);
+  expanded = subst (λ d. IsExpanded text (place_type_view d)) (sym declared) has.expanded;
+}
+
+-- what is no array has no elements
+pub no_elements : (t : Table) (sh : Shape) (e : Expr) (rest : Selectors) → is_array sh ≡ false
+    → linked_selectors t sh (selector_then (subscript e) rest) ≡ None
+no_elements t (plain k) e rest h = refl
+no_elements t (parts w ps) e rest h = refl
+no_elements t (array lower count sh) e rest h = absurd (cc)
+
+-- nor has one whose elements take no room
+pub no_room : (t : Table) (sh element : Shape) (lower : ℤ) (count : ℕ) (e : Expr) (rest : Selectors)
+    → sh ≡ array lower count element → 0 ≡ cut (size element)
+    → linked_selectors t sh (selector_then (subscript e) rest) ≡ None
+no_room t sh element lower count e rest is none =
+    ap (λ s. linked_selectors t s (selector_then (subscript e) rest)) is
+    ∙ ap (λ b. if b then option_and_then (λ i. option_map (behind_subscript i lower count (size element))
+    (linked_selectors t element rest)) (linked t e) else None) (takes_none (size element) none)
+  where
+    takes_none : (n : ℕ) → 0 ≡ cut n → nat_lt 0 n ≡ false
+    takes_none n h = grind (arith, h)
+
+-- nor an element whose subscript has no slots
+pub no_index : (t : Table) (sh : Shape) (e : Expr) (rest : Selectors) → linked t e ≡ None
+    → linked_selectors t sh (selector_then (subscript e) rest) ≡ None
+no_index t (plain k) e rest h = refl
+no_index t (parts w ps) e rest h = refl
+no_index t (array lower count sh) e rest h = by_room (nat_lt 0 (size sh))
+  where
+    by_room : (b : Bool) → (if b then option_and_then (λ i. option_map (behind_subscript i lower count (size sh))
+        (linked_selectors t sh rest)) (linked t e) else None) ≡ None
+    by_room true =
+        ap (option_and_then (λ i. option_map (behind_subscript i lower count (size sh)) (linked_selectors t sh
+        rest))) h
+    by_room false = refl
+
+-- where no selector is left
+no_more : (text : Declared) (t : Table) (whole : Option Selected) (r : Reached) → LeadsOn text t whole r no_selectors
+    → option_map (joined 0 []) whole
+    ≡ Some (joined r.offset (map subscript_view r.subscripts.items)
+    (record { offset = 0; subscripts = no_subscripts; shape = shape_of_type text (place_type_view r.declared) }))
+no_more text t whole r h = h.is
+
+before_none : (ss : List Subscript) → subscripts_before ss no_subscripts ≡ subscripts_of ss
+before_none [] = refl
+before_none (s ∷ ss) = ap (subscript_then s.index s.lower s.count s.stride) (before_none ss)
+
+-- an elementary variable has its place
+plain_place : (a : Anchor) (sh : Shape) (s : Selected) → is_plain sh ≡ true → s.shape ≡ sh
+    → place_if_plain a s ≡ Some (trees.place (moved a s.offset) s.subscripts)
+plain_place a (plain k) s h is = ap (place_of_shape a s.offset s.subscripts) is
+plain_place a (array lower count sh) s h is = absurd (cc)
+plain_place a (parts w ps) s h is = absurd (cc)
+
+no_place : (a : Anchor) (sh : Shape) (s : Selected) → is_plain sh ≡ false → s.shape ≡ sh → place_if_plain a s ≡ None
+no_place a (plain k) s h is = absurd (cc)
+no_place a (array lower count sh) s h is = ap (place_of_shape a s.offset s.subscripts) is
+no_place a (parts w ps) s h is = ap (place_of_shape a s.offset s.subscripts) is
+
+pub placed_at : (text : Declared) (t : Table) (whole : Option Selected) (r : Reached) (a b : Anchor) (p : Place)
+    → is_plain (shape_of_type text (place_type_view r.declared)) ≡ true → r.offset ≤ MAX_PATHS
+    → b ≡ moved a r.offset → p ≡ trees.place b (subscripts_of (map subscript_view r.subscripts.items))
+    → LeadsOn text t whole r no_selectors → option_and_then (place_if_plain a) whole ≡ Some p
+placed_at text t None r a b p elementary small at is h = absurd (cc)
+placed_at text t (Some s) r a b p elementary small at is h =
+    let seen : joined 0 [] s ≡ joined r.offset (map subscript_view r.subscripts.items) (record {
+      offset = 0;
+      subscripts = no_subscripts;
+      shape = shape_of_type text (place_type_view r.declared);
+    }) = cc in
+    let offset : s.offset ≡ r.offset = uncut s.offset r.offset small (ap (λ x. x.offset) seen) in
+    let chain : s.subscripts ≡ subscripts_of (map subscript_view r.subscripts.items) =
+    ap (λ x. x.subscripts) seen ∙ before_none (map subscript_view r.subscripts.items) in
+    plain_place a (shape_of_type text (place_type_view r.declared)) s elementary (ap (λ x. x.shape) seen)
+    ∙ ap Some (ap (λ n. trees.place (moved a n) s.subscripts) offset ∙ ap (trees.place (moved a r.offset)) chain
+    ∙ ap (λ c. trees.place c (subscripts_of (map subscript_view r.subscripts.items))) (sym at) ∙ sym is)
+  where
+    uncut : (n o : ℕ) → o ≤ MAX_PATHS → cut (0 + n) ≡ cut (o + 0) → n ≡ o
+    uncut n o small e = grind (arith, small, e)
+
+pub not_placed : (text : Declared) (t : Table) (whole : Option Selected) (r : Reached) (a : Anchor)
+    → is_plain (shape_of_type text (place_type_view r.declared)) ≡ false
+    → LeadsOn text t whole r no_selectors → option_and_then (place_if_plain a) whole ≡ None
+not_placed text t None r a composite h = refl
+not_placed text t (Some s) r a composite h =
+    let seen : joined 0 [] s ≡ joined r.offset (map subscript_view r.subscripts.items) (record {
+      offset = 0;
+      subscripts = no_subscripts;
+      shape = shape_of_type text (place_type_view r.declared);
+    }) = cc in
+    no_place a (shape_of_type text (place_type_view r.declared)) s composite (ap (λ x. x.shape) seen)
+
+-- a variable begins where nothing is selected
+pub leads_first : (text : Declared) (t : Table) (whole : Option Selected) (r : Reached) (rest : Selectors)
+    → r.offset ≡ 0 → r.subscripts.items ≡ [] → IsExpanded text (place_type_view r.declared)
+    → whole ≡ linked_selectors t (shape_of_type text (place_type_view r.declared)) rest → LeadsOn text t whole r rest
+leads_first text t whole r rest zero none expanded is = record {
+  is = ap (option_map (joined 0 [])) is
+      ∙ ap (λ n. option_map (joined n []) (linked_selectors t (shape_of_type text (place_type_view r.declared)) rest))
+      (sym zero)
+      ∙ ap (λ ss. option_map (joined r.offset (map subscript_view ss))
+      (linked_selectors t (shape_of_type text (place_type_view r.declared)) rest)) (sym none);
+  expanded = expanded;
+}

@@ -1,0 +1,28 @@
+use Rattle.std.proofs.Common.{map, drop}
+use Rattle.st_trees.specs.Expressions as trees
+use Rattle.st_trees.specs.Expressions.{selectors_of}
+use Rattle.st_trees.specs.ExpressionViews.{expr_view, selector_view}
+use Rattle.st_types.specs.NameTypes.{Declared}
+use Rattle.st_names.specs.PlaceTypes.{place_type_view}
+use Rattle.st_layouts.specs.Types.{shape_of_type}
+use Rattle.slot_bodies.specs.ExpressionViews.{slot_expr_view}
+use Rattle.slot_trees.specs.SlotTrees.{SlotExpr}
+use Rattle.slot_trees.specs.Linking.{linked, linked_selectors}
+use Rattle.slot_trees.specs.Tables.{Table}
+use Rattle.shape_tables.specs.Shapes.{IsExpanded}
+use Rattle.st_link.specs.BodyTables.{ServesBody}
+use Rattle.st_link.specs.Places.{LeadsOn}
+use Rattle.st_link.proofs.Sequences.{Turned}
+use Rattle.st_link.proofs.expressions.+link.Given as goal
+
+abbrev pub invariant-link_all-loop-expression : goal.invariant-link_all-loop-expression
+invariant-link_all-loop-expression l = (text : Declared) (t : Table) → ServesBody l.table text t
+    → Turned trees.Expr SlotExpr (linked t) (map expr_view l.expressions) (map slot_expr_view l.linked.items)
+    (map expr_view (drop l.expression-index l.expressions))
+
+abbrev pub invariant-link_selectors-loop-selector : goal.invariant-link_selectors-loop-selector
+invariant-link_selectors-loop-selector l = (text : Declared) (t : Table) → ServesBody l.table text t
+    → IsExpanded text (place_type_view l.declared) → LeadsOn text t
+    (linked_selectors t (shape_of_type text (place_type_view l.declared)) (selectors_of (map selector_view
+    l.selectors)))
+    l.reached (selectors_of (map selector_view (drop l.selector-index l.selectors)))

@@ -1,0 +1,28 @@
+-- Tables of a body that are those of the definitions.
+use Rattle.std.specs.Prelude.{◌≡◌, option_map}
+use Rattle.st_types.specs.NameTypes.{Declared}
+use Rattle.st_types.specs.Scopes.{Name}
+use Rattle.st_names.specs.Agreeing.{Agree}
+use Rattle.st_names.specs.Found.{found}
+use Rattle.st_names.specs.PlaceTypes.{place_type_view}
+use Rattle.st_layouts.specs.Types.{shape_of_type}
+use Rattle.slot_trees.specs.LinkedStatements.{code_of}
+use Rattle.slot_trees.specs.Tables.{Symbol, Table, named_in, symbol_of}
+use Rattle.slot_bodies.specs.ExpressionViews.{anchor_view}
+use Rattle.slot_bodies.specs.StatementViews.{block_code_view}
+use Rattle.shape_tables.specs.Shapes.{IsExpanded, ServesShapes}
+use Rattle.st_link.specs.declared.body_table.BodyTable.{BodyTable}
+use Rattle.st_link.specs.declared.body_table.LinkSymbol.{LinkSymbol}
+
+-- A variable begins where the table says, and has the shape of the type that it is declared with.
+pub record IsSymbol (text : Declared) (s : LinkSymbol) (y : Symbol) : Type 0 where
+  pub anchor : anchor_view s.anchor ≡ y.anchor
+  pub input : s.is_input ≡ y.is_input
+  pub shape : y.shape ≡ shape_of_type text (place_type_view s.declared)
+  pub expanded : IsExpanded text (place_type_view s.declared)
+
+pub record ServesBody (b : BodyTable) (text : Declared) (t : Table) : Type 0 where
+  pub shapes : ServesShapes b.shapes.now text
+  pub symbols : (x : Name) → Agree (IsSymbol text) (found b.symbols x) (symbol_of t.symbols x)
+  pub codes : (x : Name) → option_map block_code_view (found b.codes x) ≡ code_of t x
+  pub functions : (x : Name) → found b.functions.now x ≡ named_in t.functions x

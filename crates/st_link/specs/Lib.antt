@@ -1,0 +1,4 @@
+pub mod BodyTables
+pub mod Places
+pub mod Instances
+pub mod Arms

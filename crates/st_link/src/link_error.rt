@@ -1,0 +1,37 @@
+//! Why a body is not linked.
+
+ghost use Rattle.std.specs.Prelude.{◌≡◌};
+ghost use Rattle.st_link.specs.declared.link_error.LinkError.TheVariants.{OutOfMemory};
+
+use std::alloc::{AllocError, AllocFailed};
+use thiserror::Error;
+
+/// Why a body is not linked.
+#[derive(Clone, Copy, Debug, PartialEq, Eq, Error)]
+pub enum LinkError {
+    /// A name stands for nothing, or it leads to no elementary variable, or an input is assigned.
+    #[error("not there")]
+    NotThere,
+    /// A variable takes more slots than a layout has room for.
+    #[error("M1")]
+    TooLarge,
+    /// Memory ran out.
+    #[error("M3")]
+    OutOfMemory,
+}
+
+impl From<AllocError> for LinkError {
+    ghost from_gives = { λ _ e. e ≡ OutOfMemory };
+
+    fn from(_e: AllocError) -> LinkError {
+        LinkError::OutOfMemory
+    }
+}
+
+impl<T: Drop> From<AllocFailed<T>> for LinkError {
+    ghost from_gives = { λ _ e. e ≡ OutOfMemory };
+
+    fn from(_e: AllocFailed<T>) -> LinkError {
+        LinkError::OutOfMemory
+    }
+}

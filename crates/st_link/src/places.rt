@@ -1,0 +1,149 @@
+//! Where selectors lead: from a declared type to a type within it.
+
+ghost use Rattle.std.specs.Prelude.{◌≡◌, ◌≤◌, None, Some, Option, option_and_then, IfErr, IfOk, IfSome};
+ghost use Rattle.st_words.specs.declared.limits.TheConstants.{MAX_PATHS};
+ghost use Rattle.st_trees.specs.Expressions.{Expr, Selectors, member, subscript, no_selectors, selector_then};
+ghost use Rattle.st_types.specs.NameTypes.{Declared};
+ghost use Rattle.st_names.specs.PlaceTypes.{place_type_view};
+ghost use Rattle.st_layouts.specs.Types.{shape_of_type};
+ghost use Rattle.slot_bodies.specs.ExpressionViews.{anchor_view, place_view, slot_expr_view};
+ghost use Rattle.slot_trees.specs.Linking.{Selected, linked, linked_selectors, place_if_plain};
+ghost use Rattle.slot_trees.specs.Tables.{Table, moved};
+ghost use Rattle.shape_tables.specs.Shapes.{IsExpanded, ServesShapes};
+ghost use Rattle.st_link.specs.Places.{HasElements, LeadsOn};
+
+use crate::link_error::LinkError;
+use layout::sum;
+use shape_tables::{Elements, ShapeTables};
+use slot_bodies::{Anchor, Place, SlotExpr, Subscript};
+use st_names::PlaceType;
+use st_words::Identifier;
+use st_words::limits::MAX_PATHS;
+use std::alloc::Global;
+
+/// What selectors lead to: so many slots further, 4,097 where they are more than 4,096, by these subscripts, to what is
+/// declared so.
+#[derive(Drop)]
+pub struct Reached<'a> {
+    pub offset: usize,
+    pub subscripts: Vec<Subscript>,
+    pub declared: PlaceType<'a>,
+}
+
+/// A member of what was reached.
+pub fn at_member<'a>(
+    alloc: Global,
+    shapes: &ShapeTables<'a>,
+    reached: Reached<'a>,
+    name: &Identifier,
+) -> Result<Reached<'a>, LinkError>
+    ensures leads { IfOk result (λ next. (text : Declared) (t : Table) (whole : Option Selected) (rest : Selectors)
+        → ServesShapes shapes.now text → LeadsOn text t whole reached.entry (selector_then (member name.now) rest)
+        → LeadsOn text t whole next rest) }
+    ensures none { IfErr result (λ e. e ≡ LinkError.NotThere → (text : Declared) (t : Table)
+        (whole : Option Selected) (rest : Selectors) → ServesShapes shapes.now text
+        → LeadsOn text t whole reached.entry (selector_then (member name.now) rest) → whole ≡ None) }
+{
+    let Some(place) = shapes.member(alloc, reached.declared, &name.name)? else {
+        return Err(LinkError::NotThere);
+    };
+    Ok(Reached {
+        offset: sum(reached.offset, place.offset),
+        subscripts: reached.subscripts,
+        declared: place.declared,
+    })
+}
+
+/// The elements of what was reached, which take room.
+pub fn elements_at<'a>(
+    alloc: Global,
+    shapes: &ShapeTables<'a>,
+    declared: PlaceType<'a>,
+) -> Result<Elements<'a>, LinkError>
+    ensures elements { IfOk result (λ elements. (text : Declared) → ServesShapes shapes.now text
+        → IsExpanded text (place_type_view declared.entry)
+        → HasElements text (shape_of_type text (place_type_view declared.entry)) elements) }
+    ensures small { IfOk result (λ elements. elements.count ≤ MAX_PATHS) }
+    ensures none { IfErr result (λ e. e ≡ LinkError.NotThere → (text : Declared) (t : Table) (index : Expr)
+        (rest : Selectors) → ServesShapes shapes.now text → IsExpanded text (place_type_view declared.entry)
+        → linked_selectors t (shape_of_type text (place_type_view declared.entry))
+        (selector_then (subscript index) rest) ≡ None) }
+{
+    let Some(elements) = shapes.elements(alloc, declared)? else {
+        return Err(LinkError::NotThere);
+    };
+    if elements.stride == 0 {
+        return Err(LinkError::NotThere);
+    }
+    if elements.stride > MAX_PATHS || elements.count > MAX_PATHS as u128 {
+        return Err(LinkError::TooLarge);
+    }
+    Ok(elements)
+}
+
+/// An element of what was reached.
+pub fn at_element<'a>(
+    reached: Reached<'a>,
+    elements: Elements<'a>,
+    index: SlotExpr,
+) -> Result<Reached<'a>, LinkError>
+    requires { elements.count ≤ MAX_PATHS }
+    ensures leads { IfOk result (λ next. (text : Declared) (t : Table) (whole : Option Selected) (e : Expr)
+        (rest : Selectors)
+        → HasElements text (shape_of_type text (place_type_view reached.entry.declared)) elements.entry
+        → linked t e ≡ Some (slot_expr_view index)
+        → LeadsOn text t whole reached.entry (selector_then (subscript e) rest) → LeadsOn text t whole next rest) }
+    ensures memory { IfErr result (λ e. e ≡ LinkError.OutOfMemory) }
+{
+    let Reached {
+        offset,
+        mut subscripts,
+        declared: _,
+    } = reached;
+    subscripts.push(Subscript {
+        index,
+        lower: elements.lower,
+        count: elements.count as usize,
+        stride: elements.stride,
+    })?;
+    Ok(Reached {
+        offset,
+        subscripts,
+        declared: elements.declared,
+    })
+}
+
+/// So many slots further.
+fn moved(anchor: Anchor, offset: usize) -> Option<Anchor>
+    ensures { IfSome result (λ a. anchor_view a ≡ moved (anchor_view anchor) offset) }
+{
+    match anchor {
+        Anchor::Own(first) => Some(Anchor::Own(first.checked_add(offset)?)),
+        Anchor::Absolute(first) => Some(Anchor::Absolute(first.checked_add(offset)?)),
+    }
+}
+
+/// The place of an elementary variable.
+pub fn placed<'a>(
+    shapes: &ShapeTables<'a>,
+    anchor: Anchor,
+    reached: Reached<'a>,
+) -> Result<Place, LinkError>
+    ensures place { IfOk result (λ p. (text : Declared) (t : Table) (whole : Option Selected)
+        → ServesShapes shapes.now text → LeadsOn text t whole reached.entry no_selectors
+        → option_and_then (place_if_plain (anchor_view anchor)) whole ≡ Some (place_view p)) }
+    ensures none { IfErr result (λ e. e ≡ LinkError.NotThere → (text : Declared) (t : Table)
+        (whole : Option Selected) → ServesShapes shapes.now text → LeadsOn text t whole reached.entry no_selectors
+        → option_and_then (place_if_plain (anchor_view anchor)) whole ≡ None) }
+{
+    if !shapes.is_elementary(reached.declared) {
+        return Err(LinkError::NotThere);
+    }
+    if reached.offset > MAX_PATHS {
+        return Err(LinkError::TooLarge);
+    }
+    match moved(anchor, reached.offset) {
+        Some(anchor) => Ok(Place::new(anchor, reached.subscripts)),
+        None => Err(LinkError::TooLarge),
+    }
+}
