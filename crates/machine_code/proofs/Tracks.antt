@@ -12,8 +12,10 @@ use Rattle.machine_code.specs.Memories.{plain}
 use Rattle.machine_code.specs.Memories as plainly
 use Rattle.machine_code.specs.Machine.{Ending, finished, failed, on_result, runs, most}
 use Rattle.machine_code.specs.Simulation.{Simulation}
-use Rattle.machine_code.specs.Tracking.{Tracked, tracked, tracking, with_mark, seen, assigned, looked, written, replaced}
-use Rattle.machine_code.specs.Tracking.{overwritten, is_read_in, is_assigned_in, read_by, assigned_by, memory_of, unmarked}
+use Rattle.machine_code.specs.Tracking.{Tracked, tracked, tracking, with_mark, seen, assigned, looked, written}
+use Rattle.machine_code.specs.Tracking.{replaced}
+use Rattle.machine_code.specs.Tracking.{overwritten, is_read_in, is_assigned_in, read_by, assigned_by, memory_of}
+use Rattle.machine_code.specs.Tracking.{unmarked}
 use Rattle.machine_code.specs.Tracking.{EndsLike, AreOfKind}
 use Rattle.machine_code.proofs.MarkLemmas.{set_here, set_elsewhere, set_long, there_within, within_there, mark_here}
 use Rattle.machine_code.proofs.MarkLemmas.{mark_elsewhere, mark_long, seen_reads, seen_assigns, seen_first}

@@ -3,9 +3,8 @@
 use st_names::{Standard, StandardBlock};
 use st_words::{BinaryOperator, UnaryOperator, Value};
 
-/// An instruction of a machine with a stack. A place in the code is the number of instructions from there to the end,
-/// so
-/// the code ends at 0, and an instruction is followed by the place one below its own.
+/// An instruction of a machine with a stack. A place in the code is the number of instructions from there to the end.
+/// So the code ends at 0, and an instruction is followed by the place one below its own.
 #[derive(Clone, Copy)]
 pub enum Instr {
     /// Takes a tick.

@@ -11,8 +11,7 @@ ghost use Rattle.machine_code.specs.Tracking.{EndsLike, AreOfKind};
 
 /// Over values of slots, the machine goes on from each instruction as the definition of the instruction says, ends at
 /// the end of its code, and is over within as many instructions as the code has, and one, for each tick of its
-/// budget, and
-/// one: whatever its code is.
+/// budget, and one: whatever its code is.
 pub fn machine_goes_on()
     ensures instruction { (t : StandIns) (now : ℕ) (code : List instr.Instr) (p : ℕ) (st vs : List Datum) (budget : ℕ)
         → runs plain t now code (suc p) st vs budget

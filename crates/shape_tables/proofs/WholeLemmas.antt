@@ -13,7 +13,8 @@ use Rattle.st_types.specs.Scopes.{Name}
 use Rattle.st_names.specs.Agreeing.{Agree}
 use Rattle.st_layouts.specs.Shapes.{Shape, Parts, array, part_then, size, sizes}
 use Rattle.st_layouts.specs.Types.{NamedSite, Composition, of_kind, of_elements, of_parts, composition_of, element_of}
-use Rattle.st_layouts.specs.Types.{lower_of, composed_shape, count_of, is_within_depth, parts_of, parts_within, shape_of_type}
+use Rattle.st_layouts.specs.Types.{lower_of, composed_shape, count_of}
+use Rattle.st_layouts.specs.Types.{is_within_depth, parts_of, parts_within, shape_of_type}
 use Rattle.layout.specs.Compositions.{composition_view}
 use Rattle.layout.specs.Sizes.{cut}
 use Rattle.layout.specs.declared.compositions.Composition as code

@@ -10,8 +10,7 @@ ghost use Rattle.machine_code.specs.Machine.{runs};
 ghost use Rattle.tree_code.specs.Programs.{program_code, ProgramFits, EndsSo};
 
 /// The machine does on the code of a program that fits a memory what the program does, whatever faults stand for what
-/// no
-/// well-typed text meets, whatever stands in the memory behind the program's values, and however deep calls may be from
+/// no well-typed text meets, whatever stands in the memory behind the program's values, and however deep calls may be from
 /// the depth on that the code was made for: it ends with the same fault, or with as many ticks left and the same
 /// values.
 pub fn code_does_what_its_program_does()

@@ -22,7 +22,7 @@ returns c =
           let types = c.in_ok-add_types.ensures.kept x units.0 in
           record {
             no_type = ap (λ ts. type_named ts x) (sym (ap (map (λ t. type_declaration_view t.now))
-            c.deref.ensures.value
+                c.deref.ensures.value
                 ∙ c.in_ok-types_in.ensures)) ∙ types.1;
             no_unit = ap (λ us. unit_named us x) (sym (ap (map (λ u. unit_view u.now)) c.deref-2.ensures.value
                 ∙ c.in_ok-units_in.ensures)) ∙ units.1;
