@@ -1,0 +1,5 @@
+mod ListLemmas
+mod GlobalLemmas
+mod AddressLemmas
+mod TypeLemmas
+mod ScopeLemmas

@@ -1,0 +1,4 @@
+pub mod Globals
+pub mod SameTypes
+pub mod Addresses
+pub mod Configured
