@@ -8,8 +8,8 @@ ghost use Rattle.st_words.specs.declared.kind.Kind.TheVariants.{Bool as Boolean}
 ghost use Rattle.st_types.specs.NameTypes.{Declared, is_named, kind_among, unit_named};
 ghost use Rattle.st_names.specs.PlaceTypes.{place_type_view};
 ghost use Rattle.st_names.specs.Texts.{ServesText};
-ghost use Rattle.st_statics.specs.ConfigurationRules.{have_tasks, is_known_instance, is_known_resource, is_known_single};
-ghost use Rattle.st_statics.specs.ConfigurationRules.{is_known_task, is_of_kind, is_program_unit};
+ghost use Rattle.st_statics.specs.ConfigurationRules.{have_tasks, is_known_instance, is_known_resource};
+ghost use Rattle.st_statics.specs.ConfigurationRules.{is_known_single, is_known_task, is_of_kind, is_program_unit};
 ghost use Rattle.st_configured.specs.Globals.{ServesGlobals};
 
 use crate::externals::Names;
@@ -20,7 +20,10 @@ use st_words::{Identifier, Kind, Name};
 
 /// Whether a type is BOOL.
 fn is_boolean(declared: PlaceType) -> bool
-    ensures { (text : Declared) → result ≡ is_of_kind Boolean (kind_among text.types (place_type_view declared.entry)) }
+    ensures {
+        (text : Declared)
+            → result ≡ is_of_kind Boolean (kind_among text.types (place_type_view declared.entry))
+    }
 {
     match declared {
         PlaceType::Simple(SimpleType::Elementary(kind, _)) => Kind::Bool.is(*kind),

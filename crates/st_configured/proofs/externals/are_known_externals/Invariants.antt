@@ -11,6 +11,7 @@ use Rattle.st_configured.proofs.externals.are_known_externals.Given as goal
 abbrev pub invariant-loop-name : goal.invariant-loop-name
 invariant-loop-name l = (text : Declared) (blocks : List tree.GlobalBlock) → ServesText l.names.text.now text
     → ServesGlobals l.names.globals.now blocks
-    → list_all (λ x. is_known_external text blocks l.fn.constant l.declaration.declared x.name) l.declaration.names.items
+    → list_all (λ x. is_known_external text blocks l.fn.constant l.declaration.declared x.name)
+    l.declaration.names.items
     ≡ list_all (λ x. is_known_external text blocks l.fn.constant l.declaration.declared x.name)
     (drop l.name-index l.declaration.names.items)

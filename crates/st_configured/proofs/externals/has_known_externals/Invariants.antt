@@ -11,6 +11,7 @@ use Rattle.st_configured.proofs.externals.has_known_externals.Given as goal
 abbrev pub invariant-loop-block : goal.invariant-loop-block
 invariant-loop-block l = (text : Declared) (blocks : List tree.GlobalBlock) → ServesText l.names.text.now text
     → ServesGlobals l.names.globals.now blocks
-    → list_all (λ b. is_known_section text blocks b.section b.declarations) (map variable_block_view l.unit.blocks.items)
+    → list_all (λ b. is_known_section text blocks b.section b.declarations)
+    (map variable_block_view l.unit.blocks.items)
     ≡ list_all (λ b. is_known_section text blocks b.section b.declarations)
     (map variable_block_view (drop l.block-index l.unit.blocks.items))

@@ -10,5 +10,6 @@ use Rattle.st_configured.proofs.instances.are_known_resources.Given as goal
 
 abbrev pub invariant-loop-resource : goal.invariant-loop-resource
 invariant-loop-resource l = (text : Declared) (blocks : List tree.GlobalBlock) → ServesText l.names.text.now text
-    → ServesGlobals l.names.globals.now blocks → list_all (is_known_resource text blocks) (map resource_view l.resources)
+    → ServesGlobals l.names.globals.now blocks
+    → list_all (is_known_resource text blocks) (map resource_view l.resources)
     ≡ list_all (is_known_resource text blocks) (map resource_view (drop l.resource-index l.resources))
