@@ -49,7 +49,7 @@ as_many [] (v ∷ vs) e = absurd (cc)
 as_many (u ∷ us) [] e = absurd (cc)
 as_many (u ∷ us) (v ∷ vs) e = ap suc (as_many us vs (cc))
 
-as_many_slots : (layout : List Slot) (vs : List Datum) → AreOfTypes layout vs → length layout ≡ length vs
+pub as_many_slots : (layout : List Slot) (vs : List Datum) → AreOfTypes layout vs → length layout ≡ length vs
 as_many_slots [] [] e = refl
 as_many_slots [] (v ∷ vs) e = absurd (cc)
 as_many_slots (l ∷ layout) [] e = absurd (cc)

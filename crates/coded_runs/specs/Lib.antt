@@ -3,3 +3,4 @@ pub mod Runs
 pub mod Effects
 pub mod Executions
 pub mod Inputs
+pub mod Commits

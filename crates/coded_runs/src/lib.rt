@@ -14,6 +14,6 @@ mod snapshot;
 
 pub use cell::Cell;
 pub use execution::{Cells, Execution};
-pub use laws::writes_to_inputs_change_no_variable;
+pub use laws::{commits_do_what_programs_do, writes_to_inputs_change_no_variable};
 pub use runner::run;
 pub use snapshot::Snapshot;
