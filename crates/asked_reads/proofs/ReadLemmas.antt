@@ -1,5 +1,5 @@
 -- A slot that a run reads is asked for.
-use Rattle.std.proofs.Common.{◌≡◌, ℕ, zero, suc, ◌==◌, ◌+◌, ◌-◌, ◌≤◌, ◌||◌, ◌&&◌, nat_le, Bool, true, false}
+use Rattle.std.proofs.Common.{◌≡◌, ℕ, zero, suc, ◌==◌, ◌+◌, ◌-◌, ◌||◌, ◌&&◌, nat_le, Bool, true, false}
 use Rattle.std.proofs.Common.{if◌then◌else◌, List, [], ◌∷◌, ◌++◌, length, Option, Some, None, refl, sym, ap}
 use Rattle.std.proofs.Common.{◌∙◌, subst, arith}
 use Rattle.std.specs.Prelude.{pos, ◌+ℤ◌, slice_get, slice_set, replicate, IsSome}
@@ -143,8 +143,8 @@ no_value w e = rw e refl
 is_some : (o : Option Datum) (v : Datum) → o ≡ Some v → IsSome o
 is_some o v e = subst IsSome (sym e) refl
 
-module _ (layout : List Slot) (code : CodeView) (program : Program) (least now budget : ℕ) (us : List Datum)
-    (k : ℕ) (l : Slot) (alike : FailsAlike layout code program least) (enough : least ≤ budget)
+module _ (layout : List Slot) (code : CodeView) (program : Program) (now budget : ℕ) (us : List Datum)
+    (k : ℕ) (l : Slot) (alike : FailsAlike layout code program)
     (distinct : IsLayout layout) (typed : AreOfTypes layout us) (at : slice_get layout k ≡ Some l)
     (only : IsOnlyLookedUp code.instrs k)
     (read : list_any (λ c. c.0 == k) (reads_of (marked_run code now us budget) us) ≡ true) where
@@ -183,5 +183,5 @@ module _ (layout : List Slot) (code : CodeView) (program : Program) (least now b
         ∙ picked_so.there);
     is_wanted = λ f. alike.fails (with_missing f) f (without_value (inputs_in layout us) l.path)
         (without_value (variables_in layout us) l.path) (slice_set us k (not_held picked_so.value)) spare now budget
-        enough seen_without (length-replicate code.extra (datum_of_truth false)) (machine_fails f);
+        seen_without (length-replicate code.extra (datum_of_truth false)) (machine_fails f);
   }

@@ -1,5 +1,5 @@
 -- What code means.
-use Rattle.std.specs.Prelude.{◌≡◌, ℕ, ◌≤◌, List, [], ◌++◌, length, map, Err}
+use Rattle.std.specs.Prelude.{◌≡◌, ℕ, List, [], ◌++◌, length, map, Err}
 use Rattle.st_words.specs.Values.{Datum}
 use Rattle.st_words.specs.declared.fault.Fault.{Fault}
 use Rattle.st_types.specs.Failures.{StandIns, in_runs}
@@ -34,9 +34,8 @@ pub record Means (layout : List Slot) (code : CodeView) (p : Program) : Type 0 w
       (values_at_end (code_run code now (vs ++ rest) budget) vs)
 
 -- Whatever faults stand for what no well-typed text meets: where the machine fails on the code over values of the
--- layout's slots, so does the program, with the same fault, whatever values these are. This is told of budgets of at
--- least so many ticks.
-pub record FailsAlike (layout : List Slot) (code : CodeView) (p : Program) (least : ℕ) : Type 0 where
-  pub fails : (t : StandIns) (f : Fault) (image s : Store) (vs rest : List Datum) (now budget : ℕ) → least ≤ budget
+-- layout's slots, so does the program, with the same fault, whatever values these are.
+pub record FailsAlike (layout : List Slot) (code : CodeView) (p : Program) : Type 0 where
+  pub fails : (t : StandIns) (f : Fault) (image s : Store) (vs rest : List Datum) (now budget : ℕ)
       → Sees layout image s vs → length rest ≡ code.extra
       → FailsWith f (code_run_where t code now (vs ++ rest) budget) → ran_where t p image now budget s ≡ Err f

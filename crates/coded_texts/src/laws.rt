@@ -24,13 +24,12 @@ pub fn code_of_texts_means_their_programs()
 {}
 
 /// Where a program of a text has runs of its linked body, the machine fails on code that is made of this body as the
-/// program does, whatever faults stand for what no well-typed text meets: with budgets of at least as many ticks as the
-/// code's calls are deep.
+/// program does, whatever faults stand for what no well-typed text meets.
 pub fn code_of_texts_fails_as_their_programs()
     ensures { (source : Source) (n : ℕ) (p : Program) (linked : LinkedText) (body : SlotStmts) (depth : ℕ)
         (code : CodeView) → HasSlotRuns source n p → linked_source source ≡ Some linked
         → slice_get linked.programs n ≡ Some body → IsCodeOf source linked body depth code
-        → FailsAlike (slots_of_text source) code p depth }
+        → FailsAlike (slots_of_text source) code p }
 {
     code_does_what_its_program_does();
 }
