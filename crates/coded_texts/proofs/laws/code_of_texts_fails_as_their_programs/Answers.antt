@@ -23,8 +23,8 @@ returns c = λ source n p linked body depth code has linked_is there is.
           (slots_ran t has.linked.library 0 has.body now (depth + budget) vs budget) _ f
           (has.ends t image now budget (depth + budget) s vs (omega arith) sees)
           (c.code_does_what_its_program_does.ensures t has.linked.library 0 has.body now depth (depth + budget) memory
-          vs rest budget (fits_values has.linked has.body memory depth (length layout) (length vs) sees.length here.fits)
-          (omega arith)
+          vs rest budget
+          (fits_values has.linked has.body memory depth (length layout) (length vs) sees.length here.fits) (omega arith)
           (room_for vs rest (length layout) code.extra sees.length room))
           (subst (λ (e : Ending (List Datum)). FailsWith f e) (sym run) fails);
     }
