@@ -2,3 +2,5 @@ pub mod Memories
 pub mod Machine
 pub mod Simulation
 pub mod Tracking
+pub mod Endings
+pub mod Asking

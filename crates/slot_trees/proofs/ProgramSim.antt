@@ -1,5 +1,5 @@
 -- A linked program does to the slots what the program does to the variables.
-use Rattle.std.proofs.Common.{◌≡◌, ◌≤◌, ℕ, List, Result, Ok, Err, refl, sym, ap, subst}
+use Rattle.std.proofs.Common.{◌≡◌, ◌≤◌, ℕ, suc, List, Result, Ok, Err, refl, sym, ap, subst, arith}
 use Rattle.st_words.specs.declared.fault.Fault.{Fault}
 use Rattle.st_words.specs.Values.{Datum}
 use Rattle.st_types.specs.declared.outcome.Outcome.{Outcome}
@@ -11,7 +11,8 @@ use Rattle.st_types.specs.Loops.{End}
 use Rattle.st_types.specs.Execution.{exec_all}
 use Rattle.st_types.specs.Runs.{Program, scope_where, ran_where, ran, units_within, outcome_in, store_in}
 use Rattle.st_types.specs.Runs.{outcome_of, store_after}
-use Rattle.st_types.proofs.Agrees.{ran_agrees}
+use Rattle.st_types.proofs.Agrees.{Agrees, agrees_closed, units_agree}
+use Rattle.st_types.proofs.Related.{stand_themselves, exec_all_q}
 use Rattle.slot_trees.specs.SlotTrees.{SlotStmts, SlotLibrary}
 use Rattle.slot_trees.specs.SlotEvaluation.{SlotScope, slot_at}
 use Rattle.slot_trees.specs.SlotExecution.{SlotEnd}
@@ -37,6 +38,16 @@ same_store layout image (Ok a) (Ok b) s vs h g = ended (Sees layout image) a.0 b
 same_store layout image (Err e) (Err f) s vs h g = h
 same_store layout image (Ok a) (Err f) s vs h g = absurd g
 same_store layout image (Err e) (Ok b) s vs h g = absurd g
+
+-- deeper calls change nothing, whatever faults stand for what no well-typed text meets
+ran_where_agrees : (t : StandIns) (p : Program) (image : Store) (now b n : ℕ) (s : Store) → b ≤ n
+    → ran_where t p image now b s ≡ exec_all (scope_where t p image now n) p.body.statements s b
+unfolding ran_where
+ran_where_agrees t p image now b n s le =
+    let u = units_agree t p.library image now b b n (omega arith) le in
+    (exec_all_q (Agrees b) (Agrees (suc b)) (agrees_closed b) (scope_where t p image now b) (units_within t p.library
+    image now n) t u.functions u.blocks (stand_themselves (Agrees b) (Agrees (suc b)) (agrees_closed b) t)
+    p.body.statements s).same b (omega arith)
 
 module _ (layout : List Slot) (p : Program) (base : ℕ) (code : SlotLibrary) (body : SlotStmts)
     (link : IsProgramLink layout p base code body) where
@@ -72,21 +83,21 @@ module _ (layout : List Slot) (p : Program) (base : ℕ) (code : SlotLibrary) (b
         stand_ins = refl;
       }
 
-  -- with any faults for what no well-typed text meets
-  pub ends_alike : (stand_ins : StandIns) (image : Store) (now budget : ℕ) (s : Store) (vs : List Datum)
-      → Sees layout image s vs
+  -- with any faults for what no well-typed text meets, and with calls as deep as one likes
+  pub ends_alike : (stand_ins : StandIns) (image : Store) (now budget depth : ℕ) (s : Store) (vs : List Datum)
+      → budget ≤ depth → Sees layout image s vs
       → EndsRun image (ran_where stand_ins p image now budget s)
-      (slots_ran stand_ins code base body now budget vs budget)
-  unfolding ran_where
-  ends_alike stand_ins image now budget s vs h = (program_sim stand_ins image now budget s vs h).alike budget
+      (slots_ran stand_ins code base body now depth vs budget)
+  ends_alike stand_ins image now budget depth s vs le h =
+      subst (λ x. EndsRun image x (slots_ran stand_ins code base body now depth vs budget))
+      (sym (ran_where_agrees stand_ins p image now budget depth s le))
+      ((program_sim stand_ins image now depth s vs h).alike budget)
 
-  -- with calls as deep as one likes
-  deep_alike : (image : Store) (now budget depth : ℕ) (s : Store) (vs : List Datum) → budget ≤ depth
+  run_alike : (image : Store) (now budget depth : ℕ) (s : Store) (vs : List Datum) → budget ≤ depth
       → Sees layout image s vs
       → EndsRun image (ran p image now budget s) (slots_ran in_runs code base body now depth vs budget)
-  deep_alike image now budget depth s vs le h =
-      subst (λ x. EndsRun image x (slots_ran in_runs code base body now depth vs budget))
-      (sym (ran_agrees p image now budget depth s le)) ((program_sim in_runs image now depth s vs h).alike budget)
+  unfolding ran
+  run_alike image now budget depth s vs le h = ends_alike in_runs image now budget depth s vs le h
 
   pub outcome_alike : (image : Store) (now budget depth : ℕ) (s : Store) (vs : List Datum) → budget ≤ depth
       → Sees layout image s vs
@@ -94,7 +105,7 @@ module _ (layout : List Slot) (p : Program) (base : ℕ) (code : SlotLibrary) (b
   unfolding outcome_of
   outcome_alike image now budget depth s vs le h =
       same_outcome (Sees layout image) (ran p image now budget s)
-      (slots_ran in_runs code base body now depth vs budget) (deep_alike image now budget depth s vs le h)
+      (slots_ran in_runs code base body now depth vs budget) (run_alike image now budget depth s vs le h)
 
   pub store_alike : (image : Store) (now budget depth : ℕ) (s : Store) (vs : List Datum) → budget ≤ depth
       → Sees layout image s vs → Sees layout image (store_after p budget s image now)
@@ -102,4 +113,4 @@ module _ (layout : List Slot) (p : Program) (base : ℕ) (code : SlotLibrary) (b
   unfolding store_after
   store_alike image now budget depth s vs le h =
       same_store layout image (ran p image now budget s) (slots_ran in_runs code base body now depth vs budget) s vs h
-      (deep_alike image now budget depth s vs le h)
+      (run_alike image now budget depth s vs le h)

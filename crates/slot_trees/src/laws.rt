@@ -37,10 +37,10 @@ ghost use Rattle.slot_trees.specs.LinkedTexts.{IsProgramLink, IsExternal, IsPart
 /// leaves the same variables. How deep calls of the linked program may be does not matter from the budget on.
 pub fn linked_programs_mean_the_same()
     ensures ends { (layout : List Slot) (p : Program) (base : ℕ) (code : SlotLibrary) (body : SlotStmts)
-        → IsProgramLink layout p base code body → (stand_ins : StandIns) (image : Store) (now budget : ℕ) (s : Store)
-        (vs : List Datum) → Sees layout image s vs
+        → IsProgramLink layout p base code body → (stand_ins : StandIns) (image : Store) (now budget depth : ℕ)
+        (s : Store) (vs : List Datum) → budget ≤ depth → Sees layout image s vs
         → EndAlike (EndsAlike (Sees layout image)) (ran_where stand_ins p image now budget s)
-        (slots_ran stand_ins code base body now budget vs budget) }
+        (slots_ran stand_ins code base body now depth vs budget) }
     ensures outcome { (layout : List Slot) (p : Program) (base : ℕ) (code : SlotLibrary) (body : SlotStmts)
         → IsProgramLink layout p base code body → (image : Store) (now budget depth : ℕ) (s : Store) (vs : List Datum)
         → budget ≤ depth → Sees layout image s vs → outcome_of p budget s image now
@@ -90,9 +90,10 @@ pub fn linked_texts_have_their_programs()
 pub fn linked_texts_mean_the_same()
     ensures ends { (source : Source) (linked : LinkedText) → IsLinkOf source linked → (n : ℕ) (p : Program)
         (body : SlotStmts) → slice_get (programs_of_text source) n ≡ Some p → slice_get linked.programs n ≡ Some body
-        → (stand_ins : StandIns) (image : Store) (now budget : ℕ) (s : Store) (vs : List Datum)
-        → Sees (slots_of_text source) image s vs → EndAlike (EndsAlike (Sees (slots_of_text source) image))
-        (ran_where stand_ins p image now budget s) (slots_ran stand_ins linked.library 0 body now budget vs budget) }
+        → (stand_ins : StandIns) (image : Store) (now budget depth : ℕ) (s : Store) (vs : List Datum)
+        → budget ≤ depth → Sees (slots_of_text source) image s vs
+        → EndAlike (EndsAlike (Sees (slots_of_text source) image)) (ran_where stand_ins p image now budget s)
+        (slots_ran stand_ins linked.library 0 body now depth vs budget) }
     ensures outcome { (source : Source) (linked : LinkedText) → IsLinkOf source linked → (n : ℕ) (p : Program)
         (body : SlotStmts) → slice_get (programs_of_text source) n ≡ Some p → slice_get linked.programs n ≡ Some body
         → (image : Store) (now budget depth : ℕ) (s : Store) (vs : List Datum) → budget ≤ depth

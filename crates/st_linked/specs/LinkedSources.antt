@@ -24,9 +24,10 @@ pub record HasSlotRuns (source : Source) (n : ℕ) (p : Program) : Type 0 where
   pub is : linked_source source ≡ Some linked
   pub body : SlotStmts
   pub there : slice_get linked.programs n ≡ Some body
-  pub ends : (stand_ins : StandIns) (image : Store) (now budget : ℕ) (s : Store) (vs : List Datum)
-      → Sees (slots_of_text source) image s vs → EndAlike (EndsAlike (Sees (slots_of_text source) image))
-      (ran_where stand_ins p image now budget s) (slots_ran stand_ins linked.library 0 body now budget vs budget)
+  pub ends : (stand_ins : StandIns) (image : Store) (now budget depth : ℕ) (s : Store) (vs : List Datum)
+      → budget ≤ depth → Sees (slots_of_text source) image s vs
+      → EndAlike (EndsAlike (Sees (slots_of_text source) image)) (ran_where stand_ins p image now budget s)
+      (slots_ran stand_ins linked.library 0 body now depth vs budget)
   pub outcome : (image : Store) (now budget depth : ℕ) (s : Store) (vs : List Datum) → budget ≤ depth
       → Sees (slots_of_text source) image s vs → outcome_of p budget s image now
       ≡ slot_outcome_in (slots_ran in_runs linked.library 0 body now depth vs budget)

@@ -1,0 +1,4 @@
+pub mod PickedLemmas
+pub mod InputLemmas
+pub mod TrueLemmas
+pub mod CommitLemmas

@@ -1,0 +1,6 @@
+pub mod Cells
+pub mod Runs
+pub mod Effects
+pub mod Executions
+pub mod Inputs
+pub mod Commits

@@ -1,0 +1,32 @@
+//! Laws of executions, proved of the definitions. The functions do nothing: their contracts are the laws.
+
+ghost use Rattle.std.specs.Prelude.{◌≡◌, ℕ, List, true};
+ghost use Rattle.st_words.specs.Values.{Datum};
+ghost use Rattle.st_types.specs.declared.outcome.Outcome.{Outcome};
+ghost use Rattle.st_types.specs.Runs.{Program};
+ghost use Rattle.st_types.specs.Slots.{Slot, Cell, AreOfTypes, variables_in, agrees, written};
+ghost use Rattle.coded_programs.specs.Codes.{CodeView};
+ghost use Rattle.coded_programs.specs.Meanings.{Means};
+ghost use Rattle.coded_runs.specs.Commits.{committed, IsRunFrom};
+ghost use Rattle.coded_runs.specs.Effects.{IsTrueOf};
+
+use st_types::variables_stay;
+
+/// Writes to slots of inputs change no variable: those that leave them out make the same of the variables.
+pub fn writes_to_inputs_change_no_variable()
+    ensures { (layout : List Slot) (vs : List Datum) (writes : List Cell)
+        → variables_in layout (committed layout vs writes) ≡ variables_in layout (written vs writes) }
+{}
+
+/// Over a layout whose program the code means, and values of the layout's types among which all that an execution read
+/// stands: the writes to variables make of the values what a run of the program makes. The program ends as the
+/// execution did, inputs stay, and each value is of its slot's type.
+pub fn commits_do_what_programs_do()
+    ensures { (code : CodeView) (moment budget : ℕ) (reads writes : List Cell) (outcome : Outcome)
+        (layout : List Slot) (program : Program) (vs : List Datum)
+        → IsTrueOf code moment budget reads writes outcome → Means layout code program → AreOfTypes layout vs
+        → agrees vs reads ≡ true
+        → IsRunFrom layout program budget moment vs (committed layout vs writes) outcome }
+{
+    variables_stay();
+}
