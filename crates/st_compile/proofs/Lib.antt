@@ -1,1 +1,4 @@
 pub mod Elements
+pub mod Sizes
+pub mod Depths
+pub mod Joints

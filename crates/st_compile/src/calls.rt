@@ -19,7 +19,7 @@ use crate::places::{slot_behind, value_at};
 use crate::scope::Scope;
 use crate::statements::put_statements;
 use crate::units::{
-    function_scope, given_count, has_signature, member_count, put_members, put_resets, put_stores,
+    block_at, function_at, function_scope, given_count, has_signature, member_count, put_members, put_resets, put_stores,
 };
 use machine_code::Instr;
 use slot_bodies::{Anchor, BlockCode, SlotArgument, SlotLibrary};
@@ -44,7 +44,7 @@ pub fn put_function(
     let Some(depth) = scope.depth.checked_sub(1) else {
         return Err(CompileError::NotLinked);
     };
-    let Some(function) = library.functions.get(number) else {
+    let Some(function) = function_at(library, number) else {
         return Err(CompileError::NotLinked);
     };
     if !has_signature(function, count) {
@@ -87,13 +87,13 @@ fn put_block(
     };
     match block {
         BlockCode::Standard(block) => {
-            if scope.base.saturating_add(member_count(block)) > scope.size {
+            if scope.base > scope.size || member_count(block) > scope.size - scope.base {
                 return Err(CompileError::NotLinked);
             }
             code.put(Instr::Step(block, slot_behind(scope.start, scope.base)?))
         }
         BlockCode::Own(number) => {
-            let Some(body) = library.blocks.get(number) else {
+            let Some(body) = block_at(library, number) else {
                 return Err(CompileError::NotLinked);
             };
             let end = code.len();
@@ -136,22 +136,21 @@ pub fn put_invocation(
     let Ok(count) = u16::try_from(given_count(arguments)) else {
         return Err(CompileError::TooManyInstructions);
     };
-    let Some(slot) = scope.start.checked_add(first) else {
-        return Err(CompileError::TooManyPlaces);
-    };
+    let slot = slot_behind(scope.start, first)?;
     put_outputs(library, scope, code, first, arguments)?;
     let inner = Scope {
         base: first,
         ..scope
     };
     put_block(library, inner, code, block)?;
-    put_members(code, slot, arguments)?;
+    put_members(code, usize::from(slot), arguments)?;
     code.put(Instr::Turn(count))?;
     put_inputs(library, scope, code, first, arguments)
 }
 
 /// The values of inputs come on the stack, for members of an instance from a slot on.
 #[cycle(unit)]
+#[tactic(auto, using(crate::proofs::Elements::input_at, crate::proofs::Elements::argument_smaller))]
 fn put_inputs(
     library: &SlotLibrary,
     scope: Scope,
@@ -183,6 +182,7 @@ fn put_inputs(
 
 /// Members of an instance from a slot on are copied to places.
 #[cycle(unit)]
+#[tactic(auto, using(crate::proofs::Elements::output_at, crate::proofs::Elements::argument_smaller))]
 fn put_outputs(
     library: &SlotLibrary,
     scope: Scope,

@@ -4,6 +4,7 @@
 mod access;
 mod calls;
 mod compile_error;
+mod compiler;
 mod draft;
 mod expressions;
 mod labels;
@@ -13,3 +14,4 @@ mod statements;
 mod units;
 
 pub use compile_error::CompileError;
+pub use compiler::{CALL_DEPTH, Compiled, FUNCTION_PLACES, compile};

@@ -24,6 +24,7 @@ use tree_code::Ways;
 
 /// Puts the code of a statement that leads so before the code that runs behind it.
 #[cycle(unit)]
+#[tactic(auto, using(slot_bodies::proofs::Bridge::choose_view, slot_bodies::proofs::Bridge::select_view))]
 fn put_statement(
     library: &SlotLibrary,
     scope: Scope,
@@ -110,6 +111,7 @@ fn put_statement(
 
 /// The same of statements one after another.
 #[cycle(unit)]
+#[tactic(auto, using(crate::proofs::Elements::stmt_at, crate::proofs::Elements::stmt_smaller))]
 pub fn put_statements(
     library: &SlotLibrary,
     scope: Scope,
@@ -136,6 +138,7 @@ pub fn put_statements(
 
 /// The same of the arms of an IF that ends at a place, before the statements that run where no condition holds.
 #[cycle(unit)]
+#[tactic(auto, using(crate::proofs::Elements::arm_at, crate::proofs::Elements::condition_smaller, crate::proofs::Elements::body_smaller))]
 fn put_arms(
     library: &SlotLibrary,
     scope: Scope,
@@ -166,6 +169,7 @@ fn put_arms(
 
 /// The same of those of a CASE, whose selector is on the stack until statements are chosen.
 #[cycle(unit)]
+#[tactic(auto, using(crate::proofs::Elements::case_at, crate::proofs::Elements::case_smaller))]
 fn put_case_arms(
     library: &SlotLibrary,
     scope: Scope,

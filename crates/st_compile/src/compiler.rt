@@ -1,0 +1,77 @@
+//! The code of a program.
+
+ghost use Rattle.std.specs.Prelude.{◌≡◌, ◌≤◌, ◌+◌, ◌*◌, IfOk, IfErr, length, map};
+ghost use Rattle.slot_bodies.specs.LibraryViews.{slot_library_view};
+ghost use Rattle.slot_bodies.specs.StatementViews.{slot_stmts_view};
+ghost use Rattle.tree_code.specs.Programs.{program_code, ProgramFits};
+ghost use Rattle.st_compile.specs.Linked.{ProgramLinked};
+
+use crate::compile_error::CompileError;
+use crate::draft::Draft;
+use crate::scope::Scope;
+use crate::statements::put_statements;
+use machine_code::Instr;
+use slot_bodies::{SlotLibrary, SlotStmt};
+use std::alloc::Global;
+use tree_code::Ways;
+
+/// How deep calls may be.
+pub const CALL_DEPTH: u16 = 64;
+
+/// How many values of functions may stand behind the values of a program.
+pub const FUNCTION_PLACES: usize = 4096;
+
+/// The greatest number of slots of a memory.
+const MEMORY: usize = 65536;
+
+/// The code of a program, and the memory that it needs.
+#[derive(Drop)]
+pub struct Compiled {
+    /// The instructions from the end on: what runs first stands last.
+    pub code: Vec<Instr>,
+    /// How many slots there are for the values of the program and of the functions that run.
+    pub memory: usize,
+}
+
+/// The code of a program with its own variables from a slot on, over so many slots.
+///
+/// It has at most 16,384 instructions.
+#[tactic(auto, unfolding(tree_code::specs::Programs::program_code))]
+pub fn compile(
+    alloc: Global,
+    library: &SlotLibrary,
+    base: usize,
+    size: usize,
+    body: &[SlotStmt],
+) -> Result<Compiled, CompileError>
+    ensures code { IfOk result (λ x. x.code.items
+        ≡ program_code (slot_library_view library.now) base size (slot_stmts_view body.now) 64) }
+    ensures fits { IfOk result
+        (λ x. ProgramFits x.memory (slot_library_view library.now) base size (slot_stmts_view body.now) 64) }
+    ensures few { IfOk result (λ x. length x.code.items ≤ 16384) }
+    ensures near { IfOk result (λ x. x.memory ≤ size + 4096) }
+    ensures wrong { IfErr result (λ e. e ≡ CompileError.NotLinked
+        → ¬ (ProgramLinked (slot_library_view library.now) base size (slot_stmts_view body.now) 64)) }
+{
+    if size > MEMORY - FUNCTION_PLACES {
+        return Err(CompileError::TooManyPlaces);
+    }
+    let scope = Scope {
+        depth: CALL_DEPTH,
+        memory: size + FUNCTION_PLACES,
+        start: 0,
+        base,
+        size,
+    };
+    let ways = Ways {
+        exit: 0,
+        back: 0,
+        held: 0,
+    };
+    let mut code = Draft::new(alloc);
+    put_statements(library, scope, &mut code, body, ways)?;
+    Ok(Compiled {
+        code: code.into_instructions(),
+        memory: scope.memory,
+    })
+}
