@@ -1,7 +1,8 @@
 -- Units one call deeper.
-use Rattle.std.proofs.Common.{◌≡◌, ℕ, zero, suc, ◌+◌, ◌*◌, ◌-◌, ◌<◌, ◌≤◌, List, [], ◌∷◌, Option, Some, None, length, map}
-use Rattle.std.proofs.Common.{refl, sym, subst, ap, ◌∙◌, arith}
+use Rattle.std.proofs.Common.{◌≡◌, ℕ, zero, suc, ◌+◌, ◌*◌, ◌<◌, ◌≤◌, List, [], ◌∷◌, Some}
+use Rattle.std.proofs.Common.{refl, sym, subst, ap, arith}
 use Rattle.std.specs.Prelude.{slice_get}
+use Rattle.slot_bodies.specs.LibraryViews.{KeptLibrary}
 use Rattle.slot_trees.specs.SlotTrees.{BlockCode, SlotFunction, SlotStmts, SlotLibrary}
 use Rattle.tree_code.specs.Calls.{units_code, called_code, instance_code}
 use Rattle.tree_code.specs.Fitting.{CallFitsWithin, IfFunctionFits, InstanceFits, of_function, of_block, UnitCall}
@@ -34,18 +35,18 @@ pub block_fits : (memory : ℕ) (library : SlotLibrary) (n d : ℕ) (b : BlockCo
 unfolding CallFitsWithin
 block_fits memory library n d b s e h = subst (λ m. CallFitsWithin memory library m (of_block b s)) e h
 
-pub no_call : (library : SlotLibrary) (n : ℕ) (u : UnitCall) → n ≡ 0 → CallLinkedWithin library n u → ⊥
+pub no_call : (library : KeptLibrary) (n : ℕ) (u : UnitCall) → n ≡ 0 → CallLinkedWithin library n u → ⊥
 unfolding CallLinkedWithin
 no_call library n u e h = subst (λ m. CallLinkedWithin library m u) e h
 
-pub function_linked : (library : SlotLibrary) (n d f start count : ℕ) → suc d ≡ n
+pub function_linked : (library : KeptLibrary) (n d f start count : ℕ) → suc d ≡ n
     → CallLinkedWithin library n (of_function f start count)
     → IfFunctionLinked (CallLinkedWithin library d) (slice_get library.functions f) start count
 unfolding CallLinkedWithin
 function_linked library n d f start count e h =
     subst (λ m. CallLinkedWithin library m (of_function f start count)) (sym e) h
 
-pub block_linked : (library : SlotLibrary) (n d : ℕ) (b : BlockCode) (s : Site) → suc d ≡ n
+pub block_linked : (library : KeptLibrary) (n d : ℕ) (b : BlockCode) (s : Site) → suc d ≡ n
     → CallLinkedWithin library n (of_block b s) → InstanceLinked (CallLinkedWithin library d) library b s
 unfolding CallLinkedWithin
 block_linked library n d b s e h = subst (λ m. CallLinkedWithin library m (of_block b s)) (sym e) h

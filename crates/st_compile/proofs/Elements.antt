@@ -2,7 +2,6 @@
 use Rattle.std.proofs.Common.{◌≡◌, ℕ, zero, suc, ◌+◌, ◌<◌, List, [], ◌∷◌, length, get_or, map, sym, subst, ap, ◌∙◌, arith}
 use Rattle.st_trees.specs.declared.statement.Label.{Label}
 use Rattle.slot_bodies.specs.declared.expression.SlotExpr as code_expr
-use Rattle.slot_bodies.specs.declared.expression.Place as code_place
 use Rattle.slot_bodies.specs.declared.expression.Subscript as code_subscript
 use Rattle.slot_bodies.specs.declared.statement.SlotStmt as code_stmt
 use Rattle.slot_bodies.specs.declared.statement.SlotArgument as code_argument
@@ -18,7 +17,7 @@ use Rattle.tree_code.specs.Sites.{Site}
 use Rattle.st_compile.specs.Emitting.{InputsLinked, OutputsLinked}
 use Rattle.st_compile.specs.Linked.{IsLabel, AreLabels, IsSubscript, ExprLinked, ExprsLinked, PlaceLinked}
 use Rattle.st_compile.specs.Linked.{SubscriptsLinked, StmtLinked, StmtsLinked, ArmsLinked, CaseArmsLinked}
-use Rattle.st_compile.proofs.Sizes.{expr_size, exprs_size, place_size, subscripts_size, argument_size, arguments_size}
+use Rattle.st_compile.proofs.Sizes.{expr_size, exprs_size, subscripts_size, argument_size, arguments_size}
 use Rattle.st_compile.proofs.Sizes.{stmt_size, stmts_size, arms_size, case_size}
 
 pub label_at : (ls : List Label) (k : ℕ) (l : Label) → k < length ls → l ≡ get_or ls k l → AreLabels ls → IsLabel l

@@ -1,6 +1,6 @@
 -- How what is put joins to the code of trees.
-use Rattle.std.proofs.Common.{◌≡◌, ℕ, zero, suc, ◌+◌, ◌<◌, ◌≤◌, List, [], ◌∷◌, length, map, drop, get_or, Option, Some, None}
-use Rattle.std.proofs.Common.{Result, Ok, Err, refl, sym, subst, ap, ◌∙◌, arith, drop-cons, add-one, rules}
+use Rattle.std.proofs.Common.{◌≡◌, ℕ, suc, ◌+◌, ◌<◌, ◌≤◌, List, [], ◌∷◌, length, map, drop, get_or, Option, Some}
+use Rattle.std.proofs.Common.{Result, Ok, Err, refl, sym, subst, ap, ◌∙◌, arith, drop-cons}
 use Rattle.std.specs.Prelude.{slice_get, OnOk, IfErr}
 use Rattle.machine_code.specs.declared.instr.Instr.{Instr}
 use Rattle.machine_code.specs.declared.instr.Instr.TheVariants.{Push, Fetch, Step, Turn, Compute}
@@ -17,11 +17,12 @@ use Rattle.slot_trees.specs.SlotTrees.{SlotArgument, given, copied, SlotFunction
 use Rattle.slot_trees.specs.SlotTrees.{own_block, standard_block, subscript_then, SlotExpr, compute, Place, place}
 use Rattle.slot_trees.specs.SlotTrees.{Anchor}
 use Rattle.st_words.specs.Values.{Datum}
+use Rattle.slot_bodies.specs.LibraryViews.{KeptLibrary}
 use Rattle.slot_bodies.specs.declared.expression.SlotExpr as code_expr
 use Rattle.slot_bodies.specs.declared.expression.Subscript as code_subscript
 use Rattle.slot_bodies.specs.Chains.{exprs_of, subscripts_of, Subscript}
 use Rattle.slot_bodies.specs.ExpressionViews.{slot_expr_view, subscript_view}
-use Rattle.tree_code.specs.Calls.{units_code, called_code, resets_code}
+use Rattle.tree_code.specs.Calls.{units_code, resets_code}
 use Rattle.tree_code.specs.Codes.{CodeUnits, standard_code, block_code, count_of, led_code, subscripts_code, stmts_code}
 use Rattle.tree_code.specs.Codes.{stores_code, body_ways, inputs_code, outputs_code, invoke_code, given_members}
 use Rattle.tree_code.specs.Codes.{expr_code, exprs_code, place_code}
@@ -42,6 +43,11 @@ use Rattle.st_compile.proofs.Elements.{subscript_seen}
 pub not_linked : {T : Type 0} (r : Result T CompileError) (e : CompileError) (P Q : Type 0) → (e ≡ NotLinked → P → ⊥)
     → (Q → P) → r ≡ Err e → IfErr r (λ y. y ≡ NotLinked → Q → ⊥)
 not_linked r e P Q h f is = subst (λ s. IfErr s (λ y. y ≡ NotLinked → Q → ⊥)) (sym is) (λ n q. h n (f q))
+
+-- where a unit is not there
+pub not_there : {T : Type 0} (r : Result T CompileError) (e : CompileError) (P Q : Type 0) → (e ≡ NotLinked → P)
+    → (P → Q → ⊥) → r ≡ Err e → IfErr r (λ y. y ≡ NotLinked → Q → ⊥)
+not_there r e P Q h f is = subst (λ s. IfErr s (λ y. y ≡ NotLinked → Q → ⊥)) (sym is) (λ n q. f (h n) q)
 
 -- the same of an answer that is passed on
 pub passed_on : {T : Type 0} (r : Result T CompileError) (P Q : Type 0) → IfErr r (λ y. y ≡ NotLinked → P → ⊥)
@@ -116,13 +122,6 @@ module _ (C : UnitCall → Type 0) (s : Site) where
   outputs_linked at (given o e ∷ rest) h = outputs_linked at rest h.2
   outputs_linked at (copied o p ∷ rest) h = (h.0, h.1, outputs_linked at rest h.2)
 
-  pub known_body : (o : Option SlotStmts) → IfBodyLinked C o s → o ≡ None → ⊥
-  known_body o h e = subst (λ q. IfBodyLinked C q s) e h
-
-pub known_function : (C : UnitCall → Type 0) (start count : ℕ) (o : Option SlotFunction)
-    → IfFunctionLinked C o start count → o ≡ None → ⊥
-known_function C start count o h e = subst (λ q. IfFunctionLinked C q start count) e h
-
 -- a standard block in place of its call
 pub standard_put : (library : SlotLibrary) (n d : ℕ) (block : BlockCode) (b : code_block.StandardBlock) (s : Site)
     (c : Code) (slot : ℕ) → suc d ≡ n → block ≡ standard_block (block_view b) → slot ≡ s.start + s.base
@@ -137,7 +136,7 @@ pub standard_fits : (memory : ℕ) (library : SlotLibrary) (n d : ℕ) (block : 
     → CallFitsWithin memory library n (of_block block s)
 standard_fits memory library n d block b s e of le = block_fits memory library n d block s e (rw of le)
 
-pub standard_linked : (library : SlotLibrary) (n d : ℕ) (block : BlockCode) (b : code_block.StandardBlock)
+pub standard_linked : (library : KeptLibrary) (n d : ℕ) (block : BlockCode) (b : code_block.StandardBlock)
     (s : Site) → suc d ≡ n → block ≡ standard_block (block_view b) → CallLinkedWithin library n (of_block block s)
     → s.base + length (members_of (block_view b)) ≤ s.size
 standard_linked library n d block b s e of h = rw of at (block_linked library n d block s e h)
@@ -157,7 +156,7 @@ pub own_fits : (memory : ℕ) (library : SlotLibrary) (n d number : ℕ) (block 
 own_fits memory library n d number block body s e of known h =
     block_fits memory library n d block s e (rw (of, known) h)
 
-pub own_linked : (library : SlotLibrary) (n d number : ℕ) (block : BlockCode) (o : Option SlotStmts) (s : Site)
+pub own_linked : (library : KeptLibrary) (n d number : ℕ) (block : BlockCode) (o : Option (Option SlotStmts)) (s : Site)
     → suc d ≡ n → block ≡ own_block number → slice_get library.blocks number ≡ o
     → CallLinkedWithin library n (of_block block s) → IfBodyLinked (CallLinkedWithin library d) o s
 own_linked library n d number block o s e of known h =
@@ -194,19 +193,19 @@ function_fits_so memory library n number start count f z e known mem at base siz
     } in
     function_fits memory library n z.depth number start count e (rw known fits)
 
-pub function_linked_so : (library : SlotLibrary) (n d number start count : ℕ) (o : Option SlotFunction) → suc d ≡ n
+pub function_linked_so : (library : KeptLibrary) (n d number start count : ℕ) (o : Option (Option SlotFunction)) → suc d ≡ n
     → slice_get library.functions number ≡ o → CallLinkedWithin library n (of_function number start count)
     → IfFunctionLinked (CallLinkedWithin library d) o start count
 function_linked_so library n d number start count o e known h =
     rw known at (function_linked library n d number start count e h)
 
-pub body_linked : (library : SlotLibrary) (n number start count : ℕ) (f : SlotFunction) (z : Scope)
-    → suc z.depth ≡ n → slice_get library.functions number ≡ Some f → z.start ≡ start → z.base ≡ 0
+pub body_linked : (library : KeptLibrary) (n number start count : ℕ) (f : SlotFunction) (z : Scope)
+    → suc z.depth ≡ n → slice_get library.functions number ≡ Some (Some f) → z.start ≡ start → z.base ≡ 0
     → z.size ≡ length f.fresh → CallLinkedWithin library n (of_function number start count)
     → StmtsLinked (CallLinkedWithin library z.depth) (site_of z) f.body
 body_linked library n number start count f z e known at base size h =
     rw (site_is z start (length f.fresh) at base size)
-    (function_linked_so library n z.depth number start count (Some f) e known h).1
+    (function_linked_so library n z.depth number start count (Some (Some f)) e known h).1
 
 -- a call of a block, but for its tick
 pub invoke_put : (units : CodeUnits) (s : Site) (first at slot count : ℕ) (block : BlockCode) (xs : List SlotArgument)

@@ -2,3 +2,6 @@ pub mod Elements
 pub mod Sizes
 pub mod Depths
 pub mod Joints
+pub mod MoreFits
+pub mod SameCode
+pub mod Kept

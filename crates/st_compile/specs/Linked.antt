@@ -15,7 +15,8 @@ use Rattle.slot_trees.specs.SlotTrees.{no_exprs, expr_then, Place, place, Subscr
 use Rattle.slot_trees.specs.SlotTrees.{BlockCode, own_block, standard_block, SlotArgument, given, copied, SlotStmt}
 use Rattle.slot_trees.specs.SlotTrees.{empty, assign, invoke, IF, CASE, FOR, WHILE, REPEAT, EXIT, RETURN, SlotStmts}
 use Rattle.slot_trees.specs.SlotTrees.{no_stmts, stmt_then, SlotArms, no_arms, arm_then, SlotCaseArms}
-use Rattle.slot_trees.specs.SlotTrees.{no_case_arms, case_arm_then, SlotFunction, SlotLibrary}
+use Rattle.slot_trees.specs.SlotTrees.{no_case_arms, case_arm_then, SlotFunction}
+use Rattle.slot_bodies.specs.LibraryViews.{KeptLibrary}
 use Rattle.slot_trees.specs.SlotEvaluation.{slot_at}
 use Rattle.tree_code.specs.Codes.{count_of, number_value}
 use Rattle.tree_code.specs.Fitting.{UnitCall, of_function, of_block, IsValue, reach}
@@ -105,20 +106,23 @@ abbrev pub FunctionLinked : (UnitCall → Type 0) → SlotFunction → ℕ → �
 FunctionLinked CallLinked f start count =
     HasSignature f count × StmtsLinked CallLinked (site_from start (length f.fresh)) f.body
 
-abbrev pub IfFunctionLinked : (UnitCall → Type 0) → Option SlotFunction → ℕ → ℕ → Type 0
-IfFunctionLinked CallLinked (Some f) start count = FunctionLinked CallLinked f start count
+-- nothing is asked of a unit that is left out, for whose values no layout has room
+abbrev pub IfFunctionLinked : (UnitCall → Type 0) → Option (Option SlotFunction) → ℕ → ℕ → Type 0
+IfFunctionLinked CallLinked (Some (Some f)) start count = FunctionLinked CallLinked f start count
+IfFunctionLinked CallLinked (Some None) start count = Unit {0}
 IfFunctionLinked CallLinked None start count = ⊥
 
-abbrev pub IfBodyLinked : (UnitCall → Type 0) → Option SlotStmts → Site → Type 0
-IfBodyLinked CallLinked (Some body) site = StmtsLinked CallLinked site body
+abbrev pub IfBodyLinked : (UnitCall → Type 0) → Option (Option SlotStmts) → Site → Type 0
+IfBodyLinked CallLinked (Some (Some body)) site = StmtsLinked CallLinked site body
+IfBodyLinked CallLinked (Some None) site = Unit {0}
 IfBodyLinked CallLinked None site = ⊥
 
-abbrev pub InstanceLinked : (UnitCall → Type 0) → SlotLibrary → BlockCode → Site → Type 0
+abbrev pub InstanceLinked : (UnitCall → Type 0) → KeptLibrary → BlockCode → Site → Type 0
 InstanceLinked CallLinked library (standard_block b) site = site.base + length (members_of b) ≤ site.size
 InstanceLinked CallLinked library (own_block i) site = IfBodyLinked CallLinked (slice_get library.blocks i) site
 
 -- a call at most n deep
-unfoldable pub CallLinkedWithin : SlotLibrary → ℕ → UnitCall → Type 0
+unfoldable pub CallLinkedWithin : KeptLibrary → ℕ → UnitCall → Type 0
 CallLinkedWithin library zero _ = ⊥
 CallLinkedWithin library (suc n) (of_function f start count) =
     IfFunctionLinked (CallLinkedWithin library n) (slice_get library.functions f) start count
@@ -126,6 +130,6 @@ CallLinkedWithin library (suc n) (of_block code site) =
     InstanceLinked (CallLinkedWithin library n) library code site
 
 -- a program with its own variables from a slot on, over so many slots, with calls at most n deep
-abbrev pub ProgramLinked : SlotLibrary → ℕ → ℕ → SlotStmts → ℕ → Type 0
+abbrev pub ProgramLinked : KeptLibrary → ℕ → ℕ → SlotStmts → ℕ → Type 0
 ProgramLinked library base size body n =
     StmtsLinked (CallLinkedWithin library n) (program_site base size) body

@@ -19,7 +19,8 @@ use crate::places::{slot_behind, value_at};
 use crate::scope::Scope;
 use crate::statements::put_statements;
 use crate::units::{
-    block_at, function_at, function_scope, given_count, has_signature, member_count, put_members, put_resets, put_stores,
+    block_at, function_at, function_scope, given_count, has_signature, member_count, put_members,
+    put_resets, put_stores,
 };
 use machine_code::Instr;
 use slot_bodies::{Anchor, BlockCode, SlotArgument, SlotLibrary};
@@ -44,9 +45,7 @@ pub fn put_function(
     let Some(depth) = scope.depth.checked_sub(1) else {
         return Err(CompileError::NotLinked);
     };
-    let Some(function) = function_at(library, number) else {
-        return Err(CompileError::NotLinked);
-    };
+    let function = function_at(library, number)?;
     if !has_signature(function, count) {
         return Err(CompileError::NotLinked);
     }
@@ -93,9 +92,7 @@ fn put_block(
             code.put(Instr::Step(block, slot_behind(scope.start, scope.base)?))
         }
         BlockCode::Own(number) => {
-            let Some(body) = block_at(library, number) else {
-                return Err(CompileError::NotLinked);
-            };
+            let body = block_at(library, number)?;
             let end = code.len();
             let ways = Ways {
                 exit: end,

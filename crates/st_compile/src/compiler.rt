@@ -1,7 +1,8 @@
 //! The code of a program.
 
 ghost use Rattle.std.specs.Prelude.{◌≡◌, ◌≤◌, ◌+◌, ◌*◌, IfOk, IfErr, length, map};
-ghost use Rattle.slot_bodies.specs.LibraryViews.{slot_library_view};
+ghost use Rattle.slot_trees.specs.SlotTrees as tree;
+ghost use Rattle.slot_bodies.specs.LibraryViews.{IsKeptOf, slot_library_view};
 ghost use Rattle.slot_bodies.specs.StatementViews.{slot_stmts_view};
 ghost use Rattle.tree_code.specs.Programs.{program_code, ProgramFits};
 ghost use Rattle.st_compile.specs.Linked.{ProgramLinked};
@@ -36,7 +37,6 @@ pub struct Compiled {
 /// The code of a program with its own variables from a slot on, over so many slots.
 ///
 /// It has at most 16,384 instructions.
-#[tactic(auto, unfolding(tree_code::specs::Programs::program_code))]
 pub fn compile(
     alloc: Global,
     library: &SlotLibrary,
@@ -44,10 +44,10 @@ pub fn compile(
     size: usize,
     body: &[SlotStmt],
 ) -> Result<Compiled, CompileError>
-    ensures code { IfOk result (λ x. x.code.items
-        ≡ program_code (slot_library_view library.now) base size (slot_stmts_view body.now) 64) }
-    ensures fits { IfOk result
-        (λ x. ProgramFits x.memory (slot_library_view library.now) base size (slot_stmts_view body.now) 64) }
+    ensures code { IfOk result (λ x. (whole : tree.SlotLibrary) → IsKeptOf (slot_library_view library.now) whole
+        → x.code.items ≡ program_code whole base size (slot_stmts_view body.now) 64) }
+    ensures fits { IfOk result (λ x. (whole : tree.SlotLibrary) → IsKeptOf (slot_library_view library.now) whole
+        → ProgramFits x.memory whole base size (slot_stmts_view body.now) 64) }
     ensures few { IfOk result (λ x. length x.code.items ≤ 16384) }
     ensures near { IfOk result (λ x. x.memory ≤ size + 4096) }
     ensures wrong { IfErr result (λ e. e ≡ CompileError.NotLinked

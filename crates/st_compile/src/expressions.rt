@@ -115,14 +115,7 @@ pub fn put_place(
 
 /// The same of subscripts, which move the slot on the stack on.
 #[cycle(unit)]
-#[tactic(
-    auto,
-    using(
-        crate::proofs::Elements::subscript_at,
-        crate::proofs::Elements::index_smaller,
-        crate::proofs::Joints::subscripts_drop
-    )
-)]
+#[tactic(auto, using(crate::proofs::Elements::subscript_at, crate::proofs::Elements::index_smaller, crate::proofs::Joints::subscripts_drop))]
 fn put_subscripts(
     library: &SlotLibrary,
     scope: Scope,

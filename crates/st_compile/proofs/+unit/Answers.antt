@@ -1,4 +1,4 @@
-use Rattle.std.proofs.Common.{rules, ◌≡◌, ◌≤◌, ◌+◌, ◌-◌, ◌<◌, length, map, ℕ, suc, List, sym, subst, ap, ◌∙◌, arith, refl}
+use Rattle.std.proofs.Common.{rules, ◌≡◌, ◌+◌, ◌-◌, ◌<◌, length, map, ℕ, suc, List, sym, subst, ap, ◌∙◌, arith, refl}
 use Rattle.slot_bodies.specs.declared.expression.Subscript as code_subscript
 use Rattle.slot_bodies.specs.declared.expression.Place as code_place
 use Rattle.slot_bodies.specs.declared.expression.SlotExpr as code_expr
@@ -22,12 +22,13 @@ use Rattle.st_names.specs.Standard.{standard_view}
 use Rattle.slot_bodies.specs.LibraryViews.{slot_library_view, slot_function_view}
 use Rattle.std.proofs.lemmas.Bool.Decides.{nat_tests}
 use Rattle.st_compile.specs.Accesses.{known_instr, led_instr}
-use Rattle.st_compile.specs.Emitting.{site_of, units_in, FitsIn, LinkedIn}
+use Rattle.st_compile.proofs.Kept.{filled_body, filled_function}
+use Rattle.st_compile.specs.Emitting.{filled, site_of, units_in, FitsIn, LinkedIn}
 use Rattle.st_compile.specs.Linked.{ExprLinked, StmtsLinked, AreLabels}
 use Rattle.st_compile.proofs.Depths.{no_call, block_lighter, function_lighter}
 use Rattle.st_compile.proofs.Sizes.{weight, stmts_size}
 use Rattle.st_compile.proofs.Elements.{expr_at, subscript_at, input_at, output_at, stmt_at, arm_at, case_at}
-use Rattle.st_compile.proofs.Joints.{not_linked, passed_on, on_ok, standard_put, standard_fits, standard_linked, own_put}
+use Rattle.st_compile.proofs.Joints.{not_linked, not_there, passed_on, on_ok, standard_put, standard_fits, standard_linked, own_put}
 use Rattle.st_compile.proofs.Joints.{own_fits, own_linked, function_put, function_fits_so, function_linked_so, body_linked}
 use Rattle.st_compile.proofs.Joints.{arguments_fit, inputs_linked, outputs_linked, count_is, compute_put, place_put}
 use Rattle.st_compile.proofs.Joints.{invoke_put}
@@ -138,57 +139,51 @@ calls::put_block-returns-then-scope-clause-wrong t c =
     λ _ h. let w = standard_linked (slot_library_view c.args.library.now) c.args.scope.depth c.in-Some.depth _ _ _ (omega (arith, c.in-Some.ensures))
     (ap block_code_view c.in-Standard.is) h in grind (arith, w)
 
-pub calls::put_block-returns-in_default-block_at-clause-wrong : goal.calls::put_block-returns-in_default-block_at-clause-wrong
-calls::put_block-returns-in_default-block_at-clause-wrong t c =
-    λ _ h. own_linked (slot_library_view c.args.library.now) c.args.scope.depth c.in-Some.depth _ _ _ _ (omega (arith, c.in-Some.ensures))
-    (ap block_code_view c.in-Own.is) (sym c.in_default-block_at.ensures) h
-
 pub calls::put_block-put_statements-requires : goal.calls::put_block-put_statements-requires
 calls::put_block-put_statements-requires t c =
-    let w : weight (slot_library_view c.args.library.now) c.in-Some.depth + stmts_size (slot_stmts_view c.in-Some-block_at.body.now)
-    < weight (slot_library_view c.args.library.now) c.args.scope.depth
-    = block_lighter (slot_library_view c.args.library.now) c.args.scope.depth c.in-Some.depth c.in-Own.number _ (omega (arith, c.in-Some.ensures)) (sym c.in-Some-block_at.ensures) in
+    let w : weight (filled (slot_library_view c.args.library.now)) c.in-Some.depth + stmts_size (slot_stmts_view c.in_ok-body-in-Own.body.now)
+    < weight (filled (slot_library_view c.args.library.now)) c.args.scope.depth
+    = block_lighter (filled (slot_library_view c.args.library.now)) c.args.scope.depth c.in-Some.depth c.in-Own.number _ (omega (arith, c.in-Some.ensures))
+    (filled_body (slot_library_view c.args.library.now) c.in-Own.number _ c.in_ok-body-in-Own.ensures.known) in
     grind (arith, w)
 
 pub calls::put_block-returns-in_ok-slot_behind-in-Standard-clause-code : goal.calls::put_block-returns-in_ok-slot_behind-in-Standard-clause-code
 calls::put_block-returns-in_ok-slot_behind-in-Standard-clause-code t c =
-    on_ok c.put.result _ _ (λ e. e ∙ standard_put (slot_library_view c.args.library.now) c.args.scope.depth c.in-Some.depth _ _ _ _ _ (omega (arith, c.in-Some.ensures))
+    on_ok c.put.result _ _ (λ e. e ∙ standard_put (filled (slot_library_view c.args.library.now)) c.args.scope.depth c.in-Some.depth _ _ _ _ _ (omega (arith, c.in-Some.ensures))
     (ap block_code_view c.in-Standard.is) c.in_ok-slot_behind-in-Standard.ensures.slot) c.put.ensures.put
 
 pub calls::put_block-returns-in_ok-slot_behind-in-Standard-clause-fits : goal.calls::put_block-returns-in_ok-slot_behind-in-Standard-clause-fits
 calls::put_block-returns-in_ok-slot_behind-in-Standard-clause-fits t c =
-    on_ok c.put.result _ _ (λ _. standard_fits _ (slot_library_view c.args.library.now) c.args.scope.depth c.in-Some.depth _ c.in-Standard.block _ (omega (arith, c.in-Some.ensures))
+    on_ok c.put.result _ _ (λ _. standard_fits _ (filled (slot_library_view c.args.library.now)) c.args.scope.depth c.in-Some.depth _ c.in-Standard.block _ (omega (arith, c.in-Some.ensures))
     (ap block_code_view c.in-Standard.is) (omega arith)) c.put.ensures.put
 
-pub calls::put_block-returns-in-Some-block_at-clause-code : goal.calls::put_block-returns-in-Some-block_at-clause-code
-calls::put_block-returns-in-Some-block_at-clause-code t c =
-    on_ok c.put_statements.result _ _ (λ e. e ∙ own_put (slot_library_view c.args.library.now) c.args.scope.depth c.in-Some.depth _ _ _ _ _ _ (omega (arith, c.in-Some.ensures))
-    (ap block_code_view c.in-Own.is) (sym c.in-Some-block_at.ensures) c.len-end.ensures) c.put_statements.ensures.code
+pub calls::put_block-returns-in_ok-body-in-Own-clause-code : goal.calls::put_block-returns-in_ok-body-in-Own-clause-code
+calls::put_block-returns-in_ok-body-in-Own-clause-code t c =
+    on_ok c.put_statements.result _ _ (λ e. e ∙ own_put (filled (slot_library_view c.args.library.now)) c.args.scope.depth c.in-Some.depth _ _ _ _ _ _ (omega (arith, c.in-Some.ensures))
+    (ap block_code_view c.in-Own.is)
+    (filled_body (slot_library_view c.args.library.now) c.in-Own.number _ c.in_ok-body-in-Own.ensures.known) c.len-end.ensures) c.put_statements.ensures.code
 
-pub calls::put_block-returns-in-Some-block_at-clause-fits : goal.calls::put_block-returns-in-Some-block_at-clause-fits
-calls::put_block-returns-in-Some-block_at-clause-fits t c =
-    on_ok c.put_statements.result _ _ (λ h. own_fits _ (slot_library_view c.args.library.now) c.args.scope.depth c.in-Some.depth _ _ _ _ (omega (arith, c.in-Some.ensures))
-    (ap block_code_view c.in-Own.is) (sym c.in-Some-block_at.ensures) h) c.put_statements.ensures.fits
+pub calls::put_block-returns-in_ok-body-in-Own-clause-fits : goal.calls::put_block-returns-in_ok-body-in-Own-clause-fits
+calls::put_block-returns-in_ok-body-in-Own-clause-fits t c =
+    on_ok c.put_statements.result _ _ (λ h. own_fits _ (filled (slot_library_view c.args.library.now)) c.args.scope.depth c.in-Some.depth _ _ _ _ (omega (arith, c.in-Some.ensures))
+    (ap block_code_view c.in-Own.is)
+    (filled_body (slot_library_view c.args.library.now) c.in-Own.number _ c.in_ok-body-in-Own.ensures.known) h) c.put_statements.ensures.fits
 
-pub calls::put_block-returns-in-Some-block_at-clause-wrong : goal.calls::put_block-returns-in-Some-block_at-clause-wrong
-calls::put_block-returns-in-Some-block_at-clause-wrong t c =
+pub calls::put_block-returns-in_ok-body-in-Own-clause-wrong : goal.calls::put_block-returns-in_ok-body-in-Own-clause-wrong
+calls::put_block-returns-in_ok-body-in-Own-clause-wrong t c =
     passed_on c.put_statements.result _ _ c.put_statements.ensures.wrong (λ h. own_linked (slot_library_view c.args.library.now) c.args.scope.depth c.in-Some.depth _ _ _ _
-    (omega (arith, c.in-Some.ensures)) (ap block_code_view c.in-Own.is) (sym c.in-Some-block_at.ensures) h)
+    (omega (arith, c.in-Some.ensures)) (ap block_code_view c.in-Own.is) c.in_ok-body-in-Own.ensures.known h)
 
 pub calls::put_function-returns-in_default-clause-wrong : goal.calls::put_function-returns-in_default-clause-wrong
 calls::put_function-returns-in_default-clause-wrong t c =
     λ _ h. no_call (slot_library_view c.args.library.now) _ _ (omega (arith, c.in_default.ensures)) h
 
-pub calls::put_function-returns-in_default-function_at-clause-wrong : goal.calls::put_function-returns-in_default-function_at-clause-wrong
-calls::put_function-returns-in_default-function_at-clause-wrong t c =
-    λ _ h. function_linked_so (slot_library_view c.args.library.now) c.args.scope.depth c.in-Some.depth _ _ _ _ (omega (arith, c.in-Some.ensures))
-    (sym c.in_default-function_at.ensures) h
-
 pub calls::put_function-put_statements-requires : goal.calls::put_function-put_statements-requires
 calls::put_function-put_statements-requires t c =
-    let w : weight (slot_library_view c.args.library.now) c.in-Some.depth + stmts_size (slot_stmts_view c.in-Some-function_at.function.now.body.items)
-    < weight (slot_library_view c.args.library.now) c.args.scope.depth
-    = function_lighter (slot_library_view c.args.library.now) c.args.scope.depth c.in-Some.depth c.args.number _ (omega (arith, c.in-Some.ensures)) (sym c.in-Some-function_at.ensures) in
+    let w : weight (filled (slot_library_view c.args.library.now)) c.in-Some.depth + stmts_size (slot_stmts_view c.in_ok-function.function.now.body.items)
+    < weight (filled (slot_library_view c.args.library.now)) c.args.scope.depth
+    = function_lighter (filled (slot_library_view c.args.library.now)) c.args.scope.depth c.in-Some.depth c.args.number _ (omega (arith, c.in-Some.ensures))
+    (filled_function (slot_library_view c.args.library.now) c.args.number _ c.in_ok-function.ensures.known) in
     grind (arith, w)
 
 pub expressions::put_expr-returns-in_ok-put-in-Compute-clause-code : goal.expressions::put_expr-returns-in_ok-put-in-Compute-clause-code
@@ -203,7 +198,7 @@ expressions::put_expr-returns-in_ok-put-in-Compute-clause-code t c =
 pub calls::put_function-returns-then-not-has_signature-clause-wrong : goal.calls::put_function-returns-then-not-has_signature-clause-wrong
 calls::put_function-returns-then-not-has_signature-clause-wrong t c =
     λ _ h. let w = function_linked_so (slot_library_view c.args.library.now) c.args.scope.depth c.in-Some.depth _ _ _ _
-    (omega (arith, c.in-Some.ensures)) (sym c.in-Some-function_at.ensures) h in
+    (omega (arith, c.in-Some.ensures)) c.in_ok-function.ensures.known h in
     false≢true (c.if-not-has_signature.ensures.1 w.0)
 
 pub calls::put_function-returns-in_err-put_statements-clause-wrong : goal.calls::put_function-returns-in_err-put_statements-clause-wrong
@@ -213,7 +208,7 @@ calls::put_function-returns-in_err-put_statements-clause-wrong t c =
     (λ h. subst (λ (ys : List code_stmt.SlotStmt). StmtsLinked (LinkedIn c.args.library.now c.in_ok-inner.inner)
     (site_of c.in_ok-inner.inner) (stmts_of (map slot_stmt_view ys))) (sym c.deref.ensures.value)
     (body_linked (slot_library_view c.args.library.now) c.args.scope.depth _ _ _ _ c.in_ok-inner.inner e
-    (sym c.in-Some-function_at.ensures) c.in_ok-inner.ensures.start c.in_ok-inner.ensures.base c.in_ok-inner.ensures.size h)) (search rules)
+    c.in_ok-function.ensures.known c.in_ok-inner.ensures.start c.in_ok-inner.ensures.base c.in_ok-inner.ensures.size h)) (search rules)
 
 pub calls::put_invocation-returns-in_err-put_outputs-clause-wrong : goal.calls::put_invocation-returns-in_err-put_outputs-clause-wrong
 calls::put_invocation-returns-in_err-put_outputs-clause-wrong t c =
@@ -269,7 +264,7 @@ expressions::put_expr-returns-in_err-put_function-in-Call-clause-wrong t c =
 pub calls::put_function-returns-clause-code : goal.calls::put_function-returns-clause-code
 calls::put_function-returns-clause-code t c =
     let z = c.in_ok-inner.inner in
-    let f = c.in-Some-function_at.function.now in
+    let f = c.in_ok-function.function.now in
     let e : suc c.in_ok-inner.inner.depth ≡ c.args.scope.depth = omega (arith, c.in-Some.ensures, c.in_ok-inner.ensures.depth) in
     let has = c.if-not-has_signature.ensures.0 refl in
     let body : c.put_statements.new.code ≡ stmts_code (units_in c.args.library.now z) (site_of z)
@@ -283,23 +278,24 @@ calls::put_function-returns-clause-code t c =
     let resets : c.put_resets.new.code ≡ resets_code z.start f.fresh.items c.put_stores.new.code
     = subst (λ (ys : List Datum). c.put_resets.new.code ≡ resets_code z.start ys c.put_stores.new.code)
     c.deref-3.ensures.value c.in_ok-put_resets.ensures.code in
-    on_ok c.put-2.result _ _ (λ put5. function_put (slot_library_view c.args.library.now) c.args.scope.depth c.args.number
+    on_ok c.put-2.result _ _ (λ put5. function_put (filled (slot_library_view c.args.library.now)) c.args.scope.depth c.args.number
     (end_of (site_of c.args.scope)) (slot_function_view f) z c.args.code.now c.put.new.self c.put_statements.new.code
     c.put_stores.new.code c.put_resets.new.code c.put-2.new.self c.in_ok-slot_behind.field-0 c.len-end.result c.in-Ok.taken e
-    (sym c.in-Some-function_at.ensures) c.in_ok-inner.ensures.start c.in_ok-inner.ensures.base c.in_ok-inner.ensures.size
+    (filled_function (slot_library_view c.args.library.now) c.args.number _ c.in_ok-function.ensures.known) c.in_ok-inner.ensures.start c.in_ok-inner.ensures.base c.in_ok-inner.ensures.size
     c.in_ok-slot_behind.ensures.slot c.in_ok-put.ensures.put c.len-end.ensures body stores resets
     (omega (arith, c.in-Ok.ensures, has.0)) put5) c.put-2.ensures.put
 
 pub calls::put_function-returns-clause-fits : goal.calls::put_function-returns-clause-fits
 calls::put_function-returns-clause-fits t c =
     let z = c.in_ok-inner.inner in
-    let f = c.in-Some-function_at.function.now in
+    let f = c.in_ok-function.function.now in
     let e : suc c.in_ok-inner.inner.depth ≡ c.args.scope.depth = omega (arith, c.in-Some.ensures, c.in_ok-inner.ensures.depth) in
     let body : StmtsFit (FitsIn c.args.library.now z) (site_of z) (slot_stmts_view f.body.items)
     = subst (λ (ys : List code_stmt.SlotStmt). StmtsFit (FitsIn c.args.library.now z) (site_of z) (slot_stmts_view ys))
     c.deref.ensures.value c.in_ok-put_statements.ensures.fits in
-    on_ok c.put-2.result _ _ (λ _. function_fits_so c.args.scope.memory (slot_library_view c.args.library.now) c.args.scope.depth c.args.number
-    (end_of (site_of c.args.scope)) c.args.count (slot_function_view f) z e (sym c.in-Some-function_at.ensures) c.in_ok-inner.ensures.memory
+    on_ok c.put-2.result _ _ (λ _. function_fits_so c.args.scope.memory (filled (slot_library_view c.args.library.now)) c.args.scope.depth c.args.number
+    (end_of (site_of c.args.scope)) c.args.count (slot_function_view f) z e
+    (filled_function (slot_library_view c.args.library.now) c.args.number _ c.in_ok-function.ensures.known) c.in_ok-inner.ensures.memory
     c.in_ok-inner.ensures.start c.in_ok-inner.ensures.base c.in_ok-inner.ensures.size c.in_ok-inner.ensures.room
     (c.if-not-has_signature.ensures.0 refl) body) c.put-2.ensures.put
 
@@ -311,10 +307,11 @@ expressions::put_expr-returns-in_ok-put_function-in-Call-clause-fits t c =
     rw c.in-Call.is (search (rules, code_expr.the_lemmas)) in
     let n : c.len-in-Call.result ≡ count_of (exprs_of (map slot_expr_view es)) =
     (omega (arith, c.len-in-Call.ensures, c.in-Call.arguments.ok.0)) ∙ sym (count_is es) in
-    on_ok c.put_exprs-in-Call.result _ _ (λ h. subst (λ x. ExprFits (FitsIn c.args.library.now c.args.scope) (site_of c.args.scope) x) (sym seen)
-    (subst (λ (ys : List code_expr.SlotExpr). ExprsFit (FitsIn c.args.library.now c.args.scope) (site_of c.args.scope) (exprs_of (map slot_expr_view ys))) c.deref-in-Call.ensures.value h,
-    subst (λ m. FitsIn c.args.library.now c.args.scope (of_function f (end_of (site_of c.args.scope)) m)) n
-    c.in_ok-put_function-in-Call.ensures.fits)) c.put_exprs-in-Call.ensures.fits
+    on_ok c.put_exprs-in-Call.result _ _ (λ h. subst (λ x. ExprFits (FitsIn c.args.library.now c.args.scope) (site_of c.args.scope) x) (sym seen) (
+      subst (λ (ys : List code_expr.SlotExpr). ExprsFit (FitsIn c.args.library.now c.args.scope) (site_of c.args.scope) (exprs_of (map slot_expr_view ys))) c.deref-in-Call.ensures.value h,
+      subst (λ m. FitsIn c.args.library.now c.args.scope (of_function f (end_of (site_of c.args.scope)) m)) n
+          c.in_ok-put_function-in-Call.ensures.fits,
+    )) c.put_exprs-in-Call.ensures.fits
 
 pub expressions::put_place-returns-clause-code : goal.expressions::put_place-returns-clause-code
 expressions::put_place-returns-clause-code t c =
@@ -328,3 +325,15 @@ expressions::put_place-returns-clause-code t c =
     c.slot_value.result c.args.code.now c.put-2.new.self c.put_subscripts.new.code c.put-3.new.self seen
     c.deref-2.ensures.value lt c.in_ok-slot.ensures.slot c.slot_value.ensures
     (c.in_ok-put.ensures.put ∙ ap (λ i. c.args.code.now ◂ i) c.led.ensures) c.in_ok-put_subscripts.ensures.code put3) c.put-3.ensures.put
+
+pub calls::put_block-returns-in_err-body-in-Own-clause-wrong : goal.calls::put_block-returns-in_err-body-in-Own-clause-wrong
+calls::put_block-returns-in_err-body-in-Own-clause-wrong t c =
+    not_there _ c.in_err-body-in-Own.field-0.0 _ _ c.in_err-body-in-Own.ensures.wrong
+    (λ none h. own_linked (slot_library_view c.args.library.now) c.args.scope.depth c.in-Some.depth _ _ _ _ (omega (arith, c.in-Some.ensures))
+    (ap block_code_view c.in-Own.is) none h) (search rules)
+
+pub calls::put_function-returns-in_err-function-clause-wrong : goal.calls::put_function-returns-in_err-function-clause-wrong
+calls::put_function-returns-in_err-function-clause-wrong t c =
+    not_there _ c.in_err-function.field-0.0 _ _ c.in_err-function.ensures.wrong
+    (λ none h. function_linked_so (slot_library_view c.args.library.now) c.args.scope.depth c.in-Some.depth _ _ _ _ (omega (arith, c.in-Some.ensures)) none h)
+    (search rules)

@@ -6,7 +6,7 @@ use Rattle.slot_bodies.specs.LibraryViews.{slot_library_view}
 use Rattle.slot_bodies.specs.StatementViews.{slot_argument_view, slot_stmt_view, slot_arm_view, slot_case_arm_view}
 use Rattle.tree_code.specs.Codes.{exprs_code, subscripts_code, inputs_code, outputs_code, stmts_code, arms_code, case_code}
 use Rattle.tree_code.specs.Fitting.{ExprsFit, SubscriptsFit, StmtsFit, ArmsFit, CaseArmsFit}
-use Rattle.st_compile.specs.Emitting.{site_of, units_in, FitsIn, InputsFit, OutputsFit}
+use Rattle.st_compile.specs.Emitting.{filled, site_of, units_in, FitsIn, InputsFit, OutputsFit}
 use Rattle.st_compile.proofs.Sizes.{weight, expr_size, exprs_size, place_size, subscripts_size, step_size}
 use Rattle.st_compile.proofs.Sizes.{arguments_size, stmt_size, stmts_size, arms_size, case_size}
 use Rattle.st_compile.proofs.+unit.Given as goal
@@ -14,63 +14,63 @@ use Rattle.st_compile.proofs.+unit.Given as goal
 -- Calls go down in depth, and else into parts of trees.
 abbrev pub decreases-calls::put_block : goal.decreases-calls::put_block
 decreases-calls::put_block l =
-    weight (slot_library_view l.library.now) l.scope.depth
+    weight (filled (slot_library_view l.library.now)) l.scope.depth
 
 abbrev pub decreases-calls::put_function : goal.decreases-calls::put_function
 decreases-calls::put_function l =
-    weight (slot_library_view l.library.now) l.scope.depth
+    weight (filled (slot_library_view l.library.now)) l.scope.depth
 
 abbrev pub decreases-calls::put_inputs : goal.decreases-calls::put_inputs
 decreases-calls::put_inputs l =
-    weight (slot_library_view l.library.now) l.scope.depth + arguments_size (map slot_argument_view l.arguments.now)
+    weight (filled (slot_library_view l.library.now)) l.scope.depth + arguments_size (map slot_argument_view l.arguments.now)
 
 abbrev pub decreases-calls::put_outputs : goal.decreases-calls::put_outputs
 decreases-calls::put_outputs l =
-    weight (slot_library_view l.library.now) l.scope.depth + arguments_size (map slot_argument_view l.arguments.now)
+    weight (filled (slot_library_view l.library.now)) l.scope.depth + arguments_size (map slot_argument_view l.arguments.now)
 
 abbrev pub decreases-calls::put_invocation : goal.decreases-calls::put_invocation
 decreases-calls::put_invocation l =
-    weight (slot_library_view l.library.now) l.scope.depth + suc (arguments_size (map slot_argument_view l.arguments.now))
+    weight (filled (slot_library_view l.library.now)) l.scope.depth + suc (arguments_size (map slot_argument_view l.arguments.now))
 
 abbrev pub decreases-expressions::put_expr : goal.decreases-expressions::put_expr
 decreases-expressions::put_expr l =
-    weight (slot_library_view l.library.now) l.scope.depth + expr_size (slot_expr_view l.expression.now)
+    weight (filled (slot_library_view l.library.now)) l.scope.depth + expr_size (slot_expr_view l.expression.now)
 
 abbrev pub decreases-expressions::put_exprs : goal.decreases-expressions::put_exprs
 decreases-expressions::put_exprs l =
-    weight (slot_library_view l.library.now) l.scope.depth + exprs_size (exprs_of (map slot_expr_view l.expressions.now))
+    weight (filled (slot_library_view l.library.now)) l.scope.depth + exprs_size (exprs_of (map slot_expr_view l.expressions.now))
 
 abbrev pub decreases-expressions::put_place : goal.decreases-expressions::put_place
 decreases-expressions::put_place l =
-    weight (slot_library_view l.library.now) l.scope.depth + place_size (place_view l.place.now)
+    weight (filled (slot_library_view l.library.now)) l.scope.depth + place_size (place_view l.place.now)
 
 abbrev pub decreases-expressions::put_subscripts : goal.decreases-expressions::put_subscripts
 decreases-expressions::put_subscripts l =
-    weight (slot_library_view l.library.now) l.scope.depth + subscripts_size (subscripts_of (map subscript_view l.subscripts.now))
+    weight (filled (slot_library_view l.library.now)) l.scope.depth + subscripts_size (subscripts_of (map subscript_view l.subscripts.now))
 
 abbrev pub decreases-statements::put_arms : goal.decreases-statements::put_arms
 decreases-statements::put_arms l =
-    weight (slot_library_view l.library.now) l.scope.depth + arms_size (arms_of (map slot_arm_view l.arms.now))
+    weight (filled (slot_library_view l.library.now)) l.scope.depth + arms_size (arms_of (map slot_arm_view l.arms.now))
 
 abbrev pub decreases-statements::put_case_arms : goal.decreases-statements::put_case_arms
 decreases-statements::put_case_arms l =
-    weight (slot_library_view l.library.now) l.scope.depth + case_size (case_arms_of (map slot_case_arm_view l.arms.now))
+    weight (filled (slot_library_view l.library.now)) l.scope.depth + case_size (case_arms_of (map slot_case_arm_view l.arms.now))
 
 abbrev pub decreases-statements::put_statement : goal.decreases-statements::put_statement
 decreases-statements::put_statement l =
-    weight (slot_library_view l.library.now) l.scope.depth + stmt_size (slot_stmt_view l.statement.now)
+    weight (filled (slot_library_view l.library.now)) l.scope.depth + stmt_size (slot_stmt_view l.statement.now)
 
 abbrev pub decreases-statements::put_statements : goal.decreases-statements::put_statements
 decreases-statements::put_statements l =
-    weight (slot_library_view l.library.now) l.scope.depth + stmts_size (stmts_of (map slot_stmt_view l.statements.now))
+    weight (filled (slot_library_view l.library.now)) l.scope.depth + stmts_size (stmts_of (map slot_stmt_view l.statements.now))
 
 abbrev pub decreases-statements::put_step : goal.decreases-statements::put_step
 decreases-statements::put_step l =
-    weight (slot_library_view l.library.now) l.scope.depth + step_size (option_map slot_expr_view l.step.now)
+    weight (filled (slot_library_view l.library.now)) l.scope.depth + step_size (option_map slot_expr_view l.step.now)
 
 abbrev pub decreases-statements::put_turns : goal.decreases-statements::put_turns
 decreases-statements::put_turns l =
-    weight (slot_library_view l.library.now) l.scope.depth + suc (stmts_size (stmts_of (map slot_stmt_view l.body.now)))
+    weight (filled (slot_library_view l.library.now)) l.scope.depth + suc (stmts_size (stmts_of (map slot_stmt_view l.body.now)))
 
 -- Loops go from the end: their code is that of what stands from here on.
 abbrev pub invariant-calls::put_inputs-loop-left : goal.invariant-calls::put_inputs-loop-left
@@ -149,4 +149,3 @@ invariant-statements::put_statements-loop-left l = record {
 
 abbrev pub decreases-statements::put_statements-loop-left : goal.decreases-statements::put_statements-loop-left
 decreases-statements::put_statements-loop-left l = l.left
-
