@@ -34,9 +34,65 @@ pub struct Compiled {
     pub memory: usize,
 }
 
+/// The code of a program for a memory of so many slots.
+fn compile_within(
+    alloc: Global,
+    library: &SlotLibrary,
+    base: usize,
+    size: usize,
+    memory: usize,
+    body: &[SlotStmt],
+) -> Result<Compiled, CompileError>
+    requires room { size ≤ memory }
+    requires numbered { memory ≤ 65536 }
+    ensures code { IfOk result (λ x. (whole : tree.SlotLibrary) → IsKeptOf (slot_library_view library.now) whole
+        → x.code.items ≡ program_code whole base size (slot_stmts_view body.now) 64) }
+    ensures fits { IfOk result (λ x. (whole : tree.SlotLibrary) → IsKeptOf (slot_library_view library.now) whole
+        → ProgramFits x.memory whole base size (slot_stmts_view body.now) 64) }
+    ensures few { IfOk result (λ x. length x.code.items ≤ 16384) }
+    ensures memory { IfOk result (λ x. x.memory ≡ memory) }
+    ensures wrong { IfErr result (λ e. e ≡ CompileError.NotLinked
+        → ¬ (ProgramLinked (slot_library_view library.now) base size (slot_stmts_view body.now) 64)) }
+{
+    let scope = Scope {
+        depth: CALL_DEPTH,
+        memory,
+        start: 0,
+        base,
+        size,
+    };
+    let ways = Ways {
+        exit: 0,
+        back: 0,
+        held: 0,
+    };
+    let mut code = Draft::new(alloc);
+    put_statements(library, scope, &mut code, body, ways)?;
+    Ok(Compiled {
+        code: code.into_instructions(),
+        memory,
+    })
+}
+
+/// How many slots code needs. A call resets all values of its function, so the greatest slot that is reset tells.
+fn needed(size: usize, code: &[Instr]) -> usize
+    requires { size ≤ 65536 }
+    ensures room { size ≤ result }
+    ensures numbered { result ≤ 65536 }
+{
+    let mut memory = size;
+    for instr in code {
+        if let Instr::Reset(slot) = instr {
+            memory = memory.max(usize::from(*slot) + 1);
+        }
+    }
+    memory
+}
+
 /// The code of a program with its own variables from a slot on, over so many slots.
 ///
-/// It has at most 16,384 instructions.
+/// It has at most 16,384 instructions, and at most 4,096 places for values of functions. The memory is told as small as
+/// the program's calls allow: the code is made again for it.
 pub fn compile(
     alloc: Global,
     library: &SlotLibrary,
@@ -56,22 +112,12 @@ pub fn compile(
     if size > MEMORY - FUNCTION_PLACES {
         return Err(CompileError::TooManyPlaces);
     }
-    let scope = Scope {
-        depth: CALL_DEPTH,
-        memory: size + FUNCTION_PLACES,
-        start: 0,
-        base,
-        size,
-    };
-    let ways = Ways {
-        exit: 0,
-        back: 0,
-        held: 0,
-    };
-    let mut code = Draft::new(alloc);
-    put_statements(library, scope, &mut code, body, ways)?;
-    Ok(Compiled {
-        code: code.into_instructions(),
-        memory: scope.memory,
-    })
+    let roomy = compile_within(alloc, library, base, size, size + FUNCTION_PLACES, body)?;
+    let memory = needed(size, &roomy.code);
+    if memory < roomy.memory {
+        if let Ok(tight) = compile_within(alloc, library, base, size, memory, body) {
+            return Ok(tight);
+        }
+    }
+    Ok(roomy)
 }
