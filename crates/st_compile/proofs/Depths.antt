@@ -12,7 +12,8 @@ use Rattle.st_compile.specs.Linked.{CallLinkedWithin, IfFunctionLinked, Instance
 use Rattle.st_compile.proofs.Sizes.{weight, body_bound, stmts_size, functions_size, blocks_size}
 
 pub functions_below : (library : SlotLibrary) (n d f start : ℕ) (c : Code) → suc d ≡ n
-    → (units_code library n).functions f start c ≡ called_code (units_code library d) (slice_get library.functions f) start c
+    → (units_code library n).functions f start c ≡ called_code (units_code library d) (slice_get library.functions f)
+    start c
 unfolding units_code
 functions_below library n d f start c e = subst (λ m. (units_code library m).functions f start c
     ≡ called_code (units_code library d) (slice_get library.functions f) start c) e refl

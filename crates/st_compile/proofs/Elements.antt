@@ -1,5 +1,6 @@
 -- What holds of lists holds of their elements.
-use Rattle.std.proofs.Common.{◌≡◌, ℕ, zero, suc, ◌+◌, ◌<◌, List, [], ◌∷◌, length, get_or, map, sym, subst, ap, ◌∙◌, arith}
+use Rattle.std.proofs.Common.{◌≡◌, ℕ, zero, suc, ◌+◌, ◌<◌, List, [], ◌∷◌, length, get_or, map, sym, subst, ap, ◌∙◌}
+use Rattle.std.proofs.Common.{arith}
 use Rattle.st_trees.specs.declared.statement.Label.{Label}
 use Rattle.slot_bodies.specs.declared.expression.SlotExpr as code_expr
 use Rattle.slot_bodies.specs.declared.expression.Subscript as code_subscript
@@ -32,7 +33,8 @@ below_at n (x ∷ xs) (suc k) d lt h = below_at n xs k d (omega arith) h.1
 
 -- a subscript by its fields
 pub subscript_seen : (s : code_subscript.Subscript) → subscript_view s
-    ≡ (let r : Subscript = record { index = slot_expr_view s.index; lower = s.lower; count = s.count; stride = s.stride } in r)
+    ≡ (let r : Subscript = record { index = slot_expr_view s.index; lower = s.lower; count = s.count; stride =
+    s.stride } in r)
 subscript_seen s = search code_subscript.the_lemmas
 
 pub expr_smaller : (es : List code_expr.SlotExpr) (k : ℕ) (e : code_expr.SlotExpr) → k < length es
@@ -97,7 +99,8 @@ module _ (C : UnitCall → Type 0) (s : Site) where
   subscript_at [] k e lt is h = absurd (omega arith)
   subscript_at (x ∷ xs) zero e lt is h =
       let P : Subscript → Type 0 = λ y. IsSubscript y.lower y.count y.stride × ExprLinked C s y.index in
-      subst (λ (y : code_subscript.Subscript). IsSubscript y.lower y.count y.stride × ExprLinked C s (slot_expr_view y.index))
+      subst (λ (y : code_subscript.Subscript). IsSubscript y.lower y.count y.stride × ExprLinked C s (slot_expr_view
+      y.index))
       (sym is) (subst P (subscript_seen x) (h.0, h.1))
   subscript_at (x ∷ xs) (suc k) e lt is h = subscript_at xs k e (omega arith) is h.2
 

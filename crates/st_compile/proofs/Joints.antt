@@ -36,7 +36,8 @@ use Rattle.st_compile.specs.declared.scope.Scope.{Scope}
 use Rattle.st_compile.specs.Signatures.{HasSignature}
 use Rattle.st_compile.specs.Emitting.{site_of, InputsFit, OutputsFit, InputsLinked, OutputsLinked}
 use Rattle.st_compile.specs.Linked.{ArgumentsLinked, IfBodyLinked, IfFunctionLinked, CallLinkedWithin, StmtsLinked}
-use Rattle.st_compile.proofs.Depths.{functions_below, blocks_below, function_fits, block_fits, function_linked, block_linked}
+use Rattle.st_compile.proofs.Depths.{functions_below, blocks_below, function_fits, block_fits, function_linked}
+use Rattle.st_compile.proofs.Depths.{block_linked}
 use Rattle.st_compile.proofs.Elements.{subscript_seen}
 
 -- where a part is not linked, and so the whole is not
@@ -101,7 +102,8 @@ subscripts_drop ss k j s lt e is =
     let d : drop k ss ≡ s ∷ drop (suc k) ss = drop-cons ss k s lt ∙ ap (λ y. y ∷ drop (suc k) ss) (sym is) in
     let f : j ≡ suc k = omega arith in
     ap (λ ys. subscripts_of (map subscript_view ys)) d
-    ∙ ap (λ (y : Subscript). subscript_then y.index y.lower y.count y.stride (subscripts_of (map subscript_view (drop (suc k) ss))))
+    ∙ ap (λ (y : Subscript). subscript_then y.index y.lower y.count y.stride (subscripts_of (map subscript_view (drop
+    (suc k) ss))))
     (subscript_seen s) ∙ ap (λ m. subscript_then (slot_expr_view s.index) s.lower s.count s.stride
     (subscripts_of (map subscript_view (drop m ss)))) (sym f)
 
@@ -132,7 +134,8 @@ standard_put library n d block b s c slot e of is =
     ∙ ap (λ x. (units_code library n).blocks x s c) (sym of)
 
 pub standard_fits : (memory : ℕ) (library : SlotLibrary) (n d : ℕ) (block : BlockCode) (b : code_block.StandardBlock)
-    (s : Site) → suc d ≡ n → block ≡ standard_block (block_view b) → s.base + length (members_of (block_view b)) ≤ s.size
+    (s : Site) → suc d ≡ n → block ≡ standard_block (block_view b) → s.base + length (members_of (block_view b)) ≤
+    s.size
     → CallFitsWithin memory library n (of_block block s)
 standard_fits memory library n d block b s e of le = block_fits memory library n d block s e (rw of le)
 
@@ -193,7 +196,8 @@ function_fits_so memory library n number start count f z e known mem at base siz
     } in
     function_fits memory library n z.depth number start count e (rw known fits)
 
-pub function_linked_so : (library : KeptLibrary) (n d number start count : ℕ) (o : Option (Option SlotFunction)) → suc d ≡ n
+pub function_linked_so : (library : KeptLibrary) (n d number start count : ℕ) (o : Option (Option SlotFunction)) →
+    suc d ≡ n
     → slice_get library.functions number ≡ o → CallLinkedWithin library n (of_function number start count)
     → IfFunctionLinked (CallLinkedWithin library d) o start count
 function_linked_so library n d number start count o e known h =
@@ -225,7 +229,8 @@ compute_put units s f es ys x c c1 c2 count seen is put1 is_count put2 =
     let e : exprs_code units s (exprs_of (map slot_expr_view es)) (c ◂ Compute f (length es))
     ≡ expr_code units s (compute (standard_view f) (exprs_of (map slot_expr_view es))) c =
     ap (λ n. exprs_code units s (exprs_of (map slot_expr_view es)) (c ◂ Compute f n)) (sym (count_is es))
-    ∙ ap (λ g. exprs_code units s (exprs_of (map slot_expr_view es)) (c ◂ Compute g (count_of (exprs_of (map slot_expr_view
+    ∙ ap (λ g. exprs_code units s (exprs_of (map slot_expr_view es)) (c ◂ Compute g (count_of (exprs_of (map
+    slot_expr_view
     es))))) (sym (standard_again f)) in
     rw (put2, put1, is, is_count, seen) e
 

@@ -19,13 +19,15 @@ use Rattle.st_compile.proofs.SameCode.{SameUnits, stmts_same}
 
 -- the units that something fits are the same ones of another library
 pub record Agree (memory : ℕ) (library whole : SlotLibrary) : Type 1 where
-  pub functions : (P : UnitCall → Type 0) (i start count : ℕ) (f : SlotFunction) → slice_get library.functions i ≡ Some f
+  pub functions : (P : UnitCall → Type 0) (i start count : ℕ) (f : SlotFunction) → slice_get library.functions i ≡
+    Some f
       → FunctionFits P memory f start count → slice_get whole.functions i ≡ Some f
   pub blocks : (P : UnitCall → Type 0) (s : Site) (i : ℕ) (b : SlotStmts) → slice_get library.blocks i ≡ Some b
       → StmtsFit P s b → slice_get whole.blocks i ≡ Some b
 
 module _ (memory : ℕ) (library whole : SlotLibrary) (agree : Agree memory library whole) where
-  function_more : (P Q : UnitCall → Type 0) → ((u : UnitCall) → P u → Q u) → (i start count : ℕ) (o : Option SlotFunction)
+  function_more : (P Q : UnitCall → Type 0) → ((u : UnitCall) → P u → Q u) → (i start count : ℕ) (o : Option
+    SlotFunction)
       → slice_get library.functions i ≡ o → IfFunctionFits P memory o start count
       → IfFunctionFits Q memory (slice_get whole.functions i) start count
   function_more P Q more i start count (Some f) is h =
@@ -71,7 +73,8 @@ module _ (memory : ℕ) (library whole : SlotLibrary) (agree : Agree memory libr
   function_same : (n i start count : ℕ) (c : Code) → SameUnits (CallFitsWithin memory library n) (units_code library n)
       (units_code whole n) → (o : Option SlotFunction) → slice_get library.functions i ≡ o
       → IfFunctionFits (CallFitsWithin memory library n) memory o start count
-      → called_code (units_code library n) o start c ≡ called_code (units_code whole n) (slice_get whole.functions i) start c
+      → called_code (units_code library n) o start c ≡ called_code (units_code whole n) (slice_get whole.functions i)
+      start c
   function_same n i start count c same (Some f) is h =
       ap (λ b. resets_code start f.fresh (stores_code start f.inputs b) ◂ Turn (length f.inputs))
       (stmts_same (CallFitsWithin memory library n) (units_code library n) (units_code whole n) same
@@ -101,7 +104,8 @@ module _ (memory : ℕ) (library whole : SlotLibrary) (agree : Agree memory libr
   unfolding CallFitsWithin units_code
   same_units zero = record { functions = λ f start count c h. absurd h; blocks = λ b s c h. absurd h }
   same_units (suc n) = record {
-    functions = λ f start count c h. function_same n f start count c (same_units n) (slice_get library.functions f) refl h;
+    functions = λ f start count c h. function_same n f start count c (same_units n) (slice_get library.functions f)
+    refl h;
     blocks = λ b s c h. instance_same n b s c (same_units n) h;
   }
 

@@ -2,7 +2,8 @@
 use Rattle.std.proofs.Common.{◌≡◌, ℕ, ◌+◌, List, [], ◌∷◌, Option, Some, None, length, refl, ap, ◌∙◌}
 use Rattle.machine_code.specs.declared.instr.Instr.{Instr}
 use Rattle.machine_code.specs.declared.instr.Instr.TheVariants.{Tick, Push, Fetch, Store, StoreAt, Turn, Jump, Unless}
-use Rattle.machine_code.specs.declared.instr.Instr.TheVariants.{When, Back, Leave, Subscript, ForBegin, ForTest, ForStep}
+use Rattle.machine_code.specs.declared.instr.Instr.TheVariants.{When, Back, Leave, Subscript, ForBegin, ForTest}
+use Rattle.machine_code.specs.declared.instr.Instr.TheVariants.{ForStep}
 use Rattle.machine_code.specs.Machine.{slot_number}
 use Rattle.slot_trees.specs.SlotTrees.{SlotExpr, constant, load, compute, call, unary, binary, SlotExprs}
 use Rattle.slot_trees.specs.SlotTrees.{no_exprs, expr_then, Place, place, Subscripts, no_subscripts, subscript_then}

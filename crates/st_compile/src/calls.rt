@@ -122,8 +122,9 @@ pub fn put_invocation(
     ensures fits { OnOk result (ArgumentsFit (FitsIn library.now scope) (site_of scope)
         (slot_at scope.base (anchor_view instance)) (map slot_argument_view arguments.now)) }
     ensures longer { OnOk result (length code.old ≤ length code.new) }
-    ensures wrong { IfErr result (λ e. e ≡ CompileError.NotLinked → let at = slot_at scope.base (anchor_view instance) in
-        ¬ ((at ≤ scope.size) × LinkedIn library.now scope (of_block (block_code_view block) (site_at (site_of scope) at))
+    ensures wrong { IfErr result (λ e. e ≡ CompileError.NotLinked
+        → let at = slot_at scope.base (anchor_view instance) in ¬ ((at ≤ scope.size)
+        × LinkedIn library.now scope (of_block (block_code_view block) (site_at (site_of scope) at))
         × ArgumentsLinked (LinkedIn library.now scope) (site_of scope) at (map slot_argument_view arguments.now))) }
 {
     let first = value_at(scope.base, instance);
@@ -147,7 +148,7 @@ pub fn put_invocation(
 
 /// The values of inputs come on the stack, for members of an instance from a slot on.
 #[cycle(unit)]
-#[tactic(auto, using(crate::proofs::Elements::input_at, crate::proofs::Elements::argument_smaller))]
+#[tactic(auto, using(crate::proofs::Elements::argument_smaller))]
 fn put_inputs(
     library: &SlotLibrary,
     scope: Scope,
@@ -179,7 +180,7 @@ fn put_inputs(
 
 /// Members of an instance from a slot on are copied to places.
 #[cycle(unit)]
-#[tactic(auto, using(crate::proofs::Elements::output_at, crate::proofs::Elements::argument_smaller))]
+#[tactic(auto, using(crate::proofs::Elements::argument_smaller))]
 fn put_outputs(
     library: &SlotLibrary,
     scope: Scope,

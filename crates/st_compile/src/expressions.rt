@@ -21,7 +21,6 @@ use slot_bodies::{Place, SlotExpr, SlotLibrary, Subscript};
 
 /// Puts the code of an expression before the code that runs behind it.
 #[cycle(unit)]
-#[tactic(auto, using(crate::proofs::Joints::count_is, crate::proofs::Joints::standard_again))]
 pub fn put_expr(
     library: &SlotLibrary,
     scope: Scope,
@@ -63,7 +62,7 @@ pub fn put_expr(
 
 /// The same of expressions one after another.
 #[cycle(unit)]
-#[tactic(auto, using(crate::proofs::Elements::expr_at, crate::proofs::Elements::expr_smaller))]
+#[tactic(auto, using(crate::proofs::Elements::expr_smaller))]
 pub fn put_exprs(
     library: &SlotLibrary,
     scope: Scope,
@@ -89,7 +88,6 @@ pub fn put_exprs(
 
 /// The same of an elementary variable.
 #[cycle(unit)]
-#[tactic(auto, using(crate::proofs::Joints::led_is))]
 pub fn put_place(
     library: &SlotLibrary,
     scope: Scope,
@@ -115,7 +113,7 @@ pub fn put_place(
 
 /// The same of subscripts, which move the slot on the stack on.
 #[cycle(unit)]
-#[tactic(auto, using(crate::proofs::Elements::subscript_at, crate::proofs::Elements::index_smaller, crate::proofs::Joints::subscripts_drop))]
+#[tactic(auto, using(crate::proofs::Elements::index_smaller, crate::proofs::Joints::subscripts_drop))]
 fn put_subscripts(
     library: &SlotLibrary,
     scope: Scope,

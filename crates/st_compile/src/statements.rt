@@ -111,7 +111,7 @@ fn put_statement(
 
 /// The same of statements one after another.
 #[cycle(unit)]
-#[tactic(auto, using(crate::proofs::Elements::stmt_at, crate::proofs::Elements::stmt_smaller))]
+#[tactic(auto, using(crate::proofs::Elements::stmt_smaller))]
 pub fn put_statements(
     library: &SlotLibrary,
     scope: Scope,
@@ -138,7 +138,7 @@ pub fn put_statements(
 
 /// The same of the arms of an IF that ends at a place, before the statements that run where no condition holds.
 #[cycle(unit)]
-#[tactic(auto, using(crate::proofs::Elements::arm_at, crate::proofs::Elements::condition_smaller, crate::proofs::Elements::body_smaller))]
+#[tactic(auto, using(crate::proofs::Elements::condition_smaller, crate::proofs::Elements::body_smaller))]
 fn put_arms(
     library: &SlotLibrary,
     scope: Scope,
@@ -169,7 +169,7 @@ fn put_arms(
 
 /// The same of those of a CASE, whose selector is on the stack until statements are chosen.
 #[cycle(unit)]
-#[tactic(auto, using(crate::proofs::Elements::case_at, crate::proofs::Elements::case_smaller))]
+#[tactic(auto, using(crate::proofs::Elements::case_smaller))]
 fn put_case_arms(
     library: &SlotLibrary,
     scope: Scope,

@@ -4,7 +4,8 @@ use Rattle.slot_bodies.specs.Chains.{exprs_of, subscripts_of, stmts_of, arms_of,
 use Rattle.slot_bodies.specs.ExpressionViews.{slot_expr_view, place_view, subscript_view}
 use Rattle.slot_bodies.specs.LibraryViews.{slot_library_view}
 use Rattle.slot_bodies.specs.StatementViews.{slot_argument_view, slot_stmt_view, slot_arm_view, slot_case_arm_view}
-use Rattle.tree_code.specs.Codes.{exprs_code, subscripts_code, inputs_code, outputs_code, stmts_code, arms_code, case_code}
+use Rattle.tree_code.specs.Codes.{exprs_code, subscripts_code, inputs_code, outputs_code, stmts_code, arms_code}
+use Rattle.tree_code.specs.Codes.{case_code}
 use Rattle.tree_code.specs.Fitting.{ExprsFit, SubscriptsFit, StmtsFit, ArmsFit, CaseArmsFit}
 use Rattle.st_compile.specs.Emitting.{filled, site_of, units_in, FitsIn, InputsFit, OutputsFit}
 use Rattle.st_compile.proofs.Sizes.{weight, expr_size, exprs_size, place_size, subscripts_size, step_size}
@@ -22,15 +23,18 @@ decreases-calls::put_function l =
 
 abbrev pub decreases-calls::put_inputs : goal.decreases-calls::put_inputs
 decreases-calls::put_inputs l =
-    weight (filled (slot_library_view l.library.now)) l.scope.depth + arguments_size (map slot_argument_view l.arguments.now)
+    weight (filled (slot_library_view l.library.now)) l.scope.depth + arguments_size (map slot_argument_view
+    l.arguments.now)
 
 abbrev pub decreases-calls::put_outputs : goal.decreases-calls::put_outputs
 decreases-calls::put_outputs l =
-    weight (filled (slot_library_view l.library.now)) l.scope.depth + arguments_size (map slot_argument_view l.arguments.now)
+    weight (filled (slot_library_view l.library.now)) l.scope.depth + arguments_size (map slot_argument_view
+    l.arguments.now)
 
 abbrev pub decreases-calls::put_invocation : goal.decreases-calls::put_invocation
 decreases-calls::put_invocation l =
-    weight (filled (slot_library_view l.library.now)) l.scope.depth + suc (arguments_size (map slot_argument_view l.arguments.now))
+    weight (filled (slot_library_view l.library.now)) l.scope.depth + suc (arguments_size (map slot_argument_view
+    l.arguments.now))
 
 abbrev pub decreases-expressions::put_expr : goal.decreases-expressions::put_expr
 decreases-expressions::put_expr l =
@@ -38,7 +42,8 @@ decreases-expressions::put_expr l =
 
 abbrev pub decreases-expressions::put_exprs : goal.decreases-expressions::put_exprs
 decreases-expressions::put_exprs l =
-    weight (filled (slot_library_view l.library.now)) l.scope.depth + exprs_size (exprs_of (map slot_expr_view l.expressions.now))
+    weight (filled (slot_library_view l.library.now)) l.scope.depth + exprs_size (exprs_of (map slot_expr_view
+    l.expressions.now))
 
 abbrev pub decreases-expressions::put_place : goal.decreases-expressions::put_place
 decreases-expressions::put_place l =
@@ -46,7 +51,8 @@ decreases-expressions::put_place l =
 
 abbrev pub decreases-expressions::put_subscripts : goal.decreases-expressions::put_subscripts
 decreases-expressions::put_subscripts l =
-    weight (filled (slot_library_view l.library.now)) l.scope.depth + subscripts_size (subscripts_of (map subscript_view l.subscripts.now))
+    weight (filled (slot_library_view l.library.now)) l.scope.depth + subscripts_size (subscripts_of (map
+    subscript_view l.subscripts.now))
 
 abbrev pub decreases-statements::put_arms : goal.decreases-statements::put_arms
 decreases-statements::put_arms l =
@@ -54,7 +60,8 @@ decreases-statements::put_arms l =
 
 abbrev pub decreases-statements::put_case_arms : goal.decreases-statements::put_case_arms
 decreases-statements::put_case_arms l =
-    weight (filled (slot_library_view l.library.now)) l.scope.depth + case_size (case_arms_of (map slot_case_arm_view l.arms.now))
+    weight (filled (slot_library_view l.library.now)) l.scope.depth + case_size (case_arms_of (map slot_case_arm_view
+    l.arms.now))
 
 abbrev pub decreases-statements::put_statement : goal.decreases-statements::put_statement
 decreases-statements::put_statement l =
@@ -62,7 +69,8 @@ decreases-statements::put_statement l =
 
 abbrev pub decreases-statements::put_statements : goal.decreases-statements::put_statements
 decreases-statements::put_statements l =
-    weight (filled (slot_library_view l.library.now)) l.scope.depth + stmts_size (stmts_of (map slot_stmt_view l.statements.now))
+    weight (filled (slot_library_view l.library.now)) l.scope.depth + stmts_size (stmts_of (map slot_stmt_view
+    l.statements.now))
 
 abbrev pub decreases-statements::put_step : goal.decreases-statements::put_step
 decreases-statements::put_step l =
@@ -70,15 +78,18 @@ decreases-statements::put_step l =
 
 abbrev pub decreases-statements::put_turns : goal.decreases-statements::put_turns
 decreases-statements::put_turns l =
-    weight (filled (slot_library_view l.library.now)) l.scope.depth + suc (stmts_size (stmts_of (map slot_stmt_view l.body.now)))
+    weight (filled (slot_library_view l.library.now)) l.scope.depth + suc (stmts_size (stmts_of (map slot_stmt_view
+    l.body.now)))
 
 -- Loops go from the end: their code is that of what stands from here on.
 abbrev pub invariant-calls::put_inputs-loop-left : goal.invariant-calls::put_inputs-loop-left
 invariant-calls::put_inputs-loop-left l = record {
   within : l.left ≤ length l.arguments;
   longer : length l.fn.code ≤ length l.code;
-  code : l.code ≡ inputs_code (units_in l.library l.scope) (site_of l.scope) (map slot_argument_view (drop l.left l.arguments)) l.fn.code;
-  fits : InputsFit (FitsIn l.library l.scope) (site_of l.scope) l.first (map slot_argument_view (drop l.left l.arguments));
+  code : l.code ≡ inputs_code (units_in l.library l.scope) (site_of l.scope) (map slot_argument_view (drop l.left
+    l.arguments)) l.fn.code;
+  fits : InputsFit (FitsIn l.library l.scope) (site_of l.scope) l.first (map slot_argument_view (drop l.left
+    l.arguments));
 }
 
 abbrev pub decreases-calls::put_inputs-loop-left : goal.decreases-calls::put_inputs-loop-left
@@ -88,8 +99,10 @@ abbrev pub invariant-calls::put_outputs-loop-left : goal.invariant-calls::put_ou
 invariant-calls::put_outputs-loop-left l = record {
   within : l.left ≤ length l.arguments;
   longer : length l.fn.code ≤ length l.code;
-  code : l.code ≡ outputs_code (units_in l.library l.scope) (site_of l.scope) l.first (map slot_argument_view (drop l.left l.arguments)) l.fn.code;
-  fits : OutputsFit (FitsIn l.library l.scope) (site_of l.scope) l.first (map slot_argument_view (drop l.left l.arguments));
+  code : l.code ≡ outputs_code (units_in l.library l.scope) (site_of l.scope) l.first (map slot_argument_view (drop
+    l.left l.arguments)) l.fn.code;
+  fits : OutputsFit (FitsIn l.library l.scope) (site_of l.scope) l.first (map slot_argument_view (drop l.left
+    l.arguments));
 }
 
 abbrev pub decreases-calls::put_outputs-loop-left : goal.decreases-calls::put_outputs-loop-left
@@ -99,8 +112,10 @@ abbrev pub invariant-expressions::put_exprs-loop-left : goal.invariant-expressio
 invariant-expressions::put_exprs-loop-left l = record {
   within : l.left ≤ length l.expressions;
   longer : length l.fn.code ≤ length l.code;
-  code : l.code ≡ exprs_code (units_in l.library l.scope) (site_of l.scope) (exprs_of (map slot_expr_view (drop l.left l.expressions))) l.fn.code;
-  fits : ExprsFit (FitsIn l.library l.scope) (site_of l.scope) (exprs_of (map slot_expr_view (drop l.left l.expressions)));
+  code : l.code ≡ exprs_code (units_in l.library l.scope) (site_of l.scope) (exprs_of (map slot_expr_view (drop
+    l.left l.expressions))) l.fn.code;
+  fits : ExprsFit (FitsIn l.library l.scope) (site_of l.scope) (exprs_of (map slot_expr_view (drop l.left
+    l.expressions)));
 }
 
 abbrev pub decreases-expressions::put_exprs-loop-left : goal.decreases-expressions::put_exprs-loop-left
@@ -110,8 +125,10 @@ abbrev pub invariant-expressions::put_subscripts-loop-left : goal.invariant-expr
 invariant-expressions::put_subscripts-loop-left l = record {
   within : l.left ≤ length l.subscripts;
   longer : length l.fn.code ≤ length l.code;
-  code : l.code ≡ subscripts_code (units_in l.library l.scope) (site_of l.scope) (subscripts_of (map subscript_view (drop l.left l.subscripts))) l.fn.code;
-  fits : SubscriptsFit (FitsIn l.library l.scope) (site_of l.scope) (subscripts_of (map subscript_view (drop l.left l.subscripts)));
+  code : l.code ≡ subscripts_code (units_in l.library l.scope) (site_of l.scope) (subscripts_of (map subscript_view
+    (drop l.left l.subscripts))) l.fn.code;
+  fits : SubscriptsFit (FitsIn l.library l.scope) (site_of l.scope) (subscripts_of (map subscript_view (drop l.left
+    l.subscripts)));
 }
 
 abbrev pub decreases-expressions::put_subscripts-loop-left : goal.decreases-expressions::put_subscripts-loop-left
@@ -121,7 +138,8 @@ abbrev pub invariant-statements::put_arms-loop-left : goal.invariant-statements:
 invariant-statements::put_arms-loop-left l = record {
   within : l.left ≤ length l.arms;
   longer : length l.fn.code ≤ length l.code;
-  code : l.code ≡ arms_code (units_in l.library l.scope) (site_of l.scope) (arms_of (map slot_arm_view (drop l.left l.arms))) l.ways l.end l.fn.code;
+  code : l.code ≡ arms_code (units_in l.library l.scope) (site_of l.scope) (arms_of (map slot_arm_view (drop l.left
+    l.arms))) l.ways l.end l.fn.code;
   fits : ArmsFit (FitsIn l.library l.scope) (site_of l.scope) (arms_of (map slot_arm_view (drop l.left l.arms)));
 }
 
@@ -132,8 +150,10 @@ abbrev pub invariant-statements::put_case_arms-loop-left : goal.invariant-statem
 invariant-statements::put_case_arms-loop-left l = record {
   within : l.left ≤ length l.arms;
   longer : length l.fn.code ≤ length l.code;
-  code : l.code ≡ case_code (units_in l.library l.scope) (site_of l.scope) (case_arms_of (map slot_case_arm_view (drop l.left l.arms))) l.ways l.end l.fn.code;
-  fits : CaseArmsFit (FitsIn l.library l.scope) (site_of l.scope) (case_arms_of (map slot_case_arm_view (drop l.left l.arms)));
+  code : l.code ≡ case_code (units_in l.library l.scope) (site_of l.scope) (case_arms_of (map slot_case_arm_view
+    (drop l.left l.arms))) l.ways l.end l.fn.code;
+  fits : CaseArmsFit (FitsIn l.library l.scope) (site_of l.scope) (case_arms_of (map slot_case_arm_view (drop l.left
+    l.arms)));
 }
 
 abbrev pub decreases-statements::put_case_arms-loop-left : goal.decreases-statements::put_case_arms-loop-left
@@ -143,8 +163,10 @@ abbrev pub invariant-statements::put_statements-loop-left : goal.invariant-state
 invariant-statements::put_statements-loop-left l = record {
   within : l.left ≤ length l.statements;
   longer : length l.fn.code ≤ length l.code;
-  code : l.code ≡ stmts_code (units_in l.library l.scope) (site_of l.scope) (stmts_of (map slot_stmt_view (drop l.left l.statements))) l.ways l.fn.code;
-  fits : StmtsFit (FitsIn l.library l.scope) (site_of l.scope) (stmts_of (map slot_stmt_view (drop l.left l.statements)));
+  code : l.code ≡ stmts_code (units_in l.library l.scope) (site_of l.scope) (stmts_of (map slot_stmt_view (drop
+    l.left l.statements))) l.ways l.fn.code;
+  fits : StmtsFit (FitsIn l.library l.scope) (site_of l.scope) (stmts_of (map slot_stmt_view (drop l.left
+    l.statements)));
 }
 
 abbrev pub decreases-statements::put_statements-loop-left : goal.decreases-statements::put_statements-loop-left
