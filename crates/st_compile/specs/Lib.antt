@@ -1,0 +1,4 @@
+pub mod Accesses
+pub mod Linked
+pub mod Signatures
+pub mod Emitting

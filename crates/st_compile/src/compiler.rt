@@ -1,0 +1,123 @@
+//! The code of a program.
+
+ghost use Rattle.std.specs.Prelude.{◌≡◌, ◌≤◌, ◌+◌, ◌*◌, IfOk, IfErr, length, map};
+ghost use Rattle.slot_trees.specs.SlotTrees as tree;
+ghost use Rattle.slot_bodies.specs.LibraryViews.{IsKeptOf, slot_library_view};
+ghost use Rattle.slot_bodies.specs.StatementViews.{slot_stmts_view};
+ghost use Rattle.tree_code.specs.Programs.{program_code, ProgramFits};
+ghost use Rattle.st_compile.specs.Linked.{ProgramLinked};
+
+use crate::compile_error::CompileError;
+use crate::draft::Draft;
+use crate::scope::Scope;
+use crate::statements::put_statements;
+use machine_code::Instr;
+use slot_bodies::{SlotLibrary, SlotStmt};
+use std::alloc::Global;
+use tree_code::Ways;
+
+/// How deep calls may be.
+pub const CALL_DEPTH: u16 = 64;
+
+/// How many values of functions may stand behind the values of a program.
+pub const FUNCTION_PLACES: usize = 4096;
+
+/// The greatest number of slots of a memory.
+const MEMORY: usize = 65536;
+
+/// The code of a program, and the memory that it needs.
+#[derive(Drop)]
+pub struct Compiled {
+    /// The instructions from the end on: what runs first stands last.
+    pub code: Vec<Instr>,
+    /// How many slots there are for the values of the program and of the functions that run.
+    pub memory: usize,
+}
+
+/// The code of a program for a memory of so many slots.
+fn compile_within(
+    alloc: Global,
+    library: &SlotLibrary,
+    base: usize,
+    size: usize,
+    memory: usize,
+    body: &[SlotStmt],
+) -> Result<Compiled, CompileError>
+    requires room { size ≤ memory }
+    requires numbered { memory ≤ 65536 }
+    ensures code { IfOk result (λ x. (whole : tree.SlotLibrary) → IsKeptOf (slot_library_view library.now) whole
+        → x.code.items ≡ program_code whole base size (slot_stmts_view body.now) 64) }
+    ensures fits { IfOk result (λ x. (whole : tree.SlotLibrary) → IsKeptOf (slot_library_view library.now) whole
+        → ProgramFits x.memory whole base size (slot_stmts_view body.now) 64) }
+    ensures few { IfOk result (λ x. length x.code.items ≤ 16384) }
+    ensures memory { IfOk result (λ x. x.memory ≡ memory) }
+    ensures wrong { IfErr result (λ e. e ≡ CompileError.NotLinked
+        → ¬ (ProgramLinked (slot_library_view library.now) base size (slot_stmts_view body.now) 64)) }
+{
+    let scope = Scope {
+        depth: CALL_DEPTH,
+        memory,
+        start: 0,
+        base,
+        size,
+    };
+    let ways = Ways {
+        exit: 0,
+        back: 0,
+        held: 0,
+    };
+    let mut code = Draft::new(alloc);
+    put_statements(library, scope, &mut code, body, ways)?;
+    Ok(Compiled {
+        code: code.into_instructions(),
+        memory,
+    })
+}
+
+/// How many slots code needs. A call resets all values of its function, so the greatest slot that is reset tells.
+fn needed(size: usize, code: &[Instr]) -> usize
+    requires { size ≤ 65536 }
+    ensures room { size ≤ result }
+    ensures numbered { result ≤ 65536 }
+{
+    let mut memory = size;
+    for instr in code {
+        if let Instr::Reset(slot) = instr {
+            memory = memory.max(usize::from(*slot) + 1);
+        }
+    }
+    memory
+}
+
+/// The code of a program with its own variables from a slot on, over so many slots.
+///
+/// It has at most 16,384 instructions, and at most 4,096 places for values of functions. The memory is told as small as
+/// the program's calls allow: the code is made again for it.
+pub fn compile(
+    alloc: Global,
+    library: &SlotLibrary,
+    base: usize,
+    size: usize,
+    body: &[SlotStmt],
+) -> Result<Compiled, CompileError>
+    ensures code { IfOk result (λ x. (whole : tree.SlotLibrary) → IsKeptOf (slot_library_view library.now) whole
+        → x.code.items ≡ program_code whole base size (slot_stmts_view body.now) 64) }
+    ensures fits { IfOk result (λ x. (whole : tree.SlotLibrary) → IsKeptOf (slot_library_view library.now) whole
+        → ProgramFits x.memory whole base size (slot_stmts_view body.now) 64) }
+    ensures few { IfOk result (λ x. length x.code.items ≤ 16384) }
+    ensures near { IfOk result (λ x. x.memory ≤ size + 4096) }
+    ensures wrong { IfErr result (λ e. e ≡ CompileError.NotLinked
+        → ¬ (ProgramLinked (slot_library_view library.now) base size (slot_stmts_view body.now) 64)) }
+{
+    if size > MEMORY - FUNCTION_PLACES {
+        return Err(CompileError::TooManyPlaces);
+    }
+    let roomy = compile_within(alloc, library, base, size, size + FUNCTION_PLACES, body)?;
+    let memory = needed(size, &roomy.code);
+    if memory < roomy.memory {
+        if let Ok(tight) = compile_within(alloc, library, base, size, memory, body) {
+            return Ok(tight);
+        }
+    }
+    Ok(roomy)
+}

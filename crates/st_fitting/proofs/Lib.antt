@@ -1,0 +1,4 @@
+mod Options
+mod Selected
+mod Linked
+mod Statements
