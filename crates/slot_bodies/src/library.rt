@@ -15,9 +15,10 @@ pub struct SlotFunction {
     pub body: Vec<SlotStmt>,
 }
 
-/// The functions, and the bodies of the blocks, by their numbers.
+/// The functions, and the bodies of the blocks, by their numbers. None stands for one whose own variables take more
+/// slots than any layout has room for: no program has room for it.
 #[derive(Drop)]
 pub struct SlotLibrary {
-    pub functions: Vec<SlotFunction>,
-    pub blocks: Vec<Vec<SlotStmt>>,
+    pub functions: Vec<Option<SlotFunction>>,
+    pub blocks: Vec<Option<Vec<SlotStmt>>>,
 }
