@@ -1,3 +1,4 @@
+pub mod CallLemmas
 pub mod CompositionLemmas
 pub mod ExpansionLemmas
 pub mod GrowthLemmas

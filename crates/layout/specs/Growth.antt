@@ -1,10 +1,13 @@
 -- What a part of a variable adds to a layout, and when there is no room for it.
-use Rattle.std.specs.Prelude.{◌≡◌, ℕ, ◌+◌, nat_lt, ◌++◌, ◌||◌, true}
+use Rattle.std.specs.Prelude.{◌≡◌, ℕ, ◌+◌, nat_lt, List, ◌++◌, Bool, ◌||◌, true}
 use Rattle.st_words.specs.declared.limits.TheConstants.{MAX_PATHS}
 use Rattle.st_types.specs.NameTypes.{Declared}
 use Rattle.st_layouts.specs.Shapes.{instance_count}
 use Rattle.st_layouts.specs.Types as made
 use Rattle.st_layouts.specs.Types.{shape_within}
+use Rattle.st_layouts.specs.LayoutVariables.{Owned}
+use Rattle.st_layouts.specs.TextLayouts.{instances_of}
+use Rattle.layout.specs.Layouts.{layout_size}
 use Rattle.layout.specs.Slots.{path_at, slots_within}
 use Rattle.layout.specs.declared.growing.Growing.{Growing}
 use Rattle.layout.specs.declared.layout_error.LayoutError.{LayoutError}
@@ -16,6 +19,10 @@ use Rattle.layout.specs.declared.slots.Root.{Root}
 pub record Grows (n : ℕ) (text : Declared) (s : made.Site) (r : Root) (old new : Growing) : Type 0 where
   pub slots : new.slots.items ≡ old.slots.items ++ slots_within n text s r.is_input (path_at r old.trail.items)
   pub instances : new.instances ≡ old.instances + instance_count (shape_within n text s.declared)
+
+-- variables have more slots or more instances than a layout has room for
+abbrev pub is_too_large : Declared → List Owned → Bool
+is_too_large text vs = nat_lt MAX_PATHS (layout_size text vs) || nat_lt MAX_INSTANCES (instances_of text vs)
 
 -- so many slots or so many instances are too many, where that is what the error says
 abbrev pub Exceeds : ℕ → ℕ → LayoutError → Type 0

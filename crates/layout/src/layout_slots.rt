@@ -61,7 +61,7 @@ fn push_variable<'a>(
 }
 
 /// Appends the slots of variables of one owner.
-fn push_variables<'a>(
+pub fn push_variables<'a>(
     alloc: Global,
     grown: &mut Growing<'a>,
     types: &Types<'a>,

@@ -4,6 +4,7 @@
 #![tactic(auto)]
 
 mod block_members;
+mod calls;
 mod compositions;
 mod configurations;
 mod elements;
@@ -23,7 +24,9 @@ mod slots;
 mod standard_members;
 mod variables;
 
+pub use calls::fresh_values;
 pub use compositions::{Composition, Types};
+pub use configurations::{ProgramInstance, instances_in, only_configuration};
 pub use elements::count_of;
 pub use laws::{accepted_texts_declare_names_once, what_is_too_large};
 pub use layout::Layout;

@@ -143,6 +143,24 @@ fn program_sites<'a>(
     }
 }
 
+/// Variables of one owner, none of which comes from the plant.
+pub fn own_variables<'a>(
+    alloc: Global,
+    sites: &[NamedSite<'a>],
+) -> Result<Vec<Variable<'a>>, AllocError>
+    ensures { IfOk result (λ variables. (o : Option OwnerNames) → map (variable_view o) variables.items
+        ≡ map (owned_variable (option_map owner_view o)) (map named_site_view sites.now)) }
+{
+    let mut variables = Vec::new(alloc);
+    for site in sites {
+        variables.push(Variable {
+            site: *site,
+            is_input: false,
+        })?;
+    }
+    Ok(variables)
+}
+
 /// The variables of a program's instance in order.
 pub fn program_variables<'a>(
     alloc: Global,
@@ -152,13 +170,5 @@ pub fn program_variables<'a>(
         ≡ map (owned_variable (option_map owner_view o))
         (program_sites (option_map (λ u. unit_view u.now) unit.entry))) }
 {
-    let sites = program_sites(alloc, unit)?;
-    let mut variables = Vec::new(alloc);
-    for site in &sites {
-        variables.push(Variable {
-            site: *site,
-            is_input: false,
-        })?;
-    }
-    Ok(variables)
+    own_variables(alloc, &program_sites(alloc, unit)?)
 }

@@ -106,6 +106,17 @@ whole_elements text t a n w is h one all none =
     product : (c m : ℕ) → cut (c * cut m) ≡ cut (c * m)
     product c m = grind (arith)
 
+-- how many slots an array takes
+pub array_size : (text : Declared) (t : VariableType) (a : ArrayType) (n : ℕ) → composition_of text t ≡ of_elements a
+    → IsExpanded text t → n ≡ cut (size (shape_of_type text (element_of a)))
+    → cut (count_of a * n) ≡ cut (size (shape_of_type text t))
+array_size text t a n is h one =
+    ap (λ m. cut (count_of a * m)) one ∙ product (count_of a) (size (shape_of_type text (element_of a)))
+    ∙ sym (ap (λ sh. cut (size sh)) (composed_whole MAX_TYPE_DEPTH text t (of_elements a) is h))
+  where
+    product : (c m : ℕ) → cut (c * cut m) ≡ cut (c * m)
+    product c m = grind (arith)
+
 pub whole_parts : (text : Declared) (t : VariableType) (c : Composition) (w : Whole) → composition_of text t ≡ c
     → HasMembers c → IsExpanded text t → HasParts text (members_in c) w → IsWhole text t w
 whole_parts text t (of_kind k) w is some h g = absurd some

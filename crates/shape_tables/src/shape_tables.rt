@@ -16,7 +16,7 @@ ghost use Rattle.shape_tables.specs.Shapes.{is_array, is_plain, member_of};
 use crate::elements::Elements;
 use crate::members::MemberPlace;
 use crate::wholes::{Whole, add_types, add_units, standard_whole};
-use layout::{Composition, Sizes, Types, count_of};
+use layout::{Composition, Sizes, Types, count_of, product};
 use st_decl::{types_in, units_in};
 use st_names::{Index, PlaceType, standard_block};
 use st_trees::{SimpleType, Source};
@@ -70,6 +70,22 @@ impl<'a> ShapeTables<'a> {
         match declared {
             SimpleType::Elementary(_, _) => Ok(1),
             SimpleType::Named(name) => self.size_named(alloc, &name.name),
+        }
+    }
+
+    /// How many slots a variable of a type takes; 4,097 where they are more than 4,096.
+    pub fn size(&self, alloc: Global, declared: PlaceType<'a>) -> Result<usize, AllocError>
+        ensures { IfOk result (λ n. (text : Declared) → ServesShapes self.now text
+            → IsExpanded text (place_type_view declared.entry)
+            → n ≡ cut (size (shape_of_type text (place_type_view declared.entry)))) }
+    {
+        match declared {
+            PlaceType::Simple(simple) => self.size_of_simple(alloc, simple),
+            PlaceType::Array(array) => {
+                let stride = self.size_of_simple(alloc, &array.element)?;
+                Ok(product(count_of(array), stride))
+            }
+            PlaceType::Standard(_) => Ok(1),
         }
     }
 

@@ -15,4 +15,4 @@ mod statements;
 pub use body_table::{BodyTable, LinkSymbol};
 pub use expressions::link;
 pub use link_error::LinkError;
-pub use statements::link_statements;
+pub use statements::{link_control, link_statements};

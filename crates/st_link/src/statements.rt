@@ -25,8 +25,8 @@ use st_trees::{Arm, CaseArm, Expr, Stmt};
 use st_words::Identifier;
 use std::alloc::Global;
 
-/// The slot of a control variable.
-fn link_control(table: &BodyTable, name: &Identifier) -> Result<Anchor, LinkError>
+/// The slot of a variable that is elementary and no input: of a control variable, or of what a call fills.
+pub fn link_control(table: &BodyTable, name: &Identifier) -> Result<Anchor, LinkError>
     ensures linked { IfOk result (λ a. (text : Declared) (t : Table) → ServesBody table.now text t
         → option_and_then control_of (symbol_of t.symbols name.now.name) ≡ Some (anchor_view a)) }
     ensures none { IfErr result (λ e. e ≡ LinkError.NotThere → (text : Declared) (t : Table)

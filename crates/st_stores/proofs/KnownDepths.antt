@@ -23,7 +23,7 @@ use Rattle.st_types.specs.StandardFunctions.{standard_of}
 use Rattle.st_statics.specs.Containment.{elementary, named, row, part_of_type, parts_of_unit, parts_of_definition}
 use Rattle.st_statics.specs.Containment.{parts_of_standard, parts_named, has_chain, is_too_deep, is_wrong_unit}
 use Rattle.st_statics.specs.Containment.{too_deep_types, too_deep_units, too_deep_array, too_deep}
-use Rattle.st_statics.specs.DeclaredTypes.{variable_of, Declaring, array_of_type, unnamed_arrays_in}
+use Rattle.st_statics.specs.DeclaredTypes.{variable_of, Declaring, array_of_type, declarings_in, unnamed_arrays_in}
 use Rattle.st_statics.specs.Environments.{is_block}
 use Rattle.st_statics.specs.Faults.{in_case}
 use Rattle.st_statics.specs.NameScopes.{names_of_element}
@@ -37,7 +37,7 @@ use Rattle.st_sound.proofs.Among.{Among, here, in_flat, none_of, none_passes}
 use Rattle.st_sound.proofs.ApartNames.{NamesRight}
 use Rattle.st_sound.proofs.BodyRunLaw.{own_block}
 use Rattle.st_sound.proofs.FoundNames.{FoundVariable, unit_found, unit_in, type_found, variable_found}
-use Rattle.st_sound.proofs.KnownTypes.{TypesRight, variable_among, variable_sound}
+use Rattle.st_sound.proofs.KnownTypes.{TypesRight, sound_declared, variable_among, variable_sound}
 use Rattle.st_layouts.specs.Types.{is_within_depth}
 use Rattle.st_layouts.proofs.LibraryLemmas.{no_enumeration}
 use Rattle.st_layouts.proofs.ListLemmas.{same_name}
@@ -195,3 +195,25 @@ module _ (source : Source) (right : TypesRight source) (names : NamesRight sourc
       → variable_type u x ≡ Some t → is_within_depth MAX_TYPE_DEPTH (declared_in source) t ≡ true
   depths_known u unit x t h =
       without_chain text not_standard MAX_TYPE_DEPTH t (variable_shallow u unit x t h)
+
+  -- whatever is declared
+  unnamed_shallow : (d : Declaring) → Among d (declarings_in source) → (a : ArrayType) → d.declared ≡ types.Array a
+      → has_chain text (MAX_TYPE_DEPTH + 1) (row a.element) ≡ false
+  unnamed_shallow d among a is =
+      no_case (is_too_deep text (row a.element)) a.place
+      (none_of (too_deep_array text)
+      (in_flat (λ (e : Declaring). array_of_type e.declared) among
+      (subst (λ (t : VariableType). Among a (array_of_type t)) (sym is) here)) arrays_shallow)
+
+  declaring_shallow : (d : Declaring) → Among d (declarings_in source) → (t : VariableType) → d.declared ≡ t
+      → has_chain text (MAX_TYPE_DEPTH + 1) (part_of_type t) ≡ false
+  declaring_shallow d among (types.Array a) is = unnamed_shallow d among a is
+  declaring_shallow d among (types.Simple (Elementary k at)) is = elementary_shallow text
+  declaring_shallow d among (types.Simple (Named y)) is =
+      named_shallow y (sound_declared source right d among (types.Simple (Named y)) is) (type_named text.types y.name)
+      refl
+
+  pub declared_depths : (d : Declaring) → Among d (declarings_in source)
+      → is_within_depth MAX_TYPE_DEPTH (declared_in source) d.declared ≡ true
+  declared_depths d among =
+      without_chain text not_standard MAX_TYPE_DEPTH d.declared (declaring_shallow d among d.declared refl)

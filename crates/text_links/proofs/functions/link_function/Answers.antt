@@ -1,0 +1,68 @@
+use Rattle.std.proofs.Common.{rules, ◌≡◌, ap, sym, subst, ◌∙◌, ◌∷◌, map, true, false, None}
+use Rattle.std.specs.Prelude.{not}
+use Rattle.st_trees.specs.DeclarationViews.{variable_block_view}
+use Rattle.st_trees.specs.UnitViews.{unit_view}
+use Rattle.st_layouts.specs.LayoutVariables.{owned_variable}
+use Rattle.st_layouts.specs.Libraries.{fresh_values, result_site}
+use Rattle.st_layouts.specs.Types.{sites_of_blocks}
+use Rattle.st_layouts.specs.TextLayouts.{instances_of}
+use Rattle.layout.specs.Growth.{Exceeds, is_too_large}
+use Rattle.layout.specs.Layouts.{are_expandable, layout_size}
+use Rattle.slot_trees.specs.LinkedTexts.{values_of_fresh}
+use Rattle.slot_trees.specs.TextLinks.{linked_function, sites_of_call}
+use Rattle.slot_bodies.specs.LibraryViews.{slot_function_view}
+use Rattle.st_link.proofs.ErrorLemmas.{none_then}
+use Rattle.text_links.specs.KeptTexts.{function_fits}
+use Rattle.text_links.proofs.FunctionLinks.{function_small, whole_expandable}
+use Rattle.text_links.proofs.UnitLinks.{kept_nowhere, kept_out, kept_there}
+use Rattle.text_links.proofs.functions.link_function.Goals as goal
+
+pub returns-in_err-link_with-in-Ok-clause-none : goal.returns-in_err-link_with-in-Ok-clause-none
+returns-in_err-link_with-in-Ok-clause-none c =
+    let r = c.args.returned.now in
+    let u = unit_view c.args.unit.now in
+    none_then _ c.in_err-link_with-in-Ok.field-0.0 _ _ c.in_err-link_with-in-Ok.ensures.none
+    (λ h text globals serves whole.
+    let sound = ap (λ bs. are_expandable text (map (owned_variable None)
+    (result_site r u.name.name ∷ sites_of_blocks (map variable_block_view bs)))) c.deref.ensures.value
+    ∙ whole_expandable text r u whole in
+    let few : is_too_large text (map (owned_variable None) (sites_of_call r u)) ≡ false =
+    sym (ap (λ bs. is_too_large text (map (owned_variable None)
+    (result_site r u.name.name ∷ sites_of_blocks (map variable_block_view bs)))) c.deref.ensures.value)
+    ∙ c.in-Ok.ensures.room text serves.types sound in
+    kept_nowhere (function_fits text r u) (linked_function text r u) (ap not few)
+    (h text globals serves whole (function_small text r u few))) (search rules)
+
+pub returns-in_ok-link_with-in-Ok-clause-linked : goal.returns-in_ok-link_with-in-Ok-clause-linked
+returns-in_ok-link_with-in-Ok-clause-linked c text globals serves whole =
+    let r = c.args.returned.now in
+    let u = unit_view c.args.unit.now in
+    let sound = ap (λ bs. are_expandable text (map (owned_variable None)
+    (result_site r u.name.name ∷ sites_of_blocks (map variable_block_view bs)))) c.deref.ensures.value
+    ∙ whole_expandable text r u whole in
+    let few : is_too_large text (map (owned_variable None) (sites_of_call r u)) ≡ false =
+    sym (ap (λ bs. is_too_large text (map (owned_variable None)
+    (result_site r u.name.name ∷ sites_of_blocks (map variable_block_view bs)))) c.deref.ensures.value)
+    ∙ c.in-Ok.ensures.room text serves.types sound in
+    let fresh = c.in-Ok.ensures.ok text serves.types sound
+    ∙ ap (λ bs. values_of_fresh (fresh_values text
+    (result_site r u.name.name ∷ sites_of_blocks (map variable_block_view bs)))) c.deref.ensures.value in
+    kept_there (function_fits text r u) (linked_function text r u)
+    (slot_function_view c.in_ok-link_with-in-Ok.field-0) (ap not few)
+    (c.in_ok-link_with-in-Ok.ensures.linked text globals serves whole (function_small text r u few) fresh)
+
+pub returns-in-Err-TooLarge-clause-linked : goal.returns-in-Err-TooLarge-clause-linked
+returns-in-Err-TooLarge-clause-linked c text globals serves whole =
+    let r = c.args.returned.now in
+    let u = unit_view c.args.unit.now in
+    let sound = ap (λ bs. are_expandable text (map (owned_variable None)
+    (result_site r u.name.name ∷ sites_of_blocks (map variable_block_view bs)))) c.deref.ensures.value
+    ∙ whole_expandable text r u whole in
+    let vs = map (owned_variable None)
+    (result_site r u.name.name ∷ sites_of_blocks (map variable_block_view c.deref.result.now)) in
+    let large : is_too_large text (map (owned_variable None) (sites_of_call r u)) ≡ true =
+    sym (ap (λ bs. is_too_large text (map (owned_variable None)
+    (result_site r u.name.name ∷ sites_of_blocks (map variable_block_view bs)))) c.deref.ensures.value)
+    ∙ subst (λ e. Exceeds (layout_size text vs) (instances_of text vs) e) c.in-Err-TooLarge.field-0-is
+    (c.in-Err-TooLarge.ensures.err text serves.types sound) in
+    kept_out (function_fits text r u) (linked_function text r u) (ap not large)

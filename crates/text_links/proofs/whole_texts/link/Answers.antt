@@ -1,0 +1,57 @@
+use Rattle.std.proofs.Common.{◌≡◌, ◌≤◌, ap, sym, subst, ◌∙◌, length, None, Some}
+use Rattle.std.proofs.lemmas.Result.{IfErr-weaker, IfOk-weaker}
+use Rattle.st_words.specs.declared.limits.TheConstants.{MAX_PATHS}
+use Rattle.st_trees.specs.Sources.{Source}
+use Rattle.st_trees.specs.SourceViews.{source_view}
+use Rattle.st_types.specs.ResolvedUnits.{resolved_source}
+use Rattle.st_layouts.specs.LayoutVariables.{configuration_of, declared_of, layout_variables}
+use Rattle.st_layouts.specs.TextLayouts.{slots_of_text}
+use Rattle.st_layouts.proofs.ListLemmas.{some_is}
+use Rattle.st_link.specs.declared.link_error.LinkError.TheVariants.{NotThere}
+use Rattle.text_links.specs.Accepted.{IsAccepted, IsLinked}
+use Rattle.text_links.specs.KeptTexts.{IsKeptLink}
+use Rattle.text_links.specs.Linked.{linked_text_view}
+use Rattle.text_links.specs.Orderly.{IsOrderlySource, kept_of}
+use Rattle.text_links.proofs.AcceptedTexts.{accepted_orderly}
+use Rattle.text_links.proofs.KeptLemmas.{text_kept}
+use Rattle.text_links.proofs.whole_texts.link.Goals as goal
+
+pub returns-clause-ok : goal.returns-clause-ok
+returns-clause-ok c =
+    IfOk-weaker c.link_source.result _ (λ linked. (text : Source)
+    → source_view c.args.source.now ≡ resolved_source text → IsAccepted text
+    → length (slots_of_text text) ≤ MAX_PATHS → IsLinked text (linked_text_view linked))
+    (λ linked is text seen a room.
+    let law = c.texts_that_break_no_rule_are_linked.ensures text a.configuration a.well_typed a.functions a.only
+    a.known in
+    let orderly = accepted_orderly text a.well_typed a.configuration a.only law.link.names law.link.units
+    c.leaves_of_shapes.ensures.count room in
+    let has = text_kept (declared_of text) (layout_variables text) (configuration_of text) law.linked law.link.is in
+    let made : kept_of (resolved_source text) ≡ Some (linked_text_view linked) =
+    ap kept_of (sym seen) ∙ is (subst IsOrderlySource (sym seen) orderly) in
+    let same : has.kept ≡ linked_text_view linked = some_is (sym has.is ∙ made) in
+    record {
+      is = made;
+      whole = law.linked;
+      linked = law.link.is;
+      part = subst (λ k. IsKeptLink k law.linked) same has.link;
+    })
+    c.link_source.ensures.linked
+
+pub returns-clause-there : goal.returns-clause-there
+returns-clause-there c =
+    IfErr-weaker c.link_source.result _ (λ e. (text : Source)
+    → source_view c.args.source.now ≡ resolved_source text → IsAccepted text
+    → length (slots_of_text text) ≤ MAX_PATHS → e ≡ NotThere → ⊥)
+    (λ e none text seen a room not_there.
+    let law = c.texts_that_break_no_rule_are_linked.ensures text a.configuration a.well_typed a.functions a.only
+    a.known in
+    let orderly = accepted_orderly text a.well_typed a.configuration a.only law.link.names law.link.units
+    c.leaves_of_shapes.ensures.count room in
+    let has = text_kept (declared_of text) (layout_variables text) (configuration_of text) law.linked law.link.is in
+    let made : kept_of (resolved_source text) ≡ None =
+    ap kept_of (sym seen) ∙ none not_there (subst IsOrderlySource (sym seen) orderly) in
+    let there = has.is in
+    let clash : Some has.kept ≡ None = sym there ∙ made in
+    cc)
+    c.link_source.ensures.none

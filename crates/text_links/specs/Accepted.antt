@@ -1,0 +1,27 @@
+-- A text that is accepted, and its linked form.
+use Rattle.std.specs.Prelude.{◌≡◌, Some, true}
+use Rattle.st_trees.specs.Configurations.{Configuration}
+use Rattle.st_trees.specs.Sources.{Source}
+use Rattle.st_types.specs.NameTypes.{declared_in}
+use Rattle.st_statics.specs.ConfigurationRules.{are_known}
+use Rattle.st_statics.specs.Rules.{IsWellTyped}
+use Rattle.st_layouts.specs.LayoutVariables.{configurations_in, only_configuration}
+use Rattle.st_stores.specs.WellTypedRuns.{HaveFunctionsNoExternals}
+use Rattle.slot_trees.specs.TextLinks.{LinkedText, linked_source}
+use Rattle.text_links.specs.KeptTexts.{IsKeptLink, KeptText, kept_source}
+
+-- It breaks no rule, and has one configuration, in which all names are known. The grammar gives no function externals.
+pub record IsAccepted (source : Source) : Type 0 where
+  pub well_typed : IsWellTyped source
+  pub functions : HaveFunctionsNoExternals source
+  pub configuration : Configuration
+  pub only : only_configuration (configurations_in source) ≡ Some configuration
+  pub known : are_known (declared_in source) configuration ≡ true
+
+-- This is the text's linked form, in which a function or a block is left out exactly where its own variables are more
+-- than any layout has room for.
+pub record IsLinked (source : Source) (kept : KeptText) : Type 0 where
+  pub is : kept_source source ≡ Some kept
+  pub whole : LinkedText
+  pub linked : linked_source source ≡ Some whole
+  pub part : IsKeptLink kept whole

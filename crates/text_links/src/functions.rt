@@ -1,0 +1,119 @@
+//! Functions linked.
+
+ghost use Rattle.std.specs.Prelude.{◌≡◌, ◌≤◌, ◌∷◌, List, None, Some, map, option_map, IfErr, IfOk, true};
+ghost use Rattle.st_words.specs.declared.limits.TheConstants.{MAX_PATHS};
+ghost use Rattle.st_trees.specs.UnitViews.{unit_view};
+ghost use Rattle.st_types.specs.NameTypes.{Declared};
+ghost use Rattle.st_layouts.specs.Libraries.{fresh_values};
+ghost use Rattle.slot_trees.specs.LinkedTexts.{values_of_fresh};
+ghost use Rattle.slot_trees.specs.TextLinks.{call_slot, call_slots, linked_function, sites_of_call};
+ghost use Rattle.slot_trees.specs.Tables.{Table};
+ghost use Rattle.slot_bodies.specs.LibraryViews.{slot_function_view};
+ghost use Rattle.st_link.specs.BodyTables.{ServesBody};
+ghost use Rattle.text_links.specs.FirstSlots.{slots_taken};
+ghost use Rattle.text_links.specs.KeptTexts.{kept_function};
+ghost use Rattle.text_links.specs.LinkVariables.{LinkVariable, are_whole, result_of, variables_of_blocks};
+ghost use Rattle.text_links.specs.Tables.{ServesLinks};
+
+use crate::declared_names::inputs_of;
+use crate::text_tables::TextTables;
+use crate::unit_tables::unit_table;
+use crate::variables::{variables_of_blocks, variables_of_function};
+use layout::{LayoutError, fresh_values};
+use slot_bodies::{Anchor, SlotFunction};
+use st_link::{BodyTable, LinkError, link_control, link_statements};
+use st_trees::{SimpleType, Unit};
+use st_words::{Identifier, Value};
+use std::alloc::Global;
+
+/// The slot of a function's input or result.
+fn link_slot(table: &BodyTable, name: &Identifier) -> Result<usize, LinkError>
+    ensures linked { IfOk result (λ slot. (text : Declared) (t : Table) → ServesBody table.now text t
+        → call_slot t.symbols name.now.name ≡ Some slot) }
+    ensures none { IfErr result (λ e. e ≡ LinkError.NotThere → (text : Declared) (t : Table)
+        → ServesBody table.now text t → call_slot t.symbols name.now.name ≡ None) }
+{
+    match link_control(table, name)? {
+        Anchor::Own(slot) => Ok(slot),
+        Anchor::Absolute(slot) => Ok(slot),
+    }
+}
+
+/// The slots of a function's inputs, in order.
+fn link_slots(
+    alloc: Global,
+    table: &BodyTable,
+    names: &[&Identifier],
+) -> Result<Vec<usize>, LinkError>
+    ensures linked { IfOk result (λ slots. (text : Declared) (t : Table) → ServesBody table.now text t
+        → call_slots t.symbols (map (λ x. x.now.name) names.now) ≡ Some slots.items) }
+    ensures none { IfErr result (λ e. e ≡ LinkError.NotThere → (text : Declared) (t : Table)
+        → ServesBody table.now text t → call_slots t.symbols (map (λ x. x.now.name) names.now) ≡ None) }
+{
+    let mut slots = Vec::new(alloc);
+    for name in names {
+        slots.push(link_slot(table, name)?)?;
+    }
+    Ok(slots)
+}
+
+/// A function whose calls begin with these values.
+fn link_with<'a>(
+    alloc: Global,
+    tables: &TextTables<'a>,
+    unit: &'a Unit,
+    returned: &'a SimpleType,
+    fresh: Vec<Value>,
+) -> Result<SlotFunction, LinkError>
+    ensures linked { IfOk result (λ function. (text : Declared) (globals : List LinkVariable)
+        → ServesLinks tables.now text globals → are_whole text
+        (result_of unit.now.name.name returned.now ∷ variables_of_blocks (unit_view unit.now).blocks) ≡ true
+        → slots_taken text
+        (result_of unit.now.name.name returned.now ∷ variables_of_blocks (unit_view unit.now).blocks) ≤ MAX_PATHS
+        → fresh.items ≡ values_of_fresh (fresh_values text (sites_of_call returned.now (unit_view unit.now)))
+        → linked_function text returned.now (unit_view unit.now) ≡ Some (slot_function_view function)) }
+    ensures none { IfErr result (λ e. e ≡ LinkError.NotThere → (text : Declared) (globals : List LinkVariable)
+        → ServesLinks tables.now text globals → are_whole text
+        (result_of unit.now.name.name returned.now ∷ variables_of_blocks (unit_view unit.now).blocks) ≡ true
+        → slots_taken text
+        (result_of unit.now.name.name returned.now ∷ variables_of_blocks (unit_view unit.now).blocks) ≤ MAX_PATHS
+        → linked_function text returned.now (unit_view unit.now) ≡ None) }
+{
+    let own = variables_of_blocks(alloc, &unit.blocks)?;
+    if tables.has_instances(&own) {
+        return Err(LinkError::NotThere);
+    }
+    let variables = variables_of_function(alloc, &unit.name.name, returned, &unit.blocks)?;
+    let made = unit_table(alloc, tables, &[], Anchor::Own(0), &variables, &[])?;
+    let inputs = inputs_of(alloc, &unit.blocks)?;
+    Ok(SlotFunction {
+        fresh,
+        inputs: link_slots(alloc, &made.table, &inputs)?,
+        result: link_slot(&made.table, &unit.name)?,
+        body: link_statements(alloc, &made.table, &unit.body)?,
+    })
+}
+
+/// A function; None where its variables are more than a layout has room for.
+pub fn link_function<'a>(
+    alloc: Global,
+    tables: &TextTables<'a>,
+    unit: &'a Unit,
+    returned: &'a SimpleType,
+) -> Result<Option<SlotFunction>, LinkError>
+    ensures linked { IfOk result (λ function. (text : Declared) (globals : List LinkVariable)
+        → ServesLinks tables.now text globals → are_whole text
+        (result_of unit.now.name.name returned.now ∷ variables_of_blocks (unit_view unit.now).blocks) ≡ true
+        → kept_function text returned.now (unit_view unit.now) ≡ Some (option_map slot_function_view function)) }
+    ensures none { IfErr result (λ e. e ≡ LinkError.NotThere → (text : Declared) (globals : List LinkVariable)
+        → ServesLinks tables.now text globals → are_whole text
+        (result_of unit.now.name.name returned.now ∷ variables_of_blocks (unit_view unit.now).blocks) ≡ true
+        → kept_function text returned.now (unit_view unit.now) ≡ None) }
+{
+    let name = &unit.name.name;
+    match fresh_values(alloc, &tables.types, name, returned, &unit.blocks) {
+        Ok(fresh) => Ok(Some(link_with(alloc, tables, unit, returned, fresh)?)),
+        Err(LayoutError::TooLarge) => Ok(None),
+        Err(LayoutError::OutOfMemory) => Err(LinkError::OutOfMemory),
+    }
+}

@@ -1,0 +1,52 @@
+//! Numbers of functions and blocks: their positions among those of the text.
+
+ghost use Rattle.std.specs.Prelude.{◌≡◌, List, ℕ, map, IfOk};
+ghost use Rattle.st_trees.specs.UnitViews.{unit_view};
+ghost use Rattle.st_names.specs.Found.{found};
+ghost use Rattle.slot_trees.specs.Tables.{named_in};
+ghost use Rattle.slot_trees.specs.TextNumbers.{block_names, function_names, numbered_from};
+
+use st_names::Index;
+use st_trees::{Unit, UnitSort};
+use st_words::Name;
+use std::alloc::{AllocError, Global};
+
+/// The names of functions, in order.
+pub fn function_names<'a>(alloc: Global, units: &[&'a Unit]) -> Result<Vec<&'a Name>, AllocError>
+    ensures { IfOk result (λ names. map (λ x. x.now) names.items
+        ≡ function_names (map (λ u. unit_view u.now) units.now)) }
+{
+    let mut names = Vec::new(alloc);
+    for unit in units {
+        if let UnitSort::Function(_) = unit.sort {
+            names.push(&unit.name.name)?;
+        }
+    }
+    Ok(names)
+}
+
+/// The names of blocks, in order.
+pub fn block_names<'a>(alloc: Global, units: &[&'a Unit]) -> Result<Vec<&'a Name>, AllocError>
+    ensures { IfOk result (λ names. map (λ x. x.now) names.items
+        ≡ block_names (map (λ u. unit_view u.now) units.now)) }
+{
+    let mut names = Vec::new(alloc);
+    for unit in units {
+        if let UnitSort::FunctionBlock = unit.sort {
+            names.push(&unit.name.name)?;
+        }
+    }
+    Ok(names)
+}
+
+/// The position of each name; of several of one name the first.
+pub fn numbered<'a>(alloc: Global, names: &[&'a Name]) -> Result<Index<'a, usize>, AllocError>
+    ensures { IfOk result (λ numbers. (x : List ℕ) → found numbers x
+        ≡ named_in (numbered_from 0 (map (λ y. y.now) names.now)) x) }
+{
+    let mut numbers = Index::new(alloc);
+    for (number, name) in names.iter().enumerate() {
+        numbers.add(name, number)?;
+    }
+    Ok(numbers)
+}

@@ -1,0 +1,163 @@
+//! What the names of a text stand for, whatever unit has them.
+
+ghost use Rattle.std.specs.Prelude.{◌≡◌, ◌≤◌, List, ℕ, map, None, option_and_then, option_map, IfOk, true};
+ghost use Rattle.st_words.specs.declared.limits.TheConstants.{MAX_PATHS};
+ghost use Rattle.st_trees.specs.SourceViews.{source_view};
+ghost use Rattle.st_trees.specs.declared.data_type.SimpleType.TheVariants.{Named};
+ghost use Rattle.st_trees.specs.declared.data_type.VariableType.TheVariants as types;
+ghost use Rattle.st_types.specs.NameTypes.{Declared, declared_in, unit_named};
+ghost use Rattle.st_types.specs.Scopes.{block_named};
+ghost use Rattle.st_types.specs.StandardBlocks.{block_of};
+ghost use Rattle.st_names.specs.Found.{found};
+ghost use Rattle.st_names.specs.PlaceTypes.{place_type_view};
+ghost use Rattle.st_layouts.specs.Types.{instance_of, own_block_type};
+ghost use Rattle.layout.specs.Sizes.{cut};
+ghost use Rattle.slot_trees.specs.Tables.{named_in};
+ghost use Rattle.slot_trees.specs.TextNumbers.{numbers_of};
+ghost use Rattle.slot_bodies.specs.StatementViews.{block_code_view};
+ghost use Rattle.text_links.specs.FirstSlots.{slots_taken};
+ghost use Rattle.text_links.specs.LinkVariables.{LinkVariable, are_whole, variable_view};
+ghost use Rattle.text_links.specs.Tables.{IsCode, ServesLinks, has_some, instances_in};
+
+use crate::numbers::{block_names, function_names, numbered};
+use crate::symbols::add_variables;
+use crate::variables::Variable;
+use layout::Types;
+use shape_tables::ShapeTables;
+use slot_bodies::{Anchor, BlockCode};
+use st_decl::units_in;
+use st_link::LinkSymbol;
+use st_names::{Index, PlaceType, TextNames, standard_block};
+use st_trees::{SimpleType, Source, UnitSort};
+use st_words::Identifier;
+use std::alloc::{AllocError, Global};
+
+/// The types and units of a text, the numbers of its functions and blocks, and its globals.
+#[derive(Drop)]
+pub struct TextTables<'a> {
+    pub names: TextNames<'a>,
+    pub types: Types<'a>,
+    pub shapes: ShapeTables<'a>,
+    pub functions: Index<'a, usize>,
+    pub blocks: Index<'a, usize>,
+    pub globals: Index<'a, LinkSymbol<'a>>,
+    /// How many slots the globals take; 4,097 where they are more than 4,096.
+    pub global_slots: usize,
+}
+
+impl<'a> TextTables<'a> {
+    /// The tables of a text with these globals.
+    pub fn new(
+        alloc: Global,
+        source: &'a Source,
+        variables: &[Variable<'a>],
+    ) -> Result<TextTables<'a>, AllocError>
+        ensures serves { IfOk result (λ tables.
+            are_whole (declared_in (source_view source.now)) (map variable_view variables.now) ≡ true
+            → slots_taken (declared_in (source_view source.now)) (map variable_view variables.now) ≤ MAX_PATHS
+            → ServesLinks tables (declared_in (source_view source.now)) (map variable_view variables.now)) }
+        ensures slots { IfOk result (λ tables.
+            are_whole (declared_in (source_view source.now)) (map variable_view variables.now) ≡ true
+            → tables.global_slots
+            ≡ cut (slots_taken (declared_in (source_view source.now)) (map variable_view variables.now))) }
+    {
+        let units = units_in(alloc, source)?;
+        let shapes = ShapeTables::new(alloc, source)?;
+        let mut globals = Index::new(alloc);
+        let hidden = Index::new(alloc);
+        let first = Anchor::Absolute(0);
+        let global_slots = add_variables(alloc, &shapes, &mut globals, &hidden, first, variables)?;
+        Ok(TextTables {
+            names: TextNames::new(alloc, source)?,
+            types: Types::new(alloc, source)?,
+            shapes,
+            functions: numbered(alloc, &function_names(alloc, &units)?)?,
+            blocks: numbered(alloc, &block_names(alloc, &units)?)?,
+            globals,
+            global_slots,
+        })
+    }
+
+    /// The block of this name that the text declares, where no standard one has it.
+    fn own_block(&self, name: &Identifier) -> Option<BlockCode>
+        ensures { (text : Declared) (globals : List LinkVariable) → ServesLinks self.now text globals
+            → block_of name.now.name ≡ None
+            → IsCode text result (own_block_type (unit_named text.units name.now.name)) }
+    {
+        let unit = self.names.unit_named(&name.name)?;
+        match unit.sort {
+            UnitSort::Function(_) => None,
+            UnitSort::FunctionBlock => Some(BlockCode::Own(self.blocks.find(&unit.name.name)?)),
+            UnitSort::Program => None,
+        }
+    }
+
+    /// The block of a type's name, where what has the type is an instance.
+    fn block_named(&self, name: &Identifier) -> Option<BlockCode>
+        ensures { (text : Declared) (globals : List LinkVariable) → ServesLinks self.now text globals
+            → IsCode text result (instance_of text (types.Simple (Named name.now))) }
+    {
+        if self.names.type_named(&name.name).is_some() {
+            return None;
+        }
+        match standard_block(&name.name) {
+            Some(block) => Some(BlockCode::Standard(block)),
+            None => self.own_block(name),
+        }
+    }
+
+    fn block_of_simple(&self, declared: &SimpleType) -> Option<BlockCode>
+        ensures { (text : Declared) (globals : List LinkVariable) → ServesLinks self.now text globals
+            → IsCode text result (instance_of text (types.Simple declared.now)) }
+    {
+        match declared {
+            SimpleType::Elementary(_, _) => None,
+            SimpleType::Named(name) => self.block_named(name),
+        }
+    }
+
+    /// The block of which a variable of the type is an instance.
+    fn block_behind(&self, declared: PlaceType<'a>) -> Option<BlockCode>
+        ensures { (text : Declared) (globals : List LinkVariable) → ServesLinks self.now text globals
+            → IsCode text result (instance_of text (place_type_view declared.entry)) }
+    {
+        match declared {
+            PlaceType::Simple(simple) => self.block_of_simple(simple),
+            PlaceType::Array(_) => None,
+            PlaceType::Standard(_) => None,
+        }
+    }
+
+    /// The blocks of the instances among variables.
+    pub fn codes_of(
+        &self,
+        alloc: Global,
+        variables: &[Variable<'a>],
+    ) -> Result<Index<'a, BlockCode>, AllocError>
+        ensures { IfOk result (λ codes. (text : Declared) (globals : List LinkVariable) (x : List ℕ)
+            → ServesLinks self.now text globals → option_map block_code_view (found codes x)
+            ≡ option_and_then (named_in (numbers_of text).blocks)
+            (block_named (instances_in text (map variable_view variables.now)) x)) }
+    {
+        let mut codes = Index::new(alloc);
+        for variable in variables {
+            if let Some(code) = self.block_behind(variable.declared) {
+                codes.add(variable.name, code)?;
+            }
+        }
+        Ok(codes)
+    }
+
+    /// Whether some of the variables are instances.
+    pub fn has_instances(&self, variables: &[Variable<'a>]) -> bool
+        ensures { (text : Declared) (globals : List LinkVariable) → ServesLinks self.now text globals
+            → result ≡ has_some (instances_in text (map variable_view variables.now)) }
+    {
+        for variable in variables {
+            if self.block_behind(variable.declared).is_some() {
+                return true;
+            }
+        }
+        false
+    }
+}
