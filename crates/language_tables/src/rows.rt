@@ -28,6 +28,7 @@
 //! | `same FORM` | whether the two texts with ` // ` between them have one tree of that form |
 //! | `declared` | a rule on declarations that the text breaks, or that there is none |
 //! | `checked` | a rule that the text breaks, or that there is none |
+//! | `configured` | what is wrong with its configuration, or that there is nothing |
 //! | `layout` | the slots of its layout, each with its type, and `input`, or what it starts with and `retained` |
 //! | `slots` | how many these are |
 //! | `sizes` | of each declaration of a unit the first name and the size of its type |
@@ -52,9 +53,14 @@ use std::alloc::{AllocError, Global};
 /// What is answered of the tokens of a text.
 fn part(out: &mut Answer, alloc: Global, word: &str, tokens: &[Token]) {
     match word {
-        "source" | "declarations" | "declared" | "checked" | "layout" | "slots" | "sizes" => {
-            shown_source(out, alloc, word, tokens)
-        }
+        "source"
+        | "declarations"
+        | "declared"
+        | "checked"
+        | "configured"
+        | "layout"
+        | "slots"
+        | "sizes" => shown_source(out, alloc, word, tokens),
         "expression" => shown_expression(out, alloc, tokens),
         "initial" => shown_initial(out, alloc, tokens),
         "number" => shown_number(out, tokens),

@@ -4,6 +4,7 @@ use crate::answer::Answer;
 use crate::layouts::shown_layout;
 use crate::shown_sources::declarations;
 use st_check::check;
+use st_configured::configure;
 use st_decl::declare;
 use st_lex::{LexError, LexFault, Token, lex};
 use st_parse::{ParseError, parse};
@@ -36,11 +37,20 @@ fn checked(out: &mut Answer, alloc: Global, source: Source) {
     }
 }
 
+/// Why the text of a source has no sound configuration, or that it has one.
+fn configured(out: &mut Answer, alloc: Global, source: &Source) {
+    match configure(alloc, source) {
+        Ok(()) => out.put("none"),
+        Err(error) => out.show(&error),
+    }
+}
+
 /// What is answered of the source that the tokens are, or why they are none.
 pub fn shown_source(out: &mut Answer, alloc: Global, word: &str, tokens: &[Token]) {
     match parse(alloc, tokens) {
         Ok(source) if word == "declared" => declared(out, alloc, &source),
         Ok(source) if word == "checked" => checked(out, alloc, source),
+        Ok(source) if word == "configured" => configured(out, alloc, &source),
         Ok(source) if word == "declarations" => declarations(out, &source),
         Ok(source) if matches!(word, "layout" | "slots" | "sizes") => {
             if shown_layout(out, alloc, word, source).is_none() {
