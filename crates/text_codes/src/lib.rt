@@ -1,5 +1,5 @@
-//! The code of whole texts: each program of an accepted text is linked and compiled over the text's layout, and its code
-//! means the program.
+//! The code of whole texts: each program of an accepted text is linked and compiled over the text's layout, and its
+//! code means the program.
 #![tactic(auto)]
 
 mod codes;

@@ -19,7 +19,8 @@ loop-body-preserved c =
     subst (λ bs. AreCodesOver whole kinds bs (map code_view c.push.new.self.items))
     (sym (ap (map (λ b. slot_stmts_view b.items)) (more_taken xs i x c.loop-body-test.true c.body-item.is)
     ∙ map-append (λ b. slot_stmts_view b.items) (take i xs) (x ∷ [])))
-    (subst (λ cs. AreCodesOver whole kinds (map (λ b. slot_stmts_view b.items) (take i xs) ++ slot_stmts_view x.items ∷ [])
+    (subst (λ cs. AreCodesOver whole kinds
+    (map (λ b. slot_stmts_view b.items) (take i xs) ++ slot_stmts_view x.items ∷ [])
     cs) (sym (ap (map code_view) c.in_ok-push.ensures.items ∙ map-append code_view codes (code ∷ [])))
     (one_more whole kinds (map (λ b. slot_stmts_view b.items) (take i xs)) (map code_view codes)
     (slot_stmts_view x.items) (code_view code) (c.loop-body.invariant whole kept)

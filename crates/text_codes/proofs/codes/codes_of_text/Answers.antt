@@ -17,7 +17,8 @@ returns c =
     let link = c.in_ok-linked.ensures text is accepted layout.room in
     codes_mean text linked kinds (map code_view codes.items) link
     (told ∙ kinds_are slots _ layout.slots)
-    (subst (λ ps. AreCodesOver link.whole.library kinds (map (λ b. slot_stmts_view b.items) ps) (map code_view codes.items))
+    (subst (λ ps. AreCodesOver link.whole.library kinds (map (λ b. slot_stmts_view b.items) ps)
+    (map code_view codes.items))
     c.deref-2.ensures.value (over link.whole.library link.part.library))
     (λ n p there. c.code_of_accepted_texts_does_what_their_programs_do.ensures text accepted.configuration n p
     accepted.well_typed accepted.functions accepted.only accepted.known there)
