@@ -106,6 +106,8 @@ pub fn compile(
         → ProgramFits x.memory whole base size (slot_stmts_view body.now) 64) }
     ensures few { IfOk result (λ x. length x.code.items ≤ 16384) }
     ensures near { IfOk result (λ x. x.memory ≤ size + 4096) }
+    ensures room { IfOk result (λ x. size ≤ x.memory) }
+    ensures numbered { IfOk result (λ x. x.memory ≤ 65536) }
     ensures wrong { IfErr result (λ e. e ≡ CompileError.NotLinked
         → ¬ (ProgramLinked (slot_library_view library.now) base size (slot_stmts_view body.now) 64)) }
 {

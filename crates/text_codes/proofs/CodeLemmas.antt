@@ -1,0 +1,109 @@
+-- Codes of linked bodies, one after another.
+use Rattle.std.proofs.Common.{◌≡◌, ℕ, zero, suc, ◌+◌, List, [], ◌∷◌, ◌++◌, length, map, Option, Some, slice_get}
+use Rattle.std.proofs.Common.{refl, sym, ap, subst, ◌∙◌}
+use Rattle.std.specs.Prelude.{Result, Ok, Err, IfOk}
+use Rattle.std.proofs.lemmas.List.{length-map}
+use Rattle.st_words.specs.declared.kind.Kind.{Kind}
+use Rattle.st_trees.specs.Sources.{Source}
+use Rattle.st_types.specs.Runs.{Program}
+use Rattle.st_types.specs.Slots.{Slot}
+use Rattle.st_layouts.specs.Libraries.{programs_of_text}
+use Rattle.st_layouts.specs.TextLayouts.{slots_of_text}
+use Rattle.layout.specs.TextLayouts.{slot_view}
+use Rattle.layout.specs.declared.slots.LayoutSlot.{LayoutSlot}
+use Rattle.slot_trees.specs.SlotTrees.{SlotLibrary, SlotStmts}
+use Rattle.slot_trees.specs.TextLinks.{LinkedText, linked_source}
+use Rattle.tree_code.specs.Programs.{program_code, ProgramFits}
+use Rattle.st_coded.specs.CodedSources.{HasCodeRuns}
+use Rattle.text_links.specs.Accepted.{IsLinked}
+use Rattle.text_links.specs.KeptTexts.{KeptText}
+use Rattle.coded_programs.specs.Codes.{CodeView}
+use Rattle.coded_programs.specs.Meanings.{Means}
+use Rattle.coded_texts.specs.ProgramCodes.{IsCodeOf}
+use Rattle.text_codes.specs.Codes.{AreCodesOf, AreCodesOver, IsCodeOver}
+
+-- one more
+pub one_more : (library : SlotLibrary) (kinds : List Kind) (bodies : List SlotStmts) (codes : List CodeView)
+    (body : SlotStmts) (code : CodeView) → AreCodesOver library kinds bodies codes
+    → IsCodeOver library kinds body code
+    → AreCodesOver library kinds (bodies ++ body ∷ []) (codes ++ code ∷ [])
+one_more library kinds [] [] body code so_far is = (is, tt)
+one_more library kinds [] (c ∷ codes) body code so_far is = absurd so_far
+one_more library kinds (b ∷ bodies) [] body code so_far is = absurd so_far
+one_more library kinds (b ∷ bodies) (c ∷ codes) body code so_far is =
+    (so_far.0, one_more library kinds bodies codes body code so_far.1 is)
+
+-- The body of a number has the code of this number.
+pub record HasCode (library : SlotLibrary) (kinds : List Kind) (body : SlotStmts) (codes : List CodeView)
+    (n : ℕ) : Type 0 where
+  pub code : CodeView
+  pub is : slice_get codes n ≡ Some code
+  pub over : IsCodeOver library kinds body code
+
+pub code_at : (library : SlotLibrary) (kinds : List Kind) (bodies : List SlotStmts) (codes : List CodeView)
+    (n : ℕ) (body : SlotStmts) → AreCodesOver library kinds bodies codes → slice_get bodies n ≡ Some body
+    → HasCode library kinds body codes n
+code_at library kinds [] codes n body are is = absurd (cc)
+code_at library kinds (b ∷ bodies) [] n body are is = absurd are
+code_at library kinds (b ∷ bodies) (c ∷ codes) zero body are is = record {
+  code = c;
+  is = refl;
+  over = subst (λ x. IsCodeOver library kinds x c) (some_same b body is) are.0;
+}
+  where
+    some_same : (x y : SlotStmts) → Some x ≡ Some y → x ≡ y
+    some_same x y h = cc
+code_at library kinds (b ∷ bodies) (c ∷ codes) (suc n) body are is =
+    let rest = code_at library kinds bodies codes n body are.1 is in
+    record { code = rest.code; is = rest.is; over = rest.over }
+
+pub ok_weaker : {C E : Type 0} (r : Result C E) (P Q : C → Type 0) → ((x : C) → P x → Q x) → IfOk r P → IfOk r Q
+ok_weaker (Ok x) P Q weaker h = weaker x h
+ok_weaker (Err e) P Q weaker h = tt
+
+-- the code of the linked body over the layout of its text
+code_of_text : (text : Source) (linked : LinkedText) (body : SlotStmts) (kinds : List Kind) (code : CodeView)
+    → kinds ≡ map (λ l. l.kind) (slots_of_text text) → IsCodeOver linked.library kinds body code
+    → IsCodeOf text linked body 64 code
+code_of_text text linked body kinds code are over =
+    let long : length kinds ≡ length (slots_of_text text) = ap length are ∙ length-map _ _ in
+    record {
+      instrs = over.instrs ∙ ap (λ n. program_code linked.library 0 n body 64) long;
+      kinds = over.kinds ∙ are;
+      fits = subst (λ n. ProgramFits (n + code.extra) linked.library 0 n body 64) long over.fits;
+    }
+
+linked_same : (a b : LinkedText) (o : Option LinkedText) → o ≡ Some a → o ≡ Some b → a ≡ b
+linked_same a b o x y = cc
+
+-- Codes over the linked form of a text mean its programs.
+pub codes_mean : (text : Source) (kept : KeptText) (kinds : List Kind) (codes : List CodeView)
+    (linked : IsLinked text kept) → kinds ≡ map (λ l. l.kind) (slots_of_text text)
+    → AreCodesOver linked.whole.library kinds kept.programs codes
+    → ((n : ℕ) (p : Program) → slice_get (programs_of_text text) n ≡ Some p → HasCodeRuns text n p)
+    → ((n : ℕ) (p : Program) (whole : LinkedText) (body : SlotStmts) (depth : ℕ) (code : CodeView)
+    → HasCodeRuns text n p → linked_source text ≡ Some whole → slice_get whole.programs n ≡ Some body
+    → IsCodeOf text whole body depth code → Means (slots_of_text text) code p)
+    → AreCodesOf text codes
+codes_mean text kept kinds codes linked are over runs mean = λ n p there.
+    let has = runs n p there in
+    let same = linked_same has.linked linked.whole (linked_source text) has.is linked.linked in
+    let in_whole : slice_get linked.whole.programs n ≡ Some has.body =
+    subst (λ (l : LinkedText). slice_get l.programs n ≡ Some has.body) same has.there in
+    let found = code_at linked.whole.library kinds kept.programs codes n has.body over
+    (ap (λ ps. slice_get ps n) linked.part.programs ∙ in_whole) in
+    record {
+      code = found.code;
+      is = found.is;
+      means = mean n p linked.whole has.body 64 found.code has linked.linked in_whole
+          (code_of_text text linked.whole has.body kinds found.code are found.over);
+    }
+
+-- the types of slots of a layout
+pub kinds_are : (ss : List LayoutSlot) (slots : List Slot) → map slot_view ss ≡ slots
+    → map (λ s. s.initial.kind) ss ≡ map (λ l. l.kind) slots
+kinds_are ss slots is = seen ss ∙ ap (map (λ l. l.kind)) is
+  where
+    seen : (xs : List LayoutSlot) → map (λ s. s.initial.kind) xs ≡ map (λ l. l.kind) (map slot_view xs)
+    seen [] = refl
+    seen (x ∷ xs) = ap (λ ks. x.initial.kind ∷ ks) (seen xs)

@@ -1,0 +1,105 @@
+//! The codes of a text's programs.
+
+ghost use Rattle.std.specs.Prelude.{◌≡◌, ◌≤◌, ◌+◌, IfOk, length, map};
+ghost use Rattle.st_words.specs.declared.limits.TheConstants.{MAX_PATHS};
+ghost use Rattle.st_trees.specs.SourceViews.{source_view};
+ghost use Rattle.st_trees.specs.Sources as trees;
+ghost use Rattle.st_types.specs.ResolvedUnits.{resolved_source};
+ghost use Rattle.st_layouts.specs.TextLayouts.{slots_of_text};
+ghost use Rattle.layout.specs.TextLayouts.{IsLayoutOf};
+ghost use Rattle.slot_trees.specs.SlotTrees as tree;
+ghost use Rattle.slot_bodies.specs.LibraryViews.{IsKeptOf, slot_library_view};
+ghost use Rattle.slot_bodies.specs.StatementViews.{slot_stmts_view};
+ghost use Rattle.text_links.specs.Accepted.{IsAccepted, IsLinked};
+ghost use Rattle.text_links.specs.Linked.{linked_text_view};
+ghost use Rattle.coded_programs.specs.Codes.{code_view};
+ghost use Rattle.text_codes.specs.Codes.{AreCodesOf, AreCodesOver, IsCodeOver};
+
+use crate::slot_kinds::kinds_of;
+use coded_programs::Code;
+use coded_texts::code_of_texts_means_their_programs;
+use layout::Layout;
+use slot_bodies::{SlotLibrary, SlotStmt};
+use st_coded::code_of_accepted_texts_does_what_their_programs_do;
+use st_compile::{CompileError, compile};
+use st_link::LinkError;
+use st_trees::Source;
+use st_words::Kind;
+use std::alloc::Global;
+use std::sync::Arc;
+use text_links::{LinkedText, link};
+
+/// A text linked. Where a body leads into more slots than a layout has room for, there are too many places.
+fn linked_text(alloc: Global, source: &Source) -> Result<LinkedText, CompileError>
+    ensures { IfOk result (λ linked. (text : trees.Source) → source_view source.now ≡ resolved_source text
+        → IsAccepted text → length (slots_of_text text) ≤ MAX_PATHS → IsLinked text (linked_text_view linked)) }
+{
+    match link(alloc, source) {
+        Ok(linked) => Ok(linked),
+        Err(LinkError::NotThere) => Err(CompileError::NotLinked),
+        Err(LinkError::TooLarge) => Err(CompileError::TooManyPlaces),
+        Err(LinkError::OutOfMemory) => Err(CompileError::OutOfMemory),
+    }
+}
+
+/// The code of a linked body over slots of these types.
+fn code_of(
+    alloc: Global,
+    library: &SlotLibrary,
+    kinds: &Arc<Vec<Kind>>,
+    body: &[SlotStmt],
+) -> Result<Code, CompileError>
+    ensures { IfOk result (λ code. (whole : tree.SlotLibrary) → IsKeptOf (slot_library_view library.now) whole
+        → IsCodeOver whole kinds.now.value.items (slot_stmts_view body.now) (code_view code)) }
+{
+    let size = kinds.len();
+    let compiled = compile(alloc, library, 0, size, body)?;
+    let extra = compiled.memory - size;
+    Ok(Code {
+        instrs: compiled.code,
+        kinds: Arc::clone(kinds)?,
+        extra,
+    })
+}
+
+/// The codes of linked bodies, in order.
+fn codes_of_programs(
+    alloc: Global,
+    library: &SlotLibrary,
+    kinds: &Arc<Vec<Kind>>,
+    programs: &[Vec<SlotStmt>],
+) -> Result<Vec<Code>, CompileError>
+    ensures { IfOk result (λ codes. (whole : tree.SlotLibrary) → IsKeptOf (slot_library_view library.now) whole
+        → AreCodesOver whole kinds.now.value.items (map (λ b. slot_stmts_view b.items) programs.now)
+        (map code_view codes.items)) }
+{
+    let mut codes = Vec::new(alloc);
+    for body in programs {
+        let code = code_of(alloc, library, kinds, body)?;
+        codes.push(code)?;
+    }
+    Ok(codes)
+}
+
+/// The code of each program of an accepted text, in the order of the configuration's instances, over the text's layout.
+/// The text is given by its tree in which each literal has its type.
+///
+/// Each code means its program: over any values of the layout's slots the machine ends as the program does, with the
+/// same outcome, and leaves the same variables.
+///
+/// M1 where calls of functions take more than 4,096 places in one program, M2 beyond 16,384 instructions, M3 out of
+/// memory.
+pub fn codes_of_text(
+    alloc: Global,
+    source: &Source,
+    layout: &Layout,
+) -> Result<Vec<Code>, CompileError>
+    ensures { IfOk result (λ codes. (text : trees.Source) → source_view source.now ≡ resolved_source text
+        → IsAccepted text → IsLayoutOf text layout.now.slots.items → AreCodesOf text (map code_view codes.items)) }
+{
+    code_of_accepted_texts_does_what_their_programs_do();
+    code_of_texts_means_their_programs();
+    let linked = linked_text(alloc, source)?;
+    let kinds = Arc::new(alloc, kinds_of(alloc, &layout.slots)?)?;
+    codes_of_programs(alloc, &linked.library, &kinds, &linked.programs)
+}
