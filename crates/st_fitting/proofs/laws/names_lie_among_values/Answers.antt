@@ -1,0 +1,8 @@
+use Rattle.st_fitting.proofs.Names.{program_within, function_within}
+use Rattle.st_fitting.proofs.laws.names_lie_among_values.Goals as goal
+
+pub returns : goal.returns
+returns c = record {
+  programs = λ text vs p xs site room bounded. program_within text vs site room bounded p xs;
+  functions = λ text ds xs site base room bounded. function_within text ds site base room bounded xs;
+}
