@@ -1,4 +1,4 @@
--- Names of programs and functions among the values of their units.
+-- Names of programs, functions and blocks among the values of their units.
 use Rattle.std.proofs.Common.{◌≡◌, ℕ, ◌+◌, ◌≤◌, List, [], ◌∷◌, length, map, Option, Some, None, refl, subst}
 use Rattle.std.proofs.Common.{◌∙◌, inl, inr, arith, length-append}
 use Rattle.std.specs.Prelude.{option_map}
@@ -6,20 +6,22 @@ use Rattle.std.proofs.Math.ListN.{length-map}
 use Rattle.st_words.specs.declared.path.Owner.{Owner}
 use Rattle.st_types.specs.NameTypes.{Declared}
 use Rattle.st_types.specs.Runs.{Program}
-use Rattle.st_types.specs.Scopes.{Name}
+use Rattle.st_types.specs.Scopes.{Name, contains_name}
 use Rattle.st_layouts.specs.LayoutVariables.{Owned, owned_variable}
-use Rattle.st_layouts.specs.Shapes.{size}
+use Rattle.st_layouts.specs.Shapes.{Parts, size, sizes}
 use Rattle.st_layouts.specs.Standing.{is_named_so, later, variable_at}
 use Rattle.st_layouts.specs.TextLayouts.{variable_shape, leaves_of_variable, slot_of_leaf, slots_of_variable, slots_of}
 use Rattle.st_layouts.specs.Types.{NamedSite}
 use Rattle.st_layouts.proofs.LeafLemmas.{length_leaves}
-use Rattle.slot_trees.specs.BlockTables.{if_there}
+use Rattle.slot_trees.specs.BlockTables.{part_symbol, block_symbol, if_there, block_symbols}
 use Rattle.slot_trees.specs.FunctionTables.{call_symbol, function_symbols}
-use Rattle.slot_trees.specs.ProgramTables.{owner_of_name, symbol_then, program_symbols}
-use Rattle.slot_trees.specs.Tables.{Symbol}
+use Rattle.slot_trees.specs.ProgramTables.{owner_of_name, symbol_at, symbol_then, program_symbols}
+use Rattle.slot_trees.specs.Tables.{Symbol, part_at}
+use Rattle.slot_trees.specs.SlotEvaluation.{slot_at}
 use Rattle.tree_code.specs.Sites.{Site}
-use Rattle.st_fitting.specs.Sound.{IsBounded, SymbolsWithin, AreBoundedVariables}
+use Rattle.st_fitting.specs.Sound.{IsBounded, AreBounded, SymbolsWithin, AreBoundedVariables}
 use Rattle.st_fitting.proofs.Options.{either_some, map_some}
+use Rattle.st_fitting.proofs.Selected.{part_within}
 
 length_variable : (text : Declared) (v : Owned) → length (slots_of_variable text v) ≡ size (variable_shape text v)
 length_variable text v =
@@ -87,3 +89,38 @@ module _ (text : Declared) (ds : List NamedSite) (site : Site) (base : site.base
   function_within (x ∷ xs) =
       function_symbol x (variable_at text (map (owned_variable None) ds) None x) (function_symbols text ds xs) refl
       (function_within xs)
+
+-- a symbol among the values of a unit
+abbrev IsWithin : Site → Symbol → Type 0
+IsWithin site y = (slot_at site.base y.anchor + size y.shape ≤ site.size) × IsBounded y.shape
+
+module _ (text : Declared) (vs : List Owned) (ps : Parts) (externals : List Name) (site : Site)
+    (room : length (slots_of text vs) ≤ site.size) (bounded : AreBoundedVariables text vs)
+    (instance : site.base + sizes ps ≤ site.size) (members : AreBounded ps) where
+  block_name : (x : Name) (y : Symbol) → block_symbol text vs ps externals x ≡ Some y → IsWithin site y
+  block_name x y h =
+      elim (either_some (contains_name externals x) (option_map (symbol_at text x) (variable_at text vs None x))
+      (option_map (part_symbol x) (part_at ps x)) y h) [
+        | inl q ↦
+            let m = map_some (symbol_at text x) (variable_at text vs None x) y q in
+            let w = variable_within text vs None x m.0 m.1 bounded in
+            let within = w.within in
+            let there : IsWithin site (symbol_at text x m.0) = (omega arith, w.bounded) in
+            subst (λ (z : Symbol). IsWithin site z) m.2 there
+        | inr q ↦
+            let m = map_some (part_symbol x) (part_at ps x) y q in
+            let w = part_within ps x m.0 m.1 members in
+            let within = w.within in
+            let there : IsWithin site (part_symbol x m.0) = (omega arith, w.bounded) in
+            subst (λ (z : Symbol). IsWithin site z) m.2 there
+      ]
+
+  block_first : (x : Name) (o : Option Symbol) (rest : List Symbol) → block_symbol text vs ps externals x ≡ o
+      → SymbolsWithin site rest → SymbolsWithin site (if_there o rest)
+  block_first x None rest is h = h
+  block_first x (Some y) rest is h = let w = block_name x y is in (w.0, w.1, h)
+
+  pub block_within : (xs : List Name) → SymbolsWithin site (block_symbols text vs ps externals xs)
+  block_within [] = tt
+  block_within (x ∷ xs) =
+      block_first x (block_symbol text vs ps externals x) (block_symbols text vs ps externals xs) refl (block_within xs)
