@@ -30,9 +30,9 @@ pub fn linked_bodies_are_compiled()
         → StmtsLinked (CallLinkedWithin library depth) site x }
 {}
 
-/// The names of a program lie among the slots of the layout, and those of a function among the values of its call. Those
-/// of a block lie among the slots of the layout too, where the members of the instance do. Their arrays have elements,
-/// and lower bounds that instructions hold.
+/// The names of a program lie among the slots of the layout, and those of a function among the values of its call.
+/// Those of a block lie among the slots of the layout too, where the members of the instance do. Their arrays have
+/// elements, and lower bounds that instructions hold.
 pub fn names_lie_among_values()
     ensures programs { (text : Declared) (vs : List Owned) (p : Program) (xs : List Name) (site : Site)
         → length (slots_of text vs) ≤ site.size → AreBoundedVariables text vs
