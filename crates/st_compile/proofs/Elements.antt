@@ -33,8 +33,13 @@ below_at n (x ∷ xs) (suc k) d lt h = below_at n xs k d (omega arith) h.1
 
 -- a subscript by its fields
 pub subscript_seen : (s : code_subscript.Subscript) → subscript_view s
-    ≡ (let r : Subscript = record { index = slot_expr_view s.index; lower = s.lower; count = s.count; stride =
-    s.stride } in r)
+    ≡ (let r : Subscript = record {
+      index = slot_expr_view s.index;
+      lower = s.lower;
+      count = s.count;
+      stride =
+          s.stride;
+    } in r)
 subscript_seen s = search code_subscript.the_lemmas
 
 pub expr_smaller : (es : List code_expr.SlotExpr) (k : ℕ) (e : code_expr.SlotExpr) → k < length es

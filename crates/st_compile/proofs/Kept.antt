@@ -20,14 +20,14 @@ use Rattle.st_compile.proofs.SameCode.{SameUnits, stmts_same}
 -- the units that something fits are the same ones of another library
 pub record Agree (memory : ℕ) (library whole : SlotLibrary) : Type 1 where
   pub functions : (P : UnitCall → Type 0) (i start count : ℕ) (f : SlotFunction) → slice_get library.functions i ≡
-    Some f
+      Some f
       → FunctionFits P memory f start count → slice_get whole.functions i ≡ Some f
   pub blocks : (P : UnitCall → Type 0) (s : Site) (i : ℕ) (b : SlotStmts) → slice_get library.blocks i ≡ Some b
       → StmtsFit P s b → slice_get whole.blocks i ≡ Some b
 
 module _ (memory : ℕ) (library whole : SlotLibrary) (agree : Agree memory library whole) where
   function_more : (P Q : UnitCall → Type 0) → ((u : UnitCall) → P u → Q u) → (i start count : ℕ) (o : Option
-    SlotFunction)
+      SlotFunction)
       → slice_get library.functions i ≡ o → IfFunctionFits P memory o start count
       → IfFunctionFits Q memory (slice_get whole.functions i) start count
   function_more P Q more i start count (Some f) is h =
@@ -105,7 +105,7 @@ module _ (memory : ℕ) (library whole : SlotLibrary) (agree : Agree memory libr
   same_units zero = record { functions = λ f start count c h. absurd h; blocks = λ b s c h. absurd h }
   same_units (suc n) = record {
     functions = λ f start count c h. function_same n f start count c (same_units n) (slice_get library.functions f)
-    refl h;
+        refl h;
     blocks = λ b s c h. instance_same n b s c (same_units n) h;
   }
 

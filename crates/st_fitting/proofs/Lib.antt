@@ -2,3 +2,4 @@ mod Options
 mod Selected
 mod Linked
 mod Statements
+mod Names

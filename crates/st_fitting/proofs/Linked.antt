@@ -22,7 +22,8 @@ use Rattle.tree_code.specs.Sites.{Site, end_of}
 use Rattle.st_compile.specs.Linked.{ExprLinked, ExprsLinked, PlaceLinked, SubscriptsLinked}
 use Rattle.st_fitting.specs.Sound.{IsBounded, SymbolsWithin, number_of_exprs, CallSound, ExprSound, ExprsSound}
 use Rattle.st_fitting.specs.Sound.{VariableSound, SelectorsSound}
-use Rattle.st_fitting.proofs.Options.{then_some, map_some, if_some, unless_some}
+use Rattle.slot_trees.proofs.OptionLemmas.{then_some}
+use Rattle.st_fitting.proofs.Options.{map_some, if_some, unless_some}
 use Rattle.st_fitting.proofs.Selected.{part_within, symbol_within, moved_on, all_elements}
 use Rattle.st_fitting.proofs.Selected.{element_within, elements_within}
 

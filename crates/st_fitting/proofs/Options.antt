@@ -1,11 +1,6 @@
 -- What a chain of parts that may be missing came from.
-use Rattle.std.proofs.Common.{◌≡◌, Bool, true, false, if◌then◌else◌, Option, Some, None, option_map, option_and_then}
+use Rattle.std.proofs.Common.{◌≡◌, Bool, true, false, if◌then◌else◌, Option, Some, None, option_map}
 use Rattle.std.proofs.Common.{◌⊎◌, inl, inr, refl}
-
-pub then_some : {A B : Type 0} (f : A → Option B) (o : Option A) (y : B) → option_and_then f o ≡ Some y
-    → (a : A) × (o ≡ Some a) × (f a ≡ Some y)
-then_some f (Some a) y h = (a, refl, h)
-then_some f None y h = absurd (cc)
 
 pub map_some : {A B : Type 0} (f : A → B) (o : Option A) (y : B) → option_map f o ≡ Some y
     → (a : A) × (o ≡ Some a) × (f a ≡ y)

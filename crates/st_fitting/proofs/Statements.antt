@@ -24,7 +24,8 @@ use Rattle.st_compile.specs.Linked.{ArmsLinked, CaseArmsLinked}
 use Rattle.st_fitting.specs.Sound.{IsBounded, AreBounded, SymbolsWithin, StepSound, ArgumentsSound, StmtSound}
 use Rattle.st_fitting.specs.Sound.{StmtsSound}
 use Rattle.st_fitting.specs.Sound.{ArmsSound, CaseArmsSound}
-use Rattle.st_fitting.proofs.Options.{then_some, map_some, unless_some}
+use Rattle.slot_trees.proofs.OptionLemmas.{then_some}
+use Rattle.st_fitting.proofs.Options.{map_some, unless_some}
 use Rattle.st_fitting.proofs.Selected.{part_within, symbol_within}
 use Rattle.st_fitting.proofs.Linked.{expr_linked, target_linked}
 

@@ -8,7 +8,10 @@ use Rattle.st_trees.specs.Expressions.{Expr, literal, read, parenthesis, Exprs, 
 use Rattle.st_trees.specs.Expressions.{Selectors, no_selectors, selector_then}
 use Rattle.st_trees.specs.Statements as text
 use Rattle.st_trees.specs.Statements.{Argument, Stmt, Stmts, Arms, CaseArms}
+use Rattle.st_types.specs.NameTypes.{Declared}
 use Rattle.st_types.specs.Operators.{value_of_literal}
+use Rattle.st_layouts.specs.LayoutVariables.{Owned}
+use Rattle.st_layouts.specs.TextLayouts.{variable_shape}
 use Rattle.st_types.specs.Scopes.{Name}
 use Rattle.st_types.specs.StandardFunctions.{Standard, standard_of}
 use Rattle.st_layouts.specs.Shapes.{Shape, plain, array, parts, Parts, no_parts, part_then, size}
@@ -30,6 +33,11 @@ abbrev mutual
   pub AreBounded : Parts → Type 0
   AreBounded no_parts = Unit {0}
   AreBounded (part_then x sh ps) = IsBounded sh × AreBounded ps
+
+-- each array of a layout's variables is bounded so
+abbrev pub AreBoundedVariables : Declared → List Owned → Type 0
+AreBoundedVariables text [] = Unit {0}
+AreBoundedVariables text (v ∷ vs) = IsBounded (variable_shape text v) × AreBoundedVariables text vs
 
 -- variables lie among the values of a unit
 abbrev pub SymbolsWithin : Site → List Symbol → Type 0

@@ -3,4 +3,4 @@
 
 mod laws;
 
-pub use laws::linked_bodies_are_compiled;
+pub use laws::{linked_bodies_are_compiled, names_lie_among_values};

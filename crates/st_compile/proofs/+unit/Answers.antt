@@ -242,8 +242,11 @@ calls::put_function-returns-then-not-has_signature-clause-wrong t c =
 pub calls::put_function-returns-in_err-put_statements-clause-wrong :
     goal.calls::put_function-returns-in_err-put_statements-clause-wrong
 calls::put_function-returns-in_err-put_statements-clause-wrong t c =
-    let e : suc c.in_ok-inner.inner.depth ≡ c.args.scope.depth = (omega (arith, c.in-Some.ensures,
-    c.in_ok-inner.ensures.depth)) in
+    let e : suc c.in_ok-inner.inner.depth ≡ c.args.scope.depth = (omega (
+      arith,
+      c.in-Some.ensures,
+      c.in_ok-inner.ensures.depth,
+    )) in
     not_linked _ c.in_err-put_statements.field-0.0 _ _ c.in_err-put_statements.ensures.wrong
     (λ h. subst (λ (ys : List code_stmt.SlotStmt). StmtsLinked (LinkedIn c.args.library.now c.in_ok-inner.inner)
     (site_of c.in_ok-inner.inner) (stmts_of (map slot_stmt_view ys))) (sym c.deref.ensures.value)
@@ -315,8 +318,11 @@ pub calls::put_function-returns-clause-code : goal.calls::put_function-returns-c
 calls::put_function-returns-clause-code t c =
     let z = c.in_ok-inner.inner in
     let f = c.in_ok-function.function.now in
-    let e : suc c.in_ok-inner.inner.depth ≡ c.args.scope.depth = omega (arith, c.in-Some.ensures,
-    c.in_ok-inner.ensures.depth) in
+    let e : suc c.in_ok-inner.inner.depth ≡ c.args.scope.depth = omega (
+      arith,
+      c.in-Some.ensures,
+      c.in_ok-inner.ensures.depth,
+    ) in
     let has = c.if-not-has_signature.ensures.0 refl in
     let body : c.put_statements.new.code ≡ stmts_code (units_in c.args.library.now z) (site_of z)
     (slot_stmts_view f.body.items) (body_ways c.len-end.result) c.put.new.self
@@ -343,8 +349,11 @@ pub calls::put_function-returns-clause-fits : goal.calls::put_function-returns-c
 calls::put_function-returns-clause-fits t c =
     let z = c.in_ok-inner.inner in
     let f = c.in_ok-function.function.now in
-    let e : suc c.in_ok-inner.inner.depth ≡ c.args.scope.depth = omega (arith, c.in-Some.ensures,
-    c.in_ok-inner.ensures.depth) in
+    let e : suc c.in_ok-inner.inner.depth ≡ c.args.scope.depth = omega (
+      arith,
+      c.in-Some.ensures,
+      c.in_ok-inner.ensures.depth,
+    ) in
     let body : StmtsFit (FitsIn c.args.library.now z) (site_of z) (slot_stmts_view f.body.items)
     = subst (λ (ys : List code_stmt.SlotStmt). StmtsFit (FitsIn c.args.library.now z) (site_of z) (slot_stmts_view ys))
     c.deref.ensures.value c.in_ok-put_statements.ensures.fits in
@@ -368,7 +377,7 @@ expressions::put_expr-returns-in_ok-put_function-in-Call-clause-fits t c =
     on_ok c.put_exprs-in-Call.result _ _ (λ h. subst (λ x. ExprFits (FitsIn c.args.library.now c.args.scope) (site_of
     c.args.scope) x) (sym seen) (
       subst (λ (ys : List code_expr.SlotExpr). ExprsFit (FitsIn c.args.library.now c.args.scope) (site_of
-      c.args.scope) (exprs_of (map slot_expr_view ys))) c.deref-in-Call.ensures.value h,
+          c.args.scope) (exprs_of (map slot_expr_view ys))) c.deref-in-Call.ensures.value h,
       subst (λ m. FitsIn c.args.library.now c.args.scope (of_function f (end_of (site_of c.args.scope)) m)) n
           c.in_ok-put_function-in-Call.ensures.fits,
     )) c.put_exprs-in-Call.ensures.fits

@@ -87,9 +87,9 @@ invariant-calls::put_inputs-loop-left l = record {
   within : l.left ≤ length l.arguments;
   longer : length l.fn.code ≤ length l.code;
   code : l.code ≡ inputs_code (units_in l.library l.scope) (site_of l.scope) (map slot_argument_view (drop l.left
-    l.arguments)) l.fn.code;
+      l.arguments)) l.fn.code;
   fits : InputsFit (FitsIn l.library l.scope) (site_of l.scope) l.first (map slot_argument_view (drop l.left
-    l.arguments));
+      l.arguments));
 }
 
 abbrev pub decreases-calls::put_inputs-loop-left : goal.decreases-calls::put_inputs-loop-left
@@ -100,9 +100,9 @@ invariant-calls::put_outputs-loop-left l = record {
   within : l.left ≤ length l.arguments;
   longer : length l.fn.code ≤ length l.code;
   code : l.code ≡ outputs_code (units_in l.library l.scope) (site_of l.scope) l.first (map slot_argument_view (drop
-    l.left l.arguments)) l.fn.code;
+      l.left l.arguments)) l.fn.code;
   fits : OutputsFit (FitsIn l.library l.scope) (site_of l.scope) l.first (map slot_argument_view (drop l.left
-    l.arguments));
+      l.arguments));
 }
 
 abbrev pub decreases-calls::put_outputs-loop-left : goal.decreases-calls::put_outputs-loop-left
@@ -113,9 +113,9 @@ invariant-expressions::put_exprs-loop-left l = record {
   within : l.left ≤ length l.expressions;
   longer : length l.fn.code ≤ length l.code;
   code : l.code ≡ exprs_code (units_in l.library l.scope) (site_of l.scope) (exprs_of (map slot_expr_view (drop
-    l.left l.expressions))) l.fn.code;
+      l.left l.expressions))) l.fn.code;
   fits : ExprsFit (FitsIn l.library l.scope) (site_of l.scope) (exprs_of (map slot_expr_view (drop l.left
-    l.expressions)));
+      l.expressions)));
 }
 
 abbrev pub decreases-expressions::put_exprs-loop-left : goal.decreases-expressions::put_exprs-loop-left
@@ -126,9 +126,9 @@ invariant-expressions::put_subscripts-loop-left l = record {
   within : l.left ≤ length l.subscripts;
   longer : length l.fn.code ≤ length l.code;
   code : l.code ≡ subscripts_code (units_in l.library l.scope) (site_of l.scope) (subscripts_of (map subscript_view
-    (drop l.left l.subscripts))) l.fn.code;
+      (drop l.left l.subscripts))) l.fn.code;
   fits : SubscriptsFit (FitsIn l.library l.scope) (site_of l.scope) (subscripts_of (map subscript_view (drop l.left
-    l.subscripts)));
+      l.subscripts)));
 }
 
 abbrev pub decreases-expressions::put_subscripts-loop-left : goal.decreases-expressions::put_subscripts-loop-left
@@ -139,7 +139,7 @@ invariant-statements::put_arms-loop-left l = record {
   within : l.left ≤ length l.arms;
   longer : length l.fn.code ≤ length l.code;
   code : l.code ≡ arms_code (units_in l.library l.scope) (site_of l.scope) (arms_of (map slot_arm_view (drop l.left
-    l.arms))) l.ways l.end l.fn.code;
+      l.arms))) l.ways l.end l.fn.code;
   fits : ArmsFit (FitsIn l.library l.scope) (site_of l.scope) (arms_of (map slot_arm_view (drop l.left l.arms)));
 }
 
@@ -151,9 +151,9 @@ invariant-statements::put_case_arms-loop-left l = record {
   within : l.left ≤ length l.arms;
   longer : length l.fn.code ≤ length l.code;
   code : l.code ≡ case_code (units_in l.library l.scope) (site_of l.scope) (case_arms_of (map slot_case_arm_view
-    (drop l.left l.arms))) l.ways l.end l.fn.code;
+      (drop l.left l.arms))) l.ways l.end l.fn.code;
   fits : CaseArmsFit (FitsIn l.library l.scope) (site_of l.scope) (case_arms_of (map slot_case_arm_view (drop l.left
-    l.arms)));
+      l.arms)));
 }
 
 abbrev pub decreases-statements::put_case_arms-loop-left : goal.decreases-statements::put_case_arms-loop-left
@@ -164,9 +164,9 @@ invariant-statements::put_statements-loop-left l = record {
   within : l.left ≤ length l.statements;
   longer : length l.fn.code ≤ length l.code;
   code : l.code ≡ stmts_code (units_in l.library l.scope) (site_of l.scope) (stmts_of (map slot_stmt_view (drop
-    l.left l.statements))) l.ways l.fn.code;
+      l.left l.statements))) l.ways l.fn.code;
   fits : StmtsFit (FitsIn l.library l.scope) (site_of l.scope) (stmts_of (map slot_stmt_view (drop l.left
-    l.statements)));
+      l.statements)));
 }
 
 abbrev pub decreases-statements::put_statements-loop-left : goal.decreases-statements::put_statements-loop-left
