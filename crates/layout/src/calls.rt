@@ -89,7 +89,8 @@ pub fn fresh_values<'a>(
         → are_expandable text (map (owned_variable None)
         (result_site returned.now name.now ∷ sites_of_blocks (map variable_block_view blocks.now))) ≡ true
         → values.items ≡ map (λ e. e.1)
-        (fresh_values text (result_site returned.now name.now ∷ sites_of_blocks (map variable_block_view blocks.now)))) }
+        (fresh_values text
+        (result_site returned.now name.now ∷ sites_of_blocks (map variable_block_view blocks.now)))) }
     ensures room { OnOk result ((text : Declared) → ServesTypes types.now text
         → are_expandable text (map (owned_variable None)
         (result_site returned.now name.now ∷ sites_of_blocks (map variable_block_view blocks.now))) ≡ true

@@ -20,7 +20,8 @@ use Rattle.st_types.specs.NameTypes.{Declared, declared_in, result_type, type_in
 use Rattle.st_types.specs.ResolvedUnits.{resolved, resolved_global, resolved_globals, resolved_source, resolved_type}
 use Rattle.st_types.specs.Scopes.{Name, contains_name}
 use Rattle.st_statics.specs.declared.limits.TheConstants.{MAX_TYPE_DEPTH}
-use Rattle.st_statics.specs.DeclaredTypes.{Declaring, declarings_in, declarings_of_element, declarings_of_globals, global}
+use Rattle.st_statics.specs.DeclaredTypes.{Declaring, declarings_in, declarings_of_element, declarings_of_globals}
+use Rattle.st_statics.specs.DeclaredTypes.{global}
 use Rattle.st_statics.specs.Rules.{IsWellTyped}
 use Rattle.st_sound.proofs.Among.{Among, here, in_flat, in_map, later}
 use Rattle.st_sound.proofs.FoundNames.{unit_in}
@@ -38,8 +39,10 @@ use Rattle.st_stores.proofs.KnownDepths.{declared_depths, depths_known}
 use Rattle.st_stores.proofs.TakenBodies.{text_taken}
 use Rattle.layout.proofs.PlanLemmas.{length_slots_of}
 use Rattle.slot_trees.specs.Orderly.{are_units_orderly, has_orderly_variables, is_orderly}
-use Rattle.text_links.specs.LinkVariables.{LinkVariable, are_whole, is_whole, is_whole_unit, named_so, of_site, result_of}
-use Rattle.text_links.specs.LinkVariables.{variables_by_sort, variables_declared, variables_of_blocks, variables_of_globals}
+use Rattle.text_links.specs.LinkVariables.{LinkVariable, are_whole, is_whole, is_whole_unit, named_so, of_site}
+use Rattle.text_links.specs.LinkVariables.{result_of}
+use Rattle.text_links.specs.LinkVariables.{variables_by_sort, variables_declared, variables_of_blocks}
+use Rattle.text_links.specs.LinkVariables.{variables_of_globals}
 use Rattle.text_links.specs.LinkVariables.{variables_of_names}
 use Rattle.text_links.specs.Orderly.{IsOrderlySource, globals_in}
 use Rattle.text_links.proofs.FirstSlotLemmas.{both_hold, both_hold_back}

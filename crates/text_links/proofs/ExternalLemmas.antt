@@ -31,7 +31,8 @@ pub contains_more : (xs : List (Bor code_identifier.Identifier)) (i : ℕ) (y : 
     → i < length xs → y ≡ slice_index_or xs i y
     → contains_name (shown (take (i + 1) xs)) x ≡ (contains_name (shown (take i xs)) x || bytes_eq x y.now.name)
 contains_more xs i y x below is =
-    ap (λ zs. contains_name zs x) (ap shown (more_taken xs i y below is) ∙ map-append (λ z. z.now.name) (take i xs) (y ∷ []))
+    ap (λ zs. contains_name zs x)
+    (ap shown (more_taken xs i y below is) ∙ map-append (λ z. z.now.name) (take i xs) (y ∷ []))
     ∙ contains_append (shown (take i xs)) y.now.name x
 
 -- the global of a name, where this one has it

@@ -95,7 +95,8 @@ blocks_kept text vs (u ∷ us) bs h = by_sort u.sort bs h (λ gs. blocks_kept te
         → HasKept SlotStmts gs (kept_blocks text vs us))
         → HasKept SlotStmts bs (kept_block_then text vs s u (kept_blocks text vs us))
     by_sort units.FunctionBlock bs h ih =
-        then_kept (block_fits text u) (linked_block text vs u) (linked_blocks text vs us) (kept_blocks text vs us) bs h ih
+        then_kept (block_fits text u) (linked_block text vs u) (linked_blocks text vs us) (kept_blocks text vs us) bs
+        h ih
     by_sort (units.Function t) bs h ih = ih bs h
     by_sort units.Program bs h ih = ih bs h
 

@@ -48,7 +48,8 @@ pub owned_at : (text : Declared) (o : Option Owner) (n : ℕ) (vs : List Owned) 
 owned_at text o n [] x h = refl
 owned_at text o n (v ∷ vs) x h =
     let b = both_hold (same_owner o v.owner) (list_all (λ w. same_owner o w.owner) vs) h in
-    ap (λ c. seen_from n (if c && bytes_eq x v.name then Some (0, v) else option_map (later text v) (variable_at text vs o x)))
+    ap (λ c. seen_from n (if c && bytes_eq x v.name then Some (0, v)
+    else option_map (later text v) (variable_at text vs o x)))
     b.0
     ∙ by_test (bytes_eq x v.name) (owned_at text o (n + size (variable_shape text v)) vs x b.1)
   where
@@ -120,7 +121,8 @@ at_append text o n (v ∷ vs) ws x =
     by_test false ih =
         further (variable_at text (vs ++ ws) o x) ∙ ih
         ∙ ap₂ or_found (sym (further (variable_at text vs o x)))
-        (ap (λ m. seen_from m (variable_at text ws o x)) (behind n (size (variable_shape text v)) (layout_size text vs)))
+        (ap (λ m. seen_from m (variable_at text ws o x))
+        (behind n (size (variable_shape text v)) (layout_size text vs)))
 
 -- the variables of sites
 pub all_owned : (o : Option Owner) (ds : List NamedSite) → same_owner o o ≡ true → AllOf o (map (owned_variable o) ds)

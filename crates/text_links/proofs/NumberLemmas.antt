@@ -1,5 +1,6 @@
 -- Numbers of names, one more at a time.
-use Rattle.std.proofs.Common.{◌≡◌, refl, sym, ap, ◌∙◌, arith, ℕ, suc, ◌+◌, List, [], ◌∷◌, ◌++◌, length, Bool, true, false}
+use Rattle.std.proofs.Common.{◌≡◌, refl, sym, ap, ◌∙◌, arith, ℕ, suc, ◌+◌, List, [], ◌∷◌, ◌++◌, length, Bool}
+use Rattle.std.proofs.Common.{true, false}
 use Rattle.std.proofs.Common.{if◌then◌else◌, Option, Some, None, subst, ◌<◌, map, take, slice_index_or}
 use denote.Bor.{Bor}
 use Rattle.std.proofs.lemmas.List.{length-map, length-take-le, map-append, take_more}

@@ -31,7 +31,8 @@ use Rattle.text_links.specs.LinkVariables.{are_whole, is_whole_unit, of_owned, o
 use Rattle.text_links.specs.LinkVariables.{variables_of_blocks}
 use Rattle.text_links.specs.Tables.{AreGlobals, BeginAt, seen_at}
 use Rattle.text_links.proofs.FirstSlotLemmas.{both_hold, both_hold_back}
-use Rattle.text_links.proofs.LayoutPlaces.{AllOf, NoneOf, all_owned, at_append, none_at, owned_at, seen_first, seen_from}
+use Rattle.text_links.proofs.LayoutPlaces.{AllOf, NoneOf, all_owned, at_append, none_at, owned_at, seen_first}
+use Rattle.text_links.proofs.LayoutPlaces.{seen_from}
 use Rattle.text_links.proofs.LayoutPlaces.{sites_owned, size_append, size_taken}
 use Rattle.text_links.proofs.SiteLemmas.{sites_seen}
 
@@ -53,7 +54,9 @@ not_turned a b h = by_test (same_owner (Some b) (Some a)) refl
     by_test false e = refl
     by_test true e =
         let same = same_names b a e in
-        absurd (let one : same_owner (Some a) (Some b) ≡ true = subst (λ o. same_owner (Some a) (Some o) ≡ true) (sym same) (same_itself a) in cc)
+        let one : same_owner (Some a) (Some b) ≡ true =
+        subst (λ o. same_owner (Some a) (Some o) ≡ true) (sym same) (same_itself a) in
+        absurd (cc)
 
 -- globals are nobody's, and the variables of instances somebody's
 unowned_all : (vs : List Owned) → list_all (λ v. is_none v.owner) vs ≡ true → AllOf None vs

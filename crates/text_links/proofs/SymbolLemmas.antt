@@ -26,8 +26,8 @@ use Rattle.text_links.specs.declared.variables.Variable.{Variable}
 use Rattle.text_links.proofs.FirstSlotLemmas.{all_front, both_hold, found_append, taken_append}
 
 -- what agrees in front and behind
-pub agree_or : {T U : Type 0} (fits : T → U → Type 0) (f g : Option T) (p q : Option U) → Agree fits f p → Agree fits g q
-    → Agree fits (or_found f g) (or_found p q)
+pub agree_or : {T U : Type 0} (fits : T → U → Type 0) (f g : Option T) (p q : Option U) → Agree fits f p
+    → Agree fits g q → Agree fits (or_found f g) (or_found p q)
 agree_or fits None g None q a b = b
 agree_or fits (Some t) g (Some u) q a b = a
 agree_or fits None g (Some u) q a b = absurd a
@@ -37,7 +37,8 @@ or_or : {A : Type 0} (a b c : Option A) → or_found a (or_found b c) ≡ or_fou
 or_or (Some x) b c = refl
 or_or None b c = refl
 
-map_or : {A B : Type 0} (f : A → B) (a b : Option A) → option_map f (or_found a b) ≡ or_found (option_map f a) (option_map f b)
+map_or : {A B : Type 0} (f : A → B) (a b : Option A)
+    → option_map f (or_found a b) ≡ or_found (option_map f a) (option_map f b)
 map_or f (Some x) b = refl
 map_or f None b = refl
 
@@ -78,7 +79,8 @@ module _ (text : Declared) (hidden : Index Bool) (base : Anchor) (x : Name) wher
       (or_found o (unless_found hidden x (symbol_among text base (done ++ variable_view v ∷ []) x)))
   one_more o done v s before after added anchor input declared expanded a =
       let here = symbol_among text base done x in
-      let last = option_map (symbol_from text base x) (found_at text (slots_taken text done) (variable_view v ∷ []) x) in
+      let last = option_map (symbol_from text base x)
+      (found_at text (slots_taken text done) (variable_view v ∷ []) x) in
       let split : symbol_among text base (done ++ variable_view v ∷ []) x ≡ or_found here last =
       ap (option_map (symbol_from text base x)) (found_append text 0 done (variable_view v ∷ []) x)
       ∙ map_or (symbol_from text base x) (found_at text 0 done x)
@@ -122,7 +124,8 @@ whole_one text xs i v below more h =
         (is_sound (shape_of_type text (place_type_view v.declared)))
         (both_hold (is_whole text (variable_view v)) true g).0).0
     last_whole (y ∷ ys) g =
-        last_whole ys (both_hold (is_whole text (variable_view y)) (are_whole text (map variable_view (ys ++ v ∷ []))) g).1
+        last_whole ys
+        (both_hold (is_whole text (variable_view y)) (are_whole text (map variable_view (ys ++ v ∷ []))) g).1
 
 -- before the first variable
 pub begin_symbols : (text : Declared) (hidden : Index Bool) (x : Name) (f : Option LinkSymbol) (o : Option Symbol)

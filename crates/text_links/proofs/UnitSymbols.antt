@@ -184,8 +184,7 @@ member_symbol text x n (d ∷ ds) =
         ≡ option_map (symbol_from text (own 0) x) (if b then Some (n, of_site d)
         else found_at text (n + size (shape_of_type text d.site.declared)) (map of_site ds) x)
     by_test true ih =
-        ap (λ k. Some (record { name = x; anchor = own k; is_input = false; shape = shape_of_type text d.site.declared }))
-        (first n)
+        ap (λ k. Some (part_symbol x (record { offset = k; shape = shape_of_type text d.site.declared }))) (first n)
     by_test false ih = beyond (part_at (parts_of (shape_of_type text) ds) x) ∙ ih
 
 member_first : (text : Declared) (x : Name) (ds : List NamedSite)
@@ -198,7 +197,7 @@ member_first text x ds =
         → option_map (part_symbol x) o ≡ option_map (λ e. part_symbol x (part_beyond 0 e)) o
     none_before None = refl
     none_before (Some e) =
-        ap (λ k. Some (record { name = x; anchor = own k; is_input = false; shape = e.shape })) (sym (zero_first e.offset))
+        ap (λ k. Some (part_symbol x (record { offset = k; shape = e.shape }))) (sym (zero_first e.offset))
 
 -- a block's
 pub block_symbols_are : (text : Declared) (vs : List Owned) (globals : List LinkVariable) (u : OrganisationUnit)

@@ -1,5 +1,5 @@
--- The linked form of a text, in which a function or a block is left out where its own variables are more than any layout
--- has room for.
+-- The linked form of a text, in which a function or a block is left out where its own variables are more than any
+-- layout has room for.
 use Rattle.std.specs.Prelude.{◌≡◌, nat_lt, List, [], ◌∷◌, map, Bool, true, false, not, Option, Some, None}
 use Rattle.std.specs.Prelude.{option_map, option_and_then}
 use Rattle.st_words.specs.declared.limits.TheConstants.{MAX_PATHS}

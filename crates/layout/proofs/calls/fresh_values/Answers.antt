@@ -27,7 +27,8 @@ returns-clause-ok c text serves h =
     let old : Growing = record { slots = c.new.result; instances = 0; trail = c.new-2.result } in
     let grown = grows_by_both text first own old c.push_result.new.grown c.push_variables.new.grown
     (c.in_ok-push_result.ensures.ok text serves c.new-2.ensures.items apart.0)
-    (c.in_ok-push_variables.ensures.ok text serves (c.in_ok-push_result.ensures.trail ∙ c.new-2.ensures.items) apart.1) in
+    (c.in_ok-push_variables.ensures.ok text serves (c.in_ok-push_result.ensures.trail ∙ c.new-2.ensures.items)
+    apart.1) in
     c.in_ok-started_values.ensures
     ∙ ap (λ ss. map (λ v. v.initial) (variables_among ss)) c.deref-3.ensures.value
     ∙ started_are text (first ++ rest) old c.push_variables.new.grown
@@ -47,7 +48,8 @@ returns-clause-room c text serves h =
     let old : Growing = record { slots = c.new.result; instances = 0; trail = c.new-2.result } in
     let grown = grows_by_both text first own old c.push_result.new.grown c.push_variables.new.grown
     (c.in_ok-push_result.ensures.ok text serves c.new-2.ensures.items apart.0)
-    (c.in_ok-push_variables.ensures.ok text serves (c.in_ok-push_result.ensures.trail ∙ c.new-2.ensures.items) apart.1) in
+    (c.in_ok-push_variables.ensures.ok text serves (c.in_ok-push_result.ensures.trail ∙ c.new-2.ensures.items)
+    apart.1) in
     let none : length c.new.result.items ≤ MAX_PATHS =
     subst (λ ss. length ss ≤ MAX_PATHS) (sym c.new.ensures.items) (omega arith) in
     grown_within c.leaves_of_shapes.ensures.count text (first ++ rest) old c.push_variables.new.grown

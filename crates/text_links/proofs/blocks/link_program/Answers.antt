@@ -37,7 +37,8 @@ returns-in_err-body-clause-none c =
     let t = table_of (numbers_of text) (symbols_of_program text layout owner u) (body_of_unit text u).instances in
     let body = c.in_ok-made.ensures.serves text globals t serves (ap (are_whole text) seen ∙ whole)
     (subst (λ vs. slots_taken text vs ≤ MAX_PATHS) (sym seen) small)
-    (table_seen text globals (absolute c.args.first) t (map (λ y. y.now.name) c.deref-3.result.now) (externals_in u.blocks)
+    (table_seen text globals (absolute c.args.first) t (map (λ y. y.now.name) c.deref-3.result.now)
+    (externals_in u.blocks)
     (map variable_view c.deref-4.result.now) (variables_of_blocks u.blocks)
     (map variable_view c.deref-5.result.now) (variables_of_blocks u.blocks) exts seen own_seen
     (program_table text layout globals owner c.args.first u are begin)) in
@@ -72,7 +73,8 @@ returns-clause-linked c text globals layout owner serves are whole room begin =
     let t = table_of (numbers_of text) (symbols_of_program text layout owner u) (body_of_unit text u).instances in
     let body = c.in_ok-made.ensures.serves text globals t serves (ap (are_whole text) seen ∙ whole)
     (subst (λ vs. slots_taken text vs ≤ MAX_PATHS) (sym seen) small)
-    (table_seen text globals (absolute c.args.first) t (map (λ y. y.now.name) c.deref-3.result.now) (externals_in u.blocks)
+    (table_seen text globals (absolute c.args.first) t (map (λ y. y.now.name) c.deref-3.result.now)
+    (externals_in u.blocks)
     (map variable_view c.deref-4.result.now) (variables_of_blocks u.blocks)
     (map variable_view c.deref-5.result.now) (variables_of_blocks u.blocks) exts seen own_seen
     (program_table text layout globals owner c.args.first u are begin)) in

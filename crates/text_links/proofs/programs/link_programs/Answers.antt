@@ -37,7 +37,8 @@ loop-instance-preserved c =
     let p = instance_view x in
     let split = split_at xs i x below c.instance-item.is in
     let more : map instance_view (take (i + 1) xs) ≡ before ++ p ∷ [] =
-    ap (map instance_view) (more_taken xs i x below c.instance-item.is) ∙ map-append instance_view (take i xs) (x ∷ []) in
+    ap (map instance_view) (more_taken xs i x below c.instance-item.is)
+    ∙ map-append instance_view (take i xs) (x ∷ []) in
     record {
       small = c.in_ok-first.ensures.small;
       first = λ text globals layout serves slots whole l.

@@ -28,6 +28,7 @@ loop-name-preserved c x =
       | in_default w ↦
           ap (λ t. found t x) w.symbols-is
           ∙ global_more x y.now.name g first (contains_name (shown (take i xs)) x) before before None
-          (c.loop-name.invariant x) (sym w.in_default.is ∙ c.find.ensures) (nothing_added before (bytes_eq x y.now.name))
+          (c.loop-name.invariant x) (sym w.in_default.is ∙ c.find.ensures)
+          (nothing_added before (bytes_eq x y.now.name))
           ∙ whole
     ]

@@ -28,7 +28,8 @@ pub returns-in_ok-stride-in-Array : goal.returns-in_ok-stride-in-Array
 returns-in_ok-stride-in-Array c text serves expanded =
     let t = place_type_view c.args.declared in
     let a = c.in-Array.array.now in
-    let made : composition_of text t ≡ of_elements a = ap (λ d. composition_of text (place_type_view d)) c.in-Array.is in
+    let made : composition_of text t ≡ of_elements a =
+    ap (λ d. composition_of text (place_type_view d)) c.in-Array.is in
     c.product.ensures ∙ ap (λ n. cut (n * c.in_ok-stride-in-Array.stride)) c.count_of.ensures
     ∙ array_size text t a c.in_ok-stride-in-Array.stride made expanded
     (c.in_ok-stride-in-Array.ensures text serves (expanded_element text t a made expanded))
