@@ -37,9 +37,9 @@ abbrev pub AreLabels : List Label → Type 0
 AreLabels [] = Unit {0}
 AreLabels (l ∷ ls) = IsLabel l × AreLabels ls
 
--- the lower bound is one that LINT holds, and elements and their slots have numbers below 65536
+-- the lower bound is a number that instructions hold, and elements and their slots are fewer than 65536
 abbrev pub IsSubscript : ℤ → ℕ → ℕ → Type 0
-IsSubscript lower count stride = (holds Lint lower ≡ true) × (count < 65536) × (stride < 65536)
+IsSubscript lower count stride = IsNumber lower × (count < 65536) × (stride < 65536)
 
 module _ (CallLinked : UnitCall → Type 0) (site : Site) where
   abbrev mutual
