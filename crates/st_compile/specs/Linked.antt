@@ -1,11 +1,9 @@
 -- What code is made of, room for the values of functions and for instructions aside: its literals are values, its
 -- labels and lower bounds are numbers that instructions hold, its places lie among the values of their units, its
 -- units are known, and calls are not too deep.
-use Rattle.std.specs.Prelude.{◌≡◌, ℕ, zero, suc, ◌+◌, ◌<◌, ◌≤◌, ℤ, true, List, [], ◌∷◌, length, Option, Some, None}
+use Rattle.std.specs.Prelude.{ℕ, zero, suc, ◌+◌, ◌<◌, ◌≤◌, ℤ, List, [], ◌∷◌, length, Option, Some, None}
 use Rattle.std.specs.Prelude.{slice_get}
 use Rattle.st_words.specs.Values.{IsHeld}
-use Rattle.st_words.specs.Kinds.{holds}
-use Rattle.st_words.specs.declared.kind.Kind.TheVariants.{Lint}
 use Rattle.st_trees.specs.declared.statement.Label.{Label}
 use Rattle.st_trees.specs.declared.statement.Label.TheVariants.{Single, Range, Enumerated}
 use Rattle.st_types.specs.Operators.{value_of_literal, number_of}

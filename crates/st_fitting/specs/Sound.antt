@@ -1,8 +1,6 @@
 -- What is asked of a body with names, so that code is made of its linked form.
-use Rattle.std.specs.Prelude.{◌≡◌, ℕ, suc, ◌+◌, ◌<◌, ◌≤◌, true, List, [], ◌∷◌, Option, Some, None}
+use Rattle.std.specs.Prelude.{◌≡◌, ℕ, suc, ◌+◌, ◌<◌, ◌≤◌, List, [], ◌∷◌, Option, Some, None}
 use Rattle.std.specs.Prelude.{option_and_then}
-use Rattle.st_words.specs.Kinds.{holds}
-use Rattle.st_words.specs.declared.kind.Kind.TheVariants.{Lint}
 use Rattle.st_trees.specs.Expressions as named
 use Rattle.st_trees.specs.Expressions.{Expr, literal, read, parenthesis, Exprs, Variable, variable, member, subscript}
 use Rattle.st_trees.specs.Expressions.{Selectors, no_selectors, selector_then}
