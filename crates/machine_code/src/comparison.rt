@@ -139,15 +139,15 @@ impl Instr {
                 _ => false,
             },
             Instr::Subscript {
-                lower,
                 count,
                 stride,
+                lower,
             } => match other {
                 Instr::Subscript {
-                    lower: other_lower,
                     count: other_count,
                     stride: other_stride,
-                } => lower == other_lower && count == other_count && stride == other_stride,
+                    lower: other_lower,
+                } => count == other_count && stride == other_stride && lower.is(other_lower),
                 _ => false,
             },
             Instr::ForTest { control, end } => match other {

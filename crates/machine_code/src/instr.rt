@@ -40,7 +40,11 @@ pub enum Instr {
     /// Takes so many values away.
     Leave(u16),
     /// Takes a subscript, and moves the slot's number below it on to the element.
-    Subscript { lower: i64, count: u16, stride: u16 },
+    Subscript {
+        count: u16,
+        stride: u16,
+        lower: Value,
+    },
     /// Takes a slot's number, and puts its value, where its type holds it.
     LoadAt,
     /// Takes a slot's number and a value, and assigns it.
@@ -48,9 +52,15 @@ pub enum Instr {
     /// Takes start, limit and step of a FOR, assigns the start to a slot, and puts back limit and step.
     ForBegin(u16),
     /// Goes to a place below where a slot's value has passed the limit of a FOR.
-    ForTest { control: u16, end: u16 },
+    ForTest {
+        control: u16,
+        end: u16,
+    },
     /// Adds the step of a FOR to a slot's value, or goes to a place below where that leaves its type.
-    ForStep { control: u16, end: u16 },
+    ForStep {
+        control: u16,
+        end: u16,
+    },
     /// Takes a number, and goes to a place below where the value under it is this one.
     Equals(u16),
     /// Takes a least and a greatest number, and goes to a place below where the value under them is among these.

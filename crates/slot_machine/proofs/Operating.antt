@@ -6,7 +6,6 @@ use Rattle.st_words.specs.Values.{Datum}
 use Rattle.st_types.specs.Failures.{in_runs, run_result}
 use Rattle.st_types.specs.Operators.{apply}
 use Rattle.st_types.specs.Operators.{natural}
-use Rattle.std.specs.Prelude.{ℤ}
 use Rattle.machine_code.specs.declared.instr.Instr.TheVariants.{Binary, Subscript}
 use Rattle.machine_code.specs.Machine.{Next, failed, act, element, slot_number}
 use Rattle.machine_code.specs.Tracking.{Tracked, tracking}
@@ -37,11 +36,11 @@ module _ (old mid rest : List Datum) (y x : Datum) (first : old ≡ y ∷ mid)
       ap (λ st. act tracking in_runs now size (Some (Binary op)) next p st m b) both
       ∙ result_err (apply op x y) f m (λ v. next p (v ∷ rest) m b) is
 
-  pub subscript_err : (lower : ℤ) (count stride : ℕ) (f : TheFault)
-      → Err f ≡ run_result (element lower count stride y.number (natural x.number)) → (now size p b : ℕ) (m : Tracked)
-      (next : Next Tracked)
-      → act tracking in_runs now size (Some (Subscript lower count stride)) next p old m b ≡ failed m f
+  pub subscript_err : (lower : Datum) (count stride : ℕ) (f : TheFault)
+      → Err f ≡ run_result (element lower.number count stride y.number (natural x.number))
+      → (now size p b : ℕ) (m : Tracked) (next : Next Tracked)
+      → act tracking in_runs now size (Some (Subscript count stride lower)) next p old m b ≡ failed m f
   subscript_err lower count stride f is now size p b m next =
-      ap (λ st. act tracking in_runs now size (Some (Subscript lower count stride)) next p st m b) both
-      ∙ result_err (element lower count stride y.number (natural x.number)) f m
+      ap (λ st. act tracking in_runs now size (Some (Subscript count stride lower)) next p st m b) both
+      ∙ result_err (element lower.number count stride y.number (natural x.number)) f m
       (λ j. next p (slot_number j ∷ rest) m b) is

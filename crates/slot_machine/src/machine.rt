@@ -55,9 +55,9 @@ fn step(
         Instr::Back(to) => go_back(size, to, place, ticks),
         Instr::Leave(n) => leave(n, stack),
         Instr::Subscript {
-            lower,
             count,
             stride,
+            lower,
         } => subscript(lower, count, stride, stack),
         Instr::LoadAt => load_at(stack, values, marks),
         Instr::StoreAt => store_at(stack, values, marks),

@@ -1,6 +1,6 @@
 //! The instruction that moves a slot's number on to an element.
 
-ghost use Rattle.std.specs.Prelude.{◌≡◌, ◌+◌, ◌*◌, ◌-ℤ◌, ℕ, Some, true};
+ghost use Rattle.std.specs.Prelude.{◌≡◌, ◌+◌, ◌*◌, ◌-ℤ◌, ◌+ℤ◌, ℕ, pos, Some, true};
 ghost use Rattle.st_types.specs.Failures.{run_result};
 ghost use Rattle.st_types.specs.Operators.{natural};
 ghost use Rattle.st_layouts.specs.Shapes.{in_bounds, distance};
@@ -14,24 +14,29 @@ use crate::stack::Stack;
 use crate::stop::Stop;
 use st_words::{Fault, Kind, Value};
 
-fn is_bounded(lower: i64, count: u16, subscript: Value) -> bool
-    ensures { result ≡ in_bounds lower count subscript.number }
+/// The number behind the last subscript.
+fn upper(lower: Value, count: u16) -> i128
+    ensures { result ≡ lower.number +ℤ pos count }
 {
-    let number = subscript.number();
-    let lower = lower as i128;
-    lower <= number && number < lower + count as i128
+    lower.number() + count as i128
 }
 
-fn behind(lower: i64, subscript: Value) -> i128
-    ensures { result ≡ subscript.number -ℤ lower }
+fn is_bounded(lower: Value, count: u16, subscript: Value) -> bool
+    ensures { result ≡ in_bounds lower.number count subscript.number }
 {
-    subscript.number() - lower as i128
+    lower.number() <= subscript.number() && subscript.number() < upper(lower, count)
+}
+
+fn behind(lower: Value, subscript: Value) -> i128
+    ensures { result ≡ subscript.number -ℤ lower.number }
+{
+    subscript.number() - lower.number()
 }
 
 /// How many elements stand before the one at a subscript.
-fn distance(lower: i64, count: u16, subscript: Value) -> u16
-    requires { in_bounds lower count subscript.number ≡ true }
-    ensures { result ≡ distance lower subscript.number }
+fn distance(lower: Value, count: u16, subscript: Value) -> u16
+    requires { in_bounds lower.number count subscript.number ≡ true }
+    ensures { result ≡ distance lower.number subscript.number }
 {
     behind(lower, subscript) as u16
 }
@@ -44,13 +49,13 @@ fn moved(first: u16, distance: u16, stride: u16) -> u64
 
 /// The slot of an element.
 fn element(
-    lower: i64,
+    lower: Value,
     count: u16,
     stride: u16,
     subscript: Value,
     first: Value,
 ) -> Result<u16, Fault>
-    ensures { result ≡ run_result (element lower count stride subscript.number (natural first.number)) }
+    ensures { result ≡ run_result (element lower.number count stride subscript.number (natural first.number)) }
 {
     if !is_bounded(lower, count, subscript) {
         return Err(Fault::Index);
@@ -77,9 +82,9 @@ fn slot_value(slot: u16) -> Value
 }
 
 #[tactic(auto, using(crate::proofs::Results::result_ok, crate::proofs::Results::result_err))]
-pub fn subscript(lower: i64, count: u16, stride: u16, stack: &mut Stack) -> Result<(), Stop>
+pub fn subscript(lower: Value, count: u16, stride: u16, stack: &mut Stack) -> Result<(), Stop>
     ensures { (now size p b : ℕ) (m : Tracked)
-        → Steps result now size (Some (instrs.Subscript lower count stride)) p stack.old m b p stack.new m b }
+        → Steps result now size (Some (instrs.Subscript count stride lower)) p stack.old m b p stack.new m b }
 {
     let number = stack.pop()?;
     let first = stack.pop()?;

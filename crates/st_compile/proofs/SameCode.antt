@@ -15,7 +15,7 @@ use Rattle.slot_trees.specs.SlotEvaluation.{slot_at}
 use Rattle.tree_code.specs.declared.ways.Ways.{Ways}
 use Rattle.tree_code.specs.Growing.{Code, ◌◂◌, closed}
 use Rattle.tree_code.specs.Sites.{Site, slot_in, end_of, site_at}
-use Rattle.tree_code.specs.Codes.{CodeUnits, count_of, labels_code, stores_code, expr_code, exprs_code}
+use Rattle.tree_code.specs.Codes.{CodeUnits, count_of, number_value, labels_code, stores_code, expr_code, exprs_code}
 use Rattle.tree_code.specs.Codes.{place_code, led_code, subscripts_code, step_code, inputs_code, outputs_code}
 use Rattle.tree_code.specs.Codes.{invoke_code, stmt_code, stmts_code, arms_code, case_code, given_members, loop_ways}
 use Rattle.tree_code.specs.Fitting.{UnitCall, of_function, of_block, ExprFits, ExprsFit, PlaceFits, SubscriptsFit}
@@ -51,13 +51,14 @@ module _ (P : UnitCall → Type 0) (U V : CodeUnits) (same : SameUnits P U V) (s
     led_same no_subscripts k here at c h = refl
     led_same (subscript_then e lower count stride ss) k here at c h =
         ap (λ d. d ◂ Push (slot_number k)) (expr_same e _ h.0
-        ∙ ap (λ d. expr_code V s e (d ◂ Subscript lower count stride)) (subscripts_same ss _ h.1))
+        ∙ ap (λ d. expr_code V s e (d ◂ Subscript count stride (number_value lower))) (subscripts_same ss _ h.1))
 
     pub subscripts_same : (ss : Subscripts) (c : Code) → SubscriptsFit P s ss
         → subscripts_code U s ss c ≡ subscripts_code V s ss c
     subscripts_same no_subscripts c h = refl
     subscripts_same (subscript_then e lower count stride ss) c h =
-        expr_same e _ h.0 ∙ ap (λ d. expr_code V s e (d ◂ Subscript lower count stride)) (subscripts_same ss c h.1)
+        expr_same e _ h.0 ∙ ap (λ d. expr_code V s e (d ◂ Subscript count stride (number_value lower)))
+        (subscripts_same ss c h.1)
 
   step_same : (o : Option SlotExpr) (c : Code) → StepFits P s o → step_code U s o c ≡ step_code V s o c
   step_same None c h = refl

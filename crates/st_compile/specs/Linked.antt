@@ -1,11 +1,9 @@
 -- What code is made of, room for the values of functions and for instructions aside: its literals are values, its
 -- labels and lower bounds are numbers that instructions hold, its places lie among the values of their units, its
 -- units are known, and calls are not too deep.
-use Rattle.std.specs.Prelude.{◌≡◌, ℕ, zero, suc, ◌+◌, ◌<◌, ◌≤◌, ℤ, true, List, [], ◌∷◌, length, Option, Some, None}
+use Rattle.std.specs.Prelude.{ℕ, zero, suc, ◌+◌, ◌<◌, ◌≤◌, ℤ, List, [], ◌∷◌, length, Option, Some, None}
 use Rattle.std.specs.Prelude.{slice_get}
 use Rattle.st_words.specs.Values.{IsHeld}
-use Rattle.st_words.specs.Kinds.{holds}
-use Rattle.st_words.specs.declared.kind.Kind.TheVariants.{Lint}
 use Rattle.st_trees.specs.declared.statement.Label.{Label}
 use Rattle.st_trees.specs.declared.statement.Label.TheVariants.{Single, Range, Enumerated}
 use Rattle.st_types.specs.Operators.{value_of_literal, number_of}
@@ -37,9 +35,9 @@ abbrev pub AreLabels : List Label → Type 0
 AreLabels [] = Unit {0}
 AreLabels (l ∷ ls) = IsLabel l × AreLabels ls
 
--- the lower bound is one that LINT holds, and elements and their slots have numbers below 65536
+-- the lower bound is a number that instructions hold, and elements and their slots are fewer than 65536
 abbrev pub IsSubscript : ℤ → ℕ → ℕ → Type 0
-IsSubscript lower count stride = (holds Lint lower ≡ true) × (count < 65536) × (stride < 65536)
+IsSubscript lower count stride = IsNumber lower × (count < 65536) × (stride < 65536)
 
 module _ (CallLinked : UnitCall → Type 0) (site : Site) where
   abbrev mutual

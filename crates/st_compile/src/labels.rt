@@ -41,19 +41,28 @@ pub fn put_literal(code: &mut Draft, literal: &Literal) -> Result<(), CompileErr
     }
 }
 
+/// A number as a value of LINT, or of ULINT where LINT does not hold it.
+pub fn number_value(number: i128) -> Result<Value, CompileError>
+    ensures value { IfOk result (λ v. v ≡ number_value number) }
+    ensures wrong { IfErr result (λ e. e ≡ CompileError.NotLinked → ¬ (IsNumber number)) }
+{
+    if let Ok(value) = Value::new(Kind::Lint, number) {
+        return Ok(value);
+    }
+    match Value::new(Kind::Ulint, number) {
+        Ok(value) => Ok(value),
+        Err(_) => Err(CompileError::NotLinked),
+    }
+}
+
 /// A number of a label comes on the stack.
 pub fn put_number(code: &mut Draft, number: i128) -> Result<(), CompileError>
     ensures code { OnOk result (code.new ≡ code.old ◂ instrs.Push (number_value number)) }
     ensures longer { OnOk result (length code.old ≤ length code.new) }
     ensures wrong { IfErr result (λ e. e ≡ CompileError.NotLinked → ¬ (IsNumber number)) }
 {
-    if let Ok(value) = Value::new(Kind::Lint, number) {
-        return code.put(Instr::Push(value));
-    }
-    match Value::new(Kind::Ulint, number) {
-        Ok(value) => code.put(Instr::Push(value)),
-        Err(_) => Err(CompileError::NotLinked),
-    }
+    let value = number_value(number)?;
+    code.put(Instr::Push(value))
 }
 
 /// Where a label holds the selector, which is on the stack, the run goes on at a place.

@@ -6,6 +6,7 @@ ghost use Rattle.slot_bodies.specs.Chains.{subscripts_of};
 ghost use Rattle.slot_bodies.specs.ExpressionViews.{anchor_view, subscript_view};
 ghost use Rattle.machine_code.specs.Machine.{slot_number};
 ghost use Rattle.machine_code.specs.declared.instr.Instr.TheVariants as instrs;
+ghost use Rattle.tree_code.specs.Codes.{number_value};
 ghost use Rattle.tree_code.specs.Fitting.{reach};
 ghost use Rattle.tree_code.specs.Growing.{◌◂◌};
 ghost use Rattle.tree_code.specs.Sites.{slot_in};
@@ -14,6 +15,7 @@ ghost use Rattle.st_compile.specs.Linked.{IsSubscript};
 
 use crate::compile_error::CompileError;
 use crate::draft::Draft;
+use crate::labels::number_value;
 use crate::scope::Scope;
 use machine_code::Instr;
 use slot_bodies::{Anchor, Subscript};
@@ -105,14 +107,12 @@ pub fn control_slot(scope: Scope, control: Anchor) -> Result<u16, CompileError>
 /// The instruction of a subscript.
 pub fn put_subscript(code: &mut Draft, subscript: &Subscript) -> Result<(), CompileError>
     ensures code { OnOk result (code.new
-        ≡ code.old ◂ instrs.Subscript subscript.now.lower subscript.now.count subscript.now.stride) }
+        ≡ code.old ◂ instrs.Subscript subscript.now.count subscript.now.stride (number_value subscript.now.lower)) }
     ensures longer { OnOk result (length code.old ≤ length code.new) }
     ensures wrong { IfErr result (λ e. e ≡ CompileError.NotLinked
         → ¬ (IsSubscript subscript.now.lower subscript.now.count subscript.now.stride)) }
 {
-    let Ok(lower) = i64::try_from(subscript.lower) else {
-        return Err(CompileError::NotLinked);
-    };
+    let lower = number_value(subscript.lower)?;
     let Ok(count) = u16::try_from(subscript.count) else {
         return Err(CompileError::NotLinked);
     };
@@ -120,8 +120,8 @@ pub fn put_subscript(code: &mut Draft, subscript: &Subscript) -> Result<(), Comp
         return Err(CompileError::NotLinked);
     };
     code.put(Instr::Subscript {
-        lower,
         count,
         stride,
+        lower,
     })
 }

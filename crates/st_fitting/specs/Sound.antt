@@ -1,8 +1,6 @@
 -- What is asked of a body with names, so that code is made of its linked form.
-use Rattle.std.specs.Prelude.{◌≡◌, ℕ, suc, ◌+◌, ◌<◌, ◌≤◌, true, List, [], ◌∷◌, Option, Some, None}
+use Rattle.std.specs.Prelude.{◌≡◌, ℕ, suc, ◌+◌, ◌<◌, ◌≤◌, List, [], ◌∷◌, Option, Some, None}
 use Rattle.std.specs.Prelude.{option_and_then}
-use Rattle.st_words.specs.Kinds.{holds}
-use Rattle.st_words.specs.declared.kind.Kind.TheVariants.{Lint}
 use Rattle.st_trees.specs.Expressions as named
 use Rattle.st_trees.specs.Expressions.{Expr, literal, read, parenthesis, Exprs, Variable, variable, member, subscript}
 use Rattle.st_trees.specs.Expressions.{Selectors, no_selectors, selector_then}
@@ -21,13 +19,13 @@ use Rattle.slot_trees.specs.SlotTrees.{BlockCode}
 use Rattle.slot_trees.specs.Tables.{Symbol, Table, symbol_of, named_in}
 use Rattle.tree_code.specs.Fitting.{UnitCall, of_function, of_block, IsValue}
 use Rattle.tree_code.specs.Sites.{Site, end_of, site_at}
-use Rattle.st_compile.specs.Linked.{AreLabels}
+use Rattle.st_compile.specs.Linked.{IsNumber, AreLabels}
 
--- each array has an element, and a lower bound that LINT holds
+-- each array has an element, and a lower bound that instructions hold
 abbrev mutual
   pub IsBounded : Shape → Type 0
   IsBounded (plain k) = Unit {0}
-  IsBounded (array lower count sh) = (0 < count) × (holds Lint lower ≡ true) × IsBounded sh
+  IsBounded (array lower count sh) = (0 < count) × IsNumber lower × IsBounded sh
   IsBounded (parts w ps) = AreBounded ps
 
   pub AreBounded : Parts → Type 0

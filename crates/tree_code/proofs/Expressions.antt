@@ -23,7 +23,7 @@ use Rattle.machine_code.specs.Machine.{Ending, on_result, a_slot, slot_number}
 use Rattle.tree_code.specs.Growing.{Code, ◌◂◌}
 use Rattle.tree_code.specs.Sites.{Site, slot_in, end_of}
 use Rattle.tree_code.specs.Codes.{CodeUnits, standard_code, literal_code, count_of, expr_code, exprs_code}
-use Rattle.tree_code.specs.Codes.{led_code, subscripts_code}
+use Rattle.tree_code.specs.Codes.{led_code, number_value, subscripts_code}
 use Rattle.tree_code.specs.Fitting.{UnitCall, of_function, IsValue, reach, ExprFits, ExprsFit, SubscriptsFit}
 use Rattle.tree_code.proofs.Places.{Has, same_code, grows_on, put, put_on, part}
 use Rattle.tree_code.proofs.Gives.{Gives, by_eq, fitting, given, bind, taken}
@@ -178,7 +178,7 @@ module _ (t : StandIns) (now memory : ℕ) (small : memory ≤ 65536) (F : Code)
           given m (record { holds = holds; within = (let l = lt in omega arith) })
       subscripts_run (subscript_then e lower count stride ss) k c st m b lt fits holds has =
           let d = subscripts_code codes s ss c in
-          let i = Subscript lower count stride in
+          let i = Subscript count stride (number_value lower) in
           bind _ (expr_runs e (d ◂ i) (slot_number (s.start + k) ∷ st) m b fits.0 holds
           (part (put_on _ (subscripts_grow codes grow s ss c)) (same_code _) has)) (λ v n a good le.
           one t now F d i (v ∷ slot_number (s.start + k) ∷ st) n a

@@ -132,13 +132,13 @@ module _ (units : CodeUnits) (site : Site) where
     pub led_code : Subscripts → ℕ → (ℕ → Instr) → Instr → Code → Code
     led_code no_subscripts k here at c = c ◂ here k
     led_code (subscript_then e lower count stride ss) k here at c =
-        expr_code e (subscripts_code ss (c ◂ at) ◂ Subscript lower count stride) ◂ Push (slot_number k)
+        expr_code e (subscripts_code ss (c ◂ at) ◂ Subscript count stride (number_value lower)) ◂ Push (slot_number k)
 
     -- the slot on the stack is moved on
     pub subscripts_code : Subscripts → Code → Code
     subscripts_code no_subscripts c = c
     subscripts_code (subscript_then e lower count stride ss) c =
-        expr_code e (subscripts_code ss c ◂ Subscript lower count stride)
+        expr_code e (subscripts_code ss c ◂ Subscript count stride (number_value lower))
 
   -- the step of a FOR: 1 where none is written
   abbrev pub step_code : Option SlotExpr → Code → Code
