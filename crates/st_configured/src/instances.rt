@@ -20,10 +20,8 @@ use st_words::{Identifier, Kind, Name};
 
 /// Whether a type is BOOL.
 fn is_boolean(declared: PlaceType) -> bool
-    ensures {
-        (text : Declared)
-            → result ≡ is_of_kind Boolean (kind_among text.types (place_type_view declared.entry))
-    }
+    ensures { (text : Declared)
+        → result ≡ is_of_kind Boolean (kind_among text.types (place_type_view declared.entry)) }
 {
     match declared {
         PlaceType::Simple(SimpleType::Elementary(kind, _)) => Kind::Bool.is(*kind),
