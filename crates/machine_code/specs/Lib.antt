@@ -2,3 +2,4 @@ pub mod Memories
 pub mod Machine
 pub mod Simulation
 pub mod Tracking
+pub mod Endings

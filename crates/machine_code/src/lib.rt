@@ -4,10 +4,13 @@
 //! serves all instructions, and a memory that records what is read runs as one that does not.
 #![tactic(auto)]
 
+mod comparison;
 mod instr;
 mod laws;
+mod limits;
 mod mark;
 
 pub use instr::Instr;
 pub use laws::{machine_goes_on, reads_suffice};
+pub use limits::{MAX_INSTRUCTIONS, MAX_MEMORY};
 pub use mark::Mark;

@@ -1,6 +1,6 @@
 //! The instruction that steps a standard block.
 
-ghost use Rattle.std.specs.Prelude.{◌≡◌, ℕ, List, Some, length};
+ghost use Rattle.std.specs.Prelude.{◌≡◌, ◌-◌, ℕ, List, Some, length, min};
 ghost use Rattle.st_words.specs.Values.{Datum};
 ghost use Rattle.st_types.specs.StandardBlocks.{members_of};
 ghost use Rattle.st_names.specs.Standard.{block_view};
@@ -25,6 +25,18 @@ fn member_count(block: StandardBlock) -> u16
         StandardBlock::Ctu | StandardBlock::Ctd => 6,
         StandardBlock::Ctud => 10,
         StandardBlock::Ton | StandardBlock::Tof | StandardBlock::Tp => 6,
+    }
+}
+
+/// How many of so many slots from one on are among so many.
+fn there_from(length: usize, first: u16, count: u16) -> u16
+    ensures { result ≡ min count (length - first) }
+{
+    let behind = length.saturating_sub(first as usize);
+    if behind < count as usize {
+        behind as u16
+    } else {
+        count
     }
 }
 
@@ -58,7 +70,7 @@ pub fn step_block(
         (tracked values.old marks.old) b p st (tracked values.new marks.new) b }
 {
     let count = member_count(block);
-    mark_all_seen(marks, first, count);
+    mark_all_seen(marks, first, there_from(values.len(), first, count));
     match step(block, values, first as usize, now) {
         Ok(()) => {
             mark_all_assigned(marks, first, count);

@@ -20,7 +20,7 @@ returns-in-Err c =
     let lt : p - 1 < length code = omega (arith, c.loop-i.invariant.place, c.if-place-eq0.false) in
     let n = c.step.new in
     let k = tracked n.values n.marks in
-    ends_behind c.args.now code c.in-Err.stop (limit - (c.loop-i.i + 1)) n.place n.stack k k n.ticks _ _
+    ends_behind c.args.now code c.in-Err.stop (limit - (c.loop-i.i + 1)) n.place n.stack k n.ticks _ _
     (limit_is c.args.now code (tracked c.args.values.now c.args.marks.now) c.args.budget)
     (step_on c.args.now code limit c.loop-i.i p c.loop-i.stack (tracked c.loop-i.values c.loop-i.marks) c.loop-i.ticks
     c.index-code-place.result (Err c.in-Err.stop) n.place n.stack k n.ticks _ c.loop-i-test.true c.if-place-eq0.false
@@ -47,6 +47,6 @@ pub returns : goal.returns
 returns c =
     let code = c.args.code.now in
     let m = tracked c.loop-i.values c.loop-i.marks in
-    out_of c.args.now code ((c.args.budget + 1) * (length code + 1)) c.loop-i.i c.loop-i.place c.loop-i.stack m m
+    out_of c.args.now code ((c.args.budget + 1) * (length code + 1)) c.loop-i.i c.loop-i.place c.loop-i.stack m
     c.loop-i.ticks _ _ c.loop-i-test.false
     (limit_is c.args.now code (tracked c.args.values.now c.args.marks.now) c.args.budget) c.loop-i.invariant.goes_on

@@ -1,0 +1,9 @@
+//! Programs as code: instructions, with the types of the slots that they run over.
+//!
+//! What code means is defined here. Nothing here runs.
+#![tactic(auto)]
+
+mod code;
+mod comparison;
+
+pub use code::Code;

@@ -1,0 +1,3 @@
+pub mod PickedLemmas
+pub mod InputLemmas
+pub mod TrueLemmas

@@ -1,0 +1,5 @@
+pub mod Cells
+pub mod Runs
+pub mod Effects
+pub mod Executions
+pub mod Inputs

@@ -1,0 +1,19 @@
+//! Runs of code on snapshots, outside the lock.
+//!
+//! The type of `Execution` keeps that wherever what it read stands, each program that the code means ends as it says
+//! and leaves its writes. A faulted execution writes nothing, and a run changes no variable: a commit does.
+#![tactic(auto)]
+
+mod cell;
+mod execution;
+mod gathering;
+mod laws;
+mod memory;
+mod runner;
+mod snapshot;
+
+pub use cell::Cell;
+pub use execution::{Cells, Execution};
+pub use laws::writes_to_inputs_change_no_variable;
+pub use runner::run;
+pub use snapshot::Snapshot;

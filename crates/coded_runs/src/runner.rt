@@ -1,0 +1,116 @@
+//! Runs of code.
+
+ghost use Rattle.std.specs.Prelude.{◌≡◌, ◌≤◌, [], IfOk, length, map, take};
+ghost use Rattle.st_types.specs.Failures.{in_runs};
+ghost use Rattle.machine_code.specs.Machine.{runs};
+ghost use Rattle.machine_code.specs.Tracking.{tracking, tracked};
+ghost use Rattle.coded_runs.specs.Cells.{cut};
+ghost use Rattle.coded_programs.specs.Codes.{code_view};
+ghost use Rattle.coded_runs.specs.Runs.{EndsAs, IsLong, marked_run, writes_left};
+ghost use Rattle.coded_runs.specs.Executions.{IsEffectOf, IsRunOf};
+
+use crate::execution::{Cells, Execution};
+use crate::gathering::{reads_of, writes_of};
+use crate::memory::{memory_over, unmarked};
+use crate::snapshot::Snapshot;
+use coded_programs::Code;
+use machine_code::Mark;
+use slot_machine::Stop;
+use smallvec::SmallVec;
+use st_types::Outcome;
+use st_words::Value;
+use std::alloc::{AllocError, Global};
+
+/// How a run of the code ends, with what it leaves in memory and marks.
+fn end_of(
+    alloc: Global,
+    code: &Code,
+    moment: u64,
+    memory: &mut [Value],
+    marks: &mut [Mark],
+    budget: u32,
+) -> Result<Outcome, AllocError>
+    ensures ends { IfOk result (λ outcome. EndsAs outcome (runs tracking in_runs moment code.now.instrs.items
+        (length code.now.instrs.items) [] (tracked memory.old marks.old) budget) (tracked memory.new marks.new)) }
+{
+    match slot_machine::run(alloc, &code.instrs, moment, memory, marks, budget) {
+        Ok(_) => Ok(Outcome::Done),
+        Err(Stop::Fault(fault)) => Ok(Outcome::Faulted(fault)),
+        Err(Stop::Memory) => Err(AllocError),
+    }
+}
+
+/// The writes that such an end leaves in the first slots: a fault leaves none.
+fn writes_left(
+    alloc: Global,
+    outcome: Outcome,
+    values: &[Value],
+    marks: &[Mark],
+) -> Result<Cells, AllocError>
+    ensures { IfOk result (λ cells. map cut cells.items ≡ writes_left outcome values.now marks.now) }
+{
+    match outcome {
+        Outcome::Done => writes_of(alloc, values, marks),
+        Outcome::Faulted(_) => Ok(SmallVec::new(alloc)),
+    }
+}
+
+/// What a run read and wrote, and how it ended.
+#[derive(Drop)]
+pub struct Ran {
+    pub reads: Cells,
+    pub writes: Cells,
+    pub outcome: Outcome,
+}
+
+/// Runs code on the values of its slots.
+fn run_code(
+    alloc: Global,
+    code: &Code,
+    moment: u64,
+    slots: &[Value],
+    budget: u32,
+) -> Result<Ran, AllocError>
+    ensures ran { IfOk result (IsRunOf (marked_run (code_view code.now) moment slots.now budget) slots.now) }
+    ensures long { IfOk result (λ _. IsLong (length slots.now) (marked_run (code_view code.now) moment slots.now
+        budget)) }
+{
+    let mut memory = memory_over(alloc, slots, code.extra)?;
+    let mut marks = unmarked(alloc, memory.len())?;
+    let outcome = end_of(alloc, code, moment, &mut memory, &mut marks, budget)?;
+    let reads = reads_of(alloc, slots, &marks)?;
+    let writes = writes_left(alloc, outcome, &memory[..slots.len()], &marks)?;
+    Ok(Ran {
+        reads,
+        writes,
+        outcome,
+    })
+}
+
+/// Runs a snapshot's code on its values. Its reads are what it looked up before it had assigned it, and its writes what
+/// it assigned. Whatever the code is, this ends within `(budget + 1) * (length + 1)` instructions, where `length` is
+/// that of the code.
+///
+/// The only error is out of memory.
+pub fn run(alloc: Global, snapshot: Snapshot) -> Result<Execution, AllocError>
+    ensures { IfOk result (IsEffectOf snapshot) }
+{
+    let Snapshot {
+        code,
+        activation,
+        moment,
+        budget,
+        slots,
+        ..
+    } = snapshot;
+    let ran = run_code(alloc, &code, moment, &slots, budget)?;
+    Ok(Execution::new(
+        code,
+        activation,
+        moment,
+        budget,
+        ran.reads,
+        ran.writes,
+        ran.outcome,
+    ))
+}

@@ -1,0 +1,169 @@
+//! Comparison of instructions.
+
+ghost use Rattle.std.specs.Prelude.{◌≡◌, ◌↔◌, IsTrue};
+
+use crate::instr::Instr;
+use st_names::{Standard, StandardBlock};
+use st_words::{BinaryOperator, Kind, UnaryOperator};
+
+/// Whether the two are one operator.
+fn same_unary(this: UnaryOperator, that: UnaryOperator) -> bool
+    ensures { IsTrue result ↔ (this ≡ that) }
+{
+    this == that
+}
+
+/// Whether the two are one operator.
+fn same_binary(this: BinaryOperator, that: BinaryOperator) -> bool
+    ensures { IsTrue result ↔ (this ≡ that) }
+{
+    this == that
+}
+
+/// Whether the two are one type.
+fn same_kind(this: Kind, that: Kind) -> bool
+    ensures { IsTrue result ↔ (this ≡ that) }
+{
+    this.is(that)
+}
+
+/// Whether the two are one standard function.
+fn same_standard(this: Standard, that: Standard) -> bool
+    ensures { IsTrue result ↔ (this ≡ that) }
+{
+    match this {
+        Standard::Abs => matches!(that, Standard::Abs),
+        Standard::Min => matches!(that, Standard::Min),
+        Standard::Max => matches!(that, Standard::Max),
+        Standard::Limit => matches!(that, Standard::Limit),
+        Standard::Sel => matches!(that, Standard::Sel),
+        Standard::Shl => matches!(that, Standard::Shl),
+        Standard::Shr => matches!(that, Standard::Shr),
+        Standard::Rol => matches!(that, Standard::Rol),
+        Standard::Ror => matches!(that, Standard::Ror),
+        Standard::Convert(from, to) => match that {
+            Standard::Convert(other_from, other_to) => {
+                same_kind(from, other_from) && same_kind(to, other_to)
+            }
+            _ => false,
+        },
+    }
+}
+
+/// Whether the two are one standard block.
+fn same_block(this: StandardBlock, that: StandardBlock) -> bool
+    ensures { IsTrue result ↔ (this ≡ that) }
+{
+    this == that
+}
+
+impl Instr {
+    /// Whether the two are one instruction.
+    pub fn is(self, other: Instr) -> bool
+        ensures { IsTrue result ↔ (self ≡ other) }
+    {
+        match self {
+            Instr::Tick => matches!(other, Instr::Tick),
+            Instr::LoadAt => matches!(other, Instr::LoadAt),
+            Instr::StoreAt => matches!(other, Instr::StoreAt),
+            Instr::Push(a) => match other {
+                Instr::Push(b) => a.is(b),
+                _ => false,
+            },
+            Instr::Load(a) => match other {
+                Instr::Load(b) => a == b,
+                _ => false,
+            },
+            Instr::Fetch(a) => match other {
+                Instr::Fetch(b) => a == b,
+                _ => false,
+            },
+            Instr::Store(a) => match other {
+                Instr::Store(b) => a == b,
+                _ => false,
+            },
+            Instr::Reset(a) => match other {
+                Instr::Reset(b) => a == b,
+                _ => false,
+            },
+            Instr::Turn(a) => match other {
+                Instr::Turn(b) => a == b,
+                _ => false,
+            },
+            Instr::Jump(a) => match other {
+                Instr::Jump(b) => a == b,
+                _ => false,
+            },
+            Instr::Unless(a) => match other {
+                Instr::Unless(b) => a == b,
+                _ => false,
+            },
+            Instr::When(a) => match other {
+                Instr::When(b) => a == b,
+                _ => false,
+            },
+            Instr::Back(a) => match other {
+                Instr::Back(b) => a == b,
+                _ => false,
+            },
+            Instr::Leave(a) => match other {
+                Instr::Leave(b) => a == b,
+                _ => false,
+            },
+            Instr::ForBegin(a) => match other {
+                Instr::ForBegin(b) => a == b,
+                _ => false,
+            },
+            Instr::Equals(a) => match other {
+                Instr::Equals(b) => a == b,
+                _ => false,
+            },
+            Instr::Within(a) => match other {
+                Instr::Within(b) => a == b,
+                _ => false,
+            },
+            Instr::Unary(a) => match other {
+                Instr::Unary(b) => same_unary(a, b),
+                _ => false,
+            },
+            Instr::Binary(a) => match other {
+                Instr::Binary(b) => same_binary(a, b),
+                _ => false,
+            },
+            Instr::Compute(a, m) => match other {
+                Instr::Compute(b, n) => same_standard(a, b) && m == n,
+                _ => false,
+            },
+            Instr::Step(a, m) => match other {
+                Instr::Step(b, n) => same_block(a, b) && m == n,
+                _ => false,
+            },
+            Instr::Subscript {
+                lower,
+                count,
+                stride,
+            } => match other {
+                Instr::Subscript {
+                    lower: other_lower,
+                    count: other_count,
+                    stride: other_stride,
+                } => lower == other_lower && count == other_count && stride == other_stride,
+                _ => false,
+            },
+            Instr::ForTest { control, end } => match other {
+                Instr::ForTest {
+                    control: other_control,
+                    end: other_end,
+                } => control == other_control && end == other_end,
+                _ => false,
+            },
+            Instr::ForStep { control, end } => match other {
+                Instr::ForStep {
+                    control: other_control,
+                    end: other_end,
+                } => control == other_control && end == other_end,
+                _ => false,
+            },
+        }
+    }
+}
