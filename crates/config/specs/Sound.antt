@@ -11,8 +11,13 @@ use Rattle.st_plans.specs.declared.plan.PlanInput.{PlanInput}
 use Rattle.st_types.specs.Scopes.{Name, contains_name}
 use Rattle.st_types.specs.Slots.{IsLayout}
 use Rattle.st_plans.specs.Layouts.{layout_of, path_text, record_length}
-use Rattle.slot_code.specs.Codes.{code_view}
-use Rattle.slot_code.specs.Fitting.{Fits}
+use Rattle.st_types.specs.Slots.{Slot}
+use Rattle.st_trees.specs.Sources.{Source}
+use Rattle.coded_programs.specs.Codes.{code_view}
+use Rattle.coded_programs.specs.Meanings.{Means}
+use Rattle.config.specs.declared.slots.SlotPlace.{SlotPlace}
+use Rattle.config.specs.SlotPlaces.{are_numbered, slots_among}
+use Rattle.config.specs.Sources.{program_numbered}
 use Rattle.config.specs.declared.task.Trigger.{Trigger}
 use Rattle.config.specs.declared.task.Trigger.TheVariants.{Absent, Input, Variable}
 use Rattle.config.specs.declared.task.Task.{Task}
@@ -64,13 +69,21 @@ pub record IsWithinLimits (variables : List PlanVariable) (inputs : List PlanInp
   pub ticks : budget ≤ MAX_BUDGET
   pub record_is : record_length variables ≤ MAX_RECORD_BODY
 
--- Each path has one slot, and the code of each program fits the slots; each program runs in a
--- task of its resource; each variable can have a line in a record, and no two paths are spelled alike.
-pub record PlanInvariant (variables : List PlanVariable) (inputs : List PlanInput) (resources : ℕ) (tasks : List Task)
-    (programs : List ProgramInstance) (budget : ℕ) : Type 0 where
+-- The code of an instance does over the slots what its program does, and the instance has its program's names.
+pub record IsCodeOf (source : Source) (layout : List Slot) (p : ProgramInstance) : Type 0 where
+  pub means : Means layout (code_view p.code.value) (program_numbered source p.number)
+  pub owner : (program_numbered source p.number).owner ≡ p.owner
+
+-- Each path has one slot; variables and inputs are numbered in the order of the slots; the code of each instance does
+-- what its program does; each program runs in a task of its resource; each variable can have a line in a record, and no
+-- two paths are spelled alike.
+pub record PlanInvariant (source : Source) (variables : List PlanVariable) (inputs : List PlanInput)
+    (slots : List SlotPlace) (resources : ℕ) (tasks : List Task) (programs : List ProgramInstance)
+    (budget : ℕ) : Type 0 where
   pub layout : IsLayout (layout_of variables inputs)
+  pub numbered : are_numbered 0 0 slots (length variables) (length inputs) ≡ true
   pub codes : (k : ℕ) (p : ProgramInstance) → slice_get programs k ≡ Some p
-      → Fits (layout_of variables inputs) (code_view p.code.value)
+      → IsCodeOf source (slots_among slots variables inputs) p
   pub resources_are : (k : ℕ) (t : Task) → slice_get tasks k ≡ Some t → t.resource < resources
   pub places : (k : ℕ) (p : ProgramInstance) → slice_get programs k ≡ Some p
       → is_of_resource p.resource (slice_get tasks p.task) ≡ true
