@@ -4,16 +4,18 @@ use Rattle.std.proofs.Common.{List, [], ◌∷◌, ◌++◌, map, length, Option
 use Rattle.std.proofs.Common.{Bool, ◌&&◌, drop, slice_index_or, append_assoc}
 use Rattle.std.proofs.Math.Seq.{drop-cons}
 use Rattle.std.proofs.Math.Numerals.{suc-eq-add-one}
+use Rattle.std.proofs.Common.{◌-◌}
+use Rattle.std.proofs.lemmas.List.{length-set}
 use Rattle.std.specs.Prelude.{◌==◌, slice_get, slice_set}
 use Rattle.st_words.specs.Values.{Datum}
-use Rattle.st_types.specs.Slots.{Slot, variables_in, inputs_in, AreOfTypes}
+use Rattle.st_types.specs.Slots.{Slot, Cell, variables_in, inputs_in, written, AreOfTypes}
 use Rattle.st_plans.specs.declared.plan.PlanInput.{PlanInput}
 use Rattle.st_plans.specs.declared.plan.PlanVariable.{PlanVariable}
 use Rattle.st_plans.specs.Layouts.{layout_of, variable_slot, input_slot}
 use Rattle.st_plans.specs.Plans.{image_of}
 use Rattle.config.specs.declared.slots.SlotPlace.{SlotPlace}
 use Rattle.config.specs.declared.slots.SlotPlace.TheVariants.{Input, Variable}
-use Rattle.config.specs.SlotPlaces.{are_numbered, merged, slots_among}
+use Rattle.config.specs.SlotPlaces.{are_numbered, merged, slots_among, value_in, put_in, written_variables}
 
 -- variables and inputs are numbered as they stand
 abbrev pub AreNumbered : ℕ → ℕ → List SlotPlace → ℕ → ℕ → Type 0
@@ -137,79 +139,171 @@ typed_merged ps ws js vs xs a b =
     (b ∙ sym (map_map (λ l. l.kind) input_slot js))
     ∙ sym (map_merged (λ l. l.kind) ps (map variable_slot ws) (map input_slot js))
 
--- the slot of a variable, and that of an input
-pub record Holds {A : Type 0} (ps : List SlotPlace) (vs xs : List A) (k n v : ℕ) : Type 0 where
-  pub number : ℕ
-  pub is : n ≡ v + number
-  pub set : (x : A) → slice_set (merged ps vs xs) k x ≡ merged ps (slice_set vs number x) xs
-  pub get : slice_get (merged ps vs xs) k ≡ slice_get vs number
+-- which values stand in a place, where the numbers begin so
+abbrev value_from : ℕ → ℕ → List Datum → List Datum → Option SlotPlace → Option Datum
+value_from v i vs xs None = None
+value_from v i vs xs (Some (Variable n)) = slice_get vs (n - v)
+value_from v i vs xs (Some (Input n)) = slice_get xs (n - i)
 
-pub record Shows {A : Type 0} (ps : List SlotPlace) (vs xs : List A) (k n i : ℕ) : Type 0 where
-  pub number : ℕ
-  pub is : n ≡ i + number
-  pub get : slice_get (merged ps vs xs) k ≡ slice_get xs number
+-- the numbers of the places from one on are not below those that they begin with
+abbrev IsFrom : ℕ → ℕ → Option SlotPlace → Type 0
+IsFrom v i None = Unit {0}
+IsFrom v i (Some (Variable n)) = v ≤ n
+IsFrom v i (Some (Input n)) = i ≤ n
 
-same_variable : (k n : ℕ) → Some (Variable k) ≡ Some (Variable n) → k ≡ n
-same_variable k n h = ap (number_in k) h
-  where
-    number_in : ℕ → Option SlotPlace → ℕ
-    number_in d (Some (Variable k)) = k
-    number_in d (Some (Input k)) = d
-    number_in d None = d
+later_variable : (v i : ℕ) (o : Option SlotPlace) → IsFrom (suc v) i o → IsFrom v i o
+later_variable v i None h = tt
+later_variable v i (Some (Variable n)) h = omega arith
+later_variable v i (Some (Input n)) h = h
 
-same_input : (k n : ℕ) → Some (Input k) ≡ Some (Input n) → k ≡ n
-same_input k n h = ap (number_in k) h
-  where
-    number_in : ℕ → Option SlotPlace → ℕ
-    number_in d (Some (Input k)) = k
-    number_in d (Some (Variable k)) = d
-    number_in d None = d
+later_input : (v i : ℕ) (o : Option SlotPlace) → IsFrom v (suc i) o → IsFrom v i o
+later_input v i None h = tt
+later_input v i (Some (Variable n)) h = h
+later_input v i (Some (Input n)) h = omega arith
 
-pub held : {A : Type 0} (ps : List SlotPlace) (v i : ℕ) (vs xs : List A) (k n : ℕ)
-    → AreNumbered v i ps (v + length vs) (i + length xs) → slice_get ps k ≡ Some (Variable n) → Holds ps vs xs k n v
-held [] v i vs xs k n h g = absurd (cc)
-held {A = A} (Variable m ∷ ps) v i [] xs k n h g =
-    absurd (let lt : 0 < length {A = A} [] = some_variable {A = A} ps v i (i + length xs) [] h.1 in omega arith)
-held (Variable m ∷ ps) v i (x ∷ vs) xs zero n h g = record {
-  number = zero;
-  is = let e : m ≡ n = same_variable m n g in let f : m ≡ v = h.0 in omega arith;
-  set = λ y. refl;
-  get = refl;
-}
-held (Variable m ∷ ps) v i (x ∷ vs) xs (suc k) n h g =
-    let r = held ps (suc v) i vs xs k n (one_variable ps v i (length vs) (i + length xs) h.1) g in
-    let e : n ≡ suc v + r.number = r.is in record {
-      number = suc r.number;
-      is = omega arith;
-      set = λ y. ap (λ s. x ∷ s) (r.set y);
-      get = r.get;
-    }
-held {A = A} (Input m ∷ ps) v i vs [] k n h g =
-    absurd (let lt : 0 < length {A = A} [] = some_input {A = A} ps v i (v + length vs) [] h.1 in omega arith)
-held (Input m ∷ ps) v i vs (x ∷ xs) zero n h g = absurd (cc)
-held (Input m ∷ ps) v i vs (x ∷ xs) (suc k) n h g =
-    let r = held ps v (suc i) vs xs k n (one_input ps v i (v + length vs) (length xs) h.1) g in
-    record { number = r.number; is = r.is; set = λ y. ap (λ s. x ∷ s) (r.set y); get = r.get; }
+from_there : (ps : List SlotPlace) (v i n m k : ℕ) → AreNumbered v i ps n m → IsFrom v i (slice_get ps k)
+from_there [] v i n m k h = tt
+from_there (Variable a ∷ ps) v i n m zero h = let e : a ≡ v = h.0 in omega arith
+from_there (Input a ∷ ps) v i n m zero h = let e : a ≡ i = h.0 in omega arith
+from_there (Variable a ∷ ps) v i n m (suc k) h =
+    later_variable v i (slice_get ps k) (from_there ps (suc v) i n m k h.1)
+from_there (Input a ∷ ps) v i n m (suc k) h =
+    later_input v i (slice_get ps k) (from_there ps v (suc i) n m k h.1)
 
-pub shown : {A : Type 0} (ps : List SlotPlace) (v i : ℕ) (vs xs : List A) (k n : ℕ)
-    → AreNumbered v i ps (v + length vs) (i + length xs) → slice_get ps k ≡ Some (Input n) → Shows ps vs xs k n i
-shown [] v i vs xs k n h g = absurd (cc)
-shown {A = A} (Variable m ∷ ps) v i [] xs k n h g =
-    absurd (let lt : 0 < length {A = A} [] = some_variable {A = A} ps v i (i + length xs) [] h.1 in omega arith)
-shown (Variable m ∷ ps) v i (x ∷ vs) xs zero n h g = absurd (cc)
-shown (Variable m ∷ ps) v i (x ∷ vs) xs (suc k) n h g =
-    let r = shown ps (suc v) i vs xs k n (one_variable ps v i (length vs) (i + length xs) h.1) g in
-    record { number = r.number; is = r.is; get = r.get; }
-shown {A = A} (Input m ∷ ps) v i vs [] k n h g =
-    absurd (let lt : 0 < length {A = A} [] = some_input {A = A} ps v i (v + length vs) [] h.1 in omega arith)
-shown (Input m ∷ ps) v i vs (x ∷ xs) zero n h g = record {
-  number = zero;
-  is = let e : m ≡ n = same_input m n g in let f : m ≡ i = h.0 in omega arith;
-  get = refl;
-}
-shown (Input m ∷ ps) v i vs (x ∷ xs) (suc k) n h g =
-    let r = shown ps v (suc i) vs xs k n (one_input ps v i (v + length vs) (length xs) h.1) g in
-    let e : n ≡ suc i + r.number = r.is in record { number = suc r.number; is = omega arith; get = r.get; }
+behind_variable : (v i : ℕ) (x : Datum) (vs xs : List Datum) (o : Option SlotPlace) → IsFrom (suc v) i o
+    → value_from (suc v) i vs xs o ≡ value_from v i (x ∷ vs) xs o
+behind_variable v i x vs xs None h = refl
+behind_variable v i x vs xs (Some (Variable n)) h =
+    let e : n - v ≡ suc (n - suc v) = omega arith in sym (ap (slice_get (x ∷ vs)) e)
+behind_variable v i x vs xs (Some (Input n)) h = refl
+
+behind_input : (v i : ℕ) (x : Datum) (vs xs : List Datum) (o : Option SlotPlace) → IsFrom v (suc i) o
+    → value_from v (suc i) vs xs o ≡ value_from v i vs (x ∷ xs) o
+behind_input v i x vs xs None h = refl
+behind_input v i x vs xs (Some (Variable n)) h = refl
+behind_input v i x vs xs (Some (Input n)) h =
+    let e : n - i ≡ suc (n - suc i) = omega arith in sym (ap (slice_get (x ∷ xs)) e)
+
+found_from : (ps : List SlotPlace) (v i : ℕ) (vs xs : List Datum) (k : ℕ)
+    → AreNumbered v i ps (v + length vs) (i + length xs)
+    → slice_get (merged ps vs xs) k ≡ value_from v i vs xs (slice_get ps k)
+found_from [] v i vs xs k h = refl
+found_from (Variable m ∷ ps) v i [] xs k h =
+    absurd (let lt : 0 < length {A = Datum} [] = some_variable {A = Datum} ps v i (i + length xs) [] h.1 in omega arith)
+found_from (Variable m ∷ ps) v i (x ∷ vs) xs zero h =
+    let a : m ≡ v = h.0 in let e : m - v ≡ 0 = omega arith in sym (ap (slice_get (x ∷ vs)) e)
+found_from (Variable m ∷ ps) v i (x ∷ vs) xs (suc k) h =
+    let n = one_variable ps v i (length vs) (i + length xs) h.1 in
+    found_from ps (suc v) i vs xs k n
+    ∙ behind_variable v i x vs xs (slice_get ps k) (from_there ps (suc v) i (suc v + length vs) (i + length xs) k n)
+found_from (Input m ∷ ps) v i vs [] k h =
+    absurd (let lt : 0 < length {A = Datum} [] = some_input {A = Datum} ps v i (v + length vs) [] h.1 in omega arith)
+found_from (Input m ∷ ps) v i vs (x ∷ xs) zero h =
+    let a : m ≡ i = h.0 in let e : m - i ≡ 0 = omega arith in sym (ap (slice_get (x ∷ xs)) e)
+found_from (Input m ∷ ps) v i vs (x ∷ xs) (suc k) h =
+    let n = one_input ps v i (v + length vs) (length xs) h.1 in
+    found_from ps v (suc i) vs xs k n
+    ∙ behind_input v i x vs xs (slice_get ps k) (from_there ps v (suc i) (v + length vs) (suc i + length xs) k n)
+
+from_none : (vs xs : List Datum) (o : Option SlotPlace) → value_from 0 0 vs xs o ≡ value_in vs xs o
+from_none vs xs None = refl
+from_none vs xs (Some (Variable n)) = let e : n - 0 ≡ n = omega arith in ap (slice_get vs) e
+from_none vs xs (Some (Input n)) = let e : n - 0 ≡ n = omega arith in ap (slice_get xs) e
+
+pub found_merged : (ps : List SlotPlace) (vs xs : List Datum) (k : ℕ)
+    → AreNumbered 0 0 ps (0 + length vs) (0 + length xs)
+    → slice_get (merged ps vs xs) k ≡ value_in vs xs (slice_get ps k)
+found_merged ps vs xs k h = found_from ps 0 0 vs xs k h ∙ from_none vs xs (slice_get ps k)
+
+-- a value in a slot, where the numbers begin so
+abbrev set_from : ℕ → List Datum → Option SlotPlace → Datum → List Datum
+set_from v vs None d = vs
+set_from v vs (Some (Variable n)) d = slice_set vs (n - v) d
+set_from v vs (Some (Input n)) d = vs
+
+abbrev set_input : ℕ → List Datum → Option SlotPlace → Datum → List Datum
+set_input i xs None d = xs
+set_input i xs (Some (Variable n)) d = xs
+set_input i xs (Some (Input n)) d = slice_set xs (n - i) d
+
+set_behind : (v i : ℕ) (x d : Datum) (vs : List Datum) (o : Option SlotPlace) → IsFrom (suc v) i o
+    → x ∷ set_from (suc v) vs o d ≡ set_from v (x ∷ vs) o d
+set_behind v i x d vs None h = refl
+set_behind v i x d vs (Some (Variable n)) h =
+    let e : n - v ≡ suc (n - suc v) = omega arith in sym (ap (λ j. slice_set (x ∷ vs) j d) e)
+set_behind v i x d vs (Some (Input n)) h = refl
+
+input_behind : (v i : ℕ) (x d : Datum) (xs : List Datum) (o : Option SlotPlace) → IsFrom v (suc i) o
+    → x ∷ set_input (suc i) xs o d ≡ set_input i (x ∷ xs) o d
+input_behind v i x d xs None h = refl
+input_behind v i x d xs (Some (Variable n)) h = refl
+input_behind v i x d xs (Some (Input n)) h =
+    let e : n - i ≡ suc (n - suc i) = omega arith in sym (ap (λ j. slice_set (x ∷ xs) j d) e)
+
+set_merged : (ps : List SlotPlace) (v i : ℕ) (vs xs : List Datum) (k : ℕ) (d : Datum)
+    → AreNumbered v i ps (v + length vs) (i + length xs)
+    → slice_set (merged ps vs xs) k d
+    ≡ merged ps (set_from v vs (slice_get ps k) d) (set_input i xs (slice_get ps k) d)
+set_merged [] v i vs xs k d h = refl
+set_merged (Variable m ∷ ps) v i [] xs k d h =
+    absurd (let lt : 0 < length {A = Datum} [] = some_variable {A = Datum} ps v i (i + length xs) [] h.1 in omega arith)
+set_merged (Variable m ∷ ps) v i (x ∷ vs) xs zero d h =
+    let a : m ≡ v = h.0 in let e : m - v ≡ 0 = omega arith in
+    sym (ap (λ j. merged (Variable m ∷ ps) (slice_set (x ∷ vs) j d) xs) e)
+set_merged (Variable m ∷ ps) v i (x ∷ vs) xs (suc k) d h =
+    let n = one_variable ps v i (length vs) (i + length xs) h.1 in
+    ap (λ s. x ∷ s) (set_merged ps (suc v) i vs xs k d n)
+    ∙ ap (λ ys. merged (Variable m ∷ ps) ys (set_input i xs (slice_get ps k) d))
+    (set_behind v i x d vs (slice_get ps k) (from_there ps (suc v) i (suc v + length vs) (i + length xs) k n))
+set_merged (Input m ∷ ps) v i vs [] k d h =
+    absurd (let lt : 0 < length {A = Datum} [] = some_input {A = Datum} ps v i (v + length vs) [] h.1 in omega arith)
+set_merged (Input m ∷ ps) v i vs (x ∷ xs) zero d h =
+    let a : m ≡ i = h.0 in let e : m - i ≡ 0 = omega arith in
+    sym (ap (λ j. merged (Input m ∷ ps) vs (slice_set (x ∷ xs) j d)) e)
+set_merged (Input m ∷ ps) v i vs (x ∷ xs) (suc k) d h =
+    let n = one_input ps v i (v + length vs) (length xs) h.1 in
+    ap (λ s. x ∷ s) (set_merged ps v (suc i) vs xs k d n)
+    ∙ ap (λ ys. merged (Input m ∷ ps) (set_from v vs (slice_get ps k) d) ys)
+    (input_behind v i x d xs (slice_get ps k) (from_there ps v (suc i) (v + length vs) (suc i + length xs) k n))
+
+put_from : (vs : List Datum) (o : Option SlotPlace) (d : Datum) → set_from 0 vs o d ≡ put_in vs o d
+put_from vs None d = refl
+put_from vs (Some (Variable n)) d = let e : n - 0 ≡ n = omega arith in ap (λ j. slice_set vs j d) e
+put_from vs (Some (Input n)) d = refl
+
+length_put : (vs : List Datum) (o : Option SlotPlace) (d : Datum) → length (put_in vs o d) ≡ length vs
+length_put vs None d = refl
+length_put vs (Some (Variable n)) d = length-set vs n d
+length_put vs (Some (Input n)) d = refl
+
+length_input : (i : ℕ) (xs : List Datum) (o : Option SlotPlace) (d : Datum) → length (set_input i xs o d) ≡ length xs
+length_input i xs None d = refl
+length_input i xs (Some (Variable n)) d = refl
+length_input i xs (Some (Input n)) d = length-set xs (n - i) d
+
+pub length_written : (ps : List SlotPlace) (vs : List Datum) (cells : List Cell)
+    → length (written_variables ps vs cells) ≡ length vs
+length_written ps vs [] = refl
+length_written ps vs (c ∷ cells) =
+    length_written ps (put_in vs (slice_get ps c.0) c.1) cells ∙ length_put vs (slice_get ps c.0) c.1
+
+-- the variables after cells are written to slots
+pub variables_written : (ps : List SlotPlace) (ws : List PlanVariable) (js : List PlanInput) (cells : List Cell)
+    (vs xs : List Datum) → are_numbered 0 0 ps (length ws) (length js) ≡ true → length vs ≡ length ws
+    → length xs ≡ length js
+    → variables_in (slots_among ps ws js) (written (merged ps vs xs) cells)
+    ≡ variables_in (layout_of ws js) (written_variables ps vs cells)
+variables_written ps ws js [] vs xs h a b =
+    variables_merged (map input_slot js) ps 0 0 ws js vs xs (from_first ps (length ws) (length js) h) a b
+variables_written ps ws js (c ∷ cells) vs xs h a b =
+    let n : AreNumbered 0 0 ps (0 + length vs) (0 + length xs) =
+    subst (λ x. AreNumbered 0 0 ps (0 + x) (0 + length xs)) (sym a)
+    (subst (λ y. AreNumbered 0 0 ps (0 + length ws) (0 + y)) (sym b) (from_first ps (length ws) (length js) h)) in
+    let o = slice_get ps c.0 in
+    ap (λ t. variables_in (slots_among ps ws js) (written t cells))
+    (set_merged ps 0 0 vs xs c.0 c.1 n ∙ ap (λ t. merged ps t (set_input 0 xs o c.1)) (put_from vs o c.1))
+    ∙ variables_written ps ws js cells (put_in vs o c.1) (set_input 0 xs o c.1) h (length_put vs o c.1 ∙ a)
+    (length_input 0 xs o c.1 ∙ b)
 
 -- the next value, and what is merged behind it
 pub record Next (ps : List SlotPlace) (v i : ℕ) (vs xs : List Datum) (place : SlotPlace) (d : Datum) : Type 0 where
