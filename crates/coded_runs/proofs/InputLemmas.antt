@@ -1,5 +1,6 @@
 -- Writes to slots of inputs.
-use Rattle.std.proofs.Common.{◌≡◌, ℕ, zero, suc, Bool, true, false, not, if◌then◌else◌, List, [], ◌∷◌, length, refl, sym}
+use Rattle.std.proofs.Common.{◌≡◌, ℕ, zero, suc, Bool, true, false, not, if◌then◌else◌, List, [], ◌∷◌, length, refl}
+use Rattle.std.proofs.Common.{sym}
 use Rattle.std.proofs.Common.{ap, ◌∙◌, arith}
 use Rattle.std.specs.Prelude.{slice_set}
 use Rattle.std.specs.List.{filter}
@@ -43,7 +44,8 @@ both_set (l ∷ ls) [] [] k v long same = refl
 both_set (l ∷ ls) [] (w ∷ vs) k v long same = absurd (omega arith)
 both_set (l ∷ ls) (u ∷ us) [] k v long same = absurd (omega arith)
 both_set (l ∷ ls) (u ∷ us) (w ∷ vs) zero v long same =
-    ap (before l.is_input l.path v) (behind_first l.is_input l.path u w (variables_in ls us) (variables_in ls vs) same).1
+    let h = behind_first l.is_input l.path u w (variables_in ls us) (variables_in ls vs) same in
+    ap (before l.is_input l.path v) h.1
 both_set (l ∷ ls) (u ∷ us) (w ∷ vs) (suc k) v long same =
     let h = behind_first l.is_input l.path u w (variables_in ls us) (variables_in ls vs) same in
     with_first l.is_input l.path u w _ _ h.0 (both_set ls us vs k v (omega arith) h.1)

@@ -13,14 +13,16 @@ use Rattle.st_types.specs.Slots.{Slot, Cell, AreOfTypes, variables_in, inputs_in
 use Rattle.slot_trees.specs.Seeing.{Sees}
 use Rattle.machine_code.specs.declared.mark.Mark.{Mark}
 use Rattle.machine_code.specs.Machine.{Ending, finished, failed, runs}
-use Rattle.machine_code.specs.Tracking.{Tracked, tracked, tracking, memory_of, are_read, are_assigned, read_by, assigned_by}
+use Rattle.machine_code.specs.Tracking.{Tracked, tracked, tracking, memory_of, are_read, are_assigned, read_by}
+use Rattle.machine_code.specs.Tracking.{assigned_by}
 use Rattle.machine_code.specs.Tracking.{EndsLike, AreOfKind}
 use Rattle.machine_code.specs.Endings.{outcome_at_end, values_at_end}
 use Rattle.machine_code.proofs.Tracks.{marked_reads_suffice}
 use Rattle.coded_programs.specs.Codes.{CodeView}
 use Rattle.coded_programs.specs.Meanings.{code_run}
 use Rattle.coded_runs.specs.Cells.{picked, AreAscending}
-use Rattle.coded_runs.specs.Runs.{memory_over, unmarked, beginning, marked_run, reads_of, writes_of, EndsAs, writes_left}
+use Rattle.coded_runs.specs.Runs.{memory_over, unmarked, beginning, marked_run, reads_of, writes_of, EndsAs}
+use Rattle.coded_runs.specs.Runs.{writes_left}
 use Rattle.coded_runs.specs.Runs.{IsLong}
 use Rattle.coded_runs.specs.Effects.{IsTrueOf}
 use Rattle.coded_runs.proofs.PickedLemmas.{picked_ascend, read_agrees, written_behind, picked_none}
@@ -107,7 +109,8 @@ values_left (x ∷ marks) (u ∷ us) (v ∷ vs) rest ws le h =
     (λ w f e. values_left marks us vs rest f (omega arith) (λ k. sym (rest_of ws f w k e) ∙ h (suc k)))
   where
     by_test : (t : Bool) → slice_get ws 0 ≡ (if t then Some u else Some v)
-        → ((w : Datum) (f : List Datum) → ws ≡ w ∷ f → take (length vs) f ≡ written vs (picked (are_assigned marks) 0 (take (length vs) us)))
+        → ((w : Datum) (f : List Datum) → ws ≡ w ∷ f → take (length vs) f
+        ≡ written vs (picked (are_assigned marks) 0 (take (length vs) us)))
         → take (suc (length vs)) ws ≡ written (v ∷ vs)
         (if t then (0, u) ∷ picked (are_assigned marks) 1 (take (length vs) us)
         else picked (are_assigned marks) 1 (take (length vs) us))

@@ -3,3 +3,4 @@ pub mod Machine
 pub mod Simulation
 pub mod Tracking
 pub mod Endings
+pub mod Asking

@@ -1,6 +1,8 @@
 //! Laws of the machine, each proved of the definitions. The functions do nothing: their contracts are the laws.
 
-ghost use Rattle.std.specs.Prelude.{◌≡◌, ◌≤◌, ◌*◌, ℕ, zero, suc, true, false, [], List, length, slice_get};
+ghost use Rattle.std.specs.Prelude.{◌≡◌, ◌≤◌, ◌*◌, ℕ, zero, suc, true, false, [], List, Some, length, slice_get};
+ghost use Rattle.std.specs.Prelude.{slice_set};
+ghost use Rattle.st_words.specs.Kinds.{holds};
 ghost use Rattle.st_words.specs.Values.{Datum};
 ghost use Rattle.st_types.specs.Failures.{StandIns};
 ghost use Rattle.machine_code.specs.declared.instr.Instr as instr;
@@ -8,6 +10,7 @@ ghost use Rattle.machine_code.specs.Memories.{plain};
 ghost use Rattle.machine_code.specs.Machine.{act, exec, runs, finished};
 ghost use Rattle.machine_code.specs.Tracking.{Tracked, tracking, unmarked, memory_of, is_read_in, is_assigned_in};
 ghost use Rattle.machine_code.specs.Tracking.{EndsLike, AreOfKind};
+ghost use Rattle.machine_code.specs.Asking.{IsOnlyLookedUp, FailsWith};
 
 /// Over values of slots, the machine goes on from each instruction as the definition of the instruction says, ends at
 /// the end of its code, and is over within as many instructions as the code has, and one, for each tick of its
@@ -35,4 +38,15 @@ pub fn reads_suffice()
         → ((k : ℕ) → is_read_in (memory_of (runs tracking t now code p [] m budget)) k ≡ true
         → slice_get m.values k ≡ slice_get us k)
         → EndsLike us (runs tracking t now code p [] m budget) (runs plain t now code p [] us budget) }
+{}
+
+/// A slot that code only looks up, whose value it never takes as it is. Where a run reads it, the run over the same
+/// values but one there that its type does not hold ends with whatever fault stands for what has no value: so the run
+/// asks for it.
+pub fn what_is_read_is_asked_for()
+    ensures { (t u : StandIns) (now : ℕ) (code : List instr.Instr) (p : ℕ) (m : Tracked) (budget k : ℕ) (v w : Datum)
+        → length m.marks ≡ length m.values → is_read_in m k ≡ false → is_assigned_in m k ≡ false
+        → slice_get m.values k ≡ Some v → v.kind ≡ w.kind → holds w.kind w.number ≡ false → IsOnlyLookedUp code k
+        → is_read_in (memory_of (runs tracking t now code p [] m budget)) k ≡ true
+        → FailsWith u.missing (runs plain u now code p [] (slice_set m.values k w) budget) }
 {}

@@ -11,6 +11,6 @@ mod limits;
 mod mark;
 
 pub use instr::Instr;
-pub use laws::{machine_goes_on, reads_suffice};
+pub use laws::{machine_goes_on, reads_suffice, what_is_read_is_asked_for};
 pub use limits::{MAX_INSTRUCTIONS, MAX_MEMORY};
 pub use mark::Mark;

@@ -2,6 +2,7 @@
 
 ghost use Rattle.std.specs.Prelude.{◌≡◌, ◌≤◌, ◌+◌, ◌*◌, [], ℕ, length, Some};
 ghost use Rattle.st_types.specs.Failures.{in_runs};
+ghost use Rattle.machine_code.specs.declared.limits.TheConstants.{MAX_INSTRUCTIONS};
 ghost use Rattle.machine_code.specs.Machine.{runs};
 ghost use Rattle.machine_code.specs.Tracking.{tracking, tracked};
 ghost use Rattle.slot_machine.specs.Steps.{StepsOn, Ends};
@@ -69,8 +70,9 @@ fn step(
 }
 
 /// Runs the code at a moment on these values with a budget of ticks, and marks what it looks up and assigns. It answers
-/// the ticks that are left. Whatever the code is, this ends within as many instructions as the code has, and one, for
-/// each tick of the budget, and one.
+/// the ticks that are left. Behind a fault the marks tell what was looked up before it was assigned; of the values
+/// nothing is told then. Whatever the code is, this ends within `(budget + 1) * (length + 1)` instructions, where
+/// `length` is that of the code.
 pub fn run(
     alloc: Global,
     code: &[Instr],
@@ -79,7 +81,7 @@ pub fn run(
     marks: &mut [Mark],
     budget: u32,
 ) -> Result<u32, Stop>
-    requires { length code.now ≤ 16384 }
+    requires { length code.now ≤ MAX_INSTRUCTIONS }
     ensures { Ends result (runs tracking in_runs now code.now (length code.now) []
         (tracked values.old marks.old) budget)
         (tracked values.new marks.new) }

@@ -1,9 +1,7 @@
 -- What runs of a text's programs have in common with those of their code.
-use Rattle.std.specs.Prelude.{◌≡◌, ℕ, List, [], ◌++◌, length, take, Some, slice_get}
+use Rattle.std.specs.Prelude.{◌≡◌, ℕ, List, [], ◌++◌, length, Some, slice_get}
 use Rattle.st_words.specs.Values.{Datum}
 use Rattle.st_trees.specs.Sources.{Source}
-use Rattle.st_types.specs.declared.outcome.Outcome.{Outcome}
-use Rattle.st_types.specs.declared.outcome.Outcome.TheVariants.{Done, Faulted}
 use Rattle.st_types.specs.Failures.{in_runs}
 use Rattle.st_types.specs.Runs.{Program, outcome_of, store_after}
 use Rattle.st_types.specs.Stores.{Store}
@@ -12,18 +10,9 @@ use Rattle.slot_trees.specs.SlotTrees.{SlotStmts}
 use Rattle.slot_trees.specs.Seeing.{Sees}
 use Rattle.slot_trees.specs.TextLinks.{LinkedText, linked_source}
 use Rattle.machine_code.specs.Memories.{plain}
-use Rattle.machine_code.specs.Machine.{Ending, finished, failed, runs}
+use Rattle.machine_code.specs.Machine.{Ending, runs}
+use Rattle.machine_code.specs.Endings.{outcome_at_end, values_at_end}
 use Rattle.tree_code.specs.Programs.{program_code, ProgramFits}
-
--- how a run of the machine ends
-abbrev pub outcome_at_end : Ending (List Datum) → Outcome
-outcome_at_end (finished m b) = Done
-outcome_at_end (failed m f) = Faulted f
-
--- the values of the first slots after it: a fault leaves them as they were
-abbrev pub values_at_end : Ending (List Datum) → List Datum → List Datum
-values_at_end (finished m b) vs = take (length vs) m
-values_at_end (failed m f) vs = vs
 
 -- the run of a linked program's code over the values of its slots and the memory behind them, with calls so deep
 abbrev pub coded_run : LinkedText → SlotStmts → ℕ → ℕ → List Datum → List Datum → ℕ → Ending (List Datum)

@@ -11,20 +11,23 @@ loop-slot-preserved c =
     let vs = c.args.values.now in
     let k = c.loop-slot.slot in
     let cells = c.loop-slot.cells.items in
+    let all = picked (are_assigned marks) 0 vs in
+    let so_far = c.loop-slot.invariant in
     let so = assigned_so (slice_get marks k) in
     elim c.if-is_assigned.branch [
       | then-is_assigned+in_ok-push w ↦
           let v = w.index-values-slot.result in
           let more = cut_more cells w.push.new.self.items k v w.in_ok-push.ensures.ok in
           rw w.cells-is (ap (λ xs. xs ++ picked (are_assigned (drop (k + 1) marks)) (k + 1) (drop (k + 1) vs)) more
-          ∙ gathered_more (λ x. x.is_assigned) marks vs k (map cut cells) (picked (are_assigned marks) 0 vs) c.loop-slot.invariant v
+          ∙ gathered_more (λ x. x.is_assigned) marks vs k (map cut cells) all so_far v
           (so ∙ search rules) (value_at vs k v (omega arith) w.index-values-slot.is))
       | else-is_assigned w ↦ rw w.cells-is
-          (gathered_same (λ x. x.is_assigned) marks vs k (map cut cells) (picked (are_assigned marks) 0 vs) c.loop-slot.invariant
+          (gathered_same (λ x. x.is_assigned) marks vs k (map cut cells) all so_far
           (so ∙ search rules))
     ]
 
 pub returns : goal.returns
 returns c =
-    gathered_all (λ x. x.is_assigned) c.args.marks.now c.args.values.now c.loop-slot.slot (map cut c.loop-slot.cells.items)
+    gathered_all (λ x. x.is_assigned) c.args.marks.now c.args.values.now c.loop-slot.slot
+    (map cut c.loop-slot.cells.items)
     (picked (are_assigned c.args.marks.now) 0 c.args.values.now) c.loop-slot.invariant (omega arith)

@@ -17,7 +17,8 @@ returns-in-Ok c =
 
 pub returns-in-Err : goal.returns-in-Err
 returns-in-Err c size p b st next =
-    let P : Fault → Type 0 = λ f. IsFailed f (are_read c.mark_all_seen.new.marks) (act tracking in_runs c.args.now size (Some
+    let P : Fault → Type 0 = λ f. IsFailed f (are_read c.mark_all_seen.new.marks)
+    (act tracking in_runs c.args.now size (Some
     (Step c.args.block c.args.first))
     next p st (tracked c.args.values.now c.args.marks.now) b) in
     subst P (sym c.in-Err.ensures.1) (block_err c.args.block c.args.now c.args.first c.args.values.now

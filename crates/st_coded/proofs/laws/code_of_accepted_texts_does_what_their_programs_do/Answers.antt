@@ -10,7 +10,7 @@ use Rattle.slot_trees.specs.SlotExecution.{SlotEnd}
 use Rattle.slot_trees.specs.SlotRuns.{slot_outcome_in, slots_in}
 use Rattle.machine_code.specs.Machine.{Ending, finished, failed}
 use Rattle.tree_code.specs.Programs.{EndsSo}
-use Rattle.st_coded.specs.CodedSources.{outcome_at_end, values_at_end}
+use Rattle.machine_code.specs.Endings.{outcome_at_end, values_at_end}
 use Rattle.st_coded.proofs.laws.code_of_accepted_texts_does_what_their_programs_do.Goals as goal
 
 same_outcome : (vs : List Datum) (r : Result (SlotEnd × ℕ) Fault) (e : Ending (List Datum))
