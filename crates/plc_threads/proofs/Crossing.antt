@@ -41,9 +41,9 @@ use Rattle.st_words.specs.contracts.path.Owner as Owner
 use Rattle.st_words.specs.contracts.path.Path as Path
 use Rattle.st_words.specs.contracts.value.Value.TheInside as ValueInside
 use Rattle.st_words.specs.contracts.value.Value as Value
-use Rattle.slot_code.specs.contracts.root.Root as Root
-use Rattle.slot_code.specs.contracts.path_slot.PathSlot as PathSlot
-use Rattle.slot_code.specs.contracts.code.Code as Code
+use Rattle.coded_programs.specs.contracts.root.Root as Root
+use Rattle.coded_programs.specs.contracts.path_slot.PathSlot as PathSlot
+use Rattle.coded_programs.specs.contracts.code.Code as Code
 use Rattle.config.specs.contracts.task.ProgramInstance as ProgramInstance
 use Rattle.st_plans.specs.contracts.plan.PlanVariable as PlanVariable
 use Rattle.st_plans.specs.contracts.plan.PlanInput as PlanInput

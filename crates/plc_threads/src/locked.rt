@@ -17,7 +17,7 @@ use crate::mark::{Mark, RaisePass};
 use crate::phase::{Phase, after_call, end_of};
 use commit_lock::{Answer, Core, Refusal};
 use disk::Disk;
-use slot_run::Execution;
+use coded_runs::Execution;
 use st_plans::Row;
 use std::alloc::Global;
 use std::collections::VecDeque;

@@ -8,7 +8,7 @@ use crate::phase::{Phase, RunFault};
 use crate::tally::Tally;
 use commit_lock::{Answer, Core};
 use disk::Disk;
-use slot_run::{Execution, Snapshot};
+use coded_runs::{Execution, Snapshot};
 use st_plans::{Activation, Entry};
 use std::alloc::Global;
 use std::sync::{Condvar, Mutex, Wait};

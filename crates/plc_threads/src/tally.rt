@@ -8,7 +8,7 @@ ghost use Rattle.plc_threads.specs.Answers.{committed_by, committed_here, stale_
 use crate::locked::{Locked, Run, count_here, count_of};
 use commit_lock::{Answer, Refusal};
 use disk::Disk;
-use slot_run::Execution;
+use coded_runs::Execution;
 use std::alloc::Global;
 use std::sync::ledger::Share;
 

@@ -10,7 +10,7 @@ use crate::shared::{Served, Shared};
 use crate::tally::Tally;
 use commit_lock::Answer;
 use disk::Disk;
-use slot_run::run;
+use coded_runs::run;
 use std::alloc::Global;
 use std::sync::Wait;
 use std::sync::ledger::Share;
