@@ -947,10 +947,36 @@ pub field-sync : IsSync Field.the_row
 field-sync = declared_sync Field.the_type (identifier-sync, (declared-sync, (option-sync _ initial-sync, tt)))
 
 pub definition-send : IsSend TypeDefinition.the_row
-definition-send = variants_send TypeDefinition.enum ((array-send, tt), ((Vec-send _ field-send, tt), ((Vec-send _ identifier-send, tt), tt)))
+definition-send = variants_send TypeDefinition.enum (
+  (array-send, tt),
+  (
+    (Vec-send _ field-send, tt),
+    (
+      (
+        Vec-send _
+            identifier-send,
+        tt,
+      ),
+      tt,
+    ),
+  ),
+)
 
 pub definition-sync : IsSync TypeDefinition.the_row
-definition-sync = variants_sync TypeDefinition.enum ((array-sync, tt), ((Vec-sync _ field-sync, tt), ((Vec-sync _ identifier-sync, tt), tt)))
+definition-sync = variants_sync TypeDefinition.enum (
+  (array-sync, tt),
+  (
+    (Vec-sync _ field-sync, tt),
+    (
+      (
+        Vec-sync _
+            identifier-sync,
+        tt,
+      ),
+      tt,
+    ),
+  ),
+)
 
 pub type_declaration-send : IsSend TypeDeclaration.the_row
 type_declaration-send = declared_send TypeDeclaration.the_type (identifier-send, (definition-send, tt))
@@ -965,16 +991,56 @@ pub address-sync : IsSync Address.the_row
 address-sync = search plain depth 20
 
 pub global_names-send : IsSend GlobalNames.the_row
-global_names-send = variants_send GlobalNames.enum ((identifier-send, (address-send, tt)), ((Vec-send _ identifier-send, tt), tt))
+global_names-send = variants_send GlobalNames.enum (
+  (identifier-send, (address-send, tt)),
+  (
+    (
+      Vec-send _
+          identifier-send,
+      tt,
+    ),
+    tt,
+  ),
+)
 
 pub global_names-sync : IsSync GlobalNames.the_row
-global_names-sync = variants_sync GlobalNames.enum ((identifier-sync, (address-sync, tt)), ((Vec-sync _ identifier-sync, tt), tt))
+global_names-sync = variants_sync GlobalNames.enum (
+  (identifier-sync, (address-sync, tt)),
+  (
+    (
+      Vec-sync _
+          identifier-sync,
+      tt,
+    ),
+    tt,
+  ),
+)
 
 pub global_declaration-send : IsSend GlobalDeclaration.the_row
-global_declaration-send = declared_send GlobalDeclaration.the_type (global_names-send, (declared-send, (option-send _ initial-send, tt)))
+global_declaration-send = declared_send GlobalDeclaration.the_type (
+  global_names-send,
+  (
+    declared-send,
+    (
+      option-send _
+          initial-send,
+      tt,
+    ),
+  ),
+)
 
 pub global_declaration-sync : IsSync GlobalDeclaration.the_row
-global_declaration-sync = declared_sync GlobalDeclaration.the_type (global_names-sync, (declared-sync, (option-sync _ initial-sync, tt)))
+global_declaration-sync = declared_sync GlobalDeclaration.the_type (
+  global_names-sync,
+  (
+    declared-sync,
+    (
+      option-sync _
+          initial-sync,
+      tt,
+    ),
+  ),
+)
 
 pub qualifier-send : IsSend GlobalQualifier.the_row
 qualifier-send = search plain depth 20
@@ -983,40 +1049,136 @@ pub qualifier-sync : IsSync GlobalQualifier.the_row
 qualifier-sync = search plain depth 20
 
 pub global_block-send : IsSend GlobalBlock.the_row
-global_block-send = declared_send GlobalBlock.the_type (option-send _ qualifier-send, (Vec-send _ global_declaration-send, tt))
+global_block-send = declared_send GlobalBlock.the_type (
+  option-send _ qualifier-send,
+  (
+    Vec-send _
+        global_declaration-send,
+    tt,
+  ),
+)
 
 pub global_block-sync : IsSync GlobalBlock.the_row
-global_block-sync = declared_sync GlobalBlock.the_type (option-sync _ qualifier-sync, (Vec-sync _ global_declaration-sync, tt))
+global_block-sync = declared_sync GlobalBlock.the_type (
+  option-sync _ qualifier-sync,
+  (
+    Vec-sync _
+        global_declaration-sync,
+    tt,
+  ),
+)
 
 pub text_task-send : IsSend TextTask.the_row
-text_task-send = declared_send TextTask.the_type (identifier-send, (option-send _ identifier-send, (search plain depth 20, (search plain depth 20, tt))))
+text_task-send = declared_send TextTask.the_type (
+  identifier-send,
+  (
+    option-send _ identifier-send,
+    (
+      search plain depth
+          20,
+      (search plain depth 20, tt),
+    ),
+  ),
+)
 
 pub text_task-sync : IsSync TextTask.the_row
-text_task-sync = declared_sync TextTask.the_type (identifier-sync, (option-sync _ identifier-sync, (search plain depth 20, (search plain depth 20, tt))))
+text_task-sync = declared_sync TextTask.the_type (
+  identifier-sync,
+  (
+    option-sync _ identifier-sync,
+    (
+      search plain depth
+          20,
+      (search plain depth 20, tt),
+    ),
+  ),
+)
 
 pub text_instance-send : IsSend TextInstance.the_row
-text_instance-send = declared_send TextInstance.the_type (identifier-send, (option-send _ identifier-send, (identifier-send, tt)))
+text_instance-send = declared_send TextInstance.the_type (
+  identifier-send,
+  (
+    option-send _ identifier-send,
+    (identifier-send, tt),
+  ),
+)
 
 pub text_instance-sync : IsSync TextInstance.the_row
-text_instance-sync = declared_sync TextInstance.the_type (identifier-sync, (option-sync _ identifier-sync, (identifier-sync, tt)))
+text_instance-sync = declared_sync TextInstance.the_type (
+  identifier-sync,
+  (
+    option-sync _ identifier-sync,
+    (identifier-sync, tt),
+  ),
+)
 
 pub resource-send : IsSend Resource.the_row
-resource-send = declared_send Resource.the_type (identifier-send, (identifier-send, (Vec-send _ text_task-send, (Vec-send _ text_instance-send, tt))))
+resource-send = declared_send Resource.the_type (
+  identifier-send,
+  (
+    identifier-send,
+    (
+      Vec-send _ text_task-send,
+      (Vec-send _ text_instance-send, tt),
+    ),
+  ),
+)
 
 pub resource-sync : IsSync Resource.the_row
-resource-sync = declared_sync Resource.the_type (identifier-sync, (identifier-sync, (Vec-sync _ text_task-sync, (Vec-sync _ text_instance-sync, tt))))
+resource-sync = declared_sync Resource.the_type (
+  identifier-sync,
+  (
+    identifier-sync,
+    (
+      Vec-sync _ text_task-sync,
+      (Vec-sync _ text_instance-sync, tt),
+    ),
+  ),
+)
 
 pub configuration-send : IsSend Configuration.the_row
-configuration-send = declared_send Configuration.the_type (identifier-send, (Vec-send _ global_block-send, (Vec-send _ resource-send, tt)))
+configuration-send = declared_send Configuration.the_type (
+  identifier-send,
+  (
+    Vec-send _ global_block-send,
+    (
+      Vec-send _
+          resource-send,
+      tt,
+    ),
+  ),
+)
 
 pub configuration-sync : IsSync Configuration.the_row
-configuration-sync = declared_sync Configuration.the_type (identifier-sync, (Vec-sync _ global_block-sync, (Vec-sync _ resource-sync, tt)))
+configuration-sync = declared_sync Configuration.the_type (
+  identifier-sync,
+  (
+    Vec-sync _ global_block-sync,
+    (
+      Vec-sync _
+          resource-sync,
+      tt,
+    ),
+  ),
+)
 
 pub element-send : IsSend LibraryElement.the_row
-element-send = variants_send LibraryElement.enum ((Vec-send _ type_declaration-send, tt), ((unit-send, tt), ((configuration-send, tt), tt)))
+element-send = variants_send LibraryElement.enum (
+  (Vec-send _ type_declaration-send, tt),
+  (
+    (unit-send, tt),
+    ((configuration-send, tt), tt),
+  ),
+)
 
 pub element-sync : IsSync LibraryElement.the_row
-element-sync = variants_sync LibraryElement.enum ((Vec-sync _ type_declaration-sync, tt), ((unit-sync, tt), ((configuration-sync, tt), tt)))
+element-sync = variants_sync LibraryElement.enum (
+  (Vec-sync _ type_declaration-sync, tt),
+  (
+    (unit-sync, tt),
+    ((configuration-sync, tt), tt),
+  ),
+)
 
 pub source-send : IsSend Source.the_row
 source-send = declared_send Source.the_type (Vec-send _ element-send, tt)
@@ -1025,16 +1187,288 @@ pub source-sync : IsSync Source.the_row
 source-sync = declared_sync Source.the_type (Vec-sync _ element-sync, tt)
 
 pub standard-send : IsSend Standard.the_row
-standard-send = variants_send Standard.enum (tt, (tt, (tt, (tt, (tt, (tt, (tt, (tt, (tt, ((kind-send, (kind-send, tt)), tt))))))))))
+standard-send = variants_send Standard.enum (
+  tt,
+  (
+    tt,
+    (
+      tt,
+      (
+        tt,
+        (
+          tt,
+          (
+            tt,
+            (
+              tt,
+              (
+                tt,
+                (
+                  tt,
+                  (
+                    (
+                      kind-send,
+                      (
+                        kind-send,
+                        tt,
+                      ),
+                    ),
+                    tt,
+                  ),
+                ),
+              ),
+            ),
+          ),
+        ),
+      ),
+    ),
+  ),
+)
 
 pub standard-sync : IsSync Standard.the_row
-standard-sync = variants_sync Standard.enum (tt, (tt, (tt, (tt, (tt, (tt, (tt, (tt, (tt, ((kind-sync, (kind-sync, tt)), tt))))))))))
+standard-sync = variants_sync Standard.enum (
+  tt,
+  (
+    tt,
+    (
+      tt,
+      (
+        tt,
+        (
+          tt,
+          (
+            tt,
+            (
+              tt,
+              (
+                tt,
+                (
+                  tt,
+                  (
+                    (
+                      kind-sync,
+                      (
+                        kind-sync,
+                        tt,
+                      ),
+                    ),
+                    tt,
+                  ),
+                ),
+              ),
+            ),
+          ),
+        ),
+      ),
+    ),
+  ),
+)
 
 pub instr-send : IsSend Instr.the_row
-instr-send = variants_send Instr.enum (tt, ((value-send, tt), ((search plain depth 20, tt), ((search plain depth 20, tt), ((search plain depth 20, tt), ((search plain depth 20, tt), ((search plain depth 20, tt), ((search plain depth 20, tt), ((standard-send, (search plain depth 20, tt)), ((search plain depth 20, (search plain depth 20, tt)), ((search plain depth 20, tt), ((search plain depth 20, tt), ((search plain depth 20, tt), ((search plain depth 20, tt), ((search plain depth 20, tt), ((search plain depth 20, tt), ((search plain depth 20, (search plain depth 20, (search plain depth 20, tt))), (tt, (tt, ((search plain depth 20, tt), ((search plain depth 20, (search plain depth 20, tt)), ((search plain depth 20, (search plain depth 20, tt)), ((search plain depth 20, tt), ((search plain depth 20, tt), tt))))))))))))))))))))))))
+instr-send = variants_send Instr.enum (
+  tt,
+  (
+    (value-send, tt),
+    (
+      (search plain depth 20, tt),
+      (
+        (
+          search plain depth 20,
+          tt,
+        ),
+        (
+          (search plain depth 20, tt),
+          (
+            (search plain depth 20, tt),
+            (
+              (search plain depth 20, tt),
+              (
+                (
+                  search plain
+                      depth 20,
+                  tt,
+                ),
+                (
+                  (standard-send, (search plain depth 20, tt)),
+                  (
+                    (
+                      search plain depth 20,
+                      (
+                        search plain depth 20,
+                        tt,
+                      ),
+                    ),
+                    (
+                      (search plain depth 20, tt),
+                      (
+                        (search plain depth 20, tt),
+                        (
+                          (search plain depth 20, tt),
+                          (
+                            (
+                              search plain
+                                  depth 20,
+                              tt,
+                            ),
+                            (
+                              (search plain depth 20, tt),
+                              (
+                                (search plain depth 20, tt),
+                                (
+                                  (
+                                    search plain depth 20,
+                                    (
+                                      search plain
+                                          depth 20,
+                                      (search plain depth 20, tt),
+                                    ),
+                                  ),
+                                  (
+                                    tt,
+                                    (
+                                      tt,
+                                      (
+                                        (search plain depth 20, tt),
+                                        (
+                                          (
+                                            search plain depth 20,
+                                            (
+                                              search
+                                                  plain depth 20,
+                                              tt,
+                                            ),
+                                          ),
+                                          (
+                                            (search plain depth 20, (search plain depth 20, tt)),
+                                            (
+                                              (search plain depth 20, tt),
+                                              ((search plain depth 20, tt), tt),
+                                            ),
+                                          ),
+                                        ),
+                                      ),
+                                    ),
+                                  ),
+                                ),
+                              ),
+                            ),
+                          ),
+                        ),
+                      ),
+                    ),
+                  ),
+                ),
+              ),
+            ),
+          ),
+        ),
+      ),
+    ),
+  ),
+)
 
 pub instr-sync : IsSync Instr.the_row
-instr-sync = variants_sync Instr.enum (tt, ((value-sync, tt), ((search plain depth 20, tt), ((search plain depth 20, tt), ((search plain depth 20, tt), ((search plain depth 20, tt), ((search plain depth 20, tt), ((search plain depth 20, tt), ((standard-sync, (search plain depth 20, tt)), ((search plain depth 20, (search plain depth 20, tt)), ((search plain depth 20, tt), ((search plain depth 20, tt), ((search plain depth 20, tt), ((search plain depth 20, tt), ((search plain depth 20, tt), ((search plain depth 20, tt), ((search plain depth 20, (search plain depth 20, (search plain depth 20, tt))), (tt, (tt, ((search plain depth 20, tt), ((search plain depth 20, (search plain depth 20, tt)), ((search plain depth 20, (search plain depth 20, tt)), ((search plain depth 20, tt), ((search plain depth 20, tt), tt))))))))))))))))))))))))
+instr-sync = variants_sync Instr.enum (
+  tt,
+  (
+    (value-sync, tt),
+    (
+      (search plain depth 20, tt),
+      (
+        (
+          search plain depth 20,
+          tt,
+        ),
+        (
+          (search plain depth 20, tt),
+          (
+            (search plain depth 20, tt),
+            (
+              (search plain depth 20, tt),
+              (
+                (
+                  search plain
+                      depth 20,
+                  tt,
+                ),
+                (
+                  (standard-sync, (search plain depth 20, tt)),
+                  (
+                    (
+                      search plain depth 20,
+                      (
+                        search plain depth 20,
+                        tt,
+                      ),
+                    ),
+                    (
+                      (search plain depth 20, tt),
+                      (
+                        (search plain depth 20, tt),
+                        (
+                          (search plain depth 20, tt),
+                          (
+                            (
+                              search plain
+                                  depth 20,
+                              tt,
+                            ),
+                            (
+                              (search plain depth 20, tt),
+                              (
+                                (search plain depth 20, tt),
+                                (
+                                  (
+                                    search plain depth 20,
+                                    (
+                                      search plain
+                                          depth 20,
+                                      (search plain depth 20, tt),
+                                    ),
+                                  ),
+                                  (
+                                    tt,
+                                    (
+                                      tt,
+                                      (
+                                        (search plain depth 20, tt),
+                                        (
+                                          (
+                                            search plain depth 20,
+                                            (
+                                              search
+                                                  plain depth 20,
+                                              tt,
+                                            ),
+                                          ),
+                                          (
+                                            (search plain depth 20, (search plain depth 20, tt)),
+                                            (
+                                              (search plain depth 20, tt),
+                                              ((search plain depth 20, tt), tt),
+                                            ),
+                                          ),
+                                        ),
+                                      ),
+                                    ),
+                                  ),
+                                ),
+                              ),
+                            ),
+                          ),
+                        ),
+                      ),
+                    ),
+                  ),
+                ),
+              ),
+            ),
+          ),
+        ),
+      ),
+    ),
+  ),
+)
 
 pub code-send : IsSend Code.the_row
 code-send = declared_send Code.the_type (
@@ -1049,10 +1483,28 @@ code-sync = declared_sync Code.the_type (
 )
 
 pub instance-send : IsSend ProgramInstance.the_row
-instance-send = declared_send ProgramInstance.the_type (search plain depth 20, (search plain depth 20, (owner-send, (search plain depth 20, (Arc-send _ code-send code-sync, tt)))))
+instance-send = declared_send ProgramInstance.the_type (
+  search plain depth 20,
+  (
+    search plain depth 20,
+    (
+      owner-send,
+      (search plain depth 20, (Arc-send _ code-send code-sync, tt)),
+    ),
+  ),
+)
 
 pub instance-sync : IsSync ProgramInstance.the_row
-instance-sync = declared_sync ProgramInstance.the_type (search plain depth 20, (search plain depth 20, (owner-sync, (search plain depth 20, (Arc-sync _ code-send code-sync, tt)))))
+instance-sync = declared_sync ProgramInstance.the_type (
+  search plain depth 20,
+  (
+    search plain depth 20,
+    (
+      owner-sync,
+      (search plain depth 20, (Arc-sync _ code-send code-sync, tt)),
+    ),
+  ),
+)
 
 pub place-send : IsSend SlotPlace.the_row
 place-send = search plain depth 20
@@ -1079,10 +1531,56 @@ pub task-sync : IsSync Task.the_row
 task-sync = search plain depth 20
 
 pub plan-send : IsSend Plan.the_row
-plan-send = declared_send Plan.the_type (Arc-send _ source-send source-sync, (Vec-send _ plan_variable-send, (Vec-send _ plan_input-send, (Vec-send _ place-send, (search plain depth 20, (Vec-send _ task-send, (Vec-send _ instance-send, (search plain depth 20, tt))))))))
+plan-send = declared_send Plan.the_type (
+  Arc-send _ source-send source-sync,
+  (
+    Vec-send _ plan_variable-send,
+    (
+      Vec-send
+          _ plan_input-send,
+      (
+        Vec-send _ place-send,
+        (
+          search plain depth 20,
+          (
+            Vec-send _ task-send,
+            (
+              Vec-send _
+                  instance-send,
+              (search plain depth 20, tt),
+            ),
+          ),
+        ),
+      ),
+    ),
+  ),
+)
 
 pub plan-sync : IsSync Plan.the_row
-plan-sync = declared_sync Plan.the_type (Arc-sync _ source-send source-sync, (Vec-sync _ plan_variable-sync, (Vec-sync _ plan_input-sync, (Vec-sync _ place-sync, (search plain depth 20, (Vec-sync _ task-sync, (Vec-sync _ instance-sync, (search plain depth 20, tt))))))))
+plan-sync = declared_sync Plan.the_type (
+  Arc-sync _ source-send source-sync,
+  (
+    Vec-sync _ plan_variable-sync,
+    (
+      Vec-sync
+          _ plan_input-sync,
+      (
+        Vec-sync _ place-sync,
+        (
+          search plain depth 20,
+          (
+            Vec-sync _ task-sync,
+            (
+              Vec-sync _
+                  instance-sync,
+              (search plain depth 20, tt),
+            ),
+          ),
+        ),
+      ),
+    ),
+  ),
+)
 
 pub row_inside-send : IsSend RowInside.the_row
 row_inside-send = declared_send RowInside.the_type (search plain depth 20, (Vec-send _ value-send, tt))
