@@ -9,7 +9,7 @@ use Rattle.st_types.specs.NameTypes.{Declared}
 use Rattle.st_types.specs.Scopes.{Name}
 use Rattle.st_names.specs.Agreeing.{Agree}
 use Rattle.st_names.specs.PlaceTypes.{place_type_view}
-use Rattle.st_layouts.specs.Shapes.{Shape, plain, array, parts, Parts}
+use Rattle.st_layouts.specs.Shapes.{Shape, plain, array, parts, Parts, size}
 use Rattle.st_layouts.specs.Types.{shape_of_type}
 use Rattle.layout.specs.Sizes.{cut}
 use Rattle.slot_trees.specs.SlotTrees.{Anchor, BlockCode, SlotArgument, SlotStmt, invoke}
@@ -122,7 +122,12 @@ members_there text s (Some y) a some =
         → (ps : Parts) × HasMembers text (place_type_view s.declared) ps
     by_shape (plain k) is h = absurd (cc)
     by_shape (array lower count sh) is h = absurd (cc)
-    by_shape (parts w ps) is h = (ps, record { whole = w; shape = is; expanded = a.expanded })
+    by_shape (parts w ps) is h = (ps, record {
+      whole = w;
+      shape = is;
+      expanded = a.expanded;
+      room = let e = ap size (a.shape ∙ is) in let r = a.room in omega (arith, e, r);
+    })
 
 pub instance_there : (text : Declared) (s : LinkSymbol) (o : Option Symbol) (ps : Parts)
     → Agree (IsSymbol text) (Some s) o → s.is_input ≡ false → HasMembers text (place_type_view s.declared) ps
