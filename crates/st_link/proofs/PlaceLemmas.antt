@@ -51,7 +51,7 @@ joined_member n o after ss (Some s) is =
     (sym (ap (λ k. cut (k + s.offset)) is ∙ cut_behind n o s.offset))
 
 -- room for a member
-part_room : (ps : Parts) (x : Name) (e : Part) → part_at ps x ≡ Some e → e.offset + size e.shape ≤ sizes ps
+pub part_room : (ps : Parts) (x : Name) (e : Part) → part_at ps x ≡ Some e → e.offset + size e.shape ≤ sizes ps
 part_room no_parts x e h = absurd (cc)
 part_room (part_then y sh ps) x e h = by_test (bytes_eq x y) h (λ f g. part_room ps x f g)
   where

@@ -97,6 +97,20 @@ link-returns-in_ok-arguments-in-Call-clause-linked n c =
     ∙ h text t serves)
     c.called.ensures.linked
 
+pub link-returns-in_ok-arguments-in-Call-clause-none : goal.link-returns-in_ok-arguments-in-Call-clause-none
+link-returns-in_ok-arguments-in-Call-clause-none n c =
+    let f = c.in-Call.function in
+    let es = trees.exprs_of (map expr_view c.in-Call.arguments.items) in
+    let seen : expr_view c.args.expression.now ≡ trees.call f es =
+    rw c.in-Call.is (search (rules, code_expr.the_lemmas)) in
+    IfErr-weaker c.called.result _ (λ e. e ≡ NotThere → (text : Declared) (t : Table)
+    → ServesBody c.args.table.now text t → linked t (expr_view c.args.expression.now) ≡ None)
+    (λ e h is text t serves. ap (linked t) seen
+    ∙ ap (option_and_then (λ xs. linked_call t f.name (standard_of f.name) xs))
+    (rw c.deref.ensures.value at (c.in_ok-arguments-in-Call.ensures.linked text t serves))
+    ∙ h is text t serves)
+    c.called.ensures.none
+
 pub link_all-loop-expression-init : goal.link_all-loop-expression-init
 link_all-loop-expression-init n c text t serves =
     let es = map expr_view c.args.expressions.now in
