@@ -122,11 +122,13 @@ fn link_selectors<'a>(
 ) -> Result<Reached<'a>, LinkError>
     ensures linked { IfOk result (λ reached. (text : Declared) (t : Table) → ServesBody table.now text t
         → IsExpanded text (place_type_view declared.entry)
-        → size (shape_of_type text (place_type_view declared.entry)) ≤ MAX_PATHS → LeadsOn text t (linked_selectors t (shape_of_type text (place_type_view declared.entry))
+        → size (shape_of_type text (place_type_view declared.entry)) ≤ MAX_PATHS
+        → LeadsOn text t (linked_selectors t (shape_of_type text (place_type_view declared.entry))
         (selectors_of (map selector_view selectors.now))) reached no_selectors) }
     ensures none { IfErr result (λ e. e ≡ LinkError.NotThere → (text : Declared) (t : Table)
         → ServesBody table.now text t → IsExpanded text (place_type_view declared.entry)
-        → size (shape_of_type text (place_type_view declared.entry)) ≤ MAX_PATHS → linked_selectors t (shape_of_type text (place_type_view declared.entry))
+        → size (shape_of_type text (place_type_view declared.entry)) ≤ MAX_PATHS
+        → linked_selectors t (shape_of_type text (place_type_view declared.entry))
         (selectors_of (map selector_view selectors.now)) ≡ None) }
 {
     let mut reached = Reached {

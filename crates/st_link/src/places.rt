@@ -69,7 +69,8 @@ pub fn elements_at<'a>(
     ensures small { IfOk result (λ elements. elements.count ≤ MAX_PATHS) }
     ensures none { IfErr result (λ e. e ≡ LinkError.NotThere → (text : Declared) (t : Table) (index : Expr)
         (rest : Selectors) → ServesShapes shapes.now text → IsExpanded text (place_type_view declared.entry)
-        → size (shape_of_type text (place_type_view declared.entry)) ≤ MAX_PATHS → linked_selectors t (shape_of_type text (place_type_view declared.entry))
+        → size (shape_of_type text (place_type_view declared.entry)) ≤ MAX_PATHS
+        → linked_selectors t (shape_of_type text (place_type_view declared.entry))
         (selector_then (subscript index) rest) ≡ None) }
 {
     let Some(elements) = shapes.elements(alloc, declared)? else {
