@@ -100,8 +100,9 @@ fn judge<'a>(
 }
 
 /// Judges the configuration of a text that breaks no rule of the language, as it is parsed: there is one (G2), what it
-/// names is there and of the right type (G3), addresses are sound (G4), it has not too many parts (G5), and each program
-/// has a task (G8). Of several numbers that apply any may come, G2 before all others. Of other texts nothing is said.
+/// names is there and of the right type (G3), addresses are sound (G4), it has not too many parts (G5), and each
+/// program has a task (G8). Of several numbers that apply any may come, G2 before all others. Of other texts nothing is
+/// said.
 pub fn configure(alloc: Global, source: &Source) -> Result<(), ConfigurationError>
     ensures configured { OnOk result
         (IsWellTyped (source_view source.now) → IsConfigured (source_view source.now)) }
