@@ -4,7 +4,7 @@ use Rattle.std.specs.Prelude.{Result, Ok, Err}
 use Rattle.st_plans.specs.declared.entry.Entry.{Entry}
 use Rattle.st_plans.specs.declared.entry.Entry.TheVariants.{Row, Done}
 use Rattle.st_plans.specs.Rows.{Latch}
-use Rattle.slot_run.specs.Effects.{Effect}
+use Rattle.coded_runs.specs.Effects.{Effect}
 use Rattle.retain_store.specs.declared.fault.StoreFault.{StoreFault}
 use Rattle.retain_store.specs.Kept.{StoreView}
 use Rattle.serial_core.specs.declared.refusal.Answer.{Answer}

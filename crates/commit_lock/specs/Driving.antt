@@ -1,9 +1,9 @@
 -- A list of calls, one after another.
 use Rattle.std.specs.Prelude.{◌≡◌, ◌⊎◌, ℕ, true, false, List, [], ◌∷◌, ◌++◌, Option, Some, None, Result, Ok, Err}
 use Rattle.std.specs.Prelude.{slice_get, slice_set, option_and_then}
-use Rattle.slot_run.specs.Effects.{Effect}
-use Rattle.slot_run.specs.Executions.{IsEffectOf}
-use Rattle.slot_run.specs.declared.snapshot.Snapshot.{Snapshot}
+use Rattle.coded_runs.specs.Effects.{Effect}
+use Rattle.coded_runs.specs.Executions.{IsEffectOf}
+use Rattle.coded_runs.specs.declared.snapshot.Snapshot.{Snapshot}
 use Rattle.serial_core.specs.declared.refusal.Answer.{Answer}
 use Rattle.serial_core.specs.declared.refusal.Refusal.TheVariants.{NotWaiting, NoMemory}
 use Rattle.serial_core.specs.Steps.{Latches, Takes, Commits, CommitsHere}

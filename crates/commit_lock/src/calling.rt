@@ -7,9 +7,9 @@ ghost use Rattle.commit_lock.specs.Cores.{Guards, Outlives, survives};
 
 use crate::core_state::Core;
 use crate::refusal::Refusal;
+use coded_runs::{Execution, Snapshot};
 use disk::Disk;
 use serial_core::Answer;
-use slot_run::{Execution, Snapshot};
 use st_plans::Row;
 use std::alloc::Global;
 

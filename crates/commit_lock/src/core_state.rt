@@ -34,13 +34,13 @@ pub struct Core<D: Disk> {
 
 impl<D: Disk> Model for Core<D> {
     ghost use Rattle.std.specs.Coded.{codes};
-    ghost use Rattle.st_trees.specs.contracts.unit.Unit as unit;
-    ghost use Rattle.slot_code.specs.contracts.code.Code as code;
+    ghost use Rattle.st_trees.specs.contracts.source.Source as source;
+    ghost use Rattle.coded_programs.specs.contracts.code.Code as code;
     ghost use Rattle.commit_lock.specs.Cores.{CoreView};
 
     ghost Value = { CoreView D };
 
-    ghost coded = { Prim.hlevel (codes, unit.the_row.coded, code.the_row.coded) };
+    ghost coded = { Prim.hlevel (codes, source.the_row.coded, code.the_row.coded) };
 
     ghost use Rattle.std.specs.Prelude.{◌≡◌, ◌≤◌, length, vec_capacity};
     ghost use Rattle.st_plans.specs.Layouts.{layout_text};

@@ -3,7 +3,7 @@
 ghost use Rattle.std.specs.Prelude.{◌≡◌, ◌+◌, ◌<◌, ◌≤◌, ◌++◌, ◌∷◌, [], List, Option, None, Result, slice_set, vec_len};
 ghost use Rattle.std.specs.Prelude.{vec_capacity, length, IfOk, OnErr};
 ghost use Rattle.std.specs.List.{AllByRecursion};
-ghost use Rattle.slot_run.specs.declared.snapshot.Snapshot.{Snapshot};
+ghost use Rattle.coded_runs.specs.declared.snapshot.Snapshot.{Snapshot};
 ghost use Rattle.serial_core.specs.Steps.{Takes};
 ghost use Rattle.commit_lock.specs.declared.refusal.Refusal.{Refusal};
 ghost use Rattle.commit_lock.specs.declared.event.Event.{Event};
@@ -15,8 +15,8 @@ ghost use Rattle.commit_lock.specs.Driving.{reply_to, taken_of, IsWell, IsWellAn
 use crate::core_state::Core;
 use crate::event::{Event, Reply};
 use crate::refusal::Refusal;
+use coded_runs::{Snapshot, run};
 use disk::Disk;
-use slot_run::{Snapshot, run};
 use std::alloc::{AllocError, Global};
 
 /// The snapshot that is held under a number, which holds none from then on.

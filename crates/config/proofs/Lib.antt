@@ -1,12 +1,1 @@
-pub mod CheckLemmas
-pub mod PlanLemmas
-pub mod RecordLemmas
-pub mod FillLemmas
-pub mod StatementLemmas
-pub mod ResolveLemmas
-pub mod ExternalLemmas
-pub mod PlainLemmas
-pub mod ThinLemmas
-pub mod GlobalSlotLemmas
-pub mod SoundLemmas
-pub mod FitLemmas
+pub mod SlotLemmas

@@ -1,9 +1,4 @@
-pub mod Thin
+pub mod SlotPlaces
 pub mod Sources
 pub mod Sound
 pub mod PlanViews
-pub mod ThinPlans
-pub mod RecordLengths
-pub mod Filled
-pub mod GlobalSlots
-pub mod ThinParts

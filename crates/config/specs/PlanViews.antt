@@ -1,5 +1,8 @@
 -- The plan that the code's plan stands for.
 use Rattle.std.specs.Prelude.{List, map, slice_get, Option, Some, None}
+use Rattle.std.specs.Vec.{vec_items}
+use Rattle.st_trees.specs.Sources.{Source}
+use Rattle.st_trees.specs.SourceViews.{source_view}
 use Rattle.st_plans.specs.declared.plan.PlanVariable.{PlanVariable}
 use Rattle.st_plans.specs.Plans as plans
 use Rattle.st_plans.specs.Plans.{no_single, single_input, single_global}
@@ -8,7 +11,7 @@ use Rattle.config.specs.declared.task.Trigger.TheVariants.{Absent, Input, Variab
 use Rattle.config.specs.declared.task.Task.{Task}
 use Rattle.config.specs.declared.task.ProgramInstance.{ProgramInstance}
 use Rattle.config.specs.declared.plan.Plan.{Plan}
-use Rattle.config.specs.Sources.{source_program}
+use Rattle.config.specs.Sources.{program_numbered}
 
 abbrev pub single_of : Option PlanVariable → plans.Trigger
 single_of None = no_single
@@ -23,15 +26,17 @@ abbrev pub task_view : List PlanVariable → Task → plans.Task
 task_view variables t =
     record { single = trigger_view variables t.single; interval = t.interval; priority = t.priority }
 
-abbrev pub program_view : ProgramInstance → plans.ProgramInstance
-program_view p = record { resource = p.resource; task = p.task; code = source_program p.owner p.unit.value }
+abbrev pub program_view : Source → ProgramInstance → plans.ProgramInstance
+program_view source p =
+    record { resource = p.resource; task = p.task; code = program_numbered source p.number }
 
 abbrev pub plan_view : Plan → plans.Plan
 plan_view plan = record {
+  enumerations = map vec_items plan.enumerations.items;
   variables = plan.variables.items;
   inputs = plan.inputs.items;
   resources = plan.resources;
   tasks = map (task_view plan.variables.items) plan.tasks.items;
-  programs = map program_view plan.programs.items;
+  programs = map (program_view (source_view plan.text.value)) plan.programs.items;
   budget = plan.budget;
 }

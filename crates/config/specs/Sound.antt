@@ -4,15 +4,23 @@ use Rattle.std.specs.Prelude.{false, not, ◌&&◌, Option, Some, None, slice_ge
 use Rattle.std.specs.List.{list_all}
 use Rattle.st_words.specs.declared.limits.TheConstants.{MAX_BUDGET, MAX_PATHS, MAX_PROGRAMS, MAX_RECORD_BODY}
 use Rattle.st_words.specs.declared.limits.TheConstants.{MAX_RESOURCES, MAX_TASKS}
-use Rattle.st_words.specs.declared.kind.Kind.TheVariants.{Bool as Boolean}
-use Rattle.st_words.specs.Kinds.{row_of, same_kind}
+use Rattle.st_words.specs.declared.kind.Kind.{Kind}
+use Rattle.st_words.specs.declared.kind.Kind.TheVariants.{Bool as Boolean, Enumerated}
+use Rattle.st_words.specs.Kinds.{same_kind}
+use Rattle.st_words.specs.UpperNames.{is_upper_name}
+use Rattle.st_statics.specs.declared.limits.TheConstants.{MAX_NAMES}
 use Rattle.st_plans.specs.declared.plan.PlanVariable.{PlanVariable}
 use Rattle.st_plans.specs.declared.plan.PlanInput.{PlanInput}
 use Rattle.st_types.specs.Scopes.{Name, contains_name}
 use Rattle.st_types.specs.Slots.{IsLayout}
-use Rattle.st_plans.specs.Layouts.{layout_of, path_text, record_length}
-use Rattle.slot_code.specs.Codes.{code_view}
-use Rattle.slot_code.specs.Fitting.{Fits}
+use Rattle.st_plans.specs.Layouts.{Enumerations, layout_of, path_text, record_length}
+use Rattle.st_types.specs.Slots.{Slot}
+use Rattle.st_trees.specs.Sources.{Source}
+use Rattle.coded_programs.specs.Codes.{code_view}
+use Rattle.coded_programs.specs.Meanings.{Means}
+use Rattle.config.specs.declared.slots.SlotPlace.{SlotPlace}
+use Rattle.config.specs.SlotPlaces.{are_numbered, slots_among}
+use Rattle.config.specs.Sources.{program_numbered}
 use Rattle.config.specs.declared.task.Trigger.{Trigger}
 use Rattle.config.specs.declared.task.Trigger.TheVariants.{Absent, Input, Variable}
 use Rattle.config.specs.declared.task.Task.{Task}
@@ -27,9 +35,20 @@ are_different (x ∷ xs) = not (contains_name xs x) && are_different xs
 abbrev pub is_spelled : Name → Bool
 is_spelled x = not (length x == 0) && list_all (λ b. nat_le 33 b && nat_le b 126) x
 
--- a variable that may have a line in a record's layout text: its path may stand there, and its type has a keyword
-abbrev pub has_line : PlanVariable → Bool
-has_line v = is_spelled (path_text v.path) && is_spelled (row_of v.initial.kind).keyword
+-- so many names, each an identifier in upper case
+abbrev pub has_names : Option (List Name) → ℕ → Bool
+has_names None n = false
+has_names (Some names) n =
+    length names == n && nat_le 1 n && nat_le n MAX_NAMES && list_all is_upper_name names
+
+-- a type that a record can spell: an elementary one, or an enumerated one of the text with all its names
+abbrev pub has_spelling : Enumerations → Kind → Bool
+has_spelling types (Enumerated n number) = has_names (slice_get types number) n
+has_spelling types k = true
+
+-- a variable that may have a line in a record's layout text: its path may stand there, and its type
+abbrev pub has_line : Enumerations → PlanVariable → Bool
+has_line types v = is_spelled (path_text v.path) && has_spelling types v.initial.kind
 
 abbrev pub is_boolean_variable : Option PlanVariable → Bool
 is_boolean_variable None = false
@@ -54,27 +73,35 @@ tasks_of r tasks = length (filter (λ t. t.resource == r) tasks)
 
 -- The limits: 4,096 paths, 8 resources with 32 tasks each, 64 programs, 1 to 1,000,000 ticks, a record of 131,059
 -- bytes.
-pub record IsWithinLimits (variables : List PlanVariable) (inputs : List PlanInput) (resources : ℕ) (tasks : List Task)
-    (programs budget : ℕ) : Type 0 where
+pub record IsWithinLimits (types : Enumerations) (variables : List PlanVariable) (inputs : List PlanInput) (resources : ℕ)
+    (tasks : List Task) (programs budget : ℕ) : Type 0 where
   pub paths : length variables + length inputs ≤ MAX_PATHS
   pub resources_are : resources ≤ MAX_RESOURCES
   pub tasks_each : list_all (λ t. nat_le (tasks_of t.resource tasks) MAX_TASKS) tasks ≡ true
   pub programs_are : programs ≤ MAX_PROGRAMS
   pub some_ticks : 1 ≤ budget
   pub ticks : budget ≤ MAX_BUDGET
-  pub record_is : record_length variables ≤ MAX_RECORD_BODY
+  pub record_is : record_length types variables ≤ MAX_RECORD_BODY
 
--- Each path has one slot, and the code of each program fits the slots; each program runs in a
--- task of its resource; each variable can have a line in a record, and no two paths are spelled alike.
-pub record PlanInvariant (variables : List PlanVariable) (inputs : List PlanInput) (resources : ℕ) (tasks : List Task)
-    (programs : List ProgramInstance) (budget : ℕ) : Type 0 where
+-- The code of an instance does over the slots what its program does, and the instance has its program's names.
+pub record IsCodeOf (source : Source) (layout : List Slot) (p : ProgramInstance) : Type 0 where
+  pub means : Means layout (code_view p.code.value) (program_numbered source p.number)
+  pub owner : (program_numbered source p.number).owner ≡ p.owner
+
+-- Each path has one slot; variables and inputs are numbered in the order of the slots; the code of each instance does
+-- what its program does; each program runs in a task of its resource; each variable can have a line in a record, and no
+-- two paths are spelled alike.
+pub record PlanInvariant (source : Source) (types : Enumerations) (variables : List PlanVariable)
+    (inputs : List PlanInput) (slots : List SlotPlace) (resources : ℕ) (tasks : List Task) (programs : List ProgramInstance)
+    (budget : ℕ) : Type 0 where
   pub layout : IsLayout (layout_of variables inputs)
+  pub numbered : are_numbered 0 0 slots (length variables) (length inputs) ≡ true
   pub codes : (k : ℕ) (p : ProgramInstance) → slice_get programs k ≡ Some p
-      → Fits (layout_of variables inputs) (code_view p.code.value)
+      → IsCodeOf source (slots_among slots variables inputs) p
   pub resources_are : (k : ℕ) (t : Task) → slice_get tasks k ≡ Some t → t.resource < resources
   pub places : (k : ℕ) (p : ProgramInstance) → slice_get programs k ≡ Some p
       → is_of_resource p.resource (slice_get tasks p.task) ≡ true
   pub singles : list_all (λ t. is_sound_trigger variables inputs t.single) tasks ≡ true
-  pub spelled : list_all has_line variables ≡ true
+  pub spelled : list_all (has_line types) variables ≡ true
   pub different : are_different (map (λ v. path_text v.path) variables) ≡ true
-  pub limits : IsWithinLimits variables inputs resources tasks (length programs) budget
+  pub limits : IsWithinLimits types variables inputs resources tasks (length programs) budget

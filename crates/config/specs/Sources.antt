@@ -1,10 +1,25 @@
--- What a program of a plan is: its source.
-use Rattle.st_words.specs.declared.path.Owner.{Owner}
-use Rattle.st_trees.specs.declared.unit.Unit as code_unit
-use Rattle.st_trees.specs.UnitViews.{unit_view}
-use Rattle.st_types.specs.Bodies.{plain_program}
+-- The programs of a text's instances, by their numbers.
+use Rattle.std.specs.Prelude.{ℕ, List, [], slice_index_or}
+use Rattle.st_trees.specs.Sources.{Source}
+use Rattle.st_trees.specs.Statements.{no_stmts}
+use Rattle.st_types.specs.NameTypes.{declared_in}
 use Rattle.st_types.specs.Runs.{Program}
+use Rattle.st_layouts.specs.LayoutVariables.{configurations_in, only_configuration}
+use Rattle.st_layouts.specs.Libraries.{programs_of_configuration}
 
--- the program of an instance with this resolved unit
-abbrev pub source_program : Owner → code_unit.Unit → Program
-source_program owner unit = plain_program owner (unit_view unit)
+-- of the resolved tree of a text, by resources in order
+abbrev pub programs_of_tree : Source → List Program
+programs_of_tree source =
+    programs_of_configuration (declared_in source) (only_configuration (configurations_in source))
+
+-- what stands for a program that is not there: one that does nothing
+abbrev pub no_program : Program
+no_program = record {
+  library = record { functions = []; blocks = [] };
+  owner = record { resource = []; instance = [] };
+  body = record { externals = []; instances = []; statements = no_stmts };
+}
+
+-- The program of this number. Nobody above looks into a program.
+unfoldable pub program_numbered : Source → ℕ → Program
+program_numbered source n = slice_index_or (programs_of_tree source) n no_program

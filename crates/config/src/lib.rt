@@ -1,26 +1,19 @@
 //! Plans: what the runtime needs of a text.
 //!
 //! It owns variables, inputs, tasks and the codes of programs. The type of `Plan` keeps that each path has one slot,
-//! that codes fit, and the limits, so nobody above looks at them again. A plan never changes.
+//! that codes do what their programs do, and the limits, so nobody above looks at them again. A plan never changes.
 #![tactic(auto)]
 
-mod global_slots;
-mod instance_name;
+mod laws;
 mod layout_text;
-mod lookup;
 mod path_text;
 mod plan;
-mod plan_check;
-mod record_length;
-mod resolve;
+mod slots;
 mod task;
-mod thin;
-mod thin_program;
-mod thin_unit;
-mod unit_check;
 
+pub use laws::slots_stand_in_the_order_of_the_text;
+pub use layout_text::layout_text;
 pub use path_text::push_path;
 pub use plan::Plan;
-pub use plan_check::has_long_record;
+pub use slots::{SlotPlace, merged_values};
 pub use task::{ProgramInstance, Task, Trigger};
-pub use thin_program::ThinProgram;

@@ -1,24 +1,37 @@
 //! The plan of a text.
 
-ghost use Rattle.std.specs.Prelude.{◌≡◌, length, filter};
+ghost use Rattle.std.specs.Prelude.{◌≡◌, length, filter, map};
+ghost use Rattle.std.specs.Vec.{vec_items};
+ghost use Rattle.st_trees.specs.SourceViews.{source_view};
 ghost use Rattle.config.specs.Sound.{PlanInvariant};
 
+use crate::slots::SlotPlace;
 use crate::task::{ProgramInstance, Task};
 use st_plans::{PlanInput, PlanVariable};
+use st_trees::Source;
+use st_words::Name;
+use std::sync::Arc;
 
 /// What the runtime needs of a text: its variables, inputs, tasks and programs. It keeps the limits of the language.
 #[derive(Drop)]
 pub struct Plan {
-    /// The variables in layout order; the number of each is its slot.
+    /// The text, with the type of each untyped literal.
+    pub text: Arc<Source>,
+    /// The names of each enumerated type of the text, in the order of the types' numbers.
+    pub enumerations: Vec<Vec<Name>>,
+    /// The variables in layout order.
     pub variables: Vec<PlanVariable>,
-    /// The inputs of the plant in declaration order; their slots stand after those of the variables.
+    /// The inputs of the plant in declaration order.
     pub inputs: Vec<PlanInput>,
+    /// The slots in the order of the text, inputs among them.
+    pub slots: Vec<SlotPlace>,
     pub resources: usize,
     pub tasks: Vec<Task>,
     pub programs: Vec<ProgramInstance>,
     /// How many ticks an execution may take: 1 to 1,000,000.
     pub budget: u32,
-    ghost sound: { PlanInvariant variables.items inputs.items resources tasks.items programs.items budget },
+    ghost sound: { PlanInvariant (source_view text.value) (map vec_items enumerations.items) variables.items inputs.items
+        slots.items resources tasks.items programs.items budget },
 }
 
 impl Plan {

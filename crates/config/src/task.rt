@@ -1,11 +1,6 @@
 //! Tasks and programs of a plan.
 
-ghost use Rattle.slot_code.specs.Codes.{code_view};
-ghost use Rattle.slot_code.specs.Meanings.{Means};
-ghost use Rattle.config.specs.Sources.{source_program};
-
-use slot_code::Code;
-use st_trees::Unit;
+use coded_programs::Code;
 use st_words::Owner;
 use std::sync::Arc;
 
@@ -30,7 +25,7 @@ pub struct Task {
     pub priority: u64,
 }
 
-/// An instance of a program: its source, and the code that means it.
+/// An instance of a program, with the code that does what its program does.
 #[derive(Drop)]
 pub struct ProgramInstance {
     pub resource: usize,
@@ -38,8 +33,7 @@ pub struct ProgramInstance {
     pub task: usize,
     /// The resource and the instance that it runs as.
     pub owner: Owner,
-    /// Its source, with the type of each untyped literal.
-    pub unit: Arc<Unit>,
+    /// The number of its program among those of the text's instances, from 0.
+    pub number: usize,
     pub code: Arc<Code>,
-    ghost means: { Means (code_view code.value) (source_program owner unit.value) },
 }

@@ -2,7 +2,7 @@
 use Rattle.std.proofs.Common.{◌≡◌, ◌∙◌, ◌≤◌, ℕ, List, [], ◌∷◌, ◌++◌, Option, Some, None, inl, inr, refl, sym, ap, arith}
 use Rattle.std.proofs.Common.{length, length-append, subst}
 use Rattle.std.specs.Prelude.{Result, Ok, Err, max}
-use Rattle.slot_run.specs.declared.snapshot.Snapshot.{Snapshot}
+use Rattle.coded_runs.specs.declared.snapshot.Snapshot.{Snapshot}
 use Rattle.serial_core.specs.declared.refusal.Answer.{Answer}
 use Rattle.serial_core.specs.declared.refusal.Refusal.{Refusal as SerialRefusal}
 use Rattle.serial_core.specs.Steps.{State, grown}

@@ -7,8 +7,8 @@ use Rattle.st_plans.specs.declared.entry.Activation.{Activation}
 use Rattle.st_plans.specs.declared.entry.Entry.TheVariants as entries
 use Rattle.st_plans.specs.Rows.{Latch as Row}
 use Rattle.st_plans.specs.Logs.{Log}
-use Rattle.slot_run.specs.declared.snapshot.Snapshot.{Snapshot}
-use Rattle.slot_run.specs.Effects.{Effect}
+use Rattle.coded_runs.specs.declared.snapshot.Snapshot.{Snapshot}
+use Rattle.coded_runs.specs.Effects.{Effect}
 use Rattle.config.specs.declared.plan.Plan.{Plan}
 use Rattle.config.specs.PlanViews.{plan_view}
 use Rattle.serial_core.specs.declared.refusal.Answer.{Answer}

@@ -37,17 +37,32 @@ use Rattle.st_trees.specs.declared.statement.Stmt.TheBlock.{member-Arm, member-C
 use Rattle.st_trees.specs.contracts.statement.Stmt as Stmt
 use Rattle.st_trees.specs.contracts.unit.UnitSort as UnitSort
 use Rattle.st_trees.specs.contracts.unit.Unit as Unit
+use Rattle.st_trees.specs.contracts.data_type.Field as Field
+use Rattle.st_trees.specs.contracts.data_type.TypeDefinition as TypeDefinition
+use Rattle.st_trees.specs.contracts.data_type.TypeDeclaration as TypeDeclaration
+use Rattle.st_trees.specs.contracts.configuration.Address as Address
+use Rattle.st_trees.specs.contracts.configuration.GlobalNames as GlobalNames
+use Rattle.st_trees.specs.contracts.configuration.GlobalDeclaration as GlobalDeclaration
+use Rattle.st_trees.specs.contracts.configuration.GlobalQualifier as GlobalQualifier
+use Rattle.st_trees.specs.contracts.configuration.GlobalBlock as GlobalBlock
+use Rattle.st_trees.specs.contracts.configuration.Task as TextTask
+use Rattle.st_trees.specs.contracts.configuration.Instance as TextInstance
+use Rattle.st_trees.specs.contracts.configuration.Resource as Resource
+use Rattle.st_trees.specs.contracts.configuration.Configuration as Configuration
+use Rattle.st_trees.specs.contracts.source.LibraryElement as LibraryElement
+use Rattle.st_trees.specs.contracts.source.Source as Source
 use Rattle.st_words.specs.contracts.path.Owner as Owner
 use Rattle.st_words.specs.contracts.path.Path as Path
 use Rattle.st_words.specs.contracts.value.Value.TheInside as ValueInside
 use Rattle.st_words.specs.contracts.value.Value as Value
-use Rattle.slot_code.specs.contracts.root.Root as Root
-use Rattle.slot_code.specs.contracts.path_slot.PathSlot as PathSlot
-use Rattle.slot_code.specs.contracts.code.Code as Code
+use Rattle.machine_code.specs.contracts.instr.Instr as Instr
+use Rattle.st_names.specs.contracts.standard_functions.Standard as Standard
+use Rattle.coded_programs.specs.contracts.code.Code as Code
 use Rattle.config.specs.contracts.task.ProgramInstance as ProgramInstance
 use Rattle.st_plans.specs.contracts.plan.PlanVariable as PlanVariable
 use Rattle.st_plans.specs.contracts.plan.PlanInput as PlanInput
 use Rattle.config.specs.contracts.task.Task as Task
+use Rattle.config.specs.contracts.slots.SlotPlace as SlotPlace
 use Rattle.config.specs.contracts.plan.Plan as Plan
 use Rattle.st_plans.specs.contracts.entry.Row.TheInside as RowInside
 use Rattle.st_plans.specs.contracts.entry.Row as Row
@@ -925,39 +940,531 @@ value-send = search (plain, value_inside-send) depth 20
 pub value-sync : IsSync Value.the_row
 value-sync = search (plain, value_inside-sync) depth 20
 
-pub root-send : IsSend Root.the_row
-root-send = declared_send Root.the_type (option-send _ owner-send, (name-send, tt))
+pub field-send : IsSend Field.the_row
+field-send = declared_send Field.the_type (identifier-send, (declared-send, (option-send _ initial-send, tt)))
 
-pub root-sync : IsSync Root.the_row
-root-sync = declared_sync Root.the_type (option-sync _ owner-sync, (name-sync, tt))
+pub field-sync : IsSync Field.the_row
+field-sync = declared_sync Field.the_type (identifier-sync, (declared-sync, (option-sync _ initial-sync, tt)))
 
-pub path_slot-send : IsSend PathSlot.the_row
-path_slot-send = declared_send PathSlot.the_type (
-  path-send,
+pub definition-send : IsSend TypeDefinition.the_row
+definition-send = variants_send TypeDefinition.enum (
+  (array-send, tt),
   (
-    search plain depth 20,
+    (Vec-send _ field-send, tt),
     (
-      kind-send,
       (
-        search plain depth
-            20,
+        Vec-send _
+            identifier-send,
         tt,
+      ),
+      tt,
+    ),
+  ),
+)
+
+pub definition-sync : IsSync TypeDefinition.the_row
+definition-sync = variants_sync TypeDefinition.enum (
+  (array-sync, tt),
+  (
+    (Vec-sync _ field-sync, tt),
+    (
+      (
+        Vec-sync _
+            identifier-sync,
+        tt,
+      ),
+      tt,
+    ),
+  ),
+)
+
+pub type_declaration-send : IsSend TypeDeclaration.the_row
+type_declaration-send = declared_send TypeDeclaration.the_type (identifier-send, (definition-send, tt))
+
+pub type_declaration-sync : IsSync TypeDeclaration.the_row
+type_declaration-sync = declared_sync TypeDeclaration.the_type (identifier-sync, (definition-sync, tt))
+
+pub address-send : IsSend Address.the_row
+address-send = search plain depth 20
+
+pub address-sync : IsSync Address.the_row
+address-sync = search plain depth 20
+
+pub global_names-send : IsSend GlobalNames.the_row
+global_names-send = variants_send GlobalNames.enum (
+  (identifier-send, (address-send, tt)),
+  (
+    (
+      Vec-send _
+          identifier-send,
+      tt,
+    ),
+    tt,
+  ),
+)
+
+pub global_names-sync : IsSync GlobalNames.the_row
+global_names-sync = variants_sync GlobalNames.enum (
+  (identifier-sync, (address-sync, tt)),
+  (
+    (
+      Vec-sync _
+          identifier-sync,
+      tt,
+    ),
+    tt,
+  ),
+)
+
+pub global_declaration-send : IsSend GlobalDeclaration.the_row
+global_declaration-send = declared_send GlobalDeclaration.the_type (
+  global_names-send,
+  (
+    declared-send,
+    (
+      option-send _
+          initial-send,
+      tt,
+    ),
+  ),
+)
+
+pub global_declaration-sync : IsSync GlobalDeclaration.the_row
+global_declaration-sync = declared_sync GlobalDeclaration.the_type (
+  global_names-sync,
+  (
+    declared-sync,
+    (
+      option-sync _
+          initial-sync,
+      tt,
+    ),
+  ),
+)
+
+pub qualifier-send : IsSend GlobalQualifier.the_row
+qualifier-send = search plain depth 20
+
+pub qualifier-sync : IsSync GlobalQualifier.the_row
+qualifier-sync = search plain depth 20
+
+pub global_block-send : IsSend GlobalBlock.the_row
+global_block-send = declared_send GlobalBlock.the_type (
+  option-send _ qualifier-send,
+  (
+    Vec-send _
+        global_declaration-send,
+    tt,
+  ),
+)
+
+pub global_block-sync : IsSync GlobalBlock.the_row
+global_block-sync = declared_sync GlobalBlock.the_type (
+  option-sync _ qualifier-sync,
+  (
+    Vec-sync _
+        global_declaration-sync,
+    tt,
+  ),
+)
+
+pub text_task-send : IsSend TextTask.the_row
+text_task-send = declared_send TextTask.the_type (
+  identifier-send,
+  (
+    option-send _ identifier-send,
+    (
+      search plain depth
+          20,
+      (search plain depth 20, tt),
+    ),
+  ),
+)
+
+pub text_task-sync : IsSync TextTask.the_row
+text_task-sync = declared_sync TextTask.the_type (
+  identifier-sync,
+  (
+    option-sync _ identifier-sync,
+    (
+      search plain depth
+          20,
+      (search plain depth 20, tt),
+    ),
+  ),
+)
+
+pub text_instance-send : IsSend TextInstance.the_row
+text_instance-send = declared_send TextInstance.the_type (
+  identifier-send,
+  (
+    option-send _ identifier-send,
+    (identifier-send, tt),
+  ),
+)
+
+pub text_instance-sync : IsSync TextInstance.the_row
+text_instance-sync = declared_sync TextInstance.the_type (
+  identifier-sync,
+  (
+    option-sync _ identifier-sync,
+    (identifier-sync, tt),
+  ),
+)
+
+pub resource-send : IsSend Resource.the_row
+resource-send = declared_send Resource.the_type (
+  identifier-send,
+  (
+    identifier-send,
+    (
+      Vec-send _ text_task-send,
+      (Vec-send _ text_instance-send, tt),
+    ),
+  ),
+)
+
+pub resource-sync : IsSync Resource.the_row
+resource-sync = declared_sync Resource.the_type (
+  identifier-sync,
+  (
+    identifier-sync,
+    (
+      Vec-sync _ text_task-sync,
+      (Vec-sync _ text_instance-sync, tt),
+    ),
+  ),
+)
+
+pub configuration-send : IsSend Configuration.the_row
+configuration-send = declared_send Configuration.the_type (
+  identifier-send,
+  (
+    Vec-send _ global_block-send,
+    (
+      Vec-send _
+          resource-send,
+      tt,
+    ),
+  ),
+)
+
+pub configuration-sync : IsSync Configuration.the_row
+configuration-sync = declared_sync Configuration.the_type (
+  identifier-sync,
+  (
+    Vec-sync _ global_block-sync,
+    (
+      Vec-sync _
+          resource-sync,
+      tt,
+    ),
+  ),
+)
+
+pub element-send : IsSend LibraryElement.the_row
+element-send = variants_send LibraryElement.enum (
+  (Vec-send _ type_declaration-send, tt),
+  (
+    (unit-send, tt),
+    ((configuration-send, tt), tt),
+  ),
+)
+
+pub element-sync : IsSync LibraryElement.the_row
+element-sync = variants_sync LibraryElement.enum (
+  (Vec-sync _ type_declaration-sync, tt),
+  (
+    (unit-sync, tt),
+    ((configuration-sync, tt), tt),
+  ),
+)
+
+pub source-send : IsSend Source.the_row
+source-send = declared_send Source.the_type (Vec-send _ element-send, tt)
+
+pub source-sync : IsSync Source.the_row
+source-sync = declared_sync Source.the_type (Vec-sync _ element-sync, tt)
+
+pub standard-send : IsSend Standard.the_row
+standard-send = variants_send Standard.enum (
+  tt,
+  (
+    tt,
+    (
+      tt,
+      (
+        tt,
+        (
+          tt,
+          (
+            tt,
+            (
+              tt,
+              (
+                tt,
+                (
+                  tt,
+                  (
+                    (
+                      kind-send,
+                      (
+                        kind-send,
+                        tt,
+                      ),
+                    ),
+                    tt,
+                  ),
+                ),
+              ),
+            ),
+          ),
+        ),
       ),
     ),
   ),
 )
 
-pub path_slot-sync : IsSync PathSlot.the_row
-path_slot-sync = declared_sync PathSlot.the_type (
-  path-sync,
+pub standard-sync : IsSync Standard.the_row
+standard-sync = variants_sync Standard.enum (
+  tt,
   (
-    search plain depth 20,
+    tt,
     (
-      kind-sync,
+      tt,
       (
-        search plain depth
-            20,
         tt,
+        (
+          tt,
+          (
+            tt,
+            (
+              tt,
+              (
+                tt,
+                (
+                  tt,
+                  (
+                    (
+                      kind-sync,
+                      (
+                        kind-sync,
+                        tt,
+                      ),
+                    ),
+                    tt,
+                  ),
+                ),
+              ),
+            ),
+          ),
+        ),
+      ),
+    ),
+  ),
+)
+
+pub instr-send : IsSend Instr.the_row
+instr-send = variants_send Instr.enum (
+  tt,
+  (
+    (value-send, tt),
+    (
+      (search plain depth 20, tt),
+      (
+        (
+          search plain depth 20,
+          tt,
+        ),
+        (
+          (search plain depth 20, tt),
+          (
+            (search plain depth 20, tt),
+            (
+              (search plain depth 20, tt),
+              (
+                (
+                  search plain
+                      depth 20,
+                  tt,
+                ),
+                (
+                  (standard-send, (search plain depth 20, tt)),
+                  (
+                    (
+                      search plain depth 20,
+                      (
+                        search plain depth 20,
+                        tt,
+                      ),
+                    ),
+                    (
+                      (search plain depth 20, tt),
+                      (
+                        (search plain depth 20, tt),
+                        (
+                          (search plain depth 20, tt),
+                          (
+                            (
+                              search plain
+                                  depth 20,
+                              tt,
+                            ),
+                            (
+                              (search plain depth 20, tt),
+                              (
+                                (search plain depth 20, tt),
+                                (
+                                  (
+                                    search plain depth 20,
+                                    (
+                                      search plain
+                                          depth 20,
+                                      (search plain depth 20, tt),
+                                    ),
+                                  ),
+                                  (
+                                    tt,
+                                    (
+                                      tt,
+                                      (
+                                        (search plain depth 20, tt),
+                                        (
+                                          (
+                                            search plain depth 20,
+                                            (
+                                              search
+                                                  plain depth 20,
+                                              tt,
+                                            ),
+                                          ),
+                                          (
+                                            (search plain depth 20, (search plain depth 20, tt)),
+                                            (
+                                              (search plain depth 20, tt),
+                                              ((search plain depth 20, tt), tt),
+                                            ),
+                                          ),
+                                        ),
+                                      ),
+                                    ),
+                                  ),
+                                ),
+                              ),
+                            ),
+                          ),
+                        ),
+                      ),
+                    ),
+                  ),
+                ),
+              ),
+            ),
+          ),
+        ),
+      ),
+    ),
+  ),
+)
+
+pub instr-sync : IsSync Instr.the_row
+instr-sync = variants_sync Instr.enum (
+  tt,
+  (
+    (value-sync, tt),
+    (
+      (search plain depth 20, tt),
+      (
+        (
+          search plain depth 20,
+          tt,
+        ),
+        (
+          (search plain depth 20, tt),
+          (
+            (search plain depth 20, tt),
+            (
+              (search plain depth 20, tt),
+              (
+                (
+                  search plain
+                      depth 20,
+                  tt,
+                ),
+                (
+                  (standard-sync, (search plain depth 20, tt)),
+                  (
+                    (
+                      search plain depth 20,
+                      (
+                        search plain depth 20,
+                        tt,
+                      ),
+                    ),
+                    (
+                      (search plain depth 20, tt),
+                      (
+                        (search plain depth 20, tt),
+                        (
+                          (search plain depth 20, tt),
+                          (
+                            (
+                              search plain
+                                  depth 20,
+                              tt,
+                            ),
+                            (
+                              (search plain depth 20, tt),
+                              (
+                                (search plain depth 20, tt),
+                                (
+                                  (
+                                    search plain depth 20,
+                                    (
+                                      search plain
+                                          depth 20,
+                                      (search plain depth 20, tt),
+                                    ),
+                                  ),
+                                  (
+                                    tt,
+                                    (
+                                      tt,
+                                      (
+                                        (search plain depth 20, tt),
+                                        (
+                                          (
+                                            search plain depth 20,
+                                            (
+                                              search
+                                                  plain depth 20,
+                                              tt,
+                                            ),
+                                          ),
+                                          (
+                                            (search plain depth 20, (search plain depth 20, tt)),
+                                            (
+                                              (search plain depth 20, tt),
+                                              ((search plain depth 20, tt), tt),
+                                            ),
+                                          ),
+                                        ),
+                                      ),
+                                    ),
+                                  ),
+                                ),
+                              ),
+                            ),
+                          ),
+                        ),
+                      ),
+                    ),
+                  ),
+                ),
+              ),
+            ),
+          ),
+        ),
       ),
     ),
   ),
@@ -965,34 +1472,14 @@ path_slot-sync = declared_sync PathSlot.the_type (
 
 pub code-send : IsSend Code.the_row
 code-send = declared_send Code.the_type (
-  owner-send,
-  (
-    Arc-send _ unit-send unit-sync,
-    (
-      Vec-send _ root-send,
-      (
-        Vec-send
-            _ path_slot-send,
-        tt,
-      ),
-    ),
-  ),
+  Vec-send _ instr-send,
+  (Arc-send _ (Vec-send _ kind-send) (Vec-sync _ kind-sync), (search plain depth 20, tt)),
 )
 
 pub code-sync : IsSync Code.the_row
 code-sync = declared_sync Code.the_type (
-  owner-sync,
-  (
-    Arc-sync _ unit-send unit-sync,
-    (
-      Vec-sync _ root-sync,
-      (
-        Vec-sync
-            _ path_slot-sync,
-        tt,
-      ),
-    ),
-  ),
+  Vec-sync _ instr-sync,
+  (Arc-sync _ (Vec-send _ kind-send) (Vec-sync _ kind-sync), (search plain depth 20, tt)),
 )
 
 pub instance-send : IsSend ProgramInstance.the_row
@@ -1002,7 +1489,7 @@ instance-send = declared_send ProgramInstance.the_type (
     search plain depth 20,
     (
       owner-send,
-      (Arc-send _ unit-send unit-sync, (Arc-send _ code-send code-sync, tt)),
+      (search plain depth 20, (Arc-send _ code-send code-sync, tt)),
     ),
   ),
 )
@@ -1014,10 +1501,16 @@ instance-sync = declared_sync ProgramInstance.the_type (
     search plain depth 20,
     (
       owner-sync,
-      (Arc-sync _ unit-send unit-sync, (Arc-sync _ code-send code-sync, tt)),
+      (search plain depth 20, (Arc-sync _ code-send code-sync, tt)),
     ),
   ),
 )
+
+pub place-send : IsSend SlotPlace.the_row
+place-send = search plain depth 20
+
+pub place-sync : IsSync SlotPlace.the_row
+place-sync = search plain depth 20
 
 pub plan_variable-send : IsSend PlanVariable.the_row
 plan_variable-send = declared_send PlanVariable.the_type (path-send, (value-send, (search plain depth 20, tt)))
@@ -1039,26 +1532,52 @@ task-sync = search plain depth 20
 
 pub plan-send : IsSend Plan.the_row
 plan-send = declared_send Plan.the_type (
-  Vec-send _ plan_variable-send,
+  Arc-send _ source-send source-sync,
   (
-    Vec-send _ plan_input-send,
+    Vec-send _ plan_variable-send,
     (
-      search plain
-          depth 20,
-      (Vec-send _ task-send, (Vec-send _ instance-send, (search plain depth 20, tt))),
+      Vec-send
+          _ plan_input-send,
+      (
+        Vec-send _ place-send,
+        (
+          search plain depth 20,
+          (
+            Vec-send _ task-send,
+            (
+              Vec-send _
+                  instance-send,
+              (search plain depth 20, tt),
+            ),
+          ),
+        ),
+      ),
     ),
   ),
 )
 
 pub plan-sync : IsSync Plan.the_row
 plan-sync = declared_sync Plan.the_type (
-  Vec-sync _ plan_variable-sync,
+  Arc-sync _ source-send source-sync,
   (
-    Vec-sync _ plan_input-sync,
+    Vec-sync _ plan_variable-sync,
     (
-      search plain
-          depth 20,
-      (Vec-sync _ task-sync, (Vec-sync _ instance-sync, (search plain depth 20, tt))),
+      Vec-sync
+          _ plan_input-sync,
+      (
+        Vec-sync _ place-sync,
+        (
+          search plain depth 20,
+          (
+            Vec-sync _ task-sync,
+            (
+              Vec-sync _
+                  instance-sync,
+              (search plain depth 20, tt),
+            ),
+          ),
+        ),
+      ),
     ),
   ),
 )

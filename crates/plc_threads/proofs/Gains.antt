@@ -7,7 +7,7 @@ use Rattle.st_plans.specs.Logs.{is_done, done_count}
 use Rattle.st_plans.proofs.CountLemmas.{counted_behind}
 use Rattle.st_plans.proofs.LogLemmas.{past_of-add}
 use Rattle.config.specs.PlanViews.{plan_view}
-use Rattle.slot_run.specs.Effects.{Effect}
+use Rattle.coded_runs.specs.Effects.{Effect}
 use Rattle.serial_core.specs.declared.refusal.Answer.{Answer}
 use Rattle.serial_core.specs.declared.refusal.Answer.TheVariants.{Committed, Stale}
 use Rattle.serial_core.specs.declared.refusal.Refusal.TheVariants.{Full, NotWaiting, Foreign, NotLater, NoMemory}

@@ -15,9 +15,9 @@ ghost use Rattle.commit_lock.specs.declared.refusal.Refusal.{Refusal};
 
 use crate::mark::{Mark, RaisePass};
 use crate::phase::{Phase, after_call, end_of};
+use coded_runs::Execution;
 use commit_lock::{Answer, Core, Refusal};
 use disk::Disk;
-use slot_run::Execution;
 use st_plans::Row;
 use std::alloc::Global;
 use std::collections::VecDeque;

@@ -6,9 +6,9 @@ ghost use Rattle.plc_threads.specs.Answers.{committed_by, committed_here, stale_
 use crate::locked::{Locked, Run};
 use crate::phase::{Phase, RunFault};
 use crate::tally::Tally;
+use coded_runs::{Execution, Snapshot};
 use commit_lock::{Answer, Core};
 use disk::Disk;
-use slot_run::{Execution, Snapshot};
 use st_plans::{Activation, Entry};
 use std::alloc::Global;
 use std::sync::{Condvar, Mutex, Wait};

@@ -6,9 +6,9 @@ ghost use Rattle.commit_lock.specs.Cores.{Guards};
 ghost use Rattle.plc_threads.specs.Answers.{committed_by, committed_here, stale_after};
 
 use crate::locked::{Locked, Run, count_here, count_of};
+use coded_runs::Execution;
 use commit_lock::{Answer, Refusal};
 use disk::Disk;
-use slot_run::Execution;
 use std::alloc::Global;
 use std::sync::ledger::Share;
 

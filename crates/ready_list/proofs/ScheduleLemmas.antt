@@ -1,5 +1,6 @@
 -- The schedules of the code's plan are those of the plan that it stands for.
 use Rattle.std.proofs.Common.{◌≡◌, ℕ, zero, suc, List, [], ◌∷◌, map, refl}
+use Rattle.st_trees.specs.Sources.{Source}
 use Rattle.st_plans.specs.declared.plan.PlanVariable.{PlanVariable}
 use Rattle.st_plans.specs.Plans.{task_at, schedule_of}
 use Rattle.config.specs.declared.task.Task.{Task}
@@ -19,11 +20,13 @@ priority-same variables [] t = refl
 priority-same variables (x ∷ tasks) zero = refl
 priority-same variables (x ∷ tasks) (suc t) = priority-same variables tasks t
 
-pub schedules-same : (variables : List PlanVariable) (tasks : List Task) (programs : List ProgramInstance) → map
-    (code_schedule tasks) programs ≡ map (schedule_of (map (task_view variables) tasks)) (map program_view programs)
-schedules-same variables tasks [] = refl
-schedules-same variables tasks (p ∷ programs) = rw (
+pub schedules-same : (source : Source) (variables : List PlanVariable) (tasks : List Task)
+    (programs : List ProgramInstance)
+    → map (code_schedule tasks) programs
+    ≡ map (schedule_of (map (task_view variables) tasks)) (map (program_view source) programs)
+schedules-same source variables tasks [] = refl
+schedules-same source variables tasks (p ∷ programs) = rw (
   interval-same variables tasks p.task,
   priority-same variables tasks p.task,
-  schedules-same variables tasks programs,
+  schedules-same source variables tasks programs,
 ) refl

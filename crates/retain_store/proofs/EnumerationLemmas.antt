@@ -7,7 +7,7 @@ use Rattle.std.proofs.Common.{inl, inr, subst}
 use Rattle.std.specs.List.{list_all}
 use Rattle.std.proofs.lemmas.Bool.{le-leb, lt-leb, eq-eqb, ne_eqb}
 use Rattle.std.proofs.lemmas.List.{length-append}
-use Rattle.retain_store.specs.Records.{is_upper_name}
+use Rattle.st_words.specs.UpperNames.{is_upper_name}
 use Rattle.retain_store.specs.Reading.{◌>>=◌, cut, parted, onto_first, names_counted, before_last}
 use Rattle.retain_store.specs.FieldLaws.{bind_some, some_is, chosen, cut_takes}
 

@@ -13,7 +13,8 @@ use Rattle.st_words.specs.declared.kind.Kind.TheVariants.{Dword, Lword, Time, Bo
 use Rattle.st_words.specs.Kinds.{row_of}
 use Rattle.st_words.specs.Values.{Datum}
 use Rattle.retain_store.specs.Records.{Line, line_text, is_path_text, has_keyword, IsLine, Spells, by_keyword}
-use Rattle.retain_store.specs.Records.{by_names, joined, is_upper_name}
+use Rattle.st_words.specs.UpperNames.{is_upper_name, joined}
+use Rattle.retain_store.specs.Records.{by_names}
 use Rattle.retain_store.specs.Reading.{◌>>=◌, cut, line_at, value_at, RecordedVariable, variable_at, variables_in}
 use Rattle.retain_store.specs.Reading.{path_from, first_word, AreVariables}
 use Rattle.retain_store.specs.FieldLaws.{bind_some, some_is, cut_again}

@@ -20,8 +20,10 @@ use Rattle.st_words.specs.declared.kind.Kind.TheVariants.{Dword, Lword, Time, Bo
 use Rattle.st_words.specs.Kinds.{row_of, holds, width_of}
 use Rattle.st_words.specs.Values.{Datum, IsHeld}
 use Rattle.retain_store.specs.Records.{Line, line_text, text_of, is_visible, is_path_text, has_keyword, IsLine}
-use Rattle.retain_store.specs.Records.{Spells, by_keyword, by_names, IsEnumeration, is_upper_name, is_letter, joined}
-use Rattle.retain_store.specs.Records.{is_letter_or_digit, is_spaced, is_byte_place}
+use Rattle.st_words.specs.UpperNames.{is_upper_name, is_letter, joined}
+use Rattle.retain_store.specs.Records.{Spells, by_keyword, by_names, IsEnumeration}
+use Rattle.st_words.specs.UpperNames.{is_letter_or_digit, is_spaced}
+use Rattle.retain_store.specs.Records.{is_byte_place}
 use Rattle.retain_store.specs.Reading.{parted, onto_first, before_last, names_counted, enumeration_in, or_kind}
 use Rattle.retain_store.specs.Reading.{type_told}
 use Rattle.retain_store.specs.Records.{wide_of, value_bytes}

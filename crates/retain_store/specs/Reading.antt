@@ -9,7 +9,8 @@ use Rattle.st_words.specs.declared.kind.Kind.TheVariants.{Sint, Int, Dint, Lint,
 use Rattle.st_words.specs.declared.kind.Kind.TheVariants.{Dword, Lword, Time, Bool as Boolean, Enumerated}
 use Rattle.st_words.specs.Kinds.{row_of, is_signed, holds}
 use Rattle.st_words.specs.Values.{Datum}
-use Rattle.retain_store.specs.Records.{Content, Line, is_path_text, is_upper_name, wide_of}
+use Rattle.st_words.specs.UpperNames.{is_upper_name}
+use Rattle.retain_store.specs.Records.{Content, Line, is_path_text, wide_of}
 
 infixl 10 ◌>>=◌
 abbrev pub ◌>>=◌ : {A B : Type 0} → Option A → (A → Option B) → Option B

@@ -2,7 +2,7 @@
 
 ghost use Rattle.std.specs.Prelude.{◌≡◌, ◌&&◌, not, option_map};
 ghost use Rattle.std.specs.List.{list_all};
-ghost use Rattle.retain_store.specs.Records.{is_letter, is_letter_or_digit, is_spaced, is_upper_name};
+ghost use Rattle.st_words.specs.UpperNames.{is_letter, is_letter_or_digit, is_spaced, is_upper_name};
 ghost use Rattle.retain_store.specs.Reading.{before_last, enumeration_in, names_counted, parted};
 
 use crate::line::cut;

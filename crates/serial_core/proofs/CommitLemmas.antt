@@ -15,19 +15,24 @@ use Rattle.st_types.specs.Stores.{Store, shape_of}
 use Rattle.st_types.proofs.RunLemmas.{store_after_shape}
 use Rattle.st_types.specs.Runs.{outcome_of, store_after}
 use Rattle.st_types.specs.Slots as slots
-use Rattle.st_types.specs.Slots.{agrees, written, variables_in, inputs_in}
+use Rattle.std.proofs.lemmas.List.{length-map}
+use Rattle.st_types.specs.Slots.{agrees, variables_in, inputs_in}
 use Rattle.st_plans.specs.Layouts.{layout_of}
 use Rattle.st_plans.specs.Due.{History, Waits, with_run}
 use Rattle.st_plans.specs.Plans as plans
 use Rattle.st_plans.specs.Plans.{schedules_of, image_of, program_at, after_run}
 use Rattle.st_plans.specs.Logs.{Past, past_of, row_at, outcome_at, outcomes_of, done_follows}
 use Rattle.st_plans.proofs.LogLemmas.{past_of-add, IsLegal-add}
-use Rattle.slot_code.specs.declared.code.Code.{Code}
-use Rattle.slot_code.specs.Fitting.{Fits}
-use Rattle.slot_code.specs.Codes.{CodeView, code_view}
-use Rattle.slot_code.specs.Meanings.{Means}
-use Rattle.slot_run.specs.Effects.{Effect, IsTrueOf}
-use Rattle.slot_run.proofs.CellLemmas.{length_written}
+use Rattle.coded_programs.specs.declared.code.Code.{Code}
+use Rattle.coded_programs.specs.Codes.{CodeView, code_view}
+use Rattle.coded_programs.specs.Meanings.{Means}
+use Rattle.coded_runs.specs.Effects.{Effect, IsTrueOf}
+use Rattle.st_trees.specs.SourceViews.{source_view}
+use Rattle.config.specs.Sources.{program_numbered}
+use Rattle.config.specs.SlotPlaces.{merged, slots_among, written_variables}
+use Rattle.config.proofs.SlotLemmas.{from_first, inputs_merged, length_written, typed_merged, variables_merged}
+use Rattle.config.proofs.SlotLemmas.{variables_written}
+use Rattle.st_plans.specs.Layouts.{input_slot}
 use Rattle.config.specs.declared.plan.Plan.{Plan}
 use Rattle.config.specs.declared.task.ProgramInstance.{ProgramInstance}
 use Rattle.config.specs.PlanViews.{plan_view, program_view}
@@ -36,7 +41,7 @@ use Rattle.serial_core.specs.Steps.{store_in, code_at, IsOwnOf}
 use Rattle.serial_core.specs.Kept.{IsOfPast, SerialInvariant}
 use Rattle.serial_core.proofs.OutcomeLemmas.{outcomes_of-add}
 use Rattle.serial_core.proofs.VariableLemmas.{get-add}
-use Rattle.serial_core.proofs.PlanSlots.{values_back, variables_alone, inputs_behind, variables_written, slots_typed}
+use Rattle.serial_core.proofs.PlanSlots.{values_back}
 use Rattle.serial_core.proofs.TakeLemmas.{found, values_are, waits-row, row-there}
 
 -- a program runs alike from what is equal
@@ -46,38 +51,36 @@ same_run X f b b' s s' i i' m m' eb es ei em =
     ap (λ x. f x s i m) eb ∙ ap (λ x. f b' x i m) es ∙ ap (λ x. f b' s' x m) ei ∙ ap (λ x. f b' s' i' x) em
 
 -- an activation's own program
-pub record IsProgram (plan : Plan) (p : ℕ) (code : Code) : Type 0 where
+pub record IsProgram (plan : Plan) (p : ℕ) (code : CodeView) : Type 0 where
   pub program : ProgramInstance
   pub at : slice_get plan.programs.items p ≡ Some program
-  pub text : code_view program.code.value ≡ code_view code
+  pub text : code_view program.code.value ≡ code
 
 own_program : (plan : Plan) (row : Latch) (effect : Effect) → IsOwnOf plan row effect
     → IsProgram plan effect.activation.program effect.code
 own_program plan row effect own =
-    let f = found Code CodeView code_view (code_at plan effect.activation.program) (code_view effect.code) own.text in
+    let f = found Code CodeView code_view (code_at plan effect.activation.program) effect.code own.text in
     let g = found ProgramInstance Code (λ q. q.code.value) (slice_get plan.programs.items effect.activation.program) f.0
     f.1 in
     record { program = g.0; at = g.1; text = ap code_view g.2 ∙ f.2 }
 
 program_found : (plan : Plan) (p : ℕ) (q : ProgramInstance) → slice_get plan.programs.items p ≡ Some q
-    → program_at (plan_view plan) p ≡ Some (program_view q)
-program_found plan p q at = slice_get-map program_view plan.programs.items p ∙ ap (option_map program_view) at
+    → program_at (plan_view plan) p ≡ Some (program_view (source_view plan.text.value) q)
+program_found plan p q at = slice_get-map (program_view (source_view plan.text.value)) plan.programs.items p
+    ∙ ap (option_map (program_view (source_view plan.text.value))) at
 
-own_fits : (plan : Plan) (p : ℕ) (code : Code) → IsProgram plan p code
-    → Fits (layout_of plan.variables.items plan.inputs.items) (code_view code)
-own_fits plan p code is =
-    subst (λ (t : CodeView). Fits (layout_of plan.variables.items plan.inputs.items) t) is.text
-    (plan.sound.codes p is.program is.at)
-
-own_means : (plan : Plan) (p : ℕ) (code : Code) → (is : IsProgram plan p code)
-    → Means (code_view code) (program_view is.program).code
+own_means : (plan : Plan) (p : ℕ) (code : CodeView) → (is : IsProgram plan p code)
+    → Means (slots_among plan.slots.items plan.variables.items plan.inputs.items) code
+    (program_numbered (source_view plan.text.value) is.program.number)
 own_means plan p code is =
-    subst (λ (t : CodeView). Means t (program_view is.program).code) is.text is.program.means
+    subst (λ (t : CodeView). Means (slots_among plan.slots.items plan.variables.items plan.inputs.items) t
+    (program_numbered (source_view plan.text.value) is.program.number)) is.text
+    (plan.sound.codes p is.program is.at).means
 
 -- where the reads stand, the run is that of the plan's program
 pub record Ran (plan : Plan) (values : List Datum) (row : Latch) (store : Store) (effect : Effect) : Type 0 where
   pub after : after_run (plan_view plan) (program_at (plan_view plan) effect.activation.program) store row
-      ≡ store_in plan (written values effect.writes)
+      ≡ store_in plan (written_variables plan.slots.items values effect.writes)
   pub outcome : (past : Past) → past.store ≡ store → row_at past.rows effect.activation.row ≡ row
       → outcome_at (plan_view plan) past (Done effect.activation) ≡ Some effect.outcome
 
@@ -99,30 +102,36 @@ pub ran : (plan : Plan) (values : List Datum) (row : Latch) (store : Store) (eff
     → map (λ d. d.kind) row.image ≡ map (λ i. i.kind) plan.inputs.items → store_in plan values ≡ store
     → IsOwnOf plan row effect
     → IsTrueOf effect.code effect.moment effect.budget effect.reads effect.writes effect.outcome
-    → agrees (values ++ row.image) effect.reads ≡ true → Ran plan values row store effect
+    → agrees (merged plan.slots.items values row.image) effect.reads ≡ true → Ran plan values row store effect
 ran plan values row store effect sized typed imaged is own true_of stands =
     let xs = plan.variables.items in
     let ins = plan.inputs.items in
+    let ps = plan.slots.items in
+    let layout = slots_among ps xs ins in
+    let all = merged ps values row.image in
+    let counted : length row.image ≡ length ins = sym (length-map row.image (λ (d : Datum). d.kind)) ∙ ap length imaged
+    ∙ length-map ins (λ (i : PlanInput). i.kind) in
+    let numbers = from_first ps (length xs) (length ins) plan.sound.numbered in
     let q = own_program plan row effect own in
+    let program = program_numbered (source_view plan.text.value) q.program.number in
     let known = program_found plan effect.activation.program q.program q.at in
-    let runs =
-    true_of.run (program_view q.program).code (own_means plan effect.activation.program effect.code q)
-    (layout_of xs ins) (values ++ row.image) (own_fits plan effect.activation.program effect.code q)
-    (slots_typed xs ins values row.image typed imaged) stands in
-    let s : store ≡ variables_in (layout_of xs ins) (values ++ row.image) = sym is
-    ∙ sym (variables_alone xs ins values row.image sized) in
-    let i : image_of ins row.image ≡ inputs_in (layout_of xs ins) (values ++ row.image) =
-    sym (inputs_behind xs ins values row.image sized) in
+    let runs = true_of.run layout program all (own_means plan effect.activation.program effect.code q)
+    (typed_merged ps xs ins values row.image typed imaged) stands in
+    let s : store ≡ variables_in layout all = sym is
+    ∙ sym (variables_merged (map input_slot ins) ps 0 0 xs ins values row.image numbers sized counted) in
+    let i : image_of ins row.image ≡ inputs_in layout all =
+    sym (inputs_merged ps 0 0 xs ins values row.image numbers sized counted) in
     record {
       after =
           ap (λ o. after_run (plan_view plan) o store row) known
-          ∙ same_run Store (store_after (program_view q.program).code) plan.budget effect.budget store _ _ _ row.moment
-          effect.moment (sym own.budget) s i (sym own.moment)
-          ∙ runs.1 ∙ variables_written xs ins effect.writes values row.image sized;
-      outcome = λ past e r. ran_outcome (plan_view plan) past row store effect.activation (program_view q.program)
-          effect.outcome known r e
-          (same_run Outcome (outcome_of (program_view q.program).code) plan.budget effect.budget store _ _ _ row.moment
-          effect.moment (sym own.budget) s i (sym own.moment) ∙ runs.0);
+          ∙ same_run Store (store_after program) plan.budget effect.budget store _ _ _ row.moment effect.moment
+          (sym own.budget) s i (sym own.moment)
+          ∙ runs.1
+          ∙ variables_written ps xs ins effect.writes values row.image plan.sound.numbered sized counted;
+      outcome = λ past e r. ran_outcome (plan_view plan) past row store effect.activation
+          (program_view (source_view plan.text.value) q.program) effect.outcome known r e
+          (same_run Outcome (outcome_of program) plan.budget effect.budget store _ _ _ row.moment effect.moment
+          (sym own.budget) s i (sym own.moment) ∙ runs.0);
     }
 
 -- a run changes no variable's type
@@ -226,10 +235,11 @@ module _ {plan : Plan} {start values : List Datum} {before : Option ℕ} {sample
         effect.activation
         → IsOwnOf plan (row_at (past_of (plan_view plan) (store_in plan start) log).rows effect.activation.row) effect
         → IsTrueOf effect.code effect.moment effect.budget effect.reads effect.writes effect.outcome
-        → agrees (map (λ e. e.1) (past_of (plan_view plan) (store_in plan start) log).store
-        ++ (row_at (past_of (plan_view plan) (store_in plan start) log).rows effect.activation.row).image)
+        → agrees (merged plan.slots.items
+        (map (λ e. e.1) (past_of (plan_view plan) (store_in plan start) log).store)
+        (row_at (past_of (plan_view plan) (store_in plan start) log).rows effect.activation.row).image)
         effect.reads ≡ true
-        → writes ≡ effect.writes → values' ≡ written values writes → o ≡ effect.outcome
+        → writes ≡ effect.writes → values' ≡ written_variables plan.slots.items values writes → o ≡ effect.outcome
         → log' ≡ log ++ Done b ∷ [] → outcomes' ≡ outcomes ++ Some o ∷ []
         → ready'.schedules ≡ ready.schedules → length ready'.samples ≡ length ready.samples → ready'.last ≡ ready.last
         → ready'.rows ≡ ready.rows
@@ -241,11 +251,12 @@ module _ {plan : Plan} {start values : List Datum} {before : Option ℕ} {sample
         let row = row_at now.rows effect.activation.row in
         let there = waits-row kept effect.activation waits in
         let imaged = kept.of_past.images effect.activation.row (omega (arith, there, kept.of_past.row_count)) in
-        let agree : agrees (values ++ row.image) effect.reads ≡ true =
-        ap (λ xs. agrees (xs ++ row.image) effect.reads) (values_are kept) ∙ stands in
+        let agree : agrees (merged plan.slots.items values row.image) effect.reads ≡ true =
+        ap (λ xs. agrees (merged plan.slots.items xs row.image) effect.reads) (values_are kept) ∙ stands in
         let it =
         ran plan values row now.store effect kept.sized kept.typed imaged kept.of_past.variables own true_of agree in
-        let is : values' ≡ written values effect.writes = vs ∙ ap (written values) ws in
+        let is : values' ≡ written_variables plan.slots.items values effect.writes = vs
+        ∙ ap (written_variables plan.slots.items values) ws in
         let gone = subst (λ (x : Activation). Removes now.history ready x t ready') same
         (remove now.history kept.of_past.ready_is) in
         subst (λ l. SerialInvariant plan start before values' samples l outcomes' rows last ready')
@@ -253,7 +264,7 @@ module _ {plan : Plan} {start values : List Datum} {before : Option ℕ} {sample
         (subst (λ l. SerialInvariant plan start before values' samples (log ++ Done effect.activation ∷ []) l rows last
         ready') (sym (outs ∙ ap (λ x. outcomes ++ Some x ∷ []) os))
         (SerialInvariant-done effect.activation effect.outcome values' ready' waits
-        (ap length is ∙ length_written effect.writes values) (ap (store_in plan) is ∙ sym it.after)
+        (ap length is ∙ length_written plan.slots.items values effect.writes) (ap (store_in plan) is ∙ sym it.after)
         (it.outcome now refl refl) schedules tasks latest number
         (removed now.history ready ready' effect.activation t gone
         (subst (λ ps. Waits ps now.history effect.activation) (sym kept.schedules) waits))))

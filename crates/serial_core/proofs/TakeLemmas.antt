@@ -7,46 +7,30 @@ use Rattle.std.proofs.lemmas.Bool.Decides.{nat_tests}
 use Rattle.std.proofs.lemmas.List.{length-map}
 use Rattle.std.proofs.lemmas.Option.{slice_get_within}
 use Rattle.st_words.specs.Values.{Datum}
+use Rattle.st_plans.specs.declared.plan.PlanInput.{PlanInput}
 use Rattle.st_plans.specs.declared.entry.Entry.{Entry}
 use Rattle.st_plans.specs.declared.entry.Entry.TheVariants.{Row}
 use Rattle.st_plans.specs.declared.entry.Activation.{Activation}
 use Rattle.st_types.specs.declared.outcome.Outcome.{Outcome}
 use Rattle.st_plans.specs.Rows.{Latch}
-use Rattle.st_types.specs.Slots.{Slot}
+use Rattle.st_types.specs.Slots.{AreOfTypes}
 use Rattle.st_plans.specs.Layouts.{layout_of}
 use Rattle.st_plans.specs.Due.{History, Waits, NoneWaits, IsBest}
 use Rattle.st_plans.specs.Plans.{schedules_of}
 use Rattle.st_plans.specs.Logs.{past_of, row_at}
 use Rattle.st_plans.proofs.DueLemmas.{Waits-there}
-use Rattle.slot_code.specs.declared.code.Code.{Code}
-use Rattle.slot_code.specs.declared.path_slot.PathSlot.{PathSlot}
-use Rattle.slot_run.specs.declared.snapshot.Snapshot.{Snapshot}
+use Rattle.coded_programs.specs.declared.code.Code.{Code}
+use Rattle.coded_runs.specs.declared.snapshot.Snapshot.{Snapshot}
 use Rattle.config.specs.declared.plan.Plan.{Plan}
 use Rattle.config.specs.declared.task.ProgramInstance.{ProgramInstance}
-use Rattle.slot_code.specs.Codes.{code_view}
-use Rattle.slot_code.specs.Fitting.{HaveSlots, Fits}
+use Rattle.config.specs.declared.slots.SlotPlace.{SlotPlace}
+use Rattle.config.specs.SlotPlaces.{are_numbered, merged, slots_among}
+use Rattle.config.proofs.SlotLemmas.{typed_merged}
 use Rattle.config.specs.PlanViews.{plan_view}
 use Rattle.ready_list.specs.Ready.{Ready, IsReadyOf}
 use Rattle.serial_core.specs.Steps.{State, store_in, code_at, none_waits, IsSnapshotOf, IsSnapshotIn, IsWaiting}
 use Rattle.serial_core.specs.Kept.{SerialInvariant}
-use Rattle.serial_core.proofs.PlanSlots.{values_back, slots_typed}
-use Rattle.slot_code.proofs.FittingLemmas.{as_many}
-
--- globals that have schedules in a layout have slots of it
-all_within : (layout : List Slot) (n : ℕ) (globals : List PathSlot) → length layout ≡ n → HaveSlots layout globals
-    → list_all (λ g. nat_lt g.slot n) globals ≡ true
-all_within layout n [] len h = refl
-all_within layout n (g ∷ gs) len h =
-    let at = slice_get_within layout g.slot _ (h 0 g (omega arith)) in
-    let t : nat_lt g.slot n ≡ true = grind (arith, nat_tests) in
-    rw (t, all_within layout n gs len (λ k d lt. h (suc k) d (omega arith))) refl
-
-pub globals_within : (plan : Plan) (code : Code) (n : ℕ)
-    → Fits (layout_of plan.variables.items plan.inputs.items) (code_view code)
-    → length (layout_of plan.variables.items plan.inputs.items) ≡ n
-    → list_all (λ g. nat_lt g.slot n) code.table.items ≡ true
-globals_within plan code n fits len =
-    all_within (layout_of plan.variables.items plan.inputs.items) n code.table.items len fits.all
+use Rattle.serial_core.proofs.PlanSlots.{values_back}
 
 -- what a value that is found is made of
 pub found : (A B : Type 0) (f : A → B) (o : Option A) (b : B) → option_map f o ≡ Some b
@@ -54,12 +38,26 @@ pub found : (A B : Type 0) (f : A → B) (o : Option A) (b : B) → option_map f
 found A B f None b e = absurd (let y : ◌≡◌ {A = Option B} None (Some b) = e in cc)
 found A B f (Some a) b e = (a, refl, let y : ◌≡◌ {A = Option B} (Some (f a)) (Some b) = e in cc)
 
-pub fits_at : (plan : Plan) (p : ℕ) (code : Code) → code_at plan p ≡ Some code
-    → Fits (layout_of plan.variables.items plan.inputs.items) (code_view code)
-fits_at plan p code e =
+-- the code of a program has the types of the plan's slots
+pub kinds_at : (plan : Plan) (p : ℕ) (code : Code) → code_at plan p ≡ Some code
+    → map (λ l. l.kind) (slots_among plan.slots.items plan.variables.items plan.inputs.items)
+    ≡ code.kinds.value.items
+kinds_at plan p code e =
     let f = found ProgramInstance Code (λ q. q.code.value) (slice_get plan.programs.items p) code e in
-    subst (λ (x : Code). Fits (layout_of plan.variables.items plan.inputs.items) (code_view x)) f.2
-    (plan.sound.codes p f.0 f.1)
+    (plan.sound.codes p f.0 f.1).means.kinds ∙ ap (λ (x : Code). x.kinds.value.items) f.2
+
+-- the same slots with the same values
+pub merged_as : (ps qs : List SlotPlace) (vs us xs ys : List Datum) → ps ≡ qs → vs ≡ us → xs ≡ ys
+    → merged ps vs xs ≡ merged qs us ys
+merged_as ps qs vs us xs ys p v x = ap (λ o. merged o vs xs) p ∙ ap (λ o. merged qs o xs) v ∙ ap (merged qs us) x
+
+pub numbered_as : (ps qs : List SlotPlace) (vs us xs ys : List Datum) → ps ≡ qs → vs ≡ us → xs ≡ ys
+    → are_numbered 0 0 qs (length us) (length ys) ≡ true → are_numbered 0 0 ps (length vs) (length xs) ≡ true
+numbered_as ps qs vs us xs ys p v x h =
+    ap (λ o. are_numbered 0 0 o (length vs) (length xs)) p
+    ∙ ap (λ o. are_numbered 0 0 qs (length o) (length xs)) v
+    ∙ ap (λ o. are_numbered 0 0 qs (length us) (length o)) x
+    ∙ h
 
 pub same_row : (a b : Latch) → ◌≡◌ {A = Option Entry} (Some (Row a)) (Some (Row b)) → a ≡ b
 same_row a b e = cc
@@ -115,15 +113,28 @@ module _ {plan : Plan} {start values : List Datum} {before : Option ℕ} {sample
   values_are = sym (values_back plan.variables.items plan.inputs.items values kept.sized)
       ∙ ap (map (λ e. e.1)) kept.of_past.variables
 
-  -- the values of an activation's slots are as many as the slots
-  pub slots_counted : (a : Activation) (row : Latch) → a.row < length rows
-      → row ≡ row_at (past_of (plan_view plan) (store_in plan start) log).rows a.row
-      → length (layout_of plan.variables.items plan.inputs.items) ≡ length (values ++ row.image)
-  slots_counted a row l e =
-      as_many (layout_of plan.variables.items plan.inputs.items) (values ++ row.image)
-      (slots_typed plan.variables.items plan.inputs.items values row.image kept.typed
-      (ap (λ (r : Latch). map (λ d. d.kind) r.image) e
-      ∙ kept.of_past.images a.row (omega (arith, l, kept.of_past.row_count))))
+  -- variables and inputs are numbered as there are values of them
+  pub slots_numbered : (a : Activation) → a.row < length rows
+      → are_numbered 0 0 plan.slots.items (length values)
+      (length (row_at (past_of (plan_view plan) (store_in plan start) log).rows a.row).image) ≡ true
+  slots_numbered a l =
+      let images = kept.of_past.images a.row (omega (arith, l, kept.of_past.row_count)) in
+      let im = (row_at (past_of (plan_view plan) (store_in plan start) log).rows a.row).image in
+      let counted : length im ≡ length plan.inputs.items = sym (length-map im (λ (d : Datum). d.kind)) ∙ ap length images
+      ∙ length-map plan.inputs.items (λ (i : PlanInput). i.kind) in
+      subst (λ n. are_numbered 0 0 plan.slots.items n (length im) ≡ true) (sym kept.sized)
+      (subst (λ n. are_numbered 0 0 plan.slots.items (length plan.variables.items) n ≡ true) (sym counted)
+      plan.sound.numbered)
+
+  -- the values of an activation's slots have the types of the slots
+  pub slots_typed : (a : Activation) → a.row < length rows
+      → AreOfTypes (slots_among plan.slots.items plan.variables.items plan.inputs.items)
+      (merged plan.slots.items values
+      (row_at (past_of (plan_view plan) (store_in plan start) log).rows a.row).image)
+  slots_typed a l =
+      typed_merged plan.slots.items plan.variables.items plan.inputs.items values
+      (row_at (past_of (plan_view plan) (store_in plan start) log).rows a.row).image kept.typed
+      (kept.of_past.images a.row (omega (arith, l, kept.of_past.row_count)))
 
   -- whether a program waits is what the list tells
   pub waiting_here : (room program : ℕ) (o : Option ℕ)
@@ -138,16 +149,17 @@ module _ {plan : Plan} {start values : List Datum} {before : Option ℕ} {sample
       subst (λ ps. Waits ps (past_of (plan_view plan) (store_in plan start) log).history
       record { program = program; row = row }) kept.schedules (tells _ kept.of_past.ready_is)
 
-  -- the code of an activation that waits has slots of these values
-  pub slots_within : (a : Activation) (code : Code) (row : Latch)
+  -- the code of an activation that waits has the types of the values of its slots
+  pub slots_of_code : (a : Activation) (code : Code)
       → Waits (schedules_of (plan_view plan)) (past_of (plan_view plan) (store_in plan start) log).history a
       → code_at plan a.program ≡ Some code
-      → row ≡ row_at (past_of (plan_view plan) (store_in plan start) log).rows a.row
-      → list_all (λ g. nat_lt g.slot (length (map (λ e. e.1) (past_of (plan_view plan) (store_in plan start) log).store
-      ++ row.image))) code.table.items ≡ true
-  slots_within a code row w coded rowed =
-      globals_within plan code _ (fits_at plan a.program code coded)
-      (slots_counted a row (waits-row a w) rowed ∙ ap (λ vs. length (vs ++ row.image)) values_are)
+      → map (λ v. v.kind) (merged plan.slots.items
+      (map (λ e. e.1) (past_of (plan_view plan) (store_in plan start) log).store)
+      (row_at (past_of (plan_view plan) (store_in plan start) log).rows a.row).image) ≡ code.kinds.value.items
+  slots_of_code a code w coded =
+      ap (λ vs. map (λ v. v.kind) (merged plan.slots.items vs
+      (row_at (past_of (plan_view plan) (store_in plan start) log).rows a.row).image)) (sym values_are)
+      ∙ slots_typed a (waits-row a w) ∙ kinds_at plan a.program code coded
 
 -- the best activation's snapshot
 pub best_snapshot : (st : State) (resource : ℕ) (a : Activation) (s : Snapshot)

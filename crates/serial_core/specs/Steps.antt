@@ -13,12 +13,13 @@ use Rattle.st_plans.specs.Due.{Waits, NoneWaits, IsBest}
 use Rattle.st_plans.specs.declared.plan.PlanInput.{PlanInput}
 use Rattle.st_plans.specs.Plans.{schedules_of, fits, initial_value, image_of}
 use Rattle.st_plans.specs.Logs.{Past, past_of, row_at, last_moment, is_later}
-use Rattle.slot_code.specs.declared.code.Code.{Code}
-use Rattle.slot_code.specs.Codes.{code_view}
-use Rattle.slot_run.specs.Effects.{Effect}
-use Rattle.slot_run.specs.declared.snapshot.Snapshot.{Snapshot}
+use Rattle.coded_programs.specs.declared.code.Code.{Code}
+use Rattle.coded_programs.specs.Codes.{code_view}
+use Rattle.coded_runs.specs.Effects.{Effect}
+use Rattle.coded_runs.specs.declared.snapshot.Snapshot.{Snapshot}
 use Rattle.config.specs.declared.plan.Plan.{Plan}
 use Rattle.config.specs.PlanViews.{plan_view}
+use Rattle.config.specs.SlotPlaces.{merged}
 use Rattle.serial_core.specs.declared.refusal.Answer.{Answer}
 use Rattle.serial_core.specs.declared.refusal.Answer.TheVariants.{Committed, Stale}
 use Rattle.serial_core.specs.declared.refusal.Refusal.{Refusal}
@@ -66,9 +67,10 @@ Latches old row (Ok n) new = (length old.log < old.room) × (fits (plan_view old
 Latches old row (Err NotWaiting) new = ⊥
 Latches old row (Err NoMemory) new = ⊥
 
--- the values of all slots for an activation: the variables now, and the inputs of its own row
+-- the values of all slots for an activation: the variables now, and the inputs of its own row among them
 abbrev pub slots_for : State → Activation → List Datum
-slots_for state a = map (λ e. e.1) (made state).store ++ (row_at (made state).rows a.row).image
+slots_for state a =
+    merged state.plan.slots.items (map (λ e. e.1) (made state).store) (row_at (made state).rows a.row).image
 
 -- the code of a program
 abbrev pub code_at : Plan → ℕ → Option Code
@@ -101,7 +103,7 @@ Takes state resource (Err _) = ⊥
 
 -- The code is that of the activation's program, the moment is its row's, and the budget is the plan's.
 pub record IsOwnOf (plan : Plan) (row : Latch) (effect : Effect) : Type 0 where
-  pub text : option_map code_view (code_at plan effect.activation.program) ≡ Some (code_view effect.code)
+  pub text : option_map code_view (code_at plan effect.activation.program) ≡ Some effect.code
   pub moment : effect.moment ≡ row.moment
   pub budget : effect.budget ≡ plan.budget
 

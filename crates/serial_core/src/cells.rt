@@ -1,24 +1,49 @@
 //! Slots of variables and inputs.
 
-ghost use Rattle.std.specs.Prelude.{◌≡◌, ◌++◌, map, slice_get, IfOk};
-ghost use Rattle.st_types.specs.Slots.{agrees, written, is_value as is_value_of};
-ghost use Rattle.slot_run.specs.Cells.{cut};
+ghost use Rattle.std.specs.Prelude.{◌≡◌, length, map, slice_get, true};
+ghost use Rattle.st_types.specs.Slots.{agrees, is_value as is_value_of};
+ghost use Rattle.config.specs.SlotPlaces.{are_numbered, merged, value_in, written_variables};
+ghost use Rattle.coded_runs.specs.Cells.{cut};
 
-use slot_run::Cell;
+use coded_runs::Cell;
+use config::SlotPlace;
 use st_words::Value;
-use std::alloc::{AllocError, Global};
 
-/// The value of a slot: that of a variable, or after the variables that of an input.
-fn value_at(values: &[Value], image: &[Value], slot: usize) -> Option<Value>
-    ensures { result ≡ slice_get (values.now ++ image.now) slot }
+fn item(values: &[Value], number: usize) -> Option<Value>
+    ensures { result ≡ slice_get values.now number }
 {
-    if slot < values.len() {
-        return Some(values[slot]);
-    }
-    match image.get(slot - values.len()) {
+    match values.get(number) {
         Some(value) => Some(*value),
         None => None,
     }
+}
+
+/// The value in a place, of these variables and inputs.
+fn value_in(values: &[Value], image: &[Value], place: Option<SlotPlace>) -> Option<Value>
+    ensures { result ≡ value_in values.now image.now place }
+{
+    match place {
+        Some(SlotPlace::Variable(number)) => item(values, number),
+        Some(SlotPlace::Input(number)) => item(image, number),
+        None => None,
+    }
+}
+
+fn place_at(places: &[SlotPlace], slot: usize) -> Option<SlotPlace>
+    ensures { result ≡ slice_get places.now slot }
+{
+    match places.get(slot) {
+        Some(place) => Some(*place),
+        None => None,
+    }
+}
+
+/// The value of a slot.
+fn value_at(places: &[SlotPlace], values: &[Value], image: &[Value], slot: usize) -> Option<Value>
+    requires { are_numbered 0 0 places.now (length values.now) (length image.now) ≡ true }
+    ensures { result ≡ slice_get (merged places.now values.now image.now) slot }
+{
+    value_in(values, image, place_at(places, slot))
 }
 
 /// Whether there is a value, and it is this one.
@@ -31,12 +56,13 @@ fn is_value(found: Option<Value>, value: Value) -> bool
     }
 }
 
-/// Whether each cell's value stands in its slot: among the variables, or after them among the inputs.
-pub(crate) fn stand(values: &[Value], image: &[Value], cells: &[Cell]) -> bool
-    ensures { result ≡ agrees (values.now ++ image.now) (map cut cells.now) }
+/// Whether each cell's value stands in its slot.
+pub(crate) fn stand(places: &[SlotPlace], values: &[Value], image: &[Value], cells: &[Cell]) -> bool
+    requires { are_numbered 0 0 places.now (length values.now) (length image.now) ≡ true }
+    ensures { result ≡ agrees (merged places.now values.now image.now) (map cut cells.now) }
 {
     for cell in cells {
-        if !is_value(value_at(values, image, cell.slot), cell.value) {
+        if !is_value(value_at(places, values, image, cell.slot), cell.value) {
             return false;
         }
     }
@@ -44,26 +70,14 @@ pub(crate) fn stand(values: &[Value], image: &[Value], cells: &[Cell]) -> bool
 }
 
 /// Writes each cell's value to its variable. A cell of another slot changes nothing.
-pub(crate) fn write_all(values: &mut Vec<Value>, cells: &[Cell])
-    ensures { values.new.items ≡ written values.old.items (map cut cells.now) }
+pub(crate) fn write_all(places: &[SlotPlace], values: &mut Vec<Value>, cells: &[Cell])
+    ensures { values.new.items ≡ written_variables places.now values.old.items (map cut cells.now) }
 {
     for cell in cells {
-        if cell.slot < values.len() {
-            values[cell.slot] = cell.value;
+        if let Some(SlotPlace::Variable(number)) = place_at(places, cell.slot) {
+            if number < values.len() {
+                values[number] = cell.value;
+            }
         }
     }
-}
-
-/// The values of all slots: the variables, and after them the inputs.
-pub(crate) fn slots_of(
-    alloc: Global,
-    values: &[Value],
-    image: &[Value],
-) -> Result<Vec<Value>, AllocError>
-    ensures { IfOk result (λ slots. slots.items ≡ values.now ++ image.now) }
-{
-    let mut slots = Vec::new(alloc);
-    slots.extend_from_slice(values)?;
-    slots.extend_from_slice(image)?;
-    Ok(slots)
 }

@@ -10,9 +10,9 @@ use crate::cells::{stand, write_all};
 use crate::refusal::{Answer, Refusal};
 use crate::rows::row_of;
 use crate::serial::SerialCore;
+use coded_runs::Execution;
 use config::Plan;
 use ready_list::ReadyList;
-use slot_run::Execution;
 use st_plans::{Activation, Entry, Row};
 
 /// Whether the execution is of its activation's own program and row, under the plan's budget.
@@ -67,7 +67,12 @@ impl SerialCore {
         ensures { result ≡ stands self.now execution.now }
     {
         let row = self.row_for(execution.activation());
-        stand(&self.values, row.image(), execution.reads())
+        stand(
+            &self.plan.slots,
+            &self.values,
+            row.image(),
+            execution.reads(),
+        )
     }
 
     /// Whether what the execution read stands; or why it can't be committed, whatever it read.
@@ -98,7 +103,7 @@ impl SerialCore {
             return Ok(Answer::Stale);
         }
         let activation = execution.activation();
-        write_all(&mut self.values, execution.writes());
+        write_all(&self.plan.slots, &mut self.values, execution.writes());
         self.outcomes.push_reserved(Some(execution.outcome()));
         self.log.push_reserved(Entry::Done(activation));
         let _ = take_off(&mut self.ready, activation);

@@ -5,7 +5,7 @@ ghost use Rattle.serial_core.specs.Steps.{CommitsHere, CommitsWaiting};
 
 use crate::refusal::{Answer, Refusal};
 use crate::serial::SerialCore;
-use slot_run::run;
+use coded_runs::run;
 use st_plans::Activation;
 use std::alloc::Global;
 
@@ -14,6 +14,7 @@ impl SerialCore {
     /// it; none where nothing of it waits. Nothing that was read can have changed, so it is never stale.
     ///
     /// K1 where the log is full, K6 out of memory.
+    #[tactic(auto, using(crate::proofs::ReadLemmas::reads_stand))]
     pub fn commit_waiting(
         &mut self,
         alloc: Global,
@@ -41,6 +42,7 @@ impl SerialCore {
     /// after it; none where nothing waits there. Nothing that was read can have changed, so it is never stale.
     ///
     /// K1 where the log is full, K6 out of memory.
+    #[tactic(auto, using(crate::proofs::ReadLemmas::reads_stand))]
     pub fn commit_here(&mut self, alloc: Global, resource: usize) -> Result<Option<usize>, Refusal>
         ensures { CommitsHere self.old resource result self.new }
     {

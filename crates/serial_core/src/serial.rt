@@ -36,13 +36,13 @@ pub struct SerialCore {
 
 impl Model for SerialCore {
     ghost use Rattle.std.specs.Coded.{codes};
-    ghost use Rattle.st_trees.specs.contracts.unit.Unit as unit;
-    ghost use Rattle.slot_code.specs.contracts.code.Code as code;
+    ghost use Rattle.st_trees.specs.contracts.source.Source as source;
+    ghost use Rattle.coded_programs.specs.contracts.code.Code as code;
     ghost use Rattle.serial_core.specs.Steps.{State};
 
     ghost Value = { State };
 
-    ghost coded = { Prim.hlevel (codes, unit.the_row.coded, code.the_row.coded) };
+    ghost coded = { Prim.hlevel (codes, source.the_row.coded, code.the_row.coded) };
 
     ghost use Rattle.std.specs.Prelude.{◌≤◌, length, vec_capacity};
     ghost use Rattle.serial_core.specs.Steps.{store_in};

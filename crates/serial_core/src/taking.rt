@@ -1,15 +1,13 @@
 //! Taking a snapshot.
 
-ghost use Rattle.std.specs.Prelude.{◌≡◌, ◌<◌, nat_lt, length, Some, true, IfOk, IfErr};
-ghost use Rattle.std.specs.List.{list_all};
+ghost use Rattle.std.specs.Prelude.{◌≡◌, ◌<◌, length, map, Some, IfOk, IfErr};
 ghost use Rattle.serial_core.specs.Steps.{Takes, IsSnapshotIn, code_at, slots_for, waits_in};
 
-use crate::cells::slots_of;
 use crate::refusal::Refusal;
 use crate::serial::SerialCore;
-use config::Plan;
-use slot_code::Code;
-use slot_run::Snapshot;
+use coded_programs::Code;
+use coded_runs::Snapshot;
+use config::{Plan, merged_values};
 use st_plans::Activation;
 use std::alloc::{AllocError, Global};
 use std::sync::Arc;
@@ -23,12 +21,12 @@ fn code_of(plan: &Plan, program: usize) -> Result<Arc<Code>, AllocError>
 }
 
 impl SerialCore {
-    /// The code of an activation that waits, shared. The slots that it names are there.
+    /// The code of an activation that waits, shared. Its slots have the types of the values that it runs on.
     fn code_for(&self, activation: Activation) -> Result<Arc<Code>, AllocError>
         requires waits { waits_in self.now activation }
         ensures code { IfOk result (λ code. code_at self.now.plan activation.program ≡ Some code.value) }
-        ensures within { IfOk result (λ code. list_all
-            (λ g. nat_lt g.slot (length (slots_for self.now activation))) code.value.table.items ≡ true) }
+        ensures typed { IfOk result
+            (λ code. map (λ v. v.kind) (slots_for self.now activation) ≡ code.value.kinds.value.items) }
     {
         code_of(&self.plan, activation.program)
     }
@@ -48,7 +46,7 @@ impl SerialCore {
             return Err(Refusal::NoMemory);
         };
         let row = self.row_for(activation);
-        let Ok(slots) = slots_of(alloc, self.values(), row.image()) else {
+        let Ok(slots) = merged_values(alloc, &self.plan.slots, self.values(), row.image()) else {
             return Err(Refusal::NoMemory);
         };
         let budget = self.plan().budget;

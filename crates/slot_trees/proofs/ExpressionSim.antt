@@ -2,7 +2,8 @@
 use Rattle.std.proofs.Common.{◌≡◌, ℕ, ◌+◌, ◌*◌, ℤ, Bool, true, false, ◌&&◌, ◌||◌, if◌then◌else◌, List, [], ◌∷◌}
 use Rattle.std.proofs.Common.{slice_get}
 use Rattle.std.proofs.Common.{Option, Some, None, option_map, option_and_then, Result, refl, sym, ap₂, ◌∙◌, subst}
-use Rattle.std.proofs.Common.{add_assoc, add-zero, arith}
+use Rattle.std.proofs.Common.{zero, suc, add_assoc, add-zero, arith}
+use Rattle.std.proofs.lemmas.Bool.Decides.{nat_tests}
 use Rattle.std.specs.Prelude.{nat_lt}
 use Rattle.st_words.specs.declared.fault.Fault.TheVariants.{Index}
 use Rattle.st_words.specs.declared.kind.Kind.{Kind}
@@ -44,6 +45,11 @@ use Rattle.slot_trees.proofs.Sights.{has_part_slots, seen_there}
 moved_slot : (base : ℕ) (a : Anchor) (n : ℕ) → slot_at base (moved a n) ≡ slot_at base a + n
 moved_slot base (own o) n = sym (add_assoc base o n)
 moved_slot base (absolute k) n = refl
+
+-- an array that takes room has elements that do
+element_room : (count n : ℕ) → nat_lt 0 (count * n) ≡ true → nat_lt 0 n ≡ true
+element_room count zero h = absurd (let none : nat_lt 0 (count * 0) ≡ false = grind (arith, nat_tests) in cc)
+element_room count (suc n) h = grind (arith, nat_tests)
 
 leads_none : (sh : Shape) → nat_lt 0 (size sh) ≡ true → leads_on sh [] ≡ true
 leads_none (plain k) h = refl
@@ -216,7 +222,7 @@ module _ (layout : List Slot) (distinct : IsLayout layout) (w : Scope) (z : Slot
           (λ n. RunAlike Path ℕ (λ q m. Stands layout input q j.0.shape m) (selected w s (member_at p x.name) xs)
           (led z vs n j.0.subscripts)) (add_assoc k i.0.offset j.0.offset) ih)
       selected_sim input p (array lower count sh) k st (selector_then (subscript a) xs) r e =
-          let c = if_some (nat_lt 0 (size sh))
+          let c = if_some (nat_lt 0 (count * size sh))
           (option_and_then (λ i. option_map (behind_subscript i lower count (size sh)) (linked_selectors t sh xs))
           (linked t a)) r e in
           let i = then_some (λ i. option_map (behind_subscript i lower count (size sh)) (linked_selectors t sh xs))
@@ -224,7 +230,8 @@ module _ (layout : List Slot) (distinct : IsLayout layout) (w : Scope) (z : Slot
           let j = map_some (behind_subscript i.0 lower count (size sh)) (linked_selectors t sh xs) r i.2 in
           subst (λ y. SelectedRun input p k (selector_then (subscript a) xs) y) j.2
           (sim_apart (value w s a) (λ v. bounded w.image s (element_at p v.number)) (λ q. selected w s q xs) _
-          (sim_same (value_sim a i.0 i.1) (λ v. subscript_sim input p lower count sh k c.0 st v.number xs j.0
+          (sim_same (value_sim a i.0 i.1) (λ v. subscript_sim input p lower count sh k
+          (element_room count (size sh) c.0) st v.number xs j.0
           (λ within. selected_sim input (element_at p v.number) sh (k + distance lower v.number * size sh)
           (stands_element layout input p lower count sh k v.number within st) xs j.0 j.1))))
       selected_sim input p (plain k) n st (selector_then x xs) r e = absurd (cc)

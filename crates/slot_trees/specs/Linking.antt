@@ -1,6 +1,6 @@
 -- From expressions with names to expressions with slots. None stands where a name is not there, or where it does not
 -- lead to an elementary variable.
-use Rattle.std.specs.Prelude.{ℕ, ◌+◌, nat_lt, ℤ, if◌then◌else◌, Option, Some, None, option_map, option_and_then}
+use Rattle.std.specs.Prelude.{ℕ, ◌+◌, ◌*◌, nat_lt, ℤ, if◌then◌else◌, Option, Some, None, option_map, option_and_then}
 use Rattle.st_trees.specs.Expressions as named
 use Rattle.st_trees.specs.Expressions.{Expr, literal, read, parenthesis, Exprs, Variable, variable, member, subscript}
 use Rattle.st_trees.specs.Expressions.{Selectors, no_selectors, selector_then}
@@ -58,12 +58,12 @@ abbrev mutual
       option_and_then (λ y. option_and_then (place_if_plain y.anchor) (linked_selectors t y.shape xs))
       (symbol_of t.symbols x.name)
 
-  -- a subscript needs elements that take room: else no path begins with it
+  -- a subscript needs an array that takes room: else no path begins with it
   pub linked_selectors : Table → Shape → Selectors → Option Selected
   linked_selectors t sh no_selectors = Some (record { offset = 0; subscripts = no_subscripts; shape = sh })
   linked_selectors t (parts w ps) (selector_then (member x) xs) =
       option_and_then (λ e. option_map (behind_offset e.offset) (linked_selectors t e.shape xs)) (part_at ps x.name)
-  linked_selectors t (array lower count sh) (selector_then (subscript e) xs) = if nat_lt 0 (size sh)
+  linked_selectors t (array lower count sh) (selector_then (subscript e) xs) = if nat_lt 0 (count * size sh)
       then option_and_then (λ i. option_map (behind_subscript i lower count (size sh)) (linked_selectors t sh xs))
       (linked t e) else None
   linked_selectors t _ (selector_then x xs) = None

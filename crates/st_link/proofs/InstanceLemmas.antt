@@ -1,6 +1,6 @@
 -- Members of an instance, and its call.
 use Rattle.std.proofs.Common.{◌≡◌, refl, sym, ap, subst, ◌∙◌, arith, ℕ, ◌+◌, ◌≤◌, Option, Some, None, Bool, true, false}
-use Rattle.std.proofs.Common.{List, if◌then◌else◌}
+use Rattle.std.proofs.Common.{List, if◌then◌else◌, ◌<◌}
 use Rattle.std.specs.Prelude.{option_map, option_and_then}
 use Rattle.st_words.specs.declared.limits.TheConstants.{MAX_PATHS}
 use Rattle.st_trees.specs.declared.data_type.VariableType.{VariableType}
@@ -9,7 +9,7 @@ use Rattle.st_types.specs.NameTypes.{Declared}
 use Rattle.st_types.specs.Scopes.{Name}
 use Rattle.st_names.specs.Agreeing.{Agree}
 use Rattle.st_names.specs.PlaceTypes.{place_type_view}
-use Rattle.st_layouts.specs.Shapes.{Shape, plain, array, parts, Parts}
+use Rattle.st_layouts.specs.Shapes.{Shape, plain, array, parts, Parts, size, sizes}
 use Rattle.st_layouts.specs.Types.{shape_of_type}
 use Rattle.layout.specs.Sizes.{cut}
 use Rattle.slot_trees.specs.SlotTrees.{Anchor, BlockCode, SlotArgument, SlotStmt, invoke}
@@ -22,6 +22,7 @@ use Rattle.shape_tables.specs.Shapes.{IsExpanded, IsMemberPlace, has_parts, is_p
 use Rattle.shape_tables.specs.declared.members.MemberPlace.{MemberPlace}
 use Rattle.st_link.specs.BodyTables.{IsSymbol}
 use Rattle.st_link.specs.Instances.{HasMembers}
+use Rattle.st_link.proofs.PlaceLemmas.{part_room}
 use Rattle.st_link.specs.declared.body_table.LinkSymbol.{LinkSymbol}
 
 -- what the table tells of a member is told of the instance's parts
@@ -61,6 +62,21 @@ member_at text m (Some e) a elementary small =
   where
     uncut : (n o : ℕ) → o ≤ MAX_PATHS → o ≡ cut (0 + n) → n ≡ o
     uncut n o small e = grind (arith, small, e)
+
+-- no member of an instance stands further than a layout has room
+pub far_member : (text : Declared) (t : VariableType) (ps : Parts) (x : Name) (m : MemberPlace)
+    → HasMembers text t ps → Agree (IsMemberPlace text 0) (Some m) (part_at ps x) → MAX_PATHS < m.offset
+    → option_and_then offset_of (part_at ps x) ≡ None
+far_member text t ps x m has a far = by_part (part_at ps x) refl a
+  where
+    near : (n o s w : ℕ) → n + s ≤ w → w ≤ MAX_PATHS → o ≡ cut (0 + n) → MAX_PATHS < o → ⊥
+    near n o s w a b c d = grind (arith)
+
+    by_part : (o : Option Part) → part_at ps x ≡ o → Agree (IsMemberPlace text 0) (Some m) o
+        → option_and_then offset_of o ≡ None
+    by_part None is a = absurd a
+    by_part (Some e) is a =
+        absurd (near e.offset m.offset (size e.shape) (sizes ps) (part_room ps x e is) has.room a.offset far)
 
 pub composite_member : (text : Declared) (m : MemberPlace) (o : Option Part)
     → Agree (IsMemberPlace text 0) (Some m) o → is_plain (shape_of_type text (place_type_view m.declared)) ≡ false
@@ -122,7 +138,12 @@ members_there text s (Some y) a some =
         → (ps : Parts) × HasMembers text (place_type_view s.declared) ps
     by_shape (plain k) is h = absurd (cc)
     by_shape (array lower count sh) is h = absurd (cc)
-    by_shape (parts w ps) is h = (ps, record { whole = w; shape = is; expanded = a.expanded })
+    by_shape (parts w ps) is h = (ps, record {
+      whole = w;
+      shape = is;
+      expanded = a.expanded;
+      room = let e = ap size (a.shape ∙ is) in let r = a.room in omega (arith, e, r);
+    })
 
 pub instance_there : (text : Declared) (s : LinkSymbol) (o : Option Symbol) (ps : Parts)
     → Agree (IsSymbol text) (Some s) o → s.is_input ≡ false → HasMembers text (place_type_view s.declared) ps

@@ -1,7 +1,13 @@
 -- One selector further, and where the last one has led.
 use Rattle.std.proofs.Common.{◌≡◌, refl, sym, ap, subst, ◌∙◌, arith, ℕ, ◌+◌, ◌<◌, ◌≤◌, List, [], ◌∷◌, ◌++◌, map}
 use Rattle.std.proofs.Common.{Bool, true, false, if◌then◌else◌, Option, Some, None}
-use Rattle.std.specs.Prelude.{nat_lt, option_map, option_and_then, ℤ}
+use Rattle.std.specs.Prelude.{nat_lt, option_map, option_and_then, ℤ, bytes_eq}
+use Rattle.std.proofs.Common.{zero, suc, ◌*◌}
+use Rattle.std.proofs.lemmas.Bool.Decides.{nat_tests}
+use Rattle.std.proofs.Math.Nat.{mul-pos}
+use Rattle.st_layouts.specs.Shapes.{Parts, no_parts, part_then, sizes}
+use Rattle.st_layouts.proofs.ListLemmas.{map_some, some_is}
+use Rattle.slot_trees.specs.Tables.{part_beyond}
 use Rattle.st_words.specs.declared.identifier.Identifier.{Identifier}
 use Rattle.st_words.specs.declared.limits.TheConstants.{MAX_PATHS}
 use Rattle.st_trees.specs.Expressions.{Expr, Selectors, no_selectors, selector_then, member, subscript}
@@ -44,6 +50,50 @@ joined_member n o after ss (Some s) is =
     ap (λ k. Some (record { offset = k; subscripts = subscripts_before ss s.subscripts; shape = s.shape }))
     (sym (ap (λ k. cut (k + s.offset)) is ∙ cut_behind n o s.offset))
 
+-- room for a member
+pub part_room : (ps : Parts) (x : Name) (e : Part) → part_at ps x ≡ Some e → e.offset + size e.shape ≤ sizes ps
+part_room no_parts x e h = absurd (cc)
+part_room (part_then y sh ps) x e h = by_test (bytes_eq x y) h (λ f g. part_room ps x f g)
+  where
+    beyond : (f : Part) → part_beyond (size sh) f ≡ e → f.offset + size f.shape ≤ sizes ps
+        → e.offset + size e.shape ≤ size sh + sizes ps
+    beyond f is le = subst (λ g. g.offset + size g.shape ≤ size sh + sizes ps) is (omega (arith, le))
+
+    by_test : (b : Bool)
+        → (if b then Some (record { offset = 0; shape = sh }) else option_map (part_beyond (size sh)) (part_at ps x))
+        ≡ Some e → ((f : Part) → part_at ps x ≡ Some f → f.offset + size f.shape ≤ sizes ps)
+        → e.offset + size e.shape ≤ size sh + sizes ps
+    by_test true g ih =
+        subst (λ f. f.offset + size f.shape ≤ size sh + sizes ps) (some_is g) (omega (arith))
+    by_test false g ih =
+        let i = map_some (part_beyond (size sh)) (part_at ps x) e g in beyond i.0 i.2 (ih i.0 i.1)
+
+shape_room : (sh : Shape) (x : Name) (e : Part) → member_of sh x ≡ Some e → e.offset + size e.shape ≤ size sh
+shape_room (plain k) x e h = absurd (cc)
+shape_room (array lower count sh) x e h = absurd (cc)
+shape_room (parts w ps) x e h = part_room ps x e h
+
+member_room : (text : Declared) (r next : Reached) (x : Identifier) (m : MemberPlace) (e : Part)
+    → member_of (shape_of_type text (place_type_view r.declared)) x.name ≡ Some e → IsMemberPlace text 0 m e
+    → next.offset ≡ cut (r.offset + m.offset) → next.declared ≡ m.declared
+    → r.offset + size (shape_of_type text (place_type_view r.declared)) ≤ MAX_PATHS
+    → next.offset + size (shape_of_type text (place_type_view next.declared)) ≤ MAX_PATHS
+member_room text r next x m e is a moved_on declared room =
+    let one = shape_room (shape_of_type text (place_type_view r.declared)) x.name e is in
+    let here = a.offset in
+    let shape = ap size (a.shape ∙ ap (λ d. shape_of_type text (place_type_view d)) (sym declared)) in
+    enough next.offset r.offset m.offset e.offset (size e.shape)
+    (size (shape_of_type text (place_type_view next.declared)))
+    (size (shape_of_type text (place_type_view r.declared))) moved_on here one shape room
+  where
+    enough : (n o m p s t w : ℕ) → n ≡ cut (o + m) → m ≡ cut (0 + p) → p + s ≤ w → s ≡ t → o + w ≤ MAX_PATHS
+        → n + t ≤ MAX_PATHS
+    enough n o m p s t w a b c d e = grind (arith)
+
+pub reached_room : (text : Declared) (t : Table) (whole : Option Selected) (r : Reached) (rest : Selectors)
+    → LeadsOn text t whole r rest → size (shape_of_type text (place_type_view r.declared)) ≤ MAX_PATHS
+reached_room text t whole r rest h = let e = h.room in omega (arith, e)
+
 pub leads_to_member : (text : Declared) (t : Table) (whole : Option Selected) (r next : Reached) (x : Identifier)
     (rest : Selectors) (m : MemberPlace)
     → Agree (IsMemberPlace text 0) (Some m) (member_of (shape_of_type text (place_type_view r.declared)) x.name)
@@ -68,6 +118,7 @@ leads_to_member text t whole r next x rest m there moved_on same declared h =
           (linked_selectors t sh rest))
           (a.shape ∙ ap (λ d. shape_of_type text (place_type_view d)) (sym declared));
       expanded = subst (λ d. IsExpanded text (place_type_view d)) (sym declared) a.expanded;
+      room = member_room text r next x m e is a moved_on declared h.room;
     }
 
 -- what is joined to nothing is nothing
@@ -98,20 +149,23 @@ no_member text t whole r x rest there h =
 
 -- an element of an array whose elements take room
 selected_element : (t : Table) (sh element : Shape) (lower : ℤ) (count stride : ℕ) (e : Expr) (i : SlotExpr)
-    (rest : Selectors) → sh ≡ array lower count element → stride ≡ size element → 0 < stride → linked t e ≡ Some i
-    → linked_selectors t sh (selector_then (subscript e) rest)
+    (rest : Selectors) → sh ≡ array lower count element → stride ≡ size element → 0 < stride → 0 < count
+    → linked t e ≡ Some i → linked_selectors t sh (selector_then (subscript e) rest)
     ≡ option_map (behind_subscript i lower count stride) (linked_selectors t element rest)
-selected_element t sh element lower count stride e i rest is takes room there =
+selected_element t sh element lower count stride e i rest is takes room some there =
     ap (λ s. linked_selectors t s (selector_then (subscript e) rest)) is
     ∙ ap (λ b. if b then option_and_then (λ i. option_map (behind_subscript i lower count (size element))
-    (linked_selectors t element rest)) (linked t e) else None) (has_room (size element) (subst (λ n. 0 < n) takes
-    room))
+    (linked_selectors t element rest)) (linked t e) else None) (has_room count (size element) some
+    (subst (λ n. 0 < n) takes room))
     ∙ ap (option_and_then (λ i. option_map (behind_subscript i lower count (size element))
     (linked_selectors t element rest))) there
     ∙ ap (λ n. option_map (behind_subscript i lower count n) (linked_selectors t element rest)) (sym takes)
   where
-    has_room : (n : ℕ) → 0 < n → nat_lt 0 n ≡ true
-    has_room n h = grind (arith, h)
+    above : (n : ℕ) → 0 < n → nat_lt 0 n ≡ true
+    above n h = grind (arith, h)
+
+    has_room : (c n : ℕ) → 0 < c → 0 < n → nat_lt 0 (c * n) ≡ true
+    has_room c n h g = above (c * n) (mul-pos h g)
 
 before_one : (ss : List Subscript) (s : Subscript) (rest : Subscripts)
     → subscripts_before (ss ++ s ∷ []) rest ≡ subscripts_before ss (subscript_then s.index s.lower s.count s.stride
@@ -127,6 +181,22 @@ joined_element n ss s (Some x) =
     ap (λ y. Some (record { offset = cut (n + x.offset); subscripts = y; shape = x.shape }))
     (sym (before_one ss s x.subscripts))
 
+-- room for an element
+one_of : (count n : ℕ) → 0 < count → n ≤ count * n
+one_of zero n h = absurd (omega (arith, h))
+one_of (suc count) n h = grind (arith)
+
+element_room : (text : Declared) (r next : Reached) (el : Elements)
+    → HasElements text (shape_of_type text (place_type_view r.declared)) el → next.offset ≡ r.offset
+    → next.declared ≡ el.declared
+    → r.offset + size (shape_of_type text (place_type_view r.declared)) ≤ MAX_PATHS
+    → next.offset + size (shape_of_type text (place_type_view next.declared)) ≤ MAX_PATHS
+element_room text r next el has at declared room =
+    let whole = ap size has.shape in
+    let one = one_of el.count (size (shape_of_type text (place_type_view el.declared))) has.some in
+    let shape = ap (λ d. size (shape_of_type text (place_type_view d))) declared in
+    omega (arith, whole, one, shape, at, room)
+
 pub leads_to_element : (text : Declared) (t : Table) (whole : Option Selected) (r next : Reached) (el : Elements)
     (e : Expr) (i : SlotExpr) (s : Subscript) (rest : Selectors)
     → HasElements text (shape_of_type text (place_type_view r.declared)) el → linked t e ≡ Some i
@@ -140,7 +210,7 @@ leads_to_element text t whole r next el e i s rest has there is at more declared
       ∙ ap (option_map (joined r.offset (map subscript_view r.subscripts.items)))
       (selected_element t (shape_of_type text (place_type_view r.declared))
       (shape_of_type text (place_type_view el.declared)) el.lower el.count el.stride e i rest has.shape has.stride
-      has.room there)
+      has.room has.some there)
       ∙ ap (λ x. option_map (joined r.offset (map subscript_view r.subscripts.items))
       (option_map (behind_subscript x.index x.lower x.count x.stride)
       (linked_selectors t (shape_of_type text (place_type_view el.declared)) rest))) (sym is)
@@ -153,6 +223,7 @@ leads_to_element text t whole r next el e i s rest has there is at more declared
       ∙ ap (λ d. option_map (joined next.offset (map subscript_view next.subscripts.items))
       (linked_selectors t (shape_of_type text (place_type_view d)) rest)) (sym declared);
   expanded = subst (λ d. IsExpanded text (place_type_view d)) (sym declared) has.expanded;
+  room = element_room text r next el has at declared h.room;
 }
 
 -- what is no array has no elements
@@ -169,17 +240,64 @@ pub no_room : (t : Table) (sh element : Shape) (lower : ℤ) (count : ℕ) (e : 
 no_room t sh element lower count e rest is none =
     ap (λ s. linked_selectors t s (selector_then (subscript e) rest)) is
     ∙ ap (λ b. if b then option_and_then (λ i. option_map (behind_subscript i lower count (size element))
-    (linked_selectors t element rest)) (linked t e) else None) (takes_none (size element) none)
+    (linked_selectors t element rest)) (linked t e) else None) (takes_none count (size element) none)
   where
-    takes_none : (n : ℕ) → 0 ≡ cut n → nat_lt 0 n ≡ false
-    takes_none n h = grind (arith, h)
+    nothing : (n : ℕ) → 0 ≡ cut n → n ≡ 0
+    nothing n h = grind (arith, h)
+
+    none_times : (c : ℕ) → nat_lt 0 (c * 0) ≡ false
+    none_times c = grind (arith, nat_tests)
+
+    takes_none : (c n : ℕ) → 0 ≡ cut n → nat_lt 0 (c * n) ≡ false
+    takes_none c n h = ap (λ m. nat_lt 0 (c * m)) (nothing n h) ∙ none_times c
+
+-- nor has one without elements
+pub no_element : (t : Table) (sh element : Shape) (lower : ℤ) (count : ℕ) (e : Expr) (rest : Selectors)
+    → sh ≡ array lower count element → count ≡ 0
+    → linked_selectors t sh (selector_then (subscript e) rest) ≡ None
+no_element t sh element lower count e rest is none =
+    ap (λ s. linked_selectors t s (selector_then (subscript e) rest)) (is ∙ ap (λ c. array lower c element) none)
+    ∙ ap (λ b. if b then option_and_then (λ i. option_map (behind_subscript i lower 0 (size element))
+    (linked_selectors t element rest)) (linked t e) else None) (none_times (size element))
+  where
+    none_times : (n : ℕ) → nat_lt 0 (0 * n) ≡ false
+    none_times n = grind (arith, nat_tests)
+
+-- an array with elements that take room has room for one of them, and for as many as there are
+times_left : (c n : ℕ) → 0 < n → c ≤ c * n
+times_left c zero h = absurd (omega (arith, h))
+times_left c (suc n) h = grind (arith)
+
+times_right : (c n : ℕ) → 0 < c → n ≤ c * n
+times_right zero n h = absurd (omega (arith, h))
+times_right (suc c) n h = grind (arith)
+
+pub stride_small : (sh element : Shape) (lower : ℤ) (count s : ℕ) → sh ≡ array lower count element → 0 < count
+    → s ≡ cut (size element) → size sh ≤ MAX_PATHS → MAX_PATHS < s → ⊥
+stride_small sh element lower count s is some at room large =
+    let whole = ap size is in
+    let one = times_right count (size element) some in
+    over (size element) s at (omega (arith, whole, one, room)) large
+  where
+    over : (n s : ℕ) → s ≡ cut n → n ≤ MAX_PATHS → MAX_PATHS < s → ⊥
+    over n s a b c = grind (arith)
+
+pub count_small : (sh element : Shape) (lower : ℤ) (count s : ℕ) → sh ≡ array lower count element → 0 < s
+    → s ≡ cut (size element) → size sh ≤ MAX_PATHS → MAX_PATHS < count → ⊥
+count_small sh element lower count s is some at room large =
+    let whole = ap size is in
+    let many = times_left count (size element) (above s (size element) at some) in
+    omega (arith, whole, many, room, large)
+  where
+    above : (s n : ℕ) → s ≡ cut n → 0 < s → 0 < n
+    above s n a b = grind (arith)
 
 -- nor an element whose subscript has no slots
 pub no_index : (t : Table) (sh : Shape) (e : Expr) (rest : Selectors) → linked t e ≡ None
     → linked_selectors t sh (selector_then (subscript e) rest) ≡ None
 no_index t (plain k) e rest h = refl
 no_index t (parts w ps) e rest h = refl
-no_index t (array lower count sh) e rest h = by_room (nat_lt 0 (size sh))
+no_index t (array lower count sh) e rest h = by_room (nat_lt 0 (count * size sh))
   where
     by_room : (b : Bool) → (if b then option_and_then (λ i. option_map (behind_subscript i lower count (size sh))
         (linked_selectors t sh rest)) (linked t e) else None) ≡ None
@@ -247,12 +365,14 @@ not_placed text t (Some s) r a composite h =
 -- a variable begins where nothing is selected
 pub leads_first : (text : Declared) (t : Table) (whole : Option Selected) (r : Reached) (rest : Selectors)
     → r.offset ≡ 0 → r.subscripts.items ≡ [] → IsExpanded text (place_type_view r.declared)
+    → size (shape_of_type text (place_type_view r.declared)) ≤ MAX_PATHS
     → whole ≡ linked_selectors t (shape_of_type text (place_type_view r.declared)) rest → LeadsOn text t whole r rest
-leads_first text t whole r rest zero none expanded is = record {
+leads_first text t whole r rest none_before none expanded room is = record {
   is = ap (option_map (joined 0 [])) is
       ∙ ap (λ n. option_map (joined n []) (linked_selectors t (shape_of_type text (place_type_view r.declared)) rest))
-      (sym zero)
+      (sym none_before)
       ∙ ap (λ ss. option_map (joined r.offset (map subscript_view ss))
       (linked_selectors t (shape_of_type text (place_type_view r.declared)) rest)) (sym none);
   expanded = expanded;
+  room = omega (arith, none_before, room);
 }

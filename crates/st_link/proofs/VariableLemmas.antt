@@ -12,6 +12,10 @@ use Rattle.slot_trees.specs.Linking.{linked_selectors, linked_target, linked_var
 use Rattle.slot_trees.specs.Tables.{Symbol, Table, symbol_of}
 use Rattle.slot_bodies.specs.ExpressionViews.{anchor_view}
 use Rattle.shape_tables.specs.Shapes.{IsExpanded}
+use Rattle.std.proofs.Common.{◌≤◌, arith}
+use Rattle.st_words.specs.declared.limits.TheConstants.{MAX_PATHS}
+use Rattle.st_layouts.specs.Shapes.{size}
+use Rattle.st_link.specs.Rooms.{first_slot}
 use Rattle.st_link.specs.BodyTables.{IsSymbol}
 use Rattle.st_link.specs.declared.body_table.LinkSymbol.{LinkSymbol}
 
@@ -19,6 +23,18 @@ pub symbol_expanded : (text : Declared) (s : LinkSymbol) (o : Option Symbol) →
     → IsExpanded text (place_type_view s.declared)
 symbol_expanded text s None a = absurd a
 symbol_expanded text s (Some y) a = a.expanded
+
+pub symbol_room : (text : Declared) (s : LinkSymbol) (o : Option Symbol) → Agree (IsSymbol text) (Some s) o
+    → size (shape_of_type text (place_type_view s.declared)) ≤ MAX_PATHS
+symbol_room text s None a = absurd a
+symbol_room text s (Some y) a =
+    let e = ap size a.shape in let r = a.room in omega (arith, e, r)
+
+pub symbol_near : (text : Declared) (s : LinkSymbol) (o : Option Symbol) → Agree (IsSymbol text) (Some s) o
+    → first_slot (anchor_view s.anchor) ≤ MAX_PATHS
+symbol_near text s None a = absurd a
+symbol_near text s (Some y) a =
+    let e = ap first_slot a.anchor in let r = a.room in omega (arith, e, r)
 
 -- where the selectors lead from the symbol
 place_of : (text : Declared) (t : Table) (s : LinkSymbol) (y : Symbol) (xs : Selectors) → IsSymbol text s y

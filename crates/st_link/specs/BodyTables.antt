@@ -1,25 +1,29 @@
 -- Tables of a body that are those of the definitions.
-use Rattle.std.specs.Prelude.{◌≡◌, option_map}
+use Rattle.std.specs.Prelude.{◌≡◌, ◌+◌, ◌≤◌, option_map}
+use Rattle.st_words.specs.declared.limits.TheConstants.{MAX_PATHS}
 use Rattle.st_types.specs.NameTypes.{Declared}
 use Rattle.st_types.specs.Scopes.{Name}
 use Rattle.st_names.specs.Agreeing.{Agree}
 use Rattle.st_names.specs.Found.{found}
 use Rattle.st_names.specs.PlaceTypes.{place_type_view}
+use Rattle.st_layouts.specs.Shapes.{size}
 use Rattle.st_layouts.specs.Types.{shape_of_type}
 use Rattle.slot_trees.specs.LinkedStatements.{code_of}
 use Rattle.slot_trees.specs.Tables.{Symbol, Table, named_in, symbol_of}
 use Rattle.slot_bodies.specs.ExpressionViews.{anchor_view}
 use Rattle.slot_bodies.specs.StatementViews.{block_code_view}
 use Rattle.shape_tables.specs.Shapes.{IsExpanded, ServesShapes}
+use Rattle.st_link.specs.Rooms.{first_slot}
 use Rattle.st_link.specs.declared.body_table.BodyTable.{BodyTable}
 use Rattle.st_link.specs.declared.body_table.LinkSymbol.{LinkSymbol}
 
--- A variable begins where the table says, and has the shape of the type that it is declared with.
+-- A variable begins where the table says, has the shape of the type that it is declared with, and has room in a layout.
 pub record IsSymbol (text : Declared) (s : LinkSymbol) (y : Symbol) : Type 0 where
   pub anchor : anchor_view s.anchor ≡ y.anchor
   pub input : s.is_input ≡ y.is_input
   pub shape : y.shape ≡ shape_of_type text (place_type_view s.declared)
   pub expanded : IsExpanded text (place_type_view s.declared)
+  pub room : first_slot y.anchor + size y.shape ≤ MAX_PATHS
 
 pub record ServesBody (b : BodyTable) (text : Declared) (t : Table) : Type 0 where
   pub shapes : ServesShapes b.shapes.now text

@@ -1,3 +1,4 @@
+pub mod Rooms
 pub mod BodyTables
 pub mod Places
 pub mod Instances

@@ -1,5 +1,6 @@
 -- Where selectors have led so far.
-use Rattle.std.specs.Prelude.{◌≡◌, ℕ, ◌+◌, ◌<◌, List, [], ◌∷◌, map, Option, option_map}
+use Rattle.std.specs.Prelude.{◌≡◌, ℕ, ◌+◌, ◌<◌, ◌≤◌, List, [], ◌∷◌, map, Option, option_map}
+use Rattle.st_words.specs.declared.limits.TheConstants.{MAX_PATHS}
 use Rattle.st_trees.specs.Expressions.{Selectors}
 use Rattle.st_types.specs.NameTypes.{Declared}
 use Rattle.st_names.specs.PlaceTypes.{place_type_view}
@@ -25,16 +26,18 @@ abbrev pub joined : ℕ → List Subscript → Selected → Selected
 joined n ss s =
     record { offset = cut (n + s.offset); subscripts = subscripts_before ss s.subscripts; shape = s.shape }
 
--- The whole is selected where the rest is, from what was reached.
+-- The whole is selected where the rest is, from what was reached, for which there is room.
 pub record LeadsOn (text : Declared) (t : Table) (whole : Option Selected) (r : Reached)
     (rest : Selectors) : Type 0 where
   pub is : option_map (joined 0 []) whole ≡ option_map (joined r.offset (map subscript_view r.subscripts.items))
       (linked_selectors t (shape_of_type text (place_type_view r.declared)) rest)
   pub expanded : IsExpanded text (place_type_view r.declared)
+  pub room : r.offset + size (shape_of_type text (place_type_view r.declared)) ≤ MAX_PATHS
 
 -- These are the elements of an array, and each of them takes so many slots.
 pub record HasElements (text : Declared) (sh : Shape) (e : Elements) : Type 0 where
   pub shape : sh ≡ array e.lower e.count (shape_of_type text (place_type_view e.declared))
   pub stride : e.stride ≡ size (shape_of_type text (place_type_view e.declared))
   pub room : 0 < e.stride
+  pub some : 0 < e.count
   pub expanded : IsExpanded text (place_type_view e.declared)

@@ -1,11 +1,13 @@
 //! Expressions, from names to slots.
 
-ghost use Rattle.std.specs.Prelude.{◌≡◌, None, Some, Option, map, IfErr, IfOk};
+ghost use Rattle.std.specs.Prelude.{◌≡◌, ◌≤◌, None, Some, Option, map, IfErr, IfOk};
+ghost use Rattle.st_words.specs.declared.limits.TheConstants.{MAX_PATHS};
 ghost use Rattle.st_trees.specs.Expressions.{Selectors, exprs_of, no_selectors, selector_then, selectors_of};
 ghost use Rattle.st_trees.specs.ExpressionViews.{expr_view, selector_view, variable_view};
 ghost use Rattle.st_types.specs.NameTypes.{Declared};
 ghost use Rattle.st_types.specs.StandardFunctions.{standard_of};
 ghost use Rattle.st_names.specs.PlaceTypes.{place_type_view};
+ghost use Rattle.st_layouts.specs.Shapes.{size};
 ghost use Rattle.st_layouts.specs.Types.{shape_of_type};
 ghost use Rattle.slot_bodies.specs.Chains.{exprs_of as slot_exprs_of};
 ghost use Rattle.slot_bodies.specs.ExpressionViews.{place_view, slot_expr_view};
@@ -120,10 +122,12 @@ fn link_selectors<'a>(
 ) -> Result<Reached<'a>, LinkError>
     ensures linked { IfOk result (λ reached. (text : Declared) (t : Table) → ServesBody table.now text t
         → IsExpanded text (place_type_view declared.entry)
+        → size (shape_of_type text (place_type_view declared.entry)) ≤ MAX_PATHS
         → LeadsOn text t (linked_selectors t (shape_of_type text (place_type_view declared.entry))
         (selectors_of (map selector_view selectors.now))) reached no_selectors) }
     ensures none { IfErr result (λ e. e ≡ LinkError.NotThere → (text : Declared) (t : Table)
         → ServesBody table.now text t → IsExpanded text (place_type_view declared.entry)
+        → size (shape_of_type text (place_type_view declared.entry)) ≤ MAX_PATHS
         → linked_selectors t (shape_of_type text (place_type_view declared.entry))
         (selectors_of (map selector_view selectors.now)) ≡ None) }
 {

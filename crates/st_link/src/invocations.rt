@@ -42,7 +42,7 @@ fn member_offset<'a>(
         return Err(LinkError::NotThere);
     }
     if member.offset > MAX_PATHS {
-        return Err(LinkError::TooLarge);
+        return Err(LinkError::NotThere);
     }
     Ok(member.offset)
 }

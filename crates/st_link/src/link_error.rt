@@ -9,12 +9,10 @@ use thiserror::Error;
 /// Why a body is not linked.
 #[derive(Clone, Copy, Debug, PartialEq, Eq, Error)]
 pub enum LinkError {
-    /// A name stands for nothing, or it leads to no elementary variable, or an input is assigned.
+    /// A name stands for nothing, or it leads to no elementary variable, or an input is assigned; or a variable takes
+    /// more slots than a layout has room for.
     #[error("not there")]
     NotThere,
-    /// A variable takes more slots than a layout has room for.
-    #[error("M1")]
-    TooLarge,
     /// Memory ran out.
     #[error("M3")]
     OutOfMemory,

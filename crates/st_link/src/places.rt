@@ -1,16 +1,19 @@
 //! Where selectors lead: from a declared type to a type within it.
 
-ghost use Rattle.std.specs.Prelude.{◌≡◌, ◌≤◌, None, Some, Option, option_and_then, IfErr, IfOk, IfSome};
+ghost use Rattle.std.specs.Prelude.{◌≡◌, ◌≤◌, ◌+◌, ◌^◌, None, Some, Option, option_and_then, IfErr, IfOk};
+ghost use Rattle.std.specs.Prelude.{IfNone, IfSome};
 ghost use Rattle.st_words.specs.declared.limits.TheConstants.{MAX_PATHS};
 ghost use Rattle.st_trees.specs.Expressions.{Expr, Selectors, member, subscript, no_selectors, selector_then};
 ghost use Rattle.st_types.specs.NameTypes.{Declared};
 ghost use Rattle.st_names.specs.PlaceTypes.{place_type_view};
+ghost use Rattle.st_layouts.specs.Shapes.{size};
 ghost use Rattle.st_layouts.specs.Types.{shape_of_type};
 ghost use Rattle.slot_bodies.specs.ExpressionViews.{anchor_view, place_view, slot_expr_view};
 ghost use Rattle.slot_trees.specs.Linking.{Selected, linked, linked_selectors, place_if_plain};
 ghost use Rattle.slot_trees.specs.Tables.{Table, moved};
 ghost use Rattle.shape_tables.specs.Shapes.{IsExpanded, ServesShapes};
 ghost use Rattle.st_link.specs.Places.{HasElements, LeadsOn};
+ghost use Rattle.st_link.specs.Rooms.{first_slot};
 
 use crate::link_error::LinkError;
 use layout::sum;
@@ -66,6 +69,7 @@ pub fn elements_at<'a>(
     ensures small { IfOk result (λ elements. elements.count ≤ MAX_PATHS) }
     ensures none { IfErr result (λ e. e ≡ LinkError.NotThere → (text : Declared) (t : Table) (index : Expr)
         (rest : Selectors) → ServesShapes shapes.now text → IsExpanded text (place_type_view declared.entry)
+        → size (shape_of_type text (place_type_view declared.entry)) ≤ MAX_PATHS
         → linked_selectors t (shape_of_type text (place_type_view declared.entry))
         (selector_then (subscript index) rest) ≡ None) }
 {
@@ -75,8 +79,14 @@ pub fn elements_at<'a>(
     if elements.stride == 0 {
         return Err(LinkError::NotThere);
     }
-    if elements.stride > MAX_PATHS || elements.count > MAX_PATHS as u128 {
-        return Err(LinkError::TooLarge);
+    if elements.count == 0 {
+        return Err(LinkError::NotThere);
+    }
+    if elements.stride > MAX_PATHS {
+        return Err(LinkError::NotThere);
+    }
+    if elements.count > MAX_PATHS as u128 {
+        return Err(LinkError::NotThere);
     }
     Ok(elements)
 }
@@ -115,7 +125,8 @@ pub fn at_element<'a>(
 
 /// So many slots further.
 fn moved(anchor: Anchor, offset: usize) -> Option<Anchor>
-    ensures { IfSome result (λ a. anchor_view a ≡ moved (anchor_view anchor) offset) }
+    ensures there { IfSome result (λ a. anchor_view a ≡ moved (anchor_view anchor) offset) }
+    ensures none { IfNone result (2 ^ 64 ≤ first_slot (anchor_view anchor) + offset) }
 {
     match anchor {
         Anchor::Own(first) => Some(Anchor::Own(first.checked_add(offset)?)),
@@ -133,17 +144,18 @@ pub fn placed<'a>(
         → ServesShapes shapes.now text → LeadsOn text t whole reached.entry no_selectors
         → option_and_then (place_if_plain (anchor_view anchor)) whole ≡ Some (place_view p)) }
     ensures none { IfErr result (λ e. e ≡ LinkError.NotThere → (text : Declared) (t : Table)
-        (whole : Option Selected) → ServesShapes shapes.now text → LeadsOn text t whole reached.entry no_selectors
+        (whole : Option Selected) → ServesShapes shapes.now text → first_slot (anchor_view anchor) ≤ MAX_PATHS
+        → LeadsOn text t whole reached.entry no_selectors
         → option_and_then (place_if_plain (anchor_view anchor)) whole ≡ None) }
 {
     if !shapes.is_elementary(reached.declared) {
         return Err(LinkError::NotThere);
     }
     if reached.offset > MAX_PATHS {
-        return Err(LinkError::TooLarge);
+        return Err(LinkError::NotThere);
     }
     match moved(anchor, reached.offset) {
         Some(anchor) => Ok(Place::new(anchor, reached.subscripts)),
-        None => Err(LinkError::TooLarge),
+        None => Err(LinkError::NotThere),
     }
 }

@@ -95,7 +95,7 @@ module _ (t : Table) (k : Kind) where
     is =
         ap (λ b. if b
         then option_and_then (λ j. option_map (behind_subscript j lower count (size sh)) (linked_selectors t sh xs))
-        (linked t e) else None) l.room
+        (linked t e) else None) (room_of_both count (size sh) some l.room)
         ∙ ap (option_and_then
         (λ j. option_map (behind_subscript j lower count (size sh)) (linked_selectors t sh xs))) h
         ∙ ap (option_map (behind_subscript i lower count (size sh))) l.is;

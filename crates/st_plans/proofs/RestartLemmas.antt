@@ -6,7 +6,7 @@ use Rattle.std.specs.List.{list_any, find, AllByRecursion, IsDistinct}
 use Rattle.std.proofs.lemmas.Bool.{cases_Bool, and_parts, and_from}
 use Rattle.std.proofs.lemmas.Slice.Eq.{bytes_eq-Decides}
 use Rattle.st_words.specs.declared.kind.Kind.{Kind}
-use Rattle.st_words.specs.Kinds.{row_of, holds}
+use Rattle.st_words.specs.Kinds.{holds}
 use Rattle.st_words.specs.Values.{Datum}
 use Rattle.st_words.specs.Paths.{Path, same_path}
 use Rattle.st_types.specs.Stores.{Store, get, shape_of, all_held}
@@ -16,7 +16,7 @@ use Rattle.st_types.proofs.RunLemmas.{store_after_same}
 use Rattle.st_plans.specs.declared.entry.Entry.{Entry}
 use Rattle.st_plans.specs.declared.entry.Entry.TheVariants.{Row, Done}
 use Rattle.st_plans.specs.declared.plan.PlanVariable.{PlanVariable}
-use Rattle.st_plans.specs.Layouts.{path_text}
+use Rattle.st_plans.specs.Layouts.{Enumerations, path_text, type_text}
 use Rattle.st_plans.specs.Rows.{Latch}
 use Rattle.st_plans.specs.Plans.{Plan, ProgramInstance, initial_store, is_retained, image_of, after_run, program_at}
 use Rattle.st_plans.specs.Logs.{Log, Past, row_at, with_entry, beginning, after}
@@ -28,57 +28,57 @@ same_then h k = record { shape = k.shape ∙ h.shape; held = λ x. k.held (h.hel
 -- ---- a start has the plan's variables
 
 -- the value in a line is one that the variable's type holds
-held_at : (v : PlanVariable) (l : KeptLine) (found : Option KeptLine) (b : Bool) → is_line_of v l ≡ b
+held_at : (types : Enumerations) (v : PlanVariable) (l : KeptLine) (found : Option KeptLine) (b : Bool) → is_line_of types v l ≡ b
     → holds v.initial.kind (value_in v found).number ≡ true
     → holds v.initial.kind (value_in v (if b then Some l else found)).number ≡ true
-held_at v l found true is rest =
-    (and_parts (bytes_eq (path_text v.path) l.path && bytes_eq (row_of v.initial.kind).keyword l.spelling)
+held_at types v l found true is rest =
+    (and_parts (bytes_eq (path_text v.path) l.path && bytes_eq (type_text types v.initial.kind) l.spelling)
     (holds v.initial.kind l.number) is).1
-held_at v l found false is rest = rest
+held_at types v l found false is rest = rest
 
-held_in : (v : PlanVariable) (lines : List KeptLine) → holds v.initial.kind v.initial.number ≡ true
-    → holds v.initial.kind (value_in v (find (is_line_of v) lines)).number ≡ true
-held_in v [] held = held
-held_in v (l ∷ lines) held =
-    held_at v l (find (is_line_of v) lines) (is_line_of v l) refl (held_in v lines held)
+held_in : (types : Enumerations) (v : PlanVariable) (lines : List KeptLine) → holds v.initial.kind v.initial.number ≡ true
+    → holds v.initial.kind (value_in v (find (is_line_of types v) lines)).number ≡ true
+held_in types v [] held = held
+held_in types v (l ∷ lines) held =
+    held_at types v l (find (is_line_of types v) lines) (is_line_of types v l) refl (held_in types v lines held)
 
 value_typed : (v : PlanVariable) (found : Option KeptLine) → (value_in v found).kind ≡ v.initial.kind
 value_typed v None = refl
 value_typed v (Some l) = refl
 
-restarted_typed : (v : PlanVariable) (lines : List KeptLine) (r : Bool)
-    → (if r then value_in v (find (is_line_of v) lines) else v.initial).kind ≡ v.initial.kind
-restarted_typed v lines true = value_typed v (find (is_line_of v) lines)
-restarted_typed v lines false = refl
+restarted_typed : (types : Enumerations) (v : PlanVariable) (lines : List KeptLine) (r : Bool)
+    → (if r then value_in v (find (is_line_of types v) lines) else v.initial).kind ≡ v.initial.kind
+restarted_typed types v lines true = value_typed v (find (is_line_of types v) lines)
+restarted_typed types v lines false = refl
 
-restarted_held : (v : PlanVariable) (lines : List KeptLine) (r : Bool) → holds v.initial.kind v.initial.number ≡ true
-    → holds v.initial.kind (if r then value_in v (find (is_line_of v) lines) else v.initial).number ≡ true
-restarted_held v lines true held = held_in v lines held
-restarted_held v lines false held = held
+restarted_held : (types : Enumerations) (v : PlanVariable) (lines : List KeptLine) (r : Bool) → holds v.initial.kind v.initial.number ≡ true
+    → holds v.initial.kind (if r then value_in v (find (is_line_of types v) lines) else v.initial).number ≡ true
+restarted_held types v lines true held = held_in types v lines held
+restarted_held types v lines false held = held
 
 abbrev pub initials : List PlanVariable → Store
 initials vs = map (λ v. (v.path, v.initial)) vs
 
 -- the variables with what these lines give them
-abbrev pub restarts : List KeptLine → List PlanVariable → Store
-restarts lines vs = map (λ v. (v.path, restarted lines v)) vs
+abbrev pub restarts : Enumerations → List KeptLine → List PlanVariable → Store
+restarts types lines vs = map (λ v. (v.path, restarted types lines v)) vs
 
-restarts_same : (lines : List KeptLine) (vs : List PlanVariable) → Same (initials vs) (restarts lines vs)
-restarts_same lines [] = same_refl []
-restarts_same lines (v ∷ vs) =
-    let rest = restarts_same lines vs in
-    let kind = restarted_typed v lines v.retained in
+restarts_same : (types : Enumerations) (lines : List KeptLine) (vs : List PlanVariable) → Same (initials vs) (restarts types lines vs)
+restarts_same types lines [] = same_refl []
+restarts_same types lines (v ∷ vs) =
+    let rest = restarts_same types lines vs in
+    let kind = restarted_typed types v lines v.retained in
     record {
       shape = rw (kind, rest.shape) refl;
       held = λ h.
           let p = and_parts (holds v.initial.kind v.initial.number) (all_held (initials vs)) h in
-          rw kind (and_from (holds v.initial.kind (restarted lines v).number) (all_held (restarts lines vs))
-          (restarted_held v lines v.retained p.0) (rest.held p.1));
+          rw kind (and_from (holds v.initial.kind (restarted types lines v).number) (all_held (restarts types lines vs))
+          (restarted_held types v lines v.retained p.0) (rest.held p.1));
     }
 
 pub start_same : (plan : Plan) (r : Option Kept) → Same (initial_store plan) (warm_start plan r).store
 start_same plan None = same_refl (initial_store plan)
-start_same plan (Some r) = restarts_same r.lines plan.variables
+start_same plan (Some r) = restarts_same plan.enumerations r.lines plan.variables
 
 -- ---- a line among others
 
@@ -87,35 +87,35 @@ abbrev pub IsUnlike : List ℕ → Store → Type 0
 IsUnlike text s = AllByRecursion (λ e. bytes_eq text (path_text e.0) ≡ false) s
 
 -- what is sought is not among the first lines
-found_behind : (v : PlanVariable) (s es : Store) → IsUnlike (path_text v.path) s
-    → find (is_line_of v) (lines_with (s ++ es)) ≡ find (is_line_of v) (lines_with es)
-found_behind v [] es h = refl
-found_behind v (e ∷ s) es h = rw h.0 (found_behind v s es h.1)
+found_behind : (types : Enumerations) (v : PlanVariable) (s es : Store) → IsUnlike (path_text v.path) s
+    → find (is_line_of types v) (lines_with types (s ++ es)) ≡ find (is_line_of types v) (lines_with types es)
+found_behind types v [] es h = refl
+found_behind types v (e ∷ s) es h = rw h.0 (found_behind types v s es h.1)
 
 same_text : (x : List ℕ) → bytes_eq x x ≡ true
 same_text x = (bytes_eq-Decides x x).1 refl
 
 -- what is sought is the first line
-found_here : (v : PlanVariable) (d : Datum) (es : Store) → d.kind ≡ v.initial.kind → holds d.kind d.number ≡ true
-    → value_in v (find (is_line_of v) (lines_with ((v.path, d) ∷ es))) ≡ d
-found_here v d es kinds held =
+found_here : (types : Enumerations) (v : PlanVariable) (d : Datum) (es : Store) → d.kind ≡ v.initial.kind → holds d.kind d.number ≡ true
+    → value_in v (find (is_line_of types v) (lines_with types ((v.path, d) ∷ es))) ≡ d
+found_here types v d es kinds held =
     let holding : holds v.initial.kind d.number ≡ true = ap (λ k. holds k d.number) (sym kinds) ∙ held in
-    let spelled : bytes_eq (row_of v.initial.kind).keyword (row_of d.kind).keyword ≡ true =
-    ap (λ k. bytes_eq (row_of v.initial.kind).keyword (row_of k).keyword) kinds
-    ∙ same_text (row_of v.initial.kind).keyword in
+    let spelled : bytes_eq (type_text types v.initial.kind) (type_text types d.kind) ≡ true =
+    ap (λ k. bytes_eq (type_text types v.initial.kind) (type_text types k)) kinds
+    ∙ same_text (type_text types v.initial.kind) in
     let own : ◌≡◌ {A = Datum} record { kind = v.initial.kind; number = d.number } d =
     ap (λ k. record { kind = k; number = d.number }) (sym kinds) in
     rw (same_text (path_text v.path), spelled, holding) own
 
 -- a variable that is written apart from those of the first lines takes the value of its own line, where it is retained
-pub taken : (v : PlanVariable) (d : Datum) (before rest : Store) (lines : List KeptLine) (r : Bool) → v.retained ≡ r
+pub taken : (types : Enumerations) (v : PlanVariable) (d : Datum) (before rest : Store) (lines : List KeptLine) (r : Bool) → v.retained ≡ r
     → IsUnlike (path_text v.path) before → d.kind ≡ v.initial.kind → holds d.kind d.number ≡ true
-    → lines ≡ lines_with (before ++ (if r then (v.path, d) ∷ rest else rest))
-    → restarted lines v ≡ (if r then d else v.initial)
-taken v d before rest lines true is apart kinds held all =
-    rw is (ap (λ ls. value_in v (find (is_line_of v) ls)) all
-    ∙ ap (value_in v) (found_behind v before ((v.path, d) ∷ rest) apart) ∙ found_here v d rest kinds held)
-taken v d before rest lines false is apart kinds held all = rw is refl
+    → lines ≡ lines_with types (before ++ (if r then (v.path, d) ∷ rest else rest))
+    → restarted types lines v ≡ (if r then d else v.initial)
+taken types v d before rest lines true is apart kinds held all =
+    rw is (ap (λ ls. value_in v (find (is_line_of types v) ls)) all
+    ∙ ap (value_in v) (found_behind types v before ((v.path, d) ∷ rest) apart) ∙ found_here types v d rest kinds held)
+taken types v d before rest lines false is apart kinds held all = rw is refl
 
 -- ---- what was kept is given back
 
@@ -220,50 +220,50 @@ got_first keep p v d x rest kept_rest first_rest false true goes is same more =
     let k : keep p ≡ false = ap keep (same_path_is p v.path same) ∙ goes in rw (k, is) refl
 got_first keep p v d x rest kept_rest first_rest r false goes is same more = more
 
-filter_first : (keep : Path → Bool) (v : PlanVariable) (d : Datum) (before s : Store) (lines : List KeptLine) (r : Bool)
-    → keep v.path ≡ r → lines ≡ lines_with (before ++ filter (λ e. keep e.0) ((v.path, d) ∷ s))
-    → lines ≡ lines_with (before ++ (if r then (v.path, d) ∷ filter (λ e. keep e.0) s else filter (λ e. keep e.0) s))
-filter_first keep v d before s lines r goes all = all ∙ rw goes refl
+filter_first : (types : Enumerations) (keep : Path → Bool) (v : PlanVariable) (d : Datum) (before s : Store) (lines : List KeptLine) (r : Bool)
+    → keep v.path ≡ r → lines ≡ lines_with types (before ++ filter (λ e. keep e.0) ((v.path, d) ∷ s))
+    → lines ≡ lines_with types (before ++ (if r then (v.path, d) ∷ filter (λ e. keep e.0) s else filter (λ e. keep e.0) s))
+filter_first types keep v d before s lines r goes all = all ∙ rw goes refl
 
 -- the same lines, with the first variable among those before
-before_next : (keep : Path → Bool) (v : PlanVariable) (d : Datum) (before s : Store) (vs : List PlanVariable)
+before_next : (types : Enumerations) (keep : Path → Bool) (v : PlanVariable) (d : Datum) (before s : Store) (vs : List PlanVariable)
     (lines : List KeptLine) (r : Bool) → AreUnlike vs before
     → AllByRecursion (λ x. bytes_eq (path_text v.path) x ≡ false) (texts vs)
-    → lines ≡ lines_with (before ++ (if r then (v.path, d) ∷ filter (λ e. keep e.0) s else filter (λ e. keep e.0) s))
-    → (next : Store) × AreUnlike vs next × (lines ≡ lines_with (next ++ filter (λ e. keep e.0) s))
-before_next keep v d before s vs lines true h apart all = (
+    → lines ≡ lines_with types (before ++ (if r then (v.path, d) ∷ filter (λ e. keep e.0) s else filter (λ e. keep e.0) s))
+    → (next : Store) × AreUnlike vs next × (lines ≡ lines_with types (next ++ filter (λ e. keep e.0) s))
+before_next types keep v d before s vs lines true h apart all = (
   before ++ (v.path, d) ∷ [],
   unlike_next v d before vs apart h,
-  all ∙ ap lines_with (sym (append_assoc before ((v.path, d) ∷ []) (filter (λ e. keep e.0) s))),
+  all ∙ ap (lines_with types) (sym (append_assoc before ((v.path, d) ∷ []) (filter (λ e. keep e.0) s))),
 )
-before_next keep v d before s vs lines false h apart all = (before, h, all)
+before_next types keep v d before s vs lines false h apart all = (before, h, all)
 
-gives_back : (keep : Path → Bool) (p : Path) (lines : List KeptLine) (before : Store) (vs : List PlanVariable)
+gives_back : (types : Enumerations) (keep : Path → Bool) (p : Path) (lines : List KeptLine) (before : Store) (vs : List PlanVariable)
     (s : Store) → GoesByItself keep vs → IsDistinct bytes_eq (texts vs) → AreUnlike vs before
     → shape_of s ≡ shape_of (initials vs) → all_held s ≡ true
-    → lines ≡ lines_with (before ++ filter (λ e. keep e.0) s)
-    → get (restarts lines vs) p ≡ (if keep p then get s p else get (initials vs) p)
+    → lines ≡ lines_with types (before ++ filter (λ e. keep e.0) s)
+    → get (restarts types lines vs) p ≡ (if keep p then get s p else get (initials vs) p)
 unfolding IsDistinct
-gives_back keep p lines before [] [] goes once h same held all = nothing (keep p)
+gives_back types keep p lines before [] [] goes once h same held all = nothing (keep p)
   where
     nothing : (b : Bool) → ◌≡◌ {A = Option Datum} None (if b then None else None)
     nothing true = refl
     nothing false = refl
-gives_back keep p lines before [] (e ∷ s) goes once h same held all = absurd (cc)
-gives_back keep p lines before (v ∷ vs) [] goes once h same held all = absurd (cc)
-gives_back keep p lines before (v ∷ vs) (e ∷ s) goes once h same held all =
+gives_back types keep p lines before [] (e ∷ s) goes once h same held all = absurd (cc)
+gives_back types keep p lines before (v ∷ vs) [] goes once h same held all = absurd (cc)
+gives_back types keep p lines before (v ∷ vs) (e ∷ s) goes once h same held all =
     let heads : ◌≡◌ {A = Path × Kind} (e.0, e.1.kind) (v.path, v.initial.kind) = cc in
     let path : e.0 ≡ v.path = ap (λ x. x.0) heads in
     let kind : e.1.kind ≡ v.initial.kind = ap (λ x. x.1) heads in
     let others : shape_of s ≡ shape_of (initials vs) = cc in
     let holding = and_parts (holds e.1.kind e.1.number) (all_held s) held in
-    let named : lines ≡ lines_with (before ++ filter (λ x. keep x.0) ((v.path, e.1) ∷ s)) =
-    all ∙ ap (λ q. lines_with (before ++ filter (λ x. keep x.0) ((q, e.1) ∷ s))) path in
-    let first = filter_first keep v e.1 before s lines v.retained goes.0 named in
-    let is = taken v e.1 before (filter (λ x. keep x.0) s) lines v.retained refl h.0 kind holding.0 first in
-    let next = before_next keep v e.1 before s vs lines v.retained h.1 once.0 first in
-    let more = gives_back keep p lines next.0 vs s goes.1 once.1 next.1 others holding.1 next.2 in
-    got_first keep p v e.1 (restarted lines v) (get (restarts lines vs) p) (get s p) (get (initials vs) p) v.retained
+    let named : lines ≡ lines_with types (before ++ filter (λ x. keep x.0) ((v.path, e.1) ∷ s)) =
+    all ∙ ap (λ q. lines_with types (before ++ filter (λ x. keep x.0) ((q, e.1) ∷ s))) path in
+    let first = filter_first types keep v e.1 before s lines v.retained goes.0 named in
+    let is = taken types v e.1 before (filter (λ x. keep x.0) s) lines v.retained refl h.0 kind holding.0 first in
+    let next = before_next types keep v e.1 before s vs lines v.retained h.1 once.0 first in
+    let more = gives_back types keep p lines next.0 vs s goes.1 once.1 next.1 others holding.1 next.2 in
+    got_first keep p v e.1 (restarted types lines v) (get (restarts types lines vs) p) (get s p) (get (initials vs) p) v.retained
     (same_path p v.path) goes.0 is refl more
     ∙ ap (λ q. if keep p then (if same_path p q then Some e.1 else get s p)
     else (if same_path p v.path then Some v.initial else get (initials vs) p)) (sym path)
@@ -294,7 +294,7 @@ pub given_back : (plan : Plan) (s : Store) (moment : Option ℕ) (p : Path)
     → get (warm_start plan (Some (kept_of plan s moment))).store p
     ≡ (if is_retained plan p then get s p else get (initial_store plan) p)
 given_back plan s moment p once same held =
-    gives_back (is_retained plan) p (kept_of plan s moment).lines [] plan.variables s
+    gives_back plan.enumerations (is_retained plan) p (kept_of plan s moment).lines [] plan.variables s
     (goes_by_itself plan.variables once) once (all_unlike plan.variables) same held refl
 
 pub given_back_after : (plan : Plan) (r : Option Kept) (log : Log) (moment : Option ℕ) (p : Path)

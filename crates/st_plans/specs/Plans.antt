@@ -13,6 +13,7 @@ use Rattle.st_types.specs.Stores.{Store, get}
 use Rattle.st_plans.specs.declared.plan.PlanVariable.{PlanVariable}
 use Rattle.st_plans.specs.declared.plan.PlanInput.{PlanInput}
 use Rattle.st_plans.specs.declared.plan.Schedule.{Schedule}
+use Rattle.st_plans.specs.Layouts.{Enumerations}
 use Rattle.st_plans.specs.Rows.{Latch}
 use Rattle.st_types.specs.Runs as runs
 use Rattle.st_types.specs.Runs.{outcome_of, store_after}
@@ -35,7 +36,10 @@ pub record ProgramInstance : Type 0 where
   pub task : ℕ
   pub code : runs.Program
 
+-- the enumerated types of the text, each by its names, in the order of their numbers; the variables and inputs; resources,
+-- tasks and programs; and how many ticks an execution may take
 pub record Plan : Type 0 where
+  pub enumerations : Enumerations
   pub variables : List PlanVariable
   pub inputs : List PlanInput
   pub resources : ℕ

@@ -10,6 +10,7 @@ use Rattle.std.proofs.lemmas.List.{append_cancel_left}
 use Rattle.std.proofs.lemmas.Option.{slice_get-get_or, slice_get-map}
 use Rattle.st_words.specs.declared.limits.TheConstants.{MAX_LOG_ROOM, MOMENT_LIMIT}
 use Rattle.st_types.specs.declared.outcome.Outcome.{Outcome}
+use Rattle.st_trees.specs.SourceViews.{source_view}
 use Rattle.st_plans.specs.declared.entry.Entry.{Entry}
 use Rattle.st_plans.specs.declared.entry.Entry.TheVariants.{Row, Done}
 use Rattle.st_plans.specs.declared.entry.Activation.{Activation}
@@ -128,10 +129,11 @@ is_done life rows text (Done a ∷ more) left =
     let there = (Waits-there (schedules_of (plan_view life.plan)) (made life).history a waits).1 in
     let few = sampled_few (plan_view life.plan) (beginning life.start) life.log in
     let row = row_at (made life).rows a.row in
-    let o = ended_by (plan_view life.plan) (made life) row (program_view q) in
+    let view = program_view (source_view life.plan.text.value) in
+    let o = ended_by (plan_view life.plan) (made life) row (view q) in
     let ends : outcome_in life (Done a) ≡ Some o =
     ap (option_map (ended_by (plan_view life.plan) (made life) row))
-    (slice_get-map program_view life.plan.programs.items a.program ∙ ap (option_map program_view) at) in record {
+    (slice_get-map view life.plan.programs.items a.program ∙ ap (option_map view) at) in record {
       activation = a;
       program = q;
       at = at;

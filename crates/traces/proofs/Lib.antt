@@ -9,4 +9,3 @@ pub mod HeadLemmas
 pub mod ValueLemmas
 pub mod FirstLemmas
 pub mod ReplayLemmas
-pub mod ApartLemmas

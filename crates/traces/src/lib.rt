@@ -6,7 +6,6 @@ mod entries;
 mod findings;
 mod head;
 mod keeping;
-pub mod laws;
 mod lines;
 mod parts;
 mod putting;

@@ -1,10 +1,13 @@
 //! Worked examples of what is retained and what a life starts with, each proved by computation.
 
-ghost use Rattle.std.specs.Prelude.{◌≡◌, ◌∷◌, [], Some, None, pos, true, false, codes};
+ghost use Rattle.std.specs.Prelude.{◌≡◌, ◌∷◌, ◌++◌, [], Some, None, pos, true, false, codes, length};
 ghost use Rattle.st_trees.specs.declared.declaration.Retention.TheVariants.{Retain, NonRetain};
+ghost use Rattle.st_words.specs.declared.kind.Kind.TheVariants.{Time};
+ghost use Rattle.st_plans.specs.Layouts.{layout_text, record_length, type_text};
 ghost use Rattle.st_plans.specs.Plans.{is_retained_by};
 ghost use Rattle.st_plans.specs.Restarts.{kept, kept_of, cold_start, warm_start};
 ghost use Rattle.st_plans.specs.RestartExamples.{two_of_three, values, retained, line, int_line, started_with};
+ghost use Rattle.st_plans.specs.RestartExamples.{modes, mode, mode_variable, started_mode};
 
 /// The innermost declaration that says RETAIN or NON_RETAIN decides; without any a variable is not retained.
 pub fn retention()
@@ -55,4 +58,25 @@ pub fn lines_found_by_path_and_type()
         ≡ values (pos 3) (pos 2) (pos 7) }
     ensures not_retained { started_with (int_line (codes "K") (pos 3) ∷ []) ≡ values (pos 0) (pos 2) (pos 7) }
     ensures out_of_range { started_with (int_line (codes "N") (pos 40000) ∷ []) ≡ values (pos 0) (pos 2) (pos 7) }
+{}
+
+/// A record spells an enumerated type by its names: of `Mode : (Stopped, Running, Fault)` and a retained `m : Mode` its
+/// layout text has 26 bytes and its body 39. Another type has its keyword, and one that the text hasn't has none.
+pub fn types_as_records_spell_them()
+    ensures keyword { type_text modes Time ≡ codes "TIME" }
+    ensures names { type_text modes (mode 0) ≡ codes "(STOPPED,RUNNING,FAULT)" }
+    ensures one_name { type_text modes (mode 1) ≡ codes "(OPEN)" }
+    ensures no_such_type { type_text modes (mode 2) ≡ [] }
+    ensures text { layout_text modes (mode_variable ∷ []) ≡ codes "M (STOPPED,RUNNING,FAULT)" ++ 10 ∷ [] }
+    ensures text_length { length (layout_text modes (mode_variable ∷ [])) ≡ 26 }
+    ensures body { record_length modes (mode_variable ∷ []) ≡ 39 }
+{}
+
+/// A retained variable of an enumerated type finds its line by its path and the names of its type.
+pub fn names_found_by_their_type()
+    ensures found { started_mode (codes "(STOPPED,RUNNING,FAULT)") (pos 2) ≡ pos 2 }
+    ensures other_names { started_mode (codes "(STOPPED,RUNNING,OPEN)") (pos 2) ≡ pos 0 }
+    ensures number_of_names { started_mode (codes "(STOPPED,RUNNING,FAULT,OPEN)") (pos 2) ≡ pos 0 }
+    ensures keyword { started_mode (codes "USINT") (pos 2) ≡ pos 0 }
+    ensures no_such_name { started_mode (codes "(STOPPED,RUNNING,FAULT)") (pos 3) ≡ pos 0 }
 {}

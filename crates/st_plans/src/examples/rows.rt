@@ -27,6 +27,7 @@ use st_types::Outcome;
 #[tactic(auto, unfolding(st_types::specs::Runs::ran, st_types::specs::Runs::ran_where, st_types::specs::Runs::store_after, st_types::specs::Runs::units_within, st_types::specs::StandardBlocks::block_of))]
 pub fn moments_of_rows()
     ensures { let plan : Plan = record {
+      enumerations = [];
       variables = [];
       inputs = [];
       resources = 1;
@@ -68,6 +69,7 @@ pub fn moments_of_rows()
 #[tactic(auto, unfolding(st_types::specs::Runs::ran, st_types::specs::Runs::ran_where, st_types::specs::Runs::store_after, st_types::specs::Runs::outcome_of, st_types::specs::Runs::units_within))]
 pub fn inputs_of_rows()
     ensures { let plan : Plan = record {
+      enumerations = [];
       variables = [];
       inputs = record { path = unowned Z; kind = Int } ∷ record { path = unowned (codes "G"); kind = Boolean } ∷ [];
       resources = 1;

@@ -1,5 +1,5 @@
 use Rattle.std.proofs.Common.{◌≡◌, length}
-use Rattle.retain_store.specs.Records.{is_spaced}
+use Rattle.st_words.specs.UpperNames.{is_spaced}
 use Rattle.retain_store.proofs.enumeration.is_spaced.Given as goal
 
 abbrev pub invariant-loop-rest : goal.invariant-loop-rest

@@ -1,8 +1,9 @@
-use Rattle.std.proofs.Common.{◌≡◌, ◌++◌, map, drop}
+use Rattle.std.proofs.Common.{◌≡◌, map, drop}
 use Rattle.st_types.specs.Slots.{agrees}
-use Rattle.slot_run.specs.Cells.{cut}
+use Rattle.config.specs.SlotPlaces.{merged}
+use Rattle.coded_runs.specs.Cells.{cut}
 use Rattle.serial_core.proofs.cells.stand.Given as goal
 
 abbrev pub invariant-loop-cell : goal.invariant-loop-cell
-invariant-loop-cell l =
-    agrees (l.values ++ l.image) (map cut l.cells) ≡ agrees (l.values ++ l.image) (map cut (drop l.cell-index l.cells))
+invariant-loop-cell l = agrees (merged l.places l.values l.image) (map cut l.cells)
+    ≡ agrees (merged l.places l.values l.image) (map cut (drop l.cell-index l.cells))

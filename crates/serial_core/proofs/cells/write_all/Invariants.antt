@@ -1,8 +1,8 @@
 use Rattle.std.proofs.Common.{◌≡◌, map, drop}
-use Rattle.st_types.specs.Slots.{written}
-use Rattle.slot_run.specs.Cells.{cut}
+use Rattle.config.specs.SlotPlaces.{written_variables}
+use Rattle.coded_runs.specs.Cells.{cut}
 use Rattle.serial_core.proofs.cells.write_all.Given as goal
 
 abbrev pub invariant-loop-cell : goal.invariant-loop-cell
-invariant-loop-cell l =
-    written l.fn.values.items (map cut l.cells) ≡ written l.values.items (map cut (drop l.cell-index l.cells))
+invariant-loop-cell l = written_variables l.places l.fn.values.items (map cut l.cells)
+    ≡ written_variables l.places l.values.items (map cut (drop l.cell-index l.cells))

@@ -24,10 +24,11 @@ use Rattle.st_link.specs.BodyTables.{IsSymbol, ServesBody}
 use Rattle.st_link.specs.Places.{LeadsOn}
 use Rattle.st_link.specs.declared.link_error.LinkError.TheVariants.{NotThere}
 use Rattle.st_link.proofs.ErrorLemmas.{and_none, none_then}
+use Rattle.st_link.proofs.PlaceLemmas.{reached_room}
 use Rattle.st_link.proofs.PlaceLemmas.{leads_nowhere, no_index}
 use Rattle.st_link.proofs.Sequences.{Turned, turned_all, turned_first, turned_more, turned_none}
 use Rattle.st_link.proofs.SequenceViews.{exprs_linked}
-use Rattle.st_link.proofs.VariableLemmas.{symbol_expanded, variable_linked}
+use Rattle.st_link.proofs.VariableLemmas.{symbol_expanded, symbol_near, symbol_room, variable_linked}
 use Rattle.st_link.proofs.expressions.+link.Goals as goal
 
 pub link-returns-in_err-link_variable-in-Variable-clause-none :
@@ -96,6 +97,20 @@ link-returns-in_ok-arguments-in-Call-clause-linked n c =
     ∙ h text t serves)
     c.called.ensures.linked
 
+pub link-returns-in_ok-arguments-in-Call-clause-none : goal.link-returns-in_ok-arguments-in-Call-clause-none
+link-returns-in_ok-arguments-in-Call-clause-none n c =
+    let f = c.in-Call.function in
+    let es = trees.exprs_of (map expr_view c.in-Call.arguments.items) in
+    let seen : expr_view c.args.expression.now ≡ trees.call f es =
+    rw c.in-Call.is (search (rules, code_expr.the_lemmas)) in
+    IfErr-weaker c.called.result _ (λ e. e ≡ NotThere → (text : Declared) (t : Table)
+    → ServesBody c.args.table.now text t → linked t (expr_view c.args.expression.now) ≡ None)
+    (λ e h is text t serves. ap (linked t) seen
+    ∙ ap (option_and_then (λ xs. linked_call t f.name (standard_of f.name) xs))
+    (rw c.deref.ensures.value at (c.in_ok-arguments-in-Call.ensures.linked text t serves))
+    ∙ h is text t serves)
+    c.called.ensures.none
+
 pub link_all-loop-expression-init : goal.link_all-loop-expression-init
 link_all-loop-expression-init n c text t serves =
     let es = map expr_view c.args.expressions.now in
@@ -158,7 +173,8 @@ link_selector-returns-in_err-elements-in-Subscript-clause-none n c =
     none_then _ c.in_err-elements-in-Subscript.field-0.0 _ _ c.in_err-elements-in-Subscript.ensures.none
     (λ h text t whole rest serves leads.
     leads_nowhere text t whole c.args.reached (selector_then (subscript e) rest)
-    (h text t e rest serves.shapes leads.expanded)
+    (h text t e rest serves.shapes leads.expanded
+    (reached_room text t whole c.args.reached (selector_then (selector_view c.args.selector.now) rest) leads))
     (subst (λ x. LeadsOn text t whole c.args.reached (selector_then x rest)) seen leads)) (search rules)
 
 pub link_selector-returns-in_err-index-in-Subscript-clause-none :
@@ -190,7 +206,7 @@ link_selector-returns-in_ok-index-in-Subscript-clause-linked n c =
     c.at_element.ensures.leads
 
 pub link_selectors-loop-selector-preserved : goal.link_selectors-loop-selector-preserved
-link_selectors-loop-selector-preserved n c text t serves expanded =
+link_selectors-loop-selector-preserved n c text t serves expanded room =
     let xs = c.args.selectors.now in
     let whole = linked_selectors t (shape_of_type text (place_type_view c.args.declared))
     (selectors_of (map selector_view xs)) in
@@ -199,13 +215,13 @@ link_selectors-loop-selector-preserved n c text t serves expanded =
     (subst (λ ys. LeadsOn text t whole c.loop-selector.reached (selectors_of (map selector_view ys)))
     (left_begins xs c.loop-selector.selector-index c.selector-item.result c.loop-selector-test.true
     c.selector-item.is)
-    (c.loop-selector.invariant text t serves expanded))
+    (c.loop-selector.invariant text t serves expanded room))
 
 pub link_selectors-returns-in_err-reached-clause-none : goal.link_selectors-returns-in_err-reached-clause-none
 link_selectors-returns-in_err-reached-clause-none n c =
     let xs = c.args.selectors.now in
     none_then _ c.in_err-reached.field-0.0 _ _ c.in_err-reached.ensures.none
-    (λ h text t serves expanded.
+    (λ h text t serves expanded room.
     let whole = linked_selectors t (shape_of_type text (place_type_view c.args.declared))
     (selectors_of (map selector_view xs)) in
     let rest = selectors_of (map selector_view (drop (c.loop-selector.selector-index + 1) xs)) in
@@ -213,15 +229,15 @@ link_selectors-returns-in_err-reached-clause-none n c =
     (subst (λ ys. LeadsOn text t whole c.loop-selector.reached (selectors_of (map selector_view ys)))
     (left_begins xs c.loop-selector.selector-index c.selector-item.result c.loop-selector-test.true
     c.selector-item.is)
-    (c.loop-selector.invariant text t serves expanded))) (search rules)
+    (c.loop-selector.invariant text t serves expanded room))) (search rules)
 
 pub link_selectors-returns-clause-linked : goal.link_selectors-returns-clause-linked
-link_selectors-returns-clause-linked n c text t serves expanded =
+link_selectors-returns-clause-linked n c text t serves expanded room =
     let xs = c.args.selectors.now in
     subst (λ ys. LeadsOn text t (linked_selectors t (shape_of_type text (place_type_view c.args.declared))
     (selectors_of (map selector_view xs))) c.loop-selector.reached (selectors_of (map selector_view ys)))
     (drop_all c.loop-selector.selector-index xs c.loop-selector-test.false)
-    (c.loop-selector.invariant text t serves expanded)
+    (c.loop-selector.invariant text t serves expanded room)
 
 pub link_variable-returns-in_err-reached-clause-none : goal.link_variable-returns-in_err-reached-clause-none
 link_variable-returns-in_err-reached-clause-none n c =
@@ -237,7 +253,8 @@ link_variable-returns-in_err-reached-clause-none n c =
     (c.symbol.ensures text t serves) in
     ap (linked_variable t) seen ∙ variable_linked text t s v.name xs None there
     (ap (option_and_then (place_if_plain (anchor_view s.anchor)))
-    (h text t serves (symbol_expanded text s (symbol_of t.symbols v.name.name) there)))) (search rules)
+    (h text t serves (symbol_expanded text s (symbol_of t.symbols v.name.name) there)
+    (symbol_room text s (symbol_of t.symbols v.name.name) there)))) (search rules)
 
 pub link_variable-returns-clause-linked : goal.link_variable-returns-clause-linked
 link_variable-returns-clause-linked n c =
@@ -255,7 +272,8 @@ link_variable-returns-clause-linked n c =
     let deep = symbol_expanded text s (symbol_of t.symbols v.name.name) there in
     ap (linked_variable t) seen ∙ variable_linked text t s v.name xs (Some (place_view p)) there
     (h text t (linked_selectors t (shape_of_type text (place_type_view s.declared)) xs) serves.shapes
-    (c.in_ok-reached.ensures.linked text t serves deep)))
+    (c.in_ok-reached.ensures.linked text t serves deep
+    (symbol_room text s (symbol_of t.symbols v.name.name) there))))
     c.placed.ensures.place
 
 pub link_variable-returns-clause-none : goal.link_variable-returns-clause-none
@@ -274,5 +292,7 @@ link_variable-returns-clause-none n c =
     let deep = symbol_expanded text s (symbol_of t.symbols v.name.name) there in
     ap (linked_variable t) seen ∙ variable_linked text t s v.name xs None there
     (h is text t (linked_selectors t (shape_of_type text (place_type_view s.declared)) xs) serves.shapes
-    (c.in_ok-reached.ensures.linked text t serves deep)))
+    (symbol_near text s (symbol_of t.symbols v.name.name) there)
+    (c.in_ok-reached.ensures.linked text t serves deep
+    (symbol_room text s (symbol_of t.symbols v.name.name) there))))
     c.placed.ensures.none

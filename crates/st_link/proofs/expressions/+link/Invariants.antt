@@ -9,6 +9,9 @@ use Rattle.slot_bodies.specs.ExpressionViews.{slot_expr_view}
 use Rattle.slot_trees.specs.SlotTrees.{SlotExpr}
 use Rattle.slot_trees.specs.Linking.{linked, linked_selectors}
 use Rattle.slot_trees.specs.Tables.{Table}
+use Rattle.std.proofs.Common.{◌≤◌}
+use Rattle.st_words.specs.declared.limits.TheConstants.{MAX_PATHS}
+use Rattle.st_layouts.specs.Shapes.{size}
 use Rattle.shape_tables.specs.Shapes.{IsExpanded}
 use Rattle.st_link.specs.BodyTables.{ServesBody}
 use Rattle.st_link.specs.Places.{LeadsOn}
@@ -22,7 +25,8 @@ invariant-link_all-loop-expression l = (text : Declared) (t : Table) → ServesB
 
 abbrev pub invariant-link_selectors-loop-selector : goal.invariant-link_selectors-loop-selector
 invariant-link_selectors-loop-selector l = (text : Declared) (t : Table) → ServesBody l.table text t
-    → IsExpanded text (place_type_view l.declared) → LeadsOn text t
+    → IsExpanded text (place_type_view l.declared)
+    → size (shape_of_type text (place_type_view l.declared)) ≤ MAX_PATHS → LeadsOn text t
     (linked_selectors t (shape_of_type text (place_type_view l.declared)) (selectors_of (map selector_view
     l.selectors)))
     l.reached (selectors_of (map selector_view (drop l.selector-index l.selectors)))

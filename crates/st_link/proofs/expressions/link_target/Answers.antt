@@ -14,7 +14,7 @@ use Rattle.slot_trees.specs.Tables.{Table, symbol_of}
 use Rattle.st_link.specs.BodyTables.{IsSymbol, ServesBody}
 use Rattle.st_link.specs.declared.link_error.LinkError.TheVariants.{NotThere}
 use Rattle.st_link.proofs.ErrorLemmas.{none_then}
-use Rattle.st_link.proofs.VariableLemmas.{symbol_expanded, target_linked}
+use Rattle.st_link.proofs.VariableLemmas.{symbol_expanded, symbol_near, symbol_room, target_linked}
 use Rattle.st_link.proofs.expressions.link_target.Goals as goal
 
 pub returns-in_err-reached-clause-none : goal.returns-in_err-reached-clause-none
@@ -31,7 +31,8 @@ returns-in_err-reached-clause-none c =
     (c.symbol.ensures text t serves) in
     ap (linked_target t) seen ∙ target_linked text t s v.name xs None there c.if-symbol.false
     (ap (option_and_then (place_if_plain (anchor_view s.anchor)))
-    (h text t serves (symbol_expanded text s (symbol_of t.symbols v.name.name) there)))) (search rules)
+    (h text t serves (symbol_expanded text s (symbol_of t.symbols v.name.name) there)
+    (symbol_room text s (symbol_of t.symbols v.name.name) there)))) (search rules)
 
 pub returns-clause-linked : goal.returns-clause-linked
 returns-clause-linked c =
@@ -50,7 +51,8 @@ returns-clause-linked c =
     ap (linked_target t) seen
     ∙ target_linked text t s v.name xs (Some (place_view p)) there c.if-symbol.false
     (h text t (linked_selectors t (shape_of_type text (place_type_view s.declared)) xs) serves.shapes
-    (c.in_ok-reached.ensures.linked text t serves deep)))
+    (c.in_ok-reached.ensures.linked text t serves deep
+    (symbol_room text s (symbol_of t.symbols v.name.name) there))))
     c.placed.ensures.place
 
 pub returns-clause-none : goal.returns-clause-none
@@ -69,5 +71,7 @@ returns-clause-none c =
     let deep = symbol_expanded text s (symbol_of t.symbols v.name.name) there in
     ap (linked_target t) seen ∙ target_linked text t s v.name xs None there c.if-symbol.false
     (h is text t (linked_selectors t (shape_of_type text (place_type_view s.declared)) xs) serves.shapes
-    (c.in_ok-reached.ensures.linked text t serves deep)))
+    (symbol_near text s (symbol_of t.symbols v.name.name) there)
+    (c.in_ok-reached.ensures.linked text t serves deep
+    (symbol_room text s (symbol_of t.symbols v.name.name) there))))
     c.placed.ensures.none

@@ -1,5 +1,6 @@
 use Rattle.std.proofs.Common.{◌≡◌, ◌∙◌, ap, map}
 use Rattle.std.proofs.lemmas.Result.{IfOk-weaker}
+use Rattle.st_trees.specs.SourceViews.{source_view}
 use Rattle.st_plans.specs.Plans.{schedules_of as schedules_in}
 use Rattle.config.specs.PlanViews.{plan_view}
 use Rattle.ready_list.specs.Schedules.{code_schedule}
@@ -13,5 +14,5 @@ returns-clause-schedules c =
     (λ r e.
     e ∙ c.in_ok-schedules.ensures ∙ ap (λ ts. map (code_schedule ts) c.deref-2.result.now) c.deref.ensures.value
     ∙ ap (map (code_schedule c.args.plan.now.tasks.items)) c.deref-2.ensures.value
-    ∙ schedules-same c.args.plan.now.variables.items c.args.plan.now.tasks.items c.args.plan.now.programs.items)
+    ∙ schedules-same (source_view c.args.plan.now.text.value) c.args.plan.now.variables.items c.args.plan.now.tasks.items c.args.plan.now.programs.items)
     c.of_schedules.ensures.schedules

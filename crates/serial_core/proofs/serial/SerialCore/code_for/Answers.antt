@@ -1,20 +1,19 @@
-use Rattle.std.proofs.Common.{◌≡◌, ◌∙◌, ℕ, true, nat_lt, length, Some, refl, ap, sym, subst}
+use Rattle.std.proofs.Common.{◌≡◌, ◌∙◌, ap, map, sym, subst}
 use Rattle.std.specs.Prelude.{Result, Ok, Err, IfOk}
-use Rattle.std.specs.List.{list_all}
 use Rattle.config.specs.declared.plan.Plan.{Plan}
 use Rattle.serial_core.specs.Steps.{State, code_at, slots_for, waits_in}
-use Rattle.serial_core.proofs.TakeLemmas.{slots_within}
+use Rattle.serial_core.proofs.TakeLemmas.{slots_of_code}
 use Rattle.serial_core.proofs.serial.SerialCore.code_for.Goals as goal
 
 ok_weaker : {C E : Type 0} (r : Result C E) (P Q : C → Type 0) → ((x : C) → P x → Q x) → IfOk r P → IfOk r Q
 ok_weaker (Ok x) P Q weaker h = weaker x h
 ok_weaker (Err e) P Q weaker h = tt
 
-pub returns-clause-within : goal.returns-clause-within
-returns-clause-within c =
+pub returns-clause-typed : goal.returns-clause-typed
+returns-clause-typed c =
     let w = subst (λ (st : State). waits_in st c.args.activation) (sym c.self.view_is) c.requires.waits in
     ok_weaker c.code_of.result _ _
-    (λ code is. subst (λ (st : State). list_all (λ g. nat_lt g.slot (length (slots_for st c.args.activation)))
-    code.value.table.items ≡ true) c.self.view_is
-    (slots_within c.self.invariant.0 c.args.activation code.value _ w
-    (ap (λ (p : Plan). code_at p c.args.activation.program) (sym c.deref.ensures) ∙ is) refl)) c.code_of.ensures
+    (λ code is. subst (λ (st : State). map (λ v. v.kind) (slots_for st c.args.activation)
+    ≡ code.value.kinds.value.items) c.self.view_is
+    (slots_of_code c.self.invariant.0 c.args.activation code.value w
+    (ap (λ (p : Plan). code_at p c.args.activation.program) (sym c.deref.ensures) ∙ is))) c.code_of.ensures

@@ -1,6 +1,7 @@
-use Rattle.std.proofs.Common.{◌∷◌, [], Ok, true, ap, sym, subst, arith, length, length-append, map}
+use Rattle.std.proofs.Common.{◌∙◌, ◌∷◌, [], Ok, true, ap, sym, subst, arith, length, length-append, map}
 use Rattle.st_plans.specs.declared.entry.Entry.TheVariants.{Done}
-use Rattle.slot_run.specs.Cells.{cut}
+use Rattle.config.specs.SlotPlaces.{written_variables}
+use Rattle.coded_runs.specs.Cells.{cut}
 use Rattle.serial_core.specs.Steps.{State, Judges}
 use Rattle.serial_core.proofs.CommitLemmas.{SerialInvariant-commit, IsTrueOf-same}
 use Rattle.serial_core.proofs.OutcomeLemmas.{outcomes_kept}
@@ -22,7 +23,9 @@ invariant_of-self c =
           c.take_off.new.ready c.write_all.new.values.items (map cut c.writes.result.now)
           c.push_reserved-2.new.self.items c.push_reserved.new.self.items c.outcome.result c.take_off.result
           facts.1 facts.2 (IsTrueOf-same _ _ c.execution.view_is c.execution.invariant) facts.3
-          c.writes.ensures c.write_all.ensures c.outcome.ensures c.push_reserved-2.ensures.items
+          c.writes.ensures (c.write_all.ensures
+          ∙ ap (λ ps. written_variables ps c.self.inside.values.items (map cut c.writes.result.now))
+          (c.deref-2.ensures.value ∙ ap (λ p. p.slots.items) c.deref.ensures)) c.outcome.ensures c.push_reserved-2.ensures.items
           c.push_reserved.ensures.items c.take_off.ensures.schedules c.take_off.ensures.number c.take_off.ensures.last
           c.take_off.ensures.rows c.take_off.ensures.remove,
       omega (
