@@ -40,7 +40,7 @@ use Rattle.st_types.specs.Scopes.{Name}
 use Rattle.st_types.specs.Examples.{identifier, name, set, untyped}
 use Rattle.st_types.specs.ResolutionExamples.{of_type, plain_number, initially}
 use Rattle.st_plans.specs.Layouts.{owner_text, layout_text}
-use Rattle.st_layouts.specs.TextLayouts.{slots_of_text, plan_variables_of_text, plan_inputs_of_text}
+use Rattle.st_layouts.specs.TextLayouts.{slots_of_text, enumerations_of_text, plan_variables_of_text, plan_inputs_of_text}
 
 -- an elementary type, and ARRAY [m..n] OF a type
 abbrev pub plain : Kind → VariableType
@@ -356,7 +356,7 @@ adding = text_of [] (adder ∷ []) adder_configuration
 
 -- the layout text of a record
 abbrev pub text_in : Source → List ℕ
-text_in source = layout_text (plan_variables_of_text source)
+text_in source = layout_text (enumerations_of_text source) (plan_variables_of_text source)
 
 -- lines, each with its LF
 abbrev pub lines_of : List (List ℕ) → List ℕ

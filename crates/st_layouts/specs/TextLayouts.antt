@@ -3,12 +3,15 @@ use Rattle.std.specs.Prelude.{ℕ, ◌+◌, List, [], ◌∷◌, ◌++◌, map, 
 use Rattle.st_words.specs.declared.path.Step.{Step}
 use Rattle.st_words.specs.declared.kind.Kind.{Kind}
 use Rattle.st_words.specs.Paths.{Path}
+use Rattle.st_trees.specs.Declarations.{TypeDeclaration}
 use Rattle.st_trees.specs.Sources.{Source}
+use Rattle.st_types.specs.Enumerations.{enumerations_of}
 use Rattle.st_types.specs.NameTypes.{Declared}
 use Rattle.st_types.specs.Slots.{Slot}
 use Rattle.st_types.specs.Stores.{Store}
 use Rattle.st_plans.specs.declared.plan.PlanVariable.{PlanVariable}
 use Rattle.st_plans.specs.declared.plan.PlanInput.{PlanInput}
+use Rattle.st_plans.specs.Layouts.{Enumerations}
 use Rattle.st_layouts.specs.Shapes.{Shape, Leaf, leaves_of, instance_count}
 use Rattle.st_layouts.specs.Types.{shape_of_type}
 use Rattle.st_layouts.specs.Sites.{initial_at, retained_at, default_of}
@@ -94,6 +97,13 @@ plan_variables_of_text source = plan_variables_of (declared_of source) (layout_v
 
 abbrev pub plan_inputs_of_text : Source → List PlanInput
 plan_inputs_of_text source = plan_inputs_of (declared_of source) (layout_variables source)
+
+-- the names of its enumerated types, in the order of their numbers
+abbrev pub enumeration_names : List TypeDeclaration → Enumerations
+enumeration_names ts = map (λ e. map (λ x. x.name) e.names) (enumerations_of ts)
+
+abbrev pub enumerations_of_text : Source → Enumerations
+enumerations_of_text source = enumeration_names (declared_of source).types
 
 -- how many instances of blocks its layout has
 abbrev pub instances_of_text : Source → ℕ
