@@ -47,7 +47,7 @@ no_plant_fault e fault is h = subst (λ (f : Fault). IsTraceFault f) is h
 
 -- the report of what was found is that of the life whose trace it is
 pub told_so : (plan : Plan) (rows : List Latch) (trace told : List ℕ) (r : Replayed)
-    → told ≡ report_text (counts_of r) plan.variables.items r.values.items
+    → told ≡ report_text (counts_of r) (map vec_items plan.enumerations.items) plan.variables.items r.values.items
     → (mode : StartMode) (start : Start) (log : Log) → IsTrace plan rows trace mode start log
     → AreFindings plan start log r.rows r.done r.faults r.overruns r.values.items
     → ((m : StartMode) (s : Start) (l : Log) → IsTrace plan rows trace m s l

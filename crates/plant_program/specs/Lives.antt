@@ -1,5 +1,6 @@
 -- What is told of a life.
-use Rattle.std.specs.Prelude.{◌≡◌, ℕ, List, Option, None}
+use Rattle.std.specs.Prelude.{◌≡◌, ℕ, List, map, Option, None}
+use Rattle.std.specs.Vec.{vec_items}
 use Rattle.st_words.specs.Values.{Datum}
 use Rattle.st_plans.specs.Logs.{Log}
 use Rattle.st_plans.specs.Restarts.{Start}
@@ -26,4 +27,4 @@ pub record IsReport (plan : Plan) (start : Start) (log : Log) (acked : Option �
   pub values : List Datum
   pub found : AreFindings plan start log counts.rows counts.done counts.faults counts.overruns values
   pub acked_are : counts.acked ≡ acked
-  pub spelled : text ≡ report_text counts plan.variables.items values
+  pub spelled : text ≡ report_text counts (map vec_items plan.enumerations.items) plan.variables.items values

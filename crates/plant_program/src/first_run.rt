@@ -50,7 +50,7 @@ fn built_in_rows(alloc: Global) -> Result<Vec<Row>, AllocError> {
 /// The line that tells the value of a variable.
 fn line_of(alloc: Global, path: &Path, value: Value) -> Result<Vec<u8>, Fault> {
     let mut line = Vec::new(alloc);
-    match write_variable(&mut line, path, value) {
+    match write_variable(&mut line, &[], path, value) {
         Ok(()) => Ok(line),
         Err(_) => Err(Fault::NO_MEMORY),
     }

@@ -79,5 +79,6 @@ pub fn report_of<D: Disk>(alloc: Global, core: &Core<D>) -> Result<Vec<u8>, Allo
         core.now.state.log }
 {
     let counts = counts(core);
-    report_with(alloc, &counts, &core.plan().variables, core.values())
+    let plan = core.plan();
+    report_with(alloc, &counts, &plan.enumerations, &plan.variables, core.values())
 }

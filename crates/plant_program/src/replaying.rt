@@ -1,6 +1,7 @@
 //! Traces that are run again.
 
-ghost use Rattle.std.specs.Prelude.{◌≡◌, ◌≢◌, ◌⊎◌, List, ℕ, None, IfOk, IfErr};
+ghost use Rattle.std.specs.Prelude.{◌≡◌, ◌≢◌, ◌⊎◌, List, ℕ, None, IfOk, IfErr, map};
+ghost use Rattle.std.specs.Vec.{vec_items};
 ghost use Rattle.st_plans.specs.Rows.{Latch};
 ghost use Rattle.image.specs.Plants.{AreRowsOf};
 ghost use Rattle.traces.specs.Replays.{AreToldApart};
@@ -53,7 +54,8 @@ fn read_trace<F: Files>(alloc: Global, files: &mut F, name: &str) -> Result<Vec<
 /// The report of a life that was run again; the only fault is out of memory.
 fn report_of(alloc: Global, plan: &Plan, found: &Replayed) -> Result<Vec<u8>, Fault>
     ensures told { IfOk result (λ text.
-        text.items ≡ report_text (counts_of found.now) plan.now.variables.items found.now.values.items) }
+        text.items ≡ report_text (counts_of found.now) (map vec_items plan.now.enumerations.items)
+        plan.now.variables.items found.now.values.items) }
     ensures memory { IfErr result (λ fault. IsTraceFault fault → ⊥) }
 {
     let counts = Counts {
@@ -63,7 +65,7 @@ fn report_of(alloc: Global, plan: &Plan, found: &Replayed) -> Result<Vec<u8>, Fa
         overruns: found.overruns,
         acked: None,
     };
-    match report_with(alloc, &counts, &plan.variables, &found.values) {
+    match report_with(alloc, &counts, &plan.enumerations, &plan.variables, &found.values) {
         Ok(report) => Ok(report),
         Err(_) => Err(Fault::NO_MEMORY),
     }

@@ -6,7 +6,7 @@ use crate::row_error::RowError;
 use crate::words::{count, number, split};
 use commit_lock::{Core, Reply, StartMode};
 use disk::SimDisk;
-use slot_run::{Execution, Snapshot, run};
+use coded_runs::{Execution, Snapshot, run};
 use st_plans::Row;
 use st_words::Value;
 use std::alloc::Global;

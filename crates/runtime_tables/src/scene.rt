@@ -24,7 +24,7 @@ use crate::words::{count, number, split, write_bytes, write_number};
 use commit_lock::StartMode;
 use plc_threads::Pace;
 use scene_tables::unescaped;
-use slot_run::Execution;
+use coded_runs::Execution;
 use std::alloc::{AllocError, Global};
 use std::rt::Clock;
 use std::sync::Wait;

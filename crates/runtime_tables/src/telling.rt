@@ -3,7 +3,7 @@
 use crate::words::write_number;
 use commit_lock::{Answer, Core, Refusal, Reply, StartFault};
 use disk::SimDisk;
-use slot_run::{Cell, Execution};
+use coded_runs::{Cell, Execution};
 use st_types::Outcome;
 use st_words::{Name, Path};
 use std::alloc::{AllocError, Global};

@@ -1,4 +1,10 @@
-pub mod ListLemmas
-pub mod AddressLemmas
-pub mod PlanLemmas
-pub mod LackLemmas
+mod ListLemmas
+mod LayoutLemmas
+mod NumberedLemmas
+mod EnumerationLemmas
+mod RecordLemmas
+mod TaskLemmas
+mod PlaceLemmas
+mod TriggerLemmas
+mod SingleLemmas
+mod PlanLemmas

@@ -1,125 +1,108 @@
--- Lists by their mirrors, and lists in which some part may be missing.
-use Rattle.std.proofs.Common.{◌≡◌, ◌∙◌, ap, sym, ℕ, zero, suc, ◌+◌, ◌<◌, List, [], ◌∷◌, ◌++◌, map, length, take, drop}
-use Rattle.std.proofs.Common.{get_or, Bool, true, false, ◌||◌, Option, Some, None, refl, arith, append_assoc}
-use Rattle.std.specs.Prelude.{flat_map, position, nat_lt, cond, not}
-use Rattle.std.specs.List.{list_all, list_any, prefix_len}
-use Rattle.std.proofs.lemmas.List.Folds.{list_all-map, list_any-append}
-use Rattle.std.proofs.lemmas.List.{map-append, length-map, length-append}
-use Rattle.std.proofs.Math.Seq.{drop-cons}
-use Rattle.std.proofs.Math.Numerals.{suc-eq-add-one}
-use Rattle.st_build.specs.Lists.{is_missing}
+-- Lists.
+use Rattle.std.proofs.Common.{◌≡◌, ◌+◌, ℕ, zero, suc, refl, sym, ap, ◌∙◌, subst, arith, Bool, true, false, ◌&&◌, ◌||◌}
+use Rattle.std.proofs.Common.{if◌then◌else◌, List, [], ◌∷◌, ◌++◌, map, length, slice_get, Option, Some, None, option_map}
+use Rattle.std.specs.Prelude.{nat_lt, position}
+use Rattle.std.specs.List.{list_all, list_any, position_or_len}
+use Rattle.std.proofs.lemmas.Bool.Decides.{nat_tests}
 
-pub all_viewed : {X Y : Type 0} (p : X → Bool) (view : Y → X) (ys : List Y)
-    → list_all p (map view ys) ≡ list_all (λ y. p (view y)) ys
-all_viewed p view ys = list_all-map p view ys
+pub some_is : {A : Type 0} {x y : A} → ◌≡◌ {A = Option A} (Some x) (Some y) → x ≡ y
+some_is h = cc
 
-pub any_viewed : {X Y : Type 0} (p : X → Bool) (view : Y → X) (ys : List Y)
-    → list_any p (map view ys) ≡ list_any (λ y. p (view y)) ys
-any_viewed p view [] = refl
-any_viewed p view (y ∷ ys) = ap (λ b. p (view y) || b) (any_viewed p view ys)
+pub both : (a b : Bool) → (a && b) ≡ true → (a ≡ true) × (b ≡ true)
+both true b h = (refl, h)
+both false b h = absurd (cc)
 
-pub parts_viewed : {X Y Z : Type 0} (f : X → List Z) (view : Y → X) (ys : List Y)
-    → flat_map f (map view ys) ≡ flat_map (λ y. f (view y)) ys
-parts_viewed f view [] = refl
-parts_viewed f view (y ∷ ys) = ap (λ v. f (view y) ++ v) (parts_viewed f view ys)
+pub both_are : (a b : Bool) → a ≡ true → b ≡ true → (a && b) ≡ true
+both_are true b h k = k
+both_are false b h k = absurd (cc)
 
-pub count_viewed : {X Y : Type 0} (view : Y → X) (ys : List Y) → length (map view ys) ≡ length ys
-count_viewed view ys = length-map ys view
+pub all_append : {A : Type 0} (p : A → Bool) (xs ys : List A) → list_all p xs ≡ true → list_all p ys ≡ true
+    → list_all p (xs ++ ys) ≡ true
+all_append p [] ys h k = k
+all_append p (x ∷ xs) ys h k =
+    let b = both (p x) (list_all p xs) h in both_are (p x) (list_all p (xs ++ ys)) b.0 (all_append p xs ys b.1 k)
 
-front_viewed : {X Y : Type 0} (p : X → Bool) (view : Y → X) (ys : List Y)
-    → prefix_len p (map view ys) ≡ prefix_len (λ y. p (view y)) ys
-front_viewed p view [] = refl
-front_viewed p view (y ∷ ys) = ap (λ n. cond (p (view y)) (1 + n) 0) (front_viewed p view ys)
+pub all_get : {A : Type 0} (p : A → Bool) (xs : List A) (k : ℕ) (x : A) → list_all p xs ≡ true
+    → slice_get xs k ≡ Some x → p x ≡ true
+all_get p [] k x h g = absurd (cc)
+all_get p (y ∷ xs) zero x h g = ap p (sym (some_is g)) ∙ (both (p y) (list_all p xs) h).0
+all_get p (y ∷ xs) (suc k) x h g = all_get p xs k x (both (p y) (list_all p xs) h).1 g
 
-pub position_viewed : {X Y : Type 0} (p : X → Bool) (view : Y → X) (ys : List Y)
-    → position p (map view ys) ≡ position (λ y. p (view y)) ys
-position_viewed p view ys =
-    ap (λ n. cond (nat_lt n (length (map view ys))) (Some n) None) (front_viewed (λ x. not (p x)) view ys)
-    ∙ ap (λ n. cond (nat_lt (prefix_len (λ y. not (p (view y))) ys) n) (Some (prefix_len (λ y. not (p (view y))) ys))
-    None) (length-map ys view)
+pub map_append : {A B : Type 0} (f : A → B) (xs ys : List A) → map f (xs ++ ys) ≡ map f xs ++ map f ys
+map_append f [] ys = refl
+map_append f (x ∷ xs) ys = ap (λ zs. f x ∷ zs) (map_append f xs ys)
 
-pub item_at : {X : Type 0} (xs : List X) (i : ℕ) (d : X) → i < length xs → drop i xs ≡ get_or xs i d ∷ drop (i + 1) xs
-item_at xs i d lt = drop-cons xs i d lt ∙ ap (λ n. get_or xs i d ∷ drop n xs) (suc-eq-add-one i)
+pub map_map : {A B C : Type 0} (f : B → C) (g : A → B) (xs : List A) → map f (map g xs) ≡ map (λ x. f (g x)) xs
+map_map f g [] = refl
+map_map f g (x ∷ xs) = ap (λ zs. f (g x) ∷ zs) (map_map f g xs)
 
--- how many parts there are from one on
-pub count_here : {X Y : Type 0} (f : Y → List X) (ys : List Y) (i : ℕ) (d : Y) → i < length ys
-    → length (flat_map f (drop i ys)) ≡ length (f (get_or ys i d)) + length (flat_map f (drop (i + 1) ys))
-count_here f ys i d lt = ap (λ v. length (flat_map f v)) (item_at ys i d lt)
-    ∙ length-append (f (get_or ys i d)) (flat_map f (drop (i + 1) ys))
+pub length_map : {A B : Type 0} (f : A → B) (xs : List A) → length (map f xs) ≡ length xs
+length_map f [] = refl
+length_map f (x ∷ xs) = let h = length_map f xs in omega arith
 
--- one part more
-pub part_more : {X Y : Type 0} (f : Y → Option X) (ys : List Y) (i : ℕ) (d : Y) (done all : List X) (x : X)
-    (whole : List (Option X)) → i < length ys
-    → map Some done ++ map f (drop i ys) ≡ whole → f (get_or ys i d) ≡ Some x → all ≡ done ++ x ∷ []
-    → map Some all ++ map f (drop (i + 1) ys) ≡ whole
-part_more f ys i d done all x whole lt h is pushed =
-    ap (λ v. map Some v ++ map f (drop (i + 1) ys)) pushed
-    ∙ ap (λ v. v ++ map f (drop (i + 1) ys)) (map-append Some done (x ∷ []))
-    ∙ append_assoc (map Some done) (Some x ∷ []) (map f (drop (i + 1) ys))
-    ∙ ap (λ v. map Some done ++ v ∷ map f (drop (i + 1) ys)) (sym is)
-    ∙ ap (λ v. map Some done ++ map f v) (sym (item_at ys i d lt))
-    ∙ h
+pub length_both : {A : Type 0} (xs ys : List A) → length (xs ++ ys) ≡ length xs + length ys
+length_both [] ys = refl
+length_both (x ∷ xs) ys = let h = length_both xs ys in omega arith
 
--- the parts of one more
-pub parts_more : {X Y Z : Type 0} (g : Z → List (Option X)) (view : Y → Z) (ys : List Y) (i : ℕ) (d : Y)
-    (done all : List X) (whole : List (Option X)) → i < length ys
-    → map Some done ++ flat_map g (map view (drop i ys)) ≡ whole
-    → map Some all ≡ map Some done ++ g (view (get_or ys i d))
-    → map Some all ++ flat_map g (map view (drop (i + 1) ys)) ≡ whole
-parts_more g view ys i d done all whole lt h is =
-    ap (λ v. v ++ flat_map g (map view (drop (i + 1) ys))) is
-    ∙ append_assoc (map Some done) (g (view (get_or ys i d))) (flat_map g (map view (drop (i + 1) ys)))
-    ∙ ap (λ v. map Some done ++ flat_map g (map view v)) (sym (item_at ys i d lt))
-    ∙ h
+pub get_map : {A B : Type 0} (f : A → B) (xs : List A) (k : ℕ) → slice_get (map f xs) k ≡ option_map f (slice_get xs k)
+get_map f [] k = refl
+get_map f (x ∷ xs) zero = refl
+get_map f (x ∷ xs) (suc k) = get_map f xs k
 
-or_right : (a : Bool) (b : Bool) → b ≡ true → (a || b) ≡ true
-or_right true b h = refl
-or_right false b h = h
+pub mapped : {A B : Type 0} (f : A → B) (o : Option A) (y : B) → option_map f o ≡ Some y → (x : A) × (o ≡ Some x) × (f x ≡ y)
+mapped f (Some x) y h = (x, refl, some_is h)
+mapped f None y h = absurd (cc)
 
-or_left : (a : Bool) (b : Bool) → a ≡ true → (a || b) ≡ true
-or_left true b h = refl
-or_left false b h = absurd (cc)
+pub get_left : {A : Type 0} (xs ys : List A) (k : ℕ) (x : A) → slice_get xs k ≡ Some x → slice_get (xs ++ ys) k ≡ Some x
+get_left [] ys k x h = absurd (cc)
+get_left (y ∷ xs) ys zero x h = h
+get_left (y ∷ xs) ys (suc k) x h = get_left xs ys k x h
 
--- where a part is missing, it is missing in the whole
-pub missing_at : {X Y : Type 0} (f : Y → Option X) (ys : List Y) (i : ℕ) (d : Y) → i < length ys
-    → f (get_or ys i d) ≡ None → list_any is_missing (map f ys) ≡ true
-missing_at f [] i d lt is = absurd (omega arith)
-missing_at f (y ∷ ys) zero d lt is = ap (λ v. is_missing v || list_any is_missing (map f ys)) is
-missing_at f (y ∷ ys) (suc i) d lt is = or_right (is_missing (f y)) _ (missing_at f ys i d (omega arith) is)
+pub get_right : {A : Type 0} (xs ys : List A) (k : ℕ) → slice_get (xs ++ ys) (length xs + k) ≡ slice_get ys k
+get_right [] ys k = refl
+get_right (x ∷ xs) ys k = get_right xs ys k
 
-pub missing_in : {X Y Z : Type 0} (g : Z → List (Option X)) (view : Y → Z) (ys : List Y) (i : ℕ) (d : Y) → i < length ys
-    → list_any is_missing (g (view (get_or ys i d))) ≡ true
-    → list_any is_missing (flat_map g (map view ys)) ≡ true
-missing_in g view [] i d lt is = absurd (omega arith)
-missing_in g view (y ∷ ys) zero d lt is =
-    list_any-append is_missing (g (view y)) (flat_map g (map view ys)) ∙ or_left (list_any is_missing (g (view y))) _ is
-missing_in g view (y ∷ ys) (suc i) d lt is =
-    list_any-append is_missing (g (view y)) (flat_map g (map view ys))
-    ∙ or_right (list_any is_missing (g (view y))) _ (missing_in g view ys i d (omega arith) is)
+-- ---- the first that passes
 
--- where all parts are there, none is missing
-pub none_missing : {X : Type 0} (xs : List X) → list_any is_missing (map Some xs) ≡ false
-none_missing [] = refl
-none_missing (x ∷ xs) = none_missing xs
+position_then : {A : Type 0} (p : A → Bool) (x : A) (xs : List A) (b : Bool) → p x ≡ b
+    → position p (x ∷ xs) ≡ (if b then Some 0 else option_map suc (position p xs))
+position_then p x xs true e = rw e refl
+position_then p x xs false e = rw e (by_test (nat_lt (position_or_len p xs) (length xs)) refl)
+  where
+    by_test : (t : Bool) → nat_lt (position_or_len p xs) (length xs) ≡ t
+        → (if t then Some (suc (position_or_len p xs)) else None)
+        ≡ option_map suc (if t then Some (position_or_len p xs) else None)
+    by_test true h = refl
+    by_test false h = refl
 
-abbrev or_of_some : {X : Type 0} → X → Option X → X
-or_of_some d (Some x) = x
-or_of_some d None = d
+pub position_step : {A : Type 0} (p : A → Bool) (x : A) (xs : List A)
+    → position p (x ∷ xs) ≡ (if p x then Some 0 else option_map suc (position p xs))
+position_step p x xs = position_then p x xs (p x) refl
 
-abbrev head_or : {X : Type 0} → X → List X → X
-head_or d [] = d
-head_or d (x ∷ xs) = x
+-- where one passes there is a first
+pub record First {A : Type 0} (p : A → Bool) (xs : List A) : Type 0 where
+  pub number : ℕ
+  pub one : A
+  pub is : position p xs ≡ Some number
+  pub at : slice_get xs number ≡ Some one
 
-abbrev tail_of : {X : Type 0} → List X → List X
-tail_of [] = []
-tail_of (x ∷ xs) = xs
-
--- and they are the same parts
-pub same_parts : {X : Type 0} (xs ys : List X) → map Some xs ≡ map Some ys → xs ≡ ys
-same_parts [] [] h = refl
-same_parts [] (y ∷ ys) h = absurd (cc)
-same_parts (x ∷ xs) [] h = absurd (cc)
-same_parts (x ∷ xs) (y ∷ ys) h =
-    let first : x ≡ y = ap (λ v. or_of_some x (head_or None v)) h in
-    let rest : xs ≡ ys = same_parts xs ys (ap tail_of h) in
-    rw (first, rest) refl
+pub first_there : {A : Type 0} (p : A → Bool) (xs : List A) → list_any p xs ≡ true → First p xs
+first_there p [] h = absurd (cc)
+first_there p (x ∷ xs) h = by_test (p x) refl h
+  where
+    by_test : (b : Bool) → p x ≡ b → (b || list_any p xs) ≡ true → First p (x ∷ xs)
+    by_test true e k = record {
+      number = 0;
+      one = x;
+      is = position_step p x xs ∙ ap (λ b. if b then Some 0 else option_map suc (position p xs)) e;
+      at = refl;
+    }
+    by_test false e k =
+        let f = first_there p xs k in
+        record {
+          number = suc f.number;
+          one = f.one;
+          is = position_step p x xs ∙ ap (λ b. if b then Some 0 else option_map suc (position p xs)) e
+              ∙ ap (option_map suc) f.is;
+          at = f.at;
+        }

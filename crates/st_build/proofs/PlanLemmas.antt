@@ -1,362 +1,444 @@
--- A text has one plan, or a refusal.
-use Rattle.std.proofs.Common.{◌≡◌, ◌∙◌, ◌<◌, ◌≤◌, ap, sym, subst, refl, ℕ, ◌+◌, List, [], ◌∷◌, map, length, Bool, true}
-use Rattle.std.proofs.Common.{false, ◌&&◌, Some, Ok, Err, Result, IfOk, IfErr, rules, arith}
-use Rattle.std.specs.Prelude.{nat_le, ◌==◌}
-use Rattle.std.specs.Global.{Vec}
-use Rattle.st_words.specs.declared.limits.TheConstants.{MAX_TASKS, MAX_PROGRAMS}
-use Rattle.st_trees.specs.declared.source.Source.{Source as Tree}
-use Rattle.std.specs.List.{list_all, Contains}
-use Rattle.std.proofs.lemmas.Bool.{and_parts}
+-- The plan that is made of a text is its plan, and a sound one.
+use Rattle.std.proofs.Common.{◌≡◌, ◌+◌, ◌<◌, ◌≤◌, ℕ, zero, suc, refl, sym, ap, ap₂, ◌∙◌, subst, arith, Bool, true, false}
+use Rattle.std.proofs.Common.{◌&&◌, ◌||◌, not, if◌then◌else◌, List, [], ◌∷◌, ◌++◌, map, length, slice_get, Option, Some, None}
+use Rattle.std.proofs.Common.{option_map, slice_index_or}
+use Rattle.std.specs.Prelude.{nat_lt, nat_le, is_some, filter}
+use Rattle.std.specs.List.{flat_map, list_all, list_any}
 use Rattle.std.proofs.lemmas.Bool.Decides.{nat_tests}
-use Rattle.st_words.specs.declared.limits.TheConstants.{MAX_BUDGET, MAX_PATHS, MAX_RECORD_BODY}
-use Rattle.st_trees.specs.Units.{OrganisationUnit}
-use Rattle.st_trees.specs.Configurations.{Configuration}
+use Rattle.st_words.specs.declared.identifier.Identifier.{Identifier}
+use Rattle.st_words.specs.declared.path.Owner.{Owner}
+use Rattle.st_words.specs.declared.limits.TheConstants.{MAX_PATHS, MAX_PROGRAMS, MAX_RECORD_BODY, MAX_RESOURCES, MAX_TASKS}
+use Rattle.st_trees.specs.declared.configuration.Instance.{Instance}
+use Rattle.st_trees.specs.declared.configuration.Task as declared_task
+use Rattle.st_trees.specs.Configurations.{Configuration, GlobalBlock, Resource}
+use Rattle.st_trees.specs.Sources as sources
 use Rattle.st_trees.specs.Sources.{Source}
-use Rattle.st_plans.specs.declared.plan.PlanVariable.{PlanVariable}
-use Rattle.st_plans.specs.declared.plan.PlanInput.{PlanInput}
-use Rattle.st_types.specs.NameTypes.{units_in}
-use Rattle.st_plans.specs.Layouts.{record_length}
-use Rattle.st_plans.specs.Plans as plans
-use Rattle.st_lex.specs.declared.token.Token.{Token}
-use Rattle.st_lex.specs.declared.fault.LexError.{LexError}
-use Rattle.st_lex.specs.declared.fault.LexError.TheVariants as lexing
-use Rattle.st_lex.specs.Texts.{GivesTokens}
-use Rattle.st_statements.specs.declared.fault.ParseError.{ParseError}
-use Rattle.st_statements.specs.declared.fault.ParseError.TheVariants as grammar
-use Rattle.st_parse.specs.Answers.{Answers}
-use Rattle.config.specs.declared.plan.Plan.{Plan}
-use Rattle.config.specs.PlanViews.{plan_view}
-use Rattle.config.specs.declared.thin_program.ThinProgram.{ThinProgram}
-use Rattle.config.specs.Sound.{are_different}
-use Rattle.config.specs.Thin.{is_thin_unit}
-use Rattle.config.specs.ThinPlans.{is_thin, is_thin_variable, is_thin_input, names_of, is_thin_program, programs_on}
-use Rattle.config.specs.ThinPlans.{is_within, thin_plan}
-use Rattle.st_build.specs.declared.build_error.BuildError.{BuildError}
-use Rattle.st_build.specs.declared.build_error.BuildError.TheVariants as errors
+use Rattle.st_types.specs.NameTypes.{Declared, declared_in}
 use Rattle.st_types.specs.ResolvedUnits.{resolved_source}
-use Rattle.st_statics.specs.declared.rule.Broken.{Broken}
-use Rattle.st_statics.specs.Rules.{broken, Breaks, IsWellTyped}
-use Rattle.st_check.specs.Checked.{IsCheckedFrom}
-use Rattle.st_build.specs.TextParts.{configurations_in, has_types, IsNotConfigured}
-use Rattle.st_build.specs.Refusals.{HasGlobals, HasTooManyPaths, HasThinRecordTooLong}
-use Rattle.st_build.specs.Plans.{MeetsRules, HasPrograms, IsPlanFrom, IsPlanOfTree, IsPlanOf, IsUnsupported, IsBeyond}
-use Rattle.st_build.specs.Plans.{LacksPlan, TreeLacksPlan, SourceLacksPlan, IsMemory, GivesPlan}
-use Rattle.st_build.proofs.ListLemmas.{same_parts}
+use Rattle.st_types.specs.Runs.{Program}
+use Rattle.st_types.specs.Slots.{Slot, IsLayout}
+use Rattle.st_statics.specs.ConfigurationRules as rules_of
+use Rattle.st_statics.specs.ConfigurationRules.{are_known, has_known_externals, is_known_instance, is_known_resource}
+use Rattle.st_statics.specs.ConfigurationRules.{is_known_single, is_known_task, is_program_unit}
+use Rattle.st_sound.proofs.WellTypedTexts.{parts_right}
+use Rattle.st_plans.specs.declared.plan.PlanInput.{PlanInput}
+use Rattle.st_plans.specs.declared.plan.PlanVariable.{PlanVariable}
+use Rattle.st_plans.specs.Layouts.{Enumerations, layout_of, path_text, record_length}
+use Rattle.st_plans.specs.Plans as plans
+use Rattle.st_layouts.specs.LayoutVariables.{configurations_in, configuration_of, only_configuration}
+use Rattle.st_layouts.specs.Libraries.{programs_of_configuration, programs_of_text, programs_of_resources}
+use Rattle.st_layouts.specs.TextLayouts.{enumerations_of_text, plan_inputs_of_text, plan_variables_of_text, slots_of_text}
+use Rattle.st_layouts.proofs.ResolvedLemmas.{configuration_taken, taken_configuration}
+use Rattle.st_stores.proofs.DifferentNames.{text_layout}
+use Rattle.layout.specs.declared.slots.LayoutSlot.{LayoutSlot}
+use Rattle.layout.specs.TextLayouts.{IsLayoutOf, slot_view, variables_among, inputs_among}
+use Rattle.coded_programs.specs.Codes.{CodeView, code_view}
+use Rattle.coded_programs.specs.Meanings.{Means}
+use Rattle.text_codes.specs.Codes.{AreCodesOf, IsMeant}
+use Rattle.config.specs.declared.task.ProgramInstance.{ProgramInstance}
+use Rattle.config.specs.declared.task.Task.{Task}
+use Rattle.config.specs.PlanViews.{task_view, program_view}
+use Rattle.config.specs.SlotPlaces.{are_numbered, slots_among}
+use Rattle.config.specs.Sound.{has_line, are_different, is_of_resource, is_sound_trigger, IsCodeOf, IsWithinLimits}
+use Rattle.config.specs.Sound.{PlanInvariant, tasks_of}
+use Rattle.config.specs.Sources.{no_program, program_numbered, programs_of_tree}
+use Rattle.st_build.specs.declared.places.Place.{Place}
+use Rattle.st_build.specs.NumberedSlots.{numbered_from}
+use Rattle.st_build.specs.Places.{places_from}
+use Rattle.st_build.specs.Programs.{CodedInstance, instance_view, instances_from}
+use Rattle.st_build.specs.Readiness.{IsJudged, IsReady}
+use Rattle.st_build.specs.Tasks.{tasks_from}
+use Rattle.st_build.specs.TextPlans.{instance_at, instances_at, plan_of_text, resources_in, resources_of, task_of}
+use Rattle.st_build.specs.TextPlans.{IsPlanOf}
+use Rattle.st_build.proofs.LayoutLemmas.{in_one_part, parts_are_layout}
+use Rattle.st_build.proofs.ListLemmas.{some_is, both, both_are, all_append, all_get, get_map, mapped, length_map}
+use Rattle.st_build.proofs.NumberedLemmas.{numbered, slots_are}
+use Rattle.st_build.proofs.PlaceLemmas.{owners_in, owners_of_places, owners_of_programs, places_counted, places_run, runs_in}
+use Rattle.st_build.proofs.SingleLemmas.{boolean_global}
+use Rattle.st_build.proofs.TaskLemmas.{resources_there, tasks_are_few}
+use Rattle.st_build.proofs.TriggerLemmas.{AllSingles, AreBoolean, AreSingles, singles_sound, tasks_viewed}
 
--- the limits that a thin plan keeps
-record Limits (variables : List PlanVariable) (inputs : List PlanInput) (budget : ℕ) : Type 0 where
-  paths : nat_le (length variables + length inputs) MAX_PATHS ≡ true
-  least : nat_le 1 budget ≡ true
-  most : nat_le budget MAX_BUDGET ≡ true
-  long : nat_le (record_length variables) MAX_RECORD_BODY ≡ true
+neither : (a b : Bool) → (a || b) ≡ false → (a ≡ false) × (b ≡ false)
+neither true b h = absurd (cc)
+neither false b h = (refl, h)
 
-limits_of : (units : List OrganisationUnit) (vs : List PlanVariable) (is : List PlanInput) (ps : List ThinProgram)
-    (budget : ℕ) → is_thin units vs is ps budget ≡ true → Limits vs is budget
-limits_of units vs is ps budget h =
-    let a = and_parts (list_all is_thin_variable vs) _ h in
-    let b = and_parts (list_all is_thin_input is) _ a.1 in
-    let c = and_parts (are_different (names_of vs is)) _ b.1 in
-    let d = and_parts (list_all (is_thin_unit vs is) units) _ c.1 in
-    let e = and_parts (list_all (is_thin_program (length units)) ps) (is_within vs is ps budget) d.1 in
-    let f = and_parts (nat_le (length vs + length is) MAX_PATHS) _ e.1 in
-    let g = and_parts (nat_le (length ps) MAX_PROGRAMS) _ f.1 in
-    let i = and_parts (list_all (λ p. nat_le (programs_on p.resource ps) MAX_TASKS) ps) _ g.1 in
-    let j = and_parts (nat_le 1 budget) _ i.1 in
-    let k = and_parts (nat_le budget MAX_BUDGET) (nat_le (record_length vs) MAX_RECORD_BODY) j.1 in
-    record { paths = f.0; least = j.0; most = k.0; long = k.1 }
+-- ---- the only configuration
 
-same_variables : (c : Configuration) (vs ws : List PlanVariable) (is js : List PlanInput) → HasGlobals c vs is
-    → HasGlobals c ws js → vs ≡ ws
-same_variables c vs ws is js a b = same_parts vs ws (a.variables_are ∙ sym b.variables_are)
+only_of : (cs : List Configuration) (c : Configuration) → cs ≡ c ∷ [] → only_configuration cs ≡ Some c
+only_of cs c h = ap only_configuration h
 
-same_inputs : (c : Configuration) (vs ws : List PlanVariable) (is js : List PlanInput) → HasGlobals c vs is
-    → HasGlobals c ws js → is ≡ js
-same_inputs c vs ws is js a b = same_parts is js (a.inputs_are ∙ sym b.inputs_are)
+same_configurations : (source : Source) → rules_of.configurations_in source ≡ configurations_in source
+same_configurations [] = refl
+same_configurations (sources.types ts ∷ rest) = same_configurations rest
+same_configurations (sources.unit u ∷ rest) = same_configurations rest
+same_configurations (sources.configuration c ∷ rest) = ap (λ cs. c ∷ cs) (same_configurations rest)
 
--- units and a configuration have one plan
-one_plan : (units : List OrganisationUnit) (c : Configuration) (budget : ℕ) (p q : plans.Plan)
-    → IsPlanFrom units c budget p → IsPlanFrom units c budget q → p ≡ q
-one_plan units c budget p q a b =
-    let v = same_variables c a.variables b.variables a.inputs b.inputs a.globals b.globals in
-    let i = same_inputs c a.variables b.variables a.inputs b.inputs a.globals b.globals in
-    let r = same_parts a.programs b.programs (a.programs_are.programs_are ∙ sym b.programs_are.programs_are) in
-    a.is ∙ ap (λ x. thin_plan units x a.inputs a.programs budget) v
-    ∙ ap (λ x. thin_plan units b.variables x a.programs budget) i
-    ∙ ap (λ x. thin_plan units b.variables b.inputs x budget) r ∙ sym b.is
+-- ---- what is known of resources
 
--- units and a configuration that have a plan are refused only where memory runs out
-not_refused : (units : List OrganisationUnit) (c : Configuration) (budget : ℕ) (p : plans.Plan) (e : BuildError)
-    → IsPlanFrom units c budget p → LacksPlan units c budget e → IsMemory e
-not_refused units c budget p errors.Unknown a h = let k = a.kept.known in absurd (cc)
-not_refused units c budget p errors.Address a h = let k = a.kept.addresses in absurd (cc)
-not_refused units c budget p errors.TooMany a h = let k = a.kept.few in absurd (cc)
-not_refused units c budget p errors.NoTask a h = let k = a.kept.tasked in absurd (cc)
-not_refused units c budget p errors.TooManyPaths a h =
-    let v = same_variables c h.variables a.variables h.inputs a.inputs h.globals a.globals in
-    let i = same_inputs c h.variables a.variables h.inputs a.inputs h.globals a.globals in
-    let many : MAX_PATHS < length a.variables + length a.inputs = rw (v, i) at h.many in
-    let paths = (limits_of units a.variables a.inputs a.programs budget a.thin).paths in
-    absurd (grind (arith, nat_tests))
-not_refused units c budget p errors.RecordTooLong a h =
-    let v = same_variables c h.variables a.variables h.inputs a.inputs h.globals a.globals in
-    let longer : MAX_RECORD_BODY < record_length a.variables = rw v at h.long in
-    let long = (limits_of units a.variables a.inputs a.programs budget a.thin).long in
-    absurd (grind (arith, nat_tests))
-not_refused units c budget p errors.Unsupported a h = absurd (h.none p a)
-not_refused units c budget p errors.Memory a h = h
-not_refused units c budget p errors.Budget a h = h
-not_refused units c budget p errors.NoConfiguration a h = h
-not_refused units c budget p (errors.Rule x) a h = absurd h
-not_refused units c budget p (errors.Words x) a h = absurd h
-not_refused units c budget p (errors.Grammar x) a h = absurd h
+instances_known : (text : Declared) (blocks : List GlobalBlock) (rs : List Resource)
+    → list_all (is_known_resource text blocks) rs ≡ true
+    → list_all (λ r. list_all (is_known_instance text r.tasks) r.instances) rs ≡ true
+instances_known text blocks [] h = refl
+instances_known text blocks (r ∷ rs) h =
+    let b = both (is_known_resource text blocks r) (list_all (is_known_resource text blocks) rs) h in
+    let k = both (list_all (is_known_instance text r.tasks) r.instances)
+    (list_all (λ t. is_known_single text blocks t.single) r.tasks) b.0 in
+    both_are (list_all (is_known_instance text r.tasks) r.instances)
+    (list_all (λ q. list_all (is_known_instance text q.tasks) q.instances) rs) k.0 (instances_known text blocks rs b.1)
 
--- parts that make no plan
-pub not_thin : (units : List OrganisationUnit) (c : Configuration) (budget : ℕ) (vs : List PlanVariable)
-    (is : List PlanInput) (ps : List ThinProgram)
-    → HasGlobals c vs is → HasPrograms units c ps → is_thin units vs is ps budget ≡ false
-    → (plan : plans.Plan) → IsPlanFrom units c budget plan → ⊥
-not_thin units c budget vs is ps globals programs none plan a =
-    let v = same_variables c a.variables vs a.inputs is a.globals globals in
-    let i = same_inputs c a.variables vs a.inputs is a.globals globals in
-    let r = same_parts a.programs ps (a.programs_are.programs_are ∙ sym programs.programs_are) in
-    let thin : is_thin units vs is ps budget ≡ true = rw (v, i, r) at a.thin in
-    absurd (cc)
+tasks_known_on : (text : Declared) (tasks : List declared_task.Task) (is : List Instance)
+    → list_all (is_known_instance text tasks) is ≡ true
+    → list_all (λ (i : Instance). is_known_task tasks i.task) is ≡ true
+tasks_known_on text tasks [] h = refl
+tasks_known_on text tasks (i ∷ is) h =
+    let b = both (is_known_instance text tasks i) (list_all (is_known_instance text tasks) is) h in
+    let k = both (is_known_task tasks i.task)
+    (is_program_unit (Rattle.st_types.specs.NameTypes.unit_named text.units i.program.name)) b.0 in
+    both_are (is_known_task tasks i.task) (list_all (λ (j : Instance). is_known_task tasks j.task) is) k.0
+    (tasks_known_on text tasks is b.1)
 
--- globals whose record is short, as far as this version has them
-pub short_record : (c : Configuration) (vs : List PlanVariable) (is : List PlanInput) → HasGlobals c vs is
-    → (list_all is_thin_variable vs ≡ true → record_length vs ≤ MAX_RECORD_BODY) → HasThinRecordTooLong c → ⊥
-short_record c vs is globals short h =
-    let v = same_variables c h.variables vs h.inputs is h.globals globals in
-    let thin : list_all is_thin_variable vs ≡ true = rw v at h.thin in
-    let longer : MAX_RECORD_BODY < record_length vs = rw v at h.long in
-    let most = short thin in
-    absurd (omega arith)
+tasks_known : (text : Declared) (rs : List Resource)
+    → list_all (λ r. list_all (is_known_instance text r.tasks) r.instances) rs ≡ true
+    → list_all (λ r. list_all (λ (i : Instance). is_known_task r.tasks i.task) r.instances) rs ≡ true
+tasks_known text [] h = refl
+tasks_known text (r ∷ rs) h =
+    let b = both (list_all (is_known_instance text r.tasks) r.instances)
+    (list_all (λ q. list_all (is_known_instance text q.tasks) q.instances) rs) h in
+    both_are (list_all (λ (i : Instance). is_known_task r.tasks i.task) r.instances)
+    (list_all (λ q. list_all (λ (i : Instance). is_known_task q.tasks i.task) q.instances) rs)
+    (tasks_known_on text r.tasks r.instances b.0) (tasks_known text rs b.1)
 
-abbrev head_or : Configuration → List Configuration → Configuration
-head_or d [] = d
-head_or d (x ∷ xs) = x
+-- ---- instances with their codes
 
-same_one : (c d : Configuration) → c ∷ [] ≡ d ∷ [] → c ≡ d
-same_one c d h = ap (head_or c) h
+-- what stands at a number
+record InstanceAt (n k : ℕ) (ps : List Place) (cs : List CodeView) (v : CodedInstance) : Type 0 where
+  place : slice_get ps k ≡ Some v.place
+  code : slice_get cs k ≡ Some v.code
+  number : v.number ≡ n + k
 
--- what there is of a whole tree, of its units and its configuration
-pub plan_of_tree : (tree : Source) (units : List OrganisationUnit) (c : Configuration) (budget : ℕ) (plan : plans.Plan)
-    → units ≡ units_in tree → configurations_in tree ≡ c ∷ [] → has_types tree ≡ false
-    → IsPlanFrom units c budget plan → IsPlanOfTree tree budget plan
-plan_of_tree tree units c budget plan us one plain from = record {
-  configuration = c;
-  one = one;
-  plain = plain;
-  from = subst (λ x. IsPlanFrom x c budget plan) us from;
-}
+instance_there : (n k : ℕ) (ps : List Place) (cs : List CodeView) (v : CodedInstance)
+    → slice_get (instances_from n ps cs) k ≡ Some v → InstanceAt n k ps cs v
+instance_there n k [] cs v h = absurd (cc)
+instance_there n k (p ∷ ps) [] v h = absurd (cc)
+instance_there n zero (p ∷ ps) (c ∷ cs) v h =
+    let e : ◌≡◌ {A = CodedInstance} record { place = p; number = n; code = c } v = some_is h in
+    let m : n ≡ n + 0 = omega arith in
+    record {
+      place = ap (λ x. Some x.place) e;
+      code = ap (λ x. Some x.code) e;
+      number = sym (ap (λ x. x.number) e) ∙ m;
+    }
+instance_there n (suc k) (p ∷ ps) (c ∷ cs) v h =
+    let r = instance_there (suc n) k ps cs v h in
+    let m : suc n + k ≡ n + suc k = omega arith in
+    record { place = r.place; code = r.code; number = r.number ∙ m }
 
--- a tree that has a plan has one of its units and its configuration
-from_tree : (tree : Source) (units : List OrganisationUnit) (c : Configuration) (budget : ℕ) (plan : plans.Plan)
-    → units ≡ units_in tree → configurations_in tree ≡ c ∷ [] → IsPlanOfTree tree budget plan
-    → IsPlanFrom units c budget plan
-from_tree tree units c budget plan us one p =
-    let same = same_one p.configuration c (sym p.one ∙ one) in
-    subst (λ x. IsPlanFrom x c budget plan) (sym us)
-    (subst (λ x. IsPlanFrom (units_in tree) x budget plan) same p.from)
+at_number : (xs : List Program) (k : ℕ) (x d : Program) → slice_get xs k ≡ Some x → slice_index_or xs k d ≡ x
+at_number [] k x d h = absurd (cc)
+at_number (y ∷ xs) zero x d h = some_is h
+at_number (y ∷ xs) (suc k) x d h = at_number xs k x d h
 
-here : (tree : Source) (units : List OrganisationUnit) (c : Configuration) (budget : ℕ) (e : BuildError)
-    → units ≡ units_in tree → configurations_in tree ≡ c ∷ [] → LacksPlan units c budget e
-    → (d : Configuration) × (configurations_in tree ≡ d ∷ []) × LacksPlan (units_in tree) d budget e
-here tree units c budget e us one h = (c, one, subst (λ x. LacksPlan x c budget e) us h)
+module _ (tree : Source) where
+  viewed : (n : ℕ) (ps : List Place) (cs : List CodeView) (programs : List Program) (made : List ProgramInstance)
+      → map instance_view made ≡ instances_from n ps cs
+      → map (λ (p : Program). p.owner) programs ≡ map (λ (p : Place). p.owner) ps
+      → ((k : ℕ) (p : Program) → slice_get programs k ≡ Some p → (c : CodeView) × (slice_get cs k ≡ Some c))
+      → ((k : ℕ) (p : Program) → slice_get programs k ≡ Some p → program_numbered tree (n + k) ≡ p)
+      → map (program_view tree) made ≡ instances_at ps programs
+  viewed n [] cs programs [] h owners coded numbered = refl
+  viewed n [] cs programs (m ∷ made) h owners coded numbered = absurd (cc)
+  viewed n (p ∷ ps) cs [] made h owners coded numbered = absurd (cc)
+  viewed n (p ∷ ps) [] (q ∷ programs) made h owners coded numbered =
+      let c = coded 0 q refl in let none : ◌≡◌ {A = Option CodeView} None (Some c.0) = c.1 in absurd (cc)
+  viewed n (p ∷ ps) (c ∷ cs) (q ∷ programs) [] h owners coded numbered = absurd (cc)
+  viewed n (p ∷ ps) (c ∷ cs) (q ∷ programs) (m ∷ made) h owners coded numbered =
+      let first : ◌≡◌ {A = CodedInstance} (instance_view m) record { place = p; number = n; code = c } = heads h in
+      let place : ◌≡◌ {A = Place} (record { owner = m.owner; resource = m.resource; task = m.task }) p =
+      ap (λ (x : CodedInstance). x.place) first in
+      let number : m.number ≡ n + 0 = ap (λ (x : CodedInstance). x.number) first ∙ omega arith in
+      let program : program_numbered tree m.number ≡ q = ap (program_numbered tree) number ∙ numbered 0 q refl in
+      let here : program_view tree m ≡ instance_at p q = ap₂ instance_at place program in
+      ap₂ (λ (x : plans.ProgramInstance) (xs : List plans.ProgramInstance). x ∷ xs) here
+      (viewed (suc n) ps cs programs made (tails h) (tails_of owners) (λ k x g. coded (suc k) x g)
+      (λ k x g. let m : suc n + k ≡ n + suc k = omega arith in ap (program_numbered tree) m ∙ numbered (suc k) x g))
+    where
+      heads : {A : Type 0} {x y : A} {xs ys : List A} → x ∷ xs ≡ y ∷ ys → x ≡ y
+      heads e = cc
+      tails : {A : Type 0} {x y : A} {xs ys : List A} → x ∷ xs ≡ y ∷ ys → xs ≡ ys
+      tails e = cc
+      tails_of : {A : Type 0} {x y : A} {xs ys : List A} → x ∷ xs ≡ y ∷ ys → xs ≡ ys
+      tails_of e = cc
 
--- a tree without a plan of its units and its configuration
-beyond : (tree : Source) (units : List OrganisationUnit) (c : Configuration) (budget : ℕ) → units ≡ units_in tree
-    → configurations_in tree ≡ c ∷ [] → IsUnsupported units c budget → IsBeyond tree budget
-beyond tree units c budget us one h = record {
-  configuration = c;
-  one = one;
-  kept = subst (λ x. MeetsRules x c) us h.kept;
-  few = h.few;
-  short = h.short;
-  none = λ plan p. h.none plan (from_tree tree units c budget plan us one p);
-}
+-- ---- how many slots there are
 
--- a tree whose units and configuration have a plan, and that has types
-pub beyond_types : (tree : Source) (units : List OrganisationUnit) (c : Configuration) (budget : ℕ)
-    (plan : plans.Plan) → units ≡ units_in tree → configurations_in tree ≡ c ∷ [] → has_types tree ≡ true
-    → IsPlanFrom units c budget plan → IsBeyond tree budget
-beyond_types tree units c budget plan us one types from = record {
-  configuration = c;
-  one = one;
-  kept = subst (λ x. MeetsRules x c) us from.kept;
-  few = λ many. not_refused units c budget plan errors.TooManyPaths from many;
-  short = λ long. not_refused units c budget plan errors.RecordTooLong from
-      record { variables = long.variables; inputs = long.inputs; globals = long.globals; long = long.long };
-  none = λ other p. let plain = p.plain in absurd (cc);
-}
+parts_counted : (ss : List LayoutSlot) → length (variables_among ss) + length (inputs_among ss) ≡ length ss
+parts_counted [] = refl
+parts_counted (s ∷ ss) = by_sort s.is_input refl (parts_counted ss)
+  where
+    by_sort : (b : Bool) → s.is_input ≡ b → length (variables_among ss) + length (inputs_among ss) ≡ length ss
+        → length (variables_among (s ∷ ss)) + length (inputs_among (s ∷ ss)) ≡ suc (length ss)
+    by_sort true e h = rw e (omega arith)
+    by_sort false e h = rw e (omega arith)
 
-pub lacks_of_parts : (tree : Source) (units : List OrganisationUnit) (c : Configuration) (budget : ℕ) (e : BuildError)
-    → units ≡ units_in tree → configurations_in tree ≡ c ∷ [] → LacksPlan units c budget e
-    → TreeLacksPlan tree budget e
-lacks_of_parts tree units c budget errors.Unknown us one h = here tree units c budget errors.Unknown us one h
-lacks_of_parts tree units c budget errors.Address us one h = here tree units c budget errors.Address us one h
-lacks_of_parts tree units c budget errors.TooMany us one h = here tree units c budget errors.TooMany us one h
-lacks_of_parts tree units c budget errors.NoTask us one h = here tree units c budget errors.NoTask us one h
-lacks_of_parts tree units c budget errors.TooManyPaths us one h = here tree units c budget errors.TooManyPaths us one h
-lacks_of_parts tree units c budget errors.RecordTooLong us one h =
-    here tree units c budget errors.RecordTooLong us one h
-lacks_of_parts tree units c budget errors.Unsupported us one h = beyond tree units c budget us one h
-lacks_of_parts tree units c budget errors.Memory us one h = h
-lacks_of_parts tree units c budget errors.Budget us one h = absurd h
-lacks_of_parts tree units c budget errors.NoConfiguration us one h = absurd h
-lacks_of_parts tree units c budget (errors.Rule x) us one h = absurd h
-lacks_of_parts tree units c budget (errors.Words x) us one h = absurd h
-lacks_of_parts tree units c budget (errors.Grammar x) us one h = absurd h
+-- ---- a text that is ready
 
-pub not_configured : (tree : Source) (budget : ℕ) (e : BuildError) → IsNotConfigured tree e
-    → TreeLacksPlan tree budget e
-not_configured tree budget errors.NoConfiguration h = h
-not_configured tree budget errors.Unsupported h = absurd h
-not_configured tree budget errors.Memory h = h
-not_configured tree budget errors.Unknown h = absurd h
-not_configured tree budget errors.Address h = absurd h
-not_configured tree budget errors.TooMany h = absurd h
-not_configured tree budget errors.NoTask h = absurd h
-not_configured tree budget errors.TooManyPaths h = absurd h
-not_configured tree budget errors.RecordTooLong h = absurd h
-not_configured tree budget errors.Budget h = absurd h
-not_configured tree budget (errors.Rule x) h = absurd h
-not_configured tree budget (errors.Words x) h = absurd h
-not_configured tree budget (errors.Grammar x) h = absurd h
+module _ (source tree : Source) (slots : List LayoutSlot) (codes : List CodeView) (budget : ℕ)
+    (ready : IsReady source tree slots codes budget) where
+  abbrev text : Declared
+  text = declared_in source
 
--- a text that breaks no rule, and whose resolved tree has no plan
-pub lacks_of_tree : (source : Source) (budget : ℕ) (e : BuildError) → IsWellTyped source
-    → TreeLacksPlan (resolved_source source) budget e → SourceLacksPlan source budget e
-lacks_of_tree source budget errors.Unsupported well h = (well, h)
-lacks_of_tree source budget (errors.Rule x) well h = absurd h.2
-lacks_of_tree source budget errors.NoConfiguration well h = h
-lacks_of_tree source budget errors.Memory well h = h
-lacks_of_tree source budget errors.Unknown well h = h
-lacks_of_tree source budget errors.Address well h = h
-lacks_of_tree source budget errors.TooMany well h = h
-lacks_of_tree source budget errors.NoTask well h = h
-lacks_of_tree source budget errors.TooManyPaths well h = h
-lacks_of_tree source budget errors.RecordTooLong well h = h
-lacks_of_tree source budget errors.Budget well h = h
-lacks_of_tree source budget (errors.Words x) well h = h
-lacks_of_tree source budget (errors.Grammar x) well h = h
+  abbrev judged : IsJudged source
+  judged = ready.judged
 
-there : (tree : Source) (budget : ℕ) (p : plans.Plan) (e : BuildError) → IsPlanOfTree tree budget p
-    → ((c : Configuration) × (configurations_in tree ≡ c ∷ []) × LacksPlan (units_in tree) c budget e) → IsMemory e
-there tree budget p e a h =
-    not_refused (units_in tree) h.0 budget p e (from_tree tree (units_in tree) h.0 budget p refl h.1 a) h.2
+  abbrev c : Configuration
+  c = judged.configured.configuration
 
--- a tree has one plan
-tree_plan : (tree : Source) (budget : ℕ) (p q : plans.Plan) → IsPlanOfTree tree budget p
-    → IsPlanOfTree tree budget q → p ≡ q
-tree_plan tree budget p q a b = one_plan (units_in tree) b.configuration budget p q
-    (from_tree tree (units_in tree) b.configuration budget p refl b.one a) b.from
+  abbrev vs : List PlanVariable
+  vs = variables_among slots
 
-none_there : {X : Type 0} (x : X) → Contains [] x → ⊥
-none_there x h = let lt = h.1 in omega arith
+  abbrev is : List PlanInput
+  is = inputs_among slots
 
-not_one : {X : Type 0} (xs : List X) (x : X) → xs ≡ x ∷ [] → (length xs == 1) ≡ false → ⊥
-not_one xs x is h = let none = subst (λ ys. (length ys == 1) ≡ false) is h in absurd (cc)
+  abbrev rs : List Resource
+  rs = resources_of source
 
--- a tree that has a plan is refused only where memory runs out
-tree_refused : (tree : Source) (budget : ℕ) (p : plans.Plan) (e : BuildError) → IsPlanOfTree tree budget p
-    → TreeLacksPlan tree budget e → IsMemory e
-tree_refused tree budget p errors.NoConfiguration a h =
-    absurd (not_one (configurations_in tree) a.configuration a.one h)
-tree_refused tree budget p errors.Unsupported a h = absurd (h.none p a)
-tree_refused tree budget p errors.Memory a h = h
-tree_refused tree budget p errors.Unknown a h = there tree budget p errors.Unknown a h
-tree_refused tree budget p errors.Address a h = there tree budget p errors.Address a h
-tree_refused tree budget p errors.TooMany a h = there tree budget p errors.TooMany a h
-tree_refused tree budget p errors.NoTask a h = there tree budget p errors.NoTask a h
-tree_refused tree budget p errors.TooManyPaths a h = there tree budget p errors.TooManyPaths a h
-tree_refused tree budget p errors.RecordTooLong a h = there tree budget p errors.RecordTooLong a h
-tree_refused tree budget p errors.Budget a h = there tree budget p errors.Budget a h
-tree_refused tree budget p (errors.Rule x) a h = there tree budget p (errors.Rule x) a h
-tree_refused tree budget p (errors.Words x) a h = there tree budget p (errors.Words x) a h
-tree_refused tree budget p (errors.Grammar x) a h = there tree budget p (errors.Grammar x) a h
+  only : only_configuration (configurations_in source) ≡ Some c
+  only = only_of (configurations_in source) c (sym (same_configurations source) ∙ judged.configured.one)
 
--- a text that has a plan is refused only where memory runs out
-source_refused : (source : Source) (budget : ℕ) (p : plans.Plan) (e : BuildError) → IsPlanOf source budget p
-    → SourceLacksPlan source budget e → IsMemory e
-source_refused source budget p (errors.Rule x) a h =
-    absurd (none_there x (subst (λ xs. Contains xs x) a.well_typed h))
-source_refused source budget p errors.Unsupported a h =
-    tree_refused (resolved_source source) budget p errors.Unsupported a.of_tree h.1
-source_refused source budget p errors.NoConfiguration a h =
-    tree_refused (resolved_source source) budget p errors.NoConfiguration a.of_tree h
-source_refused source budget p errors.Memory a h = h
-source_refused source budget p errors.Unknown a h =
-    tree_refused (resolved_source source) budget p errors.Unknown a.of_tree h
-source_refused source budget p errors.Address a h =
-    tree_refused (resolved_source source) budget p errors.Address a.of_tree h
-source_refused source budget p errors.TooMany a h =
-    tree_refused (resolved_source source) budget p errors.TooMany a.of_tree h
-source_refused source budget p errors.NoTask a h =
-    tree_refused (resolved_source source) budget p errors.NoTask a.of_tree h
-source_refused source budget p errors.TooManyPaths a h =
-    tree_refused (resolved_source source) budget p errors.TooManyPaths a.of_tree h
-source_refused source budget p errors.RecordTooLong a h =
-    tree_refused (resolved_source source) budget p errors.RecordTooLong a.of_tree h
-source_refused source budget p errors.Budget a h =
-    tree_refused (resolved_source source) budget p errors.Budget a.of_tree h
-source_refused source budget p (errors.Words x) a h =
-    tree_refused (resolved_source source) budget p (errors.Words x) a.of_tree h
-source_refused source budget p (errors.Grammar x) a h =
-    tree_refused (resolved_source source) budget p (errors.Grammar x) a.of_tree h
+  configured : configuration_of source ≡ Some (taken_configuration text c)
+  configured = configuration_taken source ∙ ap (option_map (taken_configuration text)) only
 
--- the lexer and the parser give what is there, or want memory
-pub words_refused : (e : LexError) (found : Result (Vec Token) LexError) (tokens : List Token) → found ≡ Err e
-    → GivesTokens found tokens → IsMemory (errors.Words e)
-words_refused lexing.Memory found tokens is h = search rules
-words_refused lexing.TooLong found tokens is h = absurd (subst (λ x. GivesTokens x tokens) is h)
-words_refused (lexing.Fault f place) found tokens is h = absurd (subst (λ x. GivesTokens x tokens) is h)
+  resources : rs ≡ c.resources
+  resources = ap resources_in configured
 
-pub grammar_refused : (e : ParseError) (found : Result Tree ParseError) (source : Source) → found ≡ Err e
-    → Answers source found → IsMemory (errors.Grammar e)
-grammar_refused grammar.Memory found source is h = search rules
-grammar_refused grammar.Deep found source is h = absurd (subst (λ x. Answers source x) is h)
-grammar_refused (grammar.Unexpected place) found source is h = absurd (subst (λ x. Answers source x) is h)
+  known : list_all (is_known_resource text c.globals) c.resources ≡ true
+  known = (both (list_all (has_known_externals text c.globals) text.units)
+      (list_all (is_known_resource text c.globals) c.resources) judged.configured.kept.known).1
 
--- a budget that is refused has no plan
-pub budget_refused : (source : Source) (budget : ℕ) (p : plans.Plan) → IsPlanOf source budget p
-    → (1 ≤ budget) × (budget ≤ MAX_BUDGET)
-budget_refused source budget p a =
-    let f = a.of_tree.from in
-    let limits = limits_of (units_in (resolved_source source)) f.variables f.inputs f.programs budget f.thin in
-    let least = limits.least in
-    let most = limits.most in
-    (grind (arith, nat_tests), grind (arith, nat_tests))
+  instances : list_all (λ r. list_all (is_known_instance text r.tasks) r.instances) rs ≡ true
+  instances =
+      subst (λ xs. list_all (λ r. list_all (is_known_instance text r.tasks) r.instances) xs ≡ true) (sym resources)
+      (instances_known text c.globals c.resources known)
 
-pub ok_more : {A E : Type 0} (P Q : A → Type 0) (r : Result A E) → ((x : A) → P x → Q x) → IfOk r P → IfOk r Q
-ok_more P Q (Ok x) f h = f x h
-ok_more P Q (Err e) f h = h
+  tasked : list_all (λ r. list_all (λ (i : Instance). is_some i.task) r.instances) rs ≡ true
+  tasked =
+      subst (λ xs. list_all (λ r. list_all (λ (i : Instance). is_some i.task) r.instances) xs ≡ true) (sym resources)
+      judged.configured.kept.tasked
 
-pub err_more : {A E : Type 0} (P Q : E → Type 0) (r : Result A E) → ((x : E) → P x → Q x) → IfErr r P → IfErr r Q
-err_more P Q (Ok x) f h = h
-err_more P Q (Err e) f h = f e h
+  -- the limits of the configuration
+  few : (nat_lt MAX_RESOURCES (length rs) ≡ false) × (list_any (λ r. nat_lt MAX_TASKS (length r.tasks)) rs ≡ false)
+      × (nat_lt MAX_PROGRAMS (length (flat_map (λ r. r.instances) rs)) ≡ false)
+  few =
+      let e = subst (λ xs. (nat_lt MAX_RESOURCES (length xs)
+      || (list_any (λ r. nat_lt MAX_TASKS (length r.tasks)) xs
+      || nat_lt MAX_PROGRAMS (length (flat_map (λ r. r.instances) xs)))) ≡ false) (sym resources)
+      judged.configured.kept.few in
+      let a = neither (nat_lt MAX_RESOURCES (length rs)) (list_any (λ r. nat_lt MAX_TASKS (length r.tasks)) rs
+      || nat_lt MAX_PROGRAMS (length (flat_map (λ r. r.instances) rs))) e in
+      let b = neither (list_any (λ r. nat_lt MAX_TASKS (length r.tasks)) rs)
+      (nat_lt MAX_PROGRAMS (length (flat_map (λ r. r.instances) rs))) a.1 in
+      (a.0, b.0, b.1)
 
--- what there is of a resolved tree is so of the text that was checked
-pub plan_of_checked : (source tree : Source) (budget : ℕ) (r : Result Plan BuildError) → IsCheckedFrom source tree
-    → IfOk r (λ p. IsPlanOfTree tree budget (plan_view p)) → IfOk r (λ p. IsPlanOf source budget (plan_view p))
-plan_of_checked source tree budget r from h =
-    ok_more (λ p. IsPlanOfTree tree budget (plan_view p)) (λ p. IsPlanOf source budget (plan_view p)) r
-    (λ p is. record {
-      well_typed = from.well_typed;
-      of_tree = subst (λ t. IsPlanOfTree t budget (plan_view p)) from.resolved is;
-    }) h
+  -- the layout
+  slots_viewed : map slot_view slots ≡ slots_of_text source
+  slots_viewed = ready.layout.slots
 
-pub lacks_of_checked : (source tree : Source) (budget : ℕ) (r : Result Plan BuildError) → IsCheckedFrom source tree
-    → IfErr r (λ e. TreeLacksPlan tree budget e) → IfErr r (λ e. SourceLacksPlan source budget e)
-lacks_of_checked source tree budget r from h =
-    err_more (λ e. TreeLacksPlan tree budget e) (λ e. SourceLacksPlan source budget e) r
-    (λ e is. lacks_of_tree source budget e from.well_typed (subst (λ t. TreeLacksPlan t budget e) from.resolved is)) h
+  among : slots_among (numbered_from 0 0 slots) vs is ≡ slots_of_text source
+  among = slots_are slots 0 0 ∙ slots_viewed
 
--- the plan of a text is given, unless memory ran out
-pub plan_given : (source : Source) (budget : ℕ) (plan : plans.Plan) (r : Result Plan BuildError)
-    → IsPlanOf source budget plan
-    → IfOk r (λ q. IsPlanOf source budget (plan_view q)) → IfErr r (λ e. SourceLacksPlan source budget e)
-    → GivesPlan r plan
-plan_given source budget plan (Ok q) is ok err =
-    tree_plan (resolved_source source) budget (plan_view q) plan ok.of_tree is.of_tree
-plan_given source budget plan (Err e) is ok err = source_refused source budget plan e is err
+  pub layout_once : IsLayout (layout_of vs is)
+  layout_once = parts_are_layout slots
+      (subst IsLayout (sym slots_viewed) (text_layout source (parts_right source judged.well_typed).names.all))
+
+  -- each SINGLE is a BOOL of the layout
+  boolean : (o : Option Identifier) → is_known_single text c.globals o ≡ true → AreBoolean vs is o
+  boolean None h = tt
+  boolean (Some x) h =
+      let b = boolean_global source judged.well_typed c only x h in
+      let p = in_one_part slots b.number b.slot (ap (λ ls. slice_get ls b.number) slots_viewed ∙ b.at) in
+      record { number = p.number; slot = b.slot; at = p.at; path = b.path; kind = b.kind }
+
+  booleans : (ts : List declared_task.Task) → list_all (λ t. is_known_single text c.globals t.single) ts ≡ true
+      → AreSingles vs is layout_once ts
+  booleans [] h = tt
+  booleans (t ∷ ts) h =
+      let b = both (is_known_single text c.globals t.single)
+      (list_all (λ u. is_known_single text c.globals u.single) ts) h in
+      (boolean t.single b.0, booleans ts b.1)
+
+  all_boolean : (xs : List Resource) → list_all (is_known_resource text c.globals) xs ≡ true
+      → AllSingles vs is layout_once xs
+  all_boolean [] h = tt
+  all_boolean (r ∷ xs) h =
+      let b = both (is_known_resource text c.globals r) (list_all (is_known_resource text c.globals) xs) h in
+      let k = both (list_all (is_known_instance text r.tasks) r.instances)
+      (list_all (λ t. is_known_single text c.globals t.single) r.tasks) b.0 in
+      (booleans r.tasks k.1, all_boolean xs b.1)
+
+  singles : AllSingles vs is layout_once rs
+  singles = subst (AllSingles vs is layout_once) (sym resources) (all_boolean c.resources known)
+
+  -- the programs of the instances
+  programs_are : programs_of_text source ≡ programs_of_resources (Rattle.st_layouts.specs.LayoutVariables.declared_of source) rs
+  programs_are =
+      ap (programs_of_configuration (Rattle.st_layouts.specs.LayoutVariables.declared_of source)) configured
+      ∙ sym (ap (programs_of_resources (Rattle.st_layouts.specs.LayoutVariables.declared_of source)) resources)
+
+  owners : map (λ (p : Program). p.owner) (programs_of_text source)
+      ≡ map (λ (p : Place). p.owner) (places_from 0 0 rs)
+  owners = ap (map (λ (p : Program). p.owner)) programs_are ∙ owners_of_programs source rs instances
+      ∙ sym (owners_of_places 0 0 rs)
+
+  numbered_program : (k : ℕ) (p : Program) → slice_get (programs_of_text source) k ≡ Some p
+      → program_numbered tree (0 + k) ≡ p
+  unfolding program_numbered
+  numbered_program k p h =
+      let m : 0 + k ≡ k = omega arith in
+      ap (λ n. slice_index_or (programs_of_tree tree) n no_program) m
+      ∙ ap (λ t. slice_index_or (programs_of_tree t) k no_program) ready.resolved
+      ∙ at_number (programs_of_text source) k p no_program h
+
+  coded : (k : ℕ) (p : Program) → slice_get (programs_of_text source) k ≡ Some p
+      → (x : CodeView) × (slice_get codes k ≡ Some x)
+  coded k p h = let m = ready.codes_are k p h in (m.code, m.is)
+
+  pub programs_viewed : (made : List ProgramInstance) → map instance_view made ≡ instances_from 0 (places_from 0 0 rs) codes
+      → map (program_view tree) made ≡ instances_at (places_from 0 0 rs) (programs_of_text source)
+  programs_viewed made h =
+      viewed tree 0 (places_from 0 0 rs) codes (programs_of_text source) made h owners coded numbered_program
+
+  pub record IsMade (made : List ProgramInstance) (k : ℕ) (p : ProgramInstance) : Type 0 where
+    pub code : IsCodeOf tree (slots_among (numbered_from 0 0 slots) vs is) p
+    pub place : slice_get (places_from 0 0 rs) k
+        ≡ Some (record { owner = p.owner; resource = p.resource; task = p.task })
+
+  made_at : (made : List ProgramInstance) → map instance_view made ≡ instances_from 0 (places_from 0 0 rs) codes
+      → (k : ℕ) (p : ProgramInstance) → slice_get made k ≡ Some p → IsMade made k p
+  made_at made h k p g =
+      let at : slice_get (instances_from 0 (places_from 0 0 rs) codes) k ≡ Some (instance_view p) =
+      ap (λ xs. slice_get xs k) (sym h) ∙ get_map instance_view made k ∙ ap (option_map instance_view) g in
+      let i = instance_there 0 k (places_from 0 0 rs) codes (instance_view p) at in
+      let owner : option_map (λ (x : Program). x.owner) (slice_get (programs_of_text source) k) ≡ Some p.owner =
+      sym (get_map (λ (x : Program). x.owner) (programs_of_text source) k) ∙ ap (λ xs. slice_get xs k) owners
+      ∙ get_map (λ (x : Place). x.owner) (places_from 0 0 rs) k ∙ ap (option_map (λ (x : Place). x.owner)) i.place in
+      let q = mapped (λ (x : Program). x.owner) (slice_get (programs_of_text source) k) p.owner owner in
+      let m = ready.codes_are k q.0 q.1 in
+      let same : m.code ≡ code_view p.code.value = some_is (sym m.is ∙ i.code) in
+      let program : program_numbered tree p.number ≡ q.0 =
+      ap (program_numbered tree) i.number ∙ numbered_program k q.0 q.1 in
+      record {
+        code = record {
+          means = subst (λ ls. Means ls (code_view p.code.value) (program_numbered tree p.number)) (sym among)
+              (subst (λ x. Means (slots_of_text source) (code_view p.code.value) x) (sym program)
+              (subst (λ x. Means (slots_of_text source) x q.0) same m.means));
+          owner = ap (λ (x : Program). x.owner) program ∙ q.2;
+        };
+        place = i.place;
+      }
+
+  few_slots : length vs + length is ≤ MAX_PATHS
+  few_slots =
+      let a : length vs + length is ≡ length slots = parts_counted slots in
+      let b : length (map slot_view slots) ≡ length slots = length_map slot_view slots in
+      let e : length (map slot_view slots) ≡ length (slots_of_text source) = ap length slots_viewed in
+      let room : length (slots_of_text source) ≤ MAX_PATHS = ready.layout.room in
+      omega arith
+
+  task_there : (k : ℕ) (t : Task) → slice_get (tasks_from vs is 0 rs) k ≡ Some t → t.resource < length rs
+  task_there k t h =
+      let le : 0 + length rs ≤ length rs = omega arith in
+      let lt : nat_lt t.resource (length rs) ≡ true =
+      all_get (λ (u : Task). nat_lt u.resource (length rs)) (tasks_from vs is 0 rs) k t
+      (resources_there vs is 0 (length rs) rs le) h in
+      grind (arith, nat_tests)
+
+  place_there : (made : List ProgramInstance) → map instance_view made ≡ instances_from 0 (places_from 0 0 rs) codes
+      → (k : ℕ) (p : ProgramInstance) → slice_get made k ≡ Some p
+      → is_of_resource p.resource (slice_get (tasks_from vs is 0 rs) p.task) ≡ true
+  place_there made h k p g =
+      let i = made_at made h k p g in
+      all_get (runs_in (tasks_from vs is 0 rs)) (places_from 0 0 rs) k
+      (record { owner = p.owner; resource = p.resource; task = p.task })
+      (places_run vs is [] 0 0 rs refl (tasks_known text rs instances) tasked) i.place
+
+  made_few : (made : List ProgramInstance) → map instance_view made ≡ instances_from 0 (places_from 0 0 rs) codes
+      → length made ≤ MAX_PROGRAMS
+  made_few made h =
+      let a : length (map instance_view made) ≡ length made = length_map instance_view made in
+      let b : length (map instance_view made) ≡ length (instances_from 0 (places_from 0 0 rs) codes) = ap length h in
+      let d : length (instances_from 0 (places_from 0 0 rs) codes) ≤ length (places_from 0 0 rs) =
+      short 0 (places_from 0 0 rs) codes in
+      let e : length (places_from 0 0 rs) ≡ length (flat_map (λ r. r.instances) rs) = places_counted 0 0 rs in
+      let f : nat_lt MAX_PROGRAMS (length (flat_map (λ r. r.instances) rs)) ≡ false = few.1.1 in
+      let g : length (flat_map (λ r. r.instances) rs) ≤ MAX_PROGRAMS = grind (arith, nat_tests) in
+      omega arith
+    where
+      short : (n : ℕ) (ps : List Place) (cs : List CodeView) → length (instances_from n ps cs) ≤ length ps
+      short n [] cs = omega arith
+      short n (p ∷ ps) [] = omega arith
+      short n (p ∷ ps) (x ∷ cs) = let r = short (suc n) ps cs in omega arith
+
+  -- the plan is sound
+  pub plan_is_sound : (made : List ProgramInstance) → map instance_view made ≡ instances_from 0 (places_from 0 0 rs) codes
+      → record_length (enumerations_of_text source) vs ≤ MAX_RECORD_BODY
+      → PlanInvariant tree (enumerations_of_text source) vs is (numbered_from 0 0 slots) (length rs)
+      (tasks_from vs is 0 rs) made budget
+  plan_is_sound made h short =
+      let f : nat_lt MAX_RESOURCES (length rs) ≡ false = few.0 in
+      let some_resources : length rs ≤ MAX_RESOURCES = grind (arith, nat_tests) in
+      record {
+        layout = layout_once;
+        numbered = numbered slots;
+        codes = λ k p g. (made_at made h k p g).code;
+        resources_are = task_there;
+        places = place_there made h;
+        singles = singles_sound vs is layout_once 0 rs singles;
+        spelled = subst (λ ws. list_all (has_line (enumerations_of_text source)) ws ≡ true) (sym ready.layout.variables)
+            judged.lines;
+        different = subst (λ (ws : List PlanVariable). are_different (map (λ v. path_text v.path) ws) ≡ true)
+            (sym ready.layout.variables) judged.different;
+        limits = record {
+          paths = few_slots;
+          resources_are = some_resources;
+          tasks_each = tasks_are_few vs is rs few.1.0;
+          programs_are = made_few made h;
+          some_ticks = ready.some_ticks;
+          ticks = ready.ticks;
+          record_is = short;
+        };
+      }
+
+  -- and it is the text's
+  pub tasks_are : map (task_view vs) (tasks_from vs is 0 rs)
+      ≡ map (task_of (plan_inputs_of_text source)) (flat_map (λ r. r.tasks) rs)
+  tasks_are = tasks_viewed vs is layout_once 0 rs singles
+      ∙ ap (λ xs. map (task_of xs) (flat_map (λ r. r.tasks) rs)) ready.layout.inputs
+
+  pub plan_is : (plan : plans.Plan) → plan.enumerations ≡ enumerations_of_text source → plan.variables ≡ vs
+      → plan.inputs ≡ is → plan.resources ≡ length rs → plan.tasks ≡ map (task_view vs) (tasks_from vs is 0 rs)
+      → plan.programs ≡ instances_at (places_from 0 0 rs) (programs_of_text source) → plan.budget ≡ budget
+      → record_length (enumerations_of_text source) vs ≤ MAX_RECORD_BODY → IsPlanOf source budget plan
+  plan_is plan types variables inputs many tasks programs ticks short =
+      let v : plan.variables ≡ plan_variables_of_text source = variables ∙ ready.layout.variables in
+      let i : plan.inputs ≡ plan_inputs_of_text source = inputs ∙ ready.layout.inputs in
+      let t = tasks ∙ tasks_are in
+      record {
+        well_typed = judged.well_typed;
+        configured = judged.configured;
+        paths = ready.layout.room;
+        instances = ready.layout.few;
+        record_is = subst (λ (ws : List PlanVariable). record_length (enumerations_of_text source) ws ≤ MAX_RECORD_BODY)
+            ready.layout.variables short;
+        some_ticks = ready.some_ticks;
+        ticks = ready.ticks;
+        is = ap₂ (λ e w. record plan { enumerations = e; variables = w }) types v
+            ∙ ap₂ (λ w n. record plan { enumerations = enumerations_of_text source;
+            variables = plan_variables_of_text source; inputs = w; resources = n }) i many
+            ∙ ap₂ (λ w n. record plan { enumerations = enumerations_of_text source;
+            variables = plan_variables_of_text source; inputs = plan_inputs_of_text source; resources = length rs;
+            tasks = w; programs = n }) t programs
+            ∙ ap (λ b. record plan { enumerations = enumerations_of_text source;
+            variables = plan_variables_of_text source; inputs = plan_inputs_of_text source; resources = length rs;
+            tasks = map (task_of (plan_inputs_of_text source)) (flat_map (λ r. r.tasks) rs);
+            programs = instances_at (places_from 0 0 rs) (programs_of_text source); budget = b }) ticks;
+      }

@@ -1,10 +1,7 @@
-pub mod Lists
-pub mod Lacks
-pub mod TextParts
-pub mod Globals
-pub mod Inputs
+pub mod Places
+pub mod Tasks
 pub mod Programs
-pub mod Addresses
-pub mod Externals
+pub mod NumberedSlots
+pub mod TextPlans
 pub mod Refusals
-pub mod Plans
+pub mod Readiness

@@ -1,62 +1,73 @@
--- Why a configuration has no plan.
-use Rattle.std.specs.Prelude.{◌≡◌, ℕ, ◌<◌, ◌+◌, Bool, true, false, ◌&&◌, ◌||◌, nat_lt, List, flat_map, map, length}
-use Rattle.std.specs.Prelude.{Option, Some, None}
-use Rattle.std.specs.List.{list_all, list_any}
-use Rattle.st_words.specs.declared.limits.TheConstants.{MAX_PATHS, MAX_PROGRAMS, MAX_RECORD_BODY, MAX_RESOURCES}
-use Rattle.st_words.specs.declared.limits.TheConstants.{MAX_TASKS}
-use Rattle.st_words.specs.declared.identifier.Identifier.{Identifier}
-use Rattle.st_trees.specs.Configurations.{GlobalBlock, Resource, Configuration}
-use Rattle.st_plans.specs.declared.plan.PlanVariable.{PlanVariable}
-use Rattle.st_plans.specs.declared.plan.PlanInput.{PlanInput}
+-- Why a text has no plan.
+use Rattle.std.specs.Prelude.{◌≡◌, ◌<◌, ◌⊎◌, ℕ, List, length, Result, Ok, Err}
+use Rattle.st_words.specs.declared.limits.TheConstants.{MAX_BUDGET, MAX_RECORD_BODY}
+use Rattle.st_trees.specs.Sources.{Source}
+use Rattle.st_lex.specs.declared.token.Token.{Token}
+use Rattle.st_lex.specs.declared.fault.LexError.TheVariants as lexing
+use Rattle.st_lex.specs.Texts.{IsSpelledBy, LexErrorApplies}
+use Rattle.st_statements.specs.declared.fault.ParseError.TheVariants as grammar
+use Rattle.st_parse.specs.Answers.{Refused}
+use Rattle.st_parse.specs.Depths.{SourceWithin}
+use Rattle.st_parse.specs.Sources.{IsSource}
+use Rattle.st_statics.specs.Rules.{broken, IsWellTyped}
+use Rattle.st_decl.specs.declared.judging.CheckError.TheVariants as checking
+use Rattle.st_decl.specs.Judgements.{Refuses}
+use Rattle.st_configured.specs.declared.configuration_error.ConfigurationError.TheVariants as configurations
+use Rattle.st_configured.specs.Configured.{IsMisconfigured}
 use Rattle.st_plans.specs.Layouts.{record_length}
-use Rattle.config.specs.ThinPlans.{is_thin_variable}
-use Rattle.st_build.specs.Globals.{variables_in}
-use Rattle.st_build.specs.Inputs.{inputs_in}
-use Rattle.st_build.specs.Addresses.{is_sound_block, addresses_in, are_single}
+use Rattle.st_plans.specs.Plans as plans
+use Rattle.st_layouts.specs.TextLayouts.{enumerations_of_text, instances_of_text, plan_variables_of_text, slots_of_text}
+use Rattle.layout.specs.declared.layout_error.LayoutError.TheVariants as layouts
+use Rattle.layout.specs.Growth.{Exceeds}
+use Rattle.config.specs.declared.plan.Plan.{Plan}
+use Rattle.config.specs.PlanViews.{plan_view}
+use Rattle.st_build.specs.declared.build_error.BuildError.{BuildError}
+use Rattle.st_build.specs.declared.build_error.BuildError.TheVariants as errors
 
--- Each address is sound where it stands, and none stands twice.
-abbrev pub has_sound_addresses : List GlobalBlock → Bool
-has_sound_addresses blocks = list_all is_sound_block blocks && are_single (addresses_in blocks)
+-- The bytes spell the source.
+pub record IsTextOf (text : List ℕ) (source : Source) : Type 0 where
+  pub tokens : List Token
+  pub spelled : IsSpelledBy text tokens
+  pub parsed : IsSource tokens source
+  pub within : SourceWithin 64 source
 
--- more than 8 resources, 32 tasks on one of them, or 64 programs in all
-abbrev pub are_too_many : List Resource → Bool
-are_too_many rs = nat_lt MAX_RESOURCES (length rs) || (list_any (λ r. nat_lt MAX_TASKS (length r.tasks)) rs
-    || nat_lt MAX_PROGRAMS (length (flat_map (λ r. r.instances) rs)))
+-- Why a well-typed text has no plan: its configuration is not sound, or it is too large. Of code that has no room
+-- nothing is said, nor of want of memory.
+abbrev pub LacksPlan : Source → BuildError → Type 0
+LacksPlan source (errors.Configuration e) = IsMisconfigured source e
+LacksPlan source (errors.Layout e) = Exceeds (length (slots_of_text source)) (instances_of_text source) e
+LacksPlan source (errors.Code e) = Unit {0}
+LacksPlan source errors.RecordTooLong =
+    MAX_RECORD_BODY < record_length (enumerations_of_text source) (plan_variables_of_text source)
+LacksPlan source errors.Memory = Unit {0}
+LacksPlan source _ = ⊥
 
-abbrev pub is_nothing : Option Identifier → Bool
-is_nothing None = true
-is_nothing (Some x) = false
+-- Why a parsed text has no plan: it breaks this rule, or it breaks none and yet has none.
+abbrev pub SourceLacksPlan : Source → BuildError → Type 0
+SourceLacksPlan source (errors.Rule e) = Refuses (broken source) e
+SourceLacksPlan source errors.Memory = Unit {0}
+SourceLacksPlan source e = IsWellTyped source × LacksPlan source e
 
-abbrev pub has_no_task : Resource → Bool
-has_no_task r = list_any (λ i. is_nothing i.task) r.instances
+-- Why a text has no plan for a budget.
+abbrev pub TextLacksPlan : List ℕ → ℕ → BuildError → Type 0
+TextLacksPlan text budget errors.Budget = (budget ≡ 0) ⊎ (MAX_BUDGET < budget)
+TextLacksPlan text budget (errors.Words e) = LexErrorApplies text e
+TextLacksPlan text budget (errors.Grammar e) = (tokens : List Token) × IsSpelledBy text tokens × Refused tokens e
+TextLacksPlan text budget errors.Memory = Unit {0}
+TextLacksPlan text budget e = (source : Source) × IsTextOf text source × SourceLacksPlan source e
 
--- some program has no task
-abbrev pub is_without_task : List Resource → Bool
-is_without_task rs = list_any has_no_task rs
+-- what may refuse a text that has a plan: want of memory, by whomever it is told, or of room for its code
+abbrev pub IsWant : BuildError → Type 0
+IsWant errors.Memory = Unit {0}
+IsWant (errors.Words lexing.Memory) = Unit {0}
+IsWant (errors.Grammar grammar.Memory) = Unit {0}
+IsWant (errors.Rule checking.OutOfMemory) = Unit {0}
+IsWant (errors.Configuration configurations.OutOfMemory) = Unit {0}
+IsWant (errors.Layout layouts.OutOfMemory) = Unit {0}
+IsWant (errors.Code e) = Unit {0}
+IsWant _ = ⊥
 
--- The globals of a configuration are these variables and inputs.
-pub record HasGlobals (c : Configuration) (variables : List PlanVariable) (inputs : List PlanInput) : Type 0 where
-  pub variables_are : map Some variables ≡ variables_in c.globals
-  pub inputs_are : map Some inputs ≡ inputs_in c.globals
-
--- more than 4,096 paths
-pub record HasTooManyPaths (c : Configuration) : Type 0 where
-  pub variables : List PlanVariable
-  pub inputs : List PlanInput
-  pub globals : HasGlobals c variables inputs
-  pub many : MAX_PATHS < length variables + length inputs
-
--- a record with a body of more than 131,059 bytes
-pub record HasTooLongRecord (c : Configuration) : Type 0 where
-  pub variables : List PlanVariable
-  pub inputs : List PlanInput
-  pub globals : HasGlobals c variables inputs
-  pub long : MAX_RECORD_BODY < record_length variables
-
--- the same of variables that this version has
-pub record HasThinRecordTooLong (c : Configuration) : Type 0 where
-  pub variables : List PlanVariable
-  pub inputs : List PlanInput
-  pub globals : HasGlobals c variables inputs
-  pub thin : list_all is_thin_variable variables ≡ true
-  pub long : MAX_RECORD_BODY < record_length variables
+-- this plan, unless something is wanting
+abbrev pub GivesPlan : Result Plan BuildError → plans.Plan → Type 0
+GivesPlan (Ok found) plan = plan_view found ≡ plan
+GivesPlan (Err e) plan = IsWant e

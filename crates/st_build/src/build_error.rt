@@ -1,12 +1,16 @@
 //! Why a text has no plan.
 
 ghost use Rattle.std.specs.Prelude.{◌≡◌};
-ghost use Rattle.st_build.specs.declared.build_error.BuildError.TheVariants.{Memory, Words, Grammar};
+ghost use Rattle.st_build.specs.declared.build_error.BuildError.TheVariants.{Memory, Words, Grammar, Rule};
+ghost use Rattle.st_build.specs.declared.build_error.BuildError.TheVariants.{Configuration, Layout, Code};
 
+use layout::LayoutError;
+use st_check::CheckError;
+use st_configured::ConfigurationError;
 use st_lex::LexError;
 use st_statements::ParseError;
-use st_statics::Broken;
 use std::alloc::{AllocError, AllocFailed};
+use text_codes::CompileError;
 use thiserror::Error;
 
 /// Why a text has no plan. It shows as its number, with the place in the text where there is one.
@@ -15,41 +19,27 @@ pub enum BuildError {
     /// The budget is not 1 to 1,000,000 ticks.
     #[error("G7")]
     Budget,
-    /// The text has no tokens.
+    /// The text has no tokens: L1 to L6.
     #[error("{0}")]
     Words(LexError),
-    /// The tokens have no tree.
+    /// The tokens have no tree: P1 to P3.
     #[error("{0}")]
     Grammar(ParseError),
-    /// The text breaks a rule of the language: C1 to C11 or C13.
+    /// The text breaks a rule of the language: C1 to C13.
     #[error("{0}")]
-    Rule(Broken),
-    /// There is no CONFIGURATION, or a second one.
-    #[error("G2")]
-    NoConfiguration,
-    /// A task, the type of a program or a global is unknown; or a VAR_EXTERNAL has another elementary type than its
-    /// global, or isn't CONSTANT just where the global is CONSTANT or an input; or a SINGLE isn't a BOOL global.
-    #[error("G3")]
-    Unknown,
-    /// An address is doubled, out of range or of another width; or an input has an initial value; or AT stands with
-    /// CONSTANT.
-    #[error("G4")]
-    Address,
-    /// More than 8 resources, 32 tasks on a resource or 64 programs.
-    #[error("G5")]
-    TooMany,
+    Rule(CheckError),
+    /// The text has no sound configuration: G2 to G5, G8.
+    #[error("{0}")]
+    Configuration(ConfigurationError),
+    /// More than 4,096 paths or instances of function blocks (M1).
+    #[error("{0}")]
+    Layout(LayoutError),
+    /// A program's functions have more than 4,096 places (M1), or it has more than 16,384 instructions (M2).
+    #[error("{0}")]
+    Code(CompileError),
     /// The body of a record would be longer than 131,059 bytes.
     #[error("G6")]
     RecordTooLong,
-    /// A program has no task.
-    #[error("G8")]
-    NoTask,
-    /// More than 4,096 paths.
-    #[error("M1")]
-    TooManyPaths,
-    /// The text is of the language, as far as this version looks, but this version can't run it.
-    #[error("X2")]
-    Unsupported,
     /// Memory ran out.
     #[error("G9")]
     Memory,
@@ -68,6 +58,38 @@ impl From<ParseError> for BuildError {
 
     fn from(fault: ParseError) -> BuildError {
         BuildError::Grammar(fault)
+    }
+}
+
+impl From<CheckError> for BuildError {
+    ghost from_gives = { λ fault e. e ≡ Rule fault };
+
+    fn from(fault: CheckError) -> BuildError {
+        BuildError::Rule(fault)
+    }
+}
+
+impl From<ConfigurationError> for BuildError {
+    ghost from_gives = { λ fault e. e ≡ Configuration fault };
+
+    fn from(fault: ConfigurationError) -> BuildError {
+        BuildError::Configuration(fault)
+    }
+}
+
+impl From<LayoutError> for BuildError {
+    ghost from_gives = { λ fault e. e ≡ Layout fault };
+
+    fn from(fault: LayoutError) -> BuildError {
+        BuildError::Layout(fault)
+    }
+}
+
+impl From<CompileError> for BuildError {
+    ghost from_gives = { λ fault e. e ≡ Code fault };
+
+    fn from(fault: CompileError) -> BuildError {
+        BuildError::Code(fault)
     }
 }
 

@@ -1,20 +1,18 @@
-//! From a text in Structured Text to its plan: tokens, tree, rules and configuration, one after another.
+//! From a text in Structured Text to its plan: tokens, tree, rules, configuration, layout and codes, one after another.
 //!
-//! A text of which this version has a plan is given it, and each refusal applies to its text.
+//! A text that has a plan is given it, and each refusal applies to its text.
 #![tactic(auto)]
 
-mod addresses;
 mod build_error;
-mod counts;
-mod externals;
-mod inputs;
-mod lack;
-mod making;
+mod enumerations;
+mod numbered_slots;
+mod places;
 mod programs;
+mod record_length;
+mod schedules;
 mod source_plan;
 mod tasks;
-mod text_parts;
-mod variables;
+mod text_plan;
 
 pub use build_error::BuildError;
 pub use config::Plan;

@@ -1,67 +1,76 @@
 //! The plan of a text.
 
-ghost use Rattle.std.specs.Prelude.{◌≡◌, ◌<◌, ◌⊎◌, IfOk, IfErr, IsErrOf};
+ghost use Rattle.std.specs.Prelude.{◌≡◌, ◌<◌, ◌≤◌, ◌⊎◌, List, ℕ, IfOk, IfErr, IsErrOf};
+ghost use Rattle.st_words.specs.declared.limits.TheConstants.{MAX_BUDGET};
 ghost use Rattle.st_trees.specs.SourceViews.{source_view};
-ghost use Rattle.st_trees.specs.Sources as tree;
+ghost use Rattle.st_trees.specs.Sources as trees;
+ghost use Rattle.st_types.specs.ResolvedUnits.{resolved_source};
 ghost use Rattle.st_plans.specs.Plans as plans;
 ghost use Rattle.config.specs.PlanViews.{plan_view};
-ghost use Rattle.st_build.specs.Plans.{IsTextOf, IsPlanOfTree, IsPlanOf, TreeLacksPlan, SourceLacksPlan};
-ghost use Rattle.st_build.specs.Plans.{TextLacksPlan, GivesPlan};
+ghost use Rattle.st_build.specs.Readiness.{IsJudged};
+ghost use Rattle.st_build.specs.Refusals.{GivesPlan, IsTextOf, LacksPlan, SourceLacksPlan, TextLacksPlan};
+ghost use Rattle.st_build.specs.TextPlans.{IsPlanOf};
 
 use crate::build_error::BuildError;
-use crate::making::plan_from;
-use crate::text_parts::{Configured, configuration_of};
+use crate::text_plan::plan_from;
 use config::Plan;
-use st_check::{CheckError, check};
+use layout::Layout;
+use st_check::check;
+use st_configured::configure;
 use st_lex::lex;
 use st_parse::parse;
+use st_stores::functions_of_the_grammar_have_no_externals;
 use st_trees::Source;
 use st_words::limits::MAX_BUDGET;
 use std::alloc::Global;
+use text_codes::codes_of_text;
+use text_paths::paths_of_texts_are_written_apart;
 
-/// The plan of a resolved tree.
+/// The plan of a text that is judged, from its tree in which each literal has its type.
 fn plan_of_tree(alloc: Global, tree: Source, budget: u32) -> Result<Plan, BuildError>
-    ensures plan { IfOk result (λ plan. IsPlanOfTree (source_view tree) budget (plan_view plan)) }
-    ensures refused { IfErr result (λ e. TreeLacksPlan (source_view tree) budget e) }
+    requires judged { (text : trees.Source) × IsJudged text × (source_view tree ≡ resolved_source text) }
+    requires some_ticks { 1 ≤ budget }
+    requires ticks { budget ≤ MAX_BUDGET }
+    ensures plan { IfOk result (λ plan. (text : trees.Source) → IsJudged text → source_view tree ≡ resolved_source text
+        → IsPlanOf text budget (plan_view plan)) }
+    ensures refused { IfErr result (λ e. (text : trees.Source) → IsJudged text
+        → source_view tree ≡ resolved_source text → LacksPlan text e) }
 {
-    let Configured {
-        units,
-        configuration,
-        has_types,
-    } = configuration_of(alloc, tree)?;
-    let plan = plan_from(alloc, units, &configuration, budget)?;
-    if has_types {
-        return Err(BuildError::Unsupported);
-    }
-    Ok(plan)
+    let layout = Layout::build(alloc, &tree)?;
+    let codes = codes_of_text(alloc, &tree, &layout)?;
+    plan_from(alloc, tree, &layout, codes, budget)
 }
 
-/// The plan of a parsed text: that of its resolved tree, where it breaks no rule.
+/// The plan of a parsed text, which the configuration's rules may refuse only where no rule of the language does.
 fn plan_of(alloc: Global, source: Source, budget: u32) -> Result<Plan, BuildError>
+    requires text { (text : List ℕ) × IsTextOf text (source_view source) }
+    requires some_ticks { 1 ≤ budget }
+    requires ticks { budget ≤ MAX_BUDGET }
     ensures plan { IfOk result (λ plan. IsPlanOf (source_view source) budget (plan_view plan)) }
-    ensures refused { IfErr result (λ e. SourceLacksPlan (source_view source) budget e) }
+    ensures refused { IfErr result (λ e. SourceLacksPlan (source_view source) e) }
 {
-    match check(alloc, source) {
-        Ok(checked) => plan_of_tree(alloc, checked.source, budget),
-        Err(CheckError::Broken(broken)) => Err(BuildError::Rule(broken)),
-        Err(CheckError::OutOfMemory) => Err(BuildError::Memory),
-    }
+    functions_of_the_grammar_have_no_externals();
+    paths_of_texts_are_written_apart();
+    let configured = configure(alloc, &source);
+    let checked = check(alloc, source)?;
+    configured?;
+    plan_of_tree(alloc, checked.source, budget)
 }
 
-/// The plan of a text in Structured Text for a budget of 1 to 1,000,000 ticks.
+/// The plan of a text in Structured Text for a budget of 1 to 1,000,000 ticks: its layout, the code of each program's
+/// instance, its resources and tasks.
 ///
-/// This version runs programs that assign whole-number literals, names and their sums to VAR_EXTERNAL globals of INT
-/// and DINT, and inputs of the plant, each program in a task of its own with an INTERVAL and PRIORITY 0. G7 comes
-/// first, then the lexer's and the parser's refusals, then the others, of which any that applies may come. X2 is for
-/// what this version can't run, where no other number applies but M1 or G6.
+/// G7 comes first, then the lexer's, the parser's and the checker's refusals, then G2; of the others any that applies may
+/// come. A text that has a plan is refused only where memory runs out, or where there is no room for a program's code
+/// (M1, M2).
 pub fn build(alloc: Global, text: &[u8], budget: u32) -> Result<Plan, BuildError>
     // The budget is judged before all else.
     ensures budget { (budget ≡ 0) ⊎ (MAX_BUDGET < budget) → IsErrOf result BuildError.Budget }
     // The plan is that of a tree that the bytes spell.
     ensures plan { IfOk result
-        (λ plan. (source : tree.Source) × IsTextOf text.now source × IsPlanOf source budget (plan_view plan)) }
-    // A text of which there is such a plan is given it, unless memory runs out.
-    ensures only { (source : tree.Source) (plan : plans.Plan) → IsTextOf text.now source → IsPlanOf source budget plan
+        (λ plan. (source : trees.Source) × IsTextOf text.now source × IsPlanOf source budget (plan_view plan)) }
+    // A text of which there is such a plan is given it, unless something is wanting.
+    ensures only { (source : trees.Source) (plan : plans.Plan) → IsTextOf text.now source → IsPlanOf source budget plan
         → GivesPlan result plan }
     // A refusal applies.
     ensures refused { IfErr result (λ e. TextLacksPlan text.now budget e) }

@@ -1,110 +1,73 @@
-//! The tasks that instances run in.
+//! The tasks of a configuration.
 
-ghost use Rattle.std.specs.Prelude.{◌≡◌, ◌==◌, map, filter, length};
-ghost use Rattle.std.specs.List.{list_all, list_any};
-ghost use Rattle.st_trees.specs.ConfigurationViews.{resource_view};
-ghost use Rattle.st_build.specs.Programs.{plain_interval, interval_named, interval_of, runs_in, is_own, has_own_tasks};
-ghost use Rattle.st_build.specs.Programs.{have_own_tasks};
-ghost use Rattle.st_build.specs.Refusals.{has_no_task, is_without_task};
+ghost use Rattle.std.specs.Prelude.{◌≡◌, ◌++◌, IfOk, map};
+ghost use Rattle.st_words.specs.Paths.{same_path};
+ghost use Rattle.st_types.specs.Scopes.{unowned};
+ghost use Rattle.st_build.specs.Tasks.{input_number, task_at, trigger_at, variable_number};
 
-use st_trees::{Instance, Resource, Task};
-use st_types::lookup::is_named;
-use st_words::{Identifier, Name};
+use config::{Task, Trigger};
+use st_plans::{PlanInput, PlanVariable};
+use st_trees::Task as DeclaredTask;
+use st_words::{Identifier, Name, Path};
+use std::alloc::AllocError;
 
-/// The INTERVAL of a task that has one, no SINGLE, and PRIORITY 0.
-fn plain_interval(task: &Task) -> Option<u64>
-    ensures { result ≡ plain_interval task.now }
+/// Whether the path is that of the global of this name.
+fn is_global_of(path: &Path, name: &Name) -> bool
+    ensures { result ≡ same_path (unowned name.now) path.now }
 {
-    if task.single.is_some() || task.priority.number != 0 {
-        return None;
-    }
-    task.interval
+    path.owner().is_none() && path.name().is(name) && path.steps().is_empty()
 }
 
-/// The same of the task of a name.
-fn interval_named(tasks: &[Task], name: &Name) -> Option<u64>
-    ensures { result ≡ interval_named tasks.now name.now }
+fn input_number(inputs: &[PlanInput], name: &Name) -> Option<usize>
+    ensures { result ≡ input_number inputs.now name.now }
 {
-    for task in tasks {
-        if is_named(name, &task.name) {
-            return plain_interval(task);
-        }
-    }
-    None
+    inputs.iter().position(|i| is_global_of(&i.path, name))
 }
 
-/// The same of an instance's task.
-pub fn interval_of(tasks: &[Task], task: &Option<Identifier>) -> Option<u64>
-    ensures { result ≡ interval_of tasks.now task.now }
+fn variable_number(variables: &[PlanVariable], name: &Name) -> Option<usize>
+    ensures { result ≡ variable_number variables.now name.now }
 {
-    match task {
-        Some(x) => interval_named(tasks, &x.name),
-        None => None,
-    }
+    variables.iter().position(|v| is_global_of(&v.path, name))
 }
 
-fn runs_in(name: &Name, instance: &Instance) -> bool
-    ensures { result ≡ runs_in name.now instance.now }
+/// The global that a task's SINGLE names.
+fn trigger_at(
+    variables: &[PlanVariable],
+    inputs: &[PlanInput],
+    single: &Option<Identifier>,
+) -> Trigger
+    ensures { result ≡ trigger_at variables.now inputs.now single.now }
 {
-    match &instance.task {
-        Some(x) => is_named(name, x),
-        None => false,
+    let Some(name) = single else {
+        return Trigger::Absent;
+    };
+    if let Some(number) = input_number(inputs, &name.name) {
+        return Trigger::Input(number);
+    }
+    match variable_number(variables, &name.name) {
+        Some(number) => Trigger::Variable(number),
+        None => Trigger::Absent,
     }
 }
 
-/// How many of the instances run in the task of that name.
-fn runners(name: &Name, instances: &[Instance]) -> usize
-    ensures { result ≡ length (filter (runs_in name.now) instances.now) }
+/// Appends the tasks of the resource of this number.
+pub fn push_tasks(
+    tasks: &mut Vec<Task>,
+    variables: &[PlanVariable],
+    inputs: &[PlanInput],
+    number: usize,
+    declared: &[DeclaredTask],
+) -> Result<(), AllocError>
+    ensures { IfOk result (λ done. tasks.new.items ≡ tasks.old.items
+        ++ map (task_at variables.now inputs.now number) declared.now) }
 {
-    instances.iter().filter(|i| runs_in(name, i)).count()
-}
-
-/// Whether one instance runs in the task.
-fn is_own(instances: &[Instance], task: &Task) -> bool
-    ensures { result ≡ is_own instances.now task.now }
-{
-    runners(&task.name.name, instances) == 1
-}
-
-fn are_own(resource: &Resource) -> bool
-    ensures { result ≡ has_own_tasks (resource_view resource.now) }
-{
-    resource
-        .tasks
-        .iter()
-        .all(|t| is_own(&resource.instances, t))
-}
-
-fn all_own(resources: &[Resource]) -> bool
-    ensures { result ≡ list_all (λ r. has_own_tasks (resource_view r)) resources.now }
-{
-    resources.iter().all(|r| are_own(r))
-}
-
-/// Whether each task runs one instance.
-#[tactic(auto, using(crate::proofs::ListLemmas::all_viewed))]
-pub fn have_own_tasks(resources: &[Resource]) -> bool
-    ensures { result ≡ have_own_tasks (map resource_view resources.now) }
-{
-    all_own(resources)
-}
-
-fn is_any_without(resource: &Resource) -> bool
-    ensures { result ≡ has_no_task (resource_view resource.now) }
-{
-    resource.instances.iter().any(|i| i.task.is_none())
-}
-
-fn are_without(resources: &[Resource]) -> bool
-    ensures { result ≡ list_any (λ r. has_no_task (resource_view r)) resources.now }
-{
-    resources.iter().any(|r| is_any_without(r))
-}
-
-/// Whether some program has no task.
-#[tactic(auto, using(crate::proofs::ListLemmas::any_viewed))]
-pub fn is_without_task(resources: &[Resource]) -> bool
-    ensures { result ≡ is_without_task (map resource_view resources.now) }
-{
-    are_without(resources)
+    for task in declared {
+        tasks.push(Task {
+            resource: number,
+            single: trigger_at(variables, inputs, &task.single),
+            interval: task.interval.unwrap_or(0),
+            priority: task.priority.number,
+        })?;
+    }
+    Ok(())
 }

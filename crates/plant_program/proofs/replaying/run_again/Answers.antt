@@ -1,4 +1,5 @@
-use Rattle.std.proofs.Common.{◌≡◌, rules, subst, sym}
+use Rattle.std.proofs.Common.{◌≡◌, rules, subst, sym, map}
+use Rattle.std.specs.Vec.{vec_items}
 use Rattle.config.specs.declared.plan.Plan.{Plan}
 use Rattle.traces.specs.Replays.{AreToldApart}
 use Rattle.plant_program.specs.Jobs.{IsNoTrace, IsToldBy}
@@ -16,12 +17,13 @@ returns-in-Ok-replay_text-clause-report c =
     subst (λ (p : Plan). AreToldApart p.programs.items) (sym plan_is) c.requires.apart in
     let r = c.in-Ok-replay_text.found in
     let (mode, start, log, is, found) = c.in-Ok-replay_text.ensures.told in
-    mapped (λ text. text.items ≡ report_text (counts_of r) c.deref.result.now.variables.items r.values.items)
+    mapped (λ text. text.items ≡ report_text (counts_of r) (map vec_items c.deref.result.now.enumerations.items)
+    c.deref.result.now.variables.items r.values.items)
     (λ text. IsToldBy c.args.plan.now.value c.args.rows.now c.args.trace.now text.items) c.report_of.result
     (λ text spelled. subst (λ (p : Plan). IsToldBy p c.args.rows.now c.args.trace.now text.items) plan_is
     (told_so shared c.args.rows.now c.args.trace.now text.items r
-    (subst (λ (p : Plan). text.items ≡ report_text (counts_of r) p.variables.items r.values.items) (sym plan_is)
-    (subst (λ (p : Plan). text.items ≡ report_text (counts_of r) p.variables.items r.values.items) here_is spelled))
+    (subst (λ (p : Plan). text.items ≡ report_text (counts_of r) (map vec_items p.enumerations.items) p.variables.items r.values.items) (sym plan_is)
+    (subst (λ (p : Plan). text.items ≡ report_text (counts_of r) (map vec_items p.enumerations.items) p.variables.items r.values.items) here_is spelled))
     mode start log is found (c.in-Ok-replay_text.ensures.only apart))) c.report_of.ensures.told
 
 pub returns-in-Err-clause-refused : goal.returns-in-Err-clause-refused

@@ -1,9 +1,0 @@
-use Rattle.std.proofs.Common.{◌≡◌, ◌++◌, map, drop, Some}
-use Rattle.st_trees.specs.ConfigurationViews.{global_block_view}
-use Rattle.st_build.specs.Globals.{variables_in}
-use Rattle.st_build.proofs.variables.variables_in.Given as goal
-
-abbrev pub invariant-loop-block : goal.invariant-loop-block
-invariant-loop-block l =
-    map Some l.variables.items ++ variables_in (map global_block_view (drop l.block-index l.blocks))
-    ≡ variables_in (map global_block_view l.blocks)
