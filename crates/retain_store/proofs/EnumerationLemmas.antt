@@ -1,14 +1,14 @@
 -- Enumerated types as the code reads them.
-use Rattle.std.proofs.Common.{◌≡◌, ℕ, suc, ◌+◌, ◌<◌, ◌≤◌, Bool, true, false, cond, not, List, [], ◌∷◌, ◌++◌, length}
+use Rattle.std.proofs.Common.{◌≡◌, ℕ, suc, ◌+◌, ◌<◌, ◌≤◌, Bool, true, false, List, [], ◌∷◌, ◌++◌, length}
 use Rattle.std.proofs.Common.{Option, Some, None}
-use Rattle.std.proofs.Common.{refl, sym, ap, ◌∙◌, arith}
+use Rattle.std.proofs.Common.{refl, ap, ◌∙◌, arith}
 use Rattle.std.specs.Prelude.{◌==◌, ◌&&◌, nat_le, if◌then◌else◌}
-use Rattle.std.proofs.Common.{inl, inr, subst}
+use Rattle.std.proofs.Common.{inl, inr}
 use Rattle.std.specs.List.{list_all}
 use Rattle.std.proofs.lemmas.Bool.{le-leb, lt-leb, eq-eqb, ne_eqb}
 use Rattle.std.proofs.lemmas.List.{length-append}
 use Rattle.st_words.specs.UpperNames.{is_upper_name}
-use Rattle.retain_store.specs.Reading.{◌>>=◌, cut, parted, onto_first, names_counted, before_last}
+use Rattle.retain_store.specs.Reading.{◌>>=◌, cut, parted, names_counted, before_last}
 use Rattle.retain_store.specs.FieldLaws.{bind_some, some_is, chosen, cut_takes}
 
 -- what stands before the first mark is the first part

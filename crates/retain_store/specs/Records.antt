@@ -1,10 +1,10 @@
 -- Records: what a body of an area holds, and the bytes that spell it.
-use Rattle.std.specs.Prelude.{◌≡◌, ◌+◌, ◌<◌, ◌≤◌, nat_le, ◌==◌, ℕ, pos, int_lt, Bool, false, true, not, ◌&&◌, ◌||◌}
+use Rattle.std.specs.Prelude.{◌≡◌, ◌+◌, ◌<◌, ◌≤◌, nat_le, ◌==◌, ℕ, pos, int_lt, Bool, false, true, ◌&&◌, ◌||◌}
 use Rattle.std.specs.Prelude.{if◌then◌else◌, Option, Some, None}
 use Rattle.std.specs.Prelude.{IfSome, List, [], ◌∷◌, ◌++◌, length, map, bytes_eq, codes}
 use Rattle.std.specs.List.{flat_map, list_all, AllByRecursion, IsDistinct}
 use Rattle.std.specs.Int.{Width, w8, w16, w32, w64, to_be_bytes, cast_unsigned}
-use Rattle.st_words.specs.declared.limits.TheConstants.{MAX_NAME_LENGTH, MAX_RECORD_BODY, MOMENT_LIMIT}
+use Rattle.st_words.specs.declared.limits.TheConstants.{MAX_RECORD_BODY, MOMENT_LIMIT}
 use Rattle.st_words.specs.declared.kind.Kind.{Kind}
 use Rattle.st_words.specs.declared.kind.Kind.TheVariants.{Enumerated}
 use Rattle.st_words.specs.Kinds.{row_of, names_in}

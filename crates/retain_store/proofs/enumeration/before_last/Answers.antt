@@ -1,5 +1,4 @@
-use Rattle.std.proofs.Common.{◌≡◌, ◌∙◌, ap, sym}
-use Rattle.std.proofs.lemmas.Bool.{eq-eqb, ne_eqb}
+use Rattle.std.proofs.Common.{◌∙◌, ap, sym}
 use Rattle.retain_store.specs.Reading.{before_last}
 use Rattle.retain_store.proofs.EnumerationLemmas.{before_last_is, before_last_is_no}
 use Rattle.retain_store.proofs.enumeration.before_last.Goals as goal

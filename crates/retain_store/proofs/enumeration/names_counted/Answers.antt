@@ -1,4 +1,4 @@
-use Rattle.std.proofs.Common.{◌≡◌, ◌∙◌, sym, arith}
+use Rattle.std.proofs.Common.{◌∙◌, sym}
 use Rattle.retain_store.proofs.EnumerationLemmas.{no_name_here, no_room_here, shorter_behind}
 use Rattle.retain_store.proofs.enumeration.names_counted.Goals as goal
 

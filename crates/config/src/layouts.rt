@@ -38,7 +38,8 @@ fn push_type(text: &mut Vec<u8>, types: &[Vec<Name>], kind: Kind) -> Result<(), 
     };
     text.push(b'(')?;
     push_names(text, names)?;
-    text.push(b')')
+    text.push(b')')?;
+    Ok(())
 }
 
 /// Appends a line `PATH TYPE` with LF.
