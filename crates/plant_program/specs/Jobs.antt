@@ -12,7 +12,8 @@ use Rattle.image.specs.Plants.{AreRowsOf}
 use Rattle.commit_lock.specs.Cores.{CoreView}
 use Rattle.commit_lock.specs.declared.starting.StartMode.{StartMode}
 use Rattle.traces.specs.Replays.{IsTrace, budget_text}
-use Rattle.st_build.specs.Refusals.{IsTextOf, TextLacksPlan}
+use Rattle.text_paths.specs.Texts.{IsTextOf}
+use Rattle.st_build.specs.Refusals.{TextLacksPlan}
 use Rattle.st_build.specs.TextPlans.{IsPlanOf}
 use Rattle.plant_words.specs.declared.job.Job.{Job}
 use Rattle.plant_words.specs.declared.job.Job.TheVariants as jobs

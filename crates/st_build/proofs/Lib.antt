@@ -4,7 +4,10 @@ mod NumberedLemmas
 mod EnumerationLemmas
 mod RecordLemmas
 mod TaskLemmas
+mod ProgramLemmas
 mod PlaceLemmas
 mod TriggerLemmas
 mod SingleLemmas
+mod ConfiguredLemmas
 mod PlanLemmas
+mod OwnerLemmas

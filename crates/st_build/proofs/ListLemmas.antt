@@ -41,7 +41,7 @@ length_map f [] = refl
 length_map f (x ∷ xs) = let h = length_map f xs in omega arith
 
 pub length_both : {A : Type 0} (xs ys : List A) → length (xs ++ ys) ≡ length xs + length ys
-length_both [] ys = refl
+length_both [] ys = let e : 0 + length ys ≡ length ys = omega arith in sym e
 length_both (x ∷ xs) ys = let h = length_both xs ys in omega arith
 
 pub get_map : {A B : Type 0} (f : A → B) (xs : List A) (k : ℕ) → slice_get (map f xs) k ≡ option_map f (slice_get xs k)
@@ -59,21 +59,37 @@ get_left (y ∷ xs) ys zero x h = h
 get_left (y ∷ xs) ys (suc k) x h = get_left xs ys k x h
 
 pub get_right : {A : Type 0} (xs ys : List A) (k : ℕ) → slice_get (xs ++ ys) (length xs + k) ≡ slice_get ys k
-get_right [] ys k = refl
-get_right (x ∷ xs) ys k = get_right xs ys k
+get_right [] ys k = let e : 0 + k ≡ k = omega arith in ap (slice_get ys) e
+get_right (x ∷ xs) ys k =
+    let e : length (x ∷ xs) + k ≡ suc (length xs + k) = omega arith in
+    ap (slice_get (x ∷ xs ++ ys)) e ∙ get_right xs ys k
 
 -- ---- the first that passes
 
+abbrev as_position : ℕ → ℕ → Option ℕ
+as_position n len = if nat_lt n len then Some n else None
+
+one_later : (n len : ℕ) (t : Bool) → nat_lt n len ≡ t → as_position (suc n) (suc len) ≡ option_map suc (as_position n len)
+one_later n len true e =
+    let f : nat_lt (suc n) (suc len) ≡ true = grind (arith, nat_tests) in
+    ap (λ b. if b then Some (suc n) else None) f ∙ sym (ap (λ b. option_map suc (if b then Some n else None)) e)
+one_later n len false e =
+    let f : nat_lt (suc n) (suc len) ≡ false = grind (arith, nat_tests) in
+    ap (λ b. if b then Some (suc n) else None) f ∙ sym (ap (λ b. option_map suc (if b then Some n else None)) e)
+
 position_then : {A : Type 0} (p : A → Bool) (x : A) (xs : List A) (b : Bool) → p x ≡ b
     → position p (x ∷ xs) ≡ (if b then Some 0 else option_map suc (position p xs))
-position_then p x xs true e = rw e refl
-position_then p x xs false e = rw e (by_test (nat_lt (position_or_len p xs) (length xs)) refl)
-  where
-    by_test : (t : Bool) → nat_lt (position_or_len p xs) (length xs) ≡ t
-        → (if t then Some (suc (position_or_len p xs)) else None)
-        ≡ option_map suc (if t then Some (position_or_len p xs) else None)
-    by_test true h = refl
-    by_test false h = refl
+position_then p x xs true e =
+    let n : position_or_len p (x ∷ xs) ≡ 0 = rw e refl in
+    let f : nat_lt 0 (length (x ∷ xs)) ≡ true = grind (arith, nat_tests) in
+    ap (λ m. as_position m (length (x ∷ xs))) n ∙ ap (λ b. if b then Some 0 else None) f
+position_then p x xs false e =
+    let m = position_or_len p xs in
+    let s : 1 + m ≡ suc m = omega arith in
+    let n : position_or_len p (x ∷ xs) ≡ suc m = rw e s in
+    let l : length (x ∷ xs) ≡ suc (length xs) = omega arith in
+    ap (λ k. as_position k (length (x ∷ xs))) n ∙ ap (as_position (suc m)) l
+    ∙ one_later m (length xs) (nat_lt m (length xs)) refl
 
 pub position_step : {A : Type 0} (p : A → Bool) (x : A) (xs : List A)
     → position p (x ∷ xs) ≡ (if p x then Some 0 else option_map suc (position p xs))
@@ -88,17 +104,18 @@ pub record First {A : Type 0} (p : A → Bool) (xs : List A) : Type 0 where
 
 pub first_there : {A : Type 0} (p : A → Bool) (xs : List A) → list_any p xs ≡ true → First p xs
 first_there p [] h = absurd (cc)
-first_there p (x ∷ xs) h = by_test (p x) refl h
+first_there p (x ∷ xs) h = by_test (p x) refl h (first_there p xs)
   where
-    by_test : (b : Bool) → p x ≡ b → (b || list_any p xs) ≡ true → First p (x ∷ xs)
-    by_test true e k = record {
+    by_test : (b : Bool) → p x ≡ b → (b || list_any p xs) ≡ true → (list_any p xs ≡ true → First p xs)
+        → First p (x ∷ xs)
+    by_test true e k rest = record {
       number = 0;
       one = x;
       is = position_step p x xs ∙ ap (λ b. if b then Some 0 else option_map suc (position p xs)) e;
       at = refl;
     }
-    by_test false e k =
-        let f = first_there p xs k in
+    by_test false e k rest =
+        let f = rest k in
         record {
           number = suc f.number;
           one = f.one;

@@ -50,63 +50,14 @@ use Rattle.st_build.specs.Readiness.{IsJudged, IsReady}
 use Rattle.st_build.specs.Tasks.{tasks_from}
 use Rattle.st_build.specs.TextPlans.{instance_at, instances_at, plan_of_text, resources_in, resources_of, task_of}
 use Rattle.st_build.specs.TextPlans.{IsPlanOf}
+use Rattle.st_build.proofs.ConfiguredLemmas.{few, instances, known, only, owners_of_text, resources, tasked, tasks_known}
 use Rattle.st_build.proofs.LayoutLemmas.{in_one_part, parts_are_layout}
 use Rattle.st_build.proofs.ListLemmas.{some_is, both, both_are, all_append, all_get, get_map, mapped, length_map}
 use Rattle.st_build.proofs.NumberedLemmas.{numbered, slots_are}
-use Rattle.st_build.proofs.PlaceLemmas.{owners_in, owners_of_places, owners_of_programs, places_counted, places_run, runs_in}
+use Rattle.st_build.proofs.PlaceLemmas.{owners_of_places, places_counted, places_run, runs_in}
 use Rattle.st_build.proofs.SingleLemmas.{boolean_global}
 use Rattle.st_build.proofs.TaskLemmas.{resources_there, tasks_are_few}
 use Rattle.st_build.proofs.TriggerLemmas.{AllSingles, AreBoolean, AreSingles, singles_sound, tasks_viewed}
-
-neither : (a b : Bool) → (a || b) ≡ false → (a ≡ false) × (b ≡ false)
-neither true b h = absurd (cc)
-neither false b h = (refl, h)
-
--- ---- the only configuration
-
-only_of : (cs : List Configuration) (c : Configuration) → cs ≡ c ∷ [] → only_configuration cs ≡ Some c
-only_of cs c h = ap only_configuration h
-
-same_configurations : (source : Source) → rules_of.configurations_in source ≡ configurations_in source
-same_configurations [] = refl
-same_configurations (sources.types ts ∷ rest) = same_configurations rest
-same_configurations (sources.unit u ∷ rest) = same_configurations rest
-same_configurations (sources.configuration c ∷ rest) = ap (λ cs. c ∷ cs) (same_configurations rest)
-
--- ---- what is known of resources
-
-instances_known : (text : Declared) (blocks : List GlobalBlock) (rs : List Resource)
-    → list_all (is_known_resource text blocks) rs ≡ true
-    → list_all (λ r. list_all (is_known_instance text r.tasks) r.instances) rs ≡ true
-instances_known text blocks [] h = refl
-instances_known text blocks (r ∷ rs) h =
-    let b = both (is_known_resource text blocks r) (list_all (is_known_resource text blocks) rs) h in
-    let k = both (list_all (is_known_instance text r.tasks) r.instances)
-    (list_all (λ t. is_known_single text blocks t.single) r.tasks) b.0 in
-    both_are (list_all (is_known_instance text r.tasks) r.instances)
-    (list_all (λ q. list_all (is_known_instance text q.tasks) q.instances) rs) k.0 (instances_known text blocks rs b.1)
-
-tasks_known_on : (text : Declared) (tasks : List declared_task.Task) (is : List Instance)
-    → list_all (is_known_instance text tasks) is ≡ true
-    → list_all (λ (i : Instance). is_known_task tasks i.task) is ≡ true
-tasks_known_on text tasks [] h = refl
-tasks_known_on text tasks (i ∷ is) h =
-    let b = both (is_known_instance text tasks i) (list_all (is_known_instance text tasks) is) h in
-    let k = both (is_known_task tasks i.task)
-    (is_program_unit (Rattle.st_types.specs.NameTypes.unit_named text.units i.program.name)) b.0 in
-    both_are (is_known_task tasks i.task) (list_all (λ (j : Instance). is_known_task tasks j.task) is) k.0
-    (tasks_known_on text tasks is b.1)
-
-tasks_known : (text : Declared) (rs : List Resource)
-    → list_all (λ r. list_all (is_known_instance text r.tasks) r.instances) rs ≡ true
-    → list_all (λ r. list_all (λ (i : Instance). is_known_task r.tasks i.task) r.instances) rs ≡ true
-tasks_known text [] h = refl
-tasks_known text (r ∷ rs) h =
-    let b = both (list_all (is_known_instance text r.tasks) r.instances)
-    (list_all (λ q. list_all (is_known_instance text q.tasks) q.instances) rs) h in
-    both_are (list_all (λ (i : Instance). is_known_task r.tasks i.task) r.instances)
-    (list_all (λ q. list_all (λ (i : Instance). is_known_task q.tasks i.task) q.instances) rs)
-    (tasks_known_on text r.tasks r.instances b.0) (tasks_known text rs b.1)
 
 -- ---- instances with their codes
 
@@ -118,8 +69,8 @@ record InstanceAt (n k : ℕ) (ps : List Place) (cs : List CodeView) (v : CodedI
 
 instance_there : (n k : ℕ) (ps : List Place) (cs : List CodeView) (v : CodedInstance)
     → slice_get (instances_from n ps cs) k ≡ Some v → InstanceAt n k ps cs v
-instance_there n k [] cs v h = absurd (cc)
-instance_there n k (p ∷ ps) [] v h = absurd (cc)
+instance_there n k ps [] v h = absurd (cc)
+instance_there n k [] (c ∷ cs) v h = absurd (cc)
 instance_there n zero (p ∷ ps) (c ∷ cs) v h =
     let e : ◌≡◌ {A = CodedInstance} record { place = p; number = n; code = c } v = some_is h in
     let m : n ≡ n + 0 = omega arith in
@@ -145,8 +96,10 @@ module _ (tree : Source) where
       → ((k : ℕ) (p : Program) → slice_get programs k ≡ Some p → (c : CodeView) × (slice_get cs k ≡ Some c))
       → ((k : ℕ) (p : Program) → slice_get programs k ≡ Some p → program_numbered tree (n + k) ≡ p)
       → map (program_view tree) made ≡ instances_at ps programs
-  viewed n [] cs programs [] h owners coded numbered = refl
-  viewed n [] cs programs (m ∷ made) h owners coded numbered = absurd (cc)
+  viewed n [] [] programs [] h owners coded numbered = refl
+  viewed n [] (c ∷ cs) programs [] h owners coded numbered = refl
+  viewed n [] [] programs (m ∷ made) h owners coded numbered = absurd (cc)
+  viewed n [] (c ∷ cs) programs (m ∷ made) h owners coded numbered = absurd (cc)
   viewed n (p ∷ ps) cs [] made h owners coded numbered = absurd (cc)
   viewed n (p ∷ ps) [] (q ∷ programs) made h owners coded numbered =
       let c = coded 0 q refl in let none : ◌≡◌ {A = Option CodeView} None (Some c.0) = c.1 in absurd (cc)
@@ -202,43 +155,6 @@ module _ (source tree : Source) (slots : List LayoutSlot) (codes : List CodeView
   abbrev rs : List Resource
   rs = resources_of source
 
-  only : only_configuration (configurations_in source) ≡ Some c
-  only = only_of (configurations_in source) c (sym (same_configurations source) ∙ judged.configured.one)
-
-  configured : configuration_of source ≡ Some (taken_configuration text c)
-  configured = configuration_taken source ∙ ap (option_map (taken_configuration text)) only
-
-  resources : rs ≡ c.resources
-  resources = ap resources_in configured
-
-  known : list_all (is_known_resource text c.globals) c.resources ≡ true
-  known = (both (list_all (has_known_externals text c.globals) text.units)
-      (list_all (is_known_resource text c.globals) c.resources) judged.configured.kept.known).1
-
-  instances : list_all (λ r. list_all (is_known_instance text r.tasks) r.instances) rs ≡ true
-  instances =
-      subst (λ xs. list_all (λ r. list_all (is_known_instance text r.tasks) r.instances) xs ≡ true) (sym resources)
-      (instances_known text c.globals c.resources known)
-
-  tasked : list_all (λ r. list_all (λ (i : Instance). is_some i.task) r.instances) rs ≡ true
-  tasked =
-      subst (λ xs. list_all (λ r. list_all (λ (i : Instance). is_some i.task) r.instances) xs ≡ true) (sym resources)
-      judged.configured.kept.tasked
-
-  -- the limits of the configuration
-  few : (nat_lt MAX_RESOURCES (length rs) ≡ false) × (list_any (λ r. nat_lt MAX_TASKS (length r.tasks)) rs ≡ false)
-      × (nat_lt MAX_PROGRAMS (length (flat_map (λ r. r.instances) rs)) ≡ false)
-  few =
-      let e = subst (λ xs. (nat_lt MAX_RESOURCES (length xs)
-      || (list_any (λ r. nat_lt MAX_TASKS (length r.tasks)) xs
-      || nat_lt MAX_PROGRAMS (length (flat_map (λ r. r.instances) xs)))) ≡ false) (sym resources)
-      judged.configured.kept.few in
-      let a = neither (nat_lt MAX_RESOURCES (length rs)) (list_any (λ r. nat_lt MAX_TASKS (length r.tasks)) rs
-      || nat_lt MAX_PROGRAMS (length (flat_map (λ r. r.instances) rs))) e in
-      let b = neither (list_any (λ r. nat_lt MAX_TASKS (length r.tasks)) rs)
-      (nat_lt MAX_PROGRAMS (length (flat_map (λ r. r.instances) rs))) a.1 in
-      (a.0, b.0, b.1)
-
   -- the layout
   slots_viewed : map slot_view slots ≡ slots_of_text source
   slots_viewed = ready.layout.slots
@@ -254,7 +170,7 @@ module _ (source tree : Source) (slots : List LayoutSlot) (codes : List CodeView
   boolean : (o : Option Identifier) → is_known_single text c.globals o ≡ true → AreBoolean vs is o
   boolean None h = tt
   boolean (Some x) h =
-      let b = boolean_global source judged.well_typed c only x h in
+      let b = boolean_global source judged.well_typed c (only source judged.configured) x h in
       let p = in_one_part slots b.number b.slot (ap (λ ls. slice_get ls b.number) slots_viewed ∙ b.at) in
       record { number = p.number; slot = b.slot; at = p.at; path = b.path; kind = b.kind }
 
@@ -276,18 +192,12 @@ module _ (source tree : Source) (slots : List LayoutSlot) (codes : List CodeView
       (booleans r.tasks k.1, all_boolean xs b.1)
 
   singles : AllSingles vs is layout_once rs
-  singles = subst (AllSingles vs is layout_once) (sym resources) (all_boolean c.resources known)
-
-  -- the programs of the instances
-  programs_are : programs_of_text source ≡ programs_of_resources (Rattle.st_layouts.specs.LayoutVariables.declared_of source) rs
-  programs_are =
-      ap (programs_of_configuration (Rattle.st_layouts.specs.LayoutVariables.declared_of source)) configured
-      ∙ sym (ap (programs_of_resources (Rattle.st_layouts.specs.LayoutVariables.declared_of source)) resources)
+  singles = subst (AllSingles vs is layout_once) (sym (resources source judged.configured))
+      (all_boolean c.resources (known source judged.configured))
 
   owners : map (λ (p : Program). p.owner) (programs_of_text source)
       ≡ map (λ (p : Place). p.owner) (places_from 0 0 rs)
-  owners = ap (map (λ (p : Program). p.owner)) programs_are ∙ owners_of_programs source rs instances
-      ∙ sym (owners_of_places 0 0 rs)
+  owners = owners_of_text source judged.configured ∙ sym (owners_of_places 0 0 rs)
 
   numbered_program : (k : ℕ) (p : Program) → slice_get (programs_of_text source) k ≡ Some p
       → program_numbered tree (0 + k) ≡ p
@@ -359,7 +269,8 @@ module _ (source tree : Source) (slots : List LayoutSlot) (codes : List CodeView
       let i = made_at made h k p g in
       all_get (runs_in (tasks_from vs is 0 rs)) (places_from 0 0 rs) k
       (record { owner = p.owner; resource = p.resource; task = p.task })
-      (places_run vs is [] 0 0 rs refl (tasks_known text rs instances) tasked) i.place
+      (places_run vs is [] 0 0 rs refl (tasks_known text rs (instances source judged.configured))
+      (tasked source judged.configured)) i.place
 
   made_few : (made : List ProgramInstance) → map instance_view made ≡ instances_from 0 (places_from 0 0 rs) codes
       → length made ≤ MAX_PROGRAMS
@@ -369,13 +280,13 @@ module _ (source tree : Source) (slots : List LayoutSlot) (codes : List CodeView
       let d : length (instances_from 0 (places_from 0 0 rs) codes) ≤ length (places_from 0 0 rs) =
       short 0 (places_from 0 0 rs) codes in
       let e : length (places_from 0 0 rs) ≡ length (flat_map (λ r. r.instances) rs) = places_counted 0 0 rs in
-      let f : nat_lt MAX_PROGRAMS (length (flat_map (λ r. r.instances) rs)) ≡ false = few.1.1 in
+      let f : nat_lt MAX_PROGRAMS (length (flat_map (λ r. r.instances) rs)) ≡ false = (few source judged.configured).1.1 in
       let g : length (flat_map (λ r. r.instances) rs) ≤ MAX_PROGRAMS = grind (arith, nat_tests) in
       omega arith
     where
       short : (n : ℕ) (ps : List Place) (cs : List CodeView) → length (instances_from n ps cs) ≤ length ps
-      short n [] cs = omega arith
-      short n (p ∷ ps) [] = omega arith
+      short n ps [] = omega arith
+      short n [] (x ∷ cs) = omega arith
       short n (p ∷ ps) (x ∷ cs) = let r = short (suc n) ps cs in omega arith
 
   -- the plan is sound
@@ -384,7 +295,7 @@ module _ (source tree : Source) (slots : List LayoutSlot) (codes : List CodeView
       → PlanInvariant tree (enumerations_of_text source) vs is (numbered_from 0 0 slots) (length rs)
       (tasks_from vs is 0 rs) made budget
   plan_is_sound made h short =
-      let f : nat_lt MAX_RESOURCES (length rs) ≡ false = few.0 in
+      let f : nat_lt MAX_RESOURCES (length rs) ≡ false = (few source judged.configured).0 in
       let some_resources : length rs ≤ MAX_RESOURCES = grind (arith, nat_tests) in
       record {
         layout = layout_once;
@@ -400,7 +311,7 @@ module _ (source tree : Source) (slots : List LayoutSlot) (codes : List CodeView
         limits = record {
           paths = few_slots;
           resources_are = some_resources;
-          tasks_each = tasks_are_few vs is rs few.1.0;
+          tasks_each = tasks_are_few vs is rs (few source judged.configured).1.0;
           programs_are = made_few made h;
           some_ticks = ready.some_ticks;
           ticks = ready.ticks;

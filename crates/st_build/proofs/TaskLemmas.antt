@@ -15,7 +15,7 @@ use Rattle.st_build.specs.Tasks.{task_at, tasks_from}
 use Rattle.st_build.proofs.ListLemmas.{both, both_are, all_append}
 
 count_both : (q : ℕ) (xs ys : List Task) → tasks_of q (xs ++ ys) ≡ tasks_of q xs + tasks_of q ys
-count_both q [] ys = refl
+count_both q [] ys = let e : 0 + tasks_of q ys ≡ tasks_of q ys = omega arith in sym e
 count_both q (x ∷ xs) ys = by_test (x.resource == q) (count_both q xs ys)
   where
     by_test : (b : Bool) → tasks_of q (xs ++ ys) ≡ tasks_of q xs + tasks_of q ys
@@ -48,23 +48,27 @@ module _ (vs : List PlanVariable) (is : List PlanInput) where
   few_each : (q number : ℕ) (rs : List Resource) → list_any (λ r. nat_lt MAX_TASKS (length r.tasks)) rs ≡ false
       → tasks_of q (tasks_from vs is number rs) ≤ MAX_TASKS
   few_each q number [] few = grind arith
-  few_each q number (r ∷ rs) few = by_test (nat_lt MAX_TASKS (length r.tasks)) refl few (number == q) refl
+  few_each q number (r ∷ rs) few =
+      by_test (nat_lt MAX_TASKS (length r.tasks)) refl few (few_each q (suc number) rs) (number == q) refl
     where
       by_test : (b : Bool) → nat_lt MAX_TASKS (length r.tasks) ≡ b
-          → (b || list_any (λ r. nat_lt MAX_TASKS (length r.tasks)) rs) ≡ false → (c : Bool) → (number == q) ≡ c
+          → (b || list_any (λ r. nat_lt MAX_TASKS (length r.tasks)) rs) ≡ false
+          → (list_any (λ r. nat_lt MAX_TASKS (length r.tasks)) rs ≡ false
+          → tasks_of q (tasks_from vs is (suc number) rs) ≤ MAX_TASKS)
+          → (c : Bool) → (number == q) ≡ c
           → tasks_of q (tasks_from vs is number (r ∷ rs)) ≤ MAX_TASKS
-      by_test true e h c f = absurd (cc)
-      by_test false e h true f =
+      by_test true e h rest c f = absurd (cc)
+      by_test false e h rest true f =
           let a = count_both q (map (task_at vs is number) r.tasks) (tasks_from vs is (suc number) rs) in
           let b = own q number true f r.tasks in
           let same : q < suc number = grind (arith, nat_tests) in
           let d = none_before q (suc number) rs same in
           let short : length r.tasks ≤ MAX_TASKS = grind (arith, nat_tests) in
           omega arith
-      by_test false e h false f =
+      by_test false e h rest false f =
           let a = count_both q (map (task_at vs is number) r.tasks) (tasks_from vs is (suc number) rs) in
           let b = own q number false f r.tasks in
-          let d = few_each q (suc number) rs h in
+          let d = rest h in
           omega arith
 
   all_few : (tasks ts : List Task) → ((q : ℕ) → tasks_of q tasks ≤ MAX_TASKS)

@@ -19,7 +19,7 @@ instance_view p = record {
 
 -- instances in their order, of which the first has this number, each with its code
 abbrev pub instances_from : ℕ → List Place → List CodeView → List CodedInstance
-instances_from number [] codes = []
-instances_from number (p ∷ ps) [] = []
+instances_from number ps [] = []
+instances_from number [] (c ∷ cs) = []
 instances_from number (p ∷ ps) (c ∷ cs) =
     record { place = p; number = number; code = c } ∷ instances_from (suc number) ps cs

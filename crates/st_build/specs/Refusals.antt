@@ -7,8 +7,6 @@ use Rattle.st_lex.specs.declared.fault.LexError.TheVariants as lexing
 use Rattle.st_lex.specs.Texts.{IsSpelledBy, LexErrorApplies}
 use Rattle.st_statements.specs.declared.fault.ParseError.TheVariants as grammar
 use Rattle.st_parse.specs.Answers.{Refused}
-use Rattle.st_parse.specs.Depths.{SourceWithin}
-use Rattle.st_parse.specs.Sources.{IsSource}
 use Rattle.st_statics.specs.Rules.{broken, IsWellTyped}
 use Rattle.st_decl.specs.declared.judging.CheckError.TheVariants as checking
 use Rattle.st_decl.specs.Judgements.{Refuses}
@@ -19,17 +17,11 @@ use Rattle.st_plans.specs.Plans as plans
 use Rattle.st_layouts.specs.TextLayouts.{enumerations_of_text, instances_of_text, plan_variables_of_text, slots_of_text}
 use Rattle.layout.specs.declared.layout_error.LayoutError.TheVariants as layouts
 use Rattle.layout.specs.Growth.{Exceeds}
+use Rattle.text_paths.specs.Texts.{IsTextOf}
 use Rattle.config.specs.declared.plan.Plan.{Plan}
 use Rattle.config.specs.PlanViews.{plan_view}
 use Rattle.st_build.specs.declared.build_error.BuildError.{BuildError}
 use Rattle.st_build.specs.declared.build_error.BuildError.TheVariants as errors
-
--- The bytes spell the source.
-pub record IsTextOf (text : List ℕ) (source : Source) : Type 0 where
-  pub tokens : List Token
-  pub spelled : IsSpelledBy text tokens
-  pub parsed : IsSource tokens source
-  pub within : SourceWithin 64 source
 
 -- Why a well-typed text has no plan: its configuration is not sound, or it is too large. Of code that has no room
 -- nothing is said, nor of want of memory.

@@ -4,8 +4,7 @@ ghost use Rattle.std.specs.Prelude.{◌≡◌, ◌++◌, IfOk, map};
 ghost use Rattle.std.specs.Vec.{vec_items};
 ghost use Rattle.st_trees.specs.DeclarationViews.{type_declaration_view};
 ghost use Rattle.st_trees.specs.SourceViews.{source_view};
-ghost use Rattle.st_types.specs.NameTypes.{types_in};
-ghost use Rattle.st_layouts.specs.TextLayouts.{enumeration_names};
+ghost use Rattle.st_build.specs.TypeNames.{names_in_text, names_of_types};
 
 use st_trees::{LibraryElement, Source, TypeDeclaration, TypeDefinition};
 use st_words::{Identifier, Name};
@@ -28,7 +27,7 @@ fn push_enumerations(
     types: &[TypeDeclaration],
 ) -> Result<(), AllocError>
     ensures { IfOk result (λ done. map vec_items enumerations.new.items ≡ map vec_items enumerations.old.items
-        ++ enumeration_names (map type_declaration_view types.now)) }
+        ++ names_of_types (map type_declaration_view types.now)) }
 {
     for declared in types {
         if let TypeDefinition::Enumeration(names) = &declared.definition {
@@ -40,8 +39,8 @@ fn push_enumerations(
 
 /// The names of each enumerated type of a text, in its order.
 pub fn enumerations_in(alloc: Global, tree: &Source) -> Result<Vec<Vec<Name>>, AllocError>
-    ensures { IfOk result (λ enumerations. map vec_items enumerations.items
-        ≡ enumeration_names (types_in (source_view tree.now))) }
+    ensures { IfOk result
+        (λ enumerations. map vec_items enumerations.items ≡ names_in_text (source_view tree.now)) }
 {
     let mut enumerations = Vec::new(alloc);
     for element in &tree.elements {

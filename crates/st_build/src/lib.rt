@@ -5,6 +5,7 @@
 
 mod build_error;
 mod enumerations;
+mod laws;
 mod numbered_slots;
 mod places;
 mod programs;
@@ -16,4 +17,5 @@ mod text_plan;
 
 pub use build_error::BuildError;
 pub use config::Plan;
+pub use laws::instances_of_plans_are_told_apart;
 pub use source_plan::build;

@@ -1,12 +1,13 @@
 //! Where the instances of a configuration run.
 
-ghost use Rattle.std.specs.Prelude.{◌≡◌, ◌++◌, ◌+◌, ◌<◌, ◌^◌, IfOk, IfSome, length, map};
+ghost use Rattle.std.specs.Prelude.{◌≡◌, ◌++◌, ◌<◌, ◌^◌, IfOk, map, position};
 ghost use Rattle.st_trees.specs.ConfigurationViews.{resource_view};
+ghost use Rattle.st_types.specs.NameTypes.{is_named};
 ghost use Rattle.st_build.specs.Places.{place_of, task_number};
 
 use st_trees::{Instance, Resource, Task};
 use st_types::lookup::is_named;
-use st_words::{Identifier, Owner};
+use st_words::{Identifier, Name, Owner};
 use std::alloc::{AllocError, Global};
 
 /// Where an instance of a program runs.
@@ -20,12 +21,19 @@ pub struct Place {
     pub task: usize,
 }
 
-/// The number of the task of this name.
+/// The number of the first task of this name.
+fn task_named(tasks: &[Task], name: &Name) -> Option<usize>
+    ensures { result ≡ position (λ t. is_named name.now t.name) tasks.now }
+{
+    tasks.iter().position(|t| is_named(name, &t.name))
+}
+
+/// The number of the task that an instance names.
 fn task_number(tasks: &[Task], task: &Option<Identifier>) -> Option<usize>
     ensures { result ≡ task_number tasks.now task.now }
 {
     match task {
-        Some(name) => tasks.iter().position(|t| is_named(&name.name, &t.name)),
+        Some(name) => task_named(tasks, &name.name),
         None => None,
     }
 }

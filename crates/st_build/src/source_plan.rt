@@ -8,7 +8,8 @@ ghost use Rattle.st_types.specs.ResolvedUnits.{resolved_source};
 ghost use Rattle.st_plans.specs.Plans as plans;
 ghost use Rattle.config.specs.PlanViews.{plan_view};
 ghost use Rattle.st_build.specs.Readiness.{IsJudged};
-ghost use Rattle.st_build.specs.Refusals.{GivesPlan, IsTextOf, LacksPlan, SourceLacksPlan, TextLacksPlan};
+ghost use Rattle.text_paths.specs.Texts.{IsTextOf};
+ghost use Rattle.st_build.specs.Refusals.{GivesPlan, LacksPlan, SourceLacksPlan, TextLacksPlan};
 ghost use Rattle.st_build.specs.TextPlans.{IsPlanOf};
 
 use crate::build_error::BuildError;

@@ -1,11 +1,11 @@
 use Rattle.std.proofs.Common.{◌≡◌, ◌++◌, drop, map}
 use Rattle.std.specs.Vec.{vec_items}
 use Rattle.st_trees.specs.DeclarationViews.{type_declaration_view}
-use Rattle.st_layouts.specs.TextLayouts.{enumeration_names}
+use Rattle.st_build.specs.TypeNames.{names_of_types}
 use Rattle.st_build.proofs.enumerations.push_enumerations.Given as goal
 
 abbrev pub invariant-loop-declared : goal.invariant-loop-declared
 invariant-loop-declared l =
     map vec_items l.enumerations.items
-    ++ enumeration_names (map type_declaration_view (drop l.declared-index l.types))
-    ≡ map vec_items l.initial.enumerations.items ++ enumeration_names (map type_declaration_view l.types)
+    ++ names_of_types (map type_declaration_view (drop l.declared-index l.types))
+    ≡ map vec_items l.initial.enumerations.items ++ names_of_types (map type_declaration_view l.types)
