@@ -1,3 +1,0 @@
-pub mod TableLemmas
-pub mod FittingLemmas
-pub mod MeaningLemmas

@@ -1,7 +1,0 @@
-pub mod Bools
-pub mod OnceLemmas
-pub mod SumLemmas
-pub mod CellLemmas
-pub mod StepLemmas
-pub mod CutLemmas
-pub mod RunLemmas

@@ -1,4 +1,0 @@
-pub mod Cells
-pub mod Steps
-pub mod Effects
-pub mod Executions
