@@ -31,15 +31,16 @@ never_zero (Some n) h = let q : suc n ≡ 0 = some_is h in absurd (omega arith)
 
 pub found : (ls : List Slot) (p : Path) (k : ℕ) → slot_of ls p ≡ Some k → Found ls p k
 found [] p k h = absurd (cc)
-found (l ∷ ls) p k h = by_test (same_path p l.path) refl k h
+found (l ∷ ls) p k h = by_test (same_path p l.path) refl k h (found ls p)
   where
     by_test : (b : Bool) → same_path p l.path ≡ b → (k : ℕ)
-        → (if b then Some 0 else option_map suc (slot_of ls p)) ≡ Some k → Found (l ∷ ls) p k
-    by_test true e zero h = record { slot = l; at = refl; path = same_path_is p l.path e }
-    by_test true e (suc k) h = let q : 0 ≡ suc k = some_is h in absurd (omega arith)
-    by_test false e zero h = absurd (never_zero (slot_of ls p) h)
-    by_test false e (suc k) h =
-        let f = found ls p k (unsuc (slot_of ls p) k h) in record { slot = f.slot; at = f.at; path = f.path }
+        → (if b then Some 0 else option_map suc (slot_of ls p)) ≡ Some k
+        → ((j : ℕ) → slot_of ls p ≡ Some j → Found ls p j) → Found (l ∷ ls) p k
+    by_test true e zero h rest = record { slot = l; at = refl; path = same_path_is p l.path e }
+    by_test true e (suc k) h rest = let q : 0 ≡ suc k = some_is h in absurd (omega arith)
+    by_test false e zero h rest = absurd (never_zero (slot_of ls p) h)
+    by_test false e (suc k) h rest =
+        let f = rest k (unsuc (slot_of ls p) k h) in record { slot = f.slot; at = f.at; path = f.path }
 
 -- ---- each path stands once
 
@@ -75,7 +76,7 @@ apart_of (l ∷ ls) h = (first_apart l ls h, apart_of ls (others_layout l ls h))
 not_there : (ls : List Slot) (p : Path) (k : ℕ) (m : Slot) → slot_of ls p ≡ None → slice_get ls k ≡ Some m
     → same_path m.path p ≡ false
 not_there [] p k m h g = absurd (cc)
-not_there (l ∷ ls) p k m h g = by_test (same_path p l.path) refl h k g
+not_there (l ∷ ls) p k m h g = by_test (same_path p l.path) refl h k g (λ j n f. not_there ls p j m n f)
   where
     turned : same_path p l.path ≡ false → (b : Bool) → same_path l.path p ≡ b → b ≡ false
     turned e false i = refl
@@ -87,12 +88,14 @@ not_there (l ∷ ls) p k m h g = by_test (same_path p l.path) refl h k g
     none None i = refl
     none (Some n) i = absurd (cc)
     by_test : (b : Bool) → same_path p l.path ≡ b → (if b then Some 0 else option_map suc (slot_of ls p)) ≡ None
-        → (k : ℕ) → slice_get (l ∷ ls) k ≡ Some m → same_path m.path p ≡ false
-    by_test true e i k g = absurd (cc)
-    by_test false e i zero g =
+        → (k : ℕ) → slice_get (l ∷ ls) k ≡ Some m
+        → ((j : ℕ) → slot_of ls p ≡ None → slice_get ls j ≡ Some m → same_path m.path p ≡ false)
+        → same_path m.path p ≡ false
+    by_test true e i k g rest = absurd (cc)
+    by_test false e i zero g rest =
         let q : l ≡ m = some_is g in
         ap (λ x. same_path x.path p) (sym q) ∙ turned e (same_path l.path p) refl
-    by_test false e i (suc k) g = not_there ls p k m (none (slot_of ls p) i) g
+    by_test false e i (suc k) g rest = rest k (none (slot_of ls p) i) g
 
 layout_apart : (ls : List Slot) → Apart ls → IsLayout ls
 layout_apart [] a k m g = absurd (cc)
@@ -154,34 +157,32 @@ in_parts ss = layout_of (variables_among ss) (inputs_among ss)
 
 part_none : (ss : List LayoutSlot) (p : Path) → slot_of (map slot_view ss) p ≡ None → slot_of (in_parts ss) p ≡ None
 part_none [] p h = refl
-part_none (s ∷ ss) p h = by_sort s.is_input refl
+part_none (s ∷ ss) p h =
+    let n = by_first (same_path p s.path) (slot_of (map slot_view ss) p) h in
+    by_sort s.is_input refl n.0 (part_none ss p n.1)
   where
-    n : (same_path p s.path ≡ false) × (slot_of (map slot_view ss) p ≡ None)
-    n = by_first (same_path p s.path) (slot_of (map slot_view ss) p) h
-    rest : slot_of (in_parts ss) p ≡ None
-    rest = part_none ss p n.1
-    by_sort : (b : Bool) → s.is_input ≡ b → slot_of (in_parts (s ∷ ss)) p ≡ None
-    by_sort false e = rw e (ap (λ b. if b then Some 0 else option_map suc (slot_of (in_parts ss) p)) n.0
-    ∙ ap (option_map suc) rest)
-    by_sort true e =
+    by_sort : (b : Bool) → s.is_input ≡ b → same_path p s.path ≡ false → slot_of (in_parts ss) p ≡ None
+        → slot_of (in_parts (s ∷ ss)) p ≡ None
+    by_sort false e n rest =
+        rw e (ap (λ b. if b then Some 0 else option_map suc (slot_of (in_parts ss) p)) n ∙ ap (option_map suc) rest)
+    by_sort true e n rest =
         let vs = map variable_slot (variables_among ss) in
         let is = map input_slot (inputs_among ss) in
         let here : slot_of (input_slot (input_of s) ∷ is) p ≡ None =
-        ap (λ b. if b then Some 0 else option_map suc (slot_of is p)) n.0
+        ap (λ b. if b then Some 0 else option_map suc (slot_of is p)) n
         ∙ ap (option_map suc) (right_none vs is p rest) in
         rw e (both_none vs (input_slot (input_of s) ∷ is) p (left_none vs is p rest) here)
 
 parts_apart : (ss : List LayoutSlot) → Apart (map slot_view ss) → Apart (in_parts ss)
 parts_apart [] a = tt
-parts_apart (s ∷ ss) a = by_sort s.is_input refl
+parts_apart (s ∷ ss) a = by_sort s.is_input refl (part_none ss s.path a.0) (parts_apart ss a.1)
   where
-    none : slot_of (in_parts ss) s.path ≡ None
-    none = part_none ss s.path a.0
-    by_sort : (b : Bool) → s.is_input ≡ b → Apart (in_parts (s ∷ ss))
-    by_sort false e = rw e (none, parts_apart ss a.1)
-    by_sort true e =
+    by_sort : (b : Bool) → s.is_input ≡ b → slot_of (in_parts ss) s.path ≡ None → Apart (in_parts ss)
+        → Apart (in_parts (s ∷ ss))
+    by_sort false e none rest = rw e (none, rest)
+    by_sort true e none rest =
         rw e (between (map variable_slot (variables_among ss)) (map input_slot (inputs_among ss)) (input_slot (input_of s))
-        (parts_apart ss a.1) none)
+        rest none)
 
 pub parts_are_layout : (ss : List LayoutSlot) → IsLayout (map slot_view ss)
     → IsLayout (layout_of (variables_among ss) (inputs_among ss))

@@ -2,6 +2,7 @@
 use Rattle.std.proofs.Common.{◌≡◌, ◌+◌, ℕ, zero, suc, refl, sym, ap, ◌∙◌, subst, arith, Bool, true, false, not, ◌&&◌}
 use Rattle.std.proofs.Common.{if◌then◌else◌, List, [], ◌∷◌, map, length}
 use Rattle.std.specs.Prelude.{◌==◌, filter}
+use Rattle.std.proofs.lemmas.Bool.Decides.{nat_tests}
 use Rattle.st_types.specs.Slots.{Slot}
 use Rattle.st_plans.specs.declared.plan.PlanInput.{PlanInput}
 use Rattle.st_plans.specs.declared.plan.PlanVariable.{PlanVariable}
@@ -14,8 +15,7 @@ use Rattle.config.specs.SlotPlaces.{are_numbered, merged, slots_among}
 use Rattle.st_build.specs.NumberedSlots.{numbered_from}
 
 same_number : (n : ℕ) → (n == n) ≡ true
-same_number zero = refl
-same_number (suc n) = same_number n
+same_number n = grind (arith, nat_tests)
 
 and_first : (a b : Bool) → a ≡ true → b ≡ true → (a && b) ≡ true
 and_first true b h k = k

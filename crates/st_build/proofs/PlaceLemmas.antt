@@ -5,6 +5,7 @@ use Rattle.std.proofs.Common.{append_assoc}
 use Rattle.std.specs.Prelude.{◌==◌, is_some, position}
 use Rattle.std.specs.List.{flat_map, list_all, list_any}
 use Rattle.std.specs.Option.{unwrap_or}
+use Rattle.std.proofs.lemmas.Bool.Decides.{nat_tests}
 use Rattle.st_words.specs.declared.identifier.Identifier.{Identifier}
 use Rattle.st_words.specs.declared.path.Owner.{Owner}
 use Rattle.st_trees.specs.declared.configuration.Instance.{Instance}
@@ -116,8 +117,7 @@ abbrev pub runs_in : List Task → Place → Bool
 runs_in tasks p = is_of_resource p.resource (slice_get tasks p.task)
 
 same_number : (n : ℕ) → (n == n) ≡ true
-same_number zero = refl
-same_number (suc n) = same_number n
+same_number n = grind (arith, nat_tests)
 
 module _ (vs : List PlanVariable) (is : List PlanInput) where
   -- the task of an instance is known, so it has a number

@@ -56,7 +56,7 @@ found_in_both [] ys p = nothing (slot_of ys p)
   where
     nothing : (o : Option ℕ) → o ≡ in_both 0 None o
     nothing None = refl
-    nothing (Some k) = refl
+    nothing (Some k) = let e : k ≡ 0 + k = omega arith in ap Some e
 found_in_both (x ∷ xs) ys p =
     ap (λ o. if same_path p x.path then Some 0 else option_map suc o) (found_in_both xs ys p)
     ∙ by_test (same_path p x.path) (slot_of xs p) (slot_of ys p)
@@ -67,7 +67,8 @@ found_in_both (x ∷ xs) ys p =
     by_test true o u = refl
     by_test false (Some k) u = refl
     by_test false None None = refl
-    by_test false None (Some k) = refl
+    by_test false None (Some k) =
+        let e : suc (length xs + k) ≡ suc (length xs) + k = omega arith in ap Some e
 
 -- ---- a BOOL among variables and inputs
 

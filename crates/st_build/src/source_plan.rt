@@ -20,7 +20,6 @@ use st_check::check;
 use st_configured::configure;
 use st_lex::lex;
 use st_parse::parse;
-use st_stores::functions_of_the_grammar_have_no_externals;
 use st_trees::Source;
 use st_words::limits::MAX_BUDGET;
 use std::alloc::Global;
@@ -50,7 +49,6 @@ fn plan_of(alloc: Global, source: Source, budget: u32) -> Result<Plan, BuildErro
     ensures plan { IfOk result (λ plan. IsPlanOf (source_view source) budget (plan_view plan)) }
     ensures refused { IfErr result (λ e. SourceLacksPlan (source_view source) e) }
 {
-    functions_of_the_grammar_have_no_externals();
     paths_of_texts_are_written_apart();
     let configured = configure(alloc, &source);
     let checked = check(alloc, source)?;

@@ -1,0 +1,1 @@
+run filler.st --plant plant.csv --store filler.retain --start cold

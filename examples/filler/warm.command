@@ -1,0 +1,1 @@
+run filler.st --plant next.csv --store filler.retain --start warm

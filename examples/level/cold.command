@@ -1,0 +1,1 @@
+run level.st --plant plant.csv --store level.retain --start cold

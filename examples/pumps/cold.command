@@ -1,0 +1,1 @@
+run pumps.st --plant plant.csv --store pumps.retain --start cold
