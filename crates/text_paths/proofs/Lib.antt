@@ -1,2 +1,5 @@
-pub mod Tests
 pub mod OnePath
+pub mod PlainTokens
+pub mod PlainShapes
+pub mod PlainPaths
+pub mod ApartTexts

@@ -16,8 +16,9 @@ use Rattle.st_words.specs.declared.path.Step.TheVariants.{Member, Element}
 use Rattle.st_words.specs.Paths.{Path}
 use Rattle.st_words.specs.UpperNames.{is_letter, is_letter_or_digit, is_spaced, is_upper_name}
 use Rattle.st_plans.specs.Layouts.{owner_text, step_text, steps_text, path_text}
-use Rattle.text_paths.specs.WordPaths.{is_short, is_word_owner, is_word_step, is_word_path}
-use Rattle.text_paths.proofs.Tests.{both, both_are, or_here, or_later}
+use Rattle.text_paths.specs.WordPaths.{is_word_owner, is_word_step, is_word_path}
+use Rattle.text_paths.specs.PlainDeclarations.{is_short}
+use Rattle.st_layouts.proofs.ListLemmas.{both, both_are, or_here, or_later}
 
 -- nothing, or a byte in front that does not pass
 abbrev stops : (ℕ → Bool) → List ℕ → Bool
@@ -97,7 +98,7 @@ number_is (negsuc m) (negsuc n) a b e =
     let less : m ≡ n = omega arith in
     ap negsuc less
 
-short_is : (z : ℤ) → is_short z ≡ true → unsigned_abs z < 2 ^ 64
+short_is : (z : ℤ) → is_short (unsigned_abs z) ≡ true → unsigned_abs z < 2 ^ 64
 short_is z h = ltb-true (unsigned_abs z) (2 ^ 64) h
 
 -- steps
@@ -109,7 +110,7 @@ steps_stop (Element z ∷ xs) = refl
 element_text : (z : ℤ) (xs : List Step) → steps_text (Element z ∷ xs) ≡ 91 ∷ (signed_decimal z ++ (93 ∷ steps_text xs))
 element_text z xs = ap (λ bs. 91 ∷ bs) (append_assoc (signed_decimal z) (93 ∷ []) (steps_text xs))
 
-element_is : (y z : ℤ) (r s : List ℕ) → is_short y ≡ true → is_short z ≡ true
+element_is : (y z : ℤ) (r s : List ℕ) → is_short (unsigned_abs y) ≡ true → is_short (unsigned_abs z) ≡ true
     → signed_decimal y ++ (93 ∷ r) ≡ signed_decimal z ++ (93 ∷ s) → (y ≡ z) × (r ≡ s)
 element_is y z r s a b e =
     let i = front_is is_sign_or_digit (signed_decimal y) (signed_decimal z) (93 ∷ r) (93 ∷ s)
@@ -146,8 +147,8 @@ element_step_is : (y z : ℤ) (xs ys : List Step) → is_word_step (Element y) &
     → (list_all is_word_step xs ≡ true → list_all is_word_step ys ≡ true → steps_text xs ≡ steps_text ys → xs ≡ ys)
     → steps_text (Element y ∷ xs) ≡ steps_text (Element z ∷ ys) → Element y ∷ xs ≡ Element z ∷ ys
 element_step_is y z xs ys a b ih e =
-    let c = both (is_short y) (list_all is_word_step xs) a in
-    let d = both (is_short z) (list_all is_word_step ys) b in
+    let c = both (is_short (unsigned_abs y)) (list_all is_word_step xs) a in
+    let d = both (is_short (unsigned_abs z)) (list_all is_word_step ys) b in
     let w = sym (element_text y xs) ∙ e ∙ element_text z ys in
     let i = element_is y z (steps_text xs) (steps_text ys) c.0 d.0 (ap behind w) in
     ap₂ (λ n ns. Element n ∷ ns) i.0 (ih c.1 d.1 i.1)

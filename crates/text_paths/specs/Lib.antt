@@ -1,1 +1,2 @@
 pub mod WordPaths
+pub mod PlainDeclarations
