@@ -3,3 +3,4 @@ pub mod PlainTokens
 pub mod PlainShapes
 pub mod PlainPaths
 pub mod ApartTexts
+pub mod EnumerationNames
