@@ -25,7 +25,7 @@ use Rattle.st_layouts.specs.TextLayouts.{enumeration_names}
 use Rattle.st_layouts.proofs.ListLemmas.{both, both_are, some_is, get_map, length_map}
 use Rattle.text_paths.specs.PlainDeclarations.{is_word, is_plain_definition, is_plain_type_declaration}
 use Rattle.text_paths.specs.PlainDeclarations.{is_plain_unit, is_plain_configuration, is_plain_element}
-use Rattle.text_paths.specs.Spelled.{has_names, has_spelling}
+use Rattle.config.specs.Sound.{has_names, has_spelling}
 
 -- so many names, all words
 abbrev is_sound_list : List Identifier → Bool

@@ -4,3 +4,5 @@ pub mod PlainShapes
 pub mod PlainPaths
 pub mod ApartTexts
 pub mod EnumerationNames
+pub mod Lines
+pub mod ResolvedNames

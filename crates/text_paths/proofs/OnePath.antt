@@ -45,7 +45,7 @@ front_is f (x ∷ xs) (y ∷ ys) r s a b c d e =
     (cc, i.1)
 
 -- words
-word_bytes : (x : List ℕ) → is_upper_name x ≡ true → list_all is_letter_or_digit x ≡ true
+pub word_bytes : (x : List ℕ) → is_upper_name x ≡ true → list_all is_letter_or_digit x ≡ true
 word_bytes [] h = refl
 word_bytes (b ∷ bs) h =
     let p = both ((is_letter b && list_all is_letter_or_digit bs) && is_spaced (b ∷ bs))
@@ -60,7 +60,7 @@ word_is : (x y r s : List ℕ) → is_upper_name x ≡ true → is_upper_name y 
 word_is x y r s a b = front_is is_letter_or_digit x y r s (word_bytes x a) (word_bytes y b)
 
 -- numbers
-abbrev is_sign_or_digit : ℕ → Bool
+abbrev pub is_sign_or_digit : ℕ → Bool
 is_sign_or_digit b = (b == 45) || (nat_le 48 b && nat_le b 57)
 
 digit_passes : (d : ℕ) → 48 ≤ d → d ≤ 57 → is_sign_or_digit d ≡ true
@@ -74,7 +74,7 @@ decimal_bytes n small = decimal_by_steps (λ m ds. list_all is_sign_or_digit ds 
     (both_are (is_sign_or_digit (48 + m % 10)) true (digit_passes (48 + m % 10) (omega arith) (omega arith)) refl))
     n small
 
-number_bytes : (z : ℤ) → unsigned_abs z < 2 ^ 64 → list_all is_sign_or_digit (signed_decimal z) ≡ true
+pub number_bytes : (z : ℤ) → unsigned_abs z < 2 ^ 64 → list_all is_sign_or_digit (signed_decimal z) ≡ true
 number_bytes (pos n) small = decimal_bytes n small
 number_bytes (negsuc n) small = decimal_bytes (suc n) small
 
@@ -98,7 +98,7 @@ number_is (negsuc m) (negsuc n) a b e =
     let less : m ≡ n = omega arith in
     ap negsuc less
 
-short_is : (z : ℤ) → is_short (unsigned_abs z) ≡ true → unsigned_abs z < 2 ^ 64
+pub short_is : (z : ℤ) → is_short (unsigned_abs z) ≡ true → unsigned_abs z < 2 ^ 64
 short_is z h = ltb-true (unsigned_abs z) (2 ^ 64) h
 
 -- steps

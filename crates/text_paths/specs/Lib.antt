@@ -1,3 +1,2 @@
 pub mod WordPaths
 pub mod PlainDeclarations
-pub mod Spelled
