@@ -8,7 +8,7 @@ use Rattle.st_types.specs.Scopes.{Name, contains_name}
 use Rattle.st_types.specs.Slots.{Slot, slot_of, IsLayout}
 use Rattle.st_types.proofs.SlotLemmas.{same_path_itself}
 use Rattle.st_plans.specs.Layouts.{path_text}
-use Rattle.st_layouts.specs.Names.{are_different}
+use Rattle.config.specs.Sound.{are_different}
 use Rattle.st_layouts.proofs.ListLemmas.{both, both_are, turned, turned_back, neither, same_name, map_some}
 use Rattle.text_paths.specs.WordPaths.{is_word_path}
 use Rattle.text_paths.proofs.OnePath.{one_path}

@@ -154,7 +154,7 @@ few_names names h = at_most (length names) MAX_NAMES (short_list MAX_NAMES names
     at_most : (m n : ℕ) → m ≤ n → nat_le m n ≡ true
     at_most m n h = grind (arith, nat_tests)
 
-nothing_joined : {A : Type 0} (xs ys : List A) → xs ++ ys ≡ [] → (xs ≡ []) × (ys ≡ [])
+pub nothing_joined : {A : Type 0} (xs ys : List A) → xs ++ ys ≡ [] → (xs ≡ []) × (ys ≡ [])
 nothing_joined [] ys h = (refl, h)
 nothing_joined (x ∷ xs) ys h = absurd (cc)
 

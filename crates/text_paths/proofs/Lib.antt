@@ -6,3 +6,5 @@ pub mod ApartTexts
 pub mod EnumerationNames
 pub mod Lines
 pub mod ResolvedNames
+pub mod PlainRest
+pub mod TextLines
