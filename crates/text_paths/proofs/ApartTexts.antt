@@ -1,9 +1,9 @@
 -- Paths of words that stand once in a layout are written apart.
-use Rattle.std.proofs.Common.{◌≡◌, refl, sym, ap, ap₂, ◌∙◌, ℕ, suc, zero, Bool, true, false, not, ◌&&◌, ◌||◌}
-use Rattle.std.proofs.Common.{if◌then◌else◌, List, [], ◌∷◌, map, slice_get, Option, Some, None, option_map}
+use Rattle.std.proofs.Common.{◌≡◌, refl, sym, ap, ap₂, ◌∙◌, ℕ, suc, Bool, true, false, not, ◌||◌}
+use Rattle.std.proofs.Common.{if◌then◌else◌, List, [], ◌∷◌, map, slice_get, Some, option_map}
 use Rattle.std.specs.Prelude.{bytes_eq, filter}
 use Rattle.std.specs.List.{list_all}
-use Rattle.st_words.specs.Paths.{Path, same_path}
+use Rattle.st_words.specs.Paths.{same_path}
 use Rattle.st_types.specs.Scopes.{Name, contains_name}
 use Rattle.st_types.specs.Slots.{Slot, slot_of, IsLayout}
 use Rattle.st_types.proofs.SlotLemmas.{same_path_itself}
@@ -92,6 +92,10 @@ fewer_differ p (l ∷ ls) h =
         (turned_back (contains_name (map text_of (filter p ls)) (text_of l)) here) rest
     by_test false here rest = rest
 
-pub layout_written_apart : (p : Slot → Bool) (ls : List Slot) → list_all (λ l. is_word_path l.path) ls ≡ true
-    → IsLayout ls → are_different (map (λ l. path_text l.path) (filter p ls)) ≡ true
-layout_written_apart p ls h layout = fewer_differ p ls (texts_differ ls h layout)
+pub layout_apart : (ls : List Slot) → list_all (λ l. is_word_path l.path) ls ≡ true → IsLayout ls
+    → are_different (map (λ l. path_text l.path) ls) ≡ true
+layout_apart ls h layout = texts_differ ls h layout
+
+pub filtered_apart : (p : Slot → Bool) (ls : List Slot) → are_different (map (λ l. path_text l.path) ls) ≡ true
+    → are_different (map (λ l. path_text l.path) (filter p ls)) ≡ true
+filtered_apart p ls h = fewer_differ p ls h

@@ -1,14 +1,14 @@
 -- The enumerated types of a text whose names are words, and not too many, can be spelled in a record.
-use Rattle.std.proofs.Common.{◌≡◌, refl, sym, ap, ap₂, ◌∙◌, ℕ, suc, zero, ◌+◌, ◌<◌, ◌≤◌, Bool, true, false, ◌&&◌, ◌==◌}
-use Rattle.std.proofs.Common.{if◌then◌else◌, List, [], ◌∷◌, ◌++◌, length, map, slice_get, Option, Some, None, option_map, arith}
+use Rattle.std.proofs.Common.{◌≡◌, refl, sym, ap, ◌∙◌, ℕ, suc, zero, ◌+◌, ◌<◌, ◌≤◌, Bool, true, false, ◌&&◌, ◌==◌}
+use Rattle.std.proofs.Common.{if◌then◌else◌, List, [], ◌∷◌, ◌++◌, length, map, slice_get, Option, Some, None}
+use Rattle.std.proofs.Common.{option_map, arith}
 use Rattle.std.specs.Prelude.{bytes_eq, nat_le, nat_lt}
 use Rattle.std.specs.List.{list_all, flat_map}
-use Rattle.std.proofs.lemmas.Bool.{ltb-true, eqb-true}
+use Rattle.std.proofs.lemmas.Bool.{ltb-true}
 use Rattle.std.proofs.lemmas.Bool.Decides.{nat_tests}
 use Rattle.std.proofs.lemmas.Grind.{flat_map-append}
 use Rattle.std.proofs.lemmas.List.Folds.{list_all-append, list_all-map}
 use Rattle.st_words.specs.declared.identifier.Identifier.{Identifier}
-use Rattle.st_words.specs.declared.kind.Kind.{Kind}
 use Rattle.st_words.specs.UpperNames.{is_upper_name}
 use Rattle.st_trees.specs.Declarations as declarations
 use Rattle.st_trees.specs.Declarations.{TypeDefinition, TypeDeclaration}
@@ -19,7 +19,7 @@ use Rattle.st_types.specs.Enumerations.{enumeration_named, kind_of_enumeration}
 use Rattle.st_types.specs.NameTypes.{types_in}
 use Rattle.st_types.specs.Scopes.{Name}
 use Rattle.st_statics.specs.declared.limits.TheConstants.{MAX_NAMES}
-use Rattle.st_statics.specs.DeclaredTypes.{names_of_definition, enumerations_of_element, enumerations_in}
+use Rattle.st_statics.specs.DeclaredTypes.{names_of_definition, enumerations_in}
 use Rattle.st_statics.specs.TypeRules.{place_of_one, surplus_name}
 use Rattle.st_layouts.specs.TextLayouts.{enumeration_names}
 use Rattle.st_layouts.proofs.ListLemmas.{both, both_are, some_is, get_map, length_map}
@@ -120,7 +120,8 @@ names_spelled names h =
     (list_all is_upper_name words)
     (both_are (length words == length names && nat_le 1 (length names)) (nat_le (length names) MAX_NAMES)
     (both_are (length words == length names) (nat_le 1 (length names))
-    (same_length (length words) (length names) (length_map (λ x. x.name) names)) (at_least_one (length names) some)) c.1)
+    (same_length (length words) (length names) (length_map (λ x. x.name) names))
+    (at_least_one (length names) some)) c.1)
     (list_all-map is_upper_name (λ x. x.name) names ∙ b.1)
   where
     same_length : (m n : ℕ) → m ≡ n → (m == n) ≡ true
@@ -173,11 +174,13 @@ sound_definition (declarations.enumeration names) h g =
     both_are (nat_lt 0 (length names) && nat_le (length names) MAX_NAMES) (list_all is_word names)
     (both_are (nat_lt 0 (length names)) (nat_le (length names) MAX_NAMES) b.0 few) b.1
 
-sound_types : (ts : List TypeDeclaration) → flat_map surplus_name (flat_map (λ t. names_of_definition t.definition) ts) ≡ []
-    → list_all is_plain_type_declaration ts ≡ true → list_all has_sound_names ts ≡ true
+abbrev lists_of : List TypeDeclaration → List (List Identifier)
+lists_of ts = flat_map (λ t. names_of_definition t.definition) ts
+
+sound_types : (ts : List TypeDeclaration) → flat_map surplus_name (lists_of ts) ≡ [] → list_all is_plain_type_declaration ts ≡ true → list_all has_sound_names ts ≡ true
 sound_types [] h g = refl
 sound_types (t ∷ ts) h g =
-    let e = nothing_surplus (names_of_definition t.definition) (flat_map (λ t. names_of_definition t.definition) ts) h in
+    let e = nothing_surplus (names_of_definition t.definition) (lists_of ts) h in
     let b = both (is_plain_type_declaration t) (list_all is_plain_type_declaration ts) g in
     both_are (has_sound_names t) (list_all has_sound_names ts)
     (sound_definition t.definition e.0 (both (is_word t.name) (is_plain_definition t.definition) b.0).1)
@@ -187,11 +190,12 @@ pub sound_names : (source : Source) → flat_map surplus_name (enumerations_in s
     → list_all is_plain_element source ≡ true → list_all has_sound_names (types_in source) ≡ true
 sound_names [] h g = refl
 sound_names (sources.types ts ∷ rest) h g =
-    let e = nothing_surplus (flat_map (λ t. names_of_definition t.definition) ts) (enumerations_in rest) h in
+    let e = nothing_surplus (lists_of ts) (enumerations_in rest) h in
     let b = both (list_all is_plain_type_declaration ts) (list_all is_plain_element rest) g in
     list_all-append has_sound_names ts (types_in rest)
     ∙ both_are (list_all has_sound_names ts) (list_all has_sound_names (types_in rest)) (sound_types ts e.0 b.0)
     (sound_names rest e.1 b.1)
-sound_names (sources.unit u ∷ rest) h g = sound_names rest h (both (is_plain_unit u) (list_all is_plain_element rest) g).1
+sound_names (sources.unit u ∷ rest) h g =
+    sound_names rest h (both (is_plain_unit u) (list_all is_plain_element rest) g).1
 sound_names (sources.configuration c ∷ rest) h g =
     sound_names rest h (both (is_plain_configuration c) (list_all is_plain_element rest) g).1

@@ -1,8 +1,9 @@
 -- Two paths of words that are written alike are one path.
-use Rattle.std.proofs.Common.{◌≡◌, refl, sym, ap, ap₂, ◌∙◌, ℕ, suc, ◌+◌, ◌%◌, ◌/◌, ◌^◌, ◌<◌, ◌≤◌, ℤ, pos, negsuc, unsigned_abs}
+use Rattle.std.proofs.Common.{◌≡◌, refl, sym, ap, ap₂, ◌∙◌, ℕ, suc, ◌+◌, ◌%◌, ◌^◌, ◌<◌, ◌≤◌, ℤ, pos, negsuc}
+use Rattle.std.proofs.Common.{unsigned_abs}
 use Rattle.std.proofs.Common.{Bool, true, false, not, ◌&&◌, ◌||◌, ◌==◌, List, [], ◌∷◌, ◌++◌, length, Option, Some, None}
 use Rattle.std.proofs.Common.{arith, append_assoc}
-use Rattle.std.specs.Prelude.{nat_le, nat_lt}
+use Rattle.std.specs.Prelude.{nat_le}
 use Rattle.std.specs.List.{list_all}
 use Rattle.std.specs.Fmt.{decimal, signed_decimal}
 use Rattle.std.proofs.lemmas.Bool.{ltb-true}
@@ -15,10 +16,10 @@ use Rattle.st_words.specs.declared.path.Step.{Step}
 use Rattle.st_words.specs.declared.path.Step.TheVariants.{Member, Element}
 use Rattle.st_words.specs.Paths.{Path}
 use Rattle.st_words.specs.UpperNames.{is_letter, is_letter_or_digit, is_spaced, is_upper_name}
-use Rattle.st_plans.specs.Layouts.{owner_text, step_text, steps_text, path_text}
+use Rattle.st_plans.specs.Layouts.{owner_text, steps_text, path_text}
 use Rattle.text_paths.specs.WordPaths.{is_word_owner, is_word_step, is_word_path}
 use Rattle.text_paths.specs.PlainDeclarations.{is_short}
-use Rattle.st_layouts.proofs.ListLemmas.{both, both_are, or_here, or_later}
+use Rattle.st_layouts.proofs.ListLemmas.{both, both_are, or_here}
 
 -- nothing, or a byte in front that does not pass
 abbrev stops : (ℕ → Bool) → List ℕ → Bool

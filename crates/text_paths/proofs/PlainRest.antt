@@ -10,17 +10,21 @@ use Rattle.st_trees.specs.Initials.{Initial, Element, Member}
 use Rattle.st_trees.specs.Statements.{Argument, Stmt, Arm, CaseArm}
 use Rattle.st_statements.specs.Tokens.{Tokens, Is, is, IsNumber, plain, negative}
 use Rattle.st_statements.specs.Expressions as e
-use Rattle.st_statements.specs.Expressions.{IsExpr, IsVariable, selected, IsSelectors, no_selector, selector, IsSelector}
+use Rattle.st_statements.specs.Expressions.{IsExpr, IsVariable, selected, IsSelectors, no_selector, selector}
+use Rattle.st_statements.specs.Expressions.{IsSelector}
 use Rattle.st_statements.specs.Expressions.{member, subscript, IsExprs, IsMoreExprs}
 use Rattle.st_statements.specs.Initials as i
 use Rattle.st_statements.specs.Initials.{IsConstant, IsInitial, IsElements, elements, IsMoreElements, no_more_elements}
 use Rattle.st_statements.specs.Initials.{next_element, IsElement, single, repeated, defaults, IsMembers, members}
 use Rattle.st_statements.specs.Initials.{IsMoreMembers, no_more_members, next_member, IsMember}
 use Rattle.st_statements.specs.Statements as s
-use Rattle.st_statements.specs.Statements.{IsArgument, given, copied, IsMoreArguments, IsArguments, IsLabel, range, named}
-use Rattle.st_statements.specs.Statements.{IsMoreLabels, no_more_labels, next_label, IsLabels, labels, IsStep, no_step, step}
+use Rattle.st_statements.specs.Statements.{IsArgument, given, copied, IsMoreArguments, IsArguments, IsLabel, range}
+use Rattle.st_statements.specs.Statements.{named}
+use Rattle.st_statements.specs.Statements.{IsMoreLabels, no_more_labels, next_label, IsLabels, labels, IsStep, no_step}
+use Rattle.st_statements.specs.Statements.{step}
 use Rattle.st_statements.specs.Statements.{IsStmt, empty, assign, invoke, choose, select, count, repeat_while}
-use Rattle.st_statements.specs.Statements.{repeat_until, exit, leave, IsStmts, no_stmt, stmt, IsElse, no_else, otherwise}
+use Rattle.st_statements.specs.Statements.{repeat_until, exit, leave, IsStmts, no_stmt, stmt, IsElse, no_else}
+use Rattle.st_statements.specs.Statements.{otherwise}
 use Rattle.st_statements.specs.Statements.{IsArm, arm, IsMoreArms, no_more_arms, elsif, IsCaseArm, case_arm, IsCaseArms}
 use Rattle.st_statements.specs.Statements.{no_case_arm, next_case_arm}
 use Rattle.st_layouts.proofs.ListLemmas.{both}

@@ -1,17 +1,16 @@
 -- What the lexer gives: names are words, numbers have at most 64 bits, and no token is an enumerated type.
-use Rattle.std.proofs.Common.{◌≡◌, refl, sym, ap, ap₂, ◌∙◌, subst, ℕ, suc, zero, ◌+◌, ◌^◌, ◌<◌, ◌≤◌, Bool, true, false}
-use Rattle.std.proofs.Common.{not, ◌&&◌, ◌||◌, ◌==◌, cond, List, [], ◌∷◌, length, map, take, drop, Option, Some, None}
+use Rattle.std.proofs.Common.{◌≡◌, refl, sym, ap, ap₂, ◌∙◌, subst, ℕ, suc, zero, ◌+◌, ◌^◌, ◌<◌, Bool, true, false}
+use Rattle.std.proofs.Common.{not, ◌&&◌, ◌||◌, ◌==◌, cond, List, [], ◌∷◌, length, take, drop, Option, Some, None}
 use Rattle.std.proofs.Common.{arith, inl, inr}
 use Rattle.std.specs.Prelude.{nat_le, nat_lt, IfSome, if◌then◌else◌}
 use Rattle.std.specs.Option.{option_map, option_or, unwrap_or}
 use Rattle.std.specs.List.{list_all, list_any, prefix_len}
 use Rattle.std.specs.Char.{to_ascii_uppercase, is_ascii_digit}
 use Rattle.std.specs.Str.{str_eq_ignore_ascii_case}
-use Rattle.std.proofs.lemmas.Bool.{ltb-true, lt-ltb, cases_eq, ne_eqb}
+use Rattle.std.proofs.lemmas.Bool.{ltb-true, cases_eq, ne_eqb}
 use Rattle.std.proofs.lemmas.Bool.Decides.{nat_tests}
 use Rattle.st_words.specs.declared.limits.TheConstants.{MAX_NAME_LENGTH}
 use Rattle.st_words.specs.declared.kind.Kind.{Kind}
-use Rattle.st_words.specs.declared.kind.Kind.TheVariants as kinds_of_values
 use Rattle.st_words.specs.Kinds.{row_of}
 use Rattle.st_words.specs.UpperNames as names
 use Rattle.st_words.specs.UpperNames.{is_letter, is_letter_or_digit, is_upper_name}
@@ -28,14 +27,16 @@ use Rattle.st_lex.specs.declared.token.WholeNumber.{WholeNumber}
 use Rattle.st_lex.specs.Tables.{lookup}
 use Rattle.st_lex.specs.Characters.{is_allowed, is_space, is_word_character, begins, is_spaced, ends_or_underscore}
 use Rattle.st_lex.specs.Comments.{to_close, to_open, comment_front}
-use Rattle.st_lex.specs.Numbers.{numeral, is_numeral, value_from, below, bases, in_base, based, before_hash, behind_hash}
+use Rattle.st_lex.specs.Numbers.{numeral, is_numeral, value_from, below, bases, in_base, based, before_hash}
+use Rattle.st_lex.specs.Numbers.{behind_hash}
 use Rattle.st_lex.specs.Numbers.{magnitude, is_whole, with_type, typed, untyped, whole_number}
 use Rattle.st_lex.specs.ReservedWords.{types, keyword_of, elementary, truth, reserved}
 use Rattle.st_lex.specs.Literals as literals
 use Rattle.st_lex.specs.Literals.{literal}
 use Rattle.st_lex.specs.Durations.{duration}
 use Rattle.st_lex.specs.Addresses.{address}
-use Rattle.st_lex.specs.Words.{word_length, with_percent, upper, starts_with_decimal_digit, must_be_literal, is_identifier}
+use Rattle.st_lex.specs.Words.{word_length, upper, must_be_literal}
+use Rattle.st_lex.specs.Words.{is_identifier}
 use Rattle.st_lex.specs.Words.{named, read_as, identifier, is_name, begins_duration, enumerated, literal_of, word_front}
 use Rattle.st_lex.specs.Marks.{longest_mark, read_mark, mark_front}
 use Rattle.st_lex.specs.Fronts.{front_of}
@@ -65,13 +66,15 @@ either : {A : Type 0} (P : A → Type 0) (o p : Option A) → IfSome o P → IfS
 either P None p h g = g
 either P (Some x) p h g = h
 
-mapped : {A B : Type 0} (P : B → Type 0) (f : A → B) (o : Option A) → IfSome o (λ x. P (f x)) → IfSome (option_map f o) P
+mapped : {A B : Type 0} (P : B → Type 0) (f : A → B) (o : Option A) → IfSome o (λ x. P (f x))
+    → IfSome (option_map f o) P
 mapped P f None h = tt
 mapped P f (Some x) h = h
 
-any_of : {A : Type 0} (o : Option A) → IfSome o (λ x. Unit {0})
-any_of None = tt
-any_of (Some x) = tt
+each : {A : Type 0} (f : A → TokenKind) (o : Option A) → ((x : A) → PlainKind (f x))
+    → IfSome (option_map f o) PlainKind
+each f None h = tt
+each f (Some x) h = h x
 
 -- numbers
 abbrev Short : ℕ → Type 0
@@ -114,7 +117,8 @@ with_type_short (Some kind) None h = tt
 with_type_short (Some kind) (Some n) h = by_test (is_whole (row_of kind).sort)
   where
     by_test : (b : Bool)
-        → IfSome (if b then Some (record { written = Some kind; magnitude = n; is_decimal = false }) else None) ShortNumber
+        → IfSome (if b then Some (record { written = Some kind; magnitude = n; is_decimal = false }) else None)
+        ShortNumber
     by_test true = h
     by_test false = tt
 
@@ -142,23 +146,18 @@ literal_plain word =
     (mapped PlainKind tokens.Number (whole_number word) (number_short word))
     (either PlainKind (option_map tokens.Truth (literals.truth word))
     (option_or (option_map tokens.Duration (duration word)) (option_map tokens.Address (address word)))
-    (mapped PlainKind tokens.Truth (literals.truth word) (plain_rest (literals.truth word) tokens.Truth (λ x. refl)))
+    (each tokens.Truth (literals.truth word) (λ x. refl))
     (either PlainKind (option_map tokens.Duration (duration word)) (option_map tokens.Address (address word))
-    (mapped PlainKind tokens.Duration (duration word) (plain_rest (duration word) tokens.Duration (λ x. refl)))
-    (mapped PlainKind tokens.Address (address word) (plain_rest (address word) tokens.Address (λ x. refl)))))
-  where
-    plain_rest : {A : Type 0} (o : Option A) (f : A → TokenKind) → ((x : A) → PlainKind (f x))
-        → IfSome o (λ x. PlainKind (f x))
-    plain_rest None f h = tt
-    plain_rest (Some x) f h = h x
+    (each tokens.Duration (duration word) (λ x. refl))
+    (each tokens.Address (address word) (λ x. refl))))
 
 enumerated_plain : (word : List ℕ) → IfSome (enumerated word) PlainKind
 unfolding enumerated
 enumerated_plain word =
     by_test (is_name (before_hash word) && is_name (behind_hash word) && not (begins_duration word))
   where
-    by_test : (b : Bool) → IfSome (if b then Some (tokens.Enumerated (upper (before_hash word)) (upper (behind_hash word)))
-        else None) PlainKind
+    by_test : (b : Bool) → IfSome (if b
+        then Some (tokens.Enumerated (upper (before_hash word)) (upper (behind_hash word))) else None) PlainKind
     by_test true = refl
     by_test false = tt
 
@@ -187,15 +186,10 @@ reserved_plain : (word : List ℕ) → IfSome (reserved word) PlainKind
 reserved_plain word =
     either PlainKind (option_map tokens.Keyword (keyword_of word))
     (option_or (option_map tokens.Elementary (elementary word)) (option_map tokens.Truth (truth word)))
-    (mapped PlainKind tokens.Keyword (keyword_of word) (plain_rest (keyword_of word) tokens.Keyword (λ x. refl)))
+    (each tokens.Keyword (keyword_of word) (λ x. refl))
     (either PlainKind (option_map tokens.Elementary (elementary word)) (option_map tokens.Truth (truth word))
     (mapped PlainKind tokens.Elementary (elementary word) (elementary_plain word))
-    (mapped PlainKind tokens.Truth (truth word) (plain_rest (truth word) tokens.Truth (λ x. refl))))
-  where
-    plain_rest : {A : Type 0} (o : Option A) (f : A → TokenKind) → ((x : A) → PlainKind (f x))
-        → IfSome o (λ x. PlainKind (f x))
-    plain_rest None f h = tt
-    plain_rest (Some x) f h = h x
+    (each tokens.Truth (truth word) (λ x. refl)))
 
 -- the bytes of a word that need not be a literal
 abbrev is_marked : ℕ → Bool
@@ -301,8 +295,8 @@ front_word : (b : ℕ) (bs : List ℕ) → 0 < word_length (b ∷ bs)
     → must_be_literal (take (word_length (b ∷ bs)) (b ∷ bs)) ≡ false
     → list_all is_word_character (take (word_length (b ∷ bs)) (b ∷ bs)) ≡ true
 front_word b bs some = elim (cases_eq b 37) [
-  | inl e ↦ λ h. absurd (subst (λ x. 0 < word_length (x ∷ bs) → must_be_literal (take (word_length (x ∷ bs)) (x ∷ bs)) ≡ false
-      → ⊥) (sym e) (no_plain bs) some h)
+  | inl e ↦ λ h. absurd (subst (λ x. 0 < word_length (x ∷ bs)
+      → must_be_literal (take (word_length (x ∷ bs)) (x ∷ bs)) ≡ false → ⊥) (sym e) (no_plain bs) some h)
   | inr n ↦ λ h. subst (λ m. list_all is_word_character (take m (b ∷ bs)) ≡ true) (sym (plain_length (ne_eqb b 37 n)))
       (front_bytes is_word_character (b ∷ bs))
 ]
@@ -357,7 +351,8 @@ front_plain (b ∷ bs) = by_tests (is_space b) (begins 40 42 (b ∷ bs)) (nat_lt
     by_tests false true r h = comment_plain (drop 2 (b ∷ bs))
     by_tests false false true h =
         let some = ltb-true 0 (word_length (b ∷ bs)) h in
-        word_plain (take (word_length (b ∷ bs)) (b ∷ bs)) (taken_some (word_length (b ∷ bs)) some) (front_word b bs some)
+        word_plain (take (word_length (b ∷ bs)) (b ∷ bs)) (taken_some (word_length (b ∷ bs)) some)
+        (front_word b bs some)
       where
         taken_some : (n : ℕ) → 0 < n → 0 < length (take n (b ∷ bs))
         taken_some zero h = absurd (omega arith)

@@ -1,5 +1,5 @@
 -- Resolving literals changes no name of an enumerated type.
-use Rattle.std.proofs.Common.{◌≡◌, refl, ap, ap₂, ◌∙◌, ℕ, ◌+◌, List, [], ◌∷◌, map, Option, Some, None}
+use Rattle.std.proofs.Common.{◌≡◌, refl, ap, ap₂, ◌∙◌, ℕ, ◌+◌, List, [], ◌∷◌, map, Some, None}
 use Rattle.st_trees.specs.Declarations as declarations
 use Rattle.st_trees.specs.Declarations.{TypeDefinition, TypeDeclaration}
 use Rattle.st_trees.specs.Sources.{Source}

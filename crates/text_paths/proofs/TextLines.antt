@@ -1,5 +1,5 @@
 -- The variables of a text's plan may have a line in a record, and no two of its paths are written alike.
-use Rattle.std.proofs.Common.{◌≡◌, refl, sym, ap, ◌∙◌, subst, Bool, true, ◌&&◌, not, List, [], ◌∷◌, ◌++◌, map}
+use Rattle.std.proofs.Common.{◌≡◌, refl, sym, ap, ◌∙◌, Bool, true, not, List, [], ◌∷◌, ◌++◌, map}
 use Rattle.std.specs.List.{list_all, flat_map}
 use Rattle.st_words.specs.declared.kind.Kind.{Kind}
 use Rattle.st_trees.specs.Sources.{Source}
@@ -14,7 +14,6 @@ use Rattle.st_statics.specs.TypeRules.{wrong_priorities_of}
 use Rattle.st_statics.specs.Rules.{wrong_declarations, wrong_types, wrong_starts, wrong_bodies, IsWellTyped}
 use Rattle.st_plans.specs.Layouts.{variable_slot, path_text}
 use Rattle.st_layouts.specs.LayoutVariables.{configurations_in, only_configuration, variables_of_configuration}
-use Rattle.st_layouts.specs.LayoutVariables.{declared_of, layout_variables}
 use Rattle.st_layouts.specs.TextLayouts.{slots_of, slots_of_text, variable_slots, plan_variables_of_text}
 use Rattle.st_layouts.specs.TextLayouts.{enumerations_of_text}
 use Rattle.st_layouts.proofs.ListLemmas.{both, both_are}
@@ -23,7 +22,7 @@ use Rattle.config.specs.Sound.{are_different, has_spelling, has_line}
 use Rattle.text_paths.specs.PlainDeclarations.{is_plain}
 use Rattle.text_paths.specs.WordPaths.{is_word_path}
 use Rattle.text_paths.proofs.PlainPaths.{is_plain_slot, layout_plain}
-use Rattle.text_paths.proofs.ApartTexts.{layout_written_apart}
+use Rattle.text_paths.proofs.ApartTexts.{layout_apart, filtered_apart}
 use Rattle.text_paths.proofs.EnumerationNames.{nothing_joined, enumeration_spelled, sound_names}
 use Rattle.text_paths.proofs.ResolvedNames.{names_taken}
 use Rattle.text_paths.proofs.Lines.{elementary_spelled, variable_lines}
@@ -87,9 +86,14 @@ text_lines source h typed slots =
     (λ x e is. ap (λ names. has_spelling names (kind_of_enumeration e)) (names_taken source)
     ∙ enumeration_spelled (types_in source) (sound_names source (no_surplus source typed) h) x e is))
 
+pub slots_apart : (source : Source) → is_plain source ≡ true → IsLayout (slots_of_text source)
+    → slots_of_text source ≡ parsed_slots source
+    → are_different (map (λ l. path_text l.path) (slots_of_text source)) ≡ true
+slots_apart source h layout same = layout_apart (slots_of_text source) (text_words source h same) layout
+
 pub texts_apart : (source : Source) → is_plain source ≡ true → IsLayout (slots_of_text source) → HasSlots source
     → are_different (map (λ v. path_text v.path) (plan_variables_of_text source)) ≡ true
 texts_apart source h layout slots =
     ap are_different (sym (map_map (λ l. path_text l.path) variable_slot (plan_variables_of_text source))
     ∙ ap (map (λ l. path_text l.path)) slots.variables)
-    ∙ layout_written_apart (λ l. not l.is_input) (slots_of_text source) (text_words source h slots.parsed) layout
+    ∙ filtered_apart (λ l. not l.is_input) (slots_of_text source) (slots_apart source h layout slots.parsed)

@@ -1,2 +1,3 @@
-pub mod WordPaths
 pub mod PlainDeclarations
+pub mod Texts
+pub mod WordPaths
