@@ -1,6 +1,6 @@
 -- Paths of words that stand once in a layout are written apart.
-use Rattle.std.proofs.Common.{◌≡◌, refl, sym, ap, ap₂, ◌∙◌, ℕ, suc, Bool, true, false, not, ◌||◌}
-use Rattle.std.proofs.Common.{if◌then◌else◌, List, [], ◌∷◌, map, slice_get, Some, option_map}
+use Rattle.std.proofs.Common.{◌≡◌, refl, sym, ap, ap₂, ◌∙◌, ℕ, suc, Bool, true, false, not, ◌||◌, if◌then◌else◌, List}
+use Rattle.std.proofs.Common.{[], ◌∷◌, map, slice_get, Some, option_map}
 use Rattle.std.specs.Prelude.{bytes_eq, filter}
 use Rattle.std.specs.List.{list_all}
 use Rattle.st_words.specs.Paths.{same_path}

@@ -23,8 +23,8 @@ use Rattle.st_statics.specs.DeclaredTypes.{names_of_definition, enumerations_in}
 use Rattle.st_statics.specs.TypeRules.{place_of_one, surplus_name}
 use Rattle.st_layouts.specs.TextLayouts.{enumeration_names}
 use Rattle.st_layouts.proofs.ListLemmas.{both, both_are, some_is, get_map, length_map}
-use Rattle.text_paths.specs.PlainDeclarations.{is_word, is_plain_definition, is_plain_type_declaration}
-use Rattle.text_paths.specs.PlainDeclarations.{is_plain_unit, is_plain_configuration, is_plain_element}
+use Rattle.text_paths.specs.PlainDeclarations.{is_word, is_plain_definition, is_plain_type_declaration, is_plain_unit}
+use Rattle.text_paths.specs.PlainDeclarations.{is_plain_configuration, is_plain_element}
 use Rattle.config.specs.Sound.{has_names, has_spelling}
 
 -- so many names, all words
@@ -177,7 +177,8 @@ sound_definition (declarations.enumeration names) h g =
 abbrev lists_of : List TypeDeclaration → List (List Identifier)
 lists_of ts = flat_map (λ t. names_of_definition t.definition) ts
 
-sound_types : (ts : List TypeDeclaration) → flat_map surplus_name (lists_of ts) ≡ [] → list_all is_plain_type_declaration ts ≡ true → list_all has_sound_names ts ≡ true
+sound_types : (ts : List TypeDeclaration) → flat_map surplus_name (lists_of ts) ≡ []
+    → list_all is_plain_type_declaration ts ≡ true → list_all has_sound_names ts ≡ true
 sound_types [] h g = refl
 sound_types (t ∷ ts) h g =
     let e = nothing_surplus (names_of_definition t.definition) (lists_of ts) h in

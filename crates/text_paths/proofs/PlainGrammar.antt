@@ -1,7 +1,5 @@
 -- Of plain tokens the grammar makes plain declarations.
-use Rattle.std.proofs.Common.{◌≡◌, refl, sym, ap, ◌∙◌, ℕ, Bool, true, ◌&&◌, List, ◌∷◌}
-use Rattle.std.proofs.Common.{length}
-use Rattle.std.proofs.Common.{Option, Some, arith}
+use Rattle.std.proofs.Common.{◌≡◌, refl, sym, ap, ◌∙◌, ℕ, Bool, true, ◌&&◌, List, ◌∷◌, length, Option, Some, arith}
 use Rattle.std.specs.Prelude.{nat_lt}
 use Rattle.std.specs.List.{list_all}
 use Rattle.std.proofs.lemmas.Bool.{lt-ltb}
@@ -19,9 +17,8 @@ use Rattle.st_trees.specs.Declarations.{TypeDefinition, TypeDeclaration, Declara
 use Rattle.st_trees.specs.Units.{OrganisationUnit}
 use Rattle.st_trees.specs.Configurations.{GlobalNames, Configuration}
 use Rattle.st_trees.specs.Sources.{Source}
-use Rattle.st_statements.specs.Tokens.{Tokens, name_in, name, unsigned, whole_in, whole, Is, is}
-use Rattle.st_statements.specs.Tokens.{IsNumber}
-use Rattle.st_statements.specs.Tokens.{plain, negative}
+use Rattle.st_statements.specs.Tokens.{Tokens, name_in, name, unsigned, whole_in, whole, Is, is, IsNumber, plain}
+use Rattle.st_statements.specs.Tokens.{negative}
 use Rattle.st_parse.specs.Lists.{Many, no_more, one_more, Several, several, AfterComma, after_comma, Listed, listed}
 use Rattle.st_parse.specs.Lists.{Optional, absent, present}
 use Rattle.st_parse.specs.Types.{simple_in, simple, IsArray, IsType, IsGiven, given, IsField, field, IsDefinition}
@@ -36,12 +33,11 @@ use Rattle.st_parse.specs.Configurations.{IsInstance, IsResource, IsConfiguratio
 use Rattle.st_parse.specs.Sources as s
 use Rattle.st_parse.specs.Sources.{IsLibraryElement, IsSource}
 use Rattle.st_layouts.proofs.ListLemmas.{both, both_are}
-use Rattle.text_paths.specs.PlainDeclarations.{is_short, is_word, is_plain_simple, is_plain_array}
-use Rattle.text_paths.specs.PlainDeclarations.{is_plain_type, is_plain_field, is_plain_definition}
-use Rattle.text_paths.specs.PlainDeclarations.{is_plain_type_declaration, is_plain_declaration, is_plain_block}
-use Rattle.text_paths.specs.PlainDeclarations.{is_plain_unit, are_words, is_plain_global, is_plain_globals}
-use Rattle.text_paths.specs.PlainDeclarations.{is_plain_instance, is_plain_resource, is_plain_configuration}
-use Rattle.text_paths.specs.PlainDeclarations.{is_plain_element, is_plain}
+use Rattle.text_paths.specs.PlainDeclarations.{is_short, is_word, is_plain_simple, is_plain_array, is_plain_type}
+use Rattle.text_paths.specs.PlainDeclarations.{is_plain_field, is_plain_definition, is_plain_type_declaration}
+use Rattle.text_paths.specs.PlainDeclarations.{is_plain_declaration, is_plain_block, is_plain_unit, are_words}
+use Rattle.text_paths.specs.PlainDeclarations.{is_plain_global, is_plain_globals, is_plain_instance, is_plain_resource}
+use Rattle.text_paths.specs.PlainDeclarations.{is_plain_configuration, is_plain_element, is_plain}
 use Rattle.text_paths.specs.Texts.{IsTextOf}
 use Rattle.text_paths.proofs.PlainTokens.{is_plain_kind, is_plain_token, tokens_plain}
 use Rattle.text_paths.proofs.PlainRest.{ArePlain, token_rest, initial_rest, stmts_rest}

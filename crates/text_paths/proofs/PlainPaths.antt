@@ -1,6 +1,5 @@
 -- The layout of a text of plain declarations has paths of words.
-use Rattle.std.proofs.Common.{◌≡◌, refl, ◌∙◌, Bool, true, false, ◌&&◌, List, [], ◌∷◌, map, Option, Some}
-use Rattle.std.proofs.Common.{None}
+use Rattle.std.proofs.Common.{◌≡◌, refl, ◌∙◌, Bool, true, false, ◌&&◌, List, [], ◌∷◌, map, Option, Some, None}
 use Rattle.std.specs.List.{list_all}
 use Rattle.std.proofs.lemmas.List.Folds.{list_all-append}
 use Rattle.st_words.specs.declared.identifier.Identifier.{Identifier}
@@ -31,8 +30,7 @@ use Rattle.st_layouts.specs.LayoutVariables.{only_configuration, variables_of_co
 use Rattle.st_layouts.specs.TextLayouts.{leaves_of_variable, slot_of_leaf, slots_of_variable, slots_of}
 use Rattle.text_paths.specs.PlainDeclarations.{is_elementary, is_word, is_plain_type, is_plain_type_declaration}
 use Rattle.text_paths.specs.PlainDeclarations.{is_plain_unit, are_words, is_plain_global, is_plain_globals}
-use Rattle.text_paths.specs.PlainDeclarations.{is_plain_instance, is_plain_resource, is_plain_configuration}
-use Rattle.text_paths.specs.PlainDeclarations.{is_plain}
+use Rattle.text_paths.specs.PlainDeclarations.{is_plain_instance, is_plain_resource, is_plain_configuration, is_plain}
 use Rattle.text_paths.specs.WordPaths.{is_word_owner, is_word_step, is_word_path}
 use Rattle.st_layouts.proofs.ListLemmas.{both, both_are}
 use Rattle.text_paths.proofs.PlainShapes.{is_plain_site, sites_plain, unit_found, is_plain_leaf, leaves_plain}

@@ -11,22 +11,18 @@ use Rattle.st_trees.specs.Statements.{Argument, Stmt, Arm, CaseArm}
 use Rattle.st_statements.specs.Tokens.{Tokens, Is, is, IsNumber, plain, negative}
 use Rattle.st_statements.specs.Expressions as e
 use Rattle.st_statements.specs.Expressions.{IsExpr, IsVariable, selected, IsSelectors, no_selector, selector}
-use Rattle.st_statements.specs.Expressions.{IsSelector}
-use Rattle.st_statements.specs.Expressions.{member, subscript, IsExprs, IsMoreExprs}
+use Rattle.st_statements.specs.Expressions.{IsSelector, member, subscript, IsExprs, IsMoreExprs}
 use Rattle.st_statements.specs.Initials as i
 use Rattle.st_statements.specs.Initials.{IsConstant, IsInitial, IsElements, elements, IsMoreElements, no_more_elements}
 use Rattle.st_statements.specs.Initials.{next_element, IsElement, single, repeated, defaults, IsMembers, members}
 use Rattle.st_statements.specs.Initials.{IsMoreMembers, no_more_members, next_member, IsMember}
 use Rattle.st_statements.specs.Statements as s
 use Rattle.st_statements.specs.Statements.{IsArgument, given, copied, IsMoreArguments, IsArguments, IsLabel, range}
-use Rattle.st_statements.specs.Statements.{named}
-use Rattle.st_statements.specs.Statements.{IsMoreLabels, no_more_labels, next_label, IsLabels, labels, IsStep, no_step}
-use Rattle.st_statements.specs.Statements.{step}
-use Rattle.st_statements.specs.Statements.{IsStmt, empty, assign, invoke, choose, select, count, repeat_while}
-use Rattle.st_statements.specs.Statements.{repeat_until, exit, leave, IsStmts, no_stmt, stmt, IsElse, no_else}
-use Rattle.st_statements.specs.Statements.{otherwise}
-use Rattle.st_statements.specs.Statements.{IsArm, arm, IsMoreArms, no_more_arms, elsif, IsCaseArm, case_arm, IsCaseArms}
-use Rattle.st_statements.specs.Statements.{no_case_arm, next_case_arm}
+use Rattle.st_statements.specs.Statements.{named, IsMoreLabels, no_more_labels, next_label, IsLabels, labels, IsStep}
+use Rattle.st_statements.specs.Statements.{no_step, step, IsStmt, empty, assign, invoke, choose, select, count}
+use Rattle.st_statements.specs.Statements.{repeat_while, repeat_until, exit, leave, IsStmts, no_stmt, stmt, IsElse}
+use Rattle.st_statements.specs.Statements.{no_else, otherwise, IsArm, arm, IsMoreArms, no_more_arms, elsif, IsCaseArm}
+use Rattle.st_statements.specs.Statements.{case_arm, IsCaseArms, no_case_arm, next_case_arm}
 use Rattle.st_layouts.proofs.ListLemmas.{both}
 use Rattle.text_paths.proofs.PlainTokens.{is_plain_token}
 

@@ -1,9 +1,7 @@
 -- The elementary parts of a type of plain declarations have paths of words.
-use Rattle.std.proofs.Common.{◌≡◌, refl, sym, ap, ◌∙◌, ℕ, suc, zero, ◌-◌, ◌^◌, ◌<◌, ℤ, pos}
-use Rattle.std.proofs.Common.{negsuc}
-use Rattle.std.proofs.Common.{◌+ℤ◌, ◌-ℤ◌, unsigned_abs, Bool, true, false, ◌&&◌, if◌then◌else◌, List, [], ◌∷◌}
-use Rattle.std.proofs.Common.{◌++◌}
-use Rattle.std.proofs.Common.{map, Option, Some, None, option_map, arith}
+use Rattle.std.proofs.Common.{◌≡◌, refl, sym, ap, ◌∙◌, ℕ, suc, zero, ◌-◌, ◌^◌, ◌<◌, ℤ, pos, negsuc, ◌+ℤ◌, ◌-ℤ◌}
+use Rattle.std.proofs.Common.{unsigned_abs, Bool, true, false, ◌&&◌, if◌then◌else◌, List, [], ◌∷◌, ◌++◌, map, Option}
+use Rattle.std.proofs.Common.{Some, None, option_map, arith}
 use Rattle.std.specs.Prelude.{◌≤ℤ◌, neg_ℤ, is_none}
 use Rattle.std.specs.List.{list_all}
 use Rattle.std.proofs.lemmas.Int.{ints}
@@ -33,11 +31,11 @@ use Rattle.st_types.specs.Scopes.{Name}
 use Rattle.st_types.specs.StandardBlocks as standard
 use Rattle.st_types.specs.StandardBlocks.{StandardBlock, block_of, members_of}
 use Rattle.st_layouts.specs.Shapes.{Shape, Leaf, below, leaves_of_elements, leaves_of, leaves_of_parts}
-use Rattle.st_layouts.specs.Types.{Site, NamedSite, with_site, site_of_declaration, sites_of_declarations, retention_of}
-use Rattle.st_layouts.specs.Types.{sites_of_blocks, site_of_field, site_of_member, block_type_of}
+use Rattle.st_layouts.specs.Types.{Site, NamedSite, with_site, site_of_declaration, sites_of_declarations}
+use Rattle.st_layouts.specs.Types.{retention_of, sites_of_blocks, site_of_field, site_of_member, block_type_of}
 use Rattle.st_layouts.specs.Types.{own_block_type, block_type_named, instance_of, Composition, of_kind, of_elements}
-use Rattle.st_layouts.specs.Types.{of_parts, instance_parts, defined_composition, composition_of, lower_of}
-use Rattle.st_layouts.specs.Types.{count_of, element_of, parts_of, composed_shape, shape_within}
+use Rattle.st_layouts.specs.Types.{of_parts, instance_parts, defined_composition, composition_of, lower_of, count_of}
+use Rattle.st_layouts.specs.Types.{element_of, parts_of, composed_shape, shape_within}
 use Rattle.text_paths.specs.PlainDeclarations.{is_short, is_elementary, is_word, is_plain_simple, is_plain_array}
 use Rattle.text_paths.specs.PlainDeclarations.{is_plain_type, is_plain_field, is_plain_definition}
 use Rattle.text_paths.specs.PlainDeclarations.{is_plain_type_declaration, is_plain_declaration, is_plain_block}

@@ -1,7 +1,7 @@
 -- What the lexer gives: names are words, numbers have at most 64 bits, and no token is an enumerated type.
-use Rattle.std.proofs.Common.{◌≡◌, refl, sym, ap, ap₂, ◌∙◌, subst, ℕ, suc, zero, ◌+◌, ◌^◌, ◌<◌, Bool, true, false}
-use Rattle.std.proofs.Common.{not, ◌&&◌, ◌||◌, ◌==◌, cond, List, [], ◌∷◌, length, take, drop, Option, Some, None}
-use Rattle.std.proofs.Common.{arith, inl, inr}
+use Rattle.std.proofs.Common.{◌≡◌, refl, sym, ap, ap₂, ◌∙◌, subst, ℕ, suc, zero, ◌+◌, ◌^◌, ◌<◌, Bool, true, false, not}
+use Rattle.std.proofs.Common.{◌&&◌, ◌||◌, ◌==◌, cond, List, [], ◌∷◌, length, take, drop, Option, Some, None, arith}
+use Rattle.std.proofs.Common.{inl, inr}
 use Rattle.std.specs.Prelude.{nat_le, nat_lt, IfSome, if◌then◌else◌}
 use Rattle.std.specs.Option.{option_map, option_or, unwrap_or}
 use Rattle.std.specs.List.{list_all, list_any, prefix_len}
@@ -28,16 +28,14 @@ use Rattle.st_lex.specs.Tables.{lookup}
 use Rattle.st_lex.specs.Characters.{is_allowed, is_space, is_word_character, begins, is_spaced, ends_or_underscore}
 use Rattle.st_lex.specs.Comments.{to_close, to_open, comment_front}
 use Rattle.st_lex.specs.Numbers.{numeral, is_numeral, value_from, below, bases, in_base, based, before_hash}
-use Rattle.st_lex.specs.Numbers.{behind_hash}
-use Rattle.st_lex.specs.Numbers.{magnitude, is_whole, with_type, typed, untyped, whole_number}
+use Rattle.st_lex.specs.Numbers.{behind_hash, magnitude, is_whole, with_type, typed, untyped, whole_number}
 use Rattle.st_lex.specs.ReservedWords.{types, keyword_of, elementary, truth, reserved}
 use Rattle.st_lex.specs.Literals as literals
 use Rattle.st_lex.specs.Literals.{literal}
 use Rattle.st_lex.specs.Durations.{duration}
 use Rattle.st_lex.specs.Addresses.{address}
-use Rattle.st_lex.specs.Words.{word_length, upper, must_be_literal}
-use Rattle.st_lex.specs.Words.{is_identifier}
-use Rattle.st_lex.specs.Words.{named, read_as, identifier, is_name, begins_duration, enumerated, literal_of, word_front}
+use Rattle.st_lex.specs.Words.{word_length, upper, must_be_literal, is_identifier, named, read_as, identifier, is_name}
+use Rattle.st_lex.specs.Words.{begins_duration, enumerated, literal_of, word_front}
 use Rattle.st_lex.specs.Marks.{longest_mark, read_mark, mark_front}
 use Rattle.st_lex.specs.Fronts.{front_of}
 use Rattle.st_lex.specs.Texts.{Spells, ends, blank, token}
