@@ -1,0 +1,3 @@
+pub mod PlainDeclarations
+pub mod Texts
+pub mod WordPaths
