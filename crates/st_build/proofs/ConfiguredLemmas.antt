@@ -113,14 +113,13 @@ module _ (source : Source) (sound : IsConfigured source) where
       × (nat_lt MAX_PROGRAMS (length (flat_map (λ r. r.instances) rs)) ≡ false)
   few =
       let e = subst (λ xs. (nat_lt MAX_RESOURCES (length xs)
-      || (list_any (λ r. nat_lt MAX_TASKS (length r.tasks)) xs
-      || nat_lt MAX_PROGRAMS (length (flat_map (λ r. r.instances) xs)))) ≡ false) (sym resources)
+      || list_any (λ r. nat_lt MAX_TASKS (length r.tasks)) xs
+      || nat_lt MAX_PROGRAMS (length (flat_map (λ r. r.instances) xs))) ≡ false) (sym resources)
       sound.kept.few in
-      let a = neither (nat_lt MAX_RESOURCES (length rs)) (list_any (λ r. nat_lt MAX_TASKS (length r.tasks)) rs
-      || nat_lt MAX_PROGRAMS (length (flat_map (λ r. r.instances) rs))) e in
-      let b = neither (list_any (λ r. nat_lt MAX_TASKS (length r.tasks)) rs)
-      (nat_lt MAX_PROGRAMS (length (flat_map (λ r. r.instances) rs))) a.1 in
-      (a.0, b.0, b.1)
+      let a = neither (nat_lt MAX_RESOURCES (length rs) || list_any (λ r. nat_lt MAX_TASKS (length r.tasks)) rs)
+      (nat_lt MAX_PROGRAMS (length (flat_map (λ r. r.instances) rs))) e in
+      let b = neither (nat_lt MAX_RESOURCES (length rs)) (list_any (λ r. nat_lt MAX_TASKS (length r.tasks)) rs) a.0 in
+      (b.0, b.1, a.1)
 
   -- the programs of the instances
   programs_are : programs_of_text source ≡ programs_of_resources (declared_of source) rs

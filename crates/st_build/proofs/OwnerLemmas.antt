@@ -70,7 +70,8 @@ is_word_owner o = is_upper_name o.resource && is_upper_name o.instance
 parted : (o : Owner) (more : List ℕ) → (name_of o ++ codes " ") ++ more ≡ o.resource ++ 47 ∷ (o.instance ++ 32 ∷ more)
 parted o more =
     append_assoc (name_of o) (codes " ") more
-    ∙ append_assoc o.resource (47 ∷ o.instance) (32 ∷ more)
+    ∙ append_assoc (o.resource ++ codes "/") o.instance (32 ∷ more)
+    ∙ append_assoc o.resource (codes "/") (o.instance ++ 32 ∷ more)
 
 pub one_owner : (o p : Owner) (more rest : List ℕ) → is_word_owner o ≡ true → is_word_owner p ≡ true
     → (name_of o ++ codes " ") ++ more ≡ (name_of p ++ codes " ") ++ rest → o ≡ p
@@ -168,10 +169,10 @@ one_place (r ∷ rs) h k i j o a b =
         let e : contains_name (resource_names rs) r.name.name ≡ true =
         ap (contains_name (resource_names rs)) (sym (own_at r m o g).0) ∙ member rs n o f in
         let q = not_false (contains_name (resource_names rs) r.name.name) names in absurd (cc)
-    abbrev Side : ℕ → Type 0
-    Side k = (slice_get (owners_on r) k ≡ Some o)
-        ⊎ ((m : ℕ) × (k ≡ length (owners_on r) + m) × (slice_get (owners_in rs) m ≡ Some o))
-    by_sides : Side i → Side j
+    by_sides : ((slice_get (owners_on r) i ≡ Some o)
+        ⊎ ((m : ℕ) × (i ≡ length (owners_on r) + m) × (slice_get (owners_in rs) m ≡ Some o)))
+        → ((slice_get (owners_on r) j ≡ Some o)
+        ⊎ ((m : ℕ) × (j ≡ length (owners_on r) + m) × (slice_get (owners_in rs) m ≡ Some o)))
         → ((m n : ℕ) → slice_get (owners_in rs) m ≡ Some o → slice_get (owners_in rs) n ≡ Some o → m ≡ n) → i ≡ j
     by_sides (inl g) (inl f) rest =
         once (map (λ (x : Instance). x.name.name) r.instances) own i j o.instance (own_at r i o g).1 (own_at r j o f).1
@@ -251,7 +252,7 @@ pub plan_told_apart : (source : Source) (budget : ℕ) (plan : plans.Plan) → i
 plan_told_apart source budget plan plain of i j o p more rest a b e =
     told_apart source c of.well_typed plain (only source of.configured) i j o p more rest (there i o a) (there j p b) e
   where
-    abbrev c : Configuration
+    c : Configuration
     c = of.configured.configuration
     there : (k : ℕ) (x : Owner)
         → slice_get (map (λ (q : plans.ProgramInstance). q.code.owner) plan.programs) k ≡ Some x

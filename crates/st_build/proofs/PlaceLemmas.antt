@@ -36,10 +36,10 @@ use Rattle.st_build.proofs.ListLemmas.{get_map, get_left, get_right, First, firs
 
 -- ---- each instance has a program
 
-abbrev owners_on : Resource → List Owner
+abbrev pub owners_on : Resource → List Owner
 owners_on r = map (owner_in r.name.name) r.instances
 
-abbrev owners_in : List Resource → List Owner
+abbrev pub owners_in : List Resource → List Owner
 owners_in rs = flat_map owners_on rs
 
 module _ (source : Source) where

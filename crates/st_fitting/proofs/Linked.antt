@@ -1,6 +1,6 @@
 -- Code is made of what is linked.
-use Rattle.std.proofs.Common.{◌≡◌, ℕ, suc, ◌+◌, ◌<◌, ◌≤◌, Option, Some, None}
-use Rattle.std.proofs.Common.{true, refl, sym, subst, ap, arith}
+use Rattle.std.proofs.Common.{◌≡◌, ℕ, zero, suc, ◌+◌, ◌*◌, ◌<◌, ◌≤◌, Option, Some, None}
+use Rattle.std.proofs.Common.{false, true, refl, sym, subst, ap, arith}
 use Rattle.std.specs.Prelude.{nat_lt, option_map, option_and_then}
 use Rattle.std.proofs.lemmas.Bool.Decides.{nat_tests}
 use Rattle.st_trees.specs.Expressions as named
@@ -29,6 +29,11 @@ use Rattle.st_fitting.proofs.Selected.{element_within, elements_within}
 
 lt_of : (n : ℕ) → nat_lt 0 n ≡ true → 0 < n
 lt_of n h = grind (arith, nat_tests)
+
+-- an array that takes room has elements that do
+element_room : (count n : ℕ) → nat_lt 0 (count * n) ≡ true → nat_lt 0 n ≡ true
+element_room count zero h = absurd (let none : nat_lt 0 (count * 0) ≡ false = grind (arith, nat_tests) in cc)
+element_room count (suc n) h = grind (arith, nat_tests)
 
 -- what selectors lead to lies in the variable, and code is made of their subscripts
 pub record SelectedLinked (C : UnitCall → Type 0) (s : Site) (sh : Shape) (z : Selected) : Type 0 where
@@ -119,13 +124,13 @@ module _ (C : UnitCall → Type 0) (s : Site) (t : Table) (small : s.size < 6553
         = record { within = omega arith; subscripts = r.subscripts } in
         subst (λ y. SelectedLinked C s (parts w ps) y) k.2 l
     selectors_linked (array lower count sh) (selector_then (subscript e) xs) z h g bounded lt =
-        let q = if_some (nat_lt 0 (size sh)) (option_and_then (λ i. option_map (behind_subscript i lower count (size
-        sh))
-        (linked_selectors t sh xs)) (linked t e)) z h in
+        let q = if_some (nat_lt 0 (count * size sh))
+        (option_and_then (λ i. option_map (behind_subscript i lower count (size sh)) (linked_selectors t sh xs))
+        (linked t e)) z h in
         let m = then_some (λ i. option_map (behind_subscript i lower count (size sh)) (linked_selectors t sh xs))
         (linked t e) z q.1 in
         let k = map_some (behind_subscript m.0 lower count (size sh)) (linked_selectors t sh xs) z m.2 in
-        let room : 0 < size sh = lt_of (size sh) q.0 in
+        let room : 0 < size sh = lt_of (size sh) (element_room count (size sh) q.0) in
         let all = all_elements count (size sh) bounded.0 in
         let one = element_within count (size sh) bounded.0 in
         let many = elements_within count (size sh) room in
