@@ -84,9 +84,11 @@ not_there (l ∷ ls) p k m h g = by_test (same_path p l.path) refl h k g (λ j n
         let q : l.path ≡ p = same_path_is l.path p i in
         let r : same_path p l.path ≡ true = ap (λ x. same_path p x) q ∙ same_path_itself p in
         absurd (cc)
+
     none : (o : Option ℕ) → option_map suc o ≡ None → o ≡ None
     none None i = refl
     none (Some n) i = absurd (cc)
+
     by_test : (b : Bool) → same_path p l.path ≡ b → (if b then Some 0 else option_map suc (slot_of ls p)) ≡ None
         → (k : ℕ) → slice_get (l ∷ ls) k ≡ Some m
         → ((j : ℕ) → slot_of ls p ≡ None → slice_get ls j ≡ Some m → same_path m.path p ≡ false)
@@ -210,10 +212,13 @@ in_one_part (s ∷ ss) zero l h = by_sort s.is_input refl
   where
     is : slot_view s ≡ l
     is = some_is h
+
     vs : List Slot
     vs = map variable_slot (variables_among ss)
+
     xs : List Slot
     xs = map input_slot (inputs_among ss)
+
     by_sort : (b : Bool) → s.is_input ≡ b → InParts (s ∷ ss) l
     by_sort false e =
         let v : variable_slot (variable_of s) ≡ l =

@@ -61,6 +61,7 @@ cut_word m mark (b ∷ x) (c ∷ y) r s h k e =
   where
     heads : b ∷ (x ++ m ∷ r) ≡ c ∷ (y ++ m ∷ s) → b ≡ c
     heads e = cc
+
     tails : b ∷ (x ++ m ∷ r) ≡ c ∷ (y ++ m ∷ s) → x ++ m ∷ r ≡ y ++ m ∷ s
     tails e = cc
 
@@ -128,8 +129,7 @@ own_at : (r : Resource) (k : ℕ) (o : Owner) → slice_get (owners_on r) k ≡ 
     → (o.resource ≡ r.name.name) × (slice_get (map (λ (i : Instance). i.name.name) r.instances) k ≡ Some o.instance)
 own_at r k o h =
     let m = mapped (owner_in r.name.name) (slice_get r.instances k) o
-    (sym (get_map (owner_in r.name.name) r.instances k) ∙ h) in
-    (
+    (sym (get_map (owner_in r.name.name) r.instances k) ∙ h) in (
       sym (ap (λ (p : Owner). p.resource) m.2),
       get_map (λ (i : Instance). i.name.name) r.instances k ∙ ap (option_map (λ (i : Instance). i.name.name)) m.1
           ∙ ap (λ (p : Owner). Some p.instance) m.2,
@@ -162,13 +162,16 @@ one_place (r ∷ rs) h k i j o a b =
   where
     names : not (contains_name (resource_names rs) r.name.name) ≡ true
     names = (both (not (contains_name (resource_names rs) r.name.name)) (are_different (resource_names rs)) h).0
+
     own : has_different_instances r ≡ true
     own = (both (has_different_instances r) (list_all has_different_instances rs) k).0
+
     apart : (m n : ℕ) → slice_get (owners_on r) m ≡ Some o → slice_get (owners_in rs) n ≡ Some o → ⊥
     apart m n g f =
         let e : contains_name (resource_names rs) r.name.name ≡ true =
         ap (contains_name (resource_names rs)) (sym (own_at r m o g).0) ∙ member rs n o f in
         let q = not_false (contains_name (resource_names rs) r.name.name) names in absurd (cc)
+
     by_sides : ((slice_get (owners_on r) i ≡ Some o)
         ⊎ ((m : ℕ) × (i ≡ length (owners_on r) + m) × (slice_get (owners_in rs) m ≡ Some o)))
         → ((slice_get (owners_on r) j ≡ Some o)
@@ -254,6 +257,7 @@ plan_told_apart source budget plan plain of i j o p more rest a b e =
   where
     c : Configuration
     c = of.configured.configuration
+
     there : (k : ℕ) (x : Owner)
         → slice_get (map (λ (q : plans.ProgramInstance). q.code.owner) plan.programs) k ≡ Some x
         → slice_get (owners_in c.resources) k ≡ Some x

@@ -61,6 +61,7 @@ module _ (source : Source) where
       by_sort u e sorts.Program s k =
           ap (λ o. map (λ (p : Program). p.owner) (program_if_there whole owner o)) (unit_taken source x u e)
           ∙ ap (λ z. map (λ (p : Program). p.owner) (program_by_sort whole owner z (resolved text u))) s
+
       by_unit : (o : Option OrganisationUnit) → unit_named text.units x ≡ o → is_program_unit o ≡ true
           → map (λ (p : Program). p.owner) (program_if_there whole owner (unit_named whole.units x)) ≡ owner ∷ []
       by_unit None e k = absurd (cc)

@@ -13,7 +13,7 @@ use Rattle.st_trees.specs.declared.configuration.Task as declared_task
 use Rattle.st_trees.specs.Configurations.{Configuration, GlobalBlock, Resource}
 use Rattle.st_trees.specs.Sources as sources
 use Rattle.st_trees.specs.Sources.{Source}
-use Rattle.st_types.specs.NameTypes.{Declared, declared_in}
+use Rattle.st_types.specs.NameTypes.{Declared, declared_in, types_in}
 use Rattle.st_types.specs.ResolvedUnits.{resolved_source}
 use Rattle.st_types.specs.Runs.{Program}
 use Rattle.st_types.specs.Slots.{Slot, IsLayout}
@@ -27,7 +27,8 @@ use Rattle.st_plans.specs.Layouts.{Enumerations, layout_of, path_text, record_le
 use Rattle.st_plans.specs.Plans as plans
 use Rattle.st_layouts.specs.LayoutVariables.{configurations_in, configuration_of, only_configuration}
 use Rattle.st_layouts.specs.Libraries.{programs_of_configuration, programs_of_text, programs_of_resources}
-use Rattle.st_layouts.specs.TextLayouts.{enumerations_of_text, plan_inputs_of_text, plan_variables_of_text, slots_of_text}
+use Rattle.st_layouts.specs.TextLayouts.{enumeration_names, enumerations_of_text, plan_inputs_of_text, plan_variables_of_text}
+use Rattle.st_layouts.specs.TextLayouts.{slots_of_text}
 use Rattle.st_layouts.proofs.ResolvedLemmas.{configuration_taken, taken_configuration}
 use Rattle.st_stores.proofs.DifferentNames.{text_layout}
 use Rattle.layout.specs.declared.slots.LayoutSlot.{LayoutSlot}
@@ -35,6 +36,7 @@ use Rattle.layout.specs.TextLayouts.{IsLayoutOf, slot_view, variables_among, inp
 use Rattle.coded_programs.specs.Codes.{CodeView, code_view}
 use Rattle.coded_programs.specs.Meanings.{Means}
 use Rattle.text_codes.specs.Codes.{AreCodesOf, IsMeant}
+use Rattle.config.specs.declared.slots.SlotPlace.{SlotPlace}
 use Rattle.config.specs.declared.task.ProgramInstance.{ProgramInstance}
 use Rattle.config.specs.declared.task.Task.{Task}
 use Rattle.config.specs.PlanViews.{task_view, program_view}
@@ -48,9 +50,11 @@ use Rattle.st_build.specs.Places.{places_from}
 use Rattle.st_build.specs.Programs.{CodedInstance, instance_view, instances_from}
 use Rattle.st_build.specs.Readiness.{IsJudged, IsReady}
 use Rattle.st_build.specs.Tasks.{tasks_from}
+use Rattle.st_build.specs.TypeNames.{names_in_text}
 use Rattle.st_build.specs.TextPlans.{instance_at, instances_at, plan_of_text, resources_in, resources_of, task_of}
 use Rattle.st_build.specs.TextPlans.{IsPlanOf}
-use Rattle.st_build.proofs.ConfiguredLemmas.{few, instances, known, only, owners_of_text, resources, tasked, tasks_known}
+use Rattle.st_build.proofs.ConfiguredLemmas.{configured, few, instances, known, only, owners_of_text, resources, tasked, tasks_known}
+use Rattle.st_build.proofs.EnumerationLemmas.{names_are}
 use Rattle.st_build.proofs.LayoutLemmas.{in_one_part, parts_are_layout}
 use Rattle.st_build.proofs.ListLemmas.{some_is, both, both_are, all_append, all_get, get_map, mapped, length_map}
 use Rattle.st_build.proofs.NumberedLemmas.{numbered, slots_are}
@@ -117,8 +121,10 @@ module _ (tree : Source) where
     where
       heads : {A : Type 0} {x y : A} {xs ys : List A} → x ∷ xs ≡ y ∷ ys → x ≡ y
       heads e = cc
+
       tails : {A : Type 0} {x y : A} {xs ys : List A} → x ∷ xs ≡ y ∷ ys → xs ≡ ys
       tails e = cc
+
       tails_of : {A : Type 0} {x y : A} {xs ys : List A} → x ∷ xs ≡ y ∷ ys → xs ≡ ys
       tails_of e = cc
 
@@ -280,7 +286,7 @@ module _ (source tree : Source) (slots : List LayoutSlot) (codes : List CodeView
       let d : length (instances_from 0 (places_from 0 0 rs) codes) ≤ length (places_from 0 0 rs) =
       short 0 (places_from 0 0 rs) codes in
       let e : length (places_from 0 0 rs) ≡ length (flat_map (λ r. r.instances) rs) = places_counted 0 0 rs in
-      let f : nat_lt MAX_PROGRAMS (length (flat_map (λ r. r.instances) rs)) ≡ false = (few source judged.configured).1.1 in
+      let f : nat_lt MAX_PROGRAMS (length (flat_map (λ r. r.instances) rs)) ≡ false = (few source judged.configured).2 in
       let g : length (flat_map (λ r. r.instances) rs) ≤ MAX_PROGRAMS = grind (arith, nat_tests) in
       omega arith
     where
@@ -311,13 +317,20 @@ module _ (source tree : Source) (slots : List LayoutSlot) (codes : List CodeView
         limits = record {
           paths = few_slots;
           resources_are = some_resources;
-          tasks_each = tasks_are_few vs is rs (few source judged.configured).1.0;
+          tasks_each = tasks_are_few vs is rs (few source judged.configured).1;
           programs_are = made_few made h;
           some_ticks = ready.some_ticks;
           ticks = ready.ticks;
           record_is = short;
         };
       }
+
+  -- the tree has its configuration
+  pub configuration_there : (conf : Configuration) × (only_configuration (configurations_in tree) ≡ Some conf)
+  configuration_there = (
+    taken_configuration text c,
+    ap (λ t. only_configuration (configurations_in t)) ready.resolved ∙ configured source judged.configured,
+  )
 
   -- and it is the text's
   pub tasks_are : map (task_view vs) (tasks_from vs is 0 rs)
@@ -343,13 +356,110 @@ module _ (source tree : Source) (slots : List LayoutSlot) (codes : List CodeView
         some_ticks = ready.some_ticks;
         ticks = ready.ticks;
         is = ap₂ (λ e w. record plan { enumerations = e; variables = w }) types v
-            ∙ ap₂ (λ w n. record plan { enumerations = enumerations_of_text source;
-            variables = plan_variables_of_text source; inputs = w; resources = n }) i many
-            ∙ ap₂ (λ w n. record plan { enumerations = enumerations_of_text source;
-            variables = plan_variables_of_text source; inputs = plan_inputs_of_text source; resources = length rs;
-            tasks = w; programs = n }) t programs
-            ∙ ap (λ b. record plan { enumerations = enumerations_of_text source;
-            variables = plan_variables_of_text source; inputs = plan_inputs_of_text source; resources = length rs;
-            tasks = map (task_of (plan_inputs_of_text source)) (flat_map (λ r. r.tasks) rs);
-            programs = instances_at (places_from 0 0 rs) (programs_of_text source); budget = b }) ticks;
+            ∙ ap₂ (λ w n. record plan {
+              enumerations = enumerations_of_text source;
+              variables = plan_variables_of_text source;
+              inputs = w;
+              resources = n;
+            }) i many
+            ∙ ap₂ (λ w n. record plan {
+              enumerations = enumerations_of_text source;
+              variables = plan_variables_of_text source;
+              inputs = plan_inputs_of_text source;
+              resources = length rs;
+              tasks = w;
+              programs = n;
+            }) t programs
+            ∙ ap (λ b. record plan {
+              enumerations = enumerations_of_text source;
+              variables = plan_variables_of_text source;
+              inputs = plan_inputs_of_text source;
+              resources = length rs;
+              tasks = map (task_of (plan_inputs_of_text source)) (flat_map (λ r. r.tasks) rs);
+              programs = instances_at (places_from 0 0 rs) (programs_of_text source);
+              budget = b;
+            }) ticks;
       }
+
+-- ---- what is made of the tree
+
+module _ (source tree : Source) (slots : List LayoutSlot) (codes : List CodeView) (budget : ℕ)
+    (ready : IsReady source tree slots codes budget) (conf : Configuration)
+    (there : only_configuration (configurations_in tree) ≡ Some conf) where
+  own_resources : conf.resources ≡ resources_of source
+  own_resources = ap resources_in (sym there ∙ ap (λ t. only_configuration (configurations_in t)) ready.resolved)
+
+  own_types : names_in_text tree ≡ enumerations_of_text source
+  own_types = names_are tree ∙ ap (λ t. enumeration_names (types_in t)) ready.resolved
+
+  pub few_variables : (vs : List PlanVariable) → vs ≡ variables_among slots → length vs ≤ MAX_PATHS
+  few_variables vs e =
+      let a = few_slots source tree slots codes budget ready in
+      let b : length vs ≡ length (variables_among slots) = ap length e in
+      omega arith
+
+  short_record : (types : Enumerations) (vs : List PlanVariable) → types ≡ names_in_text tree
+      → vs ≡ variables_among slots
+      → record_length types vs ≡ record_length (enumerations_of_text source) (variables_among slots)
+  short_record types vs t e = ap₂ record_length (t ∙ own_types) e
+
+  pub long_record : (types : Enumerations) (vs : List PlanVariable) (n : ℕ) → types ≡ names_in_text tree
+      → vs ≡ variables_among slots → n ≡ record_length types vs → MAX_RECORD_BODY < n
+      → MAX_RECORD_BODY < record_length (enumerations_of_text source) (plan_variables_of_text source)
+  long_record types vs n t e is lt =
+      let same : n ≡ record_length (enumerations_of_text source) (plan_variables_of_text source) =
+      is ∙ short_record types vs t e
+      ∙ ap (λ (ws : List PlanVariable). record_length (enumerations_of_text source) ws) ready.layout.variables in
+      subst (λ m. MAX_RECORD_BODY < m) same lt
+
+  -- what was made, and how long its record is
+  pub record IsFrom (types : Enumerations) (vs : List PlanVariable) (is : List PlanInput) (many : ℕ) (tasks : List Task)
+      (made : List ProgramInstance) : Type 0 where
+    pub types_are : types ≡ names_in_text tree
+    pub variables_are : vs ≡ variables_among slots
+    pub inputs_are : is ≡ inputs_among slots
+    pub resources_are : many ≡ length conf.resources
+    pub tasks_are : tasks ≡ tasks_from vs is 0 conf.resources
+    pub programs_are : map instance_view made ≡ instances_from 0 (places_from 0 0 conf.resources) codes
+    pub short : record_length types vs ≤ MAX_RECORD_BODY
+
+  module _ (types : Enumerations) (vs : List PlanVariable) (is : List PlanInput) (many : ℕ) (tasks : List Task)
+      (made : List ProgramInstance) (from : IsFrom types vs is many tasks made) where
+    made_is : map instance_view made ≡ instances_from 0 (places_from 0 0 (resources_of source)) codes
+    made_is = from.programs_are ∙ ap (λ xs. instances_from 0 (places_from 0 0 xs) codes) own_resources
+
+    many_is : many ≡ length (resources_of source)
+    many_is = from.resources_are ∙ ap length own_resources
+
+    tasks_from_slots : tasks ≡ tasks_from (variables_among slots) (inputs_among slots) 0 (resources_of source)
+    tasks_from_slots =
+        from.tasks_are ∙ ap₂ (λ v i. tasks_from v i 0 conf.resources) from.variables_are from.inputs_are
+        ∙ ap (tasks_from (variables_among slots) (inputs_among slots) 0) own_resources
+
+    short_is : record_length (enumerations_of_text source) (variables_among slots) ≤ MAX_RECORD_BODY
+    short_is = subst (λ n. n ≤ MAX_RECORD_BODY) (short_record types vs from.types_are from.variables_are) from.short
+
+    pub sound_plan : (ps : List SlotPlace) → ps ≡ numbered_from 0 0 slots
+        → PlanInvariant tree types vs is ps many tasks made budget
+    sound_plan ps e =
+        subst (λ t. PlanInvariant tree t vs is ps many tasks made budget) (sym (from.types_are ∙ own_types))
+        (subst (λ v. PlanInvariant tree (enumerations_of_text source) v is ps many tasks made budget)
+        (sym from.variables_are)
+        (subst (λ i. PlanInvariant tree (enumerations_of_text source) (variables_among slots) i ps many tasks made budget)
+        (sym from.inputs_are)
+        (subst (λ p. PlanInvariant tree (enumerations_of_text source) (variables_among slots) (inputs_among slots) p many
+        tasks made budget) (sym e)
+        (subst (λ n. PlanInvariant tree (enumerations_of_text source) (variables_among slots) (inputs_among slots)
+        (numbered_from 0 0 slots) n tasks made budget) (sym many_is)
+        (subst (λ t. PlanInvariant tree (enumerations_of_text source) (variables_among slots) (inputs_among slots)
+        (numbered_from 0 0 slots) (length (resources_of source)) t made budget) (sym tasks_from_slots)
+        (plan_is_sound source tree slots codes budget ready made made_is short_is))))))
+
+    pub text_plan : (plan : plans.Plan) → plan.enumerations ≡ types → plan.variables ≡ vs → plan.inputs ≡ is
+        → plan.resources ≡ many → plan.tasks ≡ map (task_view vs) tasks
+        → plan.programs ≡ map (program_view tree) made → plan.budget ≡ budget → IsPlanOf source budget plan
+    text_plan plan a b d e f g h =
+        plan_is source tree slots codes budget ready plan (a ∙ from.types_are ∙ own_types) (b ∙ from.variables_are)
+        (d ∙ from.inputs_are) (e ∙ many_is)
+        (f ∙ ap₂ (λ v t. map (task_view v) t) from.variables_are tasks_from_slots)
+        (g ∙ programs_viewed source tree slots codes budget ready made made_is) h short_is

@@ -51,8 +51,12 @@ pub fn plan_from(
         return Err(BuildError::RecordTooLong);
     }
     let resources = configuration.resources.len();
-    let Schedule { tasks, places } =
-        schedule_of(alloc, &variables, &inputs, &configuration.resources)?;
+    let Schedule { tasks, places } = schedule_of(
+        alloc,
+        &variables,
+        &inputs,
+        &configuration.resources,
+    )?;
     let programs = programs_at(alloc, &places, codes)?;
     let slots = numbered_slots(alloc, &layout.slots)?;
     Ok(Plan {

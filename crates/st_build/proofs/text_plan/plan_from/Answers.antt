@@ -1,0 +1,137 @@
+use Rattle.std.proofs.Common.{rules, ◌≡◌, ◌∙◌, ◌<◌, ◌≤◌, ap, sym, subst, refl, arith, map, length, Some, None}
+use Rattle.std.specs.Vec.{vec_items}
+use Rattle.st_words.specs.declared.limits.TheConstants.{MAX_RECORD_BODY}
+use Rattle.st_trees.specs.Configurations.{Configuration}
+use Rattle.st_trees.specs.ConfigurationViews.{configuration_view, resource_view}
+use Rattle.st_trees.specs.declared.source.Source as code
+use Rattle.st_trees.specs.SourceViews.{source_view}
+use Rattle.coded_programs.specs.Codes.{code_view}
+use Rattle.config.specs.PlanViews.{plan_view, program_view}
+use Rattle.config.specs.Sound.{PlanInvariant}
+use Rattle.st_layouts.specs.LayoutVariables.{configurations_in, configuration_of, only_configuration}
+use Rattle.st_plans.specs.Layouts.{record_length}
+use Rattle.layout.specs.TextLayouts.{variables_among, inputs_among}
+use Rattle.st_build.specs.NumberedSlots.{numbered_from}
+use Rattle.st_build.specs.Programs.{instance_view, instances_from}
+use Rattle.st_build.specs.Places.{places_from}
+use Rattle.st_build.specs.Tasks.{tasks_from}
+use Rattle.st_build.specs.TypeNames.{names_in_text}
+use Rattle.st_build.proofs.ListLemmas.{length_map}
+use Rattle.st_build.proofs.PlanLemmas.{configuration_there, few_variables, long_record, IsFrom, sound_plan, text_plan}
+use Rattle.st_build.proofs.text_plan.plan_from.Goals as goal
+
+-- src/text_plan.rt:45:9
+pub unreachable-requires : goal.unreachable-requires
+unreachable-requires c =
+    let (text, ready) = c.requires.ready in
+    let none : only_configuration (configurations_in (source_view c.args.tree)) ≡ None = search rules in
+    let there = configuration_there text (source_view c.args.tree) c.args.layout.now.slots.items
+    (map code_view c.args.codes.items) c.args.budget ready in
+    absurd (cc (none, there.1))
+
+-- src/text_plan.rt:50:8
+pub record_length-requires : goal.record_length-requires
+record_length-requires c =
+    let (text, ready) = c.requires.ready in
+    let there : only_configuration (configurations_in (source_view c.args.tree))
+    ≡ Some (configuration_view c.in-Some.configuration.now) = search rules in
+    let vs : c.deref-2.result.now ≡ variables_among c.args.layout.now.slots.items = search rules in
+    record {
+      few = few_variables text (source_view c.args.tree) c.args.layout.now.slots.items
+          (map code_view c.args.codes.items) c.args.budget ready (configuration_view c.in-Some.configuration.now) there
+          c.deref-2.result.now vs;
+    }
+
+-- src/text_plan.rt:51:9
+pub returns-then-branch-gt-MAX_RECORD_BODY-clause-refused :
+    goal.returns-then-branch-gt-MAX_RECORD_BODY-clause-refused
+returns-then-branch-gt-MAX_RECORD_BODY-clause-refused c = λ text ready.
+    let tree = source_view c.args.tree in
+    let slots = c.args.layout.now.slots.items in
+    let types = map vec_items c.in_ok-enumerations.enumerations.items in
+    let vs = c.in_ok-variables.variables.items in
+    let there : only_configuration (configurations_in tree) ≡ Some (configuration_view c.in-Some.configuration.now) =
+    search rules in
+    let types_are : types ≡ names_in_text tree = search rules in
+    let variables_are : vs ≡ variables_among slots = search rules in
+    let long : MAX_RECORD_BODY < record_length types vs = search rules in
+    long_record text tree slots (map code_view c.args.codes.items) c.args.budget ready
+    (configuration_view c.in-Some.configuration.now) there types vs (record_length types vs) types_are variables_are refl
+    long
+
+-- src/text_plan.rt:58:5
+pub invariant_of-result : goal.invariant_of-result
+invariant_of-result c =
+    let (text, ready) = c.requires.ready in
+    let tree = source_view c.args.tree in
+    let slots = c.args.layout.now.slots.items in
+    let codes = map code_view c.args.codes.items in
+    let conf = configuration_view c.in-Some.configuration.now in
+    let types = map vec_items c.in_ok-enumerations.enumerations.items in
+    let vs = c.in_ok-variables.variables.items in
+    let is = c.in_ok-inputs.inputs.items in
+    let many = c.len-resources.result in
+    let tasks = c.in_ok-tasks.field-0.tasks.items in
+    let made = c.in_ok-programs.programs.items in
+    let there : only_configuration (configurations_in tree) ≡ Some conf = search rules in
+    let types_are : types ≡ names_in_text tree = search rules in
+    let variables_are : vs ≡ variables_among slots = search rules in
+    let inputs_are : is ≡ inputs_among slots = search rules in
+    let counted : many ≡ length c.in-Some.configuration.now.resources.items = search rules in
+    let resources_are : many ≡ length conf.resources =
+    counted ∙ sym (length_map resource_view c.in-Some.configuration.now.resources.items) in
+    let tasks_are : tasks ≡ tasks_from vs is 0 conf.resources = search rules in
+    let programs_are : map instance_view made ≡ instances_from 0 (places_from 0 0 conf.resources) codes = search rules in
+    let short : record_length types vs ≤ MAX_RECORD_BODY = search rules in
+    let numbers : c.in_ok-slots.slots.items ≡ numbered_from 0 0 slots = search rules in
+    let shared : c.in_ok-new.field-0.value ≡ c.args.tree = search rules in
+    record {
+      sound = subst (λ (t : code.Source). PlanInvariant (source_view t) types vs is c.in_ok-slots.slots.items many tasks made
+          c.args.budget) (sym shared)
+          (sound_plan text tree slots codes c.args.budget ready conf there types vs is many tasks made
+          (record {
+            types_are = types_are;
+            variables_are = variables_are;
+            inputs_are = inputs_are;
+            resources_are = resources_are;
+            tasks_are = tasks_are;
+            programs_are = programs_are;
+            short = short;
+          }) c.in_ok-slots.slots.items numbers);
+    }
+
+-- src/text_plan.rt:28:1
+pub returns-clause-plan : goal.returns-clause-plan
+returns-clause-plan c = λ text ready.
+    let tree = source_view c.args.tree in
+    let slots = c.args.layout.now.slots.items in
+    let codes = map code_view c.args.codes.items in
+    let conf = configuration_view c.in-Some.configuration.now in
+    let types = map vec_items c.in_ok-enumerations.enumerations.items in
+    let vs = c.in_ok-variables.variables.items in
+    let is = c.in_ok-inputs.inputs.items in
+    let many = c.len-resources.result in
+    let tasks = c.in_ok-tasks.field-0.tasks.items in
+    let made = c.in_ok-programs.programs.items in
+    let there : only_configuration (configurations_in tree) ≡ Some conf = search rules in
+    let types_are : types ≡ names_in_text tree = search rules in
+    let variables_are : vs ≡ variables_among slots = search rules in
+    let inputs_are : is ≡ inputs_among slots = search rules in
+    let counted : many ≡ length c.in-Some.configuration.now.resources.items = search rules in
+    let resources_are : many ≡ length conf.resources =
+    counted ∙ sym (length_map resource_view c.in-Some.configuration.now.resources.items) in
+    let tasks_are : tasks ≡ tasks_from vs is 0 conf.resources = search rules in
+    let programs_are : map instance_view made ≡ instances_from 0 (places_from 0 0 conf.resources) codes = search rules in
+    let short : record_length types vs ≤ MAX_RECORD_BODY = search rules in
+    let shared : c.in_ok-new.field-0.value ≡ c.args.tree = search rules in
+    text_plan text tree slots codes c.args.budget ready conf there types vs is many tasks made
+    (record {
+      types_are = types_are;
+      variables_are = variables_are;
+      inputs_are = inputs_are;
+      resources_are = resources_are;
+      tasks_are = tasks_are;
+      programs_are = programs_are;
+      short = short;
+    }) _ refl refl refl refl refl
+    (ap (λ (t : code.Source). map (program_view (source_view t)) made) shared) refl
