@@ -23,8 +23,10 @@ use Rattle.config.specs.declared.plan.Plan.{Plan}
 use Rattle.config.specs.PlanViews.{plan_view}
 use Rattle.config.specs.Sound.{are_different}
 use Rattle.serial_core.specs.Retained.{retained_paths, retained_kinds, paired}
+use Rattle.commit_lock.specs.Recorded.{recorded}
 use Rattle.commit_lock.specs.Told.{told}
 use Rattle.commit_lock.specs.Restart.{record_of, Holds, Survives, warm}
+use Rattle.commit_lock.proofs.RecordedLemmas.{recorded_kinds, typed_recorded}
 use Rattle.commit_lock.proofs.RecordLemmas.{lines_told}
 
 -- ---- paths that are written apart
@@ -87,10 +89,13 @@ pub told_again : (plan : Plan) (s : Store) (moment : Option ℕ)
     → told (record_of plan s moment) ≡ kept_of (plan_view plan) s moment
 told_again plan s moment same =
     let vs = plan.variables.items in
+    let types = (plan_view plan).enumerations in
+    let ds = map (λ e. e.1) (kept (plan_view plan) s) in
     let o = in_order (is_retained (plan_view plan)) vs s (goes_by_itself vs (apart plan)) same in
     ap (λ ls. record { lines = ls; moment = moment })
-    (lines_told vs (map (λ e. e.1) (kept (plan_view plan) s)) plan.sound.spelled o.typed
-    ∙ ap lines_with (sym o.named))
+    (lines_told types vs (map recorded ds) plan.sound.spelled (recorded_kinds (retained_kinds vs) ds o.typed)
+    ∙ ap (λ ws. lines_with types (paired (retained_paths vs) ws)) (typed_recorded (retained_kinds vs) ds o.typed)
+    ∙ ap (lines_with types) (sym o.named))
 
 -- ---- restarts
 

@@ -1,3 +1,4 @@
+pub mod RecordedLemmas
 pub mod RecordLemmas
 pub mod StartLemmas
 pub mod SurvivalLemmas

@@ -3,7 +3,6 @@ use Rattle.std.proofs.Common.{◌≡◌, ℕ, ◌+◌, List, [], map, Option, So
 use Rattle.std.proofs.Common.{arith}
 use Rattle.st_types.specs.Stores.{Store}
 use Rattle.st_plans.specs.Restarts.{Kept, kept, warm_start}
-use Rattle.st_plans.specs.Layouts.{layout_text}
 use Rattle.retain_store.specs.Records.{Content}
 use Rattle.retain_store.specs.Recovered.{Recovered, TooLong, Refused, Nothing, Found}
 use Rattle.retain_store.specs.Kept.{record_in, IsLast}
@@ -12,10 +11,12 @@ use Rattle.config.specs.declared.plan.Plan.{Plan}
 use Rattle.config.specs.PlanViews.{plan_view}
 use Rattle.serial_core.specs.Steps.{State}
 use Rattle.serial_core.specs.Retained.{retained_kinds, told_by}
+use Rattle.commit_lock.specs.Recorded.{recorded}
 use Rattle.st_words.specs.Values.{Datum}
 use Rattle.commit_lock.specs.Told.{told}
-use Rattle.commit_lock.proofs.RecordLemmas.{told_in_order}
-use Rattle.commit_lock.specs.Restart.{Survives, begun, record_now, warm}
+use Rattle.commit_lock.proofs.RecordedLemmas.{typed}
+use Rattle.commit_lock.proofs.RecordLemmas.{known_kinds, told_in_order}
+use Rattle.commit_lock.specs.Restart.{Survives, begun, layout_text_of, record_now, warm}
 use Rattle.commit_lock.specs.Starting.{LeftByStart, StartKeeps, RefusesStart, HasOtherLayout, IsLastGeneration}
 use Rattle.commit_lock.specs.Starting.{IsWantOfMemory, next_generation, started}
 use Rattle.commit_lock.specs.declared.refusal.StartFault.{StartFault}
@@ -28,8 +29,8 @@ use Rattle.std.specs.Prelude.{MatchResult, IfOk, IfErr, Result, Ok, Err}
 
 -- the record that a life goes on from is that of its start
 survives_of : (plan : Plan) (generation : ℕ) (content : Content) (start : Store) (before : Option ℕ)
-    → content.layout ≡ layout_text plan.variables.items → before ≡ content.moment
-    → map (λ e. e.1) (kept (plan_view plan) start) ≡ content.values
+    → content.layout ≡ layout_text_of plan → before ≡ content.moment
+    → map recorded (map (λ e. e.1) (kept (plan_view plan) start)) ≡ content.values
     → Survives plan start before [] 0 (Found generation content)
 survives_of plan generation content start before layout moment values = record {
   front = [];
@@ -41,12 +42,13 @@ survives_of plan generation content start before layout moment values = record {
 
 -- what a record's values make in the plan's order is what the record makes by its lines
 pub resumed_from : (plan : Plan) (room : ℕ) (content : Content) (last : Recovered) (values : List Datum)
-    (moment : Option ℕ) → Some content ≡ record_in last → content.layout ≡ layout_text plan.variables.items
-    → map (λ d. d.kind) content.values ≡ retained_kinds plan.variables.items → values ≡ content.values
+    (moment : Option ℕ) → Some content ≡ record_in last → content.layout ≡ layout_text_of plan
+    → map (λ d. d.kind) content.values ≡ known_kinds plan.variables.items
+    → values ≡ typed (retained_kinds plan.variables.items) content.values
     → moment ≡ content.moment
     → ◌≡◌ {A = State} record {
       plan = plan;
-      start = (warm_start (plan_view plan) (Some (told_by plan.variables.items values moment))).store;
+      start = (warm_start (plan_view plan) (Some (told_by plan values moment))).store;
       before = moment;
       log = [];
       room = room;
@@ -56,16 +58,16 @@ resumed_from plan room content Refused values moment at layout kinds valued time
 resumed_from plan room content Nothing values moment at layout kinds valued timed = absurd (cc)
 resumed_from plan room content (Found generation found) values moment at layout kinds valued timed =
     let begins : Kept → State = λ r. started plan room (warm_start (plan_view plan) (Some r)) in
-    ap (λ vs. begins (told_by plan.variables.items vs moment)) valued
-    ∙ ap (λ m. begins (told_by plan.variables.items content.values m)) timed
+    ap (λ vs. begins (told_by plan vs moment)) valued
+    ∙ ap (λ m. begins (told_by plan (typed (retained_kinds plan.variables.items) content.values) m)) timed
     ∙ ap begins (sym (told_in_order plan content layout kinds))
     ∙ ap (λ c. begins (told c)) (some_is content found at)
 
 -- the record that a life goes on from survives
 pub survives_found : (plan : Plan) (content : Content) (state : State) (last : Recovered)
-    → Some content ≡ record_in last → content.layout ≡ layout_text plan.variables.items
+    → Some content ≡ record_in last → content.layout ≡ layout_text_of plan
     → state.plan ≡ plan → state.before ≡ content.moment
-    → map (λ e. e.1) (kept (plan_view plan) state.start) ≡ content.values
+    → map recorded (map (λ e. e.1) (kept (plan_view plan) state.start)) ≡ content.values
     → Survives state.plan state.start state.before [] 0 last
 survives_found plan content state TooLong at layout same moment values = absurd (cc)
 survives_found plan content state Refused at layout same moment values = absurd (cc)

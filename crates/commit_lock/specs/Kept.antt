@@ -1,10 +1,11 @@
 -- What a core over a disk keeps of its fields.
 use Rattle.std.specs.Prelude.{◌≡◌, ◌≤◌, ℕ, List, Bool, true, false, length, Option, Some, None}
-use Rattle.st_plans.specs.Layouts.{layout_text, record_length}
+use Rattle.st_plans.specs.Layouts.{record_length}
+use Rattle.config.specs.PlanViews.{plan_view}
 use Rattle.retain_store.specs.declared.fault.StoreFault.{StoreFault}
 use Rattle.retain_store.specs.Kept.{StoreView}
 use Rattle.serial_core.specs.Steps.{State}
-use Rattle.commit_lock.specs.Restart.{Survives}
+use Rattle.commit_lock.specs.Restart.{Survives, layout_text_of}
 
 abbrev pub is_failed : Option StoreFault → Bool
 is_failed None = false
@@ -17,6 +18,6 @@ pub record CoreInvariant {D : Type 0} (state : State) (acked : ℕ) (failed : Op
   pub tried : Survives state.plan state.start state.before state.log acked store.tried
   pub few : acked ≤ length state.log
   pub met : is_failed failed ≡ store.failed
-  pub layout_is : layout ≡ layout_text state.plan.variables.items
-  pub saves : record_length state.plan.variables.items ≤ store.room
+  pub layout_is : layout ≡ layout_text_of state.plan
+  pub saves : record_length (plan_view state.plan).enumerations state.plan.variables.items ≤ store.room
   pub room_is : length state.plan.variables.items ≤ room

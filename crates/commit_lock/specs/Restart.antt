@@ -11,15 +11,19 @@ use Rattle.retain_store.specs.Recovered.{Recovered, TooLong, Refused, Nothing, F
 use Rattle.config.specs.declared.plan.Plan.{Plan}
 use Rattle.config.specs.PlanViews.{plan_view}
 use Rattle.serial_core.specs.Steps.{State, made}
+use Rattle.commit_lock.specs.Recorded.{recorded}
 use Rattle.commit_lock.specs.Told.{told}
 
--- the record of a plan's variables: its layout text, and the values of what is kept, in order
+-- the layout text of a plan's records
+abbrev pub layout_text_of : Plan → List ℕ
+layout_text_of plan = layout_text (plan_view plan).enumerations plan.variables.items
+
+-- the record of a plan's variables: its layout text, and the values of what is kept, in order, as a record knows them
 abbrev pub record_of : Plan → Store → Option ℕ → Content
 record_of plan store moment = record {
   moment = moment;
-  layout = layout_text plan.variables.items;
-  values =
-      map (λ e. e.1) (kept (plan_view plan) store);
+  layout = layout_text_of plan;
+  values = map recorded (map (λ e. e.1) (kept (plan_view plan) store));
 }
 
 -- a core before anything came to it: the initial values, and an empty log
@@ -40,7 +44,7 @@ abbrev pub IsOfPlan : Plan → Recovered → Type 0
 IsOfPlan plan TooLong = ⊥
 IsOfPlan plan Refused = ⊥
 IsOfPlan plan Nothing = Unit {0}
-IsOfPlan plan (Found generation content) = content.layout ≡ layout_text plan.variables.items
+IsOfPlan plan (Found generation content) = content.layout ≡ layout_text_of plan
 
 -- the record of what a prefix of a log leaves, with the moment of its last row
 abbrev pub record_after : Plan → Store → Option ℕ → List Entry → Content

@@ -1,7 +1,6 @@
 -- Starting a core.
 use Rattle.std.specs.Prelude.{◌≡◌, ◌≢◌, ◌⊎◌, ◌+◌, ◌-◌, ◌^◌, ℕ, List, []}
 use Rattle.st_plans.specs.Restarts.{Start, cold_start}
-use Rattle.st_plans.specs.Layouts.{layout_text}
 use Rattle.retain_store.specs.declared.fault.StoreFault.TheVariants as stores
 use Rattle.retain_store.specs.Recovered.{Recovered, TooLong, Refused, Nothing, Found}
 use Rattle.retain_store.specs.Opening.{CountsFault, KeepsFile}
@@ -13,7 +12,7 @@ use Rattle.commit_lock.specs.declared.refusal.StartFault.{StartFault}
 use Rattle.commit_lock.specs.declared.refusal.StartFault.TheVariants as faults
 use Rattle.commit_lock.specs.declared.starting.StartMode.{StartMode}
 use Rattle.commit_lock.specs.declared.starting.StartMode.TheVariants.{Warm, Cold}
-use Rattle.commit_lock.specs.Restart.{warm, begun, record_now}
+use Rattle.commit_lock.specs.Restart.{layout_text_of, warm, begun, record_now}
 
 -- what a life starts with, by what the file is recovered to
 abbrev pub start_of : StartMode → Plan → Recovered → Start
@@ -32,7 +31,7 @@ pub record IsNew (state : State) (plan : Plan) (room : ℕ) : Type 0 where
 
 -- a record of another layout text
 abbrev pub HasOtherLayout : Plan → Recovered → Type 0
-HasOtherLayout plan (Found generation content) = content.layout ≢ layout_text plan.variables.items
+HasOtherLayout plan (Found generation content) = content.layout ≢ layout_text_of plan
 HasOtherLayout plan other = ⊥
 
 -- a start that can be answered: no record, or one of the plan's layout; and for a cold start a generation that is left
@@ -40,7 +39,7 @@ abbrev pub CanStart : StartMode → Plan → Recovered → Type 0
 CanStart mode plan TooLong = ⊥
 CanStart mode plan Refused = ⊥
 CanStart mode plan Nothing = Unit {0}
-CanStart Warm plan (Found generation content) = content.layout ≡ layout_text plan.variables.items
+CanStart Warm plan (Found generation content) = content.layout ≡ layout_text_of plan
 CanStart Cold plan (Found generation content) = generation ≢ 2 ^ 64 - 1
 
 -- the generations are used up

@@ -43,7 +43,6 @@ impl<D: Disk> Model for Core<D> {
     ghost coded = { Prim.hlevel (codes, source.the_row.coded, code.the_row.coded) };
 
     ghost use Rattle.std.specs.Prelude.{◌≡◌, ◌≤◌, length, vec_capacity};
-    ghost use Rattle.st_plans.specs.Layouts.{layout_text};
     ghost use Rattle.commit_lock.specs.Kept.{CoreInvariant};
 
     ghost view = { λ x. record {

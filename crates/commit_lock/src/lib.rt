@@ -13,6 +13,7 @@ mod flushing;
 mod laws;
 mod parts;
 mod reading;
+mod recording;
 mod refusal;
 mod saving;
 mod starting;

@@ -2,8 +2,7 @@
 
 ghost use Rattle.std.specs.Prelude.{◌≡◌, ◌≤◌, [], None, length, map, vec_capacity, IfOk};
 ghost use Rattle.st_words.specs.declared.limits.TheConstants.{MAX_LOG_ROOM};
-ghost use Rattle.st_plans.specs.Layouts.{layout_text};
-ghost use Rattle.commit_lock.specs.Restart.{begun};
+ghost use Rattle.commit_lock.specs.Restart.{begun, layout_text_of};
 
 use config::Plan;
 use serial_core::SerialCore;
@@ -26,7 +25,7 @@ impl Parts {
     pub fn new(alloc: Global, plan: Arc<Plan>, log_room: usize) -> Result<Parts, AllocError>
         requires room { log_room ≤ MAX_LOG_ROOM }
         ensures serial { IfOk result (λ parts. parts.serial ≡ begun plan.value log_room) }
-        ensures layout { IfOk result (λ parts. parts.layout.items ≡ layout_text plan.value.variables.items) }
+        ensures layout { IfOk result (λ parts. parts.layout.items ≡ layout_text_of plan.value) }
         ensures kept { IfOk result (λ parts. length plan.value.variables.items ≤ vec_capacity parts.kept) }
     {
         let layout = plan.layout_text(alloc)?;

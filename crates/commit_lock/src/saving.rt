@@ -3,14 +3,16 @@
 ghost use Rattle.std.specs.Prelude.{◌≡◌, ◌≢◌, ◌+◌, ◌≤◌, ◌^◌, ◌-◌, ◌↔◌, List, ℕ, length, vec_capacity, MatchResult};
 ghost use Rattle.std.specs.Prelude.{IfErr, OnOk, OnErr, IsErrOf, true, false};
 ghost use Rattle.disk.specs.Runs.{LeavesOnly};
-ghost use Rattle.st_plans.specs.Layouts.{layout_text, record_length};
+ghost use Rattle.st_plans.specs.Layouts.{record_length};
+ghost use Rattle.config.specs.PlanViews.{plan_view};
 ghost use Rattle.retain_store.specs.declared.format.TheConstants.{FILE_BYTES};
 ghost use Rattle.retain_store.specs.Recovered.{recovered, Found};
 ghost use Rattle.retain_store.specs.Areas.{IsEither};
 ghost use Rattle.retain_store.specs.Opening.{CountsFault, KeepsFile};
 ghost use Rattle.retain_store.specs.Kept.{IsTriedAfter};
-ghost use Rattle.commit_lock.specs.Restart.{record_now};
+ghost use Rattle.commit_lock.specs.Restart.{layout_text_of, record_now};
 
+use crate::recording::record_all;
 use disk::Disk;
 use retain_store::{Store, StoreFault};
 use serial_core::SerialCore;
@@ -24,8 +26,9 @@ pub(crate) fn save_record<D: Disk>(
     layout: &[u8],
     kept: &mut Vec<Value>,
 ) -> Result<(), StoreFault>
-    requires layout { layout.now ≡ layout_text serial.now.plan.variables.items }
-    requires room { record_length serial.now.plan.variables.items ≤ store.old.room }
+    requires layout { layout.now ≡ layout_text_of serial.now.plan }
+    requires room { record_length (plan_view serial.now.plan).enumerations serial.now.plan.variables.items
+        ≤ store.old.room }
     requires kept { length serial.now.plan.variables.items ≤ vec_capacity kept.old }
 
     ensures saved { OnOk result ((store.new.generation ≡ store.old.generation + 1)
@@ -53,6 +56,7 @@ pub(crate) fn save_record<D: Disk>(
     ensures kept { vec_capacity kept.old ≤ vec_capacity kept.new }
 {
     serial.retain(kept);
+    record_all(kept);
     store.save(serial.last_moment(), layout, kept)?;
     Ok(())
 }

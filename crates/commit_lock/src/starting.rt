@@ -5,12 +5,11 @@ ghost use Rattle.std.specs.Prelude.{vec_capacity, IfOk, IfErr, MatchResult};
 ghost use Rattle.st_words.specs.declared.limits.TheConstants.{MAX_LOG_ROOM};
 ghost use Rattle.disk.specs.Disk.{Only};
 ghost use Rattle.disk.specs.Runs.{LeavesOnly};
-ghost use Rattle.st_plans.specs.Layouts.{layout_text};
 ghost use Rattle.retain_store.specs.declared.format.TheConstants.{FILE_BYTES};
 ghost use Rattle.retain_store.specs.Recovered.{recovered, Found};
 ghost use Rattle.retain_store.specs.Areas.{IsEither};
 ghost use Rattle.retain_store.specs.Kept.{IsLast};
-ghost use Rattle.commit_lock.specs.Restart.{Survives, IsOfPlan, begun, record_now, warm};
+ghost use Rattle.commit_lock.specs.Restart.{Survives, IsOfPlan, begun, layout_text_of, record_now, warm};
 ghost use Rattle.commit_lock.specs.Cores.{survives};
 ghost use Rattle.commit_lock.specs.Starting.{start_of, started, HasOtherLayout, IsNew, CanStart, RefusesStart};
 ghost use Rattle.commit_lock.specs.Starting.{CountsStart, LeftByStart, IsSavedAnew, IsWantOfMemory};
@@ -18,12 +17,14 @@ ghost use Rattle.commit_lock.specs.Starting.{StartKeeps, next_generation};
 
 use crate::core_state::Core;
 use crate::parts::Parts;
+use crate::recording::take_numbers;
 use crate::refusal::StartFault;
 use crate::saving::save_record;
 use config::Plan;
 use disk::Disk;
 use retain_store::{Store, StoreFault};
 use serial_core::SerialCore;
+use st_words::Value;
 use st_words::limits::MAX_RECORD_BODY;
 use std::alloc::Global;
 use std::sync::Arc;
@@ -37,16 +38,24 @@ pub enum StartMode {
     Cold,
 }
 
-/// Goes on from the last record, if there is one; false where it is of another layout.
-fn resume_from<D: Disk>(serial: &mut SerialCore, layout: &[u8], store: &Store<D>) -> bool
+/// Goes on from the last record, if there is one; false where it is of another layout. Between the two stand the values
+/// of the retained variables, in the room that is given.
+fn resume_from<D: Disk>(
+    serial: &mut SerialCore,
+    layout: &[u8],
+    kept: &mut Vec<Value>,
+    store: &Store<D>,
+) -> bool
     requires begun { serial.old ≡ begun serial.old.plan serial.old.room }
-    requires layout { layout.now ≡ layout_text serial.old.plan.variables.items }
+    requires layout { layout.now ≡ layout_text_of serial.old.plan }
+    requires kept { length serial.old.plan.variables.items ≤ vec_capacity kept.old }
     requires last { IsLast store.now.generation store.now.last }
 
     ensures resumed { IsTrue result
         → serial.new ≡ started serial.old.plan serial.old.room (warm serial.old.plan store.now.last) }
     ensures survives { IsTrue result → Survives serial.new.plan serial.new.start serial.new.before [] 0 store.now.last }
     ensures other { result ≡ false → HasOtherLayout serial.old.plan store.now.last }
+    ensures kept { vec_capacity kept.old ≤ vec_capacity kept.new }
 {
     let Some(record) = store.last() else {
         return true;
@@ -54,14 +63,16 @@ fn resume_from<D: Disk>(serial: &mut SerialCore, layout: &[u8], store: &Store<D>
     if record.layout() != layout {
         return false;
     }
-    serial.resume(record.values(), record.moment());
+    serial.retain(kept);
+    take_numbers(kept, record.values());
+    serial.resume(kept, record.moment());
     true
 }
 
 /// A core that goes on from the last record of the store.
 fn warm<D: Disk>(parts: Parts, store: Store<D>) -> Result<Core<D>, (StartFault, D)>
     requires begun { parts.serial ≡ begun parts.serial.plan parts.serial.room }
-    requires layout { parts.layout.items ≡ layout_text parts.serial.plan.variables.items }
+    requires layout { parts.layout.items ≡ layout_text_of parts.serial.plan }
     requires kept { length parts.serial.plan.variables.items ≤ vec_capacity parts.kept }
     requires last { IsLast store.generation store.last }
     requires tried { store.tried ≡ store.last }
@@ -82,9 +93,9 @@ fn warm<D: Disk>(parts: Parts, store: Store<D>) -> Result<Core<D>, (StartFault, 
     let Parts {
         mut serial,
         layout,
-        kept,
+        mut kept,
     } = parts;
-    if !resume_from(&mut serial, &layout, &store) {
+    if !resume_from(&mut serial, &layout, &mut kept, &store) {
         return Err((StartFault::OtherLayout, store.into_disk()));
     }
     let core = Core {
@@ -103,7 +114,7 @@ fn warm<D: Disk>(parts: Parts, store: Store<D>) -> Result<Core<D>, (StartFault, 
 /// A core that starts anew. The record of the initial values, without a moment, is saved before.
 fn cold<D: Disk>(parts: Parts, store: Store<D>) -> Result<Core<D>, (StartFault, D)>
     requires begun { parts.serial ≡ begun parts.serial.plan parts.serial.room }
-    requires layout { parts.layout.items ≡ layout_text parts.serial.plan.variables.items }
+    requires layout { parts.layout.items ≡ layout_text_of parts.serial.plan }
     requires kept { length parts.serial.plan.variables.items ≤ vec_capacity parts.kept }
     requires last { IsLast store.generation store.last }
     requires fresh { store.failed ≡ false }

@@ -1320,7 +1320,7 @@ instr-send = variants_send Instr.enum (
                                     (
                                       search plain
                                           depth 20,
-                                      (search plain depth 20, tt),
+                                      (value-send, tt),
                                     ),
                                   ),
                                   (
@@ -1423,7 +1423,7 @@ instr-sync = variants_sync Instr.enum (
                                     (
                                       search plain
                                           depth 20,
-                                      (search plain depth 20, tt),
+                                      (value-sync, tt),
                                     ),
                                   ),
                                   (
@@ -1534,21 +1534,16 @@ pub plan-send : IsSend Plan.the_row
 plan-send = declared_send Plan.the_type (
   Arc-send _ source-send source-sync,
   (
-    Vec-send _ plan_variable-send,
+    Vec-send _ (Vec-send _ name-send),
     (
-      Vec-send
-          _ plan_input-send,
+      Vec-send _ plan_variable-send,
       (
-        Vec-send _ place-send,
+        Vec-send _ plan_input-send,
         (
-          search plain depth 20,
+          Vec-send _ place-send,
           (
-            Vec-send _ task-send,
-            (
-              Vec-send _
-                  instance-send,
-              (search plain depth 20, tt),
-            ),
+            search plain depth 20,
+            (Vec-send _ task-send, (Vec-send _ instance-send, (search plain depth 20, tt))),
           ),
         ),
       ),
@@ -1560,21 +1555,16 @@ pub plan-sync : IsSync Plan.the_row
 plan-sync = declared_sync Plan.the_type (
   Arc-sync _ source-send source-sync,
   (
-    Vec-sync _ plan_variable-sync,
+    Vec-sync _ (Vec-sync _ name-sync),
     (
-      Vec-sync
-          _ plan_input-sync,
+      Vec-sync _ plan_variable-sync,
       (
-        Vec-sync _ place-sync,
+        Vec-sync _ plan_input-sync,
         (
-          search plain depth 20,
+          Vec-sync _ place-sync,
           (
-            Vec-sync _ task-sync,
-            (
-              Vec-sync _
-                  instance-sync,
-              (search plain depth 20, tt),
-            ),
+            search plain depth 20,
+            (Vec-sync _ task-sync, (Vec-sync _ instance-sync, (search plain depth 20, tt))),
           ),
         ),
       ),

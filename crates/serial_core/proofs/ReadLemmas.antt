@@ -1,8 +1,7 @@
 -- What a run read stands in its snapshot.
 use Rattle.std.proofs.Common.{◌≡◌, ℕ, zero, suc, Bool, true, false, ◌&&◌, if◌then◌else◌, List, [], ◌∷◌, drop, refl}
-use Rattle.std.proofs.Common.{sym, ap, ◌∙◌, arith, Option, Some, slice_get}
+use Rattle.std.proofs.Common.{ap, ◌∙◌, arith, Some, slice_get}
 use Rattle.std.specs.Prelude.{◌==◌}
-use Rattle.std.specs.Ordering.{int_eq}
 use Rattle.std.proofs.lemmas.Bool.Decides.{Decides-int_eq}
 use Rattle.st_words.specs.Kinds.{same_kind, kind_index, names_in, number_of_type}
 use Rattle.st_words.specs.Values.{Datum, same_datum}

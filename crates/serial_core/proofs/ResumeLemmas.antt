@@ -17,9 +17,9 @@ use Rattle.std.proofs.lemmas.List.{length-map}
 pub restarted : (plan : Plan) (ws start : List Datum) (moment : Option ℕ)
     → map (λ d. d.kind) ws ≡ retained_kinds plan.variables.items → AllByRecursion IsHeld ws
     → start ≡ restored plan.variables.items ws
-    → store_in plan start ≡ (warm_start (plan_view plan) (Some (told_by plan.variables.items ws moment))).store
+    → store_in plan start ≡ (warm_start (plan_view plan) (Some (told_by plan ws moment))).store
 restarted plan ws start moment kinds held is = ap (store_in plan) is
-    ∙ sym (restart_is plan.variables.items plan.inputs.items ws plan.sound.different kinds held)
+    ∙ sym (restart_is (plan_view plan).enumerations plan.variables.items plan.inputs.items ws plan.sound.different kinds held)
 
 -- what is kept of them
 pub kept_values : (plan : Plan) (ws start : List Datum)

@@ -13,7 +13,7 @@ use Rattle.st_plans.specs.declared.plan.PlanVariable.{PlanVariable}
 use Rattle.st_plans.specs.declared.plan.PlanInput.{PlanInput}
 use Rattle.st_types.specs.Stores.{Store}
 use Rattle.st_types.specs.Slots.{variables_in}
-use Rattle.st_plans.specs.Layouts.{layout_of, path_text}
+use Rattle.st_plans.specs.Layouts.{Enumerations, layout_of, path_text}
 use Rattle.st_plans.specs.Restarts.{KeptLine, lines_with, restarted}
 use Rattle.st_plans.proofs.RestartLemmas.{restarts, taken, AreUnlike, all_unlike, unlike_next}
 use Rattle.st_types.specs.Scopes.{Name, contains_name}
@@ -156,43 +156,44 @@ none_before u (v ∷ vs) h =
     (p.0, none_before u vs p.1)
 
 -- what these lines give the variables, where those of the variables stand behind others
-abbrev RestartsTo : List PlanVariable → List PlanInput → Type 0
-RestartsTo vs ins = (s : Store) (lines : List KeptLine) (ws : List Datum) → AreUnlike vs s
+abbrev RestartsTo : Enumerations → List PlanVariable → List PlanInput → Type 0
+RestartsTo types vs ins = (s : Store) (lines : List KeptLine) (ws : List Datum) → AreUnlike vs s
     → are_different (texts vs) ≡ true → map (λ d. d.kind) ws ≡ retained_kinds vs → AllByRecursion IsHeld ws
-    → lines ≡ lines_with (s ++ paired (retained_paths vs) ws)
-    → restarts lines vs ≡ variables_in (layout_of vs ins) (restored vs ws)
+    → lines ≡ lines_with types (s ++ paired (retained_paths vs) ws)
+    → restarts types lines vs ≡ variables_in (layout_of vs ins) (restored vs ws)
 
-restart_first : (v : PlanVariable) (vs : List PlanVariable) (ins : List PlanInput) (s : Store) (lines : List KeptLine)
-    (ws : List Datum) (r : Bool) → v.retained ≡ r → RestartsTo vs ins → AreUnlike (v ∷ vs) s
+restart_first : (types : Enumerations) (v : PlanVariable) (vs : List PlanVariable) (ins : List PlanInput) (s : Store)
+    (lines : List KeptLine) (ws : List Datum) (r : Bool) → v.retained ≡ r → RestartsTo types vs ins → AreUnlike (v ∷ vs) s
     → are_different (texts (v ∷ vs)) ≡ true
     → map (λ d. d.kind) ws ≡ (if r then v.initial.kind ∷ retained_kinds vs else retained_kinds vs)
     → AllByRecursion IsHeld ws
-    → lines ≡ lines_with (s ++ paired (if r then v.path ∷ retained_paths vs else retained_paths vs) ws)
-    → (v.path, restarted lines v) ∷ restarts lines vs ≡ variables_in (layout_of (v ∷ vs) ins)
+    → lines ≡ lines_with types (s ++ paired (if r then v.path ∷ retained_paths vs else retained_paths vs) ws)
+    → (v.path, restarted types lines v) ∷ restarts types lines vs ≡ variables_in (layout_of (v ∷ vs) ins)
     (if r then first_or v.initial ws ∷ restored vs (others ws) else v.initial ∷ restored vs ws)
-restart_first v vs ins s lines [] true is again apart d e held all = absurd (omega (arith, ap length e))
-restart_first v vs ins s lines (w ∷ ws) true is again apart d e held all =
+restart_first types v vs ins s lines [] true is again apart d e held all = absurd (omega (arith, ap length e))
+restart_first types v vs ins s lines (w ∷ ws) true is again apart d e held all =
     let p = and_parts (not (contains_name (texts vs) (path_text v.path))) (are_different (texts vs)) d in
     let none = none_before v vs (not-true (contains_name (texts vs) (path_text v.path)) p.0) in
-    let first : restarted lines v ≡ w =
-    taken v w s (paired (retained_paths vs) ws) lines true is apart.0 (cons_head e) held.0 all in
+    let first : restarted types lines v ≡ w =
+    taken types v w s (paired (retained_paths vs) ws) lines true is apart.0 (cons_head e) held.0 all in
     let rest = again (s ++ (v.path, w) ∷ []) lines ws (unlike_next v w s vs none apart.1) p.1 (cons_tail e) held.1
-    (all ∙ ap lines_with (sym (append_assoc s ((v.path, w) ∷ []) (paired (retained_paths vs) ws)))) in
-    ap (λ x. (v.path, x) ∷ restarts lines vs) first ∙ ap (λ t. (v.path, w) ∷ t) rest
-restart_first v vs ins s lines ws false is again apart d e held all =
+    (all ∙ ap (lines_with types) (sym (append_assoc s ((v.path, w) ∷ []) (paired (retained_paths vs) ws)))) in
+    ap (λ x. (v.path, x) ∷ restarts types lines vs) first ∙ ap (λ t. (v.path, w) ∷ t) rest
+restart_first types v vs ins s lines ws false is again apart d e held all =
     let p = and_parts (not (contains_name (texts vs) (path_text v.path))) (are_different (texts vs)) d in
     let rest = again s lines ws apart.1 p.1 e held all in
     rw is (ap (λ t. (v.path, v.initial) ∷ t) rest)
 
-restarts_to : (vs : List PlanVariable) (ins : List PlanInput) → RestartsTo vs ins
-restarts_to [] ins s lines ws apart d e held all = sym (no_variables ins [])
-restarts_to (v ∷ vs) ins s lines ws apart d e held all =
-    restart_first v vs ins s lines ws v.retained refl (restarts_to vs ins) apart d e held all
+restarts_to : (types : Enumerations) (vs : List PlanVariable) (ins : List PlanInput) → RestartsTo types vs ins
+restarts_to types [] ins s lines ws apart d e held all = sym (no_variables ins [])
+restarts_to types (v ∷ vs) ins s lines ws apart d e held all =
+    restart_first types v vs ins s lines ws v.retained refl (restarts_to types vs ins) apart d e held all
 
-pub restart_is : (vs : List PlanVariable) (ins : List PlanInput) (ws : List Datum) → are_different (texts vs) ≡ true
+pub restart_is : (types : Enumerations) (vs : List PlanVariable) (ins : List PlanInput) (ws : List Datum)
+    → are_different (texts vs) ≡ true
     → map (λ d. d.kind) ws ≡ retained_kinds vs → AllByRecursion IsHeld ws
-    → restarts (lines_with (paired (retained_paths vs) ws)) vs ≡ variables_in (layout_of vs ins) (restored vs ws)
-restart_is vs ins ws d e held = restarts_to vs ins [] _ ws (all_unlike vs) d e held refl
+    → restarts types (lines_with types (paired (retained_paths vs) ws)) vs ≡ variables_in (layout_of vs ins) (restored vs ws)
+restart_is types vs ins ws d e held = restarts_to types vs ins [] _ ws (all_unlike vs) d e held refl
 
 -- what was restored is what is kept
 back_first : (v : PlanVariable) (vs : List PlanVariable) (ws : List Datum) (r : Bool)

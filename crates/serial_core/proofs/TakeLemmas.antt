@@ -1,11 +1,8 @@
 -- What is taken from a core.
-use Rattle.std.proofs.Common.{◌≡◌, ℕ, suc, ◌<◌, nat_lt, Bool, true, List, [], ◌∷◌, ◌++◌, length, map, Option, Some}
+use Rattle.std.proofs.Common.{◌≡◌, ℕ, ◌<◌, Bool, true, List, length, map, Option, Some}
 use Rattle.std.proofs.Common.{None, option_map, slice_get, slice_index, refl, sym, ap, subst, ◌∙◌, arith}
 use Rattle.std.specs.Prelude.{MatchBool, MatchOption}
-use Rattle.std.specs.List.{list_all}
-use Rattle.std.proofs.lemmas.Bool.Decides.{nat_tests}
 use Rattle.std.proofs.lemmas.List.{length-map}
-use Rattle.std.proofs.lemmas.Option.{slice_get_within}
 use Rattle.st_words.specs.Values.{Datum}
 use Rattle.st_plans.specs.declared.plan.PlanInput.{PlanInput}
 use Rattle.st_plans.specs.declared.entry.Entry.{Entry}
@@ -14,7 +11,6 @@ use Rattle.st_plans.specs.declared.entry.Activation.{Activation}
 use Rattle.st_types.specs.declared.outcome.Outcome.{Outcome}
 use Rattle.st_plans.specs.Rows.{Latch}
 use Rattle.st_types.specs.Slots.{AreOfTypes}
-use Rattle.st_plans.specs.Layouts.{layout_of}
 use Rattle.st_plans.specs.Due.{History, Waits, NoneWaits, IsBest}
 use Rattle.st_plans.specs.Plans.{schedules_of}
 use Rattle.st_plans.specs.Logs.{past_of, row_at}

@@ -6,6 +6,8 @@ use Rattle.st_words.specs.Paths.{Path}
 use Rattle.st_plans.specs.declared.plan.PlanVariable.{PlanVariable}
 use Rattle.st_types.specs.Stores.{Store}
 use Rattle.st_plans.specs.Restarts.{Kept, lines_with}
+use Rattle.config.specs.declared.plan.Plan.{Plan}
+use Rattle.config.specs.PlanViews.{plan_view}
 
 abbrev pub retained_paths : List PlanVariable → List Path
 retained_paths [] = []
@@ -43,6 +45,8 @@ paired (p ∷ ps) [] = []
 paired (p ∷ ps) (d ∷ ds) = (p, d) ∷ paired ps ds
 
 -- what a record of these values of the retained variables tells
-abbrev pub told_by : List PlanVariable → List Datum → Option ℕ → Kept
-told_by variables values moment =
-    record { lines = lines_with (paired (retained_paths variables) values); moment = moment }
+abbrev pub told_by : Plan → List Datum → Option ℕ → Kept
+told_by plan values moment = record {
+  lines = lines_with (plan_view plan).enumerations (paired (retained_paths plan.variables.items) values);
+  moment = moment;
+}

@@ -58,7 +58,7 @@ impl SerialCore {
         ensures restarted { self.new ≡ record {
           plan = self.old.plan;
           start = (warm_start (plan_view self.old.plan)
-              (Some (told_by self.old.plan.variables.items values.now moment))).store;
+              (Some (told_by self.old.plan values.now moment))).store;
           before = moment;
           log = [];
           room = self.old.room;

@@ -43,7 +43,7 @@ returns-clause-restarted c =
       plan = st.plan;
       start =
           (warm_start (plan_view st.plan)
-          (Some (told_by st.plan.variables.items c.args.values.now c.args.moment))).store;
+          (Some (told_by st.plan c.args.values.now c.args.moment))).store;
       before = c.args.moment;
       log = [];
       room = st.room;

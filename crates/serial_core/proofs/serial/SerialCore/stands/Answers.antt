@@ -1,4 +1,4 @@
-use Rattle.std.proofs.Common.{◌≡◌, ◌∙◌, ap, map, sym, subst, true, length}
+use Rattle.std.proofs.Common.{◌≡◌, ◌∙◌, ap, map, sym, subst}
 use Rattle.st_types.specs.Slots.{agrees}
 use Rattle.st_plans.specs.Logs.{past_of, row_at}
 use Rattle.config.specs.PlanViews.{plan_view}
