@@ -16,15 +16,26 @@ work=$(mktemp -d)
 trap 'rm -rf "$work"' EXIT
 cd "$work"
 
-# Two resources that add to the same variables, each in a thread of its own.
+# Two resources that add to the same variables, each in a thread of its own; with a step of a recipe, counters and timers that are kept too.
 cat > counters.st <<'END'
+TYPE Step : (Fill, Heat, Drain); END_TYPE
 PROGRAM Count
-  VAR_EXTERNAL a : DINT; b : DINT; END_VAR
+  VAR RETAIN own : DINT; clock : BOOL; pulses : CTU; since : TON; END_VAR
+  VAR_EXTERNAL a : DINT; b : DINT; step : Step; END_VAR
   a := a + 1;
   b := b + 3;
+  own := own + 1;
+  CASE step OF
+    Fill: step := Heat;
+    Heat: step := Drain;
+    Drain: step := Fill;
+  END_CASE;
+  clock := NOT clock;
+  pulses(CU := clock, PV := 100);
+  since(IN := TRUE, PT := T#1h);
 END_PROGRAM
 CONFIGURATION Killed
-  VAR_GLOBAL RETAIN a : DINT; b : DINT; END_VAR
+  VAR_GLOBAL RETAIN a : DINT; b : DINT; step : Step; END_VAR
   RESOURCE R ON CPU
     TASK T (INTERVAL := T#10ms, PRIORITY := 0);
     PROGRAM P WITH T : Count;
@@ -35,6 +46,7 @@ CONFIGURATION Killed
   END_RESOURCE
 END_CONFIGURATION
 END
+steps=(FILL HEAT DRAIN)
 echo t > none.csv
 
 fail() {
@@ -53,11 +65,30 @@ value() {
     awk -v name="$1" '$1 == name { print $NF }' report
 }
 
-# Checks a report: each execution has added to both variables, and all is acknowledged.
-check() {
+# whole: all that the executions have written stands together, of each of them or of none
+whole() {
+    local r s
     a=$(value A)
     b=$(value B)
     [ "$b" -eq $((3 * a)) ] || fail "A = $a, but B = $b"
+    [ "$(value STEP)" = "${steps[a % 3]}" ] || fail "A = $a, but STEP = $(value STEP)"
+    r=$(value R/P.OWN)
+    s=$(value S/P.OWN)
+    [ $((r + s)) -eq "$a" ] || fail "A = $a, but the programs counted to $r and $s"
+    counted_to R "$r"
+    counted_to S "$s"
+}
+
+# counted_to RESOURCE N: its counter has counted every other of so many executions
+counted_to() {
+    local pulses=$((($2 + 1) / 2))
+    [ $pulses -le 32767 ] || pulses=32767
+    [ "$(value "$1/P.PULSES.CV")" -eq $pulses ] || fail "$1 ran $2 times, and counted to $(value "$1/P.PULSES.CV")"
+}
+
+# Checks a report: each execution has added to both variables, and all is acknowledged.
+check() {
+    whole
     [ "$a" -eq $((known + $(value done))) ] || fail "from $known on $(value done) executions counted to $a"
     [ "$(value acked)" -eq $(($(value rows) + $(value done))) ] || fail "only $(value acked) entries are acknowledged"
     known=$a
@@ -66,9 +97,7 @@ check() {
 # Restarts warm without a row, and checks what is there.
 look() {
     "$plant" run counters.st --plant none.csv --store store --start warm > report 2> fault || fail "a warm start was refused: $(cat fault)"
-    a=$(value A)
-    b=$(value B)
-    [ "$b" -eq $((3 * a)) ] || fail "A = $a, but B = $b"
+    whole
     [ "$a" -ge "$known" ] || fail "A = $a, but an earlier life had acknowledged $known"
     known=$a
 }

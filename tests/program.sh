@@ -301,11 +301,11 @@ start cold
 moment none
 keep N 0
 row 0
-done R0/P0 0 ok
+done R/P 0 ok
 row 10
-done R0/P0 1 ok
+done R/P 1 ok
 row 20
-done R0/P0 2 ok
+done R/P 2 ok
 end 6
 END
 scene "its replay" 0 "$(replayed 3 3 0 0 'N = 3')" "" $(replay s.st rows.csv trace.txt)
@@ -406,7 +406,7 @@ start warm
 moment 20
 keep N 3
 row 30
-done R0/P0 0 ok
+done R/P 0 ok
 end 2
 END
 scene "the replay of a warm life" 0 "$(replayed 1 1 0 0 'N = 4' 'K = 8')" "" $(replay both.st next.csv warm.txt)
@@ -459,7 +459,7 @@ start cold
 moment none
 keep N 0
 row 0
-done R0/P0 0 F5
+done R/P 0 F5
 end 2
 END
 scene "the replay of a tick too few" 0 "$(replayed 1 1 1 0 'N = 0')" "" $(replay seven.st first.csv ticks.txt)
@@ -490,6 +490,12 @@ change() {
     cmp -s s.st changed.st && fail "$1: nothing was changed"
     scene "$1" 2 "" "fault $4" check changed.st
 }
+# grows NAME OLD NEW SIZES..: the text is accepted where this is put in place of that, and has these sizes
+grows() {
+    sed "s/$2/$3/" s.st > changed.st
+    cmp -s s.st changed.st && fail "$1: nothing was changed"
+    scene "$1" 0 "$(printf '%s\n' "resources $4" "tasks $5" "programs $6" "slots $7" "retained $8")" "" check changed.st
+}
 change "an unknown global" 'RETAIN n' 'RETAIN m' G3
 change "a global of another type" 'RETAIN n : INT' 'RETAIN n : DINT' G3
 change "a constant external" 'VAR_EXTERNAL n : INT; END_VAR n := n + 1;' 'VAR_EXTERNAL CONSTANT n : INT; END_VAR' G3
@@ -497,18 +503,19 @@ change "a constant external that is assigned" 'VAR_EXTERNAL n' 'VAR_EXTERNAL CON
 change "an unknown task" 'WITH T' 'WITH U' G3
 change "an unknown program" ': Add' ': Sub' G3
 change "a program without a task" 'WITH T ' '' G8
-change "an output" 'RETAIN n : INT' 'n AT %QW0 : INT' X2
+grows "an output" 'RETAIN n : INT' 'n AT %QW0 : INT' 1 1 1 1 0
+grows "an output under RETAIN" 'RETAIN n : INT' 'RETAIN n AT %QW0 : INT' 1 1 1 1 1
 change "an address past its range" 'RETAIN n : INT' 'n AT %QW256 : INT' G4
 change "an address of another width" 'RETAIN n : INT' 'n AT %QX0 : INT' G4
 change "an input that is assigned" 'RETAIN n : INT' 'n AT %IW0 : INT' G3
-change "a task with a priority" 'PRIORITY := 0' 'PRIORITY := 1' X2
+grows "a task with a priority" 'PRIORITY := 0' 'PRIORITY := 1' 1 1 1 1 1
 change "a priority over 65535" 'PRIORITY := 0' 'PRIORITY := 65536' 'C4 at 175'
-change "a program of its own variable" 'VAR_EXTERNAL n' 'VAR n' X2
-change "a global of another width" 'RETAIN n : INT;' 'RETAIN n : INT; k : LINT;' X2
-change "a global that is no number" 'RETAIN n : INT;' 'RETAIN n : INT; k : BOOL;' X2
+grows "a program of its own variable" 'VAR_EXTERNAL n' 'VAR n' 1 1 1 2 1
+grows "a global of another width" 'RETAIN n : INT;' 'RETAIN n : INT; k : LINT;' 1 1 1 2 2
+grows "a global that is no number" 'RETAIN n : INT;' 'RETAIN n : INT; k : BOOL;' 1 1 1 2 2
 sed 's/n + 1/n + 32767/' s.st > greatest.st
 scene "the greatest literal of its type" 0 "$(printf '%s 1\n' resources tasks programs slots retained)" "" check greatest.st
-change "a loop" 'n := n + 1' 'WHILE n < 1 DO n := 1; END_WHILE' X2
+grows "a loop" 'n := n + 1' 'WHILE n < 1 DO n := 1; END_WHILE' 1 1 1 1 1
 change "a literal outside its type" 'n + 1' 'n + 32768' 'C4 at 51'
 change "a variable that isn't declared" 'n + 1' 'm + 1' 'C1 at 47'
 change "a program declared twice" 'CONFIGURATION C' 'PROGRAM Add END_PROGRAM CONFIGURATION C' 'C2 at 74'
@@ -521,7 +528,7 @@ change "a list longer than its array" 'VAR_GLOBAL RETAIN' 'VAR_GLOBAL a : ARRAY 
 change "an address under RETAIN" 'RETAIN n : INT;' 'RETAIN m AT %IW0 : INT; n : INT;' 'C11 at 100'
 change "a second configuration" 'END_CONFIGURATION' 'END_CONFIGURATION CONFIGURATION D RESOURCE R ON CPU PROGRAM P : Add; END_RESOURCE END_CONFIGURATION' G2
 
-# Addresses. Those that are sound are inputs, or outputs, which this version can't run.
+# Addresses. Those that are sound are inputs, or outputs.
 change "an address one past its range" 'RETAIN n : INT;' 'n : INT; b AT %IX1024 : BOOL;' G4
 change "a word one past its range" 'RETAIN n : INT;' 'n : INT; b AT %IW256 : WORD;' G4
 change "a bit of a word's width" 'RETAIN n : INT;' 'n : INT; b AT %IX0 : WORD;' G4
@@ -532,8 +539,8 @@ change "an address twice" 'RETAIN n : INT;' 'n : INT; b AT %IX7 : BOOL; c AT %IX
 change "an output twice" 'RETAIN n : INT;' 'n : INT; b AT %QX7 : BOOL; c AT %QX7 : BOOL;' G4
 change "an input with an initial value" 'RETAIN n : INT;' 'n : INT; b AT %IX0 : BOOL := TRUE;' G4
 change "a constant at an address" 'RETAIN n : INT;' 'n : INT; END_VAR VAR_GLOBAL CONSTANT b AT %QX0 : BOOL;' G4
-change "an output with an initial value" 'RETAIN n : INT;' 'n : INT; b AT %QX0 : BOOL := TRUE;' X2
-change "an output beside an input of its number" 'RETAIN n : INT;' 'n : INT; b AT %QX0 : BOOL; c AT %IX0 : BOOL;' X2
+grows "an output with an initial value" 'RETAIN n : INT;' 'n : INT; b AT %QX0 : BOOL := TRUE;' 1 1 1 2 0
+grows "an output beside an input of its number" 'RETAIN n : INT;' 'n : INT; b AT %QX0 : BOOL; c AT %IX0 : BOOL;' 1 1 1 2 0
 
 # Names that stand for nothing, or for something else.
 change "an external of a program that isn't run" 'CONFIGURATION C' 'PROGRAM Sub VAR_EXTERNAL m : INT; END_VAR END_PROGRAM CONFIGURATION C' G3
@@ -543,14 +550,38 @@ change "a block in place of a program" '^PROGRAM Add\(.*\)END_PROGRAM' 'FUNCTION
 change "a SINGLE that isn't there" 'INTERVAL' 'SINGLE := m, INTERVAL' G3
 change "a SINGLE that is no BOOL" 'INTERVAL' 'SINGLE := n, INTERVAL' G3
 
-# What is of the language and isn't run yet.
-scene "most of the language in one text" 2 "" "fault X2" check "$texts/conveyor.st"
-scene "the rest of the language in one text" 2 "" "fault X2" check "$texts/recipe.st"
-change "a type" 'CONFIGURATION C' 'TYPE Pair : ARRAY [0..1] OF INT; END_TYPE CONFIGURATION C' X2
-change "a constant" 'RETAIN n : INT;' 'RETAIN n : INT; END_VAR VAR_GLOBAL CONSTANT k : INT := 1;' X2
-change "a task without an interval" 'INTERVAL := T#10ms, ' '' X2
-change "a task that two programs run in" 'PROGRAM P WITH T : Add;' 'PROGRAM P WITH T : Add; PROGRAM Q WITH T : Add;' X2
-change "a task that no program runs in" 'PROGRAM P' 'TASK U (INTERVAL := T#10ms, PRIORITY := 0); PROGRAM P' X2
+# Texts of the whole language, and what a configuration may have.
+scene "most of the language in one text" 0 "$(printf '%s\n' 'resources 1' 'tasks 2' 'programs 2' 'slots 63' 'retained 9')" "" check "$texts/conveyor.st"
+scene "the rest of the language in one text" 0 "$(printf '%s\n' 'resources 1' 'tasks 2' 'programs 2' 'slots 103' 'retained 14')" "" check "$texts/recipe.st"
+grows "a type" 'CONFIGURATION C' 'TYPE Pair : ARRAY [0..1] OF INT; END_TYPE CONFIGURATION C' 1 1 1 1 1
+grows "a constant" 'RETAIN n : INT;' 'RETAIN n : INT; END_VAR VAR_GLOBAL CONSTANT k : INT := 1;' 1 1 1 2 1
+grows "a task without an interval" 'INTERVAL := T#10ms, ' '' 1 1 1 1 1
+grows "a task that two programs run in" 'PROGRAM P WITH T : Add;' 'PROGRAM P WITH T : Add; PROGRAM Q WITH T : Add;' 1 1 2 1 1
+grows "a task that no program runs in" 'PROGRAM P' 'TASK U (INTERVAL := T#10ms, PRIORITY := 0); PROGRAM P' 1 2 1 1 1
+# A record of a LINT array: 12 bytes, and for each element its path, a blank, LINT, LF and 8 bytes.
+array() {
+    printf 'PROGRAM E END_PROGRAM CONFIGURATION C VAR_GLOBAL RETAIN %s : ARRAY [1..4096] OF LINT; END_VAR\n' "$1"
+    echo 'RESOURCE R ON CPU TASK T (PRIORITY := 0); PROGRAM P WITH T : E; END_RESOURCE END_CONFIGURATION'
+}
+array abcdefghijkl > array.st
+scene "an array with a name of 12 letters" 0 "$(printf '%s\n' 'resources 1' 'tasks 1' 'programs 1' 'slots 4096' 'retained 4096')" "" check array.st
+array abcdefghijklm > array.st
+scene "an array with a name of 13 letters" 2 "" "fault G6" check array.st
+# Blocks each of two instances of the one before: over a million instances.
+{
+    echo 'FUNCTION_BLOCK F0 END_FUNCTION_BLOCK'
+    for ((i = 1; i <= 20; i++)); do echo "FUNCTION_BLOCK F$i VAR a, b : F$((i - 1)); END_VAR END_FUNCTION_BLOCK"; done
+    echo 'PROGRAM E VAR f : F20; END_VAR END_PROGRAM CONFIGURATION C RESOURCE R ON CPU TASK T (PRIORITY := 0);'
+    echo 'PROGRAM P WITH T : E; END_RESOURCE END_CONFIGURATION'
+} > doubled.st
+scene "blocks that double twenty times" 2 "" "fault M1" check doubled.st
+# One statement takes two instructions: 8,000 fit into the limit of 16,384, and 20,000 don't.
+{
+    echo 'PROGRAM E VAR n : INT; END_VAR'
+    several 20000 'n := n + 1;'
+    echo 'END_PROGRAM CONFIGURATION C RESOURCE R ON CPU TASK T (PRIORITY := 0); PROGRAM P WITH T : E; END_RESOURCE END_CONFIGURATION'
+} > statements.st
+scene "20,000 statements" 2 "" "fault M2" check statements.st
 
 # Texts at a limit, and one past it.
 # resource NUMBER COUNT: a resource with so many programs, each in a task of its own
