@@ -21,7 +21,9 @@ mod starting;
 pub use core_state::Core;
 pub use driving::drive;
 pub use event::{Event, Reply};
-pub use laws::{records_tell_what_was_kept, what_survives_is_given_back};
+pub use laws::{
+    records_know_types_by_their_names, records_tell_what_was_kept, what_survives_is_given_back,
+};
 pub use refusal::{Refusal, StartFault};
 pub use serial_core::Answer;
 pub use starting::StartMode;

@@ -9,3 +9,4 @@ pub mod HeadLemmas
 pub mod ValueLemmas
 pub mod FirstLemmas
 pub mod ReplayLemmas
+pub mod NameLemmas

@@ -6,14 +6,14 @@ use Rattle.std.specs.List.{All, AllByRecursion, find}
 use Rattle.std.proofs.lemmas.Bool.{and_parts}
 use Rattle.std.proofs.lemmas.List.{length-map}
 use Rattle.st_words.specs.declared.limits.TheConstants.{MAX_LOG_ROOM}
-use Rattle.st_words.specs.Kinds.{holds, row_of}
+use Rattle.st_words.specs.Kinds.{holds}
 use Rattle.st_words.specs.Paths.{Path}
 use Rattle.st_words.specs.Values.{Datum, IsHeld}
 use Rattle.st_plans.specs.declared.plan.PlanVariable.{PlanVariable}
 use Rattle.st_plans.specs.declared.plan.PlanInput.{PlanInput}
 use Rattle.st_types.specs.Stores.{Store}
 use Rattle.st_types.specs.Slots.{variables_in}
-use Rattle.st_plans.specs.Layouts.{layout_of, path_text}
+use Rattle.st_plans.specs.Layouts.{Enumerations, layout_of, path_text, type_text}
 use Rattle.st_plans.specs.Restarts.{Kept, KeptLine, Start, cold_start, is_line_of, kept, restarted, value_in, warm_start}
 use Rattle.config.specs.declared.plan.Plan.{Plan}
 use Rattle.config.specs.PlanViews.{plan_view}
@@ -78,33 +78,33 @@ cold_without_moment plan moment text = (tt, only)
 -- ---- a warm start
 
 -- a variable's value after a restart is one of its type
-held_at : (v : PlanVariable) (l : KeptLine) (found : Option KeptLine) (b : Bool) → is_line_of v l ≡ b
+held_at : (types : Enumerations) (v : PlanVariable) (l : KeptLine) (found : Option KeptLine) (b : Bool) → is_line_of types v l ≡ b
     → holds v.initial.kind (value_in v found).number ≡ true
     → holds v.initial.kind (value_in v (if b then Some l else found)).number ≡ true
-held_at v l found true is rest =
-    (and_parts (bytes_eq (path_text v.path) l.path && bytes_eq (row_of v.initial.kind).keyword l.spelling)
+held_at types v l found true is rest =
+    (and_parts (bytes_eq (path_text v.path) l.path && bytes_eq (type_text types v.initial.kind) l.spelling)
     (holds v.initial.kind l.number) is).1
-held_at v l found false is rest = rest
+held_at types v l found false is rest = rest
 
-held_in : (v : PlanVariable) (lines : List KeptLine) → holds v.initial.kind v.initial.number ≡ true
-    → holds v.initial.kind (value_in v (find (is_line_of v) lines)).number ≡ true
-held_in v [] held = held
-held_in v (l ∷ lines) held =
-    held_at v l (find (is_line_of v) lines) (is_line_of v l) refl (held_in v lines held)
+held_in : (types : Enumerations) (v : PlanVariable) (lines : List KeptLine) → holds v.initial.kind v.initial.number ≡ true
+    → holds v.initial.kind (value_in v (find (is_line_of types v) lines)).number ≡ true
+held_in types v [] held = held
+held_in types v (l ∷ lines) held =
+    held_at types v l (find (is_line_of types v) lines) (is_line_of types v l) refl (held_in types v lines held)
 
 value_typed : (v : PlanVariable) (found : Option KeptLine) → (value_in v found).kind ≡ v.initial.kind
 value_typed v None = refl
 value_typed v (Some l) = refl
 
-restarted_typed : (v : PlanVariable) (lines : List KeptLine) (r : Bool)
-    → (if r then value_in v (find (is_line_of v) lines) else v.initial).kind ≡ v.initial.kind
-restarted_typed v lines true = value_typed v (find (is_line_of v) lines)
-restarted_typed v lines false = refl
+restarted_typed : (types : Enumerations) (v : PlanVariable) (lines : List KeptLine) (r : Bool)
+    → (if r then value_in v (find (is_line_of types v) lines) else v.initial).kind ≡ v.initial.kind
+restarted_typed types v lines true = value_typed v (find (is_line_of types v) lines)
+restarted_typed types v lines false = refl
 
-restarted_held : (v : PlanVariable) (lines : List KeptLine) (r : Bool) → holds v.initial.kind v.initial.number ≡ true
-    → holds v.initial.kind (if r then value_in v (find (is_line_of v) lines) else v.initial).number ≡ true
-restarted_held v lines true held = held_in v lines held
-restarted_held v lines false held = held
+restarted_held : (types : Enumerations) (v : PlanVariable) (lines : List KeptLine) (r : Bool) → holds v.initial.kind v.initial.number ≡ true
+    → holds v.initial.kind (if r then value_in v (find (is_line_of types v) lines) else v.initial).number ≡ true
+restarted_held types v lines true held = held_in types v lines held
+restarted_held types v lines false held = held
 
 abbrev pub AreHeld : List PlanVariable → Type 0
 AreHeld vs = AllByRecursion (λ v. IsHeld v.initial) vs
@@ -114,66 +114,66 @@ all_held [] h = tt
 all_held (v ∷ vs) h = (h 0 v (omega arith), all_held vs (λ k d less. h (suc k) d (omega arith)))
 
 -- the values of all variables after a restart
-abbrev pub values_of : List KeptLine → List PlanVariable → List Datum
-values_of lines vs = map (restarted lines) vs
+abbrev pub values_of : Enumerations → List KeptLine → List PlanVariable → List Datum
+values_of types lines vs = map (restarted types lines) vs
 
-kinds_of : (lines : List KeptLine) (vs : List PlanVariable)
-    → map (λ d. d.kind) (values_of lines vs) ≡ map (λ v. v.initial.kind) vs
-kinds_of lines [] = refl
-kinds_of lines (v ∷ vs) =
-    ap (λ k. k ∷ map (λ d. d.kind) (values_of lines vs)) (restarted_typed v lines v.retained)
-    ∙ ap (λ ks. v.initial.kind ∷ ks) (kinds_of lines vs)
+kinds_of : (types : Enumerations) (lines : List KeptLine) (vs : List PlanVariable)
+    → map (λ d. d.kind) (values_of types lines vs) ≡ map (λ v. v.initial.kind) vs
+kinds_of types lines [] = refl
+kinds_of types lines (v ∷ vs) =
+    ap (λ k. k ∷ map (λ d. d.kind) (values_of types lines vs)) (restarted_typed types v lines v.retained)
+    ∙ ap (λ ks. v.initial.kind ∷ ks) (kinds_of types lines vs)
 
 held_if : (d : Datum) (ds : List Datum) (r : Bool) → IsHeld d → AllByRecursion IsHeld ds
     → AllByRecursion IsHeld (if r then d ∷ ds else ds)
 held_if d ds true h k = (h, k)
 held_if d ds false h k = k
 
-held_of : (lines : List KeptLine) (vs : List PlanVariable) → AreHeld vs
-    → AllByRecursion IsHeld (retained_values vs (values_of lines vs))
-held_of lines [] held = tt
-held_of lines (v ∷ vs) held =
-    let kind = restarted_typed v lines v.retained in
-    let one : IsHeld (restarted lines v) =
-    subst (λ k. holds k (restarted lines v).number ≡ true) (sym kind) (restarted_held v lines v.retained held.0) in
-    held_if (restarted lines v) (retained_values vs (values_of lines vs)) v.retained one (held_of lines vs held.1)
+held_of : (types : Enumerations) (lines : List KeptLine) (vs : List PlanVariable) → AreHeld vs
+    → AllByRecursion IsHeld (retained_values vs (values_of types lines vs))
+held_of types lines [] held = tt
+held_of types lines (v ∷ vs) held =
+    let kind = restarted_typed types v lines v.retained in
+    let one : IsHeld (restarted types lines v) =
+    subst (λ k. holds k (restarted types lines v).number ≡ true) (sym kind) (restarted_held types v lines v.retained held.0) in
+    held_if (restarted types lines v) (retained_values vs (values_of types lines vs)) v.retained one (held_of types lines vs held.1)
 
 -- what is not retained has its initial value
-restored_if : (v : PlanVariable) (vs : List PlanVariable) (lines : List KeptLine) (r : Bool) → v.retained ≡ r
-    → values_of lines vs ≡ restored vs (retained_values vs (values_of lines vs))
-    → values_of lines (v ∷ vs) ≡ restored (v ∷ vs) (retained_values (v ∷ vs) (values_of lines (v ∷ vs)))
-restored_if v vs lines true is rest = rw is (ap (λ ds. value_in v (find (is_line_of v) lines) ∷ ds) rest)
-restored_if v vs lines false is rest = rw is (ap (λ ds. v.initial ∷ ds) rest)
+restored_if : (types : Enumerations) (v : PlanVariable) (vs : List PlanVariable) (lines : List KeptLine) (r : Bool) → v.retained ≡ r
+    → values_of types lines vs ≡ restored vs (retained_values vs (values_of types lines vs))
+    → values_of types lines (v ∷ vs) ≡ restored (v ∷ vs) (retained_values (v ∷ vs) (values_of types lines (v ∷ vs)))
+restored_if types v vs lines true is rest = rw is (ap (λ ds. value_in v (find (is_line_of types v) lines) ∷ ds) rest)
+restored_if types v vs lines false is rest = rw is (ap (λ ds. v.initial ∷ ds) rest)
 
-restored_of : (lines : List KeptLine) (vs : List PlanVariable)
-    → values_of lines vs ≡ restored vs (retained_values vs (values_of lines vs))
-restored_of lines [] = refl
-restored_of lines (v ∷ vs) = restored_if v vs lines v.retained refl (restored_of lines vs)
+restored_of : (types : Enumerations) (lines : List KeptLine) (vs : List PlanVariable)
+    → values_of types lines vs ≡ restored vs (retained_values vs (values_of types lines vs))
+restored_of types lines [] = refl
+restored_of types lines (v ∷ vs) = restored_if types v vs lines v.retained refl (restored_of types lines vs)
 
 -- a restart's variables, by their slots
-stored : (lines : List KeptLine) (vs : List PlanVariable) (ins : List PlanInput)
-    → map (λ v. (v.path, restarted lines v)) vs ≡ variables_in (layout_of vs ins) (values_of lines vs)
-stored lines [] ins = sym (no_variables ins [])
-stored lines (v ∷ vs) ins = ap (λ t. (v.path, restarted lines v) ∷ t) (stored lines vs ins)
+stored : (types : Enumerations) (lines : List KeptLine) (vs : List PlanVariable) (ins : List PlanInput)
+    → map (λ v. (v.path, restarted types lines v)) vs ≡ variables_in (layout_of vs ins) (values_of types lines vs)
+stored types lines [] ins = sym (no_variables ins [])
+stored types lines (v ∷ vs) ins = ap (λ t. (v.path, restarted types lines v) ∷ t) (stored types lines vs ins)
 
 -- the lines of what some values of the retained variables make
 lines_are : (plan : Plan) (ws : List Datum) → map (λ d. d.kind) ws ≡ retained_kinds plan.variables.items
-    → keep_text (kept (plan_view plan) (store_in plan (restored plan.variables.items ws)))
-    ≡ kept_lines plan.variables.items ws
+    → keep_text (plan_view plan).enumerations (kept (plan_view plan) (store_in plan (restored plan.variables.items ws)))
+    ≡ kept_lines (plan_view plan).enumerations plan.variables.items ws
 lines_are plan ws kinds =
     let vs = plan.variables.items in
     let long : length (restored vs ws) ≡ length vs =
     sym (length-map (restored vs ws) (λ d. d.kind)) ∙ ap length (restored_typed vs ws kinds)
     ∙ length-map vs (λ v. v.initial.kind) in
-    ap keep_text (kept_paired _ vs plan.inputs.items (restored vs ws) long (goes_by_itself vs plan.sound.different)
+    ap (keep_text (plan_view plan).enumerations) (kept_paired _ vs plan.inputs.items (restored vs ws) long (goes_by_itself vs plan.sound.different)
     ∙ ap (paired (retained_paths vs)) (restored_back vs ws kinds))
 
 -- the same of what a record of them tells
 pub told_is : (plan : Plan) (ws : List Datum) (moment : Option ℕ) → AreKept plan.variables.items ws
-    → (warm_start (plan_view plan) (Some (told_by plan.variables.items ws moment))).store
+    → (warm_start (plan_view plan) (Some (told_by plan ws moment))).store
     ≡ store_in plan (restored plan.variables.items ws)
 told_is plan ws moment are =
-    restart_is plan.variables.items plan.inputs.items ws plan.sound.different are.0 are.1
+    restart_is (plan_view plan).enumerations plan.variables.items plan.inputs.items ws plan.sound.different are.0 are.1
 
 -- a warm start is made of what it keeps
 pub record IsOfKept (plan : Plan) (start : Start) : Type 0 where
@@ -183,14 +183,16 @@ pub record IsOfKept (plan : Plan) (start : Start) : Type 0 where
 
 of_lines : (plan : Plan) (lines : List KeptLine) (moment : Option ℕ) → AreHeld plan.variables.items
     → IsOfKept plan record {
-      store = map (λ v. (v.path, restarted lines v)) plan.variables.items;
+      store = map (λ v. (v.path, restarted (plan_view plan).enumerations lines v)) plan.variables.items;
       moment = moment;
     }
 of_lines plan lines moment held =
-    let vs = plan.variables.items in record {
-      values = retained_values vs (values_of lines vs);
-      are = (kinds_kept vs (values_of lines vs) (kinds_of lines vs), held_of lines vs held);
-      store = stored lines vs plan.inputs.items ∙ ap (store_in plan) (restored_of lines vs);
+    let vs = plan.variables.items in
+    let types = (plan_view plan).enumerations in
+    record {
+      values = retained_values vs (values_of types lines vs);
+      are = (kinds_kept vs (values_of types lines vs) (kinds_of types lines vs), held_of types lines vs held);
+      store = stored types lines vs plan.inputs.items ∙ ap (store_in plan) (restored_of types lines vs);
     }
 
 -- without a record the initial values are kept, as if no line of one were any variable's
@@ -198,24 +200,26 @@ initial_if : (v : PlanVariable) (r : Bool) → (if r then v.initial else v.initi
 initial_if v true = refl
 initial_if v false = refl
 
-initials : (vs : List PlanVariable) → map {B = Path × Datum} (λ v. (v.path, restarted [] v)) vs
+initials : (types : Enumerations) (vs : List PlanVariable)
+    → map {B = Path × Datum} (λ v. (v.path, restarted types [] v)) vs
     ≡ map {B = Path × Datum} (λ v. (v.path, v.initial)) vs
-initials [] = refl
-initials (v ∷ vs) =
-    ap (λ (d : Datum). (v.path, d) ∷ map {B = Path × Datum} (λ u. (u.path, restarted [] u)) vs) (initial_if v v.retained)
-    ∙ ap (λ (t : List (Path × Datum)). (v.path, v.initial) ∷ t) (initials vs)
+initials types [] = refl
+initials types (v ∷ vs) =
+    ap (λ (d : Datum). (v.path, d) ∷ map {B = Path × Datum} (λ u. (u.path, restarted types [] u)) vs)
+    (initial_if v v.retained)
+    ∙ ap (λ (t : List (Path × Datum)). (v.path, v.initial) ∷ t) (initials types vs)
 
 pub of_kept : (plan : Plan) (told : Option Kept) → AreHeld plan.variables.items
     → IsOfKept plan (warm_start (plan_view plan) told)
 of_kept plan None held =
     let is = of_lines plan [] None held in
-    record { values = is.values; are = is.are; store = sym (initials plan.variables.items) ∙ is.store }
+    record { values = is.values; are = is.are; store = sym (initials (plan_view plan).enumerations plan.variables.items) ∙ is.store }
 of_kept plan (Some r) held = of_lines plan r.lines r.moment held
 
 -- the life that goes on from these values
 abbrev pub warm_life : Plan → Option ℕ → List Datum → State
 warm_life plan moment ws = life_of plan record {
-  store = (warm_start (plan_view plan) (Some (told_by plan.variables.items ws moment))).store;
+  store = (warm_start (plan_view plan) (Some (told_by plan ws moment))).store;
   moment = moment;
 }
 
@@ -225,21 +229,21 @@ with_life plan moment o = option_map {T = List Datum × List ℕ} {U = State × 
 
 pub warm_begins : (plan : Plan) (moment : Option ℕ) (text : List ℕ) (o : Option (List Datum × List ℕ))
     → IsEarly moment → AreHeld plan.variables.items
-    → Begins (AreKept plan.variables.items) (kept_lines plan.variables.items) text o
+    → Begins (AreKept plan.variables.items) (kept_lines (plan_view plan).enumerations plan.variables.items) text o
     → Begins (IsBegunAt plan Warm moment) kept_of text (with_life plan moment o)
 warm_begins plan moment text o early held begins = (there o begins.0, only)
   where
     lines_of : (ws : List Datum) → AreKept plan.variables.items ws
-        → kept_of (warm_life plan moment ws) ≡ kept_lines plan.variables.items ws
-    lines_of ws are = ap (λ (s : Store). keep_text (kept (plan_view plan) s)) (told_is plan ws moment are)
+        → kept_of (warm_life plan moment ws) ≡ kept_lines (plan_view plan).enumerations plan.variables.items ws
+    lines_of ws are = ap (λ (s : Store). keep_text (plan_view plan).enumerations (kept (plan_view plan) s)) (told_is plan ws moment are)
         ∙ lines_are plan ws are.0
 
     there : (u : Option (List Datum × List ℕ))
-        → IfSome u (λ p. AreKept plan.variables.items p.0 × (text ≡ kept_lines plan.variables.items p.0 ++ p.1))
+        → IfSome u (λ p. AreKept plan.variables.items p.0 × (text ≡ kept_lines (plan_view plan).enumerations plan.variables.items p.0 ++ p.1))
         → IfSome (with_life plan moment u) (λ p. IsBegunAt plan Warm moment p.0 × (text ≡ kept_of p.0 ++ p.1))
     there None h = tt
     there (Some (ws, rest)) h = (
-      ((refl, (Some (told_by plan.variables.items ws moment), refl), early), refl),
+      ((refl, (Some (told_by plan ws moment), refl), early), refl),
       h.1 ∙ ap (λ w. w ++ rest) (sym (lines_of ws h.0)),
     )
 
@@ -251,9 +255,9 @@ warm_begins plan moment text o early held begins = (there o begins.0, only)
         let start : s.start ≡ store_in plan (restored plan.variables.items of.values) =
         ap (λ (x : Start). x.store) may.0.1.1 ∙ of.store in
         let plan_is : s.plan ≡ plan = ap (λ (x : State). x.plan) may.0.0 in
-        let lines : kept_of s ≡ kept_lines plan.variables.items of.values =
-        ap (λ (p : Plan). keep_text (kept (plan_view p) s.start)) plan_is
-        ∙ ap (λ (x : Store). keep_text (kept (plan_view plan) x)) start ∙ lines_are plan of.values of.are.0 in
+        let lines : kept_of s ≡ kept_lines (plan_view plan).enumerations plan.variables.items of.values =
+        ap (λ (p : Plan). keep_text (plan_view p).enumerations (kept (plan_view p) s.start)) plan_is
+        ∙ ap (λ (x : Store). keep_text (plan_view plan).enumerations (kept (plan_view plan) x)) start ∙ lines_are plan of.values of.are.0 in
         let same : warm_life plan moment of.values ≡ s =
         ap (λ (x : Store). life_of plan record { store = x; moment = moment })
         (told_is plan of.values moment of.are ∙ sym start)
@@ -320,7 +324,7 @@ start_not plan text begin = (tt, only)
 abbrev given : List Datum → Option ℕ → State → State
 given values moment core = record {
   plan = core.plan;
-  start = (warm_start (plan_view core.plan) (Some (told_by core.plan.variables.items values moment))).store;
+  start = (warm_start (plan_view core.plan) (Some (told_by core.plan values moment))).store;
   before = moment;
   log = [];
   room = core.room;
@@ -330,7 +334,7 @@ given values moment core = record {
 pub resumed_life : (plan : Plan) (core new : State) (values items : List Datum) (moment : Option ℕ)
     → core ≡ life_of plan (cold_start (plan_view plan)) → values ≡ items → new ≡ record {
       plan = core.plan;
-      start = (warm_start (plan_view core.plan) (Some (told_by core.plan.variables.items values moment))).store;
+      start = (warm_start (plan_view core.plan) (Some (told_by core.plan values moment))).store;
       before = moment;
       log = [];
       room = core.room;

@@ -8,6 +8,7 @@ use Rattle.st_types.specs.declared.outcome.Outcome.{Outcome}
 use Rattle.st_types.specs.Stores.{Store}
 use Rattle.st_plans.specs.declared.plan.PlanVariable.{PlanVariable}
 use Rattle.st_plans.specs.declared.entry.Entry.{Entry}
+use Rattle.st_plans.specs.Layouts.{Enumerations}
 use Rattle.st_plans.specs.Restarts.{kept}
 use Rattle.st_plans.specs.Plans as plans
 use Rattle.st_plans.specs.Logs.{Log, Past, with_entry, outcomes_from}
@@ -57,60 +58,67 @@ log_more plan log os i entry outcome before all l e is how so_far =
 
 -- ---- what the retained variables started with
 
-none_kept : (ps : List Path) → keep_text (paired ps []) ≡ []
-none_kept [] = refl
-none_kept (p ∷ ps) = refl
+none_kept : (types : Enumerations) (ps : List Path) → keep_text types (paired ps []) ≡ []
+none_kept types [] = refl
+none_kept types (p ∷ ps) = refl
 
-kept_first : (v : PlanVariable) (d : Datum) (r : Bool) (ps : List Path) (ws : List Datum) (more : List ℕ)
-    → keep_text (paired ps ws) ≡ more
-    → keep_text (paired (if r then v.path ∷ ps else ps) (if r then d ∷ ws else ws))
-    ≡ (if r then keep_line v.path d else []) ++ more
-kept_first v d true ps ws more rest = ap (λ (t : List ℕ). keep_line v.path d ++ t) rest
-kept_first v d false ps ws more rest = rest
+kept_first : (types : Enumerations) (v : PlanVariable) (d : Datum) (r : Bool) (ps : List Path) (ws : List Datum)
+    (more : List ℕ) → keep_text types (paired ps ws) ≡ more
+    → keep_text types (paired (if r then v.path ∷ ps else ps) (if r then d ∷ ws else ws))
+    ≡ (if r then keep_line types v.path d else []) ++ more
+kept_first types v d true ps ws more rest = ap (λ (t : List ℕ). keep_line types v.path d ++ t) rest
+kept_first types v d false ps ws more rest = rest
 
-keep_paired : (vs : List PlanVariable) (ds : List Datum)
-    → keep_text (paired (retained_paths vs) (retained_values vs ds)) ≡ kept_text vs ds
-keep_paired [] ds = refl
-keep_paired (v ∷ vs) [] = none_kept (retained_paths (v ∷ vs))
-keep_paired (v ∷ vs) (d ∷ ds) =
-    kept_first v d v.retained (retained_paths vs) (retained_values vs ds) (kept_text vs ds) (keep_paired vs ds)
+keep_paired : (types : Enumerations) (vs : List PlanVariable) (ds : List Datum)
+    → keep_text types (paired (retained_paths vs) (retained_values vs ds)) ≡ kept_text types vs ds
+keep_paired types [] ds = refl
+keep_paired types (v ∷ vs) [] = none_kept types (retained_paths (v ∷ vs))
+keep_paired types (v ∷ vs) (d ∷ ds) = kept_first types v d v.retained (retained_paths vs) (retained_values vs ds)
+    (kept_text types vs ds) (keep_paired types vs ds)
 
 pub kept_is : (plan : Plan) (start : Store) (ds : List Datum) → start ≡ store_in plan ds
     → length ds ≡ length plan.variables.items
-    → keep_text (kept (plan_view plan) start) ≡ kept_text plan.variables.items ds
+    → keep_text (plan_view plan).enumerations (kept (plan_view plan) start)
+    ≡ kept_text (plan_view plan).enumerations plan.variables.items ds
 kept_is plan start ds is len =
-    ap (λ (s : Store). keep_text (kept (plan_view plan) s)) is
-    ∙ ap keep_text (kept_paired _ plan.variables.items plan.inputs.items ds len
+    let types = (plan_view plan).enumerations in
+    ap (λ (s : Store). keep_text types (kept (plan_view plan) s)) is
+    ∙ ap (keep_text types) (kept_paired _ plan.variables.items plan.inputs.items ds len
     (goes_by_itself plan.variables.items plan.sound.different))
-    ∙ keep_paired plan.variables.items ds
+    ∙ keep_paired types plan.variables.items ds
 
 -- ---- the whole
 
 -- the parts one after another are the trace of the core
 pub trace_puts : {D : Type 0} (core : CoreView D) (o a b c n : Option (List ℕ)) (wa wb wc wn : Bool) (plan : Plan)
-    (mode : StartMode) (moment : Option ℕ) (vs : List PlanVariable) (ds : List Datum) (len : ℕ)
-    → plan ≡ core.state.plan → mode ≡ core.mode → moment ≡ core.state.before → vs ≡ plan.variables.items
+    (mode : StartMode) (moment : Option ℕ) (types : Enumerations) (vs : List PlanVariable) (ds : List Datum) (len : ℕ)
+    → plan ≡ core.state.plan → mode ≡ core.mode → moment ≡ core.state.before → types ≡ (plan_view plan).enumerations
+    → vs ≡ plan.variables.items
     → core.state.start ≡ store_in core.state.plan ds → length ds ≡ length core.state.plan.variables.items
     → len ≡ length core.state.log
-    → Puts o true a wa (begin_text plan.budget mode moment) → Puts a wa b wb (kept_text vs ds)
+    → Puts o true a wa (begin_text plan.budget mode moment) → Puts a wa b wb (kept_text types vs ds)
     → Puts b wb c wc (log_text core.state.plan core.state.log
     (outcomes_of (plan_view core.state.plan) core.state.start core.state.log))
     → Puts c wc n wn (end_line len) → Puts o true n wn (trace_of core)
-trace_puts core o a b c n wa wb wc wn plan mode moment vs ds len pe me te ve se le ne begin kept_lines logged ended =
+trace_puts core o a b c n wa wb wc wn plan mode moment types vs ds len pe me te ne ve se le ce begin kept_lines logged
+    ended =
     let first = begin_text core.state.plan.budget core.mode core.state.before in
-    let second = keep_text (kept (plan_view core.state.plan) core.state.start) in
+    let second =
+    keep_text (plan_view core.state.plan).enumerations (kept (plan_view core.state.plan) core.state.start) in
     let third = log_text core.state.plan core.state.log
     (outcomes_of (plan_view core.state.plan) core.state.start core.state.log) in
     let begin_is : begin_text plan.budget mode moment ≡ first =
     ap (λ (p : Plan). begin_text p.budget mode moment) pe
     ∙ ap (λ (m : StartMode). begin_text core.state.plan.budget m moment) me
     ∙ ap (λ (t : Option ℕ). begin_text core.state.plan.budget core.mode t) te in
-    let lines_are : kept_text vs ds ≡ second =
-    ap (λ (xs : List PlanVariable). kept_text xs ds) (ve ∙ ap (λ (p : Plan). p.variables.items) pe)
+    let lines_are : kept_text types vs ds ≡ second =
+    ap (λ (ts : Enumerations). kept_text ts vs ds) (ne ∙ ap (λ (p : Plan). (plan_view p).enumerations) pe)
+    ∙ ap (λ (xs : List PlanVariable). kept_text (plan_view core.state.plan).enumerations xs ds)
+    (ve ∙ ap (λ (p : Plan). p.variables.items) pe)
     ∙ sym (kept_is core.state.plan core.state.start ds se le) in
     puts_both o c n true wc wn ((first ++ second) ++ third) (end_line (length core.state.log))
     (puts_both o b c true wb wc (first ++ second) third
     (puts_both o a b true wa wb first second
     (subst (λ (x : List ℕ). Puts o true a wa x) begin_is begin)
     (subst (λ (x : List ℕ). Puts a wa b wb x) lines_are kept_lines)) logged)
-    (subst (λ (k : ℕ). Puts c wc n wn (end_line k)) ne ended)
+    (subst (λ (k : ℕ). Puts c wc n wn (end_line k)) ce ended)

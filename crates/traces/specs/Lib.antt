@@ -4,3 +4,4 @@ pub mod Reads
 pub mod Replays
 pub mod Starts
 pub mod Rests
+pub mod NamedValues

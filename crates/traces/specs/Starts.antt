@@ -4,6 +4,7 @@ use Rattle.std.specs.List.{AllByRecursion}
 use Rattle.st_words.specs.declared.limits.TheConstants.{MAX_LOG_ROOM, MOMENT_LIMIT}
 use Rattle.st_words.specs.Values.{Datum, IsHeld}
 use Rattle.st_plans.specs.declared.plan.PlanVariable.{PlanVariable}
+use Rattle.st_plans.specs.Layouts.{Enumerations}
 use Rattle.st_plans.specs.Restarts.{kept}
 use Rattle.config.specs.declared.plan.Plan.{Plan}
 use Rattle.config.specs.PlanViews.{plan_view}
@@ -20,8 +21,8 @@ AreKept variables values =
     (map (λ d. d.kind) values ≡ retained_kinds variables) × AllByRecursion IsHeld values
 
 -- the lines of the retained variables with these values
-abbrev pub kept_lines : List PlanVariable → List Datum → List ℕ
-kept_lines variables values = keep_text (paired (retained_paths variables) values)
+abbrev pub kept_lines : Enumerations → List PlanVariable → List Datum → List ℕ
+kept_lines types variables values = keep_text types (paired (retained_paths variables) values)
 
 -- a moment within its limit, if there is one
 abbrev pub IsEarly : Option ℕ → Type 0
@@ -46,7 +47,7 @@ IsBegunAt plan mode moment life = IsBegun plan mode life × (life.before ≡ mom
 
 -- the lines of what the retained variables of a life started with
 abbrev pub kept_of : State → List ℕ
-kept_of life = keep_text (kept (plan_view life.plan) life.start)
+kept_of life = keep_text (plan_view life.plan).enumerations (kept (plan_view life.plan) life.start)
 
 abbrev pub IsBegunSo : Plan → StartMode × State → Type 0
 IsBegunSo plan told = IsBegun plan told.0 told.1

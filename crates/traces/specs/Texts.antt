@@ -12,7 +12,7 @@ use Rattle.st_types.specs.Stores.{Store}
 use Rattle.st_plans.specs.declared.plan.PlanVariable.{PlanVariable}
 use Rattle.st_plans.specs.declared.entry.Entry.{Entry}
 use Rattle.st_plans.specs.declared.entry.Entry.TheVariants.{Row, Done}
-use Rattle.st_plans.specs.Layouts.{path_text}
+use Rattle.st_plans.specs.Layouts.{Enumerations, path_text}
 use Rattle.st_plans.specs.Restarts.{Start, kept}
 use Rattle.st_plans.specs.Logs.{Log, outcomes_of}
 use Rattle.st_print.specs.Spelling.{value_text}
@@ -35,13 +35,13 @@ abbrev pub moment_text : Option ℕ → List ℕ
 moment_text None = codes "none"
 moment_text (Some t) = decimal t
 
--- `keep PATH VALUE`
-abbrev pub keep_line : Path → Datum → List ℕ
-keep_line p v = line (codes "keep " ++ path_text p ++ codes " " ++ value_text [] v)
+-- `keep PATH VALUE`, with the names of these enumerated types
+abbrev pub keep_line : Enumerations → Path → Datum → List ℕ
+keep_line types p v = line (codes "keep " ++ path_text p ++ codes " " ++ value_text types v)
 
-abbrev pub keep_text : Store → List ℕ
-keep_text [] = []
-keep_text (e ∷ s) = keep_line e.0 e.1 ++ keep_text s
+abbrev pub keep_text : Enumerations → Store → List ℕ
+keep_text types [] = []
+keep_text types (e ∷ s) = keep_line types e.0 e.1 ++ keep_text types s
 
 -- the budget, how the life was started, and the moment that its rows have to be later than
 abbrev pub begin_text : ℕ → StartMode → Option ℕ → List ℕ
@@ -52,7 +52,8 @@ begin_text budget mode moment =
 -- this, and what the retained variables started with
 abbrev pub head_text : Plan → StartMode → Start → List ℕ
 head_text plan mode start =
-    begin_text plan.budget mode start.moment ++ keep_text (kept (plan_view plan) start.store)
+    begin_text plan.budget mode start.moment
+    ++ keep_text (plan_view plan).enumerations (kept (plan_view plan) start.store)
 
 abbrev pub fault_text : Fault → List ℕ
 fault_text faults.Range = codes "F1"
@@ -112,11 +113,11 @@ entry_text plan None outcome = []
 entry_text plan (Some entry) outcome = entry_line plan entry outcome
 
 -- the line of a variable with this value at the start, where it is retained
-abbrev pub kept_line : PlanVariable → Datum → List ℕ
-kept_line v d = if v.retained then keep_line v.path d else []
+abbrev pub kept_line : Enumerations → PlanVariable → Datum → List ℕ
+kept_line types v d = if v.retained then keep_line types v.path d else []
 
 -- of all variables, with these values at the start, the lines of the retained ones
-abbrev pub kept_text : List PlanVariable → List Datum → List ℕ
-kept_text [] ds = []
-kept_text (v ∷ vs) [] = []
-kept_text (v ∷ vs) (d ∷ ds) = kept_line v d ++ kept_text vs ds
+abbrev pub kept_text : Enumerations → List PlanVariable → List Datum → List ℕ
+kept_text types [] ds = []
+kept_text types (v ∷ vs) [] = []
+kept_text types (v ∷ vs) (d ∷ ds) = kept_line types v d ++ kept_text types vs ds

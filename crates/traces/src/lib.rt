@@ -1,6 +1,7 @@
 //! Traces: what the threads of a run did, as a text that a person can read and one thread can run again.
 #![tactic(auto)]
 
+mod apart;
 mod budget;
 mod entries;
 mod findings;

@@ -1,6 +1,7 @@
 //! The lines of a trace.
 
-ghost use Rattle.std.specs.Prelude.{◌≡◌, ◌++◌, [], List, ℕ, Option, true, codes, option_map};
+ghost use Rattle.std.specs.Prelude.{◌≡◌, ◌++◌, [], List, ℕ, Option, true, codes, map, option_map};
+ghost use Rattle.std.specs.Vec.{vec_items};
 ghost use Rattle.std.specs.Fmt.{decimal};
 ghost use Rattle.st_plans.specs.Layouts.{owner_text, path_text, step_text, steps_text};
 ghost use Rattle.st_print.specs.Spelling.{value_text};
@@ -16,11 +17,12 @@ use itoa::Buffer;
 use st_plans::Entry;
 use st_print::write_value;
 use st_types::Outcome;
-use st_words::{Fault, Owner, Path, Step, Value};
+use st_words::limits::MAX_NAME_LENGTH;
+use st_words::{Fault, Name, Owner, Path, Step, Value};
 use std::io::Write;
 
-/// More bytes than a value is spelled with.
-const MOST_DIGITS: usize = 64;
+/// As many bytes as a value is spelled with at most: those of a name.
+const MOST_BYTES: usize = MAX_NAME_LENGTH;
 
 /// Writes the resource and the instance of a variable's program.
 fn put_owner<W: Write>(out: &mut W, works: bool, owner: &Option<Owner>) -> bool
@@ -74,26 +76,34 @@ pub(crate) fn put_path<W: Write>(out: &mut W, works: bool, path: &Path) -> bool
 }
 
 /// Writes a space, a value and LF.
-fn put_value<W: Write>(out: &mut W, works: bool, value: Value) -> bool
-    ensures { Puts (W.contents out.old) works (W.contents out.new) result (line (codes " " ++ value_text [] value)) }
+fn put_value<W: Write>(out: &mut W, works: bool, types: &[Vec<Name>], value: Value) -> bool
+    ensures { Puts (W.contents out.old) works (W.contents out.new) result
+        (line (codes " " ++ value_text (map vec_items types.now) value)) }
 {
-    let mut digits: ArrayVec<u8, MOST_DIGITS> = ArrayVec::new();
-    match write_value(&mut digits, value, &[]) {
+    let mut text: ArrayVec<u8, MOST_BYTES> = ArrayVec::new();
+    match write_value(&mut text, value, types) {
         Ok(()) => {
             let works = put(out, works, b" ");
-            let works = put(out, works, digits.as_slice());
+            let works = put(out, works, text.as_slice());
             put(out, works, b"\n")
         }
         Err(_) => false,
     }
 }
 
-/// Writes `keep PATH VALUE`.
-pub(crate) fn put_keep<W: Write>(out: &mut W, works: bool, path: &Path, value: Value) -> bool
-    ensures { Puts (W.contents out.old) works (W.contents out.new) result (keep_line path.now value) }
+/// Writes `keep PATH VALUE`, with the names of these enumerated types.
+pub(crate) fn put_keep<W: Write>(
+    out: &mut W,
+    works: bool,
+    types: &[Vec<Name>],
+    path: &Path,
+    value: Value,
+) -> bool
+    ensures { Puts (W.contents out.old) works (W.contents out.new) result
+        (keep_line (map vec_items types.now) path.now value) }
 {
     let works = put_path(out, works, path);
-    put_value(out, works, value)
+    put_value(out, works, types, value)
 }
 
 /// Writes words, a number and LF.

@@ -4,8 +4,9 @@ ghost use Rattle.std.specs.Prelude.{◌≡◌, ◌≢◌, ◌⊎◌, IfOk, IfErr
 ghost use Rattle.st_plans.specs.Restarts.{Start};
 ghost use Rattle.st_plans.specs.Logs.{Log};
 ghost use Rattle.commit_lock.specs.declared.starting.StartMode.{StartMode};
-ghost use Rattle.traces.specs.Replays.{AreFindings, AreToldApart, IsTrace};
+ghost use Rattle.traces.specs.Replays.{AreFindings, IsToldApart, IsTrace};
 
+use crate::apart::are_names_apart;
 use crate::entries::replay_log;
 use crate::findings::{Replayed, findings};
 use crate::starting::start;
@@ -20,7 +21,8 @@ use std::sync::Arc;
 /// Runs a trace again, line by line, over the first of these rows, and tells what it found.
 ///
 /// V2 where a row is not the plant's next one, or not later than the one before; V3 where an execution was not waiting;
-/// V4 where it ends in another way; V1 where the text is no trace of the plan for another cause; V5 out of memory.
+/// V4 where it ends in another way; V1 where the text is no trace of the plan for another cause, or where an enumerated
+/// type of the plan has a name twice; V5 out of memory.
 pub fn replay_text(
     alloc: Global,
     plan: Arc<Plan>,
@@ -31,12 +33,15 @@ pub fn replay_text(
         × IsTrace plan.value rows.now text.now mode start log
         × AreFindings plan.value start log r.rows r.done r.faults r.overruns r.values.items) }
     // The text is the trace of no other life: what is told is told of each life whose trace it is.
-    ensures only { AreToldApart plan.value.programs.items → IfOk result (λ r. (mode : StartMode) (start : Start)
+    ensures only { IsToldApart plan.value → IfOk result (λ r. (mode : StartMode) (start : Start)
         (log : Log) → IsTrace plan.value rows.now text.now mode start log
         → AreFindings plan.value start log r.rows r.done r.faults r.overruns r.values.items) }
-    ensures refused { AreToldApart plan.value.programs.items → IfErr result (λ e. e ≢ ReplayError.NoMemory
+    ensures refused { IsToldApart plan.value → IfErr result (λ e. e ≢ ReplayError.NoMemory
         → (mode : StartMode) (start : Start) (log : Log) → IsTrace plan.value rows.now text.now mode start log → ⊥) }
 {
+    if !are_names_apart(&plan.enumerations) {
+        return Err(ReplayError::Form);
+    }
     let started = match start(alloc, plan, text) {
         Ok(started) => started,
         Err(_) => return Err(ReplayError::NoMemory),
@@ -74,10 +79,10 @@ pub fn replay<R: Read + Drop>(
     ensures told { IfOk result (λ r. IfSome (R.remaining reader) (λ text. (mode : StartMode) × (start : Start)
         × (log : Log) × IsTrace plan.value rows.now text mode start log
         × AreFindings plan.value start log r.rows r.done r.faults r.overruns r.values.items)) }
-    ensures only { AreToldApart plan.value.programs.items → IfOk result (λ r. IfSome (R.remaining reader) (λ text.
+    ensures only { IsToldApart plan.value → IfOk result (λ r. IfSome (R.remaining reader) (λ text.
         (mode : StartMode) (start : Start) (log : Log) → IsTrace plan.value rows.now text mode start log
         → AreFindings plan.value start log r.rows r.done r.faults r.overruns r.values.items)) }
-    ensures refused { AreToldApart plan.value.programs.items → IfErr result (λ e. e ≢ ReplayError.NoMemory
+    ensures refused { IsToldApart plan.value → IfErr result (λ e. e ≢ ReplayError.NoMemory
         → e ≢ ReplayError.Device → IfSome (R.remaining reader) (λ text. (mode : StartMode) (start : Start) (log : Log)
         → IsTrace plan.value rows.now text mode start log → ⊥)) }
 {

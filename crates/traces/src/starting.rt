@@ -1,10 +1,12 @@
 //! A core that is started as a trace tells.
 
-ghost use Rattle.std.specs.Prelude.{◌≡◌, IfOk, None, option_map};
+ghost use Rattle.std.specs.Prelude.{◌≡◌, IfOk, None, map, option_map, true};
+ghost use Rattle.std.specs.Vec.{vec_items};
 ghost use Rattle.std.specs.List.{All};
 ghost use Rattle.st_words.specs.Values.{IsHeld};
 ghost use Rattle.traces.specs.Reads.{Begins};
-ghost use Rattle.traces.specs.Starts.{IsBegunAt, IsBegunSo, IsEarly, head_of, kept_of};
+ghost use Rattle.traces.specs.Replays.{are_names_apart};
+ghost use Rattle.traces.specs.Starts.{AreKept, IsBegunAt, IsBegunSo, IsEarly, head_of, kept_lines, kept_of};
 
 use crate::head::begin;
 use crate::keeping::kept_values;
@@ -14,6 +16,7 @@ use commit_lock::StartMode;
 use config::Plan;
 use serial_core::SerialCore;
 use st_plans::PlanVariable;
+use st_words::Value;
 use st_words::limits::MAX_LOG_ROOM;
 use std::alloc::{AllocError, Global};
 use std::sync::Arc;
@@ -23,7 +26,14 @@ fn kept_of(alloc: Global, core: &SerialCore) -> Result<Vec<u8>, AllocError>
     ensures { IfOk result (λ text. text.items ≡ kept_of core.now) }
 {
     let mut text = Vec::new(alloc);
-    if put_kept(&mut text, true, &core.plan().variables, core.start_values()) {
+    let plan = core.plan();
+    if put_kept(
+        &mut text,
+        true,
+        &plan.enumerations,
+        &plan.variables,
+        core.start_values(),
+    ) {
         Ok(text)
     } else {
         Err(AllocError)
@@ -73,6 +83,20 @@ fn held_initials(variables: &[PlanVariable])
     }
 }
 
+/// What the retained variables of a plan started with, by their lines, and what stands behind these.
+fn told_values<'a>(
+    alloc: Global,
+    plan: &Plan,
+    text: &'a [u8],
+) -> Result<Option<(Vec<Value>, &'a [u8])>, AllocError>
+    requires { are_names_apart (map vec_items plan.now.enumerations.items) ≡ true }
+    ensures { IfOk result (λ told. Begins (AreKept plan.now.variables.items)
+        (kept_lines (map vec_items plan.now.enumerations.items) plan.now.variables.items) text.now
+        (option_map (λ p. (p.0.items, p.1.now)) told)) }
+{
+    kept_values(alloc, &plan.enumerations, &plan.variables, text)
+}
+
 /// A core that starts warm from what these lines tell, and what stands behind them.
 fn warm(
     alloc: Global,
@@ -80,13 +104,14 @@ fn warm(
     moment: Option<u64>,
     text: &[u8],
 ) -> Result<Option<(SerialCore, &[u8])>, AllocError>
-    requires { IsEarly moment }
+    requires early { IsEarly moment }
+    requires apart { are_names_apart (map vec_items plan.value.enumerations.items) ≡ true }
     ensures { IfOk result (λ told. Begins (IsBegunAt plan.value StartMode.Warm moment) kept_of text.now
         (option_map (λ p. (p.0, p.1.now)) told)) }
 {
     let mut core = SerialCore::start(alloc, plan, MAX_LOG_ROOM)?;
     held_initials(&core.plan().variables);
-    let (values, rest) = match kept_values(alloc, &core.plan().variables, text)? {
+    let (values, rest) = match told_values(alloc, core.plan(), text)? {
         Some(told) => told,
         None => return Ok(None),
     };
@@ -102,7 +127,8 @@ fn begun(
     moment: Option<u64>,
     text: &[u8],
 ) -> Result<Option<(SerialCore, &[u8])>, AllocError>
-    requires { IsEarly moment }
+    requires early { IsEarly moment }
+    requires apart { are_names_apart (map vec_items plan.value.enumerations.items) ≡ true }
     ensures { IfOk result (λ told. Begins (IsBegunAt plan.value mode moment) kept_of text.now
         (option_map (λ p. (p.0, p.1.now)) told)) }
 {
@@ -118,6 +144,7 @@ pub(crate) fn start(
     plan: Arc<Plan>,
     text: &[u8],
 ) -> Result<Option<(StartMode, SerialCore, &[u8])>, AllocError>
+    requires { are_names_apart (map vec_items plan.value.enumerations.items) ≡ true }
     ensures { IfOk result (λ told. Begins (IsBegunSo plan.value) head_of text.now
         (option_map (λ p. ((p.0, p.1), p.2.now)) told)) }
 {

@@ -1,6 +1,7 @@
 //! Writing a trace.
 
-ghost use Rattle.std.specs.Prelude.{◌≡◌, ◌++◌, List, ℕ, Option, OnOk, IfErr, length};
+ghost use Rattle.std.specs.Prelude.{◌≡◌, ◌++◌, List, ℕ, Option, OnOk, IfErr, length, map};
+ghost use Rattle.std.specs.Vec.{vec_items};
 ghost use Rattle.std.specs.Io.KnownBytes.{Appends};
 ghost use Rattle.st_plans.specs.Logs.{outcomes_of};
 ghost use Rattle.config.specs.PlanViews.{plan_view};
@@ -13,33 +14,42 @@ use crate::trace_error::ReplayError;
 use commit_lock::Core;
 use disk::Disk;
 use st_plans::PlanVariable;
-use st_words::Value;
+use st_words::{Name, Value};
 use std::io::Write;
 
 /// Writes the line of a variable with its value at the start, if it is retained.
-fn put_kept_line<W: Write>(out: &mut W, works: bool, variable: &PlanVariable, value: Value) -> bool
-    ensures { Puts (W.contents out.old) works (W.contents out.new) result (kept_line variable.now value) }
+fn put_kept_line<W: Write>(
+    out: &mut W,
+    works: bool,
+    types: &[Vec<Name>],
+    variable: &PlanVariable,
+    value: Value,
+) -> bool
+    ensures { Puts (W.contents out.old) works (W.contents out.new) result
+        (kept_line (map vec_items types.now) variable.now value) }
 {
     if variable.retained {
-        put_keep(out, works, &variable.path, value)
+        put_keep(out, works, types, &variable.path, value)
     } else {
         put(out, works, b"")
     }
 }
 
-/// Writes the lines of the retained variables.
+/// Writes the lines of the retained variables, with the names of these enumerated types.
 pub(crate) fn put_kept<W: Write>(
     out: &mut W,
     works: bool,
+    types: &[Vec<Name>],
     variables: &[PlanVariable],
     values: &[Value],
 ) -> bool
     requires sized { length values.now ≡ length variables.now }
-    ensures { Puts (W.contents out.old) works (W.contents out.new) result (kept_text variables.now values.now) }
+    ensures { Puts (W.contents out.old) works (W.contents out.new) result
+        (kept_text (map vec_items types.now) variables.now values.now) }
 {
     let mut works = works;
     for i in 0..variables.len() {
-        works = put_kept_line(out, works, &variables[i], values[i]);
+        works = put_kept_line(out, works, types, &variables[i], values[i]);
     }
     works
 }
@@ -66,7 +76,13 @@ pub fn write_trace<D: Disk, W: Write>(core: &Core<D>, out: &mut W) -> Result<(),
 {
     let plan = core.plan();
     let works = put_begin(out, plan.budget, core.mode(), core.start_moment());
-    let works = put_kept(out, works, &plan.variables, core.start_values());
+    let works = put_kept(
+        out,
+        works,
+        &plan.enumerations,
+        &plan.variables,
+        core.start_values(),
+    );
     let works = put_log(out, works, core);
     let works = put_end(out, works, core.len());
     if works {

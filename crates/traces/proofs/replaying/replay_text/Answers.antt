@@ -33,7 +33,7 @@ returns-in-Ok-findings-clause-only c = λ apart.
     let now = c.replay_log.new.core in
     let r = c.in-Ok-findings.found in
     found_only c.args.plan.value c.args.rows.now c.args.text.now c.in-Some.lines.now c.in-Some.field-0-0 c.in-Some.core
-    now.log r.rows r.done r.faults r.overruns r.values.items apart begins told.1
+    now.log r.rows r.done r.faults r.overruns r.values.items apart.0 begins told.1
     (found c.args.plan.value c.in-Some.core now r.rows r.done r.faults r.overruns r.values.items plan_is told.0
     c.in-Ok-findings.ensures)
 
@@ -42,6 +42,6 @@ returns-clause-refused c = λ apart other mode start log t.
     let begins = rw c.in-Some.is at c.in-Ok.ensures in
     let plan_is : c.in-Some.core.plan ≡ c.args.plan.value = ap (λ (s : State). s.plan) begins.0.0.0 in
     c.in-Err-replay_log.ensures.refused
-    (subst (λ (p : Plan). AreToldApart p.programs.items) (sym plan_is) apart) other log
+    (subst (λ (p : Plan). AreToldApart p.programs.items) (sym plan_is) apart.0) other log
     (trace_rest c.args.plan.value c.args.rows.now c.args.text.now c.in-Some.lines.now c.in-Some.field-0-0
     c.in-Some.core begins mode start log t)

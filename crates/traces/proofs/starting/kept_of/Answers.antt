@@ -1,4 +1,7 @@
-use Rattle.std.proofs.Common.{◌∙◌, sym, ap, List}
+use Rattle.std.proofs.Common.{◌∙◌, sym, ap, map, List}
+use Rattle.std.specs.Vec.{vec_items}
+use Rattle.st_plans.specs.Layouts.{Enumerations}
+use Rattle.config.specs.PlanViews.{plan_view}
 use Rattle.st_plans.specs.declared.plan.PlanVariable.{PlanVariable}
 use Rattle.config.specs.declared.plan.Plan.{Plan}
 use Rattle.traces.specs.Texts.{kept_text}
@@ -8,9 +11,13 @@ use Rattle.traces.proofs.starting.kept_of.Goals as goal
 
 pub returns-then-put_kept : goal.returns-then-put_kept
 returns-then-put_kept c =
-    put_vec c.put_kept.new.out.items (kept_text c.deref.result.now c.start_values.result.now) c.new-text.result.items
+    put_vec c.put_kept.new.out.items (kept_text (map vec_items c.deref.result.now) c.deref-2.result.now
+    c.start_values.result.now) c.new-text.result.items
     c.put_kept.result c.new-text.ensures.items c.if-put_kept.true c.put_kept.ensures
-    ∙ ap (λ (vs : List PlanVariable). kept_text vs c.start_values.result.now)
-    (c.deref.ensures.value ∙ ap (λ (p : Plan). p.variables.items) c.plan.ensures)
+    ∙ ap (λ (ts : Enumerations). kept_text ts c.deref-2.result.now c.start_values.result.now)
+    (ap (map vec_items) c.deref.ensures.value ∙ ap (λ (p : Plan). (plan_view p).enumerations) c.plan-plan.ensures)
+    ∙ ap (λ (vs : List PlanVariable). kept_text (plan_view c.args.core.now.plan).enumerations vs
+    c.start_values.result.now)
+    (c.deref-2.ensures.value ∙ ap (λ (p : Plan). p.variables.items) c.plan-plan.ensures)
     ∙ sym (kept_is c.args.core.now.plan c.args.core.now.start c.start_values.result.now c.start_values.ensures.store
     c.start_values.ensures.len)

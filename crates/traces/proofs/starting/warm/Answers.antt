@@ -3,6 +3,7 @@ use Rattle.std.specs.List.{All}
 use Rattle.st_words.specs.Values.{IsHeld}
 use Rattle.st_plans.specs.declared.plan.PlanVariable.{PlanVariable}
 use Rattle.config.specs.declared.plan.Plan.{Plan}
+use Rattle.config.specs.PlanViews.{plan_view}
 use Rattle.serial_core.specs.Steps.{State}
 use Rattle.commit_lock.specs.declared.starting.StartMode.TheVariants.{Warm}
 use Rattle.traces.specs.Reads.{Begins}
@@ -14,30 +15,29 @@ use Rattle.traces.proofs.starting.warm.Goals as goal
 pub returns-in-None : goal.returns-in-None
 returns-in-None c =
     let plan : c.in_ok-core.core.plan ≡ c.args.plan.value = ap (λ (s : State). s.plan) c.in_ok-core.ensures in
-    let read : c.deref-2.result.now ≡ c.args.plan.value.variables.items =
-    c.deref-2.ensures.value ∙ ap (λ (p : Plan). p.variables.items) (c.plan-2.ensures ∙ plan) in
+    let read : c.plan-2.result.now ≡ c.args.plan.value = c.plan-2.ensures ∙ plan in
     let held : c.deref.result.now ≡ c.args.plan.value.variables.items =
     c.deref.ensures.value ∙ ap (λ (p : Plan). p.variables.items) (c.plan.ensures ∙ plan) in
-    warm_begins c.args.plan.value c.args.moment c.args.text.now None c.requires
+    warm_begins c.args.plan.value c.args.moment c.args.text.now None c.requires.early
     (all_held c.args.plan.value.variables.items
     (subst (λ (vs : List PlanVariable). All (λ v. IsHeld v.initial) vs) held c.held_initials.ensures))
-    (subst (λ (vs : List PlanVariable). Begins (AreKept vs) (kept_lines vs) c.args.text.now None) read
+    (subst (λ (p : Plan). Begins (AreKept p.variables.items) (kept_lines (plan_view p).enumerations p.variables.items)
+    c.args.text.now None) read
     (rw c.in-None.is at c.in_ok-told.ensures))
 
 pub returns : goal.returns
 returns c =
     let plan : c.in_ok-core.core.plan ≡ c.args.plan.value = ap (λ (s : State). s.plan) c.in_ok-core.ensures in
-    let read : c.deref-2.result.now ≡ c.args.plan.value.variables.items =
-    c.deref-2.ensures.value ∙ ap (λ (p : Plan). p.variables.items) (c.plan-2.ensures ∙ plan) in
+    let read : c.plan-2.result.now ≡ c.args.plan.value = c.plan-2.ensures ∙ plan in
     let held : c.deref.result.now ≡ c.args.plan.value.variables.items =
     c.deref.ensures.value ∙ ap (λ (p : Plan). p.variables.items) (c.plan.ensures ∙ plan) in
     let told = c.in-Some.told in
-    let all = warm_begins c.args.plan.value c.args.moment c.args.text.now (Some (told.0.items, told.1.now)) c.requires
+    let all = warm_begins c.args.plan.value c.args.moment c.args.text.now (Some (told.0.items, told.1.now)) c.requires.early
     (all_held c.args.plan.value.variables.items
     (subst (λ (vs : List PlanVariable). All (λ v. IsHeld v.initial) vs) held c.held_initials.ensures))
-    (subst (λ (vs : List PlanVariable). Begins (AreKept vs) (kept_lines vs) c.args.text.now
-    (Some (told.0.items, told.1.now))) read (rw c.in-Some.is at c.in_ok-told.ensures)) in
-    let is = resumed_life c.args.plan.value c.in_ok-core.core c.resume.new.self c.deref-3.result.now told.0.items
-    c.args.moment c.in_ok-core.ensures c.deref-3.ensures.value c.resume.ensures.restarted in
+    (subst (λ (p : Plan). Begins (AreKept p.variables.items) (kept_lines (plan_view p).enumerations p.variables.items)
+    c.args.text.now (Some (told.0.items, told.1.now))) read (rw c.in-Some.is at c.in_ok-told.ensures)) in
+    let is = resumed_life c.args.plan.value c.in_ok-core.core c.resume.new.self c.deref-2.result.now told.0.items
+    c.args.moment c.in_ok-core.ensures c.deref-2.ensures.value c.resume.ensures.restarted in
     subst (λ (s : State). Begins (IsBegunAt c.args.plan.value Warm c.args.moment) starts.kept_of c.args.text.now
     (Some (s, told.1.now))) (sym is) all

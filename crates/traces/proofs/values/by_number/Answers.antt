@@ -2,7 +2,7 @@ use Rattle.std.proofs.Common.{arith, ap, sym, ◌∙◌, append-nil, []}
 use Rattle.st_words.specs.Kinds.{row_of}
 use Rattle.st_print.specs.Spelling.{number_text}
 use Rattle.traces.proofs.ValueLemmas.{plain_sort, spells_tail}
-use Rattle.traces.proofs.values.value_of.Goals as goal
+use Rattle.traces.proofs.values.by_number.Goals as goal
 
 pub returns-in-Signed : goal.returns-in-Signed
 returns-in-Signed c = spells_tail c.args.kind c.args.field.now c.args.field.now [] c.value.result

@@ -1,4 +1,5 @@
-use Rattle.std.proofs.Common.{◌≡◌, ◌++◌, ℕ, List, drop}
+use Rattle.std.proofs.Common.{◌≡◌, ◌++◌, ℕ, List, drop, map}
+use Rattle.std.specs.Vec.{vec_items}
 use Rattle.traces.specs.Puts.{Puts}
 use Rattle.traces.specs.Texts.{kept_text}
 use Rattle.traces.proofs.writing.put_kept.Given as goal
@@ -6,4 +7,5 @@ use Rattle.traces.proofs.writing.put_kept.Given as goal
 abbrev pub invariant-loop-i : goal.invariant-loop-i
 invariant-loop-i g l =
     (text : List ℕ) × Puts (g.W.Write.contents l.initial.out) l.initial.works (g.W.Write.contents l.out) l.works text
-    × (text ++ kept_text (drop l.i l.variables) (drop l.i l.values) ≡ kept_text l.variables l.values)
+    × (text ++ kept_text (map vec_items l.types) (drop l.i l.variables) (drop l.i l.values)
+    ≡ kept_text (map vec_items l.types) l.variables l.values)

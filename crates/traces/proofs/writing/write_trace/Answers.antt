@@ -1,4 +1,5 @@
-use Rattle.std.proofs.Common.{refl, subst}
+use Rattle.std.proofs.Common.{ap, map, refl, subst}
+use Rattle.std.specs.Vec.{vec_items}
 use Rattle.traces.specs.Puts.{IsPut}
 use Rattle.traces.specs.Texts.{trace_of}
 use Rattle.traces.proofs.PutLemmas.{put_all_of}
@@ -11,8 +12,9 @@ returns-then-works-clause-whole g c =
     (g.W.Write.contents c.put_begin-works.new.out) (g.W.Write.contents c.put_kept-works.new.out)
     (g.W.Write.contents c.put_log-works.new.out) (g.W.Write.contents c.put_end-works.new.out)
     c.put_begin-works.result c.put_kept-works.result c.put_log-works.result c.put_end-works.result
-    c.plan-plan.result.now c.mode.result c.start_moment.result c.deref.result.now c.start_values.result.now c.len.result
-    c.plan-plan.ensures c.mode.ensures c.start_moment.ensures c.deref.ensures.value c.start_values.ensures.store
+    c.plan-plan.result.now c.mode.result c.start_moment.result (map vec_items c.deref.result.now) c.deref-2.result.now
+    c.start_values.result.now c.len.result c.plan-plan.ensures c.mode.ensures c.start_moment.ensures
+    (ap (map vec_items) c.deref.ensures.value) c.deref-2.ensures.value c.start_values.ensures.store
     c.start_values.ensures.len c.len.ensures.len c.put_begin-works.ensures c.put_kept-works.ensures
     c.put_log-works.ensures c.put_end-works.ensures in
     subst (λ b. IsPut (g.W.Write.contents c.args.out.now) (g.W.Write.contents c.put_end-works.new.out) b
@@ -26,8 +28,9 @@ returns-else-works-clause-part g c =
     (g.W.Write.contents c.put_begin-works.new.out) (g.W.Write.contents c.put_kept-works.new.out)
     (g.W.Write.contents c.put_log-works.new.out) (g.W.Write.contents c.put_end-works.new.out)
     c.put_begin-works.result c.put_kept-works.result c.put_log-works.result c.put_end-works.result
-    c.plan-plan.result.now c.mode.result c.start_moment.result c.deref.result.now c.start_values.result.now c.len.result
-    c.plan-plan.ensures c.mode.ensures c.start_moment.ensures c.deref.ensures.value c.start_values.ensures.store
+    c.plan-plan.result.now c.mode.result c.start_moment.result (map vec_items c.deref.result.now) c.deref-2.result.now
+    c.start_values.result.now c.len.result c.plan-plan.ensures c.mode.ensures c.start_moment.ensures
+    (ap (map vec_items) c.deref.ensures.value) c.deref-2.ensures.value c.start_values.ensures.store
     c.start_values.ensures.len c.len.ensures.len c.put_begin-works.ensures c.put_kept-works.ensures
     c.put_log-works.ensures c.put_end-works.ensures in
     let part = subst (λ b. IsPut (g.W.Write.contents c.args.out.now) (g.W.Write.contents c.put_end-works.new.out) b

@@ -1,0 +1,18 @@
+use Rattle.std.proofs.Common.{IfOk, List, ℕ, ap, map, option_map, subst}
+use Rattle.std.specs.Vec.{vec_items}
+use Rattle.st_words.specs.Values.{Datum}
+use Rattle.st_plans.specs.declared.plan.PlanVariable.{PlanVariable}
+use Rattle.st_plans.specs.Layouts.{Enumerations}
+use Rattle.traces.specs.Reads.{Begins}
+use Rattle.traces.specs.Starts.{AreKept, kept_lines}
+use Rattle.traces.proofs.starting.told_values.Goals as goal
+
+pub returns : goal.returns
+returns c =
+    let types = map vec_items c.args.plan.now.enumerations.items in
+    subst (λ (vs : List PlanVariable). IfOk c.kept_values.result (λ told. Begins (AreKept vs) (kept_lines types vs)
+    c.args.text.now (option_map {U = List Datum × List ℕ} (λ p. (p.0.items, p.1.now)) told))) c.deref-2.ensures.value
+    (subst (λ (ts : Enumerations). IfOk c.kept_values.result (λ told. Begins (AreKept c.deref-2.result.now)
+    (kept_lines ts c.deref-2.result.now) c.args.text.now
+    (option_map {U = List Datum × List ℕ} (λ p. (p.0.items, p.1.now)) told))) (ap (map vec_items) c.deref.ensures.value)
+    c.kept_values.ensures)
