@@ -10,8 +10,27 @@ use Rattle.st_words.specs.declared.fault.Fault.{Fault}
 use Rattle.st_words.specs.declared.fault.Fault.TheVariants.{Range}
 use Rattle.st_words.specs.Kinds.{holds, width_of}
 use Rattle.st_words.specs.Values.{Datum, IsHeld, in_range}
-use Rattle.retain_store.specs.Records.{is_byte_place}
+use Rattle.retain_store.specs.Records.{has_keyword, is_byte_place}
 use Rattle.commit_lock.specs.Recorded.{recorded_kind, recorded, renumbered, all_renumbered}
+
+-- a record knows an elementary type as it is
+pub as_it_is : (k : Kind) (z : ℤ) → has_keyword k ≡ true
+    → ◌≡◌ {A = Datum} (recorded record { kind = k; number = z }) record { kind = k; number = z }
+as_it_is Sint z e = refl
+as_it_is Int z e = refl
+as_it_is Dint z e = refl
+as_it_is Lint z e = refl
+as_it_is Usint z e = refl
+as_it_is Uint z e = refl
+as_it_is Udint z e = refl
+as_it_is Ulint z e = refl
+as_it_is Byte z e = refl
+as_it_is Word z e = refl
+as_it_is Dword z e = refl
+as_it_is Lword z e = refl
+as_it_is Time z e = refl
+as_it_is Boolean z e = refl
+as_it_is (Enumerated names number) z e = absurd cc
 
 -- the type has the same numbers
 pub holds_recorded : (k : Kind) (z : ℤ) → holds (recorded_kind k) z ≡ holds k z

@@ -1,7 +1,8 @@
 //! Laws of what a restart makes of what survives. The functions do nothing: their contracts are the laws.
 
-ghost use Rattle.std.specs.Prelude.{◌≡◌, ◌++◌, ◌∷◌, [], ℕ, List, Option, None, true, if◌then◌else◌, codes, drop, length, pos};
-ghost use Rattle.st_words.specs.declared.kind.Kind.TheVariants.{Enumerated, Int};
+ghost use Rattle.std.specs.Prelude.{◌≡◌, ◌++◌, ◌∷◌, [], ℕ, List, Option, None, true, ℤ, if◌then◌else◌, codes, drop, length, pos};
+ghost use Rattle.st_words.specs.declared.kind.Kind.{Kind};
+ghost use Rattle.st_words.specs.declared.kind.Kind.TheVariants.{Enumerated};
 ghost use Rattle.st_words.specs.Values.{Datum};
 ghost use Rattle.st_words.specs.Paths.{Path};
 ghost use Rattle.st_types.specs.Stores.{Store, get, shape_of, all_held};
@@ -9,7 +10,7 @@ ghost use Rattle.st_plans.specs.declared.entry.Entry.{Entry};
 ghost use Rattle.st_plans.specs.Plans.{initial_store, is_retained};
 ghost use Rattle.st_plans.specs.Logs.{past_of, after, last_moment};
 ghost use Rattle.st_plans.specs.Restarts.{kept_of};
-ghost use Rattle.retain_store.specs.Records.{record_bytes};
+ghost use Rattle.retain_store.specs.Records.{has_keyword, record_bytes};
 ghost use Rattle.retain_store.specs.Recovered.{Recovered};
 ghost use Rattle.config.specs.declared.plan.Plan.{Plan};
 ghost use Rattle.config.specs.PlanViews.{plan_view};
@@ -41,13 +42,13 @@ pub fn what_survives_is_given_back()
 {}
 
 /// A record knows no more of an enumerated type than its names, so that the types of two texts with the same names are
-/// one type there. Of `Mode : (Stopped, Running, Fault)`, wherever it stands among the types of its text, and a retained
+/// one type there; a value of an elementary type is in it as it is. Of `Mode : (Stopped, Running, Fault)`, wherever it stands among the types of its text, and a retained
 /// `m : Mode` that is FAULT the body has 39 bytes, of which the last is 02.
 pub fn records_know_types_by_their_names()
     ensures enumerated { (number : ℕ) → ◌≡◌ {A = Datum} (recorded record { kind = Enumerated 3 number; number = pos 2 })
         record { kind = Enumerated 3 0; number = pos 2 } }
-    ensures elementary { ◌≡◌ {A = Datum} (recorded record { kind = Int; number = pos 2 })
-        record { kind = Int; number = pos 2 } }
+    ensures elementary { (k : Kind) (z : ℤ) → has_keyword k ≡ true
+        → ◌≡◌ {A = Datum} (recorded record { kind = k; number = z }) record { kind = k; number = z } }
     ensures length { (number : ℕ) → length (record_bytes (record {
       moment = None;
       layout = codes "M (STOPPED,RUNNING,FAULT)" ++ 10 ∷ [];

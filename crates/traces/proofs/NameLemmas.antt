@@ -1,11 +1,10 @@
 -- Values that are spelled by their names, read back.
-use Rattle.std.proofs.Common.{◌≡◌, ◌∙◌, ap, sym, refl, subst, arith, ℕ, zero, suc, ◌+◌, ◌-◌, ◌<◌, ◌≤◌, ◌^◌, ◌++◌, Bool, true, false, not}
+use Rattle.std.proofs.Common.{◌≡◌, ◌∙◌, ap, sym, refl, subst, arith, ℕ, zero, suc, ◌+◌, ◌-◌, ◌<◌, ◌≤◌, ◌^◌, ◌++◌, true, false, not}
 use Rattle.std.proofs.Common.{List, [], ◌∷◌, length, map, get_or, cond, Vec, Global, Option, Some, None, IfSome, slice_get, inl, inr}
-use Rattle.std.specs.Prelude.{◌==◌, ◌&&◌, ℤ, pos, negsuc, nat_le, int_le, bytes_eq, position, option_and_then, Ok}
+use Rattle.std.specs.Prelude.{◌==◌, ◌&&◌, ℤ, pos, negsuc, nat_le, int_le, bytes_eq, position, option_and_then}
 use Rattle.std.specs.List.{list_all, position_from}
-use Rattle.std.specs.Result.{result_ok}
 use Rattle.std.specs.Vec.{vec_items}
-use Rattle.std.proofs.lemmas.Bool.{and_from, and_parts, cases_Bool, eqb-true, le-leb, leb-true, not-true, or_parts}
+use Rattle.std.proofs.lemmas.Bool.{and_from, and_parts, cases_Bool, eqb-true, le-leb, leb-true, not-true}
 use Rattle.std.proofs.lemmas.Iterator.Adapters.{position_from-zero}
 use Rattle.std.proofs.lemmas.List.Folds.{list_all-append, list_all-map, list_any_at}
 use Rattle.std.proofs.lemmas.Option.{get_or_from_slice_get, slice_get_within}
@@ -15,7 +14,7 @@ use Rattle.st_words.specs.declared.kind.Kind.TheVariants.{Sint, Int, Dint, Lint,
 use Rattle.st_words.specs.declared.kind.Kind.TheVariants.{Dword, Lword, Time, Bool as Boolean, Enumerated}
 use Rattle.st_words.specs.Kinds.{holds, names_in, row_of}
 use Rattle.st_words.specs.UpperNames.{is_upper_name}
-use Rattle.st_words.specs.Values.{Datum, IsHeld, in_range}
+use Rattle.st_words.specs.Values.{Datum, IsHeld}
 use Rattle.st_statics.specs.declared.limits.TheConstants.{MAX_NAMES}
 use Rattle.st_plans.specs.declared.plan.PlanVariable.{PlanVariable}
 use Rattle.st_plans.specs.Layouts.{Enumerations, path_text}

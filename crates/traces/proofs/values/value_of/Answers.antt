@@ -1,4 +1,4 @@
-use Rattle.std.proofs.Common.{◌≡◌, ◌∙◌, map, sym, true, false, subst, Option}
+use Rattle.std.proofs.Common.{◌∙◌, map, sym, subst, Option}
 use Rattle.std.specs.Vec.{vec_items}
 use Rattle.st_words.specs.Values.{Datum}
 use Rattle.st_print.specs.Spelling.{value_text}
