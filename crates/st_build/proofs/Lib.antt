@@ -10,4 +10,5 @@ mod TriggerLemmas
 mod SingleLemmas
 mod ConfiguredLemmas
 mod PlanLemmas
+mod ReadinessLemmas
 mod OwnerLemmas

@@ -1,0 +1,56 @@
+use Rattle.std.proofs.Common.{rules, ◌≡◌}
+use Rattle.st_trees.specs.SourceViews.{source_view}
+use Rattle.st_trees.specs.Sources as trees
+use Rattle.st_types.specs.ResolvedUnits.{resolved_source}
+use Rattle.st_statics.specs.Rules.{IsWellTyped}
+use Rattle.st_configured.specs.Configured.{IsConfigured}
+use Rattle.config.specs.PlanViews.{plan_view}
+use Rattle.st_build.specs.Readiness.{IsJudged}
+use Rattle.st_build.specs.Refusals.{LacksPlan, SourceLacksPlan}
+use Rattle.st_build.specs.TextPlans.{IsPlanOf}
+use Rattle.st_build.proofs.ReadinessLemmas.{judged_from, source_lacks, on_ok, on_err}
+use Rattle.st_build.proofs.source_plan.plan_of.Goals as goal
+
+pub plan_of_tree-requires-clause-judged : goal.plan_of_tree-requires-clause-judged
+plan_of_tree-requires-clause-judged c =
+    let source = source_view c.args.source in
+    let (text, of) = c.requires.text in
+    let well : IsWellTyped source = search rules in
+    let sound : IsConfigured source = search rules in
+    let resolved : source_view c.in_ok-checked.checked.source ≡ resolved_source source = search rules in
+    (
+      source,
+      judged_from text source of well sound (c.paths_of_texts_are_written_apart.ensures.spelled text source of well)
+          (c.paths_of_texts_are_written_apart.ensures.different text source of well),
+      resolved,
+    )
+
+pub returns-clause-plan : goal.returns-clause-plan
+returns-clause-plan c =
+    let source = source_view c.args.source in
+    let tree = source_view c.in_ok-checked.checked.source in
+    let (text, of) = c.requires.text in
+    let well : IsWellTyped source = search rules in
+    let sound : IsConfigured source = search rules in
+    let resolved : tree ≡ resolved_source source = search rules in
+    let judged = judged_from text source of well sound
+    (c.paths_of_texts_are_written_apart.ensures.spelled text source of well)
+    (c.paths_of_texts_are_written_apart.ensures.different text source of well) in
+    on_ok (λ plan. (x : trees.Source) → IsJudged x → tree ≡ resolved_source x → IsPlanOf x c.args.budget (plan_view plan))
+    (λ plan. IsPlanOf source c.args.budget (plan_view plan)) c.plan_of_tree.result c.plan_of_tree.ensures.plan
+    (λ plan given. given source judged resolved)
+
+pub returns-clause-refused : goal.returns-clause-refused
+returns-clause-refused c =
+    let source = source_view c.args.source in
+    let tree = source_view c.in_ok-checked.checked.source in
+    let (text, of) = c.requires.text in
+    let well : IsWellTyped source = search rules in
+    let sound : IsConfigured source = search rules in
+    let resolved : tree ≡ resolved_source source = search rules in
+    let judged = judged_from text source of well sound
+    (c.paths_of_texts_are_written_apart.ensures.spelled text source of well)
+    (c.paths_of_texts_are_written_apart.ensures.different text source of well) in
+    on_err (λ e. (x : trees.Source) → IsJudged x → tree ≡ resolved_source x → LacksPlan x e)
+    (λ e. SourceLacksPlan source e) c.plan_of_tree.result c.plan_of_tree.ensures.refused
+    (λ e given. source_lacks source e well (given source judged resolved))

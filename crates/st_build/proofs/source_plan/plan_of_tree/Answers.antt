@@ -1,0 +1,52 @@
+use Rattle.std.proofs.Common.{◌≡◌, map}
+use Rattle.st_trees.specs.SourceViews.{source_view}
+use Rattle.st_trees.specs.Sources as trees
+use Rattle.st_types.specs.ResolvedUnits.{resolved_source}
+use Rattle.coded_programs.specs.Codes.{code_view}
+use Rattle.config.specs.PlanViews.{plan_view}
+use Rattle.st_build.specs.Readiness.{IsJudged, IsReady}
+use Rattle.st_build.specs.Refusals.{LacksPlan}
+use Rattle.st_build.specs.TextPlans.{IsPlanOf}
+use Rattle.st_build.proofs.ReadinessLemmas.{accepted, ready_for, on_ok, on_err}
+use Rattle.st_build.proofs.source_plan.plan_of_tree.Goals as goal
+
+pub plan_from-requires : goal.plan_from-requires
+plan_from-requires c =
+    let (text, judged, resolved) = c.requires.judged in
+    let layout = c.in_ok-layout.ensures.ok text resolved judged.well_typed in
+    let coded = c.in_ok-codes.ensures text resolved (accepted text judged) layout in
+    record {
+      ready = (
+        text,
+        ready_for text (source_view c.args.tree) c.in_ok-layout.layout.slots.items
+            (map code_view c.in_ok-codes.codes.items) c.args.budget judged resolved layout coded c.requires.some_ticks
+            c.requires.ticks,
+      );
+    }
+
+pub returns-clause-plan : goal.returns-clause-plan
+returns-clause-plan c =
+    let tree = source_view c.args.tree in
+    let slots = c.in_ok-layout.layout.slots.items in
+    let codes = map code_view c.in_ok-codes.codes.items in
+    on_ok (λ plan. (text : trees.Source) → IsReady text tree slots codes c.args.budget
+    → IsPlanOf text c.args.budget (plan_view plan))
+    (λ plan. (text : trees.Source) → IsJudged text → tree ≡ resolved_source text
+    → IsPlanOf text c.args.budget (plan_view plan)) c.plan_from.result c.plan_from.ensures.plan
+    (λ plan given text judged resolved.
+    let layout = c.in_ok-layout.ensures.ok text resolved judged.well_typed in
+    given text (ready_for text tree slots codes c.args.budget judged resolved layout
+    (c.in_ok-codes.ensures text resolved (accepted text judged) layout) c.requires.some_ticks c.requires.ticks))
+
+pub returns-clause-refused : goal.returns-clause-refused
+returns-clause-refused c =
+    let tree = source_view c.args.tree in
+    let slots = c.in_ok-layout.layout.slots.items in
+    let codes = map code_view c.in_ok-codes.codes.items in
+    on_err (λ e. (text : trees.Source) → IsReady text tree slots codes c.args.budget → LacksPlan text e)
+    (λ e. (text : trees.Source) → IsJudged text → tree ≡ resolved_source text → LacksPlan text e) c.plan_from.result
+    c.plan_from.ensures.refused
+    (λ e given text judged resolved.
+    let layout = c.in_ok-layout.ensures.ok text resolved judged.well_typed in
+    given text (ready_for text tree slots codes c.args.budget judged resolved layout
+    (c.in_ok-codes.ensures text resolved (accepted text judged) layout) c.requires.some_ticks c.requires.ticks))
