@@ -11,4 +11,5 @@ mod SingleLemmas
 mod ConfiguredLemmas
 mod PlanLemmas
 mod ReadinessLemmas
+mod GivenLemmas
 mod OwnerLemmas
