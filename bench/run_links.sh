@@ -1,5 +1,5 @@
 #!/bin/sh
-# Reports how fast texts of 128 KiB to 1 MiB are linked. Give the root of the repository.
+# Reports how fast texts of 128 KiB to 1 MiB are linked, and such as are hard to link. Give the root of the repository.
 set -e
 . "$(dirname "$0")/copied.sh"
 copied "$1" link_bench 'anyhow thiserror' st_words st_trees st_types st_plans st_lex st_statements st_parse st_statics st_sound st_names \
