@@ -7,8 +7,11 @@ use Rattle.st_plans.specs.Plans as plans
 use Rattle.config.specs.declared.plan.Plan.{Plan}
 use Rattle.config.specs.declared.task.ProgramInstance.{ProgramInstance}
 use Rattle.config.specs.PlanViews.{plan_view, program_view}
+use Rattle.config.specs.Sound.{are_different}
+use Rattle.std.specs.List.{list_all}
 use Rattle.text_paths.proofs.PlainGrammar.{plain_text}
 use Rattle.st_build.proofs.ListLemmas.{get_map}
+use Rattle.st_build.proofs.ApartNames.{names_apart}
 use Rattle.st_build.proofs.OwnerLemmas.{plan_told_apart}
 use Rattle.st_plans.specs.Rows.{Latch}
 use Rattle.st_plans.specs.Restarts.{Start}
@@ -18,7 +21,7 @@ use Rattle.commit_lock.specs.declared.starting.StartMode.{StartMode}
 use Rattle.traces.specs.declared.findings.Replayed.{Replayed}
 use Rattle.traces.specs.declared.trace_error.ReplayError.{ReplayError}
 use Rattle.traces.specs.declared.trace_error.ReplayError.TheVariants as replays
-use Rattle.traces.specs.Replays.{AreFindings, AreToldApart, IsTrace}
+use Rattle.traces.specs.Replays.{AreFindings, AreToldApart, IsToldApart, IsTrace}
 use Rattle.plant_program.specs.declared.fault.Fault.{Fault}
 use Rattle.plant_program.specs.declared.fault.Fault.TheVariants as faults
 use Rattle.plant_program.specs.Reports.{report_text}
@@ -36,11 +39,18 @@ owner_at plan k p at =
     (option_map (program_view (source_view plan.text.value)) o)) at
     ∙ ap Some (plan.sound.codes k p at).owner
 
--- the programs of the plan of a text are told apart
-pub apart_of : (text : List ℕ) (budget : ℕ) (plan : Plan) → IsPlanIn text budget plan → AreToldApart plan.programs.items
-apart_of text budget plan is i j p q more rest a b e =
+programs_apart : (text : List ℕ) (budget : ℕ) (plan : Plan) → IsPlanIn text budget plan
+    → AreToldApart plan.programs.items
+programs_apart text budget plan is i j p q more rest a b e =
     plan_told_apart is.source budget (plan_view plan) (plain_text text is.source is.spelled) is.is i j p.owner q.owner
     more rest (owner_at plan i p a) (owner_at plan j q b) e
+
+-- the programs of the plan of a text are told apart, and so are the values of its enumerated types
+pub apart_of : (text : List ℕ) (budget : ℕ) (plan : Plan) → IsPlanIn text budget plan → IsToldApart plan
+apart_of text budget plan is = (
+  programs_apart text budget plan is,
+  ap (λ (p : plans.Plan). list_all are_different p.enumerations) is.is.is ∙ names_apart is.source is.is.well_typed,
+)
 
 -- V1 to V4 are no want of memory
 pub no_memory : (e : ReplayError) → IsTraceFault (faults.Trace e) → e ≢ replays.NoMemory

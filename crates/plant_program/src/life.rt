@@ -80,5 +80,11 @@ pub fn report_of<D: Disk>(alloc: Global, core: &Core<D>) -> Result<Vec<u8>, Allo
 {
     let counts = counts(core);
     let plan = core.plan();
-    report_with(alloc, &counts, &plan.enumerations, &plan.variables, core.values())
+    report_with(
+        alloc,
+        &counts,
+        &plan.enumerations,
+        &plan.variables,
+        core.values(),
+    )
 }

@@ -13,3 +13,4 @@ mod PlanLemmas
 mod ReadinessLemmas
 mod GivenLemmas
 mod OwnerLemmas
+mod ApartNames

@@ -1,18 +1,23 @@
 //! Laws of the plans of texts.
 
-ghost use Rattle.std.specs.Prelude.{List, ℕ, map};
+ghost use Rattle.std.specs.Prelude.{◌≡◌, List, ℕ, map, true};
+ghost use Rattle.std.specs.List.{list_all};
 ghost use Rattle.st_plans.specs.Plans as plans;
 ghost use Rattle.st_trees.specs.Sources.{Source};
+ghost use Rattle.config.specs.Sound.{are_different};
 ghost use Rattle.text_paths.specs.Texts.{IsTextOf};
 ghost use Rattle.st_build.specs.Owners.{AreToldApart};
 ghost use Rattle.st_build.specs.TextPlans.{IsPlanOf};
 
 use text_paths::declarations_of_texts_are_plain;
 
-/// The instances of a text's plan are told apart by their names: none is written as the beginning of another one.
+/// The instances of a text's plan are told apart by their names: none is written as the beginning of another one. So are
+/// the values of each of its enumerated types.
 pub fn instances_of_plans_are_told_apart()
-    ensures { (text : List ℕ) (source : Source) (budget : ℕ) (plan : plans.Plan) → IsTextOf text source
+    ensures instances { (text : List ℕ) (source : Source) (budget : ℕ) (plan : plans.Plan) → IsTextOf text source
         → IsPlanOf source budget plan → AreToldApart (map (λ p. p.code.owner) plan.programs) }
+    ensures values { (source : Source) (budget : ℕ) (plan : plans.Plan) → IsPlanOf source budget plan
+        → list_all are_different plan.enumerations ≡ true }
 {
     declarations_of_texts_are_plain();
 }

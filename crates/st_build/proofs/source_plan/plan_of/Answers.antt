@@ -17,8 +17,7 @@ plan_of_tree-requires-clause-judged c =
     let (text, of) = c.requires.text in
     let well : IsWellTyped source = search rules in
     let sound : IsConfigured source = search rules in
-    let resolved : source_view c.in_ok-checked.checked.source ≡ resolved_source source = search rules in
-    (
+    let resolved : source_view c.in_ok-checked.checked.source ≡ resolved_source source = search rules in (
       source,
       judged_from text source of well sound (c.paths_of_texts_are_written_apart.ensures.spelled text source of well)
           (c.paths_of_texts_are_written_apart.ensures.different text source of well),
