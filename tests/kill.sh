@@ -18,10 +18,10 @@ cd "$work"
 
 # Two resources that add to the same variables, each in a thread of its own; with a step of a recipe, counters and timers that are kept too.
 cat > counters.st <<'END'
-TYPE Step : (Fill, Heat, Drain); END_TYPE
+TYPE Phase : (Fill, Heat, Drain); END_TYPE
 PROGRAM Count
   VAR RETAIN own : DINT; clock : BOOL; pulses : CTU; since : TON; END_VAR
-  VAR_EXTERNAL a : DINT; b : DINT; step : Step; END_VAR
+  VAR_EXTERNAL a : DINT; b : DINT; step : Phase; END_VAR
   a := a + 1;
   b := b + 3;
   own := own + 1;
@@ -35,7 +35,7 @@ PROGRAM Count
   since(IN := TRUE, PT := T#1h);
 END_PROGRAM
 CONFIGURATION Killed
-  VAR_GLOBAL RETAIN a : DINT; b : DINT; step : Step; END_VAR
+  VAR_GLOBAL RETAIN a : DINT; b : DINT; step : Phase; END_VAR
   RESOURCE R ON CPU
     TASK T (INTERVAL := T#10ms, PRIORITY := 0);
     PROGRAM P WITH T : Count;

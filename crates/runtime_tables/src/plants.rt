@@ -2,11 +2,10 @@
 
 use crate::row_error::RowError;
 use crate::words::{split, write_number};
-use config::{Plan, ThinProgram};
+use config::Plan;
 use image::read_plant;
-use st_plans::{PlanInput, PlanVariable, Row};
-use st_trees::Unit;
-use st_words::{Kind, Name, Path};
+use st_build::build;
+use st_plans::Row;
 use std::alloc::{AllocError, Global};
 use std::fmt::Write;
 use std::io;
@@ -35,40 +34,26 @@ impl<'a> Read for Failing<'a> {
     }
 }
 
-/// The type of an input that is written so; BOOL where it is another word.
-fn kind_of(word: &str) -> Kind {
-    match word {
-        "INT" => Kind::Int,
-        "UINT" => Kind::Uint,
-        "WORD" => Kind::Word,
-        _ => Kind::Bool,
-    }
+/// Writes a block with the input that is written `NAME:KIND`, at the address of this number.
+fn write_input(text: &mut String, written: &str, number: usize) -> Result<(), AllocError> {
+    let (name, kind) = split(written, ":");
+    let width = if kind == "BOOL" { "X" } else { "W" };
+    write!(
+        text,
+        "VAR_GLOBAL {name} AT %I{width}{number} : {kind}; END_VAR\n"
+    )
 }
 
-/// The inputs of a list like `A:BOOL Z:INT`.
-fn inputs_of(alloc: Global, written: &str) -> Result<Vec<PlanInput>, AllocError> {
-    let mut inputs = Vec::new(alloc);
-    for word in written.split_whitespace() {
-        let (name, kind) = split(word, ":");
-        let name = Name::from_slice(alloc, name.as_bytes())?;
-        inputs.push(PlanInput {
-            path: Path::global(alloc, name),
-            kind: kind_of(kind),
-        })?;
-    }
-    Ok(inputs)
-}
-
-/// A plan of the inputs of a list.
+/// The plan of a text with the inputs of a list like `A:BOOL Z:INT`, and one program, which does nothing.
 fn plan_with(alloc: Global, inputs: &str) -> Result<Plan, RowError> {
-    let inputs = inputs_of(alloc, inputs)?;
-    let units: Vec<Unit> = Vec::new(alloc);
-    let variables: Vec<PlanVariable> = Vec::new(alloc);
-    let programs: Vec<ThinProgram> = Vec::new(alloc);
-    match Plan::thin(alloc, units, variables, inputs, programs, 1)? {
-        Some(plan) => Ok(plan),
-        None => Err(RowError::Form),
+    let mut text = String::new(alloc);
+    text.push_str("PROGRAM Idle ; END_PROGRAM\nCONFIGURATION C\n")?;
+    for (number, input) in inputs.split_whitespace().enumerate() {
+        write_input(&mut text, input, number)?;
     }
+    text.push_str("RESOURCE R ON CPU TASK T (INTERVAL := T#1ms, PRIORITY := 0);\n")?;
+    text.push_str("PROGRAM P WITH T : Idle;\nEND_RESOURCE\nEND_CONFIGURATION\n")?;
+    Ok(build(alloc, text.as_bytes(), 1)?)
 }
 
 /// Writes of each row its moment and its values' numbers, and a semicolon.

@@ -1,9 +1,9 @@
 //! What a life, a core or an execution tells, in words.
 
 use crate::words::write_number;
+use coded_runs::{Cell, Execution};
 use commit_lock::{Answer, Core, Refusal, Reply, StartFault};
 use disk::SimDisk;
-use coded_runs::{Cell, Execution};
 use st_types::Outcome;
 use st_words::{Name, Path};
 use std::alloc::{AllocError, Global};
