@@ -1,0 +1,2 @@
+mod Literals
+mod Expressions

@@ -1,0 +1,26 @@
+//! Laws of accepted texts, each proved of the definitions. The functions do nothing: their contracts are the laws.
+
+ghost use Rattle.std.specs.Prelude.{◌≡◌, ℕ, [], Option};
+ghost use Rattle.st_trees.specs.Expressions.{Expr};
+ghost use Rattle.st_types.specs.Resolution.{resolved_expr};
+ghost use Rattle.st_statics.specs.declared.demand.Demand.{Demand};
+ghost use Rattle.st_statics.specs.Demands.{expected_of};
+ghost use Rattle.st_statics.specs.Environments.{Environment};
+ghost use Rattle.st_statics.specs.ExpressionRules.{wrong_expression};
+ghost use Rattle.slot_bodies.specs.LibraryViews.{KeptLibrary};
+ghost use Rattle.slot_trees.specs.Tables.{Table};
+ghost use Rattle.tree_code.specs.Sites.{Site};
+ghost use Rattle.st_compile.specs.Linked.{CallLinkedWithin};
+ghost use Rattle.st_fitting.specs.Sound.{ExprSound};
+ghost use Rattle.text_fitting.specs.Callable.{IsCallable};
+ghost use Rattle.text_fitting.specs.Spelled.{ExprOf};
+
+/// Of an expression in which nothing is wrong, with its literals resolved, code is made: its literals are values, and
+/// each function that it calls has as many arguments as it has inputs. Its durations are ones that a TIME holds, as the
+/// lexer gives them.
+pub fn expressions_without_faults_are_sound()
+    ensures { (library : KeptLibrary) (depth : ℕ) (site : Site) (env : Environment) (t : Table) (d : Demand) (e : Expr)
+        → wrong_expression env d e ≡ []
+        → ExprOf (IsCallable (CallLinkedWithin library depth) site env t) e
+        → ExprSound (CallLinkedWithin library depth) site t (resolved_expr env.text env.unit (expected_of d) e) }
+{}
