@@ -1,5 +1,5 @@
 -- Expressions in which nothing is wrong are sound.
-use Rattle.std.proofs.Common.{◌≡◌, refl, sym, ap, subst, ◌∙◌, ℕ, suc, ◌+◌, ◌==◌, arith, true, false}
+use Rattle.std.proofs.Common.{◌≡◌, refl, sym, ap, subst, ◌∙◌, ℕ, suc, ◌+◌, ◌==◌, arith, true}
 use Rattle.std.proofs.Common.{if◌then◌else◌, List, [], ◌∷◌, ◌++◌, length, Option, Some, None}
 use Rattle.std.specs.Prelude.{map, is_some}
 use Rattle.std.specs.List.{flat_map}
@@ -16,7 +16,7 @@ use Rattle.st_trees.specs.Expressions as named
 use Rattle.st_trees.specs.Expressions.{Expr, literal, read, parenthesis, Exprs, no_exprs, expr_then, variable}
 use Rattle.st_trees.specs.Expressions.{member, subscript, Selectors, no_selectors, selector_then}
 use Rattle.st_trees.specs.Units.{OrganisationUnit}
-use Rattle.st_types.specs.Enumerations.{Member, enumerations_of, members_named, only_one, member_named}
+use Rattle.st_types.specs.Enumerations.{Member, member_named}
 use Rattle.st_types.specs.NameTypes.{unit_named, input_kinds, result_kind}
 use Rattle.st_types.specs.Resolution.{own_kinds, common_kind, expected_kinds, inputs_of_unit, inputs_of_function}
 use Rattle.st_types.specs.Resolution.{resolved_expr, resolved_exprs, resolved_selectors}
@@ -34,9 +34,9 @@ use Rattle.st_statics.specs.ExpressionRules.{wrong_expression}
 use Rattle.st_statics.proofs.TypingLaws.{all_kinds_told}
 use Rattle.st_sound.proofs.Alikes.{front_empty, back_empty}
 use Rattle.st_sound.proofs.KnownLemmas.{below_binary, own_part}
-use Rattle.st_sound.proofs.ValueLaw.{inside, offers, standard_expected, inputs_expected, count_right, too_few, too_many}
+use Rattle.st_sound.proofs.ValueLaw.{inside, offers, standard_expected, inputs_expected, count_right, too_many}
 use Rattle.st_sound.proofs.ValueLaw.{one_less, callee_by, own_callee, alone_expr}
-use Rattle.slot_trees.specs.Tables.{Table, named_in}
+use Rattle.slot_trees.specs.Tables.{Table}
 use Rattle.tree_code.specs.Fitting.{UnitCall, of_function}
 use Rattle.tree_code.specs.Sites.{Site, end_of}
 use Rattle.st_fitting.specs.Sound.{number_of_exprs, CallSound, ExprSound, ExprsSound, SelectorsSound}

@@ -1,2 +1,3 @@
 mod Literals
 mod Expressions
+mod Statements

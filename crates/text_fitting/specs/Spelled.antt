@@ -1,10 +1,9 @@
 -- Literals as the grammar gives them, and bodies of such literals, each of whose calls of functions has a property.
-use Rattle.std.specs.Prelude.{◌≡◌, pos, List, [], ◌∷◌, true, Option, Some, None}
+use Rattle.std.specs.Prelude.{◌≡◌, ◌≤◌, pos, List, [], ◌∷◌, length, true, Option, Some, None}
 use Rattle.st_words.specs.declared.kind.Kind.{Kind}
 use Rattle.st_words.specs.declared.kind.Kind.TheVariants.{Time, Enumerated}
 use Rattle.st_words.specs.declared.literal.Literal.{Literal}
 use Rattle.st_words.specs.declared.literal.Literal.TheVariants as literals
-use Rattle.st_words.specs.declared.literal.Number.{Number}
 use Rattle.st_words.specs.Kinds.{holds}
 use Rattle.st_trees.specs.declared.statement.Label.{Label}
 use Rattle.st_trees.specs.declared.statement.Label.TheVariants as labels
@@ -13,7 +12,14 @@ use Rattle.st_trees.specs.Expressions.{Expr, literal, read, parenthesis, Exprs, 
 use Rattle.st_trees.specs.Expressions.{Selectors, no_selectors, selector_then}
 use Rattle.st_trees.specs.Statements as text
 use Rattle.st_trees.specs.Statements.{Argument, Stmt, Stmts, Arms, CaseArms}
+use Rattle.st_types.specs.Enumerations.{Enumeration}
 use Rattle.st_types.specs.Scopes.{Name}
+use Rattle.st_statics.specs.declared.limits.TheConstants.{MAX_NAMES}
+
+-- no enumerated type has more names than the language allows
+abbrev pub HaveFewNames : List Enumeration → Type 0
+HaveFewNames [] = Unit {0}
+HaveFewNames (e ∷ es) = (length e.names ≤ MAX_NAMES) × HaveFewNames es
 
 -- before a `#` stands no enumerated type
 abbrev pub IsKeyword : Option Kind → Type 0
