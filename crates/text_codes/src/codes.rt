@@ -29,7 +29,7 @@ use std::alloc::Global;
 use std::sync::Arc;
 use text_links::{LinkedText, link};
 
-/// A text linked. Where a body leads into more slots than a layout has room for, there are too many places.
+/// A text linked.
 fn linked_text(alloc: Global, source: &Source) -> Result<LinkedText, CompileError>
     ensures { IfOk result (λ linked. (text : trees.Source) → source_view source.now ≡ resolved_source text
         → IsAccepted text → length (slots_of_text text) ≤ MAX_PATHS → IsLinked text (linked_text_view linked)) }
@@ -37,7 +37,6 @@ fn linked_text(alloc: Global, source: &Source) -> Result<LinkedText, CompileErro
     match link(alloc, source) {
         Ok(linked) => Ok(linked),
         Err(LinkError::NotThere) => Err(CompileError::NotLinked),
-        Err(LinkError::TooLarge) => Err(CompileError::TooManyPlaces),
         Err(LinkError::OutOfMemory) => Err(CompileError::OutOfMemory),
     }
 }

@@ -14,11 +14,12 @@ use Rattle.st_names.specs.declared.index.Index.{Index}
 use Rattle.st_layouts.specs.Shapes.{is_sound, size}
 use Rattle.st_layouts.specs.Types.{is_within_depth, shape_of_type}
 use Rattle.layout.specs.Sizes.{cut}
-use Rattle.slot_trees.specs.SlotTrees.{Anchor}
+use Rattle.slot_trees.specs.SlotTrees.{Anchor, absolute, own}
 use Rattle.slot_trees.specs.Tables.{Symbol, moved}
 use Rattle.slot_bodies.specs.ExpressionViews.{anchor_view}
 use Rattle.shape_tables.specs.Shapes.{IsExpanded}
 use Rattle.st_link.specs.BodyTables.{IsSymbol}
+use Rattle.st_link.specs.Rooms.{first_slot}
 use Rattle.st_link.specs.declared.body_table.LinkSymbol.{LinkSymbol}
 use Rattle.text_links.specs.FirstSlots.{found_at, slots_taken, symbol_among, symbol_from, unless_found}
 use Rattle.text_links.specs.LinkVariables.{LinkVariable, are_whole, is_whole, variable_view}
@@ -47,13 +48,20 @@ unless_or : {A : Type 0} (c : Bool) (a b : Option A) → (if c then None else or
 unless_or true a b = refl
 unless_or false a b = refl
 
+-- so many slots further
+moved_first : (base : Anchor) (n m : ℕ) → first_slot base + (n + m) ≤ MAX_PATHS
+    → first_slot (moved base n) + m ≤ MAX_PATHS
+moved_first (own k) n m h = omega (arith, h)
+moved_first (absolute k) n m h = omega (arith, h)
+
 -- one variable
 module _ (text : Declared) (hidden : Index Bool) (base : Anchor) (x : Name) where
   one_symbol : (n : ℕ) (v : Variable) (s : LinkSymbol) → anchor_view s.anchor ≡ moved base n
       → s.is_input ≡ v.is_input → s.declared ≡ v.declared → IsExpanded text (place_type_view v.declared)
+      → first_slot base + (n + size (shape_of_type text (place_type_view v.declared))) ≤ MAX_PATHS
       → Agree (IsSymbol text) (unless_found hidden x (if bytes_eq x v.name.now then Some s else None))
       (unless_found hidden x (option_map (symbol_from text base x) (found_at text n (variable_view v ∷ []) x)))
-  one_symbol n v s anchor input declared expanded = by_hidden (is_some (found hidden x)) (bytes_eq x v.name.now)
+  one_symbol n v s anchor input declared expanded room = by_hidden (is_some (found hidden x)) (bytes_eq x v.name.now)
     where
       is : IsSymbol text s (symbol_from text base x (n, variable_view v))
       is = record {
@@ -61,6 +69,7 @@ module _ (text : Declared) (hidden : Index Bool) (base : Anchor) (x : Name) wher
         input = input;
         shape = ap (λ d. shape_of_type text (place_type_view d)) (sym declared);
         expanded = subst (λ d. IsExpanded text (place_type_view d)) (sym declared) expanded;
+        room = moved_first base n (size (shape_of_type text (place_type_view v.declared))) room;
       }
 
       by_hidden : (h b : Bool) → Agree (IsSymbol text) (if h then None else (if b then Some s else None))
@@ -74,10 +83,11 @@ module _ (text : Declared) (hidden : Index Bool) (base : Anchor) (x : Name) wher
       → after ≡ or_found before (unless_found hidden x (if bytes_eq x v.name.now then Some s else None))
       → anchor_view s.anchor ≡ moved base (slots_taken text done) → s.is_input ≡ v.is_input
       → s.declared ≡ v.declared → IsExpanded text (place_type_view v.declared)
+      → first_slot base + (slots_taken text done + size (shape_of_type text (place_type_view v.declared))) ≤ MAX_PATHS
       → Agree (IsSymbol text) before (or_found o (unless_found hidden x (symbol_among text base done x)))
       → Agree (IsSymbol text) after
       (or_found o (unless_found hidden x (symbol_among text base (done ++ variable_view v ∷ []) x)))
-  one_more o done v s before after added anchor input declared expanded a =
+  one_more o done v s before after added anchor input declared expanded room a =
       let here = symbol_among text base done x in
       let last = option_map (symbol_from text base x)
       (found_at text (slots_taken text done) (variable_view v ∷ []) x) in
@@ -98,7 +108,7 @@ module _ (text : Declared) (hidden : Index Bool) (base : Anchor) (x : Name) wher
       (agree_or (IsSymbol text) before
       (unless_found hidden x (if bytes_eq x v.name.now then Some s else None))
       (or_found o (unless_found hidden x here)) (unless_found hidden x last) a
-      (one_symbol (slots_taken text done) v s anchor input declared expanded)))
+      (one_symbol (slots_taken text done) v s anchor input declared expanded room)))
     where
       none : (m : ℕ) → 0 + m ≡ m
       none m = omega arith
@@ -162,10 +172,10 @@ slots_more text xs i v a n r more so_far one all =
 uncut : (a n : ℕ) → a ≡ cut n → n ≤ MAX_PATHS → a ≡ n
 uncut a n is small = grind (arith)
 
-pub front_taken : (text : Declared) (xs : List Variable) (i : ℕ)
-    → slots_taken text (map variable_view xs) ≤ MAX_PATHS
-    → slots_taken text (map variable_view (take i xs)) ≤ MAX_PATHS
-front_taken text xs i h =
+front_taken : (text : Declared) (base : Anchor) (xs : List Variable) (i : ℕ)
+    → first_slot base + slots_taken text (map variable_view xs) ≤ MAX_PATHS
+    → first_slot base + slots_taken text (map variable_view (take i xs)) ≤ MAX_PATHS
+front_taken text base xs i h =
     let a : slots_taken text (map variable_view xs)
     ≡ slots_taken text (map variable_view (take i xs)) + slots_taken text (map variable_view (drop i xs)) =
     ap (λ ys. slots_taken text (map variable_view ys)) (sym (take-append-drop i xs))
@@ -173,11 +183,30 @@ front_taken text xs i h =
     ∙ taken_append text (map variable_view (take i xs)) (map variable_view (drop i xs)) in
     omega (arith, a, h)
 
-pub offset_is : (text : Declared) (xs : List Variable) (i a : ℕ)
+behind : (b n : ℕ) → b + n ≤ MAX_PATHS → n ≤ MAX_PATHS
+behind b n h = omega (arith, h)
+
+pub offset_is : (text : Declared) (base : Anchor) (xs : List Variable) (i a : ℕ)
     → a ≡ cut (slots_taken text (map variable_view (take i xs)))
-    → slots_taken text (map variable_view xs) ≤ MAX_PATHS → a ≡ slots_taken text (map variable_view (take i xs))
-offset_is text xs i a is small =
-    uncut a (slots_taken text (map variable_view (take i xs))) is (front_taken text xs i small)
+    → first_slot base + slots_taken text (map variable_view xs) ≤ MAX_PATHS
+    → a ≡ slots_taken text (map variable_view (take i xs))
+offset_is text base xs i a is room =
+    uncut a (slots_taken text (map variable_view (take i xs))) is
+    (behind (first_slot base) (slots_taken text (map variable_view (take i xs))) (front_taken text base xs i room))
+
+-- room for one more
+room_for : (text : Declared) (base : Anchor) (xs : List Variable) (i : ℕ) (v : Variable)
+    → take (i + 1) xs ≡ take i xs ++ v ∷ []
+    → first_slot base + slots_taken text (map variable_view xs) ≤ MAX_PATHS
+    → first_slot base + (slots_taken text (map variable_view (take i xs))
+    + size (shape_of_type text (place_type_view v.declared))) ≤ MAX_PATHS
+room_for text base xs i v more room =
+    let a : slots_taken text (map variable_view (take (i + 1) xs))
+    ≡ slots_taken text (map variable_view (take i xs)) + (size (shape_of_type text (place_type_view v.declared)) + 0) =
+    ap (slots_taken text) (ap (map variable_view) more ∙ map-append variable_view (take i xs) (v ∷ []))
+    ∙ taken_append text (map variable_view (take i xs)) (variable_view v ∷ []) in
+    let b = front_taken text base xs (i + 1) room in
+    omega (arith, a, b)
 
 -- what is there and one variable more, over lists of the code
 pub symbols_more : (text : Declared) (hidden : Index Bool) (base : Anchor) (x : Name) (o : Option Symbol)
@@ -186,15 +215,20 @@ pub symbols_more : (text : Declared) (hidden : Index Bool) (base : Anchor) (x : 
     → after ≡ or_found before (unless_found hidden x (if bytes_eq x v.name.now then Some s else None))
     → anchor_view s.anchor ≡ moved base a → a ≡ slots_taken text (map variable_view (take i xs))
     → s.is_input ≡ v.is_input → s.declared ≡ v.declared → IsExpanded text (place_type_view v.declared)
+    → first_slot base + slots_taken text (map variable_view xs) ≤ MAX_PATHS
     → Agree (IsSymbol text) before
     (or_found o (unless_found hidden x (symbol_among text base (map variable_view (take i xs)) x)))
     → Agree (IsSymbol text) after
     (or_found o (unless_found hidden x (symbol_among text base (map variable_view (take (i + 1) xs)) x)))
-symbols_more text hidden base x o xs i a v s before after more added anchor offset input declared expanded agrees =
+symbols_more text hidden base x o xs i a v s before after more added anchor offset input declared expanded room agrees =
     subst (λ vs. Agree (IsSymbol text) after (or_found o (unless_found hidden x (symbol_among text base vs x))))
     (sym (ap (map variable_view) more ∙ map-append variable_view (take i xs) (v ∷ [])))
     (one_more text hidden base x o (map variable_view (take i xs)) v s before after added
-    (anchor ∙ ap (moved base) offset) input declared expanded agrees)
+    (anchor ∙ ap (moved base) offset) input declared expanded (room_for text base xs i v more room) agrees)
+
+-- from the first slot on
+pub from_first : (n : ℕ) → n ≤ MAX_PATHS → 0 + n ≤ MAX_PATHS
+from_first n h = omega (arith, h)
 
 -- where nothing is kept elsewhere
 pub all_shown : (text : Declared) (hidden : Index Bool) (x : Name) (f : Option LinkSymbol) (o : Option Symbol)

@@ -209,6 +209,3 @@ cut_small s n is small = grind (arith)
 
 pub cut_large : (s n : ℕ) → s ≡ cut n → MAX_PATHS < s → MAX_PATHS + 1 ≤ n
 cut_large s n is large = grind (arith)
-
-pub second_small : (a b : ℕ) → a + b ≤ MAX_PATHS → b ≤ MAX_PATHS
-second_small a b h = omega (arith, h)

@@ -6,7 +6,7 @@ use Rattle.st_names.specs.Found.{found}
 use Rattle.st_names.specs.declared.index.Index.{Index}
 use Rattle.st_layouts.specs.Shapes.{size}
 use Rattle.st_layouts.specs.Types.{shape_of_type}
-use Rattle.slot_trees.specs.SlotTrees.{Anchor, own, absolute}
+use Rattle.slot_trees.specs.SlotTrees.{Anchor, absolute}
 use Rattle.slot_trees.specs.Tables.{Symbol, moved}
 use Rattle.text_links.specs.LinkVariables.{LinkVariable}
 
@@ -41,8 +41,3 @@ unit_symbol text globals externals base vs x = if contains_name externals x
 -- a name that is kept elsewhere has none here
 abbrev pub unless_found : {T A : Type 0} → Index T → Name → Option A → Option A
 unless_found hidden x o = if is_some (found hidden x) then None else o
-
--- the slot of an anchor, or how many stand before it
-abbrev pub first_slot : Anchor → ℕ
-first_slot (own o) = o
-first_slot (absolute k) = k

@@ -12,7 +12,8 @@ ghost use Rattle.slot_trees.specs.Tables.{Symbol, moved};
 ghost use Rattle.slot_bodies.specs.ExpressionViews.{anchor_view};
 ghost use Rattle.shape_tables.specs.Shapes.{ServesShapes};
 ghost use Rattle.st_link.specs.BodyTables.{IsSymbol};
-ghost use Rattle.text_links.specs.FirstSlots.{first_slot, slots_taken, symbol_among, unless_found};
+ghost use Rattle.st_link.specs.Rooms.{first_slot};
+ghost use Rattle.text_links.specs.FirstSlots.{slots_taken, symbol_among, unless_found};
 ghost use Rattle.text_links.specs.LinkVariables.{are_whole, variable_view};
 
 use crate::variables::Variable;
@@ -67,7 +68,7 @@ pub fn add_variables<'a>(
         → n ≡ cut (slots_taken text (map variable_view variables.now))) }
     ensures added { OnOk result ((text : Declared) (x : List ℕ) (o : Option Symbol) → ServesShapes shapes.now text
         → are_whole text (map variable_view variables.now) ≡ true
-        → slots_taken text (map variable_view variables.now) ≤ MAX_PATHS
+        → first_slot (anchor_view base) + slots_taken text (map variable_view variables.now) ≤ MAX_PATHS
         → Agree (IsSymbol text) (found symbols.old x) o → Agree (IsSymbol text) (found symbols.new x)
         (or_found o (unless_found hidden.now x
         (symbol_among text (anchor_view base) (map variable_view variables.now) x)))) }

@@ -7,7 +7,8 @@ ghost use Rattle.layout.specs.Sizes.{cut};
 ghost use Rattle.slot_trees.specs.Tables.{Table};
 ghost use Rattle.slot_bodies.specs.ExpressionViews.{anchor_view};
 ghost use Rattle.st_link.specs.BodyTables.{ServesBody};
-ghost use Rattle.text_links.specs.FirstSlots.{first_slot, slots_taken};
+ghost use Rattle.st_link.specs.Rooms.{first_slot};
+ghost use Rattle.text_links.specs.FirstSlots.{slots_taken};
 ghost use Rattle.text_links.specs.LinkVariables.{LinkVariable, are_whole, variable_view};
 ghost use Rattle.text_links.specs.Tables.{IsUnitTable, ServesLinks};
 
@@ -42,7 +43,7 @@ pub fn unit_table<'t, 'a>(
         → unit.slots ≡ cut (slots_taken text (map variable_view variables.now))) }
     ensures serves { IfOk result (λ unit. (text : Declared) (globals : List LinkVariable) (t : Table)
         → ServesLinks tables.now text globals → are_whole text (map variable_view variables.now) ≡ true
-        → slots_taken text (map variable_view variables.now) ≤ MAX_PATHS
+        → first_slot (anchor_view base) + slots_taken text (map variable_view variables.now) ≤ MAX_PATHS
         → IsUnitTable text globals (map (λ y. y.now.name) externals.now) (anchor_view base)
         (map variable_view variables.now) (map variable_view instances.now) t → ServesBody unit.table text t) }
 {

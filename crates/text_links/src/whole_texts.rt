@@ -1,6 +1,6 @@
 //! A whole text linked.
 
-ghost use Rattle.std.specs.Prelude.{◌≡◌, ◌≢◌, ◌≤◌, None, Some, length, map, option_map, IfErr, IfOk};
+ghost use Rattle.std.specs.Prelude.{◌≡◌, ◌≤◌, None, Some, length, map, option_map, IfErr, IfOk};
 ghost use Rattle.st_words.specs.declared.limits.TheConstants.{MAX_PATHS};
 ghost use Rattle.st_trees.specs.Sources as trees;
 ghost use Rattle.st_trees.specs.ConfigurationViews.{configuration_view};
@@ -73,13 +73,12 @@ fn link_source(alloc: Global, source: &Source) -> Result<LinkedText, LinkError>
 ///
 /// What is linked are the functions and the blocks of the text in its order, and the programs of the configuration's
 /// instances in its order. A function or a block is left out, and None stands for it, exactly where its own variables
-/// are more than any layout has room for. Where the text's layout has room, each name is there. When TooLarge comes,
-/// of a body that leads into more than 4,096 slots or elements, is not said.
+/// are more than any layout has room for. Where the text's layout has room, the one error is that memory runs out.
 pub fn link(alloc: Global, source: &Source) -> Result<LinkedText, LinkError>
     ensures ok { IfOk result (λ linked. (text : trees.Source) → source_view source.now ≡ resolved_source text
         → IsAccepted text → length (slots_of_text text) ≤ MAX_PATHS → IsLinked text (linked_text_view linked)) }
-    ensures there { IfErr result (λ e. (text : trees.Source) → source_view source.now ≡ resolved_source text
-        → IsAccepted text → length (slots_of_text text) ≤ MAX_PATHS → e ≢ LinkError.NotThere) }
+    ensures memory { IfErr result (λ e. (text : trees.Source) → source_view source.now ≡ resolved_source text
+        → IsAccepted text → length (slots_of_text text) ≤ MAX_PATHS → e ≡ LinkError.OutOfMemory) }
 {
     leaves_of_shapes();
     texts_that_break_no_rule_are_linked();

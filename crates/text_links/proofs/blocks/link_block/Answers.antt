@@ -1,4 +1,4 @@
-use Rattle.std.proofs.Common.{rules, ◌≡◌, ◌≤◌, ap, sym, subst, ◌∙◌, map}
+use Rattle.std.proofs.Common.{rules, ◌≡◌, ◌≤◌, ◌+◌, ap, sym, subst, ◌∙◌, map}
 use Rattle.st_words.specs.declared.limits.TheConstants.{MAX_PATHS}
 use Rattle.st_trees.specs.DeclarationViews.{variable_block_view}
 use Rattle.st_trees.specs.Statements.{stmts_of}
@@ -17,6 +17,7 @@ use Rattle.st_link.proofs.ErrorLemmas.{none_then}
 use Rattle.text_links.specs.FirstSlots.{slots_taken}
 use Rattle.text_links.specs.KeptTexts.{block_fits}
 use Rattle.text_links.specs.LinkVariables.{are_whole, variable_view, variables_of_blocks}
+use Rattle.text_links.proofs.SymbolLemmas.{from_first}
 use Rattle.text_links.proofs.UnitLinks.{block_large, block_small, block_table, cut_large, cut_small}
 use Rattle.text_links.proofs.UnitLinks.{kept_nowhere, kept_out, kept_there, table_seen}
 use Rattle.text_links.proofs.blocks.link_block.Goals as goal
@@ -56,7 +57,8 @@ returns-in_err-link_statements-clause-none c =
     c.if-made-gt-MAX_PATHS.false in
     let t = table_of (numbers_of text) (symbols_of_block text layout u) (body_of_unit text u).instances in
     let body = c.in_ok-made.ensures.serves text globals t serves (ap (are_whole text) seen ∙ whole)
-    (subst (λ vs. slots_taken text vs ≤ MAX_PATHS) (sym seen) small)
+    (subst (λ vs. 0 + slots_taken text vs ≤ MAX_PATHS) (sym seen)
+    (from_first (slots_taken text (variables_of_blocks u.blocks)) small))
     (table_seen text globals (own 0) t (map (λ y. y.now.name) c.deref-3.result.now) (externals_in u.blocks)
     (map variable_view c.deref-4.result.now) (variables_of_blocks u.blocks)
     (map variable_view c.deref-5.result.now) (variables_of_blocks u.blocks) exts seen own_seen
@@ -85,7 +87,8 @@ returns-clause-linked c text globals layout serves are whole =
     c.if-made-gt-MAX_PATHS.false in
     let t = table_of (numbers_of text) (symbols_of_block text layout u) (body_of_unit text u).instances in
     let body = c.in_ok-made.ensures.serves text globals t serves (ap (are_whole text) seen ∙ whole)
-    (subst (λ vs. slots_taken text vs ≤ MAX_PATHS) (sym seen) small)
+    (subst (λ vs. 0 + slots_taken text vs ≤ MAX_PATHS) (sym seen)
+    (from_first (slots_taken text (variables_of_blocks u.blocks)) small))
     (table_seen text globals (own 0) t (map (λ y. y.now.name) c.deref-3.result.now) (externals_in u.blocks)
     (map variable_view c.deref-4.result.now) (variables_of_blocks u.blocks)
     (map variable_view c.deref-5.result.now) (variables_of_blocks u.blocks) exts seen own_seen

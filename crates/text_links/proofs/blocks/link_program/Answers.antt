@@ -1,4 +1,4 @@
-use Rattle.std.proofs.Common.{rules, ◌≡◌, ◌≤◌, ap, sym, subst, ◌∙◌, map}
+use Rattle.std.proofs.Common.{rules, ◌≡◌, ◌≤◌, ◌+◌, ap, sym, subst, ◌∙◌, map}
 use Rattle.st_words.specs.declared.limits.TheConstants.{MAX_PATHS}
 use Rattle.st_trees.specs.DeclarationViews.{variable_block_view}
 use Rattle.st_trees.specs.Statements.{stmts_of}
@@ -15,7 +15,7 @@ use Rattle.slot_trees.specs.TextNumbers.{numbers_of}
 use Rattle.st_link.proofs.ErrorLemmas.{none_then}
 use Rattle.text_links.specs.FirstSlots.{slots_taken}
 use Rattle.text_links.specs.LinkVariables.{are_whole, variable_view, variables_of_blocks}
-use Rattle.text_links.proofs.UnitLinks.{program_table, second_small, table_seen}
+use Rattle.text_links.proofs.UnitLinks.{program_table, table_seen}
 use Rattle.text_links.proofs.blocks.link_program.Goals as goal
 
 pub returns-in_err-body-clause-none : goal.returns-in_err-body-clause-none
@@ -32,11 +32,9 @@ returns-in_err-body-clause-none c =
     ∙ ap (λ bs. externals_in (map variable_block_view bs)) c.deref-2.ensures.value in
     none_then _ c.in_err-body.field-0.0 _ _ c.in_err-body.ensures.none
     (λ h text globals layout owner serves are whole room begin.
-    let small : slots_taken text (variables_of_blocks u.blocks) ≤ MAX_PATHS =
-    second_small c.args.first (slots_taken text (variables_of_blocks u.blocks)) room in
     let t = table_of (numbers_of text) (symbols_of_program text layout owner u) (body_of_unit text u).instances in
     let body = c.in_ok-made.ensures.serves text globals t serves (ap (are_whole text) seen ∙ whole)
-    (subst (λ vs. slots_taken text vs ≤ MAX_PATHS) (sym seen) small)
+    (subst (λ vs. c.args.first + slots_taken text vs ≤ MAX_PATHS) (sym seen) room)
     (table_seen text globals (absolute c.args.first) t (map (λ y. y.now.name) c.deref-3.result.now)
     (externals_in u.blocks)
     (map variable_view c.deref-4.result.now) (variables_of_blocks u.blocks)
@@ -68,11 +66,9 @@ returns-clause-linked c text globals layout owner serves are whole room begin =
     let exts : map (λ y. y.now.name) c.deref-3.result.now ≡ externals_in u.blocks =
     ap (map (λ y. y.now.name)) c.deref-3.ensures.value ∙ c.in_ok-externals.ensures
     ∙ ap (λ bs. externals_in (map variable_block_view bs)) c.deref-2.ensures.value in
-    let small : slots_taken text (variables_of_blocks u.blocks) ≤ MAX_PATHS =
-    second_small c.args.first (slots_taken text (variables_of_blocks u.blocks)) room in
     let t = table_of (numbers_of text) (symbols_of_program text layout owner u) (body_of_unit text u).instances in
     let body = c.in_ok-made.ensures.serves text globals t serves (ap (are_whole text) seen ∙ whole)
-    (subst (λ vs. slots_taken text vs ≤ MAX_PATHS) (sym seen) small)
+    (subst (λ vs. c.args.first + slots_taken text vs ≤ MAX_PATHS) (sym seen) room)
     (table_seen text globals (absolute c.args.first) t (map (λ y. y.now.name) c.deref-3.result.now)
     (externals_in u.blocks)
     (map variable_view c.deref-4.result.now) (variables_of_blocks u.blocks)

@@ -1,4 +1,4 @@
-use Rattle.std.proofs.Common.{rules, ◌≡◌, ◌≤◌, refl, ap, sym, subst, ◌∙◌, [], ◌∷◌, map, Some}
+use Rattle.std.proofs.Common.{rules, ◌≡◌, ◌≤◌, ◌+◌, refl, ap, sym, subst, ◌∙◌, [], ◌∷◌, map, Some}
 use Rattle.st_words.specs.declared.limits.TheConstants.{MAX_PATHS}
 use Rattle.st_trees.specs.DeclarationViews.{variable_block_view}
 use Rattle.st_trees.specs.Statements.{stmts_of}
@@ -17,6 +17,7 @@ use Rattle.text_links.specs.LinkVariables.{are_whole, result_of, variable_view, 
 use Rattle.text_links.specs.Tables.{has_some, instances_in}
 use Rattle.text_links.proofs.FunctionLinks.{body_with, body_without, first_missing, second_missing, third_missing}
 use Rattle.text_links.proofs.FunctionLinks.{three_there}
+use Rattle.text_links.proofs.SymbolLemmas.{from_first}
 use Rattle.text_links.proofs.UnitLinks.{function_table, table_seen, unit_instances}
 use Rattle.text_links.proofs.functions.link_with.Goals as goal
 
@@ -56,7 +57,7 @@ returns-in_err-link_slots-clause-none c =
     ∙ ap (λ bs. result_of u.name.name r ∷ variables_of_blocks (map variable_block_view bs)) c.deref-3.ensures.value in
     let t = table_of (numbers_of text) s [] in
     let body = c.in_ok-made.ensures.serves text globals t serves (ap (are_whole text) seen ∙ whole)
-    (subst (λ ws. slots_taken text ws ≤ MAX_PATHS) (sym seen) room)
+    (subst (λ ws. 0 + slots_taken text ws ≤ MAX_PATHS) (sym seen) (from_first (slots_taken text vs) room))
     (table_seen text globals (own 0) t [] [] (map variable_view c.deref-4.result.now) vs [] [] refl seen refl
     (function_table text globals r u)) in
     let names : map (λ x. x.now.name) c.deref-6.result.now ≡ input_names u.blocks =
@@ -83,7 +84,7 @@ returns-in_err-link_slot-clause-none c =
     ∙ ap (λ bs. result_of u.name.name r ∷ variables_of_blocks (map variable_block_view bs)) c.deref-3.ensures.value in
     let t = table_of (numbers_of text) s [] in
     let body = c.in_ok-made.ensures.serves text globals t serves (ap (are_whole text) seen ∙ whole)
-    (subst (λ ws. slots_taken text ws ≤ MAX_PATHS) (sym seen) room)
+    (subst (λ ws. 0 + slots_taken text ws ≤ MAX_PATHS) (sym seen) (from_first (slots_taken text vs) room))
     (table_seen text globals (own 0) t [] [] (map variable_view c.deref-4.result.now) vs [] [] refl seen refl
     (function_table text globals r u)) in
     second_missing (function_with text r u) o p b (h text t body)) (search rules)
@@ -110,7 +111,7 @@ returns-in_err-link_statements-clause-none c =
     ∙ ap (λ bs. result_of u.name.name r ∷ variables_of_blocks (map variable_block_view bs)) c.deref-3.ensures.value in
     let t = table_of (numbers_of text) s [] in
     let body = c.in_ok-made.ensures.serves text globals t serves (ap (are_whole text) seen ∙ whole)
-    (subst (λ ws. slots_taken text ws ≤ MAX_PATHS) (sym seen) room)
+    (subst (λ ws. 0 + slots_taken text ws ≤ MAX_PATHS) (sym seen) (from_first (slots_taken text vs) room))
     (table_seen text globals (own 0) t [] [] (map variable_view c.deref-4.result.now) vs [] [] refl seen refl
     (function_table text globals r u)) in
     third_missing (function_with text r u) o p b
@@ -138,7 +139,7 @@ returns-clause-linked c text globals serves whole room fresh =
     ∙ ap (λ bs. result_of u.name.name r ∷ variables_of_blocks (map variable_block_view bs)) c.deref-3.ensures.value in
     let t = table_of (numbers_of text) s [] in
     let body = c.in_ok-made.ensures.serves text globals t serves (ap (are_whole text) seen ∙ whole)
-    (subst (λ ws. slots_taken text ws ≤ MAX_PATHS) (sym seen) room)
+    (subst (λ ws. 0 + slots_taken text ws ≤ MAX_PATHS) (sym seen) (from_first (slots_taken text vs) room))
     (table_seen text globals (own 0) t [] [] (map variable_view c.deref-4.result.now) vs [] [] refl seen refl
     (function_table text globals r u)) in
     let names : map (λ x. x.now.name) c.deref-6.result.now ≡ input_names u.blocks =

@@ -37,8 +37,9 @@ loop-variable-preserved c =
       added = λ text x o serves whole room a.
           symbols_more text c.args.hidden.now (anchor_view c.args.base) x o xs i c.loop-variable.offset v s
           (found c.loop-variable.symbols x) (found c.add_variable.new.symbols x) more (c.in_ok-add_variable.ensures x)
-          c.moved.ensures (offset_is text xs i c.loop-variable.offset (inv.slots text serves whole) room) refl refl
-          (whole_one text xs i v below more whole) (inv.added text x o serves whole room a);
+          c.moved.ensures
+          (offset_is text (anchor_view c.args.base) xs i c.loop-variable.offset (inv.slots text serves whole) room) refl
+          refl (whole_one text xs i v below more whole) room (inv.added text x o serves whole room a);
     }
 
 pub returns-clause-slots : goal.returns-clause-slots

@@ -8,6 +8,7 @@ use Rattle.slot_trees.specs.Tables.{Symbol}
 use Rattle.slot_bodies.specs.ExpressionViews.{anchor_view}
 use Rattle.shape_tables.specs.Shapes.{ServesShapes}
 use Rattle.st_link.specs.BodyTables.{IsSymbol}
+use Rattle.st_link.specs.Rooms.{first_slot}
 use Rattle.text_links.specs.FirstSlots.{slots_taken, symbol_among, unless_found}
 use Rattle.text_links.specs.LinkVariables.{are_whole, variable_view}
 use Rattle.text_links.proofs.symbols.add_variables.Given as goal
@@ -19,7 +20,7 @@ invariant-loop-variable l = record {
       → l.offset ≡ cut (slots_taken text (map variable_view (take l.variable-index l.variables)));
   added : (text : Declared) (x : List ℕ) (o : Option Symbol) → ServesShapes l.shapes text
       → are_whole text (map variable_view l.variables) ≡ true
-      → slots_taken text (map variable_view l.variables) ≤ MAX_PATHS
+      → first_slot (anchor_view l.base) + slots_taken text (map variable_view l.variables) ≤ MAX_PATHS
       → Agree (IsSymbol text) (found l.fn.symbols x) o → Agree (IsSymbol text) (found l.symbols x)
       (or_found o (unless_found l.hidden x
       (symbol_among text (anchor_view l.base) (map variable_view (take l.variable-index l.variables)) x)));

@@ -1,4 +1,4 @@
-use Rattle.std.proofs.Common.{◌≡◌, ◌≤◌, ap, sym, subst, ◌∙◌, length, None, Some}
+use Rattle.std.proofs.Common.{◌≡◌, ◌≤◌, refl, ap, sym, subst, ◌∙◌, length, None, Some}
 use Rattle.std.proofs.lemmas.Result.{IfErr-weaker, IfOk-weaker}
 use Rattle.st_words.specs.declared.limits.TheConstants.{MAX_PATHS}
 use Rattle.st_trees.specs.Sources.{Source}
@@ -7,7 +7,8 @@ use Rattle.st_types.specs.ResolvedUnits.{resolved_source}
 use Rattle.st_layouts.specs.LayoutVariables.{configuration_of, declared_of, layout_variables}
 use Rattle.st_layouts.specs.TextLayouts.{slots_of_text}
 use Rattle.st_layouts.proofs.ListLemmas.{some_is}
-use Rattle.st_link.specs.declared.link_error.LinkError.TheVariants.{NotThere}
+use Rattle.st_link.specs.declared.link_error.LinkError.{LinkError}
+use Rattle.st_link.specs.declared.link_error.LinkError.TheVariants.{NotThere, OutOfMemory}
 use Rattle.text_links.specs.Accepted.{IsAccepted, IsLinked}
 use Rattle.text_links.specs.KeptTexts.{IsKeptLink}
 use Rattle.text_links.specs.Linked.{linked_text_view}
@@ -38,12 +39,16 @@ returns-clause-ok c =
     })
     c.link_source.ensures.linked
 
-pub returns-clause-there : goal.returns-clause-there
-returns-clause-there c =
+by_error : (e : LinkError) → (e ≡ NotThere → ⊥) → e ≡ OutOfMemory
+by_error NotThere h = absurd (h refl)
+by_error OutOfMemory h = refl
+
+pub returns-clause-memory : goal.returns-clause-memory
+returns-clause-memory c =
     IfErr-weaker c.link_source.result _ (λ e. (text : Source)
     → source_view c.args.source.now ≡ resolved_source text → IsAccepted text
-    → length (slots_of_text text) ≤ MAX_PATHS → e ≡ NotThere → ⊥)
-    (λ e none text seen a room not_there.
+    → length (slots_of_text text) ≤ MAX_PATHS → e ≡ OutOfMemory)
+    (λ e none text seen a room. by_error e (λ not_there.
     let law = c.texts_that_break_no_rule_are_linked.ensures text a.configuration a.well_typed a.functions a.only
     a.known in
     let orderly = accepted_orderly text a.well_typed a.configuration a.only law.link.names law.link.units
@@ -53,5 +58,5 @@ returns-clause-there c =
     ap kept_of (sym seen) ∙ none not_there (subst IsOrderlySource (sym seen) orderly) in
     let there = has.is in
     let clash : Some has.kept ≡ None = sym there ∙ made in
-    cc)
+    cc))
     c.link_source.ensures.none

@@ -8,9 +8,9 @@ use Rattle.slot_trees.specs.SlotTrees.{absolute}
 use Rattle.slot_trees.specs.Tables.{named_in}
 use Rattle.slot_trees.specs.TextNumbers.{block_names, function_names, numbered_from}
 use Rattle.st_link.specs.BodyTables.{IsSymbol}
-use Rattle.text_links.specs.FirstSlots.{symbol_among}
+use Rattle.text_links.specs.FirstSlots.{slots_taken, symbol_among}
 use Rattle.text_links.specs.LinkVariables.{variable_view}
-use Rattle.text_links.proofs.SymbolLemmas.{all_shown}
+use Rattle.text_links.proofs.SymbolLemmas.{all_shown, from_first}
 use Rattle.text_links.proofs.text_tables.TextTables.new.Goals as goal
 
 pub returns-clause-serves : goal.returns-clause-serves
@@ -36,6 +36,7 @@ returns-clause-serves c whole room =
       globals = λ x.
           all_shown text c.new-hidden.result x (found c.add_variables.new.symbols x)
           (symbol_among text (absolute 0) gs x) (c.new-hidden.ensures x)
-          (c.in_ok-global_slots.ensures.added text x None c.in_ok-shapes.ensures whole room
+          (c.in_ok-global_slots.ensures.added text x None c.in_ok-shapes.ensures whole
+          (from_first (slots_taken text gs) room)
           (subst (λ f. Agree (IsSymbol text) f None) (sym (c.new-globals.ensures x)) tt));
     }
