@@ -1,3 +1,6 @@
 mod Literals
 mod Expressions
 mod Statements
+mod Calls
+mod Kept
+mod Shallow

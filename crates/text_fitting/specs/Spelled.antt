@@ -11,7 +11,8 @@ use Rattle.st_trees.specs.Expressions as named
 use Rattle.st_trees.specs.Expressions.{Expr, literal, read, parenthesis, Exprs, Variable, variable, member, subscript}
 use Rattle.st_trees.specs.Expressions.{Selectors, no_selectors, selector_then}
 use Rattle.st_trees.specs.Statements as text
-use Rattle.st_trees.specs.Statements.{Argument, Stmt, Stmts, Arms, CaseArms}
+use Rattle.st_trees.specs.Statements.{Argument, Stmt, Stmts, stmts_of, Arms, CaseArms}
+use Rattle.st_trees.specs.Units.{OrganisationUnit}
 use Rattle.st_types.specs.Enumerations.{Enumeration}
 use Rattle.st_types.specs.Scopes.{Name}
 use Rattle.st_statics.specs.declared.limits.TheConstants.{MAX_NAMES}
@@ -41,6 +42,10 @@ IsSpelledLabel (labels.Enumerated v) = Unit {0}
 abbrev pub AreSpelledLabels : List Label → Type 0
 AreSpelledLabels [] = Unit {0}
 AreSpelledLabels (l ∷ ls) = IsSpelledLabel l × AreSpelledLabels ls
+
+-- any function
+abbrev pub IsAny : Name → Type 0
+IsAny f = Unit {0}
 
 module _ (Called : Name → Type 0) where
   abbrev mutual
@@ -97,3 +102,8 @@ module _ (Called : Name → Type 0) where
     pub CaseArmsOf : CaseArms → Type 0
     CaseArmsOf text.no_case_arms = Unit {0}
     CaseArmsOf (text.case_arm_then labels body arms) = AreSpelledLabels labels × StmtsOf body × CaseArmsOf arms
+
+-- units whose literals are as the grammar gives them
+abbrev pub AreSpelled : List OrganisationUnit → Type 0
+AreSpelled [] = Unit {0}
+AreSpelled (u ∷ us) = StmtsOf IsAny (stmts_of u.body) × AreSpelled us
