@@ -4,3 +4,5 @@ mod Statements
 mod Calls
 mod Kept
 mod Shallow
+mod Signatures
+mod Units
