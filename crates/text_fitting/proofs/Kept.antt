@@ -87,7 +87,7 @@ module _ (text : Declared) (x : Name) (i : ℕ) where
   whole = taken_text text
 
   -- what is kept of a unit that is a function
-  abbrev function_by : UnitSort → OrganisationUnit → Option (Option SlotFunction)
+  abbrev pub function_by : UnitSort → OrganisationUnit → Option (Option SlotFunction)
   function_by (sorts.Function t) u = kept_function (taken_text text) t (resolved text u)
   function_by sorts.FunctionBlock u = None
   function_by sorts.Program u = None
@@ -124,7 +124,7 @@ module _ (text : Declared) (x : Name) (i : ℕ) where
 
   module _ (vs : List Owned) where
     -- of one that is a block
-    abbrev block_by : UnitSort → OrganisationUnit → Option (Option SlotStmts)
+    abbrev pub block_by : UnitSort → OrganisationUnit → Option (Option SlotStmts)
     block_by sorts.FunctionBlock u = kept_block (taken_text text) vs (resolved text u)
     block_by (sorts.Function t) u = None
     block_by sorts.Program u = None

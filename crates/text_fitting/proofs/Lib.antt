@@ -5,4 +5,5 @@ mod Calls
 mod Kept
 mod Shallow
 mod Signatures
+mod Instances
 mod Units

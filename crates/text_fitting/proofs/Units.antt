@@ -10,6 +10,7 @@ use Rattle.st_words.specs.declared.path.Owner.{Owner}
 use Rattle.st_trees.specs.declared.data_type.SimpleType.{SimpleType}
 use Rattle.st_trees.specs.declared.data_type.SimpleType.TheVariants.{Named}
 use Rattle.st_trees.specs.declared.data_type.VariableType.TheVariants as types
+use Rattle.st_trees.specs.declared.unit.UnitSort.{UnitSort}
 use Rattle.st_trees.specs.declared.unit.UnitSort.TheVariants as sorts
 use Rattle.st_trees.specs.Sources as sources
 use Rattle.st_trees.specs.Sources.{Source}
@@ -61,7 +62,7 @@ use Rattle.slot_trees.specs.TextLinks.{linked_function_body, linked_program, nam
 use Rattle.slot_trees.specs.TextLinks.{symbols_of_block, symbols_of_function, symbols_of_program}
 use Rattle.slot_trees.specs.TextNumbers.{block_names, function_names, members_of_block, numbered_from, numbers_of}
 use Rattle.slot_trees.specs.TextNumbers.{own_codes, own_members, standard_codes, standard_members}
-use Rattle.slot_trees.proofs.BlockLinks.{HasVariables, block_link, program_instances}
+use Rattle.slot_trees.proofs.BlockLinks.{HasVariables, program_instances}
 use Rattle.slot_trees.proofs.FunctionLinks.{function_link}
 use Rattle.slot_trees.proofs.FunctionLayouts.{fresh_layout}
 use Rattle.slot_trees.proofs.InstanceLemmas.{own_members_named}
@@ -87,7 +88,9 @@ use Rattle.text_fitting.specs.Bounded.{HasBoundedArrays}
 use Rattle.text_fitting.specs.Callable.{IsCallable, AreInvocable}
 use Rattle.text_fitting.specs.Spelled.{AreSpelled, HaveFewNames, IsAny, StmtsOf}
 use Rattle.text_fitting.proofs.Calls.{stmts_of as calls_are}
-use Rattle.text_fitting.proofs.Kept.{block_at, block_of as kept_block_of, function_at, function_of}
+use Rattle.text_fitting.proofs.Instances.{block_instances}
+use Rattle.text_fitting.proofs.Kept.{block_at, block_by, block_of as kept_block_of, function_at, function_by}
+use Rattle.text_fitting.proofs.Kept.{function_of}
 use Rattle.text_fitting.proofs.Shallow.{IsShallow, program_shallow, unit_shallow}
 use Rattle.text_fitting.proofs.Signatures.{fresh_long, inputs_below, inputs_counted, layout_long, slot_below}
 use Rattle.text_fitting.proofs.Statements.{stmts_sound}
@@ -137,7 +140,6 @@ pub record UnitsCompiled (source : Source) (kept : KeptLibrary) (size n : ℕ) :
 module _ (source : Source) (h : IsWellTyped source) (vs : List Owned) (kept : KeptLibrary) (size : ℕ)
     (few : HaveFewNames (enumerations_of (declared_in source).types)) (spelled : AreSpelled (units_in source))
     (bounded : HasBoundedArrays (taken_text (declared_in source)) vs)
-    (once : are_declared_once (taken_text (declared_in source)) vs ≡ true)
     (functions_are : kept_functions (taken_text (declared_in source))
     (map (resolved (declared_in source)) (units_in source)) ≡ Some kept.functions)
     (blocks_are : kept_blocks (taken_text (declared_in source)) vs
@@ -312,3 +314,149 @@ module _ (source : Source) (h : IsWellTyped source) (vs : List Owned) (kept : Ke
     function_if (Some g) start is =
         let k = kept_some (function_fits whole r taken) (linked_function whole r taken) g is in
         function_compiled g start k.0 k.1
+
+  -- a block
+  module _ (m : ℕ) (units : UnitsCompiled source kept size m) (u : OrganisationUnit)
+      (among : Among u (units_in source)) (shallow : IsShallow source u m)
+      (sort : u.sort ≡ sorts.FunctionBlock) where
+    abbrev taken_block : OrganisationUnit
+    taken_block = resolved (declared_in source) u
+
+    block_compiled : (x : SlotStmts) (s : Site) → s.size ≡ size
+        → s.base + sizes (members_of_block whole taken_block) ≤ s.size → linked_block whole vs taken_block ≡ Some x
+        → StmtsLinked (CallLinkedWithin kept m) s x
+    block_compiled x s same instance linked =
+        let differ = ap (λ t. are_different (variable_names t taken_block)) (sym sort) ∙ variables_differ u among in
+        let each = block_instances whole taken_block differ (unit_in_order source h u among) vs in
+        let within : SymbolsWithin s (symbols_of_block whole vs taken_block) =
+        block_within whole vs (members_of_block whole taken_block) (externals_in taken_block.blocks) s
+        (subst (λ k. length (slots_of whole vs) ≤ k) (sym same) room) bounded.layout instance
+        (bounded.blocks taken_block (as_among (in_map (resolved text) among)) sort) (names_in taken_block.blocks) in
+        body_compiled m units u among shallow s (symbols_of_block whole vs taken_block)
+        (instances_among whole (sites_of_blocks taken_block.blocks)) x within
+        (subst (λ k. k < 65536) (sym same) small)
+        (invocable m units u among shallow s (symbols_of_block whole vs taken_block) each within same) linked
+
+    block_if : (o : Option SlotStmts) (s : Site) → s.size ≡ size
+        → s.base + sizes (members_of_block whole taken_block) ≤ s.size → kept_block whole vs taken_block ≡ Some o
+        → IfBodyLinked (CallLinkedWithin kept m) (Some o) s
+    block_if None s same instance is = tt
+    block_if (Some x) s same instance is =
+        let k = kept_some (block_fits whole taken_block) (linked_block whole vs taken_block) x is in
+        block_compiled x s same instance k.1
+
+  -- by their depth
+  function_kept : (f : Name) (i : ℕ) (u : OrganisationUnit) (r : SimpleType) → u.sort ≡ sorts.Function r
+      → kept_function whole r (resolved text u) ≡ function_of text f i u
+  function_kept f i u r sort = ap (λ (s : UnitSort). function_by text f i s u) (sym sort)
+
+  next_function : (m : ℕ) → UnitsCompiled source kept size m → (f : Name) (u : OrganisationUnit) (r : SimpleType)
+      (i start : ℕ) → unit_named text.units f ≡ Some u → u.sort ≡ sorts.Function r
+      → has_chain text (suc (suc m)) (named f) ≡ false → named_in (numbers_of whole).functions f ≡ Some i
+      → CallLinkedWithin kept (suc m) (of_function i start (length (input_kinds text u.blocks)))
+  unfolding CallLinkedWithin
+  next_function m units f u r i start is sort none numbered =
+      let k = function_at text f i (units_in source) 0 kept.functions functions_are numbered in
+      let same = same_unit f u k.unit is k.among k.named in
+      let among = subst (λ (v : OrganisationUnit). Among v (units_in source)) same k.among in
+      let kept_is : kept_function whole r (resolved text u) ≡ Some k.value =
+      function_kept f i u r sort ∙ ap (function_of text f i) (sym same) ∙ k.is in
+      let there : slice_get kept.functions i ≡ Some k.value =
+      ap (slice_get kept.functions) (sym (no_base i k.position k.number)) ∙ k.there in
+      subst (λ (o : Option (Option SlotFunction)). IfFunctionLinked (CallLinkedWithin kept m) o start
+      (length (input_kinds text u.blocks))) (sym there)
+      (function_if m units u among (unit_shallow source h f u is m none) r sort k.value start kept_is)
+
+  block_kept : (f : Name) (i : ℕ) (u : OrganisationUnit) → u.sort ≡ sorts.FunctionBlock
+      → kept_block whole vs (resolved text u) ≡ kept_block_of text f i vs u
+  block_kept f i u sort = ap (λ (s : UnitSort). block_by text f i vs s u) (sym sort)
+
+  standard_compiled : (m : ℕ) (b : Name) (k : StandardBlock) (code : BlockCode) (ps : Parts) (s : Site)
+      → block_of b ≡ Some k → named_in (numbers_of whole).blocks b ≡ Some code
+      → named_in (numbers_of whole).members b ≡ Some ps → s.base + sizes ps ≤ s.size
+      → InstanceLinked (CallLinkedWithin kept m) kept code s
+  standard_compiled m b k code ps s is coded members instance =
+      let code_is : standard_block k ≡ code =
+      some_is (sym (named_first standard_codes (own_codes 0 (block_names whole.units)) b (standard_block k)
+      (standard_code b ∙ ap (option_map standard_block) is)) ∙ coded) in
+      let members_are : parts_of_members (members_of k) ≡ ps =
+      some_is (sym (named_first standard_members (own_members whole whole.units) b (parts_of_members (members_of k))
+      (standard_member b ∙ ap (option_map (λ i. parts_of_members (members_of i))) is)) ∙ members) in
+      subst (λ (c : BlockCode). InstanceLinked (CallLinkedWithin kept m) kept c s) code_is
+      (subst (λ n. s.base + n ≤ s.size) (ap sizes (sym members_are) ∙ members_long (members_of k)) instance)
+
+  own_compiled : (m : ℕ) → UnitsCompiled source kept size m → (b : Name) (u : OrganisationUnit) (code : BlockCode)
+      (ps : Parts) (s : Site) → block_of b ≡ None → unit_named text.units b ≡ Some u → u.sort ≡ sorts.FunctionBlock
+      → has_chain text (suc (suc m)) (named b) ≡ false → named_in (numbers_of whole).blocks b ≡ Some code
+      → named_in (numbers_of whole).members b ≡ Some ps → s.size ≡ size → s.base + sizes ps ≤ s.size
+      → InstanceLinked (CallLinkedWithin kept m) kept code s
+  own_compiled m units b u code ps s own is sort none coded members same_size instance =
+      let names = block_names whole.units in
+      let behind = named_behind standard_codes (own_codes 0 names) b
+      (standard_code b ∙ ap (option_map standard_block) own) in
+      let numbered : option_map numbered_block (named_in (numbered_from 0 names) b) ≡ Some code =
+      sym (named_mapped numbered_block (numbered_from 0 names) b) ∙ sym behind ∙ coded in
+      let n = map_some numbered_block (named_in (numbered_from 0 names) b) code numbered in
+      let found : unit_named whole.units b ≡ Some (resolved text u) =
+      same_unit_named text text.units b ∙ ap (option_map (resolved text)) is in
+      let members_are : members_of_block whole (resolved text u) ≡ ps =
+      some_is (sym (named_behind standard_members (own_members whole whole.units) b
+      (standard_member b ∙ ap (option_map (λ i. parts_of_members (members_of i))) own)
+      ∙ own_members_named whole b (resolved text u) sort whole.units found) ∙ members) in
+      let k = block_at text b n.0 vs (units_in source) 0 kept.blocks blocks_are n.1 in
+      let same = same_unit b u k.unit is k.among k.named in
+      let among = subst (λ (v : OrganisationUnit). Among v (units_in source)) same k.among in
+      let kept_is : kept_block whole vs (resolved text u) ≡ Some k.value =
+      block_kept b n.0 u sort ∙ ap (kept_block_of text b n.0 vs) (sym same) ∙ k.is in
+      let there : slice_get kept.blocks n.0 ≡ Some k.value =
+      ap (slice_get kept.blocks) (sym (no_base n.0 k.position k.number)) ∙ k.there in
+      subst (λ (c : BlockCode). InstanceLinked (CallLinkedWithin kept m) kept c s) n.2
+      (subst (λ (o : Option (Option SlotStmts)). IfBodyLinked (CallLinkedWithin kept m) o s) (sym there)
+      (block_if m units u among (unit_shallow source h b u is m none) sort k.value s same_size
+      (subst (λ qs. s.base + sizes qs ≤ s.size) (sym members_are) instance) kept_is))
+
+  next_block : (m : ℕ) → UnitsCompiled source kept size m → (b : Identifier) (code : BlockCode) (ps : Parts) (s : Site)
+      → is_block text b.name ≡ true → has_chain text (suc (suc m)) (named b.name) ≡ false
+      → named_in (numbers_of whole).blocks b.name ≡ Some code → named_in (numbers_of whole).members b.name ≡ Some ps
+      → s.size ≡ size → s.base + sizes ps ≤ s.size → CallLinkedWithin kept (suc m) (of_block code s)
+  unfolding CallLinkedWithin
+  next_block m units b code ps s block none coded members same instance = by_block (block_of b.name) refl
+    where
+      by_block : (o : Option StandardBlock) → block_of b.name ≡ o
+          → InstanceLinked (CallLinkedWithin kept m) kept code s
+      by_block (Some k) e = standard_compiled m b.name k code ps s e coded members instance
+      by_block None e =
+          let d = own_block text b.name e block in
+          own_compiled m units b.name d.unit code ps s e d.declared d.sort none coded members same instance
+
+  -- a chain of one part begins everywhere
+  one_part : (x : Name) → has_chain text 1 (named x) ≡ false → ⊥
+  unfolding has_chain
+  one_part x none = cc
+
+  pub units_compiled : (n : ℕ) → UnitsCompiled source kept size n
+  units_compiled zero = record {
+    functions = λ f u r i start is sort none numbered. absurd (one_part f none);
+    blocks = λ b code ps s block none coded members same instance. absurd (one_part b.name none);
+  }
+  units_compiled (suc m) =
+      let units = units_compiled m in
+      record { functions = next_function m units; blocks = next_block m units }
+
+  -- programs
+  pub program_compiled : (u : OrganisationUnit) → Among u (units_in source) → u.sort ≡ sorts.Program
+      → (owner : Owner) → HasVariables (taken_text (declared_in source)) (resolved (declared_in source) u) vs owner
+      → (x : SlotStmts)
+      → linked_program (taken_text (declared_in source)) vs owner (resolved (declared_in source) u) ≡ Some x
+      → ProgramLinked kept 0 size x 64
+  program_compiled u among sort owner has x linked =
+      let taken = resolved text u in
+      let s = program_site 0 size in
+      let symbols = symbols_of_program whole vs owner taken in
+      let differ = ap (λ t. are_different (variable_names t taken)) (sym sort) ∙ variables_differ u among in
+      let each = program_instances whole taken differ (unit_in_order source h u among) vs owner has in
+      let within : SymbolsWithin s symbols =
+      program_within whole vs s room bounded.layout (program_of_unit whole owner taken) (names_in taken.blocks) in
+      body_compiled 64 (units_compiled 64) u among (program_shallow source h u) s symbols
+      (instances_among whole (sites_of_blocks taken.blocks)) x within small
+      (invocable 64 (units_compiled 64) u among (program_shallow source h u) s symbols each within refl) linked
