@@ -7,3 +7,4 @@ mod Shallow
 mod Signatures
 mod Instances
 mod Units
+mod BoundedShapes

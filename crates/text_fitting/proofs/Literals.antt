@@ -50,7 +50,7 @@ value_there : (k : Kind) (z : ℤ) → holds k z ≡ true → IsValue (failing (
 value_there k z h = subst (λ b. IsValue (failing (if b then Ok (record { kind = k; number = z }) else Err Range)))
     (sym h) tt
 
-held_there : (b : Bool) (at : ℕ) → breaking OutOfRange (unless b at) ≡ [] → b ≡ true
+pub held_there : (b : Bool) (at : ℕ) → breaking OutOfRange (unless b at) ≡ [] → b ≡ true
 held_there true at h = refl
 held_there false at h = absurd (cc)
 
@@ -266,7 +266,7 @@ number_between z h g = by_test (holds Lint z) refl
         let more = above (least Lint) (greatest Lint) z h e in
         in_held Ulint z (record { lower = omega (arith, ints, zero, more); upper = g })
 
-kind_number : (k : Kind) (z : ℤ) → IsKeyword (Some k) → holds k z ≡ true → IsNumber z
+pub kind_number : (k : Kind) (z : ℤ) → IsKeyword (Some k) → holds k z ≡ true → IsNumber z
 kind_number k z keyword h =
     let f = keyword_fits k keyword in
     let i = held_in k z h in
@@ -276,7 +276,7 @@ kind_number k z keyword h =
     let d = i.upper in
     number_between z (omega (arith, ints, a, c)) (omega (arith, ints, b, d))
 
-kind_keyword : (k : Option Kind) (o : Option Kind) → IsKeyword o → IsKeyword (Some (kind_or_taken k o))
+pub kind_keyword : (k : Option Kind) (o : Option Kind) → IsKeyword o → IsKeyword (Some (kind_or_taken k o))
 kind_keyword k None h = taken_keyword k
 kind_keyword k (Some l) h = h
 

@@ -12,9 +12,13 @@ use Rattle.st_trees.specs.Expressions.{Expr, literal, read, parenthesis, Exprs, 
 use Rattle.st_trees.specs.Expressions.{Selectors, no_selectors, selector_then}
 use Rattle.st_trees.specs.Statements as text
 use Rattle.st_trees.specs.Statements.{Argument, Stmt, Stmts, stmts_of, Arms, CaseArms}
+use Rattle.st_trees.specs.declared.data_type.ArrayType.{ArrayType}
+use Rattle.st_trees.specs.Sources.{Source}
 use Rattle.st_trees.specs.Units.{OrganisationUnit}
+use Rattle.st_types.specs.NameTypes.{units_in}
 use Rattle.st_types.specs.Enumerations.{Enumeration}
 use Rattle.st_types.specs.Scopes.{Name}
+use Rattle.st_statics.specs.DeclaredTypes.{arrays_in}
 use Rattle.st_statics.specs.declared.limits.TheConstants.{MAX_NAMES}
 
 -- no enumerated type has more names than the language allows
@@ -107,3 +111,12 @@ module _ (Called : Name → Type 0) where
 abbrev pub AreSpelled : List OrganisationUnit → Type 0
 AreSpelled [] = Unit {0}
 AreSpelled (u ∷ us) = StmtsOf IsAny (stmts_of u.body) × AreSpelled us
+
+-- so are those of bounds
+abbrev pub AreSpelledArrays : List ArrayType → Type 0
+AreSpelledArrays [] = Unit {0}
+AreSpelledArrays (a ∷ rest) = IsKeyword a.lower.written × AreSpelledArrays rest
+
+pub record IsSpelled (source : Source) : Type 0 where
+  pub units : AreSpelled (units_in source)
+  pub arrays : AreSpelledArrays (arrays_in source)
