@@ -1,8 +1,8 @@
 -- In a text that breaks no rule each array has elements, and a lower bound that instructions hold; and no enumerated type
 -- has too many names.
-use Rattle.std.proofs.Common.{◌≡◌, refl, sym, ap, ap₂, subst, ◌∙◌, ℕ, zero, suc, ◌+◌, ◌<◌, ◌≤◌, arith, Bool, true, false}
-use Rattle.std.proofs.Common.{if◌then◌else◌, List, [], ◌∷◌, ◌++◌, length, map, Option, Some, None, option_map, slice_get}
-use Rattle.std.proofs.Common.{ℤ, ◌⊎◌, inl, inr}
+use Rattle.std.proofs.Common.{◌≡◌, refl, sym, ap, subst, ℕ, zero, suc, ◌+◌, ◌<◌, ◌≤◌, arith, Bool, true, false}
+use Rattle.std.proofs.Common.{if◌then◌else◌, List, [], ◌∷◌, ◌++◌, length, map, Option, Some, None, slice_get}
+use Rattle.std.proofs.Common.{ℤ}
 use Rattle.std.specs.Prelude.{int_lt, nat_lt, pos, negsuc, is_none, ◌+ℤ◌, ◌-ℤ◌}
 use Rattle.std.specs.List.{flat_map}
 use Rattle.std.proofs.lemmas.Bool.Decides.{nat_tests}
@@ -28,9 +28,8 @@ use Rattle.st_trees.specs.Sources as sources
 use Rattle.st_trees.specs.Sources.{Source}
 use Rattle.st_trees.specs.Units.{OrganisationUnit}
 use Rattle.st_types.specs.Bodies.{is_external}
-use Rattle.st_types.specs.Enumerations.{enumerated_names, enumerations_from, enumerations_of, kind_of_enumeration}
+use Rattle.st_types.specs.Enumerations.{enumerated_names, enumerations_from, enumerations_of}
 use Rattle.st_types.specs.NameTypes.{Declared, declared_in, kind_among, type_named, types_in, unit_named, units_in}
-use Rattle.st_types.specs.NameTypes.{definition_of}
 use Rattle.st_types.specs.Operators.{natural, number_of}
 use Rattle.st_types.specs.ResolvedUnits.{resolved, resolved_type}
 use Rattle.st_types.specs.Scopes.{Name}
@@ -44,7 +43,7 @@ use Rattle.st_statics.specs.DeclaredTypes.{declarings_of_definition, declarings_
 use Rattle.st_statics.specs.DeclaredTypes.{enumerations_of_element, names_of_definition}
 use Rattle.st_statics.specs.DeclaredTypes.{named_arrays_of_element, results_in, unnamed_arrays_in, variable_of}
 use Rattle.st_statics.specs.ExpressionRules.{kind_or_taken, wrong_number}
-use Rattle.st_statics.specs.Faults.{breaking, in_case, unless}
+use Rattle.st_statics.specs.Faults.{breaking, in_case}
 use Rattle.st_statics.specs.InitialRules.{too_long}
 use Rattle.st_statics.specs.Rules.{IsWellTyped, starts_in, wrong_bodies, wrong_declarations, wrong_starts, wrong_types}
 use Rattle.st_statics.specs.TwiceDeclared.{twice_declared}
@@ -56,8 +55,7 @@ use Rattle.st_layouts.specs.LayoutVariables.{owner_in, program_sites, retention_
 use Rattle.st_layouts.specs.LayoutVariables.{sites_of_program, variables_of_configuration, variables_of_declarations}
 use Rattle.st_layouts.specs.LayoutVariables.{variables_of_globals, variables_of_instances, variables_of_names}
 use Rattle.st_layouts.specs.LayoutVariables.{variables_of_resources}
-use Rattle.st_layouts.specs.Shapes.{Parts, Shape}
-use Rattle.st_layouts.specs.TextLayouts.{variable_shape}
+use Rattle.st_layouts.specs.Shapes.{Shape}
 use Rattle.st_layouts.specs.Types as made
 use Rattle.st_layouts.specs.Types.{BlockType, Composition, NamedSite, block_type_named, block_type_of, composed_shape}
 use Rattle.st_layouts.specs.Types.{composition_of, count_of, defined_composition, element_of, instance_of, instance_parts}
@@ -67,10 +65,10 @@ use Rattle.st_layouts.specs.Types.{sites_of_blocks, sites_of_declarations, with_
 use Rattle.st_layouts.proofs.ListLemmas.{neither, some_is}
 use Rattle.st_layouts.proofs.ResolvedLemmas.{IsTaken, key, same_shape, taken_text, taking_key}
 use Rattle.st_sound.proofs.Alikes.{front_empty, back_empty}
-use Rattle.st_sound.proofs.Among.{Among, here, later, in_either, in_flat, in_front, in_map, none_of}
+use Rattle.st_sound.proofs.Among.{Among, here, later, in_flat, in_front, in_map, none_of}
 use Rattle.st_sound.proofs.CallLaw.{places_none}
 use Rattle.st_sound.proofs.FoundNames.{type_found, type_in_source, unit_found, unit_in}
-use Rattle.st_sound.proofs.KnownTypes.{TypesRight, unnamed_among, variable_among}
+use Rattle.st_sound.proofs.KnownTypes.{unnamed_among, variable_among}
 use Rattle.st_sound.proofs.WellTypedTexts.{PartsRight, parts_right}
 use Rattle.st_linked.proofs.DeclaredSites.{declared_in_blocks}
 use Rattle.st_compile.specs.Linked.{IsNumber}

@@ -1,5 +1,5 @@
 -- The instances of a block have the members of their blocks.
-use Rattle.std.proofs.Common.{◌≡◌, true, false, not, List, Some, ap, ◌∙◌, subst}
+use Rattle.std.proofs.Common.{◌≡◌, true, false, not, List, Some, ◌∙◌, subst}
 use Rattle.st_trees.specs.Units.{OrganisationUnit}
 use Rattle.st_types.specs.Bodies.{externals_in}
 use Rattle.st_types.specs.NameTypes.{Declared}

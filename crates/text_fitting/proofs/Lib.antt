@@ -8,3 +8,4 @@ mod Signatures
 mod Instances
 mod Units
 mod BoundedShapes
+mod Whole

@@ -24,7 +24,7 @@ use Rattle.st_types.specs.StandardBlocks.{StandardBlock, block_of}
 use Rattle.st_statics.specs.declared.limits.TheConstants.{MAX_TYPE_DEPTH}
 use Rattle.st_statics.specs.Containment.{Part, elementary, named, part_of_type, calls_of, is_function, is_own_function}
 use Rattle.st_statics.specs.Containment.{is_function_sort, parts_of_block, part_of_result, parts_of_unit}
-use Rattle.st_statics.specs.Containment.{parts_of_definition, parts_of_standard, parts_named, parts_of, has_chain}
+use Rattle.st_statics.specs.Containment.{parts_of_definition, parts_of_standard, parts_named, has_chain}
 use Rattle.st_statics.specs.Containment.{is_too_deep, is_wrong_unit, too_deep_types, too_deep_units, too_deep_array}
 use Rattle.st_statics.specs.DeclaredTypes.{variable_of, unnamed_arrays_in}
 use Rattle.st_statics.specs.Environments.{section_in, is_block}

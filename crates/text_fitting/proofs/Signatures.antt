@@ -1,6 +1,6 @@
 -- The inputs and the result of a function stand among its values.
-use Rattle.std.proofs.Common.{◌≡◌, refl, sym, ap, ap₂, subst, ◌∙◌, ℕ, suc, ◌+◌, ◌<◌, ◌≤◌, arith, Bool, true, false, if◌then◌else◌}
-use Rattle.std.proofs.Common.{List, [], ◌∷◌, ◌++◌, length, map, Option, Some, None, length-append}
+use Rattle.std.proofs.Common.{◌≡◌, refl, sym, ap, ◌∙◌, ℕ, suc, ◌<◌, arith, Bool, true, false, if◌then◌else◌}
+use Rattle.std.proofs.Common.{List, [], ◌∷◌, ◌++◌, length, map, None, length-append}
 use Rattle.std.proofs.Math.ListN.{length-map}
 use Rattle.std.proofs.lemmas.Option.{slice_get_within}
 use Rattle.st_words.specs.declared.identifier.Identifier.{Identifier}
@@ -18,7 +18,7 @@ use Rattle.st_layouts.specs.Types.{NamedSite}
 use Rattle.st_layouts.proofs.LeafLemmas.{length_leaves}
 use Rattle.layout.specs.Layouts.{layout_size}
 use Rattle.slot_trees.specs.Seeing.{IsSlotOf}
-use Rattle.slot_trees.specs.LinkedTexts.{InputsStand, layout_of_fresh, values_of_fresh}
+use Rattle.slot_trees.specs.LinkedTexts.{InputsStand, values_of_fresh}
 use Rattle.slot_trees.proofs.FunctionLayouts.{fresh_layout}
 use Rattle.tree_code.specs.Fitting.{AllBelow}
 

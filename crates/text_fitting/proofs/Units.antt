@@ -1,8 +1,8 @@
 -- Units of an accepted text are compiled, by their depth.
-use Rattle.std.proofs.Common.{◌≡◌, refl, sym, ap, ap₂, subst, ◌∙◌, ℕ, zero, suc, ◌+◌, ◌<◌, ◌≤◌, arith, Bool, true, false}
-use Rattle.std.proofs.Common.{◌||◌, if◌then◌else◌, List, [], ◌∷◌, length, map, Option, Some, None, slice_get}
-use Rattle.std.specs.Prelude.{bytes_eq, not, nat_lt, option_map, option_and_then}
-use Rattle.std.specs.List.{list_all, flat_map}
+use Rattle.std.proofs.Common.{◌≡◌, refl, sym, ap, subst, ◌∙◌, ℕ, zero, suc, ◌+◌, ◌<◌, ◌≤◌, arith, Bool, true, false}
+use Rattle.std.proofs.Common.{if◌then◌else◌, List, [], ◌∷◌, length, map, Option, Some, None, slice_get}
+use Rattle.std.specs.Prelude.{bytes_eq, nat_lt, option_map, option_and_then}
+use Rattle.std.specs.List.{list_all}
 use Rattle.std.proofs.lemmas.Bool.Decides.{nat_tests}
 use Rattle.st_words.specs.declared.identifier.Identifier.{Identifier}
 use Rattle.st_words.specs.declared.limits.TheConstants.{MAX_PATHS}
@@ -12,7 +12,6 @@ use Rattle.st_trees.specs.declared.data_type.SimpleType.TheVariants.{Named}
 use Rattle.st_trees.specs.declared.data_type.VariableType.TheVariants as types
 use Rattle.st_trees.specs.declared.unit.UnitSort.{UnitSort}
 use Rattle.st_trees.specs.declared.unit.UnitSort.TheVariants as sorts
-use Rattle.st_trees.specs.Sources as sources
 use Rattle.st_trees.specs.Sources.{Source}
 use Rattle.st_trees.specs.Statements.{Stmts, stmts_of}
 use Rattle.st_trees.specs.Units.{OrganisationUnit}
@@ -28,7 +27,7 @@ use Rattle.st_statics.specs.BodyRules.{wrong_body}
 use Rattle.st_statics.specs.Rules.{environment, IsWellTyped}
 use Rattle.st_statics.specs.Statements.{outside}
 use Rattle.st_layouts.specs.LayoutVariables.{Owned, owned_variable}
-use Rattle.st_layouts.specs.Libraries.{instances_among, body_of_unit, fresh_values, function_of_unit, input_names}
+use Rattle.st_layouts.specs.Libraries.{instances_among, body_of_unit, fresh_values, input_names}
 use Rattle.st_layouts.specs.Libraries.{program_of_unit}
 use Rattle.st_layouts.specs.Names.{are_different, are_types_and_units_different, has_different_fields}
 use Rattle.st_layouts.specs.Names.{has_different_variables, variable_names}
@@ -39,11 +38,10 @@ use Rattle.st_layouts.specs.Types.{NamedSite, sites_of_blocks}
 use Rattle.st_layouts.proofs.ListLemmas.{both, map_some, neither, same_name, some_is, turned}
 use Rattle.st_layouts.proofs.NameLemmas.{variables_once}
 use Rattle.st_layouts.proofs.ResolvedLemmas.{taken_text, same_unit_named}
-use Rattle.st_sound.specs.UnitSoundness.{IsBodyOf}
 use Rattle.st_sound.proofs.Among.{Among, here, later, in_map, none_of}
 use Rattle.st_sound.proofs.BodyRunLaw.{own_block}
 use Rattle.st_sound.proofs.FoundFunctions.{own_function}
-use Rattle.st_sound.proofs.FoundNames.{unit_found, unit_in}
+use Rattle.st_sound.proofs.FoundNames.{unit_in}
 use Rattle.st_sound.proofs.WellTypedTexts.{PartsRight, parts_right, text_right}
 use Rattle.st_stores.proofs.LibraryBodies.{body_taken}
 use Rattle.st_stores.proofs.LibraryFunctions.{inputs_taken}
@@ -54,13 +52,12 @@ use Rattle.layout.specs.Layouts.{layout_size}
 use Rattle.slot_trees.specs.SlotEvaluation.{slot_at}
 use Rattle.slot_trees.specs.SlotTrees.{BlockCode, own_block as numbered_block, standard_block, SlotFunction, SlotStmts}
 use Rattle.slot_trees.specs.Tables.{Symbol, Table, symbol_of, named_in}
-use Rattle.slot_trees.specs.LinkedStatements.{Instance, code_of, instance_at, instance_of_symbol, linked_stmts}
-use Rattle.slot_trees.specs.LinkedTexts.{EachInstance, IsFunctionLink, layout_of_fresh, parts_of_members, table_of}
-use Rattle.slot_trees.specs.LinkedTexts.{values_of_fresh}
+use Rattle.slot_trees.specs.LinkedStatements.{Instance, instance_at, instance_of_symbol, linked_stmts}
+use Rattle.slot_trees.specs.LinkedTexts.{EachInstance, layout_of_fresh, parts_of_members, table_of}
 use Rattle.slot_trees.specs.TextLinks.{call_slot, call_slots, function_with, linked_block, linked_function}
 use Rattle.slot_trees.specs.TextLinks.{linked_function_body, linked_program, names_in, sites_of_call}
 use Rattle.slot_trees.specs.TextLinks.{symbols_of_block, symbols_of_function, symbols_of_program}
-use Rattle.slot_trees.specs.TextNumbers.{block_names, function_names, members_of_block, numbered_from, numbers_of}
+use Rattle.slot_trees.specs.TextNumbers.{block_names, members_of_block, numbered_from, numbers_of}
 use Rattle.slot_trees.specs.TextNumbers.{own_codes, own_members, standard_codes, standard_members}
 use Rattle.slot_trees.proofs.BlockLinks.{HasVariables, program_instances}
 use Rattle.slot_trees.proofs.FunctionLinks.{function_link}
@@ -69,7 +66,7 @@ use Rattle.slot_trees.proofs.InstanceLemmas.{own_members_named}
 use Rattle.slot_trees.proofs.NamedLemmas.{named_behind, named_first, named_mapped, standard_code, standard_member}
 use Rattle.slot_trees.proofs.OptionLemmas.{then_some}
 use Rattle.slot_bodies.specs.LibraryViews.{KeptLibrary}
-use Rattle.tree_code.specs.Fitting.{UnitCall, of_block, of_function, AllBelow}
+use Rattle.tree_code.specs.Fitting.{of_block, of_function, AllBelow}
 use Rattle.tree_code.specs.Programs.{program_site}
 use Rattle.tree_code.specs.Sites.{Site, end_of, site_at, site_from}
 use Rattle.st_compile.specs.Linked.{CallLinkedWithin, FunctionLinked, IfBodyLinked, IfFunctionLinked, InstanceLinked}
@@ -77,8 +74,7 @@ use Rattle.st_compile.specs.Linked.{ProgramLinked, StmtsLinked}
 use Rattle.st_linked.proofs.FunctionServes.{unit_in_order}
 use Rattle.st_linked.proofs.TakenTexts.{taken_differ}
 use Rattle.st_linked.proofs.UnitServes.{differ, named_once, unit_once}
-use Rattle.st_stores.specs.Homes.{are_names_different}
-use Rattle.st_fitting.specs.Sound.{AreBounded, AreBoundedVariables, StmtsSound, SymbolsWithin}
+use Rattle.st_fitting.specs.Sound.{StmtsSound, SymbolsWithin}
 use Rattle.st_fitting.proofs.Names.{block_within, function_within, program_within}
 use Rattle.st_fitting.proofs.Selected.{symbol_within}
 use Rattle.st_fitting.proofs.Statements.{stmts_linked}

@@ -1,7 +1,9 @@
 //! Laws of accepted texts, each proved of the definitions. The functions do nothing: their contracts are the laws.
 
-ghost use Rattle.std.specs.Prelude.{◌≡◌, ℕ, [], Option};
+ghost use Rattle.std.specs.Prelude.{◌≡◌, ◌≤◌, ℕ, [], length};
+ghost use Rattle.st_words.specs.declared.limits.TheConstants.{MAX_PATHS};
 ghost use Rattle.st_trees.specs.Expressions.{Expr};
+ghost use Rattle.st_trees.specs.Sources.{Source};
 ghost use Rattle.st_trees.specs.Statements.{Stmts};
 ghost use Rattle.st_types.specs.Enumerations.{enumerations_of};
 ghost use Rattle.st_types.specs.Resolution.{resolved_expr};
@@ -13,13 +15,17 @@ ghost use Rattle.st_statics.specs.ExpressionRules.{wrong_expression};
 ghost use Rattle.st_statics.specs.Statements.{Context, statements_of};
 ghost use Rattle.st_sound.specs.Soundness.{AreKnown};
 ghost use Rattle.st_sound.specs.StatementSoundness.{BodyRight};
+ghost use Rattle.st_layouts.specs.TextLayouts.{slots_of_text};
 ghost use Rattle.slot_bodies.specs.LibraryViews.{KeptLibrary};
 ghost use Rattle.slot_trees.specs.Tables.{Table};
 ghost use Rattle.tree_code.specs.Sites.{Site};
 ghost use Rattle.st_compile.specs.Linked.{CallLinkedWithin};
 ghost use Rattle.st_fitting.specs.Sound.{ExprSound, StmtsSound};
+ghost use Rattle.text_links.specs.Accepted.{IsAccepted, IsLinked};
+ghost use Rattle.text_links.specs.KeptTexts.{KeptText};
 ghost use Rattle.text_fitting.specs.Callable.{AreInvocable, IsCallable};
-ghost use Rattle.text_fitting.specs.Spelled.{ExprOf, HaveFewNames, StmtsOf};
+ghost use Rattle.text_fitting.specs.Compiled.{AreCompiled};
+ghost use Rattle.text_fitting.specs.Spelled.{ExprOf, HaveFewNames, IsSpelled, StmtsOf};
 
 /// Of an expression in which nothing is wrong, with its literals resolved, code is made: its literals are values, and
 /// each function that it calls has as many arguments as it has inputs. Its durations are ones that a TIME holds, as the
@@ -40,4 +46,13 @@ pub fn statements_without_faults_are_sound()
         → AreInvocable (CallLinkedWithin library depth) site env t → BodyRight env (statements_of c xs)
         → StmtsOf (IsCallable (CallLinkedWithin library depth) site env t) xs
         → StmtsSound (CallLinkedWithin library depth) site t (resolved_stmts env.text env.unit xs) }
+{}
+
+/// So code is made of each program of an accepted text whose layout has room, but for the size of the code and of its
+/// memory: calls are at most 64 deep, since no unit contains more, and each function and block that is called is there.
+/// The text's literals are as the grammar gives them.
+pub fn accepted_texts_are_compiled()
+    ensures { (source : Source) (kept : KeptText) → IsAccepted source → IsSpelled source
+        → length (slots_of_text source) ≤ MAX_PATHS → IsLinked source kept
+        → AreCompiled kept.library (length (slots_of_text source)) kept.programs }
 {}
