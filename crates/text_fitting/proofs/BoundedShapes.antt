@@ -388,8 +388,7 @@ module _ (source : Source) (h : IsWellTyped source) (spelled : IsSpelled source)
   variables_bounded (u ∷ us) (w ∷ ws) same l =
       let one : key u ≡ taking_key (key w) = cc in
       let rest : map key us ≡ map taking_key (map key ws) = cc in
-      let declared : u.site.declared ≡ resolved_type w.site.declared = ap (λ k. k.2) one in
-      (
+      let declared : u.site.declared ≡ resolved_type w.site.declared = ap (λ k. k.2) one in (
         subst (λ t. IsBounded (shape_of_type whole t)) (sym declared) (taken_bounded w.site.declared l.0),
         variables_bounded us ws rest l.1,
       )

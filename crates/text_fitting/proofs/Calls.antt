@@ -117,8 +117,7 @@ module _ (P : Name → Type 0) where
     stmts_of c text.no_stmts of each = tt
     stmts_of c (text.stmt_then x xs) of each =
         let below = statements_below c x in
-        let first = in_first (placed c x ∷ below) (statements_of c xs) each in
-        (
+        let first = in_first (placed c x ∷ below) (statements_of c xs) each in (
           stmt_of c x of.0 (λ g a. first g (in_front (flat_map calls_at below) a))
               (λ g a. first g (in_back (calls_in_statement x) a)),
           stmts_of c xs of.1 (in_second (placed c x ∷ below) (statements_of c xs) each),

@@ -107,8 +107,7 @@ module _ (C : UnitCall → Type 0) (s : Site) (env : Environment) (t : Table) wh
       let ds = map (λ i. asked i any) inputs in
       let count : length inputs ≡ number_of_exprs (resolved_exprs env.text env.unit inputs es) =
       sym (length-map inputs (λ i. asked i any)) ∙ sym (same_number (count_of es) (length ds) n)
-      ∙ sym (all_counted inputs es) in
-      (
+      ∙ sym (all_counted inputs es) in (
         subst (λ (q : List (Option Kind)). ExprsSound C s t (resolved_exprs env.text env.unit q es))
             (inputs_expected inputs) (all ds n h),
         λ i there. subst (λ k. C (of_function i (end_of s) k)) count (callable inputs result i is there),
@@ -179,8 +178,7 @@ module _ (C : UnitCall → Type 0) (s : Site) (env : Environment) (t : Table) wh
         let split : wrong_expression env d e ++ flat_map (wrong_node env) (nodes_of_all env ds es) ≡ [] =
         sym (flat_map-append (wrong_node env) (nodes_of env d e) (nodes_of_all env ds es)) ∙ h in
         let here = front_empty (wrong_expression env d e) (flat_map (wrong_node env) (nodes_of_all env ds es)) split in
-        let rest = back_empty (wrong_expression env d e) (flat_map (wrong_node env) (nodes_of_all env ds es)) split in
-        (
+        let rest = back_empty (wrong_expression env d e) (flat_map (wrong_node env) (nodes_of_all env ds es)) split in (
           expr_sound (expected_of d) e (inside env d e here) of.0,
           exprs_sound es ds (one_less (count_of es) (length ds) n) rest of.1,
         )

@@ -97,8 +97,7 @@ module _ (C : UnitCall → Type 0) (s : Site) (env : Environment) (t : Table) (k
       → StmtOf (IsCallable C s env t) (text.assign v e)
       → StmtSound C s t (resolved_stmt env.text env.unit (text.assign v e))
   assign_sound c (variable x xs) e h of =
-      let right = nodes_right env c (variable x xs) e h in
-      (
+      let right = nodes_right env c (variable x xs) e h in (
         variable_sound (variable x xs) right.1 of.0,
         demanded_sound (type_of_place env (variable x xs)) e right.0 of.1,
       )
@@ -118,8 +117,7 @@ module _ (C : UnitCall → Type 0) (s : Site) (env : Environment) (t : Table) (k
       let nodes = nodes_of_place env v in
       let others = flat_map (nodes_of_place env) (targets_of_arguments rest) in
       let split : flat_map (wrong_node env) nodes ++ flat_map (wrong_node env) others ≡ [] =
-      sym (flat_map-append (wrong_node env) nodes others) ∙ parts in
-      (
+      sym (flat_map-append (wrong_node env) nodes others) ∙ parts in (
         variable_sound v (front_empty (flat_map (wrong_node env) nodes) (flat_map (wrong_node env) others) split) of.0,
         arguments_sound x rest roots
             (back_empty (flat_map (wrong_node env) nodes) (flat_map (wrong_node env) others) split) of.1,
@@ -135,8 +133,7 @@ module _ (C : UnitCall → Type 0) (s : Site) (env : Environment) (t : Table) (k
       let roots = flat_map (nodes_of_root env) (flat_map (roots_of_argument env x.name) arguments) in
       let parts = flat_map (nodes_of_place env) (targets_of_arguments arguments) in
       let split : flat_map (wrong_node env) roots ++ flat_map (wrong_node env) parts ≡ [] =
-      sym (flat_map-append (wrong_node env) roots parts) ∙ right.nodes in
-      (
+      sym (flat_map-append (wrong_node env) roots parts) ∙ right.nodes in (
         instances x.name call.block call.named call.is,
         arguments_sound x arguments
             (front_empty (flat_map (wrong_node env) roots) (flat_map (wrong_node env) parts) split)
@@ -176,8 +173,7 @@ module _ (C : UnitCall → Type 0) (s : Site) (env : Environment) (t : Table) (k
     stmt_sound c (text.invoke x arguments) h below of = call_sound c x arguments h of
     stmt_sound c (text.IF arms otherwise) h below of =
         let right = statement_right env c (text.IF arms otherwise) h in
-        let parts = body_split env (statements_of_arms c arms) (statements_of c otherwise) below in
-        (
+        let parts = body_split env (statements_of_arms c arms) (statements_of c otherwise) below in (
           arms_sound c arms (roots_right env (text.IF arms otherwise) right.nodes) parts.0 of.0,
           stmts_sound c otherwise parts.1 of.1,
         )
@@ -185,8 +181,7 @@ module _ (C : UnitCall → Type 0) (s : Site) (env : Environment) (t : Table) (k
         let right = statement_right env c (text.CASE e arms otherwise) h in
         let parts = body_split env (statements_of_case_arms c arms) (statements_of c otherwise) below in
         let selector = first_root env (asked None selecting) e []
-        (roots_right env (text.CASE e arms otherwise) right.nodes) in
-        (
+        (roots_right env (text.CASE e arms otherwise) right.nodes) in (
           expr_sound C s env t None e (inside env (asked None selecting) e selector.0) of.0,
           cases_sound c (own_kind env.text env.unit e) (kind_of (settled None (typing_of env e))) arms
               (case_labels e arms otherwise (cases_right env c (text.CASE e arms otherwise) h)) parts.0 of.1,
@@ -198,8 +193,7 @@ module _ (C : UnitCall → Type 0) (s : Site) (env : Environment) (t : Table) (k
         let d = demand_of_type env o in
         let first = first_root env d start (node d limit ∷ roots_of_step d step)
         (roots_right env (text.FOR x start limit step body) right.nodes) in
-        let second = first_root env d limit (roots_of_step d step) first.1 in
-        (
+        let second = first_root env d limit (roots_of_step d step) first.1 in (
           demanded_sound o start first.0 of.0,
           demanded_sound o limit second.0 of.1,
           step_sound o step second.1 of.2,
@@ -229,8 +223,7 @@ module _ (C : UnitCall → Type 0) (s : Site) (env : Environment) (t : Table) (k
     arms_sound c text.no_arms roots below of = tt
     arms_sound c (text.arm_then e body arms) roots below of =
         let test = first_root env condition e (conditions_of arms) roots in
-        let parts = body_split env (statements_of c body) (statements_of_arms c arms) below in
-        (
+        let parts = body_split env (statements_of c body) (statements_of_arms c arms) below in (
           condition_sound e test.0 of.0,
           stmts_sound c body parts.0 of.1,
           arms_sound c arms test.1 parts.1 of.2,
@@ -242,8 +235,7 @@ module _ (C : UnitCall → Type 0) (s : Site) (env : Environment) (t : Table) (k
     cases_sound c k q text.no_case_arms h below of = tt
     cases_sound c k q (text.case_arm_then labels body arms) h below of =
         let parts = body_split env (statements_of c body) (statements_of_case_arms c arms) below in
-        let split = labels_split q labels arms h in
-        (
+        let split = labels_split q labels arms h in (
           labels_right env.text few k q labels split.0 of.0,
           stmts_sound c body parts.0 of.1,
           cases_sound c k q arms split.1 parts.1 of.2,

@@ -293,8 +293,7 @@ module _ (source : Source) (h : IsWellTyped source) (vs : List Owned) (kept : Ke
         let within : SymbolsWithin s symbols =
         function_within whole sites s refl (subst (λ k. length (slots_of whole ds) ≤ k) (sym values) (omega arith))
         (bounded.functions taken r unit sort) (taken.name.name ∷ names_in taken.blocks) in
-        let same : c.0 ≡ g.body = ap (λ (f : SlotFunction). f.body) c.2 in
-        (
+        let same : c.0 ≡ g.body = ap (λ (f : SlotFunction). f.body) c.2 in (
           (
             count,
             subst (λ k. AllBelow k g.inputs) layout inputs.1,

@@ -3,4 +3,7 @@
 
 mod laws;
 
-pub use laws::{accepted_texts_are_compiled, expressions_without_faults_are_sound, statements_without_faults_are_sound};
+pub use laws::{
+    accepted_texts_are_compiled, expressions_without_faults_are_sound,
+    statements_without_faults_are_sound,
+};
