@@ -5,6 +5,7 @@ ghost use Rattle.st_words.specs.declared.limits.TheConstants.{MAX_PATHS};
 ghost use Rattle.st_trees.specs.SourceViews.{source_view};
 ghost use Rattle.st_trees.specs.Sources as trees;
 ghost use Rattle.st_types.specs.ResolvedUnits.{resolved_source};
+ghost use Rattle.st_layouts.specs.Libraries.{programs_of_text};
 ghost use Rattle.st_layouts.specs.TextLayouts.{slots_of_text};
 ghost use Rattle.layout.specs.TextLayouts.{IsLayoutOf};
 ghost use Rattle.slot_trees.specs.SlotTrees as tree;
@@ -96,7 +97,7 @@ fn codes_of_programs(
 /// The text is given by its tree in which each literal has its type.
 ///
 /// Each code means its program: over any values of the layout's slots the machine ends as the program does, with the
-/// same outcome, and leaves the same variables.
+/// same outcome, and leaves the same variables. There are as many codes as the text has programs.
 ///
 /// M1 where calls of functions take more than 4,096 places in one program, M2 beyond 16,384 instructions, M3 out of
 /// memory. Of an accepted text over its layout, with its literals as the grammar gives them, no other error comes.
@@ -107,6 +108,9 @@ pub fn codes_of_text(
 ) -> Result<Vec<Code>, CompileError>
     ensures codes { IfOk result (λ codes. (text : trees.Source) → source_view source.now ≡ resolved_source text
         → IsAccepted text → IsLayoutOf text layout.now.slots.items → AreCodesOf text (map code_view codes.items)) }
+    ensures count { IfOk result (λ codes. (text : trees.Source) → source_view source.now ≡ resolved_source text
+        → IsAccepted text → IsLayoutOf text layout.now.slots.items
+        → length codes.items ≡ length (programs_of_text text)) }
     ensures linked { IfErr result (λ e. (text : trees.Source) → source_view source.now ≡ resolved_source text
         → IsAccepted text → IsSpelled text → IsLayoutOf text layout.now.slots.items → e ≢ CompileError.NotLinked) }
 {

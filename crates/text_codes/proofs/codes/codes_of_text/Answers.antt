@@ -16,6 +16,7 @@ use Rattle.text_links.specs.Linked.{linked_text_view}
 use Rattle.coded_programs.specs.Codes.{code_view}
 use Rattle.text_codes.specs.Codes.{AreCodesOver}
 use Rattle.text_codes.proofs.CodeLemmas.{codes_mean, kinds_are, ok_weaker}
+use Rattle.text_codes.proofs.Counts.{codes_counted, linked_counted}
 use Rattle.text_codes.proofs.codes.codes_of_text.Goals as goal
 
 pub returns-clause-codes : goal.returns-clause-codes
@@ -63,3 +64,18 @@ returns-clause-linked c =
     (subst (λ n. AreCompiled linked.library n linked.programs) (sym long)
     (c.accepted_texts_are_compiled.ensures text linked accepted spelled layout.room link))))
     c.codes_of_programs.ensures.there
+
+pub returns-clause-count : goal.returns-clause-count
+returns-clause-count c =
+    let kinds = c.in_ok-kinds.kinds.value.items in
+    ok_weaker c.codes_of_programs.result _ _
+    (λ codes over text seen accepted layout.
+    let link = c.in_ok-linked.ensures.linked text seen accepted layout.room in
+    let programs = map (λ b. slot_stmts_view b.items) c.deref-2.result.now in
+    let kept : programs ≡ link.whole.programs =
+    ap (map (λ b. slot_stmts_view b.items)) c.deref-2.ensures.value ∙ link.part.programs in
+    sym (length-map codes.items code_view)
+    ∙ codes_counted link.whole.library kinds programs (map code_view codes.items)
+    (over link.whole.library link.part.library)
+    ∙ ap length kept ∙ linked_counted text link.whole link.linked)
+    c.codes_of_programs.ensures.codes
