@@ -1,4 +1,4 @@
-use Rattle.std.proofs.Common.{rules, ◌≡◌, ◌+◌, [], ◌∷◌, ◌++◌, length, map, take, ap, sym, subst, ◌∙◌, Err}
+use Rattle.std.proofs.Common.{rules, ◌≡◌, [], ◌∷◌, ◌++◌, length, map, take, ap, sym, subst, ◌∙◌, Err}
 use Rattle.std.specs.Prelude.{IfErr}
 use Rattle.std.proofs.lemmas.List.{map-append}
 use Rattle.slot_bodies.specs.LibraryViews.{slot_library_view}

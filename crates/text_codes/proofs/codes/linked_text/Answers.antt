@@ -1,4 +1,4 @@
-use Rattle.std.proofs.Common.{◌≡◌, Err, sym, ◌∙◌}
+use Rattle.std.proofs.Common.{◌≡◌, sym, ◌∙◌}
 use Rattle.st_link.specs.declared.link_error.LinkError.TheVariants.{NotThere, OutOfMemory}
 use Rattle.text_codes.proofs.codes.linked_text.Goals as goal
 
