@@ -1,5 +1,5 @@
-mod Options
-mod Selected
-mod Linked
-mod Statements
-mod Names
+pub mod Options
+pub mod Selected
+pub mod Linked
+pub mod Statements
+pub mod Names

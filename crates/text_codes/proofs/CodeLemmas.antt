@@ -1,6 +1,6 @@
 -- Codes of linked bodies, one after another.
-use Rattle.std.proofs.Common.{◌≡◌, ℕ, zero, suc, ◌+◌, List, [], ◌∷◌, ◌++◌, length, map, Option, Some, slice_get}
-use Rattle.std.proofs.Common.{refl, sym, ap, subst, ◌∙◌}
+use Rattle.std.proofs.Common.{◌≡◌, ℕ, zero, suc, ◌+◌, List, [], ◌∷◌, ◌++◌, length, map, take, Option, Some, slice_get}
+use Rattle.std.proofs.Common.{refl, ap, subst, ◌∙◌}
 use Rattle.std.specs.Prelude.{Result, Ok, Err, IfOk}
 use Rattle.std.proofs.lemmas.List.{length-map}
 use Rattle.st_words.specs.declared.kind.Kind.{Kind}
@@ -17,6 +17,9 @@ use Rattle.tree_code.specs.Programs.{program_code, ProgramFits}
 use Rattle.st_coded.specs.CodedSources.{HasCodeRuns}
 use Rattle.text_links.specs.Accepted.{IsLinked}
 use Rattle.text_links.specs.KeptTexts.{KeptText}
+use Rattle.slot_bodies.specs.LibraryViews.{KeptLibrary}
+use Rattle.st_compile.specs.Linked.{ProgramLinked}
+use Rattle.text_fitting.specs.Compiled.{AreCompiled}
 use Rattle.coded_programs.specs.Codes.{CodeView}
 use Rattle.coded_programs.specs.Meanings.{Means}
 use Rattle.coded_texts.specs.ProgramCodes.{IsCodeOf}
@@ -107,3 +110,22 @@ kinds_are ss slots is = seen ss ∙ ap (map (λ l. l.kind)) is
     seen : (xs : List LayoutSlot) → map (λ s. s.initial.kind) xs ≡ map (λ l. l.kind) (map slot_view xs)
     seen [] = refl
     seen (x ∷ xs) = ap (λ ks. x.initial.kind ∷ ks) (seen xs)
+
+-- of programs that are compiled, those in front are, and the last one
+compiled_front : {A : Type 0} (f : A → SlotStmts) (library : KeptLibrary) (size n : ℕ) (xs : List A)
+    → AreCompiled library size (map f xs) → AreCompiled library size (map f (take n xs))
+compiled_front f library size zero xs h = tt
+compiled_front f library size (suc n) [] h = tt
+compiled_front f library size (suc n) (x ∷ xs) h = (h.0, compiled_front f library size n xs h.1)
+
+compiled_last : {A : Type 0} (f : A → SlotStmts) (library : KeptLibrary) (size : ℕ) (xs : List A) (x : A)
+    → AreCompiled library size (map f (xs ++ x ∷ [])) → ProgramLinked library 0 size (f x) 64
+compiled_last f library size [] x h = h.0
+compiled_last f library size (y ∷ ys) x h = compiled_last f library size ys x h.1
+
+pub compiled_at : {A : Type 0} (f : A → SlotStmts) (library : KeptLibrary) (size i : ℕ) (xs : List A) (x : A)
+    → take (i + 1) xs ≡ take i xs ++ x ∷ [] → AreCompiled library size (map f xs)
+    → ProgramLinked library 0 size (f x) 64
+compiled_at f library size i xs x more h =
+    compiled_last f library size (take i xs) x
+    (subst (λ ys. AreCompiled library size (map f ys)) more (compiled_front f library size (i + 1) xs h))

@@ -1,10 +1,11 @@
 //! The codes of a text's programs.
 
-ghost use Rattle.std.specs.Prelude.{◌≡◌, ◌≤◌, ◌+◌, IfOk, length, map};
+ghost use Rattle.std.specs.Prelude.{◌≡◌, ◌≢◌, ◌≤◌, ◌+◌, IfErr, IfOk, length, map};
 ghost use Rattle.st_words.specs.declared.limits.TheConstants.{MAX_PATHS};
 ghost use Rattle.st_trees.specs.SourceViews.{source_view};
 ghost use Rattle.st_trees.specs.Sources as trees;
 ghost use Rattle.st_types.specs.ResolvedUnits.{resolved_source};
+ghost use Rattle.st_layouts.specs.Libraries.{programs_of_text};
 ghost use Rattle.st_layouts.specs.TextLayouts.{slots_of_text};
 ghost use Rattle.layout.specs.TextLayouts.{IsLayoutOf};
 ghost use Rattle.slot_trees.specs.SlotTrees as tree;
@@ -13,6 +14,9 @@ ghost use Rattle.slot_bodies.specs.StatementViews.{slot_stmts_view};
 ghost use Rattle.text_links.specs.Accepted.{IsAccepted, IsLinked};
 ghost use Rattle.text_links.specs.Linked.{linked_text_view};
 ghost use Rattle.coded_programs.specs.Codes.{code_view};
+ghost use Rattle.st_compile.specs.Linked.{ProgramLinked};
+ghost use Rattle.text_fitting.specs.Compiled.{AreCompiled};
+ghost use Rattle.text_fitting.specs.Spelled.{IsSpelled};
 ghost use Rattle.text_codes.specs.Codes.{AreCodesOf, AreCodesOver, IsCodeOver};
 
 use crate::slot_kinds::kinds_of;
@@ -27,12 +31,15 @@ use st_trees::Source;
 use st_words::Kind;
 use std::alloc::Global;
 use std::sync::Arc;
+use text_fitting::accepted_texts_are_compiled;
 use text_links::{LinkedText, link};
 
 /// A text linked.
 fn linked_text(alloc: Global, source: &Source) -> Result<LinkedText, CompileError>
-    ensures { IfOk result (λ linked. (text : trees.Source) → source_view source.now ≡ resolved_source text
+    ensures linked { IfOk result (λ linked. (text : trees.Source) → source_view source.now ≡ resolved_source text
         → IsAccepted text → length (slots_of_text text) ≤ MAX_PATHS → IsLinked text (linked_text_view linked)) }
+    ensures there { IfErr result (λ e. (text : trees.Source) → source_view source.now ≡ resolved_source text
+        → IsAccepted text → length (slots_of_text text) ≤ MAX_PATHS → e ≢ CompileError.NotLinked) }
 {
     match link(alloc, source) {
         Ok(linked) => Ok(linked),
@@ -48,8 +55,11 @@ fn code_of(
     kinds: &Arc<Vec<Kind>>,
     body: &[SlotStmt],
 ) -> Result<Code, CompileError>
-    ensures { IfOk result (λ code. (whole : tree.SlotLibrary) → IsKeptOf (slot_library_view library.now) whole
+    ensures code { IfOk result (λ code. (whole : tree.SlotLibrary) → IsKeptOf (slot_library_view library.now) whole
         → IsCodeOver whole kinds.now.value.items (slot_stmts_view body.now) (code_view code)) }
+    ensures there { IfErr result (λ e. e ≡ CompileError.NotLinked
+        → ¬ (ProgramLinked (slot_library_view library.now) 0 (length kinds.now.value.items) (slot_stmts_view body.now)
+        64)) }
 {
     let size = kinds.len();
     let compiled = compile(alloc, library, 0, size, body)?;
@@ -68,9 +78,12 @@ fn codes_of_programs(
     kinds: &Arc<Vec<Kind>>,
     programs: &[Vec<SlotStmt>],
 ) -> Result<Vec<Code>, CompileError>
-    ensures { IfOk result (λ codes. (whole : tree.SlotLibrary) → IsKeptOf (slot_library_view library.now) whole
+    ensures codes { IfOk result (λ codes. (whole : tree.SlotLibrary) → IsKeptOf (slot_library_view library.now) whole
         → AreCodesOver whole kinds.now.value.items (map (λ b. slot_stmts_view b.items) programs.now)
         (map code_view codes.items)) }
+    ensures there { IfErr result (λ e. e ≡ CompileError.NotLinked
+        → ¬ (AreCompiled (slot_library_view library.now) (length kinds.now.value.items)
+        (map (λ b. slot_stmts_view b.items) programs.now))) }
 {
     let mut codes = Vec::new(alloc);
     for body in programs {
@@ -84,18 +97,24 @@ fn codes_of_programs(
 /// The text is given by its tree in which each literal has its type.
 ///
 /// Each code means its program: over any values of the layout's slots the machine ends as the program does, with the
-/// same outcome, and leaves the same variables.
+/// same outcome, and leaves the same variables. There are as many codes as the text has programs.
 ///
 /// M1 where calls of functions take more than 4,096 places in one program, M2 beyond 16,384 instructions, M3 out of
-/// memory.
+/// memory. Of an accepted text over its layout, with its literals as the grammar gives them, no other error comes.
 pub fn codes_of_text(
     alloc: Global,
     source: &Source,
     layout: &Layout,
 ) -> Result<Vec<Code>, CompileError>
-    ensures { IfOk result (λ codes. (text : trees.Source) → source_view source.now ≡ resolved_source text
+    ensures codes { IfOk result (λ codes. (text : trees.Source) → source_view source.now ≡ resolved_source text
         → IsAccepted text → IsLayoutOf text layout.now.slots.items → AreCodesOf text (map code_view codes.items)) }
+    ensures count { IfOk result (λ codes. (text : trees.Source) → source_view source.now ≡ resolved_source text
+        → IsAccepted text → IsLayoutOf text layout.now.slots.items
+        → length codes.items ≡ length (programs_of_text text)) }
+    ensures linked { IfErr result (λ e. (text : trees.Source) → source_view source.now ≡ resolved_source text
+        → IsAccepted text → IsSpelled text → IsLayoutOf text layout.now.slots.items → e ≢ CompileError.NotLinked) }
 {
+    accepted_texts_are_compiled();
     code_of_accepted_texts_does_what_their_programs_do();
     code_of_texts_means_their_programs();
     let linked = linked_text(alloc, source)?;

@@ -3,8 +3,8 @@ use Rattle.slot_bodies.specs.StatementViews.{slot_stmts_view}
 use Rattle.tree_code.specs.Programs.{program_code, ProgramFits}
 use Rattle.text_codes.proofs.codes.code_of.Goals as goal
 
-pub returns : goal.returns
-returns c =
+pub returns-clause-code : goal.returns-clause-code
+returns-clause-code c =
     let kinds = c.args.kinds.now.value.items in
     let body = slot_stmts_view c.args.body.now in
     let size : c.len-size.result ≡ length kinds = search rules in

@@ -1,10 +1,15 @@
-use Rattle.std.proofs.Common.{◌+◌, [], ◌∷◌, ◌++◌, map, take, ap, sym, subst, ◌∙◌}
+use Rattle.std.proofs.Common.{rules, ◌≡◌, [], ◌∷◌, ◌++◌, length, map, take, ap, sym, subst, ◌∙◌, Err}
+use Rattle.std.specs.Prelude.{IfErr}
 use Rattle.std.proofs.lemmas.List.{map-append}
+use Rattle.slot_bodies.specs.LibraryViews.{slot_library_view}
 use Rattle.slot_bodies.specs.StatementViews.{slot_stmts_view}
+use Rattle.st_compile.specs.declared.compile_error.CompileError.TheVariants.{NotLinked}
+use Rattle.st_compile.specs.Linked.{ProgramLinked}
+use Rattle.text_fitting.specs.Compiled.{AreCompiled}
 use Rattle.text_links.proofs.SymbolLemmas.{more_taken}
 use Rattle.coded_programs.specs.Codes.{code_view}
 use Rattle.text_codes.specs.Codes.{AreCodesOver, IsCodeOver}
-use Rattle.text_codes.proofs.CodeLemmas.{one_more}
+use Rattle.text_codes.proofs.CodeLemmas.{compiled_at, one_more}
 use Rattle.text_codes.proofs.codes.codes_of_programs.Goals as goal
 
 pub loop-body-preserved : goal.loop-body-preserved
@@ -25,4 +30,19 @@ loop-body-preserved c =
     (one_more whole kinds (map (λ b. slot_stmts_view b.items) (take i xs)) (map code_view codes)
     (slot_stmts_view x.items) (code_view code) (c.loop-body.invariant whole kept)
     (subst (λ b. IsCodeOver whole kinds (slot_stmts_view b) (code_view code)) c.deref.ensures.value
-    (c.in_ok-code.ensures whole kept))))
+    (c.in_ok-code.ensures.code whole kept))))
+
+pub returns-in_err-code-clause-there : goal.returns-in_err-code-clause-there
+returns-in_err-code-clause-there c =
+    let xs = c.args.programs.now in
+    let i = c.loop-body.body-index in
+    let x = c.body-item.result in
+    let library = slot_library_view c.args.library.now in
+    let size = length c.args.kinds.now.value.items in
+    let same : c.from_residual.result ≡ Err c.in_err-code.field-0.0 = search rules in
+    subst (λ r. IfErr r (λ e. e ≡ NotLinked
+    → ¬ (AreCompiled library size (map (λ b. slot_stmts_view b.items) c.args.programs.now)))) (sym same)
+    (λ wrong compiled. c.in_err-code.ensures.there wrong
+    (subst (λ b. ProgramLinked library 0 size (slot_stmts_view b) 64) (sym c.deref.ensures.value)
+    (compiled_at (λ b. slot_stmts_view b.items) library size i xs x
+    (more_taken xs i x c.loop-body-test.true c.body-item.is) compiled)))

@@ -1,20 +1,33 @@
-use Rattle.std.proofs.Common.{rules, ◌≡◌, map, ap, sym, subst, ◌∙◌}
+use Rattle.std.proofs.Common.{rules, ◌≡◌, length, map, ap, sym, subst, ◌∙◌, Err}
+use Rattle.std.proofs.lemmas.List.{length-map}
+use Rattle.std.proofs.lemmas.Result.{IfErr-weaker}
+use Rattle.std.specs.Prelude.{IfErr}
+use Rattle.st_trees.specs.Sources.{Source}
+use Rattle.st_trees.specs.SourceViews.{source_view}
+use Rattle.st_types.specs.ResolvedUnits.{resolved_source}
+use Rattle.st_layouts.specs.TextLayouts.{slots_of_text}
+use Rattle.layout.specs.TextLayouts.{IsLayoutOf}
+use Rattle.st_compile.specs.declared.compile_error.CompileError.TheVariants.{NotLinked}
+use Rattle.text_links.specs.Accepted.{IsAccepted}
+use Rattle.text_fitting.specs.Compiled.{AreCompiled}
+use Rattle.text_fitting.specs.Spelled.{IsSpelled}
 use Rattle.slot_bodies.specs.StatementViews.{slot_stmts_view}
 use Rattle.text_links.specs.Linked.{linked_text_view}
 use Rattle.coded_programs.specs.Codes.{code_view}
 use Rattle.text_codes.specs.Codes.{AreCodesOver}
 use Rattle.text_codes.proofs.CodeLemmas.{codes_mean, kinds_are, ok_weaker}
+use Rattle.text_codes.proofs.Counts.{codes_counted, linked_counted}
 use Rattle.text_codes.proofs.codes.codes_of_text.Goals as goal
 
-pub returns : goal.returns
-returns c =
+pub returns-clause-codes : goal.returns-clause-codes
+returns-clause-codes c =
     let linked = linked_text_view c.in_ok-linked.linked in
     let kinds = c.in_ok-kinds.kinds.value.items in
     let slots = c.args.layout.now.slots.items in
     let told : kinds ≡ map (λ s. s.initial.kind) slots = search rules in
     ok_weaker c.codes_of_programs.result _ _
     (λ codes over text is accepted layout.
-    let link = c.in_ok-linked.ensures text is accepted layout.room in
+    let link = c.in_ok-linked.ensures.linked text is accepted layout.room in
     codes_mean text linked kinds (map code_view codes.items) link
     (told ∙ kinds_are slots _ layout.slots)
     (subst (λ ps. AreCodesOver link.whole.library kinds (map (λ b. slot_stmts_view b.items) ps)
@@ -23,4 +36,46 @@ returns c =
     (λ n p there. c.code_of_accepted_texts_does_what_their_programs_do.ensures text accepted.configuration n p
     accepted.well_typed accepted.functions accepted.only accepted.known there)
     (c.code_of_texts_means_their_programs.ensures text))
-    c.codes_of_programs.ensures
+    c.codes_of_programs.ensures.codes
+
+pub returns-in_err-linked-clause-linked : goal.returns-in_err-linked-clause-linked
+returns-in_err-linked-clause-linked c =
+    let same : c.from_residual.result ≡ Err c.in_err-linked.field-0.0 = search rules in
+    subst (λ r. IfErr r (λ e. (text : Source) → source_view c.args.source.now ≡ resolved_source text
+    → IsAccepted text → IsSpelled text → IsLayoutOf text c.args.layout.now.slots.items → e ≡ NotLinked → ⊥)) (sym same)
+    (λ text seen accepted spelled layout. c.in_err-linked.ensures.there text seen accepted layout.room)
+
+pub returns-clause-linked : goal.returns-clause-linked
+returns-clause-linked c =
+    let linked = linked_text_view c.in_ok-linked.linked in
+    let kinds = c.in_ok-kinds.kinds.value.items in
+    let slots = c.args.layout.now.slots.items in
+    let told : kinds ≡ map (λ s. s.initial.kind) slots = search rules in
+    IfErr-weaker c.codes_of_programs.result _ (λ e. (text : Source)
+    → source_view c.args.source.now ≡ resolved_source text
+    → IsAccepted text → IsSpelled text → IsLayoutOf text c.args.layout.now.slots.items → e ≡ NotLinked → ⊥)
+    (λ e wrong text seen accepted spelled layout not_linked.
+    let link = c.in_ok-linked.ensures.linked text seen accepted layout.room in
+    let long : length kinds ≡ length (slots_of_text text) =
+    ap length (told ∙ kinds_are slots _ layout.slots) ∙ length-map _ _ in
+    wrong not_linked
+    (subst (λ ps. AreCompiled linked.library (length kinds) (map (λ b. slot_stmts_view b.items) ps))
+    (sym c.deref-2.ensures.value)
+    (subst (λ n. AreCompiled linked.library n linked.programs) (sym long)
+    (c.accepted_texts_are_compiled.ensures text linked accepted spelled layout.room link))))
+    c.codes_of_programs.ensures.there
+
+pub returns-clause-count : goal.returns-clause-count
+returns-clause-count c =
+    let kinds = c.in_ok-kinds.kinds.value.items in
+    ok_weaker c.codes_of_programs.result _ _
+    (λ codes over text seen accepted layout.
+    let link = c.in_ok-linked.ensures.linked text seen accepted layout.room in
+    let programs = map (λ b. slot_stmts_view b.items) c.deref-2.result.now in
+    let kept : programs ≡ link.whole.programs =
+    ap (map (λ b. slot_stmts_view b.items)) c.deref-2.ensures.value ∙ link.part.programs in
+    sym (length-map codes.items code_view)
+    ∙ codes_counted link.whole.library kinds programs (map code_view codes.items)
+    (over link.whole.library link.part.library)
+    ∙ ap length kept ∙ linked_counted text link.whole link.linked)
+    c.codes_of_programs.ensures.codes

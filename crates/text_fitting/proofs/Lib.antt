@@ -1,0 +1,11 @@
+mod Literals
+mod Expressions
+mod Statements
+mod Calls
+mod Kept
+mod Shallow
+mod Signatures
+mod Instances
+mod Units
+mod BoundedShapes
+mod Whole

@@ -1,0 +1,4 @@
+pub mod Spelled
+pub mod Callable
+pub mod Bounded
+pub mod Compiled

@@ -1,0 +1,58 @@
+//! Laws of accepted texts, each proved of the definitions. The functions do nothing: their contracts are the laws.
+
+ghost use Rattle.std.specs.Prelude.{◌≡◌, ◌≤◌, ℕ, [], length};
+ghost use Rattle.st_words.specs.declared.limits.TheConstants.{MAX_PATHS};
+ghost use Rattle.st_trees.specs.Expressions.{Expr};
+ghost use Rattle.st_trees.specs.Sources.{Source};
+ghost use Rattle.st_trees.specs.Statements.{Stmts};
+ghost use Rattle.st_types.specs.Enumerations.{enumerations_of};
+ghost use Rattle.st_types.specs.Resolution.{resolved_expr};
+ghost use Rattle.st_types.specs.ResolvedUnits.{resolved_stmts};
+ghost use Rattle.st_statics.specs.declared.demand.Demand.{Demand};
+ghost use Rattle.st_statics.specs.Demands.{expected_of};
+ghost use Rattle.st_statics.specs.Environments.{Environment};
+ghost use Rattle.st_statics.specs.ExpressionRules.{wrong_expression};
+ghost use Rattle.st_statics.specs.Statements.{Context, statements_of};
+ghost use Rattle.st_sound.specs.Soundness.{AreKnown};
+ghost use Rattle.st_sound.specs.StatementSoundness.{BodyRight};
+ghost use Rattle.st_layouts.specs.TextLayouts.{slots_of_text};
+ghost use Rattle.slot_bodies.specs.LibraryViews.{KeptLibrary};
+ghost use Rattle.slot_trees.specs.Tables.{Table};
+ghost use Rattle.tree_code.specs.Sites.{Site};
+ghost use Rattle.st_compile.specs.Linked.{CallLinkedWithin};
+ghost use Rattle.st_fitting.specs.Sound.{ExprSound, StmtsSound};
+ghost use Rattle.text_links.specs.Accepted.{IsAccepted, IsLinked};
+ghost use Rattle.text_links.specs.KeptTexts.{KeptText};
+ghost use Rattle.text_fitting.specs.Callable.{AreInvocable, IsCallable};
+ghost use Rattle.text_fitting.specs.Compiled.{AreCompiled};
+ghost use Rattle.text_fitting.specs.Spelled.{ExprOf, HaveFewNames, IsSpelled, StmtsOf};
+
+/// Of an expression in which nothing is wrong, with its literals resolved, code is made: its literals are values, and
+/// each function that it calls has as many arguments as it has inputs. Its durations are ones that a TIME holds, as the
+/// lexer gives them.
+pub fn expressions_without_faults_are_sound()
+    ensures { (library : KeptLibrary) (depth : ℕ) (site : Site) (env : Environment) (t : Table) (d : Demand) (e : Expr)
+        → wrong_expression env d e ≡ []
+        → ExprOf (IsCallable (CallLinkedWithin library depth) site env t) e
+        → ExprSound (CallLinkedWithin library depth) site t (resolved_expr env.text env.unit (expected_of d) e) }
+{}
+
+/// So is code made of statements in which nothing is wrong, with all statements in them: their labels are numbers that
+/// instructions hold. Code is made of the blocks of the unit's instances too, and no enumerated type has more names than
+/// the language allows. The numbers of labels have no enumerated type before a `#`, as the grammar gives them.
+pub fn statements_without_faults_are_sound()
+    ensures { (library : KeptLibrary) (depth : ℕ) (site : Site) (env : Environment) (t : Table) (c : Context)
+        (xs : Stmts) → AreKnown env → HaveFewNames (enumerations_of env.text.types)
+        → AreInvocable (CallLinkedWithin library depth) site env t → BodyRight env (statements_of c xs)
+        → StmtsOf (IsCallable (CallLinkedWithin library depth) site env t) xs
+        → StmtsSound (CallLinkedWithin library depth) site t (resolved_stmts env.text env.unit xs) }
+{}
+
+/// So code is made of each program of an accepted text whose layout has room, but for the size of the code and of its
+/// memory: calls are at most 64 deep, since no unit contains more, and each function and block that is called is there.
+/// The text's literals are as the grammar gives them.
+pub fn accepted_texts_are_compiled()
+    ensures { (source : Source) (kept : KeptText) → IsAccepted source → IsSpelled source
+        → length (slots_of_text source) ≤ MAX_PATHS → IsLinked source kept
+        → AreCompiled kept.library (length (slots_of_text source)) kept.programs }
+{}
