@@ -14,7 +14,7 @@ pub plan_from-requires : goal.plan_from-requires
 plan_from-requires c =
     let (text, judged, resolved) = c.requires.judged in
     let layout = c.in_ok-layout.ensures.ok text resolved judged.well_typed in
-    let coded = c.in_ok-codes.ensures text resolved (accepted text judged) layout in
+    let coded = c.in_ok-codes.ensures.codes text resolved (accepted text judged) layout in
     record {
       ready = (
         text,
@@ -36,7 +36,7 @@ returns-clause-plan c =
     (λ plan given text judged resolved.
     let layout = c.in_ok-layout.ensures.ok text resolved judged.well_typed in
     given text (ready_for text tree slots codes c.args.budget judged resolved layout
-    (c.in_ok-codes.ensures text resolved (accepted text judged) layout) c.requires.some_ticks c.requires.ticks))
+    (c.in_ok-codes.ensures.codes text resolved (accepted text judged) layout) c.requires.some_ticks c.requires.ticks))
 
 pub returns-clause-refused : goal.returns-clause-refused
 returns-clause-refused c =
@@ -49,4 +49,4 @@ returns-clause-refused c =
     (λ e given text judged resolved.
     let layout = c.in_ok-layout.ensures.ok text resolved judged.well_typed in
     given text (ready_for text tree slots codes c.args.budget judged resolved layout
-    (c.in_ok-codes.ensures text resolved (accepted text judged) layout) c.requires.some_ticks c.requires.ticks))
+    (c.in_ok-codes.ensures.codes text resolved (accepted text judged) layout) c.requires.some_ticks c.requires.ticks))
