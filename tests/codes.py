@@ -48,6 +48,7 @@ SOURCES = {
     "a type with 257 names of 3 letters": lambda: f"TYPE t : ({','.join([*(f'n{k:02x}' for k in range(256)), 'x00'])}); END_TYPE",
     "1,772 DINT more, with names of 64 letters": lambda: more_globals(f"v{k:063d} : DINT" for k in range(1772)),
     "4,096 globals more": lambda: more_globals(f"v{k} : INT" for k in range(4096)),
+    "20,000 statements `n := n + 1;`": lambda: changed("n := n + 1;" * 20000, "n := n + 1;"),
 }
 
 # plants in words

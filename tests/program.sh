@@ -325,7 +325,7 @@ changed() {
     scene "a trace with $1" 3 "" "fault $3" $(replay s.st rows.csv changed.txt)
 }
 changed "another moment" 's/^row 10$/row 11/' V2
-changed "the row before in an execution" 's/^done R0.P0 1 ok$/done R0\/P0 0 ok/' V3
+changed "the row before in an execution" 's/^done R.P 1 ok$/done R\/P 0 ok/' V3
 changed "another outcome" '0,/ok/s/ok/F1/' V4
 changed "one entry less at its end" 's/^end 6$/end 5/' V1
 changed "no ticks" 's/^budget 10000$/budget 0/' V1
@@ -352,22 +352,22 @@ changed "a moment of a row with a zero before it" 's/^row 10$/row 010/' V1
 changed "a moment of a row past its limit" 's/^row 20$/row 4611686018427387904/' V1
 changed "a row without a moment" 's/^row 10$/row/' V1
 changed "a row twice" 's/^row 20$/&\n&/' V2
-changed "a row of the plant left out" '/^row 10$/d; /P0 1/d; s/^end 6$/end 4/' V2
+changed "a row of the plant left out" '/^row 10$/d; /P 1/d; s/^end 6$/end 4/' V2
 changed "rows in another order" 's/^row 10$/row x/; s/^row 20$/row 10/; s/^row x$/row 20/' V2
-changed "an execution twice" 's/^done R0.P0 1 ok$/&\n&/' V3
-changed "an execution before its row" '/^row 0$/d; s/^done R0.P0 0 ok$/&\nrow 0/' V3
-changed "an execution of a row that comes later" 's/^done R0.P0 0 ok$/done R0\/P0 2 ok/' V3
-changed "an execution of no row" 's/^done R0.P0 2 ok$/done R0\/P0 7 ok/' V3
-changed "a row number with a zero before it" 's/^done R0.P0 1 ok$/done R0\/P0 01 ok/' V1
-changed "an execution of no program" 's/^done R0.P0 1 ok$/done R0\/P1 1 ok/' V1
-changed "an execution on no resource" 's/^done R0.P0 1 ok$/done R1\/P0 1 ok/' V1
-changed "a program in small letters" 's/^done R0.P0 1 ok$/done r0\/p0 1 ok/' V1
-changed "a fault without a number" 's/^done R0.P0 1 ok$/done R0\/P0 1 F/' V1
-changed "a fault of no number" 's/^done R0.P0 1 ok$/done R0\/P0 1 F7/' V1
-changed "no outcome" 's/^done R0.P0 1 ok$/done R0\/P0 1/' V1
-for fault in F2 F3 F4 F5 F6; do changed "the outcome $fault" "s/^done R0.P0 1 ok\$/done R0\/P0 1 $fault/" V4; done
-changed "an execution left out" '/^done R0.P0 2 ok$/d' V1
-changed "an execution left out, which is then an overrun, and the next of another row" '/^done R0.P0 1 ok$/d' V3
+changed "an execution twice" 's/^done R.P 1 ok$/&\n&/' V3
+changed "an execution before its row" '/^row 0$/d; s/^done R.P 0 ok$/&\nrow 0/' V3
+changed "an execution of a row that comes later" 's/^done R.P 0 ok$/done R\/P 2 ok/' V3
+changed "an execution of no row" 's/^done R.P 2 ok$/done R\/P 7 ok/' V3
+changed "a row number with a zero before it" 's/^done R.P 1 ok$/done R\/P 01 ok/' V1
+changed "an execution of no program" 's/^done R.P 1 ok$/done R\/Q 1 ok/' V1
+changed "an execution on no resource" 's/^done R.P 1 ok$/done S\/P 1 ok/' V1
+changed "a program in small letters" 's/^done R.P 1 ok$/done r\/p 1 ok/' V1
+changed "a fault without a number" 's/^done R.P 1 ok$/done R\/P 1 F/' V1
+changed "a fault of no number" 's/^done R.P 1 ok$/done R\/P 1 F7/' V1
+changed "no outcome" 's/^done R.P 1 ok$/done R\/P 1/' V1
+for fault in F2 F3 F4 F5 F6; do changed "the outcome $fault" "s/^done R.P 1 ok\$/done R\/P 1 $fault/" V4; done
+changed "an execution left out" '/^done R.P 2 ok$/d' V1
+changed "an execution left out, which is then an overrun, and the next of another row" '/^done R.P 1 ok$/d' V3
 changed "a word of no entry" 's/^row 10$/rows 10/' V1
 changed "a space behind a line" 's/^row 10$/& /' V1
 changed "a CR behind a line" 's/^row 10$/&\r/' V1
@@ -390,7 +390,7 @@ sed 's/^start cold$/start warm/; s/^keep N 0$/keep N 7/' trace.txt > changed.txt
 scene "a trace of a warm start without a record" 0 "$(replayed 3 3 0 0 'N = 10')" "" $(replay s.st rows.csv changed.txt)
 sed '/ 2 ok$/d; s/^end 6$/end 5/' trace.txt > changed.txt
 scene "a trace that ends before its last execution" 0 "$(replayed 3 2 0 0 'N = 2')" "" $(replay s.st rows.csv changed.txt)
-sed '/ 1 ok$/d; /^row 20$/d; /^done .* 2 /d; s/^end 6$/row 20\ndone R0\/P0 1 ok\nend 5/' trace.txt > changed.txt
+sed '/ 1 ok$/d; /^row 20$/d; /^done .* 2 /d; s/^end 6$/row 20\ndone R\/P 1 ok\nend 5/' trace.txt > changed.txt
 scene "a trace with an overrun" 0 "$(replayed 3 2 0 1 'N = 2')" "" $(replay s.st rows.csv changed.txt)
 sed '5q' trace.txt > changed.txt
 echo "end 0" >> changed.txt

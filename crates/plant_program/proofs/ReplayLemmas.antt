@@ -10,7 +10,7 @@ use Rattle.config.specs.PlanViews.{plan_view, program_view}
 use Rattle.config.specs.Sound.{are_different}
 use Rattle.std.specs.List.{list_all}
 use Rattle.text_paths.proofs.PlainGrammar.{plain_text}
-use Rattle.st_build.proofs.ListLemmas.{get_map}
+use Rattle.st_layouts.proofs.ListLemmas.{get_map}
 use Rattle.st_build.proofs.ApartNames.{names_apart}
 use Rattle.st_build.proofs.OwnerLemmas.{plan_told_apart}
 use Rattle.st_plans.specs.Rows.{Latch}

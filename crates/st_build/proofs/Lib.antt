@@ -12,5 +12,5 @@ mod ConfiguredLemmas
 mod PlanLemmas
 mod ReadinessLemmas
 mod GivenLemmas
-mod OwnerLemmas
-mod ApartNames
+pub mod OwnerLemmas
+pub mod ApartNames
