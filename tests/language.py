@@ -412,7 +412,8 @@ def ticked(plant, name, body, ticks, variables, wanted, before="", external="", 
     """The body takes exactly so many ticks: with one less it is a fault."""
     text = configured(body, variables, globals_, before=before, external=external)
     plant.scene(name, text, wanted | {"faults": 0}, budget=ticks)
-    plant.scene(f"{name}, a tick short", text, {"faults": 1, "done": 1}, budget=ticks - 1)
+    if ticks > 1:
+        plant.scene(f"{name}, a tick short", text, {"faults": 1, "done": 1}, budget=ticks - 1)
 
 
 def statements(plant):
@@ -422,8 +423,8 @@ def statements(plant):
     ticked(plant, "a FOR loop over nothing", "FOR i := 1 TO 3 DO ; END_FOR;", 7, "VAR i : INT; END_VAR", {"R/P.I": 4})
     ticked(plant, "a FOR loop that isn't entered", "FOR i := 3 TO 1 DO k := 1; END_FOR;", 1, "VAR i, k : INT; END_VAR", {"R/P.I": 3, "R/P.K": 0})
     ticked(plant, "a FOR loop backwards", "FOR i := 3 TO 1 BY -1 DO k := k + i; END_FOR;", 7, "VAR i, k : INT; END_VAR", {"R/P.I": 0, "R/P.K": 6})
-    ticked(plant, "a FOR loop down to the end of its type", "FOR i := 1 TO 0 BY -1 DO k := k + 1; END_FOR;", 5,
-           "VAR i : USINT; k : INT; END_VAR", {"R/P.I": 0, "R/P.K": 2})
+    ticked(plant, "a FOR loop down to the end of its type", "FOR i := -127 TO -128 BY -1 DO k := k + 1; END_FOR;", 5,
+           "VAR i : SINT; k : INT; END_VAR", {"R/P.I": -128, "R/P.K": 2})
     ticked(plant, "a REPEAT loop", "REPEAT i := i + 1; UNTIL i >= 3 END_REPEAT;", 6, "VAR i : INT; END_VAR", {"R/P.I": 3})
     ticked(plant, "EXIT leaves the innermost loop", "FOR i := 1 TO 2 DO WHILE TRUE DO k := k + 1; EXIT; END_WHILE; END_FOR;", 9,
            "VAR i, k : INT; END_VAR", {"R/P.I": 3, "R/P.K": 2})
@@ -438,8 +439,8 @@ def statements(plant):
     ticked(plant, "CASE without a label and without ELSE", "CASE s OF 1: k := 10; END_CASE;", 1, "VAR s, k : INT; END_VAR", {"R/P.K": 0})
     double = "FUNCTION Twice : INT VAR_INPUT x : INT; END_VAR VAR y : INT; END_VAR y := y + x; Twice := 2 * y; END_FUNCTION"
     ticked(plant, "a function starts anew at each call", "k := Twice(3); k := k + Twice(4);", 6, "VAR k : INT; END_VAR", {"R/P.K": 14}, before=double)
-    count = "FUNCTION_BLOCK Count VAR_INPUT by : INT := 1; END_VAR VAR_OUTPUT n : INT; END_VAR n := n + by; END_FUNCTION_BLOCK"
-    ticked(plant, "an instance keeps its values and its inputs", "c(); c(by := 5, n => k); c(n => m);", 6,
+    count = "FUNCTION_BLOCK Count VAR_INPUT d : INT := 1; END_VAR VAR_OUTPUT n : INT; END_VAR n := n + d; END_FUNCTION_BLOCK"
+    ticked(plant, "an instance keeps its values and its inputs", "c(); c(d := 5, n => k); c(n => m);", 6,
            "VAR c : Count; k, m : INT; END_VAR", {"R/P.C.N": 11, "R/P.K": 6, "R/P.M": 11}, before=count)
     for name, body, variables, fault in (
         ("a step of 0", "FOR i := 1 TO 3 BY 0 DO ; END_FOR;", "i : INT;", "F6"),
@@ -501,14 +502,14 @@ CONFIGURATION C RESOURCE R ON CPU TASK T (INTERVAL := T#10ms, PRIORITY := 0); PR
 
 
 def tasks(plant):
-    # the order of the papers' three tasks: P3 of row 1 first, then P1 of row 0, P2 of row 0
-    text = """PROGRAM A VAR_EXTERNAL n, a : INT; END_VAR n := n + 1; a := a * 10 + n; END_PROGRAM
-PROGRAM B VAR_EXTERNAL n, b : INT; END_VAR n := n + 1; b := b * 10 + n; END_PROGRAM
-PROGRAM D VAR_EXTERNAL n, d : INT; END_VAR n := n + 1; d := d * 10 + n; END_PROGRAM
+    # row 0: P1, P2; row 1: P3, which comes first, and P1; row 2: none, since SINGLE stays; row 3: P1, P2
+    text = """PROGRAM One VAR_EXTERNAL n, a : INT; END_VAR n := n + 1; a := a * 10 + n; END_PROGRAM
+PROGRAM Two VAR_EXTERNAL n, b : INT; END_VAR n := n + 1; b := b * 10 + n; END_PROGRAM
+PROGRAM Three VAR_EXTERNAL n, d : INT; END_VAR n := n + 1; d := d * 10 + n; END_PROGRAM
 CONFIGURATION C VAR_GLOBAL n, a, b, d : INT; s AT %IX0 : BOOL; END_VAR RESOURCE R ON CPU
 TASK T1 (SINGLE := s, INTERVAL := T#10ms, PRIORITY := 1); TASK T2 (INTERVAL := T#20ms, PRIORITY := 1); TASK T3 (SINGLE := s, PRIORITY := 0);
-PROGRAM P1 WITH T1 : A; PROGRAM P2 WITH T2 : B; PROGRAM P3 WITH T3 : D; END_RESOURCE END_CONFIGURATION"""
-    plant.scene("three tasks, row by row", text, {"A": 136, "B": 25 if False else 27, "D": 4, "overruns": 0}, rows="t,s\n0,0\n5,1\n10,1\n20,0\n")
+PROGRAM P1 WITH T1 : One; PROGRAM P2 WITH T2 : Two; PROGRAM P3 WITH T3 : Three; END_RESOURCE END_CONFIGURATION"""
+    plant.scene("three tasks, row by row", text, {"A": 145, "B": 26, "D": 3, "done": 6, "overruns": 0}, rows="t,s\n0,0\n5,1\n10,1\n20,0\n")
     once = """PROGRAM A VAR_EXTERNAL n : INT; END_VAR n := n + 1; END_PROGRAM
 CONFIGURATION C VAR_GLOBAL n : INT; END_VAR RESOURCE R ON CPU TASK T (INTERVAL := T#{}ms, PRIORITY := 0);
 PROGRAM P WITH T : A; END_RESOURCE END_CONFIGURATION"""
