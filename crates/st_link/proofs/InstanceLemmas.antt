@@ -138,12 +138,15 @@ members_there text s (Some y) a some =
         → (ps : Parts) × HasMembers text (place_type_view s.declared) ps
     by_shape (plain k) is h = absurd (cc)
     by_shape (array lower count sh) is h = absurd (cc)
-    by_shape (parts w ps) is h = (ps, record {
-      whole = w;
-      shape = is;
-      expanded = a.expanded;
-      room = let e = ap size (a.shape ∙ is) in let r = a.room in omega (arith, e, r);
-    })
+    by_shape (parts w ps) is h = (
+      ps,
+      record {
+        whole = w;
+        shape = is;
+        expanded = a.expanded;
+        room = let e = ap size (a.shape ∙ is) in let r = a.room in omega (arith, e, r);
+      },
+    )
 
 pub instance_there : (text : Declared) (s : LinkSymbol) (o : Option Symbol) (ps : Parts)
     → Agree (IsSymbol text) (Some s) o → s.is_input ≡ false → HasMembers text (place_type_view s.declared) ps
