@@ -465,11 +465,13 @@ END
 scene "the replay of a tick too few" 0 "$(replayed 1 1 1 0 'N = 0')" "" $(replay seven.st first.csv ticks.txt)
 sed -i 's/^budget 6$/budget 7/' ticks.txt
 scene "the replay with the tick that was wanting" 3 "" "fault V4" $(replay seven.st first.csv ticks.txt)
-statements 10000 > default.st
-scene "10,000 ticks without a word" 0 "$(report 1 1 0 0 2 'N = 10000')" "" $(run default.st first.csv ticks cold)
-statements 10001 > past.st
+# a WHILE takes a tick, each turn one more, and each statement within it
+looped() { sed "s/n := n + 1;/WHILE n < 4999 DO n := n + 1; END_WHILE; $1/" s.st; }
+looped "n := n + 1;" > default.st
+scene "10,000 ticks without a word" 0 "$(report 1 1 0 0 2 'N = 5000')" "" $(run default.st first.csv ticks cold)
+looped "n := n + 1; n := n + 1;" > past.st
 scene "one statement more" 0 "$(report 1 1 1 0 2 'N = 0')" "" $(run past.st first.csv ticks cold)
-scene "10,001 ticks" 0 "$(report 1 1 0 0 2 'N = 10001')" "" $(run past.st first.csv ticks cold) --budget 10001
+scene "10,001 ticks" 0 "$(report 1 1 0 0 2 'N = 5001')" "" $(run past.st first.csv ticks cold) --budget 10001
 scene "no ticks for no source" 2 "" "fault X1" $(run none.st none.csv made warm) --budget 0
 [ ! -e made ] || fail "a refused run has made a retain file"
 
