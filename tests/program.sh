@@ -506,7 +506,7 @@ change "an unknown task" 'WITH T' 'WITH U' G3
 change "an unknown program" ': Add' ': Sub' G3
 change "a program without a task" 'WITH T ' '' G8
 grows "an output" 'RETAIN n : INT' 'n AT %QW0 : INT' 1 1 1 1 0
-grows "an output under RETAIN" 'RETAIN n : INT' 'RETAIN n AT %QW0 : INT' 1 1 1 1 1
+change "an output under RETAIN" 'RETAIN n : INT' 'RETAIN n AT %QW0 : INT' 'C11 at 100'
 change "an address past its range" 'RETAIN n : INT' 'n AT %QW256 : INT' G4
 change "an address of another width" 'RETAIN n : INT' 'n AT %QX0 : INT' G4
 change "an input that is assigned" 'RETAIN n : INT' 'n AT %IW0 : INT' G3
