@@ -20,6 +20,7 @@ use Rattle.st_layouts.specs.TextLayouts.{instances_of_text, slots_of_text}
 use Rattle.layout.specs.declared.layout_error.LayoutError.{LayoutError}
 use Rattle.layout.specs.declared.layout_error.LayoutError.TheVariants as layouts
 use Rattle.layout.specs.declared.limits.TheConstants.{MAX_INSTANCES}
+use Rattle.st_compile.specs.declared.compile_error.CompileError.TheVariants as coding
 use Rattle.config.specs.declared.plan.Plan.{Plan}
 use Rattle.config.specs.PlanViews.{plan_view}
 use Rattle.st_build.specs.declared.build_error.BuildError.{BuildError}
@@ -87,7 +88,10 @@ refused source budget plan (errors.Layout layouts.TooLarge) of h =
     absurd (not_large (nat_lt MAX_PATHS (length (slots_of_text source)))
     (nat_lt MAX_INSTANCES (instances_of_text source)) a b h.1)
 refused source budget plan (errors.Layout layouts.OutOfMemory) of h = h.1
-refused source budget plan (errors.Code x) of h = h.1
+refused source budget plan (errors.Code coding.NotLinked) of h = absurd h.1
+refused source budget plan (errors.Code coding.TooManyPlaces) of h = tt
+refused source budget plan (errors.Code coding.TooManyInstructions) of h = tt
+refused source budget plan (errors.Code coding.OutOfMemory) of h = tt
 refused source budget plan errors.RecordTooLong of h = let a = of.record_is in let b = h.1 in absurd (omega arith)
 refused source budget plan errors.Memory of h = h
 

@@ -35,7 +35,7 @@ use Rattle.layout.specs.declared.slots.LayoutSlot.{LayoutSlot}
 use Rattle.layout.specs.TextLayouts.{IsLayoutOf, slot_view, variables_among, inputs_among}
 use Rattle.coded_programs.specs.Codes.{CodeView, code_view}
 use Rattle.coded_programs.specs.Meanings.{Means}
-use Rattle.text_codes.specs.Codes.{AreCodesOf, IsMeant}
+use Rattle.text_codes.specs.Codes.{AreCodesOf, IsMeant, ReadsAsAsked}
 use Rattle.config.specs.declared.slots.SlotPlace.{SlotPlace}
 use Rattle.config.specs.declared.task.ProgramInstance.{ProgramInstance}
 use Rattle.config.specs.declared.task.Task.{Task}
@@ -225,6 +225,7 @@ module _ (source tree : Source) (slots : List LayoutSlot) (codes : List CodeView
 
   pub record IsMade (made : List ProgramInstance) (k : ℕ) (p : ProgramInstance) : Type 0 where
     pub code : IsCodeOf tree (slots_among (numbered_from 0 0 slots) vs is) p
+    pub reads : ReadsAsAsked (slots_of_text source) (code_view p.code.value) (program_numbered tree p.number)
     pub place : slice_get (places_from 0 0 rs) k
         ≡ Some (record { owner = p.owner; resource = p.resource; task = p.task })
 
@@ -249,6 +250,8 @@ module _ (source tree : Source) (slots : List LayoutSlot) (codes : List CodeView
               (subst (λ x. Means (slots_of_text source) x q.0) same m.means));
           owner = ap (λ (x : Program). x.owner) program ∙ q.2;
         };
+        reads = subst (λ x. ReadsAsAsked (slots_of_text source) (code_view p.code.value) x) (sym program)
+            (subst (λ x. ReadsAsAsked (slots_of_text source) x q.0) same m.reads);
         place = i.place;
       }
 
@@ -294,6 +297,16 @@ module _ (source tree : Source) (slots : List LayoutSlot) (codes : List CodeView
       short n ps [] = omega arith
       short n [] (x ∷ cs) = omega arith
       short n (p ∷ ps) (x ∷ cs) = let r = short (suc n) ps cs in omega arith
+
+  -- each path of the text has one slot
+  pub slots_once : IsLayout (slots_of_text source)
+  slots_once = text_layout source (parts_right source judged.well_typed).names.all
+
+  -- its codes read what their programs ask for
+  pub plan_reads : (made : List ProgramInstance) → map instance_view made ≡ instances_from 0 (places_from 0 0 rs) codes
+      → (k : ℕ) (p : ProgramInstance) → slice_get made k ≡ Some p
+      → ReadsAsAsked (slots_of_text source) (code_view p.code.value) (program_numbered tree p.number)
+  plan_reads made h k p g = (made_at made h k p g).reads
 
   -- the plan is sound
   pub plan_is_sound : (made : List ProgramInstance) → map instance_view made ≡ instances_from 0 (places_from 0 0 rs) codes
@@ -454,6 +467,19 @@ module _ (source tree : Source) (slots : List LayoutSlot) (codes : List CodeView
         (subst (λ t. PlanInvariant tree (enumerations_of_text source) (variables_among slots) (inputs_among slots)
         (numbered_from 0 0 slots) (length (resources_of source)) t made budget) (sym tasks_from_slots)
         (plan_is_sound source tree slots codes budget ready made made_is short_is))))))
+
+    -- what is so of the text's slots is so of the plan's
+    pub own_slots : (P : List Slot → Type 0) → P (slots_of_text source) → (ps : List SlotPlace)
+        → ps ≡ numbered_from 0 0 slots → P (slots_among ps vs is)
+    own_slots P h ps e =
+        subst (λ ws. P (slots_among ps ws is)) (sym from.variables_are)
+        (subst (λ js. P (slots_among ps (variables_among slots) js)) (sym from.inputs_are)
+        (subst (λ qs. P (slots_among qs (variables_among slots) (inputs_among slots))) (sym e)
+        (subst P (sym (among source tree slots codes budget ready)) h)))
+
+    pub reading_plan : (k : ℕ) (p : ProgramInstance) → slice_get made k ≡ Some p
+        → ReadsAsAsked (slots_of_text source) (code_view p.code.value) (program_numbered tree p.number)
+    reading_plan k p g = plan_reads source tree slots codes budget ready made made_is k p g
 
     pub text_plan : (plan : plans.Plan) → plan.enumerations ≡ types → plan.variables ≡ vs → plan.inputs ≡ is
         → plan.resources ≡ many → plan.tasks ≡ map (task_view vs) tasks

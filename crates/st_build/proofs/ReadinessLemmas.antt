@@ -1,5 +1,5 @@
 -- What is known of a text that is judged.
-use Rattle.std.proofs.Common.{◌≡◌, ◌≤◌, ℕ, List, Result, Ok, Err, IfOk, IfErr, map, true}
+use Rattle.std.proofs.Common.{◌≡◌, refl, ◌≤◌, ℕ, List, Result, Ok, Err, IfOk, IfErr, map, true}
 use Rattle.std.specs.List.{list_all}
 use Rattle.st_words.specs.declared.limits.TheConstants.{MAX_BUDGET}
 use Rattle.st_trees.specs.Sources.{Source}
@@ -14,7 +14,10 @@ use Rattle.config.specs.Sound.{are_different, has_line}
 use Rattle.layout.specs.declared.slots.LayoutSlot.{LayoutSlot}
 use Rattle.layout.specs.TextLayouts.{IsLayoutOf}
 use Rattle.coded_programs.specs.Codes.{CodeView}
+use Rattle.st_compile.specs.declared.compile_error.CompileError.{CompileError}
+use Rattle.st_compile.specs.declared.compile_error.CompileError.TheVariants as coding
 use Rattle.text_codes.specs.Codes.{AreCodesOf}
+use Rattle.text_fitting.specs.Spelled.{IsSpelled}
 use Rattle.text_links.specs.Accepted.{IsAccepted}
 use Rattle.st_build.specs.declared.build_error.BuildError.{BuildError}
 use Rattle.st_build.specs.declared.build_error.BuildError.TheVariants as errors
@@ -25,11 +28,13 @@ use Rattle.st_build.proofs.ConfiguredLemmas.{only}
 -- a parsed text that breaks no rule, with a sound configuration, is judged
 pub judged_from : (text : List ℕ) (source : Source) → IsTextOf text source → IsWellTyped source → IsConfigured source
     → list_all (has_line (enumerations_of_text source)) (plan_variables_of_text source) ≡ true
-    → are_different (map (λ v. path_text v.path) (plan_variables_of_text source)) ≡ true → IsJudged source
-judged_from text source of well sound lines apart = record {
+    → are_different (map (λ v. path_text v.path) (plan_variables_of_text source)) ≡ true → IsSpelled source
+    → IsJudged source
+judged_from text source of well sound lines apart spelled = record {
   well_typed = well;
   functions = λ f u t declared sort. functions_clean source f u t of.parsed declared sort;
   configured = sound;
+  spelled = spelled;
   lines = lines;
   different = apart;
 }
@@ -46,6 +51,14 @@ source_lacks source (errors.Layout x) well h = (well, h)
 source_lacks source (errors.Code x) well h = (well, h)
 source_lacks source errors.RecordTooLong well h = (well, h)
 source_lacks source errors.Memory well h = h
+
+-- of a code that is not made, only its size or want of memory is told
+pub code_lacks : (source : Source) (e : CompileError) → (e ≡ coding.NotLinked → ⊥)
+    → LacksPlan source (errors.Code e)
+code_lacks source coding.NotLinked h = h refl
+code_lacks source coding.TooManyPlaces h = tt
+code_lacks source coding.TooManyInstructions h = tt
+code_lacks source coding.OutOfMemory h = tt
 
 -- it is accepted
 pub accepted : (source : Source) → IsJudged source → IsAccepted source

@@ -13,14 +13,16 @@ use Rattle.layout.specs.declared.slots.LayoutSlot.{LayoutSlot}
 use Rattle.layout.specs.TextLayouts.{IsLayoutOf}
 use Rattle.coded_programs.specs.Codes.{CodeView}
 use Rattle.text_codes.specs.Codes.{AreCodesOf}
+use Rattle.text_fitting.specs.Spelled.{IsSpelled}
 use Rattle.config.specs.Sound.{are_different, has_line}
 
--- A text of the grammar that breaks no rule, with a sound configuration. Its variables have lines in a record, each
--- another.
+-- A text of the grammar that breaks no rule, with a sound configuration. Its literals are as the grammar gives them, and
+-- its variables have lines in a record, each another.
 pub record IsJudged (source : Source) : Type 0 where
   pub well_typed : IsWellTyped source
   pub functions : HaveFunctionsNoExternals source
   pub configured : IsConfigured source
+  pub spelled : IsSpelled source
   pub lines : list_all (has_line (enumerations_of_text source)) (plan_variables_of_text source) ≡ true
   pub different : are_different (map (λ v. path_text v.path) (plan_variables_of_text source)) ≡ true
 

@@ -17,6 +17,7 @@ use Rattle.st_plans.specs.Plans as plans
 use Rattle.st_layouts.specs.TextLayouts.{enumerations_of_text, instances_of_text, plan_variables_of_text, slots_of_text}
 use Rattle.layout.specs.declared.layout_error.LayoutError.TheVariants as layouts
 use Rattle.layout.specs.Growth.{Exceeds}
+use Rattle.st_compile.specs.declared.compile_error.CompileError.TheVariants as coding
 use Rattle.text_paths.specs.Texts.{IsTextOf}
 use Rattle.config.specs.declared.plan.Plan.{Plan}
 use Rattle.config.specs.PlanViews.{plan_view}
@@ -24,10 +25,11 @@ use Rattle.st_build.specs.declared.build_error.BuildError.{BuildError}
 use Rattle.st_build.specs.declared.build_error.BuildError.TheVariants as errors
 
 -- Why a well-typed text has no plan: its configuration is not sound, or it is too large. Of code that has no room
--- nothing is said, nor of want of memory.
+-- nothing is said, nor of want of memory; code is made of each such text but for its size.
 abbrev pub LacksPlan : Source → BuildError → Type 0
 LacksPlan source (errors.Configuration e) = IsMisconfigured source e
 LacksPlan source (errors.Layout e) = Exceeds (length (slots_of_text source)) (instances_of_text source) e
+LacksPlan source (errors.Code coding.NotLinked) = ⊥
 LacksPlan source (errors.Code e) = Unit {0}
 LacksPlan source errors.RecordTooLong =
     MAX_RECORD_BODY < record_length (enumerations_of_text source) (plan_variables_of_text source)
@@ -56,6 +58,7 @@ IsWant (errors.Grammar grammar.Memory) = Unit {0}
 IsWant (errors.Rule checking.OutOfMemory) = Unit {0}
 IsWant (errors.Configuration configurations.OutOfMemory) = Unit {0}
 IsWant (errors.Layout layouts.OutOfMemory) = Unit {0}
+IsWant (errors.Code coding.NotLinked) = ⊥
 IsWant (errors.Code e) = Unit {0}
 IsWant _ = ⊥
 

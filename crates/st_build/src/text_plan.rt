@@ -6,6 +6,7 @@ ghost use Rattle.st_trees.specs.Sources as trees;
 ghost use Rattle.coded_programs.specs.Codes.{code_view};
 ghost use Rattle.config.specs.PlanViews.{plan_view};
 ghost use Rattle.st_build.specs.Readiness.{IsReady};
+ghost use Rattle.st_build.specs.Reads.{ReadsWhatItAsksFor};
 ghost use Rattle.st_build.specs.Refusals.{LacksPlan};
 ghost use Rattle.st_build.specs.TextPlans.{IsPlanOf};
 
@@ -37,6 +38,7 @@ pub fn plan_from(
     ensures plan { IfOk result (λ plan. (text : trees.Source)
         → IsReady text (source_view tree) layout.now.slots.items (map code_view codes.items) budget
         → IsPlanOf text budget (plan_view plan)) }
+    ensures reads { IfOk result (λ plan. ReadsWhatItAsksFor plan) }
     ensures refused { IfErr result (λ e. (text : trees.Source)
         → IsReady text (source_view tree) layout.now.slots.items (map code_view codes.items) budget
         → LacksPlan text e) }

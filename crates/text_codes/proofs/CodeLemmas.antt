@@ -23,7 +23,7 @@ use Rattle.text_fitting.specs.Compiled.{AreCompiled}
 use Rattle.coded_programs.specs.Codes.{CodeView}
 use Rattle.coded_programs.specs.Meanings.{Means}
 use Rattle.coded_texts.specs.ProgramCodes.{IsCodeOf}
-use Rattle.text_codes.specs.Codes.{AreCodesOf, AreCodesOver, IsCodeOver}
+use Rattle.text_codes.specs.Codes.{AreCodesOf, AreCodesOver, IsCodeOver, ReadsAsAsked}
 
 -- one more
 pub one_more : (library : SlotLibrary) (kinds : List Kind) (bodies : List SlotStmts) (codes : List CodeView)
@@ -79,27 +79,31 @@ code_of_text text linked body kinds code are over =
 linked_same : (a b : LinkedText) (o : Option LinkedText) → o ≡ Some a → o ≡ Some b → a ≡ b
 linked_same a b o x y = cc
 
--- Codes over the linked form of a text mean its programs.
+-- Codes over the linked form of a text mean its programs, and read what they ask for.
 pub codes_mean : (text : Source) (kept : KeptText) (kinds : List Kind) (codes : List CodeView)
     (linked : IsLinked text kept) → kinds ≡ map (λ l. l.kind) (slots_of_text text)
     → AreCodesOver linked.whole.library kinds kept.programs codes
+    → ((n : ℕ) (p : Program) (body : SlotStmts) (code : CodeView)
+    → slice_get (programs_of_text text) n ≡ Some p → slice_get linked.whole.programs n ≡ Some body
+    → IsCodeOf text linked.whole body 64 code → ReadsAsAsked (slots_of_text text) code p)
     → ((n : ℕ) (p : Program) → slice_get (programs_of_text text) n ≡ Some p → HasCodeRuns text n p)
     → ((n : ℕ) (p : Program) (whole : LinkedText) (body : SlotStmts) (depth : ℕ) (code : CodeView)
     → HasCodeRuns text n p → linked_source text ≡ Some whole → slice_get whole.programs n ≡ Some body
     → IsCodeOf text whole body depth code → Means (slots_of_text text) code p)
     → AreCodesOf text codes
-codes_mean text kept kinds codes linked are over runs mean = λ n p there.
+codes_mean text kept kinds codes linked are over read runs mean = λ n p there.
     let has = runs n p there in
     let same = linked_same has.linked linked.whole (linked_source text) has.is linked.linked in
     let in_whole : slice_get linked.whole.programs n ≡ Some has.body =
     subst (λ (l : LinkedText). slice_get l.programs n ≡ Some has.body) same has.there in
     let found = code_at linked.whole.library kinds kept.programs codes n has.body over
     (ap (λ ps. slice_get ps n) linked.part.programs ∙ in_whole) in
+    let made = code_of_text text linked.whole has.body kinds found.code are found.over in
     record {
       code = found.code;
       is = found.is;
-      means = mean n p linked.whole has.body 64 found.code has linked.linked in_whole
-          (code_of_text text linked.whole has.body kinds found.code are found.over);
+      means = mean n p linked.whole has.body 64 found.code has linked.linked in_whole made;
+      reads = read n p has.body found.code there in_whole made;
     }
 
 -- the types of slots of a layout

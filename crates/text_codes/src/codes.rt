@@ -21,18 +21,20 @@ ghost use Rattle.text_codes.specs.Codes.{AreCodesOf, AreCodesOver, IsCodeOver};
 
 use crate::slot_kinds::kinds_of;
 use coded_programs::Code;
-use coded_texts::code_of_texts_means_their_programs;
+use coded_texts::{code_of_texts_fails_as_their_programs, code_of_texts_means_their_programs};
 use layout::Layout;
 use slot_bodies::{SlotLibrary, SlotStmt};
 use st_coded::code_of_accepted_texts_does_what_their_programs_do;
 use st_compile::{CompileError, compile};
 use st_link::LinkError;
+use st_linked::programs_of_accepted_texts_run_by_slots;
 use st_trees::Source;
 use st_words::Kind;
 use std::alloc::Global;
 use std::sync::Arc;
 use text_fitting::accepted_texts_are_compiled;
 use text_links::{LinkedText, link};
+use text_reads::codes_of_accepted_texts_look_globals_up;
 
 /// A text linked.
 fn linked_text(alloc: Global, source: &Source) -> Result<LinkedText, CompileError>
@@ -97,7 +99,8 @@ fn codes_of_programs(
 /// The text is given by its tree in which each literal has its type.
 ///
 /// Each code means its program: over any values of the layout's slots the machine ends as the program does, with the
-/// same outcome, and leaves the same variables. There are as many codes as the text has programs.
+/// same outcome, and leaves the same variables. What its runs read of globals and inputs the program asks for. There are
+/// as many codes as the text has programs.
 ///
 /// M1 where calls of functions take more than 4,096 places in one program, M2 beyond 16,384 instructions, M3 out of
 /// memory. Of an accepted text over its layout, with its literals as the grammar gives them, no other error comes.
@@ -117,6 +120,9 @@ pub fn codes_of_text(
     accepted_texts_are_compiled();
     code_of_accepted_texts_does_what_their_programs_do();
     code_of_texts_means_their_programs();
+    code_of_texts_fails_as_their_programs();
+    codes_of_accepted_texts_look_globals_up();
+    programs_of_accepted_texts_run_by_slots();
     let linked = linked_text(alloc, source)?;
     let kinds = Arc::new(alloc, kinds_of(alloc, &layout.slots)?)?;
     codes_of_programs(alloc, &linked.library, &kinds, &linked.programs)

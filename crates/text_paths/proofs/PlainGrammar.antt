@@ -33,7 +33,7 @@ use Rattle.st_parse.specs.Configurations.{IsInstance, IsResource, IsConfiguratio
 use Rattle.st_parse.specs.Sources as s
 use Rattle.st_parse.specs.Sources.{IsLibraryElement, IsSource}
 use Rattle.st_layouts.proofs.ListLemmas.{both, both_are}
-use Rattle.text_paths.specs.PlainDeclarations.{is_short, is_word, is_plain_simple, is_plain_array, is_plain_type}
+use Rattle.text_paths.specs.PlainDeclarations.{is_plain_number, is_word, is_plain_simple, is_plain_array, is_plain_type}
 use Rattle.text_paths.specs.PlainDeclarations.{is_plain_field, is_plain_definition, is_plain_type_declaration}
 use Rattle.text_paths.specs.PlainDeclarations.{is_plain_declaration, is_plain_block, is_plain_unit, are_words}
 use Rattle.text_paths.specs.PlainDeclarations.{is_plain_global, is_plain_globals, is_plain_instance, is_plain_resource}
@@ -43,17 +43,17 @@ use Rattle.text_paths.proofs.PlainTokens.{is_plain_kind, is_plain_token, tokens_
 use Rattle.text_paths.proofs.PlainRest.{ArePlain, token_rest, initial_rest, stmts_rest}
 
 -- What was read passes, and what stands behind it is plain.
-abbrev Gives : Bool → Tokens → Type 0
+abbrev pub Gives : Bool → Tokens → Type 0
 Gives b us = (b ≡ true) × ArePlain us
 
 -- One that is read of plain tokens passes.
-abbrev Passing : {A : Type 0} → (Tokens → A → Tokens → Type 0) → (A → Bool) → Type 0
+abbrev pub Passing : {A : Type 0} → (Tokens → A → Tokens → Type 0) → (A → Bool) → Type 0
 Passing {A} One p = (ts : Tokens) (x : A) (us : Tokens) → One ts x us → ArePlain ts → Gives (p x) us
 
-abbrev anything : {A : Type 0} → A → Bool
+abbrev pub anything : {A : Type 0} → A → Bool
 anything x = true
 
-many_plain : {A : Type 0} {One : Tokens → A → Tokens → Type 0} (p : A → Bool) → Passing One p → {ts us : Tokens}
+pub many_plain : {A : Type 0} {One : Tokens → A → Tokens → Type 0} (p : A → Bool) → Passing One p → {ts us : Tokens}
     {xs : List A} → Many One ts xs us → ArePlain ts → Gives (list_all p xs) us
 many_plain p passing no_more h = (refl, h)
 many_plain p passing (one_more {ts} {us} {vs} {x} {xs} o r) h =
@@ -107,7 +107,7 @@ name_plain_in (kinds.Duration k) at x e h = absurd (cc)
 name_plain_in (kinds.Address k) at x e h = absurd (cc)
 name_plain_in (kinds.Enumerated k l) at x e h = absurd (cc)
 
-name_plain : Passing (Is name) is_word
+pub name_plain : Passing (Is name) is_word
 name_plain rs x vs (is {t = t} {us = us} e) h =
     (name_plain_in t.kind t.start x e (first_plain t us h), (both (is_plain_token t) (list_all is_plain_token us) h).1)
 
@@ -119,9 +119,9 @@ names_plain {xs = xs} l h =
 
 -- numbers
 whole_plain_in : (k : TokenKind) (at : ℕ) (n : NumberLeaf) → whole_in at k ≡ Some n → is_plain_kind k ≡ true
-    → is_short n.magnitude ≡ true
+    → is_plain_number n ≡ true
 whole_plain_in (kinds.Number w) at n e h =
-    let s : unsigned at w ≡ n = cc in ap (λ (k : NumberLeaf). is_short k.magnitude) (sym s) ∙ h
+    let s : unsigned at w ≡ n = cc in ap is_plain_number (sym s) ∙ h
 whole_plain_in (kinds.Name y) at n e h = absurd (cc)
 whole_plain_in (kinds.Elementary k) at n e h = absurd (cc)
 whole_plain_in (kinds.Keyword k) at n e h = absurd (cc)
@@ -131,15 +131,15 @@ whole_plain_in (kinds.Duration k) at n e h = absurd (cc)
 whole_plain_in (kinds.Address k) at n e h = absurd (cc)
 whole_plain_in (kinds.Enumerated k l) at n e h = absurd (cc)
 
-whole_plain : {ts us : Tokens} {n : NumberLeaf} → Is whole ts n us → ArePlain ts → Gives (is_short n.magnitude) us
+whole_plain : {ts us : Tokens} {n : NumberLeaf} → Is whole ts n us → ArePlain ts → Gives (is_plain_number n) us
 whole_plain {n = n} (is {t = t} {us = us} e) h =
     (whole_plain_in t.kind t.start n e (first_plain t us h), (both (is_plain_token t) (list_all is_plain_token us) h).1)
 
-number_plain : {ts us : Tokens} {n : NumberLeaf} → IsNumber ts n us → ArePlain ts → Gives (is_short n.magnitude) us
+pub number_plain : {ts us : Tokens} {n : NumberLeaf} → IsNumber ts n us → ArePlain ts → Gives (is_plain_number n) us
 number_plain (plain p) h = whole_plain p h
 number_plain (negative at k p q eq) h =
     let a = whole_plain q (token_rest p h) in
-    (ap (λ (l : NumberLeaf). is_short l.magnitude) eq ∙ a.0, a.1)
+    (ap is_plain_number eq ∙ a.0, a.1)
 
 -- types
 simple_plain_in : (k : TokenKind) (at : ℕ) (x : SimpleType) → simple_in at k ≡ Some x → is_plain_kind k ≡ true
@@ -167,8 +167,8 @@ array_plain (t.array at lower upper element i b n r m e o p eq) h =
     let l = number_plain n (token_rest b.1 (token_rest i h)) in
     let k = number_plain m (token_rest r.1 l.1) in
     let s = simple_plain p (token_rest o.1 (token_rest e.1 k.1)) in (
-      ap is_plain_array eq ∙ both_are (is_short lower.magnitude && is_short upper.magnitude) (is_plain_simple element)
-          (both_are (is_short lower.magnitude) (is_short upper.magnitude) l.0 k.0) s.0,
+      ap is_plain_array eq ∙ both_are (is_plain_number lower && is_plain_number upper) (is_plain_simple element)
+          (both_are (is_plain_number lower) (is_plain_number upper) l.0 k.0) s.0,
       s.1,
     )
 
@@ -210,7 +210,7 @@ types_plain (t.block b i z) h =
     (a.0, token_rest z.1 a.1)
 
 -- variables
-declaration_plain : Passing IsDeclaration is_plain_declaration
+pub declaration_plain : Passing IsDeclaration is_plain_declaration
 declaration_plain rs d vs (u.declared xs y v n c ty g z eq) h =
     let a = names_plain n h in
     let b = type_plain ty (token_rest c.1 a.1) in (
@@ -224,7 +224,7 @@ external_plain rs d vs (u.external xs y n c ty z eq) h =
     let b = type_plain ty (token_rest c.1 a.1) in
     (ap is_plain_declaration eq ∙ both_are (list_all is_word xs) (is_plain_type y) a.0 b.0, token_rest z.1 b.1)
 
-function_section_plain : Passing IsFunctionSection anything
+pub function_section_plain : Passing IsFunctionSection anything
 function_section_plain rs s vs (u.input i eq) h = (refl, token_rest i.1 h)
 function_section_plain rs s vs (u.own i eq) h = (refl, token_rest i.1 h)
 function_section_plain rs s vs (u.constant i k eq) h = (refl, token_rest k.1 (token_rest i.1 h))
@@ -245,19 +245,19 @@ external_section_plain : Passing IsExternalSection anything
 external_section_plain rs s vs (u.variable i eq) h = (refl, token_rest i.1 h)
 external_section_plain rs s vs (u.constant i k eq) h = (refl, token_rest k.1 (token_rest i.1 h))
 
-block_plain : (IsSection : Tokens → Section → Tokens → Type 0) (IsOne : Tokens → Declaration → Tokens → Type 0)
+pub block_plain : (IsSection : Tokens → Section → Tokens → Type 0) (IsOne : Tokens → Declaration → Tokens → Type 0)
     → Passing IsSection anything → Passing IsOne is_plain_declaration → Passing (IsBlock IsSection IsOne) is_plain_block
 block_plain IsSection IsOne section one rs b vs (u.block {ts} {us} s ds i m z eq) h =
     let a = many_plain is_plain_declaration one m (section ts s us i h).1 in
     (ap is_plain_block eq ∙ a.0, token_rest z.1 a.1)
 
-program_block_plain : Passing IsProgramBlock is_plain_block
+pub program_block_plain : Passing IsProgramBlock is_plain_block
 program_block_plain rs b vs (u.own i) =
     block_plain IsOwnSection IsDeclaration own_section_plain declaration_plain rs b vs i
 program_block_plain rs b vs (u.external i) =
     block_plain IsExternalSection IsExternal external_section_plain external_plain rs b vs i
 
-variable_block_plain : Passing IsFunctionBlockBlock is_plain_block
+pub variable_block_plain : Passing IsFunctionBlockBlock is_plain_block
 variable_block_plain rs b vs (u.own i) =
     block_plain IsBlockSection IsDeclaration block_section_plain declaration_plain rs b vs i
 variable_block_plain rs b vs (u.external i) =
@@ -344,7 +344,7 @@ configuration_plain (c.configuration x gs rs k n m i e eq) h =
       token_rest e.1 d.1,
     )
 
-element_plain : Passing IsLibraryElement is_plain_element
+pub element_plain : Passing IsLibraryElement is_plain_element
 element_plain rs x vs (s.types xs i eq) h = let a = types_plain i h in (ap is_plain_element eq ∙ a.0, a.1)
 element_plain rs x vs (s.unit v i eq) h = let a = unit_plain i h in (ap is_plain_element eq ∙ a.0, a.1)
 element_plain rs x vs (s.configuration k i eq) h =

@@ -101,7 +101,7 @@ mutual
   member_rest (i.member x v n o s q) h = initial_rest s (token_rest o.1 (token_rest n h))
 
 -- statements
-argument_rest : {ts us : Tokens} {a : Argument} → IsArgument ts a us → ArePlain ts → ArePlain us
+pub argument_rest : {ts us : Tokens} {a : Argument} → IsArgument ts a us → ArePlain ts → ArePlain us
 argument_rest (given x v n o i eq) h = expr_rest i (token_rest o.1 (token_rest n h))
 argument_rest (copied x v n o i eq) h = variable_rest i (token_rest o.1 (token_rest n h))
 
@@ -113,7 +113,7 @@ call_rest : {ts us : Tokens} {xs : List Argument} → IsArguments ts xs us → A
 call_rest s.no_argument h = h
 call_rest (s.argument i r) h = more_call_rest r (argument_rest i h)
 
-label_rest : {ts us : Tokens} {l : Label} → IsLabel ts l us → ArePlain ts → ArePlain us
+pub label_rest : {ts us : Tokens} {l : Label} → IsLabel ts l us → ArePlain ts → ArePlain us
 label_rest (s.single n i eq) h = number_rest i h
 label_rest (named v i eq) h = token_rest i h
 label_rest (range a b i o j eq) h = number_rest j (token_rest o.1 (number_rest i h))
@@ -122,10 +122,10 @@ more_labels_rest : {ts us : Tokens} {xs : List Label} → IsMoreLabels ts xs us 
 more_labels_rest no_more_labels h = h
 more_labels_rest (next_label c i r) h = more_labels_rest r (label_rest i (token_rest c.1 h))
 
-labels_rest : {ts us : Tokens} {xs : List Label} → IsLabels ts xs us → ArePlain ts → ArePlain us
+pub labels_rest : {ts us : Tokens} {xs : List Label} → IsLabels ts xs us → ArePlain ts → ArePlain us
 labels_rest (labels i r) h = more_labels_rest r (label_rest i h)
 
-step_rest : {ts us : Tokens} {o : Option Expr} → IsStep ts o us → ArePlain ts → ArePlain us
+pub step_rest : {ts us : Tokens} {o : Option Expr} → IsStep ts o us → ArePlain ts → ArePlain us
 step_rest no_step h = h
 step_rest (step x p i eq) h = expr_rest i (token_rest p.1 h)
 

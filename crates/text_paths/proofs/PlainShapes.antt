@@ -36,7 +36,8 @@ use Rattle.st_layouts.specs.Types.{retention_of, sites_of_blocks, site_of_field,
 use Rattle.st_layouts.specs.Types.{own_block_type, block_type_named, instance_of, Composition, of_kind, of_elements}
 use Rattle.st_layouts.specs.Types.{of_parts, instance_parts, defined_composition, composition_of, lower_of, count_of}
 use Rattle.st_layouts.specs.Types.{element_of, parts_of, composed_shape, shape_within}
-use Rattle.text_paths.specs.PlainDeclarations.{is_short, is_elementary, is_word, is_plain_simple, is_plain_array}
+use Rattle.text_paths.specs.PlainDeclarations.{is_short, is_type_word, is_plain_number, is_elementary, is_word}
+use Rattle.text_paths.specs.PlainDeclarations.{is_plain_simple, is_plain_array}
 use Rattle.text_paths.specs.PlainDeclarations.{is_plain_type, is_plain_field, is_plain_definition}
 use Rattle.text_paths.specs.PlainDeclarations.{is_plain_type_declaration, is_plain_declaration, is_plain_block}
 use Rattle.text_paths.specs.PlainDeclarations.{is_plain_unit}
@@ -146,8 +147,9 @@ record IsBound (z : ℤ) : Type 0 where
   low : neg_ℤ (pos (2 ^ 64 - 1)) ≤ℤ z
   high : z ≤ℤ pos (2 ^ 64 - 1)
 
-bound_is : (n : Number) → is_short n.magnitude ≡ true → IsBound (number_of n)
-bound_is n h = by_sign n.is_negative (ltb-true n.magnitude (2 ^ 64) h)
+bound_is : (n : Number) → is_plain_number n ≡ true → IsBound (number_of n)
+bound_is n h =
+    by_sign n.is_negative (ltb-true n.magnitude (2 ^ 64) (both (is_short n.magnitude) (is_type_word n.written) h).0)
   where
     by_sign : (b : Bool) → n.magnitude < 2 ^ 64 → IsBound (if b then neg_ℤ (pos n.magnitude) else pos n.magnitude)
     by_sign true small = record { low = omega (arith, ints); high = omega (arith, ints) }
@@ -189,8 +191,8 @@ module _ (good : Kind → Bool) where
   array_plain : (a : ArrayType) (inner : List Leaf) → is_plain_array a ≡ true → list_all is_plain_leaf inner ≡ true
       → list_all is_plain_leaf (leaves_of_elements (lower_of a) (count_of a) inner) ≡ true
   array_plain a inner h g =
-      let b = both (is_short a.lower.magnitude && is_short a.upper.magnitude) (is_plain_simple a.element) h in
-      let c = both (is_short a.lower.magnitude) (is_short a.upper.magnitude) b.0 in
+      let b = both (is_plain_number a.lower && is_plain_number a.upper) (is_plain_simple a.element) h in
+      let c = both (is_plain_number a.lower) (is_plain_number a.upper) b.0 in
       let lower = bound_is a.lower c.0 in
       elements_plain (lower_of a) (count_of a) inner lower.low
       (ends_low (lower_of a) (number_of a.upper) ((number_of a.upper -ℤ lower_of a) +ℤ pos 1) lower
@@ -215,7 +217,7 @@ module _ (good : Kind → Bool) where
         → list_all is_plain_leaf (leaves_of (composed_shape inner c)) ≡ true
     composition_shaped (of_kind k) h = both_are (good k) true h refl
     composition_shaped (of_elements a) h = array_plain a (leaves_of (inner (element_of a))) h
-        (ih (element_of a) (both (is_short a.lower.magnitude && is_short a.upper.magnitude)
+        (ih (element_of a) (both (is_plain_number a.lower && is_plain_number a.upper)
         (is_plain_simple a.element) h).1)
     composition_shaped (of_parts w ds) h = parts_plain ds h
 

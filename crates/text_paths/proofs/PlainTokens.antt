@@ -1,4 +1,5 @@
--- What the lexer gives: names are words, numbers have at most 64 bits, and no token is an enumerated type.
+-- What the lexer gives: names are words, numbers have at most 64 bits, durations at most 63, and no token is an
+-- enumerated type or has one before a `#`.
 use Rattle.std.proofs.Common.{◌≡◌, refl, sym, ap, ap₂, ◌∙◌, subst, ℕ, suc, zero, ◌+◌, ◌^◌, ◌<◌, Bool, true, false, not}
 use Rattle.std.proofs.Common.{◌&&◌, ◌||◌, ◌==◌, cond, List, [], ◌∷◌, length, take, drop, Option, Some, None, arith}
 use Rattle.std.proofs.Common.{inl, inr}
@@ -32,21 +33,22 @@ use Rattle.st_lex.specs.Numbers.{behind_hash, magnitude, is_whole, with_type, ty
 use Rattle.st_lex.specs.ReservedWords.{types, keyword_of, elementary, truth, reserved}
 use Rattle.st_lex.specs.Literals as literals
 use Rattle.st_lex.specs.Literals.{literal}
-use Rattle.st_lex.specs.Durations.{duration}
+use Rattle.st_lex.specs.Durations.{duration, is_duration, milliseconds, fits, parts, units}
 use Rattle.st_lex.specs.Addresses.{address}
 use Rattle.st_lex.specs.Words.{word_length, upper, must_be_literal, is_identifier, named, read_as, identifier, is_name}
 use Rattle.st_lex.specs.Words.{begins_duration, enumerated, literal_of, word_front}
 use Rattle.st_lex.specs.Marks.{longest_mark, read_mark, mark_front}
 use Rattle.st_lex.specs.Fronts.{front_of}
 use Rattle.st_lex.specs.Texts.{Spells, ends, blank, token}
-use Rattle.text_paths.specs.PlainDeclarations.{is_elementary, is_short}
+use Rattle.text_paths.specs.PlainDeclarations.{is_elementary, is_short, is_type_word}
 use Rattle.st_layouts.proofs.ListLemmas.{both, both_are, neither}
 
 -- what is asked of a token
 abbrev pub is_plain_kind : TokenKind → Bool
 is_plain_kind (tokens.Name x) = is_upper_name x
 is_plain_kind (tokens.Elementary k) = is_elementary k
-is_plain_kind (tokens.Number n) = is_short n.magnitude
+is_plain_kind (tokens.Number n) = is_short n.magnitude && is_type_word n.written
+is_plain_kind (tokens.Duration d) = nat_lt d (2 ^ 63)
 is_plain_kind _ = true
 
 abbrev pub is_plain_token : Token → Bool
@@ -78,10 +80,10 @@ each f (Some x) h = h x
 abbrev Short : ℕ → Type 0
 Short n = is_short n ≡ true
 
-below_short : (n : ℕ) → IfSome (below (2 ^ 64) n) Short
-below_short n = by_test (nat_lt n (2 ^ 64)) refl
+below_limit : (limit n : ℕ) → IfSome (below limit n) (λ m. nat_lt m limit ≡ true)
+below_limit limit n = by_test (nat_lt n limit) refl
   where
-    by_test : (b : Bool) → nat_lt n (2 ^ 64) ≡ b → IfSome (if b then Some n else None) Short
+    by_test : (b : Bool) → nat_lt n limit ≡ b → IfSome (if b then Some n else None) (λ m. nat_lt m limit ≡ true)
     by_test true h = h
     by_test false h = tt
 
@@ -90,7 +92,7 @@ unfolding numeral
 numeral_short base word = by_test (is_numeral base word)
   where
     by_test : (b : Bool) → IfSome (if b then below (2 ^ 64) (value_from base 0 word) else None) Short
-    by_test true = below_short (value_from base 0 word)
+    by_test true = below_limit (2 ^ 64) (value_from base 0 word)
     by_test false = tt
 
 in_base_short : (o : Option ℕ) (word : List ℕ) → IfSome (in_base o word) Short
@@ -105,63 +107,8 @@ magnitude_short : (word : List ℕ) → IfSome (magnitude word) Short
 unfolding magnitude
 magnitude_short word = either Short (numeral 10 word) (based word) (numeral_short 10 word) (based_short word)
 
-abbrev ShortNumber : WholeNumber → Type 0
-ShortNumber n = Short n.magnitude
-
-with_type_short : (o : Option Kind) (p : Option ℕ) → IfSome p Short → IfSome (with_type o p) ShortNumber
-with_type_short None None h = tt
-with_type_short None (Some n) h = tt
-with_type_short (Some kind) None h = tt
-with_type_short (Some kind) (Some n) h = by_test (is_whole (row_of kind).sort)
-  where
-    by_test : (b : Bool)
-        → IfSome (if b then Some (record { written = Some kind; magnitude = n; is_decimal = false }) else None)
-        ShortNumber
-    by_test true = h
-    by_test false = tt
-
-typed_short : (word : List ℕ) → IfSome (typed word) ShortNumber
-unfolding typed
-typed_short word =
-    with_type_short (elementary (before_hash word)) (magnitude (behind_hash word)) (magnitude_short (behind_hash word))
-
-number_short : (word : List ℕ) → IfSome (whole_number word) ShortNumber
-unfolding whole_number
-number_short word =
-    either ShortNumber (option_map (untyped true) (numeral 10 word))
-    (option_or (option_map (untyped false) (based word)) (typed word))
-    (mapped ShortNumber (untyped true) (numeral 10 word) (numeral_short 10 word))
-    (either ShortNumber (option_map (untyped false) (based word)) (typed word)
-    (mapped ShortNumber (untyped false) (based word) (based_short word)) (typed_short word))
-
--- literals
-literal_plain : (word : List ℕ) → IfSome (literal word) PlainKind
-unfolding literal
-literal_plain word =
-    either PlainKind (option_map tokens.Number (whole_number word))
-    (option_or (option_map tokens.Truth (literals.truth word))
-    (option_or (option_map tokens.Duration (duration word)) (option_map tokens.Address (address word))))
-    (mapped PlainKind tokens.Number (whole_number word) (number_short word))
-    (either PlainKind (option_map tokens.Truth (literals.truth word))
-    (option_or (option_map tokens.Duration (duration word)) (option_map tokens.Address (address word)))
-    (each tokens.Truth (literals.truth word) (λ x. refl))
-    (either PlainKind (option_map tokens.Duration (duration word)) (option_map tokens.Address (address word))
-    (each tokens.Duration (duration word) (λ x. refl))
-    (each tokens.Address (address word) (λ x. refl))))
-
-enumerated_plain : (word : List ℕ) → IfSome (enumerated word) PlainKind
-unfolding enumerated
-enumerated_plain word =
-    by_test (is_name (before_hash word) && is_name (behind_hash word) && not (begins_duration word))
-  where
-    by_test : (b : Bool) → IfSome (if b
-        then Some (tokens.Enumerated (upper (before_hash word)) (upper (behind_hash word))) else None) PlainKind
-    by_test true = refl
-    by_test false = tt
-
-read_plain : (fault : LexFault) (n : ℕ) (o : Option TokenKind) → IfSome o PlainKind → IsPlainFront (read_as fault n o)
-read_plain fault n None h = tt
-read_plain fault n (Some k) h = h
+abbrev PlainNumber : WholeNumber → Type 0
+PlainNumber n = (is_short n.magnitude && is_type_word n.written) ≡ true
 
 -- reserved words
 lookup_each : {A : Type 0} (p : A → Bool) (rows : List (List ℕ × A)) (word : List ℕ)
@@ -180,6 +127,84 @@ elementary_plain : (word : List ℕ) → IfSome (elementary word) (λ k. is_elem
 unfolding elementary
 elementary_plain word = lookup_each is_elementary types word refl
 
+-- typed and untyped numbers
+with_type_plain : (o : Option Kind) (p : Option ℕ) → IfSome o (λ k. is_elementary k ≡ true) → IfSome p Short
+    → IfSome (with_type o p) PlainNumber
+with_type_plain None None g h = tt
+with_type_plain None (Some n) g h = tt
+with_type_plain (Some kind) None g h = tt
+with_type_plain (Some kind) (Some n) g h = by_test (is_whole (row_of kind).sort)
+  where
+    by_test : (b : Bool)
+        → IfSome (if b then Some (record { written = Some kind; magnitude = n; is_decimal = false }) else None)
+        PlainNumber
+    by_test true = both_are (is_short n) (is_elementary kind) h g
+    by_test false = tt
+
+typed_plain : (word : List ℕ) → IfSome (typed word) PlainNumber
+unfolding typed
+typed_plain word =
+    with_type_plain (elementary (before_hash word)) (magnitude (behind_hash word)) (elementary_plain (before_hash word))
+    (magnitude_short (behind_hash word))
+
+untyped_plain : (is_decimal : Bool) (o : Option ℕ) → IfSome o Short
+    → IfSome (option_map (untyped is_decimal) o) PlainNumber
+untyped_plain is_decimal None h = tt
+untyped_plain is_decimal (Some n) h = both_are (is_short n) true h refl
+
+number_plain : (word : List ℕ) → IfSome (whole_number word) PlainNumber
+unfolding whole_number
+number_plain word =
+    either PlainNumber (option_map (untyped true) (numeral 10 word))
+    (option_or (option_map (untyped false) (based word)) (typed word))
+    (untyped_plain true (numeral 10 word) (numeral_short 10 word))
+    (either PlainNumber (option_map (untyped false) (based word)) (typed word)
+    (untyped_plain false (based word) (based_short word)) (typed_plain word))
+
+-- durations
+fits_short : (o : Option ℕ) → IfSome (fits o) (λ d. nat_lt d (2 ^ 63) ≡ true)
+fits_short None = tt
+fits_short (Some n) = below_limit (2 ^ 63) n
+
+duration_short : (word : List ℕ) → IfSome (duration word) (λ d. nat_lt d (2 ^ 63) ≡ true)
+unfolding duration milliseconds
+duration_short word = by_test (is_duration word)
+  where
+    by_test : (b : Bool)
+        → IfSome (if b then milliseconds (behind_hash word) else None) (λ d. nat_lt d (2 ^ 63) ≡ true)
+    by_test true = fits_short (parts units true (behind_hash word))
+    by_test false = tt
+
+-- literals
+literal_plain : (word : List ℕ) → IfSome (literal word) PlainKind
+unfolding literal
+literal_plain word =
+    either PlainKind (option_map tokens.Number (whole_number word))
+    (option_or (option_map tokens.Truth (literals.truth word))
+    (option_or (option_map tokens.Duration (duration word)) (option_map tokens.Address (address word))))
+    (mapped PlainKind tokens.Number (whole_number word) (number_plain word))
+    (either PlainKind (option_map tokens.Truth (literals.truth word))
+    (option_or (option_map tokens.Duration (duration word)) (option_map tokens.Address (address word)))
+    (each tokens.Truth (literals.truth word) (λ x. refl))
+    (either PlainKind (option_map tokens.Duration (duration word)) (option_map tokens.Address (address word))
+    (mapped PlainKind tokens.Duration (duration word) (duration_short word))
+    (each tokens.Address (address word) (λ x. refl))))
+
+enumerated_plain : (word : List ℕ) → IfSome (enumerated word) PlainKind
+unfolding enumerated
+enumerated_plain word =
+    by_test (is_name (before_hash word) && is_name (behind_hash word) && not (begins_duration word))
+  where
+    by_test : (b : Bool) → IfSome (if b
+        then Some (tokens.Enumerated (upper (before_hash word)) (upper (behind_hash word))) else None) PlainKind
+    by_test true = refl
+    by_test false = tt
+
+read_plain : (fault : LexFault) (n : ℕ) (o : Option TokenKind) → IfSome o PlainKind → IsPlainFront (read_as fault n o)
+read_plain fault n None h = tt
+read_plain fault n (Some k) h = h
+
+-- reserved words
 reserved_plain : (word : List ℕ) → IfSome (reserved word) PlainKind
 reserved_plain word =
     either PlainKind (option_map tokens.Keyword (keyword_of word))

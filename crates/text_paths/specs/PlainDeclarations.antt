@@ -1,10 +1,11 @@
 -- Declarations as the grammar has them: each name is a word, each bound of an array has at most 64 bits, a type that is
--- no name is elementary, and an enumerated type has names.
-use Rattle.std.specs.Prelude.{ℕ, ◌^◌, ◌&&◌, Bool, true, false, length, nat_lt}
+-- no name is elementary, before a `#` too, and an enumerated type has names.
+use Rattle.std.specs.Prelude.{ℕ, ◌^◌, ◌&&◌, Bool, true, false, length, nat_lt, Option, Some, None}
 use Rattle.std.specs.List.{list_all}
 use Rattle.st_words.specs.declared.identifier.Identifier.{Identifier}
 use Rattle.st_words.specs.declared.kind.Kind.{Kind}
 use Rattle.st_words.specs.declared.kind.Kind.TheVariants.{Enumerated}
+use Rattle.st_words.specs.declared.literal.Number.{Number}
 use Rattle.st_words.specs.UpperNames.{is_upper_name}
 use Rattle.st_trees.specs.declared.configuration.Instance.{Instance}
 use Rattle.st_trees.specs.declared.data_type.ArrayType.{ArrayType}
@@ -29,6 +30,14 @@ abbrev pub is_elementary : Kind → Bool
 is_elementary (Enumerated names number) = false
 is_elementary k = true
 
+-- what stands before a `#`
+abbrev pub is_type_word : Option Kind → Bool
+is_type_word None = true
+is_type_word (Some k) = is_elementary k
+
+abbrev pub is_plain_number : Number → Bool
+is_plain_number n = is_short n.magnitude && is_type_word n.written
+
 -- a name in upper case
 abbrev pub is_word : Identifier → Bool
 is_word x = is_upper_name x.name
@@ -39,7 +48,7 @@ is_plain_simple (Elementary k at) = is_elementary k
 is_plain_simple (Named x) = true
 
 abbrev pub is_plain_array : ArrayType → Bool
-is_plain_array a = is_short a.lower.magnitude && is_short a.upper.magnitude && is_plain_simple a.element
+is_plain_array a = is_plain_number a.lower && is_plain_number a.upper && is_plain_simple a.element
 
 abbrev pub is_plain_type : VariableType → Bool
 is_plain_type (types.Simple t) = is_plain_simple t

@@ -33,6 +33,13 @@ returns-clause-codes c =
     (subst (λ ps. AreCodesOver link.whole.library kinds (map (λ b. slot_stmts_view b.items) ps)
     (map code_view codes.items))
     c.deref-2.ensures.value (over link.whole.library link.part.library))
+    (λ n p body code there in_whole made. record {
+      looked_up = λ k l at nobody. c.codes_of_accepted_texts_look_globals_up.ensures text link.whole n p body 64 code k l
+          accepted link.linked there in_whole made at nobody;
+      fails = c.code_of_texts_fails_as_their_programs.ensures text n p link.whole body 64 code
+          (c.programs_of_accepted_texts_run_by_slots.ensures text accepted.configuration n p accepted.well_typed
+          accepted.functions accepted.only accepted.known there) link.linked in_whole made;
+    })
     (λ n p there. c.code_of_accepted_texts_does_what_their_programs_do.ensures text accepted.configuration n p
     accepted.well_typed accepted.functions accepted.only accepted.known there)
     (c.code_of_texts_means_their_programs.ensures text))

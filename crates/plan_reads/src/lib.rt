@@ -1,0 +1,6 @@
+//! That what an execution of a text's plan reads of globals and inputs is what its program asks for: a law.
+#![tactic(auto)]
+
+mod laws;
+
+pub use laws::executions_of_plans_read_what_is_asked_for;

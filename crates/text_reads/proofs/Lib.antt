@@ -1,0 +1,6 @@
+mod Taking
+mod Codes
+mod Counters
+mod Linked
+mod Units
+mod OwnNames

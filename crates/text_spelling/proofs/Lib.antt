@@ -1,0 +1,2 @@
+mod SpelledGrammar
+mod SpelledArrays
