@@ -8,9 +8,13 @@ usage: tests/language.py PLANT     PLANT is the built program
 """
 import itertools
 import pathlib
+import random
 import subprocess
 import sys
 import tempfile
+
+# what a refusal begins with
+NAME = pathlib.Path(sys.argv[0]).name
 
 # the whole-number types and the bit strings, with their bits
 SIGNED = {"SINT": 8, "INT": 16, "DINT": 32, "LINT": 64}
@@ -60,17 +64,29 @@ class Plant:
     def __init__(self, program, folder):
         self.program, self.folder, self.scenes = program, folder, 0
 
-    def run(self, text, rows="t\n0\n", budget=10000, start="cold", store="store"):
+    def run(self, text, rows="t\n0\n", budget=10000, start="cold", store="store", pace="settle", trace=False):
         (self.folder / "text.st").write_text(text)
         (self.folder / "plant.csv").write_text(rows)
         words = [self.program, "run", "text.st", "--plant", "plant.csv", "--store", store, "--start", start, "--budget", str(budget)]
+        words += ["--pace", pace] + (["--trace", "trace"] if trace else [])
+        return subprocess.run(words, cwd=self.folder, capture_output=True, text=True, check=False, timeout=60)
+
+    def check(self, text):
+        """The words of the sizes that a text has."""
+        (self.folder / "text.st").write_text(text)
+        return subprocess.run([self.program, "check", "text.st"], cwd=self.folder, capture_output=True, text=True, check=True).stdout.split()
+
+    def replay(self, text):
+        """Runs the last trace again."""
+        (self.folder / "text.st").write_text(text)
+        words = [self.program, "replay", "text.st", "--plant", "plant.csv", "--trace", "trace"]
         return subprocess.run(words, cwd=self.folder, capture_output=True, text=True, check=False, timeout=60)
 
     def report(self, name, text, **given):
         """The counts and the values of a run that ends well."""
         ran = self.run(text, **given)
         if ran.returncode:
-            sys.exit(f"language.py: {name}: status {ran.returncode}, {ran.stderr.strip()}\n{text}")
+            sys.exit(f"{NAME}: {name}: status {ran.returncode}, {ran.stderr.strip()}\n{text}")
         self.scenes += 1
         lines = ran.stdout.splitlines()
         return dict(line.split(" ", 1) for line in lines[:5]), dict(line.split(" = ", 1) for line in lines[5:])
@@ -81,7 +97,7 @@ class Plant:
         for path, value in wanted.items():
             found = counts.get(path) if path in counts else values.get(path)
             if found != str(value):
-                sys.exit(f"language.py: {name}: {path} is {found}, not {value}\n{text}")
+                sys.exit(f"{NAME}: {name}: {path} is {found}, not {value}\n{text}")
 
 
 def configured(body, variables="", globals_="", before="", tasks="TASK T (INTERVAL := T#1ms, PRIORITY := 0);", external=""):
@@ -147,7 +163,7 @@ CONFIGURATION C RESOURCE R ON CPU TASK T (INTERVAL := T#1ms, PRIORITY := 0);
         trace = self.trace(plant, text)
         found = [line.split()[-1] for line in trace if line.startswith("done ")]
         if found != [fault for _, fault, _, _ in rows]:
-            sys.exit(f"language.py: {name}: faults {found}\n{text}")
+            sys.exit(f"{NAME}: {name}: faults {found}\n{text}")
 
     def trace(self, plant, text):
         (plant.folder / "text.st").write_text(text)
@@ -408,12 +424,19 @@ def blocks(plant):
 
 # ---- statements, ticks, types, units
 
-def ticked(plant, name, body, ticks, variables, wanted, before="", external="", globals_=""):
-    """The body takes exactly so many ticks: with one less it is a fault."""
-    text = configured(body, variables, globals_, before=before, external=external)
-    plant.scene(name, text, wanted | {"faults": 0}, budget=ticks)
+def faulted(plant, name, body, variables, fault, before="", budget=10000):
+    """The body meets this fault, and leaves nothing."""
+    plant.scene(name, configured(body, variables, before=before), {"faults": 1, "done": 1}, budget=budget, trace=True)
+    found = [line.split()[-1] for line in (plant.folder / "trace").read_text().splitlines() if line.startswith("done ")]
+    if found != [fault]:
+        sys.exit(f"{NAME}: {name}: {found}, not {fault}")
+
+
+def ticked(plant, name, body, ticks, variables, wanted, before=""):
+    """The body takes exactly so many ticks: with one less it is F5."""
+    plant.scene(name, configured(body, variables, before=before), wanted | {"faults": 0}, budget=ticks)
     if ticks > 1:
-        plant.scene(f"{name}, a tick short", text, {"faults": 1, "done": 1}, budget=ticks - 1)
+        faulted(plant, f"{name}, a tick short", body, variables, "F5", before, budget=ticks - 1)
 
 
 def statements(plant):
@@ -449,18 +472,118 @@ def statements(plant):
         ("a subscript above", "a[i] := 1;", "a : ARRAY [1..2] OF INT; i : INT := 3;", "F3"),
         ("a subscript below", "x := a[i];", "a : ARRAY [1..2] OF INT; i, x : INT;", "F3"),
         ("no end of ticks", "WHILE TRUE DO ; END_WHILE;", "x : INT;", "F5"),
+        ("AND evaluates both operands", "b := FALSE AND (1 / z = 1);", "b : BOOL; z : INT;", "F2"),
+        ("OR evaluates both operands", "b := TRUE OR (1 / z = 1);", "b : BOOL; z : INT;", "F2"),
+        ("MOD evaluates its left operand", "x := (1 / z) MOD 0;", "x, z : INT;", "F2"),
+        ("SEL evaluates all of its arguments", "x := SEL(FALSE, 1, 2 / z);", "x, z : INT;", "F2"),
+        ("a step of 0 is found after a fault in the limit", "FOR i := 1 TO 1 / z BY z DO ; END_FOR;", "i, z : INT;", "F2"),
+        ("a fault in a loop after some turns", "FOR i := 3 TO 0 BY -1 DO x := 6 / i; END_FOR;", "i, x : INT;", "F2"),
     ):
-        table = Table()
-        text = configured(body, f"VAR {variables} END_VAR")
-        plant.scene(name, text, {"faults": 1, "done": 1})
-        found = [line.split()[-1] for line in table.trace(plant, text) if line.startswith("done ")]
-        if found != [fault]:
-            sys.exit(f"language.py: {name}: {found}, not {fault}")
-    plant.scene("AND evaluates both operands", configured("b := FALSE AND (1 / z = 1);", "VAR b : BOOL; z : INT; END_VAR"), {"faults": 1})
+        faulted(plant, name, body, f"VAR {variables} END_VAR", fault)
     plant.scene("what a faulted run wrote is not kept", configured("x := 5; y := y + 1;", "VAR x : INT; y : INT := 32767; END_VAR"),
                 {"R/P.X": 0, "R/P.Y": 32767, "done": 1, "faults": 1})
     plant.scene("quotients and remainders", configured("a := -7 / 3; b := -7 MOD 3; c := 5 MOD 0;", "VAR a, b, c : INT; END_VAR"),
                 {"R/P.A": -2, "R/P.B": -1, "R/P.C": 0})
+
+
+UNITS = """FUNCTION Sum : INT VAR_INPUT n : INT; END_VAR VAR i : INT; END_VAR FOR i := 1 TO n DO Sum := Sum + i; END_FOR; END_FUNCTION
+FUNCTION Digits : INT VAR_INPUT n : INT; END_VAR VAR m : INT; END_VAR
+m := n; WHILE m > 0 DO m := m / 10; Digits := Digits + 1; END_WHILE; END_FUNCTION
+FUNCTION Halves : INT VAR_INPUT n : INT; END_VAR VAR m : INT; END_VAR
+m := n; REPEAT m := m / 2; Halves := Halves + 1; UNTIL m = 0 END_REPEAT; END_FUNCTION
+FUNCTION Least : INT VAR_INPUT n : INT; END_VAR VAR i : INT; END_VAR
+FOR i := 1 TO 10 DO IF i * i > n THEN Least := i; RETURN; END_IF; END_FOR; Least := -1; END_FUNCTION
+FUNCTION Less : BOOL VAR_INPUT a, b : INT; END_VAR Less := a < b; END_FUNCTION
+FUNCTION One : INT One := 1; END_FUNCTION
+FUNCTION_BLOCK Ramp VAR_INPUT n : INT; END_VAR VAR_OUTPUT s : INT; END_VAR VAR i : INT; END_VAR
+FOR i := 1 TO n DO s := s + 1; END_FOR; END_FUNCTION_BLOCK
+FUNCTION_BLOCK Wait VAR_OUTPUT s : INT; END_VAR
+WHILE s < 3 DO s := s + 1; IF s = 2 THEN RETURN; END_IF; END_WHILE; END_FUNCTION_BLOCK
+FUNCTION_BLOCK Outer VAR r : Ramp; END_VAR VAR_OUTPUT s : INT; END_VAR r(n := 2); s := r.s; END_FUNCTION_BLOCK
+"""
+
+
+def ticks(plant):
+    """Loops of each kind, alone, in one another, and in functions and blocks: each with the ticks that it takes."""
+    for name, body, count, variables, wanted in (
+        # FOR 1, and each of 3 turns: FOR 1, 2 turns of 2, the turn back
+        ("a FOR in a FOR", "FOR i := 1 TO 3 DO FOR j := 1 TO 2 DO k := k + 1; END_FOR; END_FOR;", 19, "i, j, k : INT;", {"I": 4, "J": 3, "K": 6}),
+        # REPEAT 1, turn t: 2 statements, WHILE 1, t turns of 3; and 2 turns back
+        ("a WHILE in a REPEAT",
+         "REPEAT i := i + 1; j := 0; WHILE j < i DO j := j + 1; k := k + 1; END_WHILE; UNTIL i >= 3 END_REPEAT;", 30, "i, j, k : INT;",
+         {"I": 3, "J": 3, "K": 6}),
+        # WHILE 1, and each of 2 turns: REPEAT 1, 3 statements, 2 turns back, the turn back
+        ("a REPEAT in a WHILE", "WHILE k < 6 DO REPEAT k := k + 1; UNTIL k MOD 3 = 0 END_REPEAT; END_WHILE;", 15, "k : INT;", {"K": 6}),
+        ("a WHILE that isn't entered", "WHILE k > 0 DO k := k - 1; END_WHILE;", 1, "k : INT;", {"K": 0}),
+        ("a REPEAT of one turn", "REPEAT k := 1; UNTIL TRUE END_REPEAT;", 2, "k : INT;", {"K": 1}),
+        # REPEAT 1, k 1, IF 1, back 1, k 1, IF 1, EXIT 1
+        ("EXIT out of a REPEAT", "REPEAT k := k + 1; IF k = 2 THEN EXIT; END_IF; UNTIL FALSE END_REPEAT;", 7, "k : INT;", {"K": 2}),
+        ("EXIT out of a WHILE", "WHILE TRUE DO k := k + 1; IF k = 2 THEN EXIT; END_IF; END_WHILE;", 7, "k : INT;", {"K": 2}),
+        ("EXIT out of a FOR", "FOR i := 1 TO 5 DO IF i = 3 THEN EXIT; END_IF; k := k + 1; END_FOR;", 9, "i, k : INT;", {"I": 3, "K": 2}),
+        # FOR 1, each turn CASE 1 and the turn back, and of the arms 1, 2, 2 and 1
+        ("a CASE in a FOR", "FOR i := 0 TO 3 DO CASE i OF 0: ; 1, 2: k := k + i; k := k + 1; ELSE k := k * 2; END_CASE; END_FOR;", 15, "i, k : INT;",
+         {"I": 4, "K": 10}),
+        # the assignment 1, FOR 1, 4 turns of 2
+        ("a FOR in a function", "k := Sum(4);", 10, "k : INT;", {"K": 10}),
+        ("a FOR in a function that isn't entered", "k := Sum(0);", 2, "k : INT;", {"K": 0}),
+        ("a WHILE in a function", "k := Digits(907);", 12, "k : INT;", {"K": 3}),
+        ("a REPEAT in a function", "k := Halves(5);", 11, "k : INT;", {"K": 3}),
+        # the assignment 1, FOR 1, 3 turns of 2, IF 1, the result 1, RETURN 1
+        ("RETURN out of a function's loop", "k := Least(10);", 11, "k : INT;", {"K": 4}),
+        # WHILE 1, 4 tests of 1, 3 turns of 2
+        ("a function in the condition of a WHILE", "WHILE Less(k, 3) DO k := k + 1; END_WHILE;", 11, "k : INT;", {"K": 3}),
+        # REPEAT 1, 3 statements, 3 tests of 1, 2 turns back
+        ("a function in the condition of a REPEAT", "REPEAT k := k + 1; UNTIL NOT Less(k, 3) END_REPEAT;", 9, "k : INT;", {"K": 3}),
+        # FOR 1, start, limit and step 3, 2 turns of 2
+        ("functions in a FOR are called once", "FOR i := One() TO One() + 1 BY One() DO k := k + 1; END_FOR;", 8, "i, k : INT;", {"I": 3, "K": 2}),
+        ("a function in a function's argument", "k := Sum(Sum(2));", 13, "k : INT;", {"K": 6}),
+        # two calls 2, FOR 1 and 2 turns of 2, FOR 1 and 3 turns of 2
+        ("a FOR in a block", "r(n := 2); r(n := 3, s => k);", 14, "r : Ramp; k : INT;", {"K": 5, "R.S": 5, "R.I": 4}),
+        # the call 1, WHILE 1, s 1, IF 1, back 1, s 1, IF 1, RETURN 1; the call 1, WHILE 1, s 1, IF 1, back 1
+        ("RETURN out of a block's loop", "w(); w(s => k);", 13, "w : Wait; k : INT;", {"K": 3}),
+        # each call 1, and within it the call 1, FOR 5 and the output 1
+        ("a block in a block", "o(s => k); o();", 16, "o : Outer; k : INT;", {"K": 2, "O.S": 4}),
+        ("standard functions and blocks take none", "t(IN := TRUE, PT := T#1s); c(CU := TRUE, PV := MAX(ABS(k), 1)); k := LIMIT(1, c.CV, 5);", 3,
+         "t : TON; c : CTU; k : INT;", {"K": 1}),
+        # the loop 1, its turns 4999 of 2, one statement more
+        ("ten thousand ticks", "WHILE k < 4999 DO k := k + 1; END_WHILE; ;", 10000, "k : INT;", {"K": 4999}),
+        # 1, and 249,999 turns of 4: 2 statements, the turn back, and the function's own; then 3 more
+        ("a million ticks", "FOR i := 1 TO 249999 DO b := Less(1, 2); k := i; END_FOR; ; ; ;", 1000000, "i, k : DINT; b : BOOL;", {"K": 249999}),
+    ):
+        ticked(plant, name, body, count, f"VAR {variables} END_VAR", {f"R/P.{path}": value for path, value in wanted.items()}, before=UNITS)
+
+
+def worked(plant):
+    """The worked tables of statements, functions and blocks, with the values that stand there."""
+    square = "FUNCTION Sq : DINT VAR_INPUT x : DINT; END_VAR Sq := x * x; END_FUNCTION"
+    ticked(plant, "a square", "y := Sq(46340);", 2, "VAR y : DINT; END_VAR", {"R/P.Y": 2147395600}, before=square)
+    faulted(plant, "a square outside its type", "y := Sq(46341);", "VAR y : DINT; END_VAR", "F1", before=square)
+    for expression, kind, variables, fault in (
+        ("ABS(x)", "SINT", "x : SINT := -128;", "F1"), ("INT_TO_USINT(256)", "USINT", "", "F4"), ("BYTE_TO_SINT(BYTE#16#80)", "SINT", "", "F4"),
+        ("ROL(BYTE#16#81, -1)", "BYTE", "", "F1"),
+    ):
+        faulted(plant, expression, f"y := {expression};", f"VAR {variables} y : {kind}; END_VAR", fault)
+    for expression, value in (("SHL(BYTE#16#81, 1)", "16#02"), ("ROL(BYTE#16#81, 1)", "16#03"), ("ROR(BYTE#16#81, 9)", "16#C0"),
+                              ("SHR(BYTE#16#81, 8)", "16#00")):
+        plant.scene(expression, configured(f"y := {expression};", "VAR y : BYTE; END_VAR"), {"R/P.Y": value})
+
+    def told(*values):
+        each = iter(values)
+        return lambda *_: next(each)
+
+    def timed(*values):
+        return told(*({"Q": q, "ET": et} for q, et in values))
+    times, period = (0, 50, 100, 150), "PT := T#100ms"
+    on, off = [(1,)] * 4, [(1,), (0,), (0,), (0,)]
+    block(plant, "the worked TON", "TON", ["IN"], on, timed((0, 0), (0, 50), (1, 100), (1, 100)), times, period)
+    block(plant, "the worked TOF", "TOF", ["IN"], off, timed((1, 0), (1, 0), (1, 50), (0, 100)), times, period)
+    block(plant, "the worked TP", "TP", ["IN"], off, timed((1, 0), (1, 50), (0, 0), (0, 0)), times, period)
+    for name, q in (("TON", 1), ("TOF", 1), ("TP", 0)):
+        block(plant, f"a {name} of no time", name, ["IN"], [(1,)], timed((q, 0)), [0], "PT := T#0ms")
+    block(plant, "the worked F_TRIG", "F_TRIG", ["CLK"], [(0,), (0,)], told({"Q": 1}, {"Q": 0}))
+    block(plant, "the worked CTUD", "CTUD", ["CU", "CD"], [(1, 1), (0, 0), (1, 0)],
+          told({"CV": 0, "QD": 1}, {"CV": 0, "QD": 1}, {"CV": 1, "QD": 0}), preset="PV := 3")
+    block(plant, "the worked CTU", "CTU", ["CU", "R"], [(1, 1), (1, 0)], told({"CV": 0}, {"CV": 0}), preset="PV := 1")
 
 
 def types(plant):
@@ -483,7 +606,7 @@ TASK T (INTERVAL := T#10ms, PRIORITY := 0); PROGRAM P WITH T : Step; END_RESOURC
     area = body[131072:] if int.from_bytes(body[131073:131081]) > int.from_bytes(body[1:9]) else body
     record = area[13:13 + int.from_bytes(area[9:13])]
     if len(record) != 39 or record[12:38] != b"M (STOPPED,RUNNING,FAULT)\n" or record[38] != 2:
-        sys.exit(f"language.py: the record of an enumerated step: {record}")
+        sys.exit(f"{NAME}: the record of an enumerated step: {record}")
     plant.scene("a warm restart of an enumerated step", step, {"M": "FAULT"}, rows="t\n", start="warm", store="step")
 
 
@@ -494,11 +617,10 @@ CONFIGURATION C RESOURCE R ON CPU TASK T (INTERVAL := T#10ms, PRIORITY := 0); PR
     _, values = plant.report("the paths of blocks", text)
     wanted = [f"R/P.{x}" for x in ("F.A", "F.B", "F.C", "T.IN", "T.PT", "T.Q", "T.ET", "T.RUN", "T.START", "K.A", "K.B", "K.C")]
     if list(values) != wanted:
-        sys.exit(f"language.py: the paths of blocks: {list(values)}")
-    (plant.folder / "text.st").write_text(text)
-    told = subprocess.run([plant.program, "check", "text.st"], cwd=plant.folder, capture_output=True, text=True, check=True)
-    if told.stdout.split() != "resources 1 tasks 1 programs 1 slots 12 retained 9".split():
-        sys.exit(f"language.py: the sizes of blocks: {told.stdout}")
+        sys.exit(f"{NAME}: the paths of blocks: {list(values)}")
+    told = plant.check(text)
+    if told != "resources 1 tasks 1 programs 1 slots 12 retained 9".split():
+        sys.exit(f"{NAME}: the sizes of blocks: {told}")
 
 
 def tasks(plant):
@@ -532,12 +654,124 @@ TASK T (INTERVAL := T#10ms, PRIORITY := 0); PROGRAM P WITH T : A; END_RESOURCE E
     plant.scene("inputs of each type", inputs, {"S": -32768 + 65535 + 65535 + 1}, rows="t,I,u,w,b\n0,-32768,65535,65535,1\n")
 
 
+# what each of 64 programs does; the number of its type stands for @
+WORK = """PROGRAM Work@
+VAR RETAIN n : DINT; m : Mode; p : Point; END_VAR
+VAR flow : Meter; late : TON; edge : R_TRIG; i, rises, lates : INT; END_VAR
+VAR_EXTERNAL shared : LINT; END_VAR
+VAR_EXTERNAL CONSTANT level : INT; go : BOOL; END_VAR
+n := n + @ + 1;
+shared := shared + @ + 1;
+CASE m OF Idle: IF go THEN m := Fill; END_IF; Fill: m := Mode#Drain; ELSE m := Idle; END_CASE;
+FOR i := 0 TO 2 DO p.y[i] := p.y[i] + INT_TO_DINT(level) * INT_TO_DINT(i); END_FOR;
+p.x := level;
+flow(step := Rest(n, 5));
+late(IN := go, PT := T#@0ms + T#20ms);
+IF late.Q THEN lates := lates + 1; END_IF;
+edge(CLK := go);
+IF edge.Q THEN rises := rises + 1; END_IF;
+WHILE i < 10 + @ DO i := i + 1; END_WHILE;
+REPEAT i := i - 1; UNTIL i <= @ END_REPEAT;
+END_PROGRAM
+"""
+
+
+def working(number, rows):
+    """What a program of this number has after rows of (moment, level, go)."""
+    n = x = rises = lates = total = counted = 0
+    mode, y, on, before, cu = "IDLE", [0, 0, 0], False, False, False
+    step = timer("TON", 10 * number + 20)
+    for now, level, go in rows:
+        n += number + 1
+        mode = {"IDLE": "FILL" if go else "IDLE", "FILL": "DRAIN", "DRAIN": "IDLE"}[mode]
+        y = [old + level * k for k, old in enumerate(y)]
+        x = level
+        total += n % 5
+        on = not on
+        counted += on and not cu
+        cu = on
+        lates += step(go, now)["Q"]
+        rises += bool(go and not before)
+        before = go
+    kept = {"N": n, "M": mode, "P.X": x, **{f"P.Y[{k}]": v for k, v in enumerate(y)}}
+    own = {"FLOW.TOTAL": total, "FLOW.FULL": spelled("BOOL", counted >= 3), "FLOW.C.CV": counted, "I": number, "RISES": rises, "LATES": lates}
+    return kept, own
+
+
+def many(plant, count=30):
+    """64 programs on 8 resources, each over most of the language, and what is kept of them."""
+    pick = random.Random(3)
+    rows = [(10 * k, pick.choice((-32768, -7, 0, 1, 32767)), int(pick.random() < 0.7)) for k in range(count)]
+    table = "t,level,go\n" + "".join(f"{t},{level},{go}\n" for t, level, go in rows)
+    units = "".join(WORK.replace("@", str(k)) for k in range(8))
+    tasks_ = " ".join(f"TASK T{k} (INTERVAL := T#10ms, PRIORITY := {7 - k});" for k in range(8))
+    programs = " ".join(f"PROGRAM P{k} WITH T{k} : Work{k};" for k in range(8))
+    text = f"""TYPE Mode : (Idle, Fill, Drain); Point : STRUCT x : INT; y : ARRAY [0..2] OF DINT; END_STRUCT; END_TYPE
+FUNCTION Rest : DINT VAR_INPUT v, d : DINT; END_VAR Rest := v MOD d; END_FUNCTION
+FUNCTION_BLOCK Meter VAR_INPUT step : DINT := 1; END_VAR VAR_OUTPUT total : DINT; full : BOOL; END_VAR VAR c : CTU; high : BOOL; END_VAR
+total := total + step; high := NOT high; c(CU := high, PV := 3); full := c.Q; END_FUNCTION_BLOCK
+{units}CONFIGURATION C
+VAR_GLOBAL RETAIN shared : LINT; END_VAR VAR_GLOBAL level AT %IW0 : INT; go AT %IX0 : BOOL; END_VAR
+{' '.join(f'RESOURCE R{r} ON CPU {tasks_} {programs} END_RESOURCE' for r in range(8))}
+END_CONFIGURATION"""
+    wanted, again = {"SHARED": len(rows) * 8 * 36}, {"SHARED": len(rows) * 8 * 36}
+    for r, k in itertools.product(range(8), repeat=2):
+        kept, own = working(k, rows)
+        wanted |= {f"R{r}/P{k}.{path}": value for path, value in (kept | own).items()}
+        again |= {f"R{r}/P{k}.{path}": value for path, value in kept.items()} | {f"R{r}/P{k}.RISES": 0, f"R{r}/P{k}.FLOW.TOTAL": 0}
+    done = {"rows": len(rows), "done": 64 * len(rows), "faults": 0, "overruns": 0, "acked": 65 * len(rows)}
+    plant.scene("64 programs on 8 resources", text, wanted | done, rows=table, trace=True)
+    replayed(plant, "the trace of 64 programs", text, wanted)
+    plant.scene("64 programs warm again", text, again | {"rows": 0}, rows="t,level,go\n", start="warm")
+    counts, values = plant.report("64 programs at pace free", text, rows=table, pace="free", trace=True)
+    if int(counts["done"]) + int(counts["overruns"]) != 64 * len(rows) or int(counts["acked"]) != len(rows) + int(counts["done"]):
+        sys.exit(f"{NAME}: 64 programs at pace free: {counts}")
+    if sum(int(values[f"R{r}/P{k}.N"]) for r in range(8) for k in range(8)) != int(values["SHARED"]):
+        sys.exit(f"{NAME}: 64 programs at pace free: {values['SHARED']} shared")
+    replayed(plant, "the trace of 64 programs at pace free", text, values)
+    told = plant.check(text)
+    if told != "resources 8 tasks 64 programs 64 slots 1793 retained 385".split():
+        sys.exit(f"{NAME}: the sizes of 64 programs: {told}")
+
+
+def replayed(plant, name, text, wanted):
+    """The last trace, run again over the last plant by one thread, has these values."""
+    ran = plant.replay(text)
+    lines = dict(line.split(" = ", 1) for line in ran.stdout.splitlines()[4:])
+    wrong = {path: lines.get(path) for path, value in wanted.items() if lines.get(path) != str(value)}
+    if ran.returncode or wrong:
+        sys.exit(f"{NAME}: {name}: status {ran.returncode}, {ran.stderr.strip()} {wrong}")
+    plant.scenes += 1
+
+
+def all_globals(plant):
+    """As many globals as there may be, each of them added to, and kept."""
+    half = 2048
+    units = []
+    for unit, first in (("A", 1), ("B", half + 1)):
+        numbers = range(first, first + half)
+        external, body = (" ".join(form.format(k) for k in numbers) for form in ("g{0} : INT;", "g{0} := g{0} + {0};"))
+        units.append(f"PROGRAM {unit} VAR_EXTERNAL {external} END_VAR {body} END_PROGRAM")
+    declared = " ".join(f"g{k} : INT;" for k in range(1, 2 * half + 1))
+    text = "\n".join(units) + f"""
+CONFIGURATION C VAR_GLOBAL RETAIN {declared} END_VAR RESOURCE R ON CPU TASK T (INTERVAL := T#10ms, PRIORITY := 0);
+PROGRAM P WITH T : A; PROGRAM Q WITH T : B; END_RESOURCE END_CONFIGURATION"""
+    wanted = {f"G{k}": 3 * k for k in range(1, 2 * half + 1)}
+    plant.scene("4,096 globals", text, wanted | {"done": 6, "faults": 0}, rows="t\n0\n10\n20\n", trace=True)
+    replayed(plant, "the trace of 4,096 globals", text, wanted)
+    plant.scene("4,096 globals warm again", text, wanted | {"rows": 0}, rows="t\n", start="warm")
+    told = plant.check(text)
+    if told != "resources 1 tasks 1 programs 2 slots 4096 retained 4096".split():
+        sys.exit(f"{NAME}: the sizes of 4,096 globals: {told}")
+
+
 def main():
     with tempfile.TemporaryDirectory() as folder:
         plant = Plant(str(pathlib.Path(sys.argv[1]).resolve()), pathlib.Path(folder))
-        for part in (statements, types, layouts, tasks, blocks, arithmetic, durations, comparisons, bits, shifts, selections, conversions):
+        for part in (statements, ticks, worked, types, layouts, tasks, many, all_globals, blocks, arithmetic, durations, comparisons, bits, shifts, selections, conversions):
             part(plant)
         print(f"language.py: {plant.scenes} scenes")
 
 
-main()
+if __name__ == "__main__":
+    main()

@@ -577,7 +577,7 @@ scene "an array with a name of 13 letters" 2 "" "fault G6" check array.st
     echo 'PROGRAM P WITH T : E; END_RESOURCE END_CONFIGURATION'
 } > doubled.st
 scene "blocks that double twenty times" 2 "" "fault M1" check doubled.st
-# One statement takes two instructions: 8,000 fit into the limit of 16,384, and 20,000 don't.
+# 20,000 statements take more than 16,384 instructions.
 {
     echo 'PROGRAM E VAR n : INT; END_VAR'
     several 20000 'n := n + 1;'
@@ -638,6 +638,68 @@ named() {
 named V4096 4 "fault N1"
 named V4094 4 "fault S2"
 named V1000 4 "fault S2"
+
+# Each beginning of the first text that ends before the last letter of its last word is refused: within a literal, within a name, as no
+# beginning of a sentence of the grammar, or for want of a configuration.
+whole=$(cat s.st)
+for ((count = 0; count < ${#whole}; count++)); do
+    printf '%s' "${whole:0:count}" > front.st
+    found=0
+    "$plant" check front.st > out 2> err || found=$?
+    [ "$found" -eq 2 ] && [ ! -s out ] || fail "the first $count bytes of a text: status $found"
+    grep -qE '^fault ((L2|L3|P1) at [0-9]+|G2)$' err || fail "the first $count bytes of a text: told $(cat err)"
+    scenes=$((scenes + 1))
+done
+printf '%s' "$whole" > front.st
+scene "the whole text without a line's end" 0 "$(printf '%s 1\n' resources tasks programs slots retained)" "" check front.st
+
+# Texts, plants and retain files that nobody writes by hand.
+# deep COUNT BEFORE OPENING MIDDLE CLOSING BEHIND: a text with so many openings and closings
+deep() {
+    printf '%s' "$2" > deep.st
+    printf "%.0s$3" $(seq "$1") >> deep.st
+    printf '%s' "$4" >> deep.st
+    printf "%.0s$5" $(seq "$1") >> deep.st
+    printf '%s' "$6" >> deep.st
+}
+deep 62 'PROGRAM p VAR x : INT; END_VAR x := ' '(' 1 ')' '; END_PROGRAM'
+scene "62 parentheses" 2 "" "fault G2" check deep.st
+for count in 63 10000; do
+    deep $count 'PROGRAM p VAR x : INT; END_VAR x := ' '(' 1 ')' '; END_PROGRAM'
+    scene "$count parentheses" 2 "" "fault P2" check deep.st
+done
+for count in 64 10000; do
+    deep $count 'PROGRAM p VAR x : ARRAY [0..1] OF INT := ' '[' 1 ']' '; END_VAR END_PROGRAM'
+    scene "$count brackets" 2 "" "fault P2" check deep.st
+done
+: > nothing
+scene "a text of no byte" 2 "" "fault G2" check nothing
+printf '(*12345\xC3*)' > byte.st
+scene "a byte that isn't allowed, in a comment" 2 "" "fault L1 at 0" check byte.st
+printf 'PROGRAM p\x00 END_PROGRAM' > byte.st
+scene "a byte that isn't allowed, behind a word" 2 "" "fault L1 at 9" check byte.st
+sed 's/RETAIN n : INT;/RETAIN n : INT; END_VAR VAR_GLOBAL i AT %IW0 : INT;/' s.st > input.st
+# refused_plant NAME FAULT: the plant of these bytes, for a text with one INT input, is refused so, and no retain file is made
+refused_plant() {
+    scene "a plant with $1" 3 "" "fault $2" $(run input.st odd.csv made cold)
+    [ ! -e made ] || fail "a refused plant has made a retain file"
+}
+: > odd.csv
+refused_plant "no byte" I1
+{ echo t,i; seq -f '%g,0' 0 10000; } > odd.csv
+refused_plant "10,001 rows" I4
+printf 't,i\n0,\xFF\n' > odd.csv
+refused_plant "a field that isn't UTF-8" I2
+printf 't,\xFF\n0,0\n' > odd.csv
+refused_plant "a header that isn't UTF-8" I1
+printf 't,i\n0,32768\n' > odd.csv
+refused_plant "a value one past its type" I2
+printf 't,i\n4611686018427387904,0\n' > odd.csv
+refused_plant "a moment one past its limit" I2
+printf 't,i\n0,"0\n' > odd.csv
+refused_plant "a quotation that doesn't end" I2
+{ echo t,i; seq -f '%g,-32768' 0 9999; } > odd.csv
+scene "a plant of 10,000 rows" 0 "$(report 10000 1000 0 0 11000 'N = 1000')" "" $(run input.st odd.csv whole cold)
 
 # More names of one type than a table of names has room for.
 { printf 'TYPE T : (N0'; several 70000 ', N@'; printf '); END_TYPE\n'; } | tr -d '\n' > enumeration.st

@@ -1,0 +1,461 @@
+#!/usr/bin/env python3
+"""Runs operators, loops, labels, subscripts, conversions and standard blocks on the edges of each type, on the built program.
+
+What is expected is computed here, from the formulas of the language and on unbounded numbers. Hundreds of rows go into one text; those that
+meet a fault have a program of their own each, and the trace tells which fault it was.
+
+usage: tests/edges.py PLANT     PLANT is the built program
+"""
+import itertools
+import pathlib
+import random
+import subprocess
+import sys
+import tempfile
+
+sys.dont_write_bytecode = True
+import language  # noqa: E402
+from language import ALL, BITS, COMPARISONS, NUMBERS, SIGNED, UNSIGNED, batches, edges, greatest, holds, in_type, least, quotient, spelled
+
+TIME_TOP = 2**63 - 1
+DURATIONS = (-TIME_TOP - 1, -TIME_TOP, -1, 0, 1, 86_400_000, TIME_TOP)
+# types of values of names, and how they are declared
+NAMED = {"Hue": ("Red", "Green", "Blue"), "One": ("Alone",), "Wide": tuple(f"W{k}" for k in range(256))}
+ENUMERATIONS = "TYPE " + " ".join(f"{name} : ({', '.join(names)});" for name, names in NAMED.items()) + " END_TYPE\n"
+MOST_ROWS = 400
+MOST_FAULTS = 64
+
+
+def fail(name, told):
+    sys.exit(f"edges.py: {name}: {told}")
+
+
+def shown(kind, number):
+    """A value as a report has it."""
+    return NAMED[kind][number].upper() if kind in NAMED else spelled(kind, number)
+
+
+def literal(kind, number):
+    """A value as an expression has it where a value of its type is expected."""
+    if kind == "TIME":
+        return f"T#{number}ms"
+    if kind in NAMED:
+        return f"{kind}#{NAMED[kind][number]}"
+    return spelled(kind, number) if kind == "BOOL" else str(number)
+
+
+def is_literal(kind, number):
+    return kind != "TIME" or number >= 0
+
+
+class Rows:
+    """Statements over variables, each with the values that it leaves, or with the fault that it meets.
+
+    In variables and statements `~` stands for the number of the row.
+    """
+
+    def __init__(self, before=""):
+        self.before, self.given, self.faults = before, [], []
+
+    def add(self, variables, body, wanted):
+        """Variables are (name, type, number or text of an initial value); what is wanted is a fault, or numbers by name."""
+        (self.faults if isinstance(wanted, str) else self.given).append((variables, body, wanted))
+
+    def value(self, kind, number, expression, operands):
+        """An expression with `@` in place of each operand, which are (type, number)."""
+        variables = [(f"a~_{j}", *operand) for j, operand in enumerate(operands)]
+        for name, _, _ in variables:
+            expression = expression.replace("@", name, 1)
+        self.add([*variables, ("r~", kind, None)], f"r~ := {expression};", number if isinstance(number, str) else {"r~": number})
+
+    def check(self, plant, name):
+        for rows in batches(self.given, MOST_ROWS):
+            self.check_values(plant, name, rows)
+        for rows in batches(self.faults, MOST_FAULTS):
+            self.check_faults(plant, name, rows)
+
+    @staticmethod
+    def declared(variables, number):
+        """The declarations of a row, and the assignments of what no initial value can be."""
+        declarations, assigned = [], []
+        for name, kind, initial in variables:
+            name = name.replace("~", str(number))
+            if initial is None:
+                declarations.append(f"{name} : {kind};")
+            elif isinstance(initial, str):
+                declarations.append(f"{name} : {kind} := {initial};")
+            elif is_literal(kind, initial):
+                declarations.append(f"{name} : {kind} := {literal(kind, initial)};")
+            else:
+                declarations.append(f"{name} : {kind};")
+                assigned.append(f"{name} := T#0ms - T#{-1 - initial}ms - T#1ms;")
+        return declarations, assigned
+
+    def check_values(self, plant, name, rows):
+        declarations, body, wanted = [], [], {}
+        for number, (variables, statements, numbers) in enumerate(rows):
+            kinds = {each: kind for each, kind, _ in variables}
+            declared, assigned = self.declared(variables, number)
+            declarations += declared
+            body += [*assigned, statements.replace("~", str(number))]
+            for each, value in numbers.items():
+                at = each.replace("~", str(number)).upper()
+                wanted[f"R/P.{at}"] = shown(kinds.get(each, numbers_kind(each, kinds)), value)
+        text = language.configured("\n".join(body), "VAR " + "\n".join(declarations) + " END_VAR", before=self.before)
+        plant.scene(name, text, wanted | {"faults": 0, "done": 1}, budget=1_000_000)
+
+    def check_faults(self, plant, name, rows):
+        """Each row in a program of its own, which leaves nothing."""
+        units, instances, wanted = [], [], {"faults": len(rows), "done": len(rows)}
+        for number, (variables, statements, _) in enumerate(rows):
+            declared, assigned = self.declared(variables, number)
+            body = " ".join(assigned) + " x := 5; " + statements.replace("~", str(number))
+            units.append(f"PROGRAM U{number} VAR {' '.join(declared)} x : INT; END_VAR {body} END_PROGRAM")
+            instances.append(f"PROGRAM P{number} WITH T : U{number};")
+            wanted[f"R/P{number}.X"] = "0"
+        text = self.before + "\n".join(units) + f"""
+CONFIGURATION C RESOURCE R ON CPU TASK T (INTERVAL := T#1ms, PRIORITY := 0);
+{' '.join(instances)} END_RESOURCE END_CONFIGURATION"""
+        plant.scene(name, text, wanted, trace=True)
+        found = [line.split()[-1] for line in (plant.folder / "trace").read_text().splitlines() if line.startswith("done ")]
+        if found != [fault for _, _, fault in rows]:
+            fail(name, f"faults {found}\n{text}")
+
+
+def numbers_kind(path, kinds):
+    """The type of an element of an array, whose variable is declared `ARRAY [..] OF TYPE`."""
+    return kinds[path.split("[")[0]].split(" OF ")[-1]
+
+
+# ---- operands that are literals, and such that are computed
+
+def plain(kind, number):
+    """The forms of an operand: a variable, a literal, and what an operation gives. Each with the operands that it names."""
+    same = {"BOOL": "NOT (NOT @)", "TIME": "(@ + T#0ms)"}.get(kind, "(@ OR 0)" if kind in BITS else "(@ + 0)")
+    forms = [("@", [(kind, number)]), (same, [(kind, number)])]
+    if is_literal(kind, number):
+        forms.append((f"({literal(kind, number)})" if number < 0 else literal(kind, number), []))
+    return forms
+
+
+def over(rows, result, kind, a, b, number, mark):
+    """An operation over its operands in every form, but for two literals, which have no type."""
+    for (left, named), (right, more) in itertools.product(plain(kind, a), plain(kind, b)):
+        if named or more:
+            rows.value(result, number, f"{left} {mark} {right}", named + more)
+
+
+def few(kind):
+    """The ends of a type, and what is about 0."""
+    return sorted({n for n in (least(kind), -1, 0, 1, 2, greatest(kind)) if holds(kind, n)})
+
+
+def operands(plant):
+    for kind in NUMBERS:
+        rows = Rows()
+        for a, b in itertools.product(few(kind), repeat=2):
+            over(rows, kind, kind, a, b, in_type(kind, a + b), "+")
+            over(rows, kind, kind, a, b, in_type(kind, a - b), "-")
+            over(rows, kind, kind, a, b, in_type(kind, a * b), "*")
+            over(rows, kind, kind, a, b, in_type(kind, quotient(a, b)) if b else "F2", "/")
+            over(rows, kind, kind, a, b, a - quotient(a, b) * b if b else 0, "MOD")
+        for a in edges(kind):
+            rows.value(kind, a, literal(kind, a), [])
+            rows.value(kind, in_type(kind, abs(a)), "ABS(@ + 0)", [(kind, a)])
+            if kind in SIGNED:
+                rows.value(kind, in_type(kind, -a), "-(@ + 0)", [(kind, a)])
+        rows.check(plant, f"operands of {kind}")
+    for kind in [*BITS, "BOOL"]:
+        rows, top = Rows(), greatest(kind)
+        for a, b in itertools.product(few(kind), repeat=2):
+            for mark, number in (("AND", a & b), ("&", a & b), ("OR", a | b), ("XOR", a ^ b)):
+                over(rows, kind, kind, a, b, number, mark)
+        for a in edges(kind):
+            rows.value(kind, a, literal(kind, a), [])
+            for form, named in plain(kind, a)[:2]:
+                rows.value(kind, top - a, f"NOT {form}" if not form.startswith("NOT") else f"NOT ({form})", named)
+        rows.check(plant, f"operands of {kind}")
+
+
+def groups(plant):
+    """Operators without parentheses, which group by their levels and from the left."""
+    rows = Rows()
+    names = [("DINT", n) for n in (7, -3, 2, 5)]
+    a, b, c, d = (n for _, n in names)
+    for expression, number in (
+        ("@ - @ - @", a - b - c), ("@ - @ * @", a - b * c), ("@ * @ - @", a * b - c), ("@ / @ * @", quotient(a, b) * c),
+        ("@ MOD @ * @", (a - quotient(a, b) * b) * c), ("@ / @ / @", quotient(quotient(a, b), c)), ("-@ * @ + @", -a * b + c),
+        ("@ - (@ - @)", a - (b - c)),
+    ):
+        rows.value("DINT", number, expression, names[:3])
+    for expression, number in (
+        ("@ + @ * @ - @", a + b * c - d), ("(@ + @) * (@ - @)", (a + b) * (c - d)), ("@ - @ MOD @ + @", a - (b - quotient(b, c) * c) + d),
+        ("MAX(@ + @, @) * @", max(a + b, c) * d), ("@ * MIN(@, @ - @)", a * min(b, c - d)),
+    ):
+        rows.value("DINT", number, expression, names)
+    for p, q, r in itertools.product((0, 1), repeat=3):
+        truths = [("BOOL", p), ("BOOL", q), ("BOOL", r)]
+        rows.value("BOOL", p or (q and r), "@ OR @ AND @", truths)
+        rows.value("BOOL", (p and q) or r, "@ AND @ OR @", truths)
+        rows.value("BOOL", p ^ (q and r), "@ XOR @ & @", truths)
+        rows.value("BOOL", p or (q ^ r), "@ OR @ XOR @", truths)
+        rows.value("BOOL", (p == q) == r, "@ = @ = @", truths)
+        rows.value("BOOL", p and (q != r), "@ AND @ <> @", truths)
+        rows.value("BOOL", (1 - p) and q or r, "NOT @ AND @ OR @", truths)
+        rows.value("BOOL", (1 + p < 2 + q) == bool(r), "1 + BOOL_TO_INT(@) < 2 + BOOL_TO_INT(@) = @", truths)
+    rows.check(plant, "levels of operators")
+
+
+def comparisons(plant):
+    """Comparisons in every form, as values and as conditions."""
+    for kind in [*ALL, "TIME", "Hue"]:
+        rows = Rows(ENUMERATIONS if kind in NAMED else "")
+        numbers = DURATIONS if kind == "TIME" else range(3) if kind in NAMED else few(kind)
+        marks = COMPARISONS[4:] if kind == "BOOL" or kind in NAMED else COMPARISONS
+        for a, b in itertools.product(numbers, repeat=2):
+            for mark, holds_ in marks:
+                true = int(holds_(a, b))
+                if kind in NAMED:
+                    for left, right, named in (("@", "@", [(kind, a), (kind, b)]), ("@", literal(kind, b), [(kind, a)]),
+                                               (literal(kind, a), "@", [(kind, b)])):
+                        rows.value("BOOL", true, f"{left} {mark} {right}", named)
+                else:
+                    over(rows, "BOOL", kind, a, b, true, mark)
+                names = [("a~", kind, a), ("b~", kind, b), ("r~", "INT", None), ("s~", "INT", None), ("t~", "INT", None)]
+                rows.add(names, f"IF a~ {mark} b~ THEN r~ := 1; ELSE r~ := 2; END_IF; "
+                         f"IF NOT (a~ {mark} b~) THEN s~ := 1; ELSIF a~ {mark} b~ THEN s~ := 2; END_IF; "
+                         f"WHILE a~ {mark} b~ DO t~ := t~ + 1; EXIT; END_WHILE;",
+                         {"r~": 1 if true else 2, "s~": 2 if true else 1, "t~": true})
+                rows.add([*names[:3], ("n~", "INT", None)], f"REPEAT n~ := n~ + 1; UNTIL a~ {mark} b~ OR n~ = 3 END_REPEAT;",
+                         {"n~": 1 if true else 3})
+        rows.check(plant, f"comparisons of {kind}")
+
+
+def durations(plant):
+    rows = Rows()
+    for a, b in itertools.product(DURATIONS, repeat=2):
+        total, less = a + b, a - b
+        over(rows, "TIME", "TIME", a, b, total if -TIME_TOP - 1 <= total <= TIME_TOP else "F1", "+")
+        over(rows, "TIME", "TIME", a, b, less if -TIME_TOP - 1 <= less <= TIME_TOP else "F1", "-")
+        both = [("TIME", a), ("TIME", b)]
+        rows.value("TIME", min(a, b), "MIN(@, @)", both)
+        rows.value("TIME", max(a, b), "MAX(@, @)", both)
+        rows.value("TIME", b, "SEL(TRUE, @, @)", both)
+        rows.value("TIME", a, "SEL(FALSE, @, @)", both)
+        for c in DURATIONS:
+            rows.value("TIME", min(max(b, a), c), "LIMIT(@, @, @)", [*both, ("TIME", c)])
+    rows.check(plant, "durations of either sign")
+
+
+def selections(plant):
+    for kind in NUMBERS:
+        rows = Rows()
+        for a, b, c in itertools.product(few(kind), repeat=3):
+            rows.value(kind, min(max(b, a), c), "LIMIT(@, @, @)", [(kind, a), (kind, b), (kind, c)])
+        for a, b in itertools.product(few(kind), repeat=2):
+            for name, number in (("MIN", min(a, b)), ("MAX", max(a, b))):
+                rows.value(kind, number, f"{name}(@, {literal(kind, b)})", [(kind, a)])
+                rows.value(kind, number, f"{name}({literal(kind, a)}, @)", [(kind, b)])
+                rows.value(kind, number, f"{name}(@ + 0, @ + 0)", [(kind, a), (kind, b)])
+        rows.check(plant, f"selections of {kind}")
+    rows = Rows(ENUMERATIONS)
+    for kind in [*ALL, *NAMED]:
+        numbers = range(0, len(NAMED[kind]), 255) if kind == "Wide" else range(len(NAMED[kind])) if kind in NAMED else few(kind)
+        for a, b in itertools.product(numbers, repeat=2):
+            for g, form in itertools.product((0, 1), ("@", "@ = TRUE", "NOT (NOT @)")):
+                rows.value(kind, b if g else a, f"SEL({form}, @, @)", [("BOOL", g), (kind, a), (kind, b)])
+    rows.check(plant, "SEL of each type")
+
+
+def conversions(plant):
+    """Each conversion at the ends of both types, and one past them."""
+    for source in ALL:
+        rows = Rows()
+        for target in ALL:
+            if source == target:
+                continue
+            ends = (least(target), greatest(target), least(target) - 1, greatest(target) + 1, *few(source))
+            for a in sorted({n for n in ends if holds(source, n)}):
+                number = a if holds(target, a) else "F4"
+                rows.value(target, number, f"{source}_TO_{target}(@)", [(source, a)])
+                rows.value(target, number, f"{source}_TO_{target}({literal(source, a)})", [])
+        rows.check(plant, f"conversions of {source}")
+
+
+def shifts(plant):
+    for kind, width in BITS.items():
+        rows, top = Rows(), greatest(kind)
+        for count in NUMBERS:
+            turns = edges(count) + [n for n in (width - 1, width, width + 1) if holds(count, n)]
+            for a, n in itertools.product((0, 1, 5, top // 2 + 1, top), turns):
+                turn = n % width
+                given = {
+                    "SHL": (a << n) & top if 0 <= n < width else 0,
+                    "SHR": a >> n if 0 <= n < width else 0,
+                    "ROL": ((a << turn) | (a >> (width - turn))) & top,
+                    "ROR": ((a >> turn) | (a << (width - turn))) & top,
+                }
+                for name, number in given.items():
+                    if n >= 0 or a in (1, top):
+                        rows.value(kind, number if n >= 0 else "F1", f"{name}(@, @)", [(kind, a), (count, n)])
+        for n in (0, 1, width - 1, width, 2**63 - 1):
+            a, turn = 5, n % width
+            rows.value(kind, (a << n) & top if n < width else 0, f"SHL(@, {n})", [(kind, a)])
+            rows.value(kind, ((a >> turn) | (a << (width - turn))) & top, f"ROR(@, {n})", [(kind, a)])
+        rows.value(kind, "F1", "SHR(@, -1)", [(kind, 1)])
+        rows.check(plant, f"shifts of {kind}")
+
+
+# ---- statements
+
+def counted(kind, start, limit, step, most):
+    """The control variable after a FOR and how often it turned; nothing where that is more often than asked."""
+    i, turns = start, 0
+    while (i <= limit) if step > 0 else (i >= limit):
+        turns += 1
+        if turns > most:
+            return None
+        if not holds(kind, i + step):
+            break
+        i += step
+    return i, turns
+
+
+def loops(plant):
+    for kind in NUMBERS:
+        rows = Rows()
+        steps = [n for n in (1, 2, 3, -1, -2, -3, greatest(kind), least(kind)) if holds(kind, n) and n]
+        for start, limit in itertools.product(edges(kind), repeat=2):
+            names = [("i~", kind, None), ("a~", kind, start), ("b~", kind, limit), ("k~", "INT", None)]
+            for step in steps:
+                given = counted(kind, start, limit, step, 5)
+                if given:
+                    wanted = {"i~": given[0], "k~": given[1]}
+                    rows.add([*names, ("c~", kind, step)], "FOR i~ := a~ TO b~ BY c~ DO k~ := k~ + 1; END_FOR;", wanted)
+                    rows.add([names[0], names[3]], f"FOR i~ := {start} TO {limit} BY {step} DO k~ := k~ + 1; END_FOR;", wanted)
+            given = counted(kind, start, limit, 1, 5)
+            if given:
+                rows.add(names, "FOR i~ := a~ TO b~ DO k~ := k~ + 1; END_FOR;", {"i~": given[0], "k~": given[1]})
+        rows.add([("i~", kind, None), ("z~", kind, 0)], "FOR i~ := 1 TO 2 BY z~ DO ; END_FOR;", "F6")
+        rows.check(plant, f"FOR over {kind}")
+
+
+def labels(plant):
+    for kind in NUMBERS:
+        rows, low, high = Rows(), least(kind), greatest(kind)
+        body = (f"CASE s~ OF {low}: r~ := 1; {low + 1}..{low + 3}: r~ := 2; {high - 3}..{high - 1}: r~ := 3; {high}: r~ := 4; "
+                "ELSE r~ := 5; END_CASE;")
+        middle = (low + high) // 2
+        for s in sorted({low, low + 1, low + 2, low + 3, low + 4, middle, high - 4, high - 3, high - 2, high - 1, high}):
+            place = 1 if s == low else 2 if s <= low + 3 else 4 if s == high else 3 if s >= high - 3 else 5
+            names = [("s~", kind, s), ("r~", "INT", 9)]
+            rows.add(names, body, {"r~": place})
+            rows.add(names, body.replace("CASE s~ OF", "CASE s~ + 0 OF"), {"r~": place})
+            rows.add(names, f"CASE s~ OF {low}..{high}: r~ := 1; ELSE r~ := 2; END_CASE;", {"r~": 1})
+            rows.add(names, f"CASE s~ OF {kind}#{high}, {low}: r~ := 1; END_CASE;", {"r~": 1 if s in (low, high) else 9})
+        rows.check(plant, f"CASE over {kind}")
+    rows = Rows(ENUMERATIONS)
+    for s, (name, number) in itertools.product(range(3), zip(("Red", "Hue#Green", "Blue"), range(3))):
+        names = [("s~", "Hue", s), ("r~", "INT", 9)]
+        rows.add(names, f"CASE s~ OF {name}: r~ := 1; END_CASE;", {"r~": 1 if s == number else 9})
+        rows.add(names, f"CASE s~ OF {name}: r~ := 1; ELSE r~ := 2; END_CASE;", {"r~": 1 if s == number else 2})
+    for s in (0, 1, 127, 128, 254, 255):
+        rows.add([("s~", "Wide", s), ("r~", "INT", 9)], "CASE s~ OF W0: r~ := 1; W127, W254: r~ := 2; Wide#W255: r~ := 3; END_CASE;",
+                 {"r~": {0: 1, 127: 2, 254: 2, 255: 3}.get(s, 9)})
+    rows.add([("s~", "One", 0), ("r~", "INT", 9)], "CASE s~ OF Alone: r~ := 1; ELSE r~ := 2; END_CASE;", {"r~": 1})
+    rows.check(plant, "CASE over names")
+
+
+def subscripts(plant):
+    for kind in NUMBERS:
+        rows, low, high = Rows(), least(kind), greatest(kind)
+        for first in sorted({low, 0 if low < 0 else 1, high - 2}):
+            typed = f"{kind}#" if first >= 0 else ""
+            bounds = f"ARRAY [{typed}{first}..{typed}{first + 2}] OF DINT"
+            for i in sorted({n for n in (low, first - 1, first, first + 1, first + 2, first + 3, high) if holds(kind, n)}):
+                names = [("a~", bounds, "[11, 22, 33]"), ("i~", kind, i), ("r~", "DINT", None)]
+                inside = first <= i <= first + 2
+                rows.add(names, "r~ := a~[i~];", {"r~": 11 * (i - first + 1)} if inside else "F3")
+                rows.add(names, "a~[i~] := 44;", {f"a~[{i}]": 44} if inside else "F3")
+                rows.add(names, "r~ := a~[i~ + 0] + 1;", {"r~": 11 * (i - first + 1) + 1} if inside else "F3")
+        rows.check(plant, f"subscripts of {kind}")
+    rows = Rows("TYPE Line : ARRAY [-1..1] OF INT; Face : ARRAY [5..6] OF Line; Body : STRUCT f : Face; n : INT; END_STRUCT; END_TYPE\n")
+    for i, j in itertools.product(range(4, 8), range(-2, 3)):
+        inside = 5 <= i <= 6 and -1 <= j <= 1
+        names = [("b~", "Body", None), ("i~", "INT", i), ("j~", "SINT", j), ("r~", "INT", None)]
+        rows.add(names, "b~.f[i~][j~] := 7; r~ := b~.f[i~][j~];", {"r~": 7} if inside else "F3")
+    for i in (1, 2, 3):
+        rows.add([("a~", "ARRAY [1..3] OF INT", "[3, 1, 2]"), ("i~", "INT", i), ("r~", "INT", None)], "r~ := a~[a~[a~[i~]]];",
+                 {"r~": (None, 3, 1, 2)[(None, 3, 1, 2)[(None, 3, 1, 2)[i]]]})
+    # a subscript is tested before the next one is evaluated, and an expression before the subscripts of its target
+    flat = [("a~", "Face", None), ("i~", "INT", 9), ("z~", "INT", 0), ("r~", "INT", None)]
+    rows.add(flat, "r~ := a~[i~][1 / z~];", "F3")
+    rows.add(flat, "a~[i~][1 / z~] := 1;", "F3")
+    rows.add(flat, "r~ := a~[1 / z~][i~];", "F2")
+    rows.add(flat, "a~[i~][0] := 1 / z~;", "F2")
+    rows.check(plant, "subscripts of several arrays")
+
+
+def passed(plant):
+    """A value of each type through a function, an instance, a field and an element."""
+    for kind in [*ALL, "TIME", *NAMED]:
+        before = (ENUMERATIONS if kind in NAMED else "") + f"""
+TYPE Held : STRUCT v : {kind}; w : ARRAY [0..1] OF {kind}; END_STRUCT; END_TYPE
+FUNCTION Same : {kind} VAR_INPUT x : {kind}; END_VAR VAR y : {kind}; END_VAR y := x; Same := y; END_FUNCTION
+FUNCTION Second : {kind} VAR_INPUT x, y : {kind}; END_VAR Second := Same(y); END_FUNCTION
+FUNCTION_BLOCK Keep VAR_INPUT x : {kind}; END_VAR VAR_OUTPUT y, z : {kind}; END_VAR z := y; y := Same(x); END_FUNCTION_BLOCK
+"""
+        rows = Rows(before)
+        numbers = DURATIONS if kind == "TIME" else (0, len(NAMED[kind]) - 1) if kind in NAMED else edges(kind)
+        first = numbers[0]
+        for number in numbers:
+            names = [("a~", kind, number), ("o~", kind, first), *((name, kind, None) for name in ("r~", "s~", "t~", "u~"))]
+            rows.add([*names, ("h~", "Held", None), ("k~", "Keep", None), ("i~", "INT", 1)],
+                     "r~ := Second(o~, a~); k~(x := a~, y => s~); k~(x := o~, y => h~.w[i~], z => t~); h~.v := a~; h~.w[i~ - 1] := h~.v; "
+                     "u~ := h~.w[0];", {"r~": number, "s~": number, "t~": number, "u~": number})
+        rows.check(plant, f"values of {kind} passed on")
+
+
+# ---- standard blocks over long runs
+
+def runs(plant):
+    """Each block over two hundred calls with inputs that were drawn, the timers at moments that were drawn too."""
+    pick = random.Random(2)
+    drawn = [tuple(pick.randrange(2) for _ in range(4)) for _ in range(200)]
+    first = [given[:1] for given in drawn]
+    two = [given[:2] for given in drawn]
+    language.block(plant, "SR, drawn", "SR", ["S1", "R"], two, language.latch(False))
+    language.block(plant, "RS, drawn", "RS", ["S", "R1"], two, language.latch(True))
+    language.block(plant, "R_TRIG, drawn", "R_TRIG", ["CLK"], first, language.edge(False))
+    language.block(plant, "F_TRIG, drawn", "F_TRIG", ["CLK"], first, language.edge(True))
+    seldom = [(u, d, int(pick.random() < 0.1), int(pick.random() < 0.1)) for u, d, _, _ in drawn]
+    for preset in (-32768, -1, 0, 1, 5, 32767):
+        given = f"PV := {preset}"
+        language.block(plant, f"CTU to {preset}, drawn", "CTU", ["CU", "R"], [(u, r) for u, _, r, _ in seldom],
+                       lambda u, r, s=language.counter("CTU", preset): s(u, 0, r, 0), preset=given)
+        language.block(plant, f"CTD from {preset}, drawn", "CTD", ["CD", "LD"], [(d, n) for _, d, _, n in seldom],
+                       lambda d, n, s=language.counter("CTD", preset): s(0, d, 0, n), preset=given)
+        language.block(plant, f"CTUD about {preset}, drawn", "CTUD", ["CU", "CD", "R", "LD"], seldom, language.counter("CTUD", preset),
+                       preset=given)
+    for period in (0, 1, 70, 1000):
+        times = list(itertools.accumulate(pick.choice((1, 10, 69, 70, 71, 500)) for _ in drawn))
+        for name in ("TON", "TOF", "TP"):
+            language.block(plant, f"{name} of {period} ms, drawn", name, ["IN"], first, language.timer(name, period), times=times,
+                           preset=f"PT := T#{period}ms")
+    # the ends of moments and of TIME
+    last = 2**62 - 1
+    for period, given in ((TIME_TOP, f"T#{TIME_TOP}ms"), (last, f"T#{last}ms"), (last - 1, f"T#{last - 1}ms"), (-5, "T#0ms - T#5ms")):
+        for name, steps in itertools.product(("TON", "TOF", "TP"), ([(1,)] * 4, [(1,), (0,), (0,), (0,)], [(0,), (1,), (1,), (0,)])):
+            language.block(plant, f"{name} of {period} ms at the ends of moments", name, ["IN"], steps, language.timer(name, period),
+                           times=[0, 1, last - 1, last], preset=f"PT := {given}")
+
+
+def main():
+    with tempfile.TemporaryDirectory() as folder:
+        plant = language.Plant(str(pathlib.Path(sys.argv[1]).resolve()), pathlib.Path(folder))
+        for part in (operands, groups, comparisons, durations, selections, conversions, shifts, loops, labels, subscripts, passed, runs):
+            part(plant)
+        print(f"edges.py: {plant.scenes} scenes")
+
+
+main()
