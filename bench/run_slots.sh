@@ -1,0 +1,57 @@
+#!/usr/bin/env bash
+# How long `plant check` and `plant run` take, and the greatest memory of the process, for texts of 1 to 4,096 slots. A text has so many
+# globals, all retained, and two programs that add to each of them once a run; `check` makes its plan, `run` starts cold without a row, or
+# latches 1,000 rows and saves each. The retain file lies in memory, so that little is spent on it.
+#
+# usage: bench/run_slots.sh PLANT [FOLDER]     PLANT is the built program; FOLDER is where the files lie, else /dev/shm
+set -euo pipefail
+
+plant=$(realpath "$1")
+work=$(mktemp -d -p "${2:-/dev/shm}")
+trap 'rm -rf "$work"' EXIT
+cd "$work"
+
+# unit NAME FIRST LAST: a program that adds to these globals
+unit() {
+    local k
+    echo "PROGRAM $1 VAR_EXTERNAL"
+    for ((k = $2; k <= $3; k++)); do echo "g$k : DINT;"; done
+    echo END_VAR
+    for ((k = $2; k <= $3; k++)); do echo "g$k := g$k + $k;"; done
+    echo END_PROGRAM
+}
+
+# text SLOTS: a text of so many globals
+text() {
+    local k
+    unit A 1 $(($1 / 2))
+    unit B $(($1 / 2 + 1)) "$1"
+    echo "CONFIGURATION C VAR_GLOBAL RETAIN"
+    for ((k = 1; k <= $1; k++)); do echo "g$k : DINT;"; done
+    echo "END_VAR RESOURCE R ON CPU TASK T (INTERVAL := T#10ms, PRIORITY := 0);"
+    echo "PROGRAM P WITH T : A; PROGRAM Q WITH T : B; END_RESOURCE END_CONFIGURATION"
+}
+
+# best WORDS: the shortest of five times, in milliseconds, and the memory of the program for these words
+best() {
+    local begin k took least=999999999
+    for k in 1 2 3 4 5; do
+        rm -f store
+        begin=$(date +%s%N)
+        # shellcheck disable=SC2086 # words without blanks
+        /usr/bin/time -o memory -f %M "$plant" $1 > told
+        took=$((($(date +%s%N) - begin) / 10000))
+        [ $took -ge $least ] || least=$took
+    done
+    awk -v took=$least '{ printf "%10.2f %10d", took / 100, $1 }' memory
+}
+
+echo t > none.csv
+{ echo t; seq 0 10 9990; } > rows.csv
+printf '%6s %10s %10s %10s %10s %10s %10s %10s\n' slots bytes 'check ms' KiB 'start ms' KiB 'run ms' KiB
+for slots in 1 512 1024 2048 4096; do
+    text $slots > text.st
+    printf '%6d %10d %s %s %s\n' $slots "$(wc -c < text.st)" "$(best "check text.st")" \
+        "$(best "run text.st --plant none.csv --store store --start cold")" \
+        "$(best "run text.st --plant rows.csv --store store --start cold")"
+done
