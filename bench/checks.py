@@ -104,6 +104,37 @@ def parentheses(count):
     return f"PROGRAM p VAR x : INT; END_VAR {('x := ' + '(' * 60 + '1' + ')' * 60 + ';') * count}END_PROGRAM"
 
 
+def configured(units, instances):
+    """A text with these instances, of which each is the name of its program."""
+    named = each(len(instances), lambda k: f"PROGRAM i{k} WITH t : {instances[k]}; ")
+    return f"{units}CONFIGURATION c RESOURCE r ON cpu TASK t (INTERVAL := T#1s, PRIORITY := 0); {named}END_RESOURCE END_CONFIGURATION"
+
+
+def programs(count, statements):
+    """So many programs in 64 instances, of which each has its code."""
+    units = each(count, lambda k: f"PROGRAM p{k} VAR n : INT; END_VAR {'n := n + 1; ' * statements}END_PROGRAM ")
+    return configured(units, [f"p{k % count}" for k in range(64)])
+
+
+def doubled(count):
+    """Functions that each call the one before twice, in place."""
+    first = "FUNCTION f0 : INT f0 := 1; END_FUNCTION "
+    units = first + each(count, lambda k: f"FUNCTION f{k + 1} : INT f{k + 1} := f{k}() + f{k}(); END_FUNCTION ")
+    return configured(f"{units}PROGRAM p VAR n : INT; END_VAR n := f{count}(); END_PROGRAM ", ["p"])
+
+
+def library(count):
+    """Functions, of which one is called."""
+    units = each(count, lambda k: f"FUNCTION f{k} : INT VAR_INPUT x : INT; END_VAR f{k} := x + {k % 9}; END_FUNCTION ")
+    return configured(f"{units}PROGRAM p VAR n : INT; END_VAR n := f7(n); END_PROGRAM ", ["p"])
+
+
+def wide(count):
+    """Functions with as many values as a program has places for."""
+    units = each(count, lambda k: f"FUNCTION f{k} : INT VAR a : ARRAY [0..4094] OF INT; END_VAR f{k} := a[0]; END_FUNCTION ")
+    return configured(f"{units}PROGRAM p VAR n : INT; END_VAR n := f7(); END_PROGRAM ", ["p"])
+
+
 TEXTS = [
     ("95,000 variables in one list", variables(95000)),
     ("40,000 variables, used 28,000 times", used_variables(40000, 28000, 1)),
@@ -120,6 +151,11 @@ TEXTS = [
     ("50,000 calls of an instance", calls(50000)),
     ("40,000 instances, each called", instances(40000)),
     ("8,000 numbers in 60 parentheses", parentheses(8000)),
+    ("27 programs of 3,200 statements in 64 instances", programs(27, 3200)),
+    ("11,000 functions, one of them called", library(11000)),
+    ("60 functions that each call the one before twice", doubled(60)),
+    ("850 functions of 4,096 values", wide(850)),
+    ("9,500 functions of 4,096 values", wide(9500)),
 ]
 
 

@@ -396,6 +396,41 @@ sed '5q' trace.txt > changed.txt
 echo "end 0" >> changed.txt
 scene "a trace of no entry" 0 "$(replayed 0 0 0 0 'N = 0')" "" $(replay s.st rows.csv changed.txt)
 
+# Traces of lives in which four rows were latched before anything ran: what is due goes by SINGLE of each row, an execution has the inputs
+# of its own row, and what is due again while it waits is an overrun. A run latches a row when nothing waits.
+cat > three.st <<'END'
+PROGRAM Add VAR_EXTERNAL n : LINT; END_VAR VAR_EXTERNAL CONSTANT v : INT; END_VAR n := n * 100 + INT_TO_LINT(v); END_PROGRAM
+CONFIGURATION C
+VAR_GLOBAL s AT %IX0 : BOOL; v AT %IW0 : INT; n : LINT; END_VAR
+RESOURCE R ON CPU
+TASK T1 (SINGLE := s, INTERVAL := T#10ms, PRIORITY := 1);
+TASK T2 (INTERVAL := T#20ms, PRIORITY := 1);
+TASK T3 (SINGLE := s, PRIORITY := 0);
+PROGRAM P1 WITH T1 : Add;
+PROGRAM P2 WITH T2 : Add;
+PROGRAM P3 WITH T3 : Add;
+END_RESOURCE
+END_CONFIGURATION
+END
+printf 't,s,v\n0,0,11\n5,1,22\n10,1,33\n20,0,44\n' > three.csv
+# latched LINE..: a trace of the four rows, and then of these executions
+latched() {
+    printf '%s\n' 'trace 1' 'budget 10000' 'start cold' 'moment none' 'row 0' 'row 5' 'row 10' 'row 20' "$@" "end $((4 + $#))" > latched.txt
+}
+scene "three tasks, each row when nothing waits" 0 "$(report 4 6 0 0 10 'N = 111122224444')" "" $(run three.st three.csv tasks cold)
+latched
+scene "four rows and no execution" 0 "$(replayed 4 0 0 3 'N = 0')" "" $(replay three.st three.csv latched.txt)
+latched 'done R/P3 1 ok' 'done R/P1 0 ok' 'done R/P2 0 ok'
+scene "four rows, then three executions" 0 "$(replayed 4 3 0 3 'N = 221111')" "" $(replay three.st three.csv latched.txt)
+latched 'done R/P2 0 ok' 'done R/P1 0 ok' 'done R/P3 1 ok'
+scene "four rows, then three executions, the best one last" 0 "$(replayed 4 3 0 3 'N = 111122')" "" $(replay three.st three.csv latched.txt)
+for line in 'R/P1 1' 'R/P1 3' 'R/P2 1' 'R/P2 3' 'R/P3 0' 'R/P3 2' 'R/P3 3'; do
+    latched "done $line ok"
+    scene "four rows, then $line" 3 "" "fault V3" $(replay three.st three.csv latched.txt)
+done
+latched 'done R/P1 0 ok' 'done R/P1 3 ok'
+scene "an overrun is not queued" 3 "" "fault V3" $(replay three.st three.csv latched.txt)
+
 # A warm life, with its moment and with what is not retained.
 scene "a cold life of two globals" 0 "$(report 3 3 0 0 6 'N = 3' 'K = 10')" "" $(run both.st rows.csv warmed cold)
 scene "a warm life with a trace" 0 "$(report 1 1 0 0 2 'N = 4' 'K = 8')" "" $(run both.st next.csv warmed warm) --trace warm.txt
@@ -577,6 +612,23 @@ scene "an array with a name of 13 letters" 2 "" "fault G6" check array.st
     echo 'PROGRAM P WITH T : E; END_RESOURCE END_CONFIGURATION'
 } > doubled.st
 scene "blocks that double twenty times" 2 "" "fault M1" check doubled.st
+# Functions that each call the one before twice: their code stands in place, over a million calls of it.
+{
+    echo 'FUNCTION F0 : INT F0 := 1; END_FUNCTION'
+    for ((i = 1; i <= 20; i++)); do echo "FUNCTION F$i : INT F$i := F$((i - 1))() + F$((i - 1))(); END_FUNCTION"; done
+    echo 'PROGRAM E VAR n : INT; END_VAR n := F20(); END_PROGRAM CONFIGURATION C RESOURCE R ON CPU TASK T (PRIORITY := 0);'
+    echo 'PROGRAM P WITH T : E; END_RESOURCE END_CONFIGURATION'
+} > called.st
+refused "functions that double twenty times" 2 check called.st
+grep -qE '^fault M[12]$' err || fail "functions that double twenty times: told $(cat err)"
+# A function with more values than a program has places for.
+{
+    echo 'FUNCTION F : INT VAR a : ARRAY [1..4096] OF INT; END_VAR F := a[1]; END_FUNCTION PROGRAM E VAR n : INT; END_VAR n := F(); END_PROGRAM'
+    echo 'CONFIGURATION C RESOURCE R ON CPU TASK T (PRIORITY := 0); PROGRAM P WITH T : E; END_RESOURCE END_CONFIGURATION'
+} > places.st
+scene "a function of 4,097 values" 2 "" "fault M1" check places.st
+sed -i 's/4096/4095/' places.st
+scene "a function of 4,096 values" 0 "$(printf '%s 1\n' resources tasks programs slots; echo 'retained 0')" "" check places.st
 # 20,000 statements take more than 16,384 instructions.
 {
     echo 'PROGRAM E VAR n : INT; END_VAR'
