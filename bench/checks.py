@@ -3,9 +3,11 @@
 
 usage: bench/checks.py PLANT     PLANT is the built program
 
-Each is run five times; the shortest time counts, a start of the program and the reading of the text included.
+Each is run five times; the shortest time counts, a start of the program and the reading of the text included. Of the time of the processor
+too, which other work on the machine changes less.
 """
 import pathlib
+import resource
 import subprocess
 import sys
 import tempfile
@@ -159,6 +161,12 @@ TEXTS = [
 ]
 
 
+def processor():
+    """Seconds of the processor that the programs have taken that ended until now."""
+    used = resource.getrusage(resource.RUSAGE_CHILDREN)
+    return used.ru_utime + used.ru_stime
+
+
 def main():
     plant = str(pathlib.Path(sys.argv[1]).resolve())
     with tempfile.TemporaryDirectory() as folder:
@@ -167,13 +175,14 @@ def main():
             if len(text) > LIMIT:
                 sys.exit(f"checks.py: {what}: {len(text)} bytes")
             source.write_text(text)
-            times = []
+            times, spent = [], []
             for _ in range(5):
-                start = time.monotonic()
+                start, before = time.monotonic(), processor()
                 done = subprocess.run([plant, "check", str(source)], capture_output=True, text=True, timeout=600)
                 times.append(time.monotonic() - start)
+                spent.append(processor() - before)
             told = done.stderr.strip() or "accepted"
-            print(f"{what}, {len(text):,} bytes: {min(times) * 1000:.0f} ms, {told}", flush=True)
+            print(f"{what}, {len(text):,} bytes: {min(times) * 1000:.0f} ms, {min(spent) * 1000:.0f} of the processor, {told}", flush=True)
 
 
 main()
