@@ -32,26 +32,31 @@ text() {
     echo "PROGRAM P WITH T : A; PROGRAM Q WITH T : B; END_RESOURCE END_CONFIGURATION"
 }
 
-# best WORDS: the shortest of five times, in milliseconds, and the memory of the program for these words
+# best WORDS: the shortest of five times, in milliseconds, that of the processor, and the memory of the program for these words
 best() {
     local begin k took least=999999999
+    rm -f spent
     for k in 1 2 3 4 5; do
         rm -f store
         begin=$(date +%s%N)
         # shellcheck disable=SC2086 # words without blanks
-        /usr/bin/time -o memory -f %M "$plant" $1 > told
+        /usr/bin/time -a -o spent -f '%U %S %M' "$plant" $1 > told
         took=$((($(date +%s%N) - begin) / 10000))
         [ $took -ge $least ] || least=$took
     done
-    awk -v took=$least '{ printf "%10.2f %10d", took / 100, $1 }' memory
+    awk -v took=$least '
+        NR == 1 || $1 + $2 < spent { spent = $1 + $2 }
+        END { printf "%10.2f %10d %7d", took / 100, spent * 1000, $3 }' spent
 }
 
 echo t > none.csv
 { echo t; seq 0 10 9990; } > rows.csv
-printf '%6s %10s %10s %10s %10s %10s %10s %10s\n' slots bytes 'check ms' KiB 'start ms' KiB 'run ms' KiB
+printf '%5s %7s' slots bytes
+for what in check start run; do printf ' %10s %10s %7s' "$what ms" processor KiB; done
+echo
 for slots in 1 512 1024 2048 4096; do
     text $slots > text.st
-    printf '%6d %10d %s %s %s\n' $slots "$(wc -c < text.st)" "$(best "check text.st")" \
+    printf '%5d %7d %s %s %s\n' $slots "$(wc -c < text.st)" "$(best "check text.st")" \
         "$(best "run text.st --plant none.csv --store store --start cold")" \
         "$(best "run text.st --plant rows.csv --store store --start cold")"
 done
