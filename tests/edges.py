@@ -206,6 +206,53 @@ def groups(plant):
     rows.check(plant, "levels of operators")
 
 
+def spellings(plant):
+    """Literals in each of their forms, and expressions of literals alone, which take the type of their place."""
+    rows = Rows()
+    for kind, expression, number in (
+        ("INT", "3 -5", -2), ("INT", "3 - -5", 8), ("INT", "-(5)", -5), ("INT", "-5 * -3", 15), ("INT", "-7 / 2", -3),
+        ("INT", "-7 MOD 4", -3),
+        ("INT", "16#7F", 127), ("INT", "2#1111_0000", 240), ("INT", "8#777", 511), ("INT", "1_000", 1000), ("INT", "007", 7),
+        ("INT", "INT#16#10", 16), ("INT", "-16#8000", -32768), ("SINT", "-2#1000_0000", -128), ("SINT", "-SINT#128", -128),
+        ("UINT", "UINT#65535", 65535), ("LINT", "-9223372036854775808", -2**63), ("ULINT", "16#FFFF_FFFF_FFFF_FFFF", 2**64 - 1),
+        ("WORD", "NOT 0", 65535), ("WORD", "1 OR 6", 7), ("WORD", "16#F0F0 AND 16#FF00", 0xF000), ("WORD", "NOT 16#00FF XOR 1", 0xFF01),
+        ("BYTE", "BYTE#2#1010 XOR 16#0F", 5), ("BYTE", "NOT BYTE#16#0F", 0xF0), ("BYTE", "-BYTE#0", 0),
+        ("LWORD", "NOT LWORD#0", 2**64 - 1), ("BOOL", "BOOL#1", 1), ("BOOL", "BOOL#0", 0), ("BOOL", "NOT TRUE OR FALSE", 0),
+        ("BOOL", "1 = 1", 1), ("BOOL", "2 < 1", 0),
+        ("BOOL", "9223372036854775807 > -9223372036854775808", 1), ("BOOL", "T#1s = T#1000ms", 1), ("BOOL", "TRUE <> FALSE", 1),
+        ("TIME", "T#1d", 86_400_000), ("TIME", "TIME#1h_30m", 5_400_000), ("TIME", "t#90s", 90_000), ("TIME", "T#1m30s500ms", 90_500),
+        ("TIME", "T#25h_15m", 90_900_000), ("TIME", "T#0ms - T#1s", -1000),
+        ("LINT", "SEL(TRUE, 1, 2)", 2), ("LINT", "MAX(1, 2)", 2), ("LINT", "MIN(-1, 2)", -1), ("LINT", "ABS(-3)", 3),
+        ("LINT", "LIMIT(1, 7, 5)", 5),
+        ("LINT", "LIMIT(5, 3, 1)", 1), ("DINT", "INT_TO_DINT(-5)", -5), ("BYTE", "SHL(BYTE#1, 7)", 128), ("INT", "BOOL_TO_INT(TRUE)", 1),
+        ("SINT", "100 + 28", "F1"), ("SINT", "-(-128)", "F1"), ("USINT", "0 - 1", "F1"), ("INT", "1 / (2 - 2)", "F2"),
+        ("INT", "7 MOD (2 - 2)", 0),
+        ("LINT", "ABS(-9223372036854775808)", "F1"), ("USINT", "INT_TO_USINT(-1)", "F4"),
+    ):
+        rows.value(kind, number, expression, [])
+    for expression, number in (("@ -5", 2), ("@ - -5", 12), ("@-5", 2), ("-@", -7), ("- @ - - @", 0), ("(@) * (((2)))", 14),
+                               ("-(@ + 1)", -8)):
+        rows.value("INT", number, expression, [("INT", 7)] * expression.count("@"))
+    rows.check(plant, "spellings of literals")
+
+
+def outputs(plant):
+    """A block's inputs are evaluated before its body, and its outputs copied in their order, each into what its target is by then."""
+    rows = Rows("""FUNCTION_BLOCK Two VAR_INPUT x, y : INT; END_VAR VAR_OUTPUT n, m : INT; END_VAR
+n := x + 1; m := x * 10 + y; END_FUNCTION_BLOCK
+""")
+    names = [("b~", "Two", None), ("i~", "INT", 0), ("a~", "ARRAY [0..3] OF INT", None)]
+    rows.add(names, "b~(x := 1, y := 4, n => i~, m => a~[i~]);", {"i~": 2, "a~[0]": 0, "a~[2]": 14})
+    rows.add(names, "b~(x := 1, m => a~[i~], n => i~);", {"i~": 2, "a~[0]": 10, "a~[2]": 0})
+    rows.add(names, "b~(x := 1, y := 2); b~(y := b~.n, x := b~.m); i~ := b~.m;", {"i~": 122})
+    rows.add(names, "b~(x := 1); b~(x := b~.n); b~(x := b~.n, n => i~);", {"i~": 4})
+    rows.add(names, "b~(x := i~ + 1, n => i~, y := i~); a~[1] := b~.m;", {"i~": 2, "a~[1]": 10})
+    rows.add(names, "b~(x := 8, n => a~[i~ + 4]);", "F3")
+    rows.add(names, "b~(x := 8, n => i~, m => a~[i~]);", "F3")
+    rows.add(names, "b~(x := 1 / i~, y := 1);", "F2")
+    rows.check(plant, "inputs and outputs of a block")
+
+
 def comparisons(plant):
     """Comparisons in every form, as values and as conditions."""
     for kind in [*ALL, "TIME", "Hue"]:
@@ -453,7 +500,8 @@ def runs(plant):
 def main():
     with tempfile.TemporaryDirectory() as folder:
         plant = language.Plant(str(pathlib.Path(sys.argv[1]).resolve()), pathlib.Path(folder))
-        for part in (operands, groups, comparisons, durations, selections, conversions, shifts, loops, labels, subscripts, passed, runs):
+        for part in (operands, groups, spellings, outputs, comparisons, durations, selections, conversions, shifts, loops, labels,
+                     subscripts, passed, runs):
             part(plant)
         print(f"edges.py: {plant.scenes} scenes")
 
