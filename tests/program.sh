@@ -623,6 +623,35 @@ scene "a record of 131,059 bytes, cold" 0 "$(report 0 0 0 0 0 'N = 0' "$longest"
 scene "a record of 131,059 bytes, warm" 0 "$(report 0 0 0 0 0 'N = 0' "$longest" "W$(printf '%056d' 0) = 0")" "" $(run limit.st none.csv longest warm)
 limit "a record of 131,060 bytes" 2 "" "fault G6" "VAR_GLOBAL RETAIN $retained $(printf 'w%057d' 0) : DINT; END_VAR" "$one"
 
+# The code of a program, and places for the values of its functions, at their limits and one past them.
+# program NAME STATUS OUTPUT ERROR UNITS BODY: a text of these units and of one program with this body is answered so
+program() {
+    printf '%s\n' "$5" 'PROGRAM E VAR n : INT; END_VAR' "$6" 'END_PROGRAM CONFIGURATION C RESOURCE R ON CPU' \
+        'TASK T (PRIORITY := 0); PROGRAM P WITH T : E; END_RESOURCE END_CONFIGURATION' > program.st
+    scene "$1" "$2" "$3" "$4" check program.st
+}
+# called COUNT BODY: a function G with one value and a function F with one value more than so many, and this body
+called() {
+    printf '%s\n' 'FUNCTION G : INT G := 1; END_FUNCTION' "FUNCTION F : INT VAR a : ARRAY [1..$1] OF INT; END_VAR $2 END_FUNCTION"
+}
+# An empty statement takes one instruction.
+empty=$(printf '%16384s' '' | tr ' ' ';')
+program "16,384 instructions" 0 "$(sizes 1 1 1 0)" "" "" "$empty"
+program "16,385 instructions" 2 "" "fault M2" "" "$empty;"
+program "4,096 places in a function" 0 "$(sizes 1 1 1 0)" "" "$(called 4095 'F := 1;')" 'n := F();'
+program "4,097 places in a function" 2 "" "fault M1" "$(called 4096 'F := 1;')" 'n := F();'
+program "4,097 places in a function that is not called" 0 "$(sizes 1 1 1 0)" "" "$(called 4096 'F := 1;')" 'n := G();'
+program "4,096 places in two functions" 0 "$(sizes 1 1 1 0)" "" "$(called 4094 'F := G();')" 'n := F();'
+program "4,097 places in two functions" 2 "" "fault M1" "$(called 4095 'F := G();')" 'n := F();'
+program "4,096 places one after the other" 0 "$(sizes 1 1 1 0)" "" "$(called 4095 'F := 1;')" 'n := F(); n := G();'
+# A block that takes the whole layout, and one that no layout has room for, of which nothing is an instance.
+printf '%s\n' 'FUNCTION_BLOCK B VAR a : ARRAY [1..4096] OF INT; END_VAR a[4096] := a[4096] + 2; END_FUNCTION_BLOCK' \
+    'PROGRAM E VAR x : B; END_VAR x(); END_PROGRAM CONFIGURATION C RESOURCE R ON CPU TASK T (PRIORITY := 0);' \
+    'PROGRAM P WITH T : E; END_RESOURCE END_CONFIGURATION' > block.st
+scene "a block of 4,096 slots" 0 "$(sizes 1 1 4096 0)" "" check block.st
+program "a block of 4,097 slots without an instance" 0 "$(sizes 1 1 1 0)" "" \
+    'FUNCTION_BLOCK B VAR a : ARRAY [1..4096] OF INT; c : INT; END_VAR c := 1; END_FUNCTION_BLOCK' ';'
+
 # A retain file of 4,095 counters, beside a variable that isn't retained.
 counters=$(several 4095 'V@ = 0')
 limit "4,095 counters" 0 "$(sizes 1 1 4096 4095)" "" "VAR_GLOBAL RETAIN $(several 4095 'v@ : INT;') END_VAR" "$one"
