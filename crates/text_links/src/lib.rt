@@ -7,6 +7,7 @@
 mod blocks;
 mod declared_names;
 mod functions;
+mod laws;
 mod libraries;
 mod linked_text;
 mod numbers;
@@ -17,5 +18,6 @@ mod unit_tables;
 mod variables;
 mod whole_texts;
 
+pub use laws::units_with_room_are_kept;
 pub use linked_text::LinkedText;
 pub use whole_texts::link;
