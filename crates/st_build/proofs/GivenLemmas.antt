@@ -39,7 +39,7 @@ same_one c d h = ap (head_or c) h
 
 -- its configuration is sound
 broken_none : (source : Source) (c : Configuration) (e : ConfigurationError) → IsConfigured source
-    → configurations_in source ≡ c ∷ [] → BreaksRule source c e → IsWant (errors.Configuration e)
+    → configurations_in source ≡ c ∷ [] → BreaksRule source c e → IsWant source (errors.Configuration e)
 broken_none source c configurations.NotOne of one h =
     let f = subst (λ cs. (length cs == 1) ≡ false) one h in absurd (cc)
 broken_none source c configurations.Unknown of one h =
@@ -57,7 +57,7 @@ broken_none source c configurations.WithoutTask of one h =
 broken_none source c configurations.OutOfMemory of one h = h
 
 misconfigured : (source : Source) (e : ConfigurationError) → IsConfigured source → IsMisconfigured source e
-    → IsWant (errors.Configuration e)
+    → IsWant source (errors.Configuration e)
 misconfigured source configurations.NotOne of h =
     let f = subst (λ cs. (length cs == 1) ≡ false) of.one h in absurd (cc)
 misconfigured source configurations.Unknown of h = broken_none source h.0 configurations.Unknown of h.1 h.2
@@ -71,7 +71,7 @@ not_large a b h k e = let f : (a || b) ≡ false = ap (λ x. x || b) h ∙ k in 
 
 -- so it is refused only where something is wanting
 refused : (source : Source) (budget : ℕ) (plan : plans.Plan) (e : BuildError) → IsPlanOf source budget plan
-    → SourceLacksPlan source e → IsWant e
+    → SourceLacksPlan source e → IsWant source e
 refused source budget plan errors.Budget of h = absurd h.1
 refused source budget plan (errors.Words x) of h = absurd h.1
 refused source budget plan (errors.Grammar x) of h = absurd h.1
@@ -93,6 +93,6 @@ refused source budget plan errors.Memory of h = h
 
 pub plan_given : (source : Source) (budget : ℕ) (plan : plans.Plan) (r : Result Plan BuildError)
     → IsPlanOf source budget plan → IfOk r (λ found. IsPlanOf source budget (plan_view found))
-    → IfErr r (λ e. SourceLacksPlan source e) → GivesPlan r plan
+    → IfErr r (λ e. SourceLacksPlan source e) → GivesPlan source r plan
 plan_given source budget plan (Ok found) of given lacks = given.is ∙ sym of.is
 plan_given source budget plan (Err e) of given lacks = refused source budget plan e of lacks

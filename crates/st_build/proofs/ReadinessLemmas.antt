@@ -1,5 +1,5 @@
 -- What is known of a text that is judged.
-use Rattle.std.proofs.Common.{◌≡◌, ◌≤◌, ℕ, List, Result, Ok, Err, IfOk, IfErr, map, true}
+use Rattle.std.proofs.Common.{◌≡◌, ◌≤◌, refl, ℕ, List, Result, Ok, Err, IfOk, IfErr, map, true}
 use Rattle.std.specs.List.{list_all}
 use Rattle.st_words.specs.declared.limits.TheConstants.{MAX_BUDGET}
 use Rattle.st_trees.specs.Sources.{Source}
@@ -14,12 +14,15 @@ use Rattle.config.specs.Sound.{are_different, has_line}
 use Rattle.layout.specs.declared.slots.LayoutSlot.{LayoutSlot}
 use Rattle.layout.specs.TextLayouts.{IsLayoutOf}
 use Rattle.coded_programs.specs.Codes.{CodeView}
+use Rattle.st_compile.specs.declared.compile_error.CompileError.{CompileError}
+use Rattle.st_compile.specs.declared.compile_error.CompileError.TheVariants as compiling
+use Rattle.text_fitting.specs.Spelled.{IsSpelled}
 use Rattle.text_codes.specs.Codes.{AreCodesOf}
 use Rattle.text_links.specs.Accepted.{IsAccepted}
 use Rattle.st_build.specs.declared.build_error.BuildError.{BuildError}
 use Rattle.st_build.specs.declared.build_error.BuildError.TheVariants as errors
 use Rattle.st_build.specs.Readiness.{IsJudged, IsReady}
-use Rattle.st_build.specs.Refusals.{LacksPlan, SourceLacksPlan}
+use Rattle.st_build.specs.Refusals.{LacksCode, LacksPlan, SourceLacksPlan}
 use Rattle.st_build.proofs.ConfiguredLemmas.{only}
 
 -- a parsed text that breaks no rule, with a sound configuration, is judged
@@ -46,6 +49,14 @@ source_lacks source (errors.Layout x) well h = (well, h)
 source_lacks source (errors.Code x) well h = (well, h)
 source_lacks source errors.RecordTooLong well h = (well, h)
 source_lacks source errors.Memory well h = h
+
+-- a text that is linked wherever its literals are as the grammar gives them lacks its code for nothing else
+pub lacks_code : (source : Source) (e : CompileError) → (IsSpelled source → e ≡ compiling.NotLinked → ⊥)
+    → LacksCode source e
+lacks_code source compiling.NotLinked there = λ spelled. there spelled refl
+lacks_code source compiling.TooManyPlaces there = tt
+lacks_code source compiling.TooManyInstructions there = tt
+lacks_code source compiling.OutOfMemory there = tt
 
 -- it is accepted
 pub accepted : (source : Source) → IsJudged source → IsAccepted source

@@ -7,3 +7,4 @@ pub mod TextPlans
 pub mod Refusals
 pub mod Readiness
 pub mod Owners
+pub mod PlanExamples

@@ -5,6 +5,7 @@
 
 mod build_error;
 mod enumerations;
+pub mod examples;
 mod laws;
 mod numbered_slots;
 mod places;

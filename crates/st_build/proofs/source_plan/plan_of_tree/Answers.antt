@@ -1,13 +1,15 @@
-use Rattle.std.proofs.Common.{◌≡◌, map}
+use Rattle.std.proofs.Common.{rules, ◌≡◌, map, sym, subst, Err}
+use Rattle.std.specs.Prelude.{IfErr}
 use Rattle.st_trees.specs.SourceViews.{source_view}
 use Rattle.st_trees.specs.Sources as trees
 use Rattle.st_types.specs.ResolvedUnits.{resolved_source}
 use Rattle.coded_programs.specs.Codes.{code_view}
 use Rattle.config.specs.PlanViews.{plan_view}
 use Rattle.st_build.specs.Readiness.{IsJudged, IsReady}
+use Rattle.st_build.specs.declared.build_error.BuildError.TheVariants.{Code}
 use Rattle.st_build.specs.Refusals.{LacksPlan}
 use Rattle.st_build.specs.TextPlans.{IsPlanOf}
-use Rattle.st_build.proofs.ReadinessLemmas.{accepted, ready_for, on_ok, on_err}
+use Rattle.st_build.proofs.ReadinessLemmas.{accepted, lacks_code, ready_for, on_ok, on_err}
 use Rattle.st_build.proofs.source_plan.plan_of_tree.Goals as goal
 
 pub plan_from-requires : goal.plan_from-requires
@@ -50,3 +52,14 @@ returns-clause-refused c =
     let layout = c.in_ok-layout.ensures.ok text resolved judged.well_typed in
     given text (ready_for text tree slots codes c.args.budget judged resolved layout
     (c.in_ok-codes.ensures.codes text resolved (accepted text judged) layout) c.requires.some_ticks c.requires.ticks))
+
+pub returns-in_err-codes-clause-refused : goal.returns-in_err-codes-clause-refused
+returns-in_err-codes-clause-refused c =
+    let fault = c.in_err-codes.field-0.0 in
+    let same : c.from_residual-in_err-codes.result ≡ Err (Code fault) = search rules in
+    subst (λ r. IfErr r (λ e. (text : trees.Source) → IsJudged text → source_view c.args.tree ≡ resolved_source text
+    → LacksPlan text e)) (sym same)
+    (λ text judged resolved.
+    let layout = c.in_ok-layout.ensures.ok text resolved judged.well_typed in
+    lacks_code text fault
+    (λ spelled. c.in_err-codes.ensures.linked text resolved (accepted text judged) spelled layout))
