@@ -33,8 +33,8 @@ fn step(
     marks: &mut [Mark],
 ) -> Result<(), Stop>
     requires { place.old ≤ size }
-    ensures steps { StepsOn result now size (Some instr.now) place.old stack.old (tracked values.old marks.old) ticks.old
-        place.new stack.new (tracked values.new marks.new) ticks.new }
+    ensures steps { StepsOn result now size (Some instr.now) place.old stack.old (tracked values.old marks.old)
+        ticks.old place.new stack.new (tracked values.new marks.new) ticks.new }
     ensures within { place.new ≤ size }
 {
     match instr {

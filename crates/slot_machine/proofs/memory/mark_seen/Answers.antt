@@ -1,6 +1,7 @@
 use Rattle.slot_machine.proofs.Marks.{read_stays, assigned_stays}
 use Rattle.slot_machine.proofs.memory.mark_seen.Goals as goal
-use Rattle.slot_machine.proofs.memory.mark_seen.Goals.{else-not-mark-via-then-not-mark+else-not-mark-2, else-not-mark-via-else-not-mark}
+use Rattle.slot_machine.proofs.memory.mark_seen.Goals.{else-not-mark-via-then-not-mark+else-not-mark-2}
+use Rattle.slot_machine.proofs.memory.mark_seen.Goals.{else-not-mark-via-else-not-mark}
 
 pub returns-else-not-mark : goal.returns-else-not-mark
 returns-else-not-mark c = elim c.else-not-mark.branch [
