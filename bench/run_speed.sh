@@ -4,13 +4,20 @@
 # then, if need be, the name of a program that is built already. It takes lua5.4 and gcc.
 set -e
 . "$(dirname "$0")/copied.sh"
-# the crates below a text's plan and a core; the kit's libraries among them have no folder
-crates=$(sed -n 's/^st_build: *//p; s/^serial_core: *//p' "$1/crates.txt" | tr ' ' '\n' | sort -u | while read -r name; do
-    [ ! -d "$1/crates/$name" ] || echo "$name"
-done)
+# all crates below a text's plan and a core, by the lines of crates.txt; the kit's libraries among them have no line
+crates=$(awk '
+    /^[a-z]/ { name = $1; sub(/:.*/, "", name); line = $0; sub(/^[^:]*:/, "", line); below[name] = line }
+    function add(name, words, count, i) {
+        if (!(name in below) || name in taken) return
+        taken[name] = 1
+        count = split(below[name], words, " ")
+        for (i = 1; i <= count; i++) add(words[i])
+        print name
+    }
+    END { add("st_build"); add("serial_core") }' "$1/crates.txt")
 built=${2:+$(realpath "$2")}
 # shellcheck disable=SC2086 # names without blanks
-copied "$1" speed 'anyhow thiserror smallvec' $crates st_build serial_core
+copied "$1" speed 'anyhow thiserror smallvec' $crates
 if [ -z "$built" ]; then
     rt run -- "$here/speed/count.st" 1 200000 1
     built=$PWD/out/speed
