@@ -25,7 +25,7 @@ use std::alloc::Global;
 fn step(
     size: usize,
     now: u64,
-    instr: Instr,
+    instr: &Instr,
     place: &mut usize,
     ticks: &mut u32,
     stack: &mut Stack,
@@ -33,39 +33,39 @@ fn step(
     marks: &mut [Mark],
 ) -> Result<(), Stop>
     requires { place.old ≤ size }
-    ensures steps { StepsOn result now size (Some instr) place.old stack.old (tracked values.old marks.old) ticks.old
-        place.new stack.new (tracked values.new marks.new) ticks.new }
+    ensures steps { StepsOn result now size (Some instr.now) place.old stack.old (tracked values.old marks.old)
+        ticks.old place.new stack.new (tracked values.new marks.new) ticks.new }
     ensures within { place.new ≤ size }
 {
     match instr {
         Instr::Tick => tick(ticks),
-        Instr::Push(value) => push_constant(value, stack),
-        Instr::Load(k) => load(k, stack, values, marks),
-        Instr::Fetch(k) => fetch(k, stack, values, marks),
-        Instr::Store(k) => store(k, stack, values, marks),
-        Instr::Reset(k) => set(k, stack, values, marks),
-        Instr::Unary(op) => unary(op, stack),
-        Instr::Binary(op) => binary(op, stack),
-        Instr::Compute(function, n) => compute(function, n, stack),
-        Instr::Step(block, first) => step_block(block, first, now, values, marks),
-        Instr::Turn(n) => turn(n, stack),
-        Instr::Jump(to) => jump(to, place),
-        Instr::Unless(to) => unless(to, place, stack),
-        Instr::When(to) => when(to, place, stack),
-        Instr::Back(to) => go_back(size, to, place, ticks),
-        Instr::Leave(n) => leave(n, stack),
+        Instr::Push(value) => push_constant(*value, stack),
+        Instr::Load(k) => load(*k, stack, values, marks),
+        Instr::Fetch(k) => fetch(*k, stack, values, marks),
+        Instr::Store(k) => store(*k, stack, values, marks),
+        Instr::Reset(k) => set(*k, stack, values, marks),
+        Instr::Unary(op) => unary(*op, stack),
+        Instr::Binary(op) => binary(*op, stack),
+        Instr::Compute(function, n) => compute(*function, *n, stack),
+        Instr::Step(block, first) => step_block(*block, *first, now, values, marks),
+        Instr::Turn(n) => turn(*n, stack),
+        Instr::Jump(to) => jump(*to, place),
+        Instr::Unless(to) => unless(*to, place, stack),
+        Instr::When(to) => when(*to, place, stack),
+        Instr::Back(to) => go_back(size, *to, place, ticks),
+        Instr::Leave(n) => leave(*n, stack),
         Instr::Subscript {
             count,
             stride,
             lower,
-        } => subscript(lower, count, stride, stack),
+        } => subscript(*lower, *count, *stride, stack),
         Instr::LoadAt => load_at(stack, values, marks),
         Instr::StoreAt => store_at(stack, values, marks),
-        Instr::ForBegin(k) => for_begin(k, stack, values, marks),
-        Instr::ForTest { control, end } => for_test(control, end, place, stack, values, marks),
-        Instr::ForStep { control, end } => for_step(control, end, place, stack, values, marks),
-        Instr::Equals(to) => equals(to, place, stack),
-        Instr::Within(to) => within(to, place, stack),
+        Instr::ForBegin(k) => for_begin(*k, stack, values, marks),
+        Instr::ForTest { control, end } => for_test(*control, *end, place, stack, values, marks),
+        Instr::ForStep { control, end } => for_step(*control, *end, place, stack, values, marks),
+        Instr::Equals(to) => equals(*to, place, stack),
+        Instr::Within(to) => within(*to, place, stack),
     }
 }
 
@@ -98,7 +98,7 @@ pub fn run(
         match step(
             code.len(),
             now,
-            code[place],
+            &code[place],
             &mut place,
             &mut ticks,
             &mut stack,

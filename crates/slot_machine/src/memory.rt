@@ -15,10 +15,12 @@ pub fn mark_seen(marks: &mut [Mark], slot: usize)
 {
     if slot < marks.len() {
         let mark = marks[slot];
-        marks[slot] = Mark {
-            is_read: mark.is_read || !mark.is_assigned,
-            is_assigned: mark.is_assigned,
-        };
+        if !mark.is_read && !mark.is_assigned {
+            marks[slot] = Mark {
+                is_read: true,
+                is_assigned: false,
+            };
+        }
     }
 }
 
