@@ -1,6 +1,6 @@
-mod Areas
-mod EnumerationLemmas
-mod Formats
+pub mod Areas
+pub mod EnumerationLemmas
+pub mod Formats
 mod Frames
 mod Keeps
 mod Stretches

@@ -26,5 +26,6 @@ mod value_bytes;
 pub use fault::StoreFault;
 pub use format::FILE_BYTES;
 pub use laws::{records_have_one_spelling, values_have_their_width};
+pub use line::cut;
 pub use record::Record;
 pub use store::Store;

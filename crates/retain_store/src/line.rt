@@ -53,7 +53,7 @@ pub(crate) fn line_at(text: &[u8]) -> Option<(Line<'_>, &[u8])>
 }
 
 /// What stands before the first such byte, and what stands after it.
-pub(crate) fn cut(mark: u8, bytes: &[u8]) -> Option<(&[u8], &[u8])>
+pub fn cut(mark: u8, bytes: &[u8]) -> Option<(&[u8], &[u8])>
     ensures { option_map (λ p. (p.0.now, p.1.now)) result ≡ cut mark bytes.now }
 {
     let end = position_of(mark, bytes)?;

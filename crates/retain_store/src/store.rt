@@ -175,6 +175,13 @@ impl<D: Disk> Store<D> {
         }
     }
 
+    /// The generation of the last record, from 1; 0 where there is none.
+    pub fn generation(&self) -> u64
+        ensures { result ≡ self.now.generation }
+    {
+        self.areas.generation
+    }
+
     /// The last record, if there is one.
     pub fn last(&self) -> Option<&Record>
         ensures record { option_copied result ≡ record_in self.now.last }

@@ -10,3 +10,4 @@ pub mod ValueLemmas
 pub mod FirstLemmas
 pub mod ReplayLemmas
 pub mod NameLemmas
+pub mod WatchLemmas

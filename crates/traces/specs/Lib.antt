@@ -5,3 +5,4 @@ pub mod Replays
 pub mod Starts
 pub mod Rests
 pub mod NamedValues
+pub mod Watching

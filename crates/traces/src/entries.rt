@@ -5,15 +5,17 @@ ghost use Rattle.st_words.specs.declared.limits.TheConstants.{MAX_LOG_ROOM};
 ghost use Rattle.st_plans.specs.Rows.{Latch};
 ghost use Rattle.st_plans.specs.Logs.{IsLegal, outcomes_of};
 ghost use Rattle.config.specs.PlanViews.{plan_view};
-ghost use Rattle.serial_core.specs.Steps.{made, waits_in};
+ghost use Rattle.serial_core.specs.Steps.{grown, made, waits_in};
 ghost use Rattle.traces.specs.Replays.{AreToldApart};
 ghost use Rattle.traces.specs.Rests.{Goes, Grows, IsNoRest, IsRest, with_log};
 ghost use Rattle.traces.specs.Texts.{end_line, outcome_text};
+ghost use Rattle.traces.specs.Watching.{HasSeen, stages};
 
 use crate::lines::outcome_word;
 use crate::parts::{behind, behind_count, first_number};
 use crate::told::{ending, program_of};
 use crate::trace_error::ReplayError;
+use crate::watcher::Watcher;
 use serial_core::{Refusal, SerialCore};
 use st_plans::Row;
 use st_types::Outcome;
@@ -162,22 +164,28 @@ fn is_end(core: &SerialCore, text: &[u8]) -> bool
     }
 }
 
-/// Runs the log again that the text tells to its end.
-pub(crate) fn replay_log(
+/// Runs the log again that the text tells to its end. The watcher sees the core as it was begun, and after each entry.
+pub(crate) fn replay_log<W: Watcher>(
     alloc: Global,
     core: &mut SerialCore,
     rows: &[Row],
     text: &[u8],
+    watcher: &mut W,
 ) -> Result<(), ReplayError>
     requires empty { core.old.log ≡ [] }
     requires room { core.old.room ≡ MAX_LOG_ROOM }
     ensures told { OnOk result ((core.new ≡ with_log core.old core.new.log)
         × IsRest core.old rows.now text.now core.new.log) }
+    ensures watched { OnOk result
+        (HasSeen W.sees watcher.old (stages grown core.old core.new.log) watcher.new) }
     ensures refused { AreToldApart core.old.plan.programs.items → IfErr result (λ e. e ≢ ReplayError.NoMemory
         → IsNoRest core.old rows.now text.now) }
 {
     let mut rest = text;
     'lines: loop {
+        if watcher.seen(core).is_err() {
+            return Err(ReplayError::NoMemory);
+        }
         match replay_entry(alloc, core, rows, rest) {
             Ok(Some(behind)) => rest = behind,
             Ok(None) => {

@@ -15,10 +15,12 @@ mod starting;
 mod told;
 mod trace_error;
 mod values;
+mod watcher;
 mod writing;
 
 pub use budget::trace_budget;
 pub use findings::Replayed;
-pub use replaying::{replay, replay_text};
+pub use replaying::{replay, replay_text, replay_watched};
 pub use trace_error::ReplayError;
+pub use watcher::Watcher;
 pub use writing::write_trace;

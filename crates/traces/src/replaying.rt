@@ -1,22 +1,71 @@
 //! Replay: a trace, run again by one thread.
 
-ghost use Rattle.std.specs.Prelude.{◌≡◌, ◌≢◌, ◌⊎◌, IfOk, IfErr, IfSome};
+ghost use Rattle.std.specs.Prelude.{◌≡◌, ◌≢◌, ◌⊎◌, IfOk, IfErr, IfSome, OnOk};
 ghost use Rattle.st_plans.specs.Restarts.{Start};
 ghost use Rattle.st_plans.specs.Logs.{Log};
 ghost use Rattle.commit_lock.specs.declared.starting.StartMode.{StartMode};
 ghost use Rattle.traces.specs.Replays.{AreFindings, IsToldApart, IsTrace};
+ghost use Rattle.traces.specs.Watching.{HasSeen, lives_of};
 
 use crate::apart::are_names_apart;
 use crate::entries::replay_log;
 use crate::findings::{Replayed, findings};
 use crate::starting::start;
 use crate::trace_error::ReplayError;
+use crate::watcher::{Nobody, Watcher};
 use config::Plan;
 use st_plans::Row;
 use std::alloc::Global;
 use std::io;
 use std::io::Read;
 use std::sync::Arc;
+
+/// Runs a trace again, line by line, over the first of these rows, and tells what it found. The watcher sees the core as
+/// the life was begun, and then after each entry.
+///
+/// V2 where a row is not the plant's next one, or not later than the one before; V3 where an execution was not waiting;
+/// V4 where it ends in another way; V1 where the text is no trace of the plan for another cause, or where an enumerated
+/// type of the plan has a name twice; V5 out of memory, the watcher's too.
+pub fn replay_watched<W: Watcher>(
+    alloc: Global,
+    plan: Arc<Plan>,
+    rows: &[Row],
+    text: &[u8],
+    watcher: &mut W,
+) -> Result<Replayed, ReplayError>
+    ensures told { IfOk result (λ r. (mode : StartMode) × (start : Start) × (log : Log)
+        × IsTrace plan.value rows.now text.now mode start log
+        × AreFindings plan.value start log r.rows r.done r.faults r.overruns r.values.items) }
+    // The text is the trace of no other life: what is told is told of each life whose trace it is.
+    ensures only { IsToldApart plan.value → IfOk result (λ r. (mode : StartMode) (start : Start)
+        (log : Log) → IsTrace plan.value rows.now text.now mode start log
+        → AreFindings plan.value start log r.rows r.done r.faults r.overruns r.values.items) }
+    // The watcher has seen the life as it was begun, and after each entry of its log.
+    ensures watched { OnOk result ((mode : StartMode) × (start : Start) × (log : Log)
+        × IsTrace plan.value rows.now text.now mode start log
+        × HasSeen W.sees watcher.old (lives_of plan.value start log) watcher.new) }
+    ensures refused { IsToldApart plan.value → IfErr result (λ e. e ≢ ReplayError.NoMemory
+        → (mode : StartMode) (start : Start) (log : Log) → IsTrace plan.value rows.now text.now mode start log → ⊥) }
+{
+    if !are_names_apart(&plan.enumerations) {
+        return Err(ReplayError::Form);
+    }
+    let started = match start(alloc, plan, text) {
+        Ok(started) => started,
+        Err(_) => return Err(ReplayError::NoMemory),
+    };
+    let (mut core, lines) = match started {
+        Some((_, core, lines)) => (core, lines),
+        None => return Err(ReplayError::Form),
+    };
+    match replay_log(alloc, &mut core, rows, lines, watcher) {
+        Ok(()) => match findings(alloc, &core) {
+            Ok(found) => Ok(found),
+            Err(_) => Err(ReplayError::NoMemory),
+        },
+        Err(error) => Err(error),
+    }
+}
 
 /// Runs a trace again, line by line, over the first of these rows, and tells what it found.
 ///
@@ -39,24 +88,7 @@ pub fn replay_text(
     ensures refused { IsToldApart plan.value → IfErr result (λ e. e ≢ ReplayError.NoMemory
         → (mode : StartMode) (start : Start) (log : Log) → IsTrace plan.value rows.now text.now mode start log → ⊥) }
 {
-    if !are_names_apart(&plan.enumerations) {
-        return Err(ReplayError::Form);
-    }
-    let started = match start(alloc, plan, text) {
-        Ok(started) => started,
-        Err(_) => return Err(ReplayError::NoMemory),
-    };
-    let (mut core, lines) = match started {
-        Some((_, core, lines)) => (core, lines),
-        None => return Err(ReplayError::Form),
-    };
-    match replay_log(alloc, &mut core, rows, lines) {
-        Ok(()) => match findings(alloc, &core) {
-            Ok(found) => Ok(found),
-            Err(_) => Err(ReplayError::NoMemory),
-        },
-        Err(error) => Err(error),
-    }
+    replay_watched(alloc, plan, rows, text, &mut Nobody)
 }
 
 /// Why a trace can't be read: V5 out of memory, else V6.

@@ -1,0 +1,4 @@
+pub mod Shares
+pub mod Places
+pub mod Steps
+pub mod Texts

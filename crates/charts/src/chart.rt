@@ -1,0 +1,89 @@
+//! What a chart shows.
+
+/// Strips, one below the other, over one axis of moments.
+#[derive(Drop)]
+pub struct Chart {
+    /// What it is a chart of.
+    pub title: String,
+    /// What else is to be said of it, in small print.
+    pub note: String,
+    /// The moment in milliseconds at which the axis begins.
+    pub begin: u64,
+    /// The moment at which it ends; not before it begins.
+    pub end: u64,
+    pub strips: Vec<Strip>,
+}
+
+#[derive(Drop)]
+pub enum Strip {
+    /// How a number changes.
+    Line(Line),
+    /// What happens when.
+    Lanes(Lanes),
+}
+
+/// How a number changes: it stays as it is until the next point.
+#[derive(Drop)]
+pub struct Line {
+    pub label: String,
+    pub shape: Shape,
+    /// The numbers that are marked at the left, at most `MOST_LEVELS`.
+    pub levels: Vec<Level>,
+    /// In the order of their moments.
+    pub points: Vec<Point>,
+}
+
+#[derive(Clone, Copy, Debug, PartialEq, Eq)]
+pub enum Shape {
+    /// A line of steps.
+    Steps,
+    /// A low strip that is filled where the number is not the least.
+    Band,
+}
+
+/// A number that is marked, and how it is spelled.
+#[derive(Drop)]
+pub struct Level {
+    pub number: i128,
+    pub text: String,
+}
+
+/// From this moment in milliseconds on it is this number.
+#[derive(Clone, Copy, Debug, PartialEq, Eq)]
+pub struct Point {
+    pub moment: u64,
+    pub number: i128,
+}
+
+/// Lanes, one below the other.
+#[derive(Drop)]
+pub struct Lanes {
+    pub label: String,
+    pub lanes: Vec<Lane>,
+}
+
+/// Marks in the order of their moments.
+#[derive(Drop)]
+pub struct Lane {
+    pub label: String,
+    pub marks: Vec<Mark>,
+}
+
+/// Something that happened at a moment in milliseconds.
+#[derive(Clone, Copy, Debug, PartialEq, Eq)]
+pub struct Mark {
+    pub moment: u64,
+    pub sign: Sign,
+    /// The word that tells of it where the mouse is over it.
+    pub word: &'static str,
+}
+
+#[derive(Clone, Copy, Debug, PartialEq, Eq)]
+pub enum Sign {
+    /// An upright line.
+    Tick,
+    /// A red cross.
+    Cross,
+    /// An orange triangle, below the others.
+    Triangle,
+}

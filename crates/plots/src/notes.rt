@@ -1,0 +1,198 @@
+//! What is noted of a life that is run again.
+
+ghost use Rattle.std.specs.Prelude.{⊤};
+
+use crate::shown::Shown;
+use config::Plan;
+use serial_core::SerialCore;
+use st_plans::{Entry, Row};
+use st_types::Outcome;
+use st_words::{Fault, Value};
+use std::alloc::{AllocError, Global};
+use traces::Watcher;
+
+/// A value that something took at a moment in milliseconds; no moment where it was so before the first row.
+#[derive(Clone, Copy)]
+pub(crate) struct Change {
+    pub(crate) moment: Option<u64>,
+    pub(crate) value: Value,
+}
+
+/// The values that something had, one after another.
+#[derive(Drop)]
+pub(crate) struct Course {
+    pub(crate) shown: Shown,
+    pub(crate) changes: Vec<Change>,
+}
+
+/// What happened to a program.
+#[derive(Clone, Copy, Debug, PartialEq, Eq)]
+pub(crate) enum Happening {
+    /// An execution was committed that did all.
+    Done,
+    /// An execution was committed that ended with a fault.
+    Faulted(Fault),
+    /// It was due while it still waited.
+    Overrun,
+}
+
+/// What happened to a program, and when, in milliseconds.
+#[derive(Clone, Copy, Debug, PartialEq, Eq)]
+pub(crate) struct Event {
+    pub(crate) moment: u64,
+    pub(crate) happening: Happening,
+}
+
+/// What happened to a program, one after another.
+#[derive(Drop)]
+pub(crate) struct History {
+    pub(crate) events: Vec<Event>,
+    /// How many overruns were seen.
+    overruns: u64,
+}
+
+/// What is noted of a life: the values of what is shown, and what happened to each program.
+#[derive(Drop)]
+pub(crate) struct Notes {
+    pub(crate) courses: Vec<Course>,
+    /// A history for each program, in declaration order.
+    pub(crate) histories: Vec<History>,
+    /// The first moment that was seen, and the last one.
+    pub(crate) span: Option<(u64, u64)>,
+}
+
+/// The value of what is shown, where the entry just done may have changed it.
+fn value_of(core: &SerialCore, row: Option<&Row>, shown: Shown) -> Option<Value> {
+    match shown {
+        Shown::Variable(number) => core.values().get(number).copied(),
+        Shown::Input(number) => row?.image().get(number).copied(),
+    }
+}
+
+impl Course {
+    /// Notes a value, if it is another than the last one.
+    fn note(&mut self, moment: Option<u64>, value: Value) -> Result<(), AllocError> {
+        if let Some(last) = self.changes.last() {
+            if last.value.is(value) {
+                return Ok(());
+            }
+        }
+        self.changes.push(Change { moment, value })?;
+        Ok(())
+    }
+}
+
+impl History {
+    fn note(&mut self, moment: u64, happening: Happening) -> Result<(), AllocError> {
+        self.events.push(Event { moment, happening })?;
+        Ok(())
+    }
+}
+
+impl Notes {
+    /// Nothing is noted yet.
+    pub(crate) fn new(alloc: Global, plan: &Plan, shown: &[Shown]) -> Result<Notes, AllocError> {
+        let mut courses = Vec::new(alloc);
+        for shown in shown {
+            courses.push(Course {
+                shown: *shown,
+                changes: Vec::new(alloc),
+            })?;
+        }
+        let mut histories = Vec::new(alloc);
+        for _ in 0..plan.programs() {
+            histories.push(History {
+                events: Vec::new(alloc),
+                overruns: 0,
+            })?;
+        }
+        Ok(Notes {
+            courses,
+            histories,
+            span: None,
+        })
+    }
+
+    fn note_moment(&mut self, moment: u64) {
+        self.span = match self.span {
+            Some((begin, _)) => Some((begin, moment)),
+            None => Some((moment, moment)),
+        };
+    }
+
+    fn note_values(&mut self, core: &SerialCore, row: Option<&Row>) -> Result<(), AllocError> {
+        let moment = core.last_moment();
+        for course in &mut self.courses {
+            if let Some(value) = value_of(core, row, course.shown) {
+                course.note(moment, value)?;
+            }
+        }
+        Ok(())
+    }
+
+    fn note_overruns(&mut self, core: &SerialCore, moment: u64) -> Result<(), AllocError> {
+        for (program, history) in self.histories.iter_mut().enumerate() {
+            let overruns = core.overruns(program);
+            if overruns > history.overruns {
+                history.note(moment, Happening::Overrun)?;
+                history.overruns = overruns;
+            }
+        }
+        Ok(())
+    }
+
+    fn note_execution(
+        &mut self,
+        moment: u64,
+        program: usize,
+        outcome: Outcome,
+    ) -> Result<(), AllocError> {
+        let happening = match outcome {
+            Outcome::Done => Happening::Done,
+            Outcome::Faulted(fault) => Happening::Faulted(fault),
+        };
+        match self.histories.get_mut(program) {
+            Some(history) => history.note(moment, happening),
+            None => Ok(()),
+        }
+    }
+
+    /// Notes what an entry of that number was, at that moment.
+    fn note_entry(
+        &mut self,
+        core: &SerialCore,
+        number: usize,
+        moment: u64,
+    ) -> Result<(), AllocError> {
+        match core.entry(number) {
+            Some(Entry::Row(row)) => {
+                self.note_values(core, Some(row))?;
+                self.note_overruns(core, moment)
+            }
+            Some(Entry::Done(activation)) => {
+                self.note_values(core, None)?;
+                match core.outcome(number) {
+                    Some(outcome) => self.note_execution(moment, activation.program, outcome),
+                    None => Ok(()),
+                }
+            }
+            None => self.note_values(core, None),
+        }
+    }
+}
+
+impl Watcher for Notes {
+    // nothing is said of what is noted
+    ghost sees = { λ _ _ _. ⊤ };
+
+    fn seen(&mut self, core: &SerialCore) -> Result<(), AllocError> {
+        let Some(moment) = core.last_moment() else {
+            return self.note_values(core, None);
+        };
+        self.note_moment(moment);
+        match core.len().checked_sub(1) {
+            Some(number) => self.note_entry(core, number, moment),
+            None => self.note_values(core, None),
+        }
+    }
+}

@@ -1,0 +1,127 @@
+//! From a trace to a picture.
+
+ghost use Rattle.std.specs.Prelude.{◌≢◌, IfOk, IfErr};
+ghost use Rattle.st_plans.specs.Restarts.{Start};
+ghost use Rattle.st_plans.specs.Logs.{Log};
+ghost use Rattle.commit_lock.specs.declared.starting.StartMode.{StartMode};
+ghost use Rattle.traces.specs.declared.trace_error.ReplayError.{ReplayError};
+ghost use Rattle.traces.specs.Replays.{AreFindings, IsToldApart, IsTrace};
+
+use crate::lanes::lanes;
+use crate::lines::line;
+use crate::notes::{Course, Notes};
+use crate::shown::Shown;
+use charts::{Chart, Strip, write_chart};
+use config::Plan;
+use st_plans::Row;
+use std::alloc::{AllocError, Global};
+use std::io;
+use std::io::Write;
+use std::sync::Arc;
+use traces::{ReplayError, Replayed, replay_watched};
+
+/// What a plot shows: a life that was run again, the values of what is shown, and what happened to each program.
+#[derive(Drop)]
+pub struct Plot {
+    /// What is told of the life.
+    pub found: Replayed,
+    notes: Notes,
+}
+
+/// Runs a trace again over the first of these rows, as `replay_text` does, and gathers what a plot shows.
+///
+/// V1 to V4 where the text is no trace of the plan, V5 out of memory.
+pub fn gather(
+    alloc: Global,
+    plan: Arc<Plan>,
+    rows: &[Row],
+    text: &[u8],
+    shown: &[Shown],
+) -> Result<Plot, ReplayError>
+    ensures told { IfOk result (λ p. (mode : StartMode) × (start : Start) × (log : Log)
+        × IsTrace plan.value rows.now text.now mode start log
+        × AreFindings plan.value start log p.found.rows p.found.done p.found.faults p.found.overruns
+        p.found.values.items) }
+    ensures refused { IsToldApart plan.value → IfErr result (λ e. e ≢ ReplayError.NoMemory
+        → (mode : StartMode) (start : Start) (log : Log) → IsTrace plan.value rows.now text.now mode start log → ⊥) }
+{
+    let mut notes = match Notes::new(alloc, &plan, shown) {
+        Ok(notes) => notes,
+        Err(_) => return Err(ReplayError::NoMemory),
+    };
+    match replay_watched(alloc, plan, rows, text, &mut notes) {
+        Ok(found) => Ok(Plot { found, notes }),
+        Err(error) => Err(error),
+    }
+}
+
+/// How many variables of the plan are not shown.
+fn left_out(plan: &Plan, courses: &[Course]) -> usize {
+    let is_shown = |number| {
+        courses
+            .iter()
+            .any(|course| course.shown == Shown::Variable(number))
+    };
+    (0..plan.slots())
+        .filter(|number| !is_shown(*number))
+        .count()
+}
+
+/// What is said of a plot in small print.
+fn note(alloc: Global, plan: &Plan, plot: &Plot) -> Result<String, AllocError> {
+    let Replayed {
+        rows,
+        done,
+        faults,
+        overruns,
+        ..
+    } = &plot.found;
+    let mut note = format!(in alloc;
+        "rows {rows}, done {done}, faults {faults}, overruns {overruns}"
+    )?;
+    let left_out = left_out(plan, &plot.notes.courses);
+    if left_out > 0 {
+        write!(note, "; {left_out} of the variables are not shown")?;
+    }
+    Ok(note)
+}
+
+/// The strips of a plot, those of values before those of executions.
+fn strips(alloc: Global, plan: &Plan, begin: u64, notes: &Notes) -> Result<Vec<Strip>, AllocError> {
+    let mut strips = Vec::new(alloc);
+    for course in &notes.courses {
+        if let Some(line) = line(alloc, plan, begin, course)? {
+            strips.push(Strip::Line(line))?;
+        }
+    }
+    for resource in 0..plan.resources() {
+        if let Some(lanes) = lanes(alloc, plan, resource, &notes.histories)? {
+            strips.push(Strip::Lanes(lanes))?;
+        }
+    }
+    Ok(strips)
+}
+
+fn chart(alloc: Global, plan: &Plan, plot: &Plot, title: &str) -> Result<Chart, AllocError> {
+    let (begin, end) = plot.notes.span.unwrap_or((0, 0));
+    Ok(Chart {
+        title: String::from_str(alloc, title)?,
+        note: note(alloc, plan, plot)?,
+        begin,
+        end,
+        strips: strips(alloc, plan, begin, &plot.notes)?,
+    })
+}
+
+/// Writes a plot of a life of this plan as a picture in SVG under a title, in many small parts. An error is the
+/// writer's, or out of memory.
+pub fn write_plot<W: Write>(
+    alloc: Global,
+    plan: &Plan,
+    plot: &Plot,
+    title: &str,
+    out: &mut W,
+) -> io::Result<()> {
+    let chart = chart(alloc, plan, plot, title)?;
+    write_chart(out, &chart)
+}

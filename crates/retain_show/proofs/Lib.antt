@@ -1,0 +1,2 @@
+mod AreaLemmas
+mod TextLemmas
