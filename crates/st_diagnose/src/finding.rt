@@ -1,0 +1,48 @@
+//! What is said of a fault.
+
+use std::alloc::{AllocError, Global};
+
+/// What is said of a fault.
+#[derive(Drop)]
+pub struct Finding {
+    /// What is wrong, in a sentence without its full stop.
+    pub sentence: String,
+    /// What may help.
+    pub help: Option<String>,
+    /// The offset of the byte that is shown, where another one is than that of the fault, which may have none.
+    pub place: Option<usize>,
+}
+
+impl Finding {
+    /// A sentence, and nothing that may help.
+    pub fn new(sentence: String) -> Finding {
+        Finding {
+            sentence,
+            help: None,
+            place: None,
+        }
+    }
+
+    /// A sentence that is the same for all texts.
+    pub fn plain(alloc: Global, sentence: &str) -> Result<Finding, AllocError> {
+        Ok(Finding::new(String::from_str(alloc, sentence)?))
+    }
+
+    /// The same with what may help.
+    pub fn with_help(self, alloc: Global, help: &str) -> Result<Finding, AllocError> {
+        let help = String::from_str(alloc, help)?;
+        Ok(self.helped(help))
+    }
+
+    /// The same with what may help.
+    pub fn helped(mut self, help: String) -> Finding {
+        self.help = Some(help);
+        self
+    }
+
+    /// The same with a byte that is shown.
+    pub fn at(mut self, place: usize) -> Finding {
+        self.place = Some(place);
+        self
+    }
+}

@@ -1,0 +1,143 @@
+//! What is open at a place: what has begun and not ended.
+
+use st_lex::{Keyword, Mark, Token, TokenKind};
+use std::alloc::{AllocError, Global};
+
+/// The word that ends what a word begins, as it is spelled.
+fn end_of(keyword: Keyword) -> Option<&'static str> {
+    match keyword {
+        Keyword::If => Some("END_IF"),
+        Keyword::Case => Some("END_CASE"),
+        Keyword::For => Some("END_FOR"),
+        Keyword::While => Some("END_WHILE"),
+        Keyword::Repeat => Some("END_REPEAT"),
+        Keyword::Type => Some("END_TYPE"),
+        Keyword::Struct => Some("END_STRUCT"),
+        Keyword::Function => Some("END_FUNCTION"),
+        Keyword::FunctionBlock => Some("END_FUNCTION_BLOCK"),
+        Keyword::Program => Some("END_PROGRAM"),
+        Keyword::Configuration => Some("END_CONFIGURATION"),
+        Keyword::Resource => Some("END_RESOURCE"),
+        Keyword::Var
+        | Keyword::VarInput
+        | Keyword::VarOutput
+        | Keyword::VarExternal
+        | Keyword::VarGlobal => Some("END_VAR"),
+        _ => None,
+    }
+}
+
+fn is_end(keyword: Keyword) -> bool {
+    matches!(
+        keyword,
+        Keyword::EndIf
+            | Keyword::EndCase
+            | Keyword::EndFor
+            | Keyword::EndWhile
+            | Keyword::EndRepeat
+            | Keyword::EndType
+            | Keyword::EndStruct
+            | Keyword::EndFunction
+            | Keyword::EndFunctionBlock
+            | Keyword::EndProgram
+            | Keyword::EndConfiguration
+            | Keyword::EndResource
+            | Keyword::EndVar
+    )
+}
+
+/// Takes a word into account. PROGRAM in a resource begins nothing that has an end.
+fn meet(open: &mut Vec<&'static str>, keyword: Keyword) -> Result<(), AllocError> {
+    if is_end(keyword) {
+        open.pop();
+        return Ok(());
+    }
+    if keyword == Keyword::Program && !open.is_empty() {
+        return Ok(());
+    }
+    if let Some(end) = end_of(keyword) {
+        open.push(end)?;
+    }
+    Ok(())
+}
+
+/// The word that ends the innermost of what tokens leave open.
+pub fn innermost_open(alloc: Global, tokens: &[Token]) -> Result<Option<&'static str>, AllocError> {
+    let mut open = Vec::new(alloc);
+    for token in tokens {
+        if let TokenKind::Keyword(keyword) = &token.kind {
+            meet(&mut open, *keyword)?;
+        }
+    }
+    Ok(open.last().copied())
+}
+
+/// What is looked for backwards from a place in a condition.
+#[derive(Clone, Copy)]
+struct Backwards {
+    /// How many parentheses close whose opening hasn't come.
+    closed: usize,
+    has_to: bool,
+}
+
+/// The word that has to come behind what a word begins.
+fn word_behind(keyword: Keyword, has_to: bool) -> Option<&'static str> {
+    match keyword {
+        Keyword::If | Keyword::Elsif => Some("THEN"),
+        Keyword::While => Some("DO"),
+        Keyword::For => Some(if has_to { "DO" } else { "TO" }),
+        Keyword::Case => Some("OF"),
+        _ => None,
+    }
+}
+
+/// Whether the search goes on before a token: it ends at a semicolon, and at a parenthesis that isn't closed.
+fn goes_on(back: &mut Backwards, kind: &TokenKind) -> bool {
+    match kind {
+        TokenKind::Mark(Mark::Semicolon) => false,
+        TokenKind::Mark(Mark::Close) => {
+            back.closed = back.closed.saturating_add(1);
+            true
+        }
+        TokenKind::Mark(Mark::Open) => {
+            let is_closed = back.closed > 0;
+            back.closed = back.closed.saturating_sub(1);
+            is_closed
+        }
+        TokenKind::Keyword(Keyword::To) => {
+            back.has_to = true;
+            true
+        }
+        TokenKind::Keyword(keyword) => {
+            matches!(
+                keyword,
+                Keyword::By
+                    | Keyword::And
+                    | Keyword::Or
+                    | Keyword::Xor
+                    | Keyword::Not
+                    | Keyword::Mod
+            )
+        }
+        _ => true,
+    }
+}
+
+/// Of an IF, WHILE, FOR or CASE whose THEN, DO, TO or OF hasn't come yet that word.
+pub fn missing_word(tokens: &[Token]) -> Option<&'static str> {
+    let mut back = Backwards {
+        closed: 0,
+        has_to: false,
+    };
+    for token in tokens.iter().rev() {
+        if let TokenKind::Keyword(keyword) = &token.kind {
+            if let Some(word) = word_behind(*keyword, back.has_to) {
+                return Some(word);
+            }
+        }
+        if !goes_on(&mut back, &token.kind) {
+            return None;
+        }
+    }
+    None
+}

@@ -1,0 +1,154 @@
+//! What is said of operators and functions in expressions that have wrong types (C3).
+
+use crate::lookups::Lookups;
+use st_diagnose::{Finding, shown};
+use st_names::{Callee, UnitNames};
+use st_statics::{Demand, Sorts, Typing};
+use st_trees::Expr;
+use st_typing::{meets, settled, typing};
+use st_words::{BinaryOperator, Identifier, UnaryOperator};
+use std::alloc::{AllocError, Global};
+
+/// The type of an expression in which nothing is wrong.
+pub fn typing_in(names: &UnitNames, expression: &Expr) -> Typing {
+    match typing(names, expression) {
+        Ok(found) => found,
+        Err(_) => Typing::Nothing,
+    }
+}
+
+/// An operator with what it takes on both sides.
+fn operator_of(operator: BinaryOperator) -> (&'static str, &'static str) {
+    match operator {
+        BinaryOperator::Or => ("OR", "BOOLs or bit strings"),
+        BinaryOperator::Xor => ("XOR", "BOOLs or bit strings"),
+        BinaryOperator::And => ("AND", "BOOLs or bit strings"),
+        BinaryOperator::Equal => ("=", "single values"),
+        BinaryOperator::NotEqual => ("<>", "single values"),
+        BinaryOperator::Less => ("<", "numbers, bit strings or TIMEs"),
+        BinaryOperator::Greater => (">", "numbers, bit strings or TIMEs"),
+        BinaryOperator::LessOrEqual => ("<=", "numbers, bit strings or TIMEs"),
+        BinaryOperator::GreaterOrEqual => (">=", "numbers, bit strings or TIMEs"),
+        BinaryOperator::Add => ("+", "whole numbers or TIMEs"),
+        BinaryOperator::Subtract => ("-", "whole numbers or TIMEs"),
+        BinaryOperator::Multiply => ("*", "whole numbers"),
+        BinaryOperator::Divide => ("/", "whole numbers"),
+        BinaryOperator::Modulo => ("MOD", "whole numbers"),
+    }
+}
+
+fn of_binary(
+    alloc: Global,
+    lookups: &Lookups,
+    operator: BinaryOperator,
+    left: Typing,
+    right: Typing,
+) -> Result<Finding, AllocError> {
+    let (name, taken) = operator_of(operator);
+    let (first, second) = (lookups.typing_name(left), lookups.typing_name(right));
+    let sentence = if left == right {
+        format!(in alloc; "`{name}` takes {taken}, the operands are {first}")?
+    } else {
+        format!(in alloc;
+            "the operands of `{name}` are {first} and {second}: they have to be of one type"
+        )?
+    };
+    Ok(Finding::new(sentence))
+}
+
+fn of_unary(
+    alloc: Global,
+    lookups: &Lookups,
+    operator: UnaryOperator,
+    operand: Typing,
+) -> Result<Finding, AllocError> {
+    let asked = match operator {
+        UnaryOperator::Negate => "`-` takes a number with a sign",
+        UnaryOperator::Not => "NOT takes a BOOL or a bit string",
+    };
+    let given = lookups.typing_name(operand);
+    Ok(Finding::new(format!(in alloc; "{asked}, the operand is {given}")?))
+}
+
+/// The first argument of a function of the text that is of another type than its input: its number from 1, its type and
+/// the input's.
+fn first_wrong(
+    lookups: &Lookups,
+    names: &UnitNames,
+    function: &Identifier,
+    arguments: &[Expr],
+) -> Option<(usize, Typing, Typing)> {
+    let Some(Callee::Own(signature)) = lookups.tables.callee_of(&function.name) else {
+        return None;
+    };
+    for (number, (input, argument)) in signature.inputs.iter().zip(arguments).enumerate() {
+        let given = typing_in(names, argument);
+        if let Some(kind) = *input {
+            if !meets(Demand::Asked(*input, Sorts::Any), settled(*input, given)) {
+                return Some((number.saturating_add(1), given, Typing::Elementary(kind)));
+            }
+        }
+    }
+    None
+}
+
+/// The types of arguments, as they are listed in a sentence.
+fn listed(
+    alloc: Global,
+    lookups: &Lookups,
+    names: &UnitNames,
+    arguments: &[Expr],
+) -> Result<String, AllocError> {
+    let mut list = String::new(alloc);
+    for argument in arguments {
+        if !list.is_empty() {
+            list.push_str(" and ")?;
+        }
+        list.push_str(lookups.typing_name(typing_in(names, argument)))?;
+    }
+    Ok(list)
+}
+
+fn of_call(
+    alloc: Global,
+    lookups: &Lookups,
+    names: &UnitNames,
+    function: &Identifier,
+    arguments: &[Expr],
+) -> Result<Finding, AllocError> {
+    let name = shown(function.name.as_slice());
+    let sentence = match first_wrong(lookups, names, function, arguments) {
+        Some((number, given, wanted)) => {
+            let (is, input) = (lookups.typing_name(given), lookups.typing_name(wanted));
+            format!(in alloc; "argument {number} of `{name}` is {is}, its input is {input}")?
+        }
+        None => {
+            let given = listed(alloc, lookups, names, arguments)?;
+            format!(in alloc; "`{name}` takes arguments of other types than {given}")?
+        }
+    };
+    Ok(Finding::new(sentence))
+}
+
+/// What is said of an expression with a wrong type whose parts are right; nothing where it is no operation and no call.
+pub fn of_expression(
+    alloc: Global,
+    lookups: &Lookups,
+    names: &UnitNames,
+    expression: &Expr,
+) -> Result<Option<Finding>, AllocError> {
+    match expression {
+        Expr::Binary(operator, left, right) => {
+            let (left, right) = (typing_in(names, left), typing_in(names, right));
+            Ok(Some(of_binary(alloc, lookups, *operator, left, right)?))
+        }
+        Expr::Unary(operator, _, operand) => {
+            let operand = typing_in(names, operand);
+            Ok(Some(of_unary(alloc, lookups, *operator, operand)?))
+        }
+        Expr::Call(function, arguments) => {
+            Ok(Some(of_call(alloc, lookups, names, function, arguments)?))
+        }
+        _ => Ok(None),
+    }
+}
