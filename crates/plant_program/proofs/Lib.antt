@@ -1,3 +1,4 @@
+mod PlotLemmas
 mod ProgressLemmas
 mod SettleLemmas
 mod ReplayLemmas

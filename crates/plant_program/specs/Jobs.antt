@@ -1,5 +1,7 @@
 -- What jobs tell where they end well, and why their source is refused.
-use Rattle.std.specs.Prelude.{◌≡◌, ◌≤◌, ◌⊎◌, ◌++◌, ℕ, List, Some, None}
+use Rattle.std.specs.Prelude.{◌≡◌, ◌≤◌, ◌⊎◌, ◌++◌, ℕ, List, Some, None, Bool, true, false, find}
+use Rattle.std.specs.List.{Contains}
+use denote.Bor.{Bor}
 use Rattle.st_words.specs.declared.limits.TheConstants.{MAX_BUDGET}
 use Rattle.plant_words.specs.declared.command.TheConstants.{DEFAULT_BUDGET}
 use Rattle.st_trees.specs.Sources.{Source}
@@ -15,6 +17,12 @@ use Rattle.traces.specs.Replays.{IsTrace, budget_text}
 use Rattle.text_paths.specs.Texts.{IsTextOf}
 use Rattle.st_build.specs.Refusals.{TextLacksPlan}
 use Rattle.st_build.specs.TextPlans.{IsPlanOf}
+use Rattle.plots.specs.Calls.{IsUncalled}
+use Rattle.plant_codes.specs.Codes.{code_of, codes_like, is_code}
+use Rattle.plant_codes.specs.Spelling.{explanation_text}
+use Rattle.plant_codes.specs.declared.entry.Explanation.{Explanation}
+use Rattle.retain_store.specs.Recovered.{recovered}
+use Rattle.retain_show.specs.Shown.{areas_shown, shown_text}
 use Rattle.plant_words.specs.declared.job.Job.{Job}
 use Rattle.plant_words.specs.declared.job.Job.TheVariants as jobs
 use Rattle.plant_words.specs.declared.job.Start.{Start}
@@ -24,7 +32,8 @@ use Rattle.plant_program.specs.declared.fault.Fault.{Fault}
 use Rattle.plant_program.specs.declared.fault.Fault.TheVariants as faults
 use Rattle.plant_program.specs.declared.telling.End.{End}
 use Rattle.plant_program.specs.declared.ending.Declined.{Declined}
-use Rattle.plant_program.specs.declared.ending.Declined.TheVariants.{SharedStore}
+use Rattle.plant_program.specs.declared.ending.Declined.TheVariants.{SharedStore, SharedPicture, NoPicture}
+use Rattle.plant_program.specs.declared.ending.Declined.TheVariants.{NoVariable, NoCode}
 use Rattle.plant_program.specs.declared.telling.End.TheVariants as ends
 use Rattle.plant_program.specs.Lives.{IsReport, start_of}
 use Rattle.plant_program.specs.Progress.{IsRunOf}
@@ -95,17 +104,66 @@ pub record IsReplay (told : List ℕ) : Type 0 where
   pub plan_is : IsPlanFor trace plan
   pub report : IsReplayOf plan trace told
 
--- what a job tells where it is done: the built-in run something, check the sizes, a run and a replay their report
+-- what these bytes of a retain file hold: both areas, or the last record
+abbrev pub file_shown : Bool → List ℕ → List ℕ
+file_shown true file = areas_shown file
+file_shown false file = shown_text (recovered file)
+
+-- the same of the bytes of some file
+abbrev pub IsShowing : Bool → List ℕ → Type 0
+IsShowing both told = (file : List ℕ) × (told ≡ file_shown both file)
+
+-- the explanation of a code that there is
+abbrev pub IsExplained : List ℕ → List ℕ → Type 0
+IsExplained code told = (entry : Explanation) × (find (is_code code) (codes_like code) ≡ Some (code_of entry))
+    × (told ≡ explanation_text entry)
+
+-- the trace tells a life of the plan over these rows
+abbrev pub IsLifeTold : Plan → List Latch → List ℕ → Type 0
+IsLifeTold plan rows trace =
+    (mode : StartMode) × (start : restarts.Start) × (log : Log) × IsTrace plan rows trace mode start log
+
+-- some trace tells a life of the plan of a text for its budget, over the rows of a plant
+pub record IsPlotted : Type 0 where
+  pub trace : List ℕ
+  pub plan : Plan
+  pub plan_is : IsPlanFor trace plan
+  pub rows : List Latch
+  pub rows_are : AreRowsOf plan.inputs.items rows
+  pub life : IsLifeTold plan rows trace
+
+-- one of the paths is that of no variable and of no input of a plan
+pub record NamesNone (plan : Plan) (paths : List (Bor (List ℕ))) : Type 0 where
+  pub path : Bor (List ℕ)
+  pub among : Contains paths path
+  pub none : IsUncalled plan path.now
+
+-- of the plan of some text
+pub record NamesNothing (paths : List (Bor (List ℕ))) : Type 0 where
+  pub trace : List ℕ
+  pub plan : Plan
+  pub plan_is : IsPlanFor trace plan
+  pub names : NamesNone plan paths
+
+-- what a job tells where it is done: the built-in run something, check the sizes, a run and a replay their report, a
+-- look what a retain file holds, a plot some picture of a life that a trace tells, and the explanation of a code
 abbrev pub Tells : Type 0 → Job → List ℕ → Type 0
 Tells D jobs.First text = Unit {0}
-Tells D (jobs.Check source) text = IsCheck DEFAULT_BUDGET text
+Tells D (jobs.Check job) text = IsCheck DEFAULT_BUDGET text
 Tells D (jobs.Run job) text = IsRun D job.budget job.start text
 Tells D (jobs.Replay job) text = IsReplay text
+Tells D (jobs.Show job) text = IsShowing job.both text
+Tells D (jobs.Plot job) text = IsPlotted
+Tells D (jobs.Explain code) text = IsExplained code.now text
 
--- Why a job isn't begun: a retain file is another file of the run, of which files tell nothing, so that is not held to
--- it.
+-- Why a job isn't begun: a retain file or a picture is another file of the job, or a picture can't be written, of which
+-- files tell nothing, so these are not held to it; a path names nothing of the plan; or there is no such code.
 abbrev pub Declines : Job → Declined → Type 0
 Declines (jobs.Run job) SharedStore = Unit {0}
+Declines (jobs.Plot job) SharedPicture = Unit {0}
+Declines (jobs.Plot job) NoPicture = Unit {0}
+Declines (jobs.Plot job) NoVariable = NamesNothing job.paths.items
+Declines (jobs.Explain code) NoCode = find (is_code code.now) (codes_like code.now) ≡ None
 Declines job why = ⊥
 
 -- how a job ends well
@@ -147,3 +205,16 @@ abbrev pub RefusesSource : ℕ → Fault → Type 0
 RefusesSource budget faults.Source = Unit {0}
 RefusesSource budget (faults.Build e) = (text : List ℕ) × TextLacksPlan text budget e
 RefusesSource budget _ = ⊥
+
+-- how a plot of this plan, over these rows and by this trace, ends well
+abbrev pub PlotsWell : Plan → List Latch → List ℕ → List (Bor (List ℕ)) → End → Type 0
+PlotsWell plan rows trace paths (ends.Report text) = IsLifeTold plan rows trace
+PlotsWell plan rows trace paths (ends.Declined NoPicture) = Unit {0}
+PlotsWell plan rows trace paths (ends.Declined NoVariable) = NamesNone plan paths
+PlotsWell plan rows trace paths other = ⊥
+
+-- a picture is drawn, or can't be written
+abbrev pub IsDrawn : End → Type 0
+IsDrawn (ends.Report text) = Unit {0}
+IsDrawn (ends.Declined NoPicture) = Unit {0}
+IsDrawn other = ⊥

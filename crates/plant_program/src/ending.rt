@@ -17,6 +17,18 @@ pub enum Declined {
     /// The retain file is, by another name, the source, the plant or the trace.
     #[error("error: the retain file is the source, the plant or the trace")]
     SharedStore,
+    /// The file for the picture is, by another name, the source, the plant or the trace.
+    #[error("error: the picture is the source, the plant or the trace")]
+    SharedPicture,
+    /// The file for the picture can't be written.
+    #[error("error: the picture can't be written")]
+    NoPicture,
+    /// A path names no variable of the source.
+    #[error("error: a path names no variable of the source")]
+    NoVariable,
+    /// No code is explained under that name.
+    #[error("error: there is no such code")]
+    NoCode,
 }
 
 /// How the program ends.

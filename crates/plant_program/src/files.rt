@@ -15,6 +15,9 @@ pub trait Files {
     /// Whether two names lead to one file, where both are there and the system tells.
     fn is_one_file(&mut self, one: &str, other: &str) -> bool;
 
+    /// Whether the standard error is a terminal, as far as the system tells.
+    fn is_terminal(&mut self) -> bool;
+
     /// A file that is there, to be read.
     fn read(&mut self, name: &str) -> io::Result<Self::Reader>;
 

@@ -6,17 +6,22 @@
 
 mod built_in;
 mod ending;
+mod explaining;
 mod fault;
 mod files;
 mod first_run;
 mod life;
+mod meaning;
 mod open_gate;
 mod plants;
+mod plotting;
 mod program;
+mod progress;
 mod real_files;
 mod replaying;
 mod report;
 mod running;
+mod showing;
 mod sizes;
 mod sources;
 mod telling;

@@ -6,25 +6,29 @@ ghost use Rattle.plant_program.specs.Endings.{Ends, Performs};
 ghost use Rattle.plant_program.specs.Jobs.{EndsWell};
 
 use crate::ending::{Declined, Ending};
+use crate::explaining::explain;
 use crate::fault::Fault;
 use crate::files::Files;
 use crate::first_run::first;
+use crate::meaning::meaning;
+use crate::plotting::plot;
 use crate::replaying::replay;
 use crate::running::run_plan;
+use crate::showing::show;
 use crate::sizes::sizes_of;
 use crate::sources::plan_of;
 use crate::telling::{End, tell, tell_words};
-use plant_words::{DEFAULT_BUDGET, Job, RunJob, is_out_of_memory, read_words};
+use plant_words::{CheckJob, DEFAULT_BUDGET, Job, RunJob, is_out_of_memory, read_words};
 use std::alloc::Global;
 use std::io::Write;
 use std::sync::Wait;
 use std::thread::Threads;
 
 /// Reads and builds the source, and gives its sizes.
-fn check<F: Files>(alloc: Global, files: &mut F, source: &str) -> Result<End, Fault>
-    ensures { IfOk result (λ end. EndsWell F.Disk (Job.Check source.entry) end) }
+fn check<F: Files>(alloc: Global, files: &mut F, job: &CheckJob<'_>) -> Result<End, Fault>
+    ensures { IfOk result (λ end. EndsWell F.Disk (Job.Check job.now) end) }
 {
-    let plan = plan_of(alloc, files, source, DEFAULT_BUDGET)?;
+    let plan = plan_of(alloc, files, job.source, DEFAULT_BUDGET)?;
     Ok(End::Report(sizes_of(alloc, &plan)?))
 }
 
@@ -39,7 +43,7 @@ fn shares_store<F: Files>(files: &mut F, job: &RunJob<'_>) -> bool {
 }
 
 /// Reads and builds the source, then reads the plant, then opens the store and starts, then runs, then writes the trace.
-fn run<F: Files, R: Threads + Wait + Sync>(
+fn run<F: Files, R: Threads + Wait + Eprint + Sync>(
     rt: &R,
     alloc: Global,
     files: &mut F,
@@ -55,7 +59,7 @@ fn run<F: Files, R: Threads + Wait + Sync>(
 }
 
 /// How the job ends.
-fn done<F: Files, R: Threads + Wait + Sync>(
+fn done<F: Files, R: Threads + Wait + Eprint + Sync>(
     rt: &R,
     alloc: Global,
     files: &mut F,
@@ -65,15 +69,21 @@ fn done<F: Files, R: Threads + Wait + Sync>(
 {
     match job {
         Job::First => Ok(End::Report(first(rt, alloc)?)),
-        Job::Check { source } => check(alloc, files, source),
+        Job::Check(job) => check(alloc, files, job),
         Job::Run(job) => run(rt, alloc, files, job),
         Job::Replay(job) => Ok(End::Report(replay(alloc, files, job)?)),
+        Job::Show(job) => Ok(End::Report(show(alloc, files, job)?)),
+        Job::Plot(job) => plot(alloc, files, job),
+        Job::Explain { code } => match meaning(alloc, code)? {
+            Some(text) => Ok(End::Report(text)),
+            None => Ok(End::Declined(Declined::NoCode)),
+        },
     }
 }
 
-/// Does a job. A fault is one line `fault CODE` or `fault CODE at PLACE` on the standard error, and nothing is on the
-/// standard output then.
-pub fn perform<F: Files, O: Write, E: Write, R: Threads + Wait + Sync>(
+/// Does a job. A fault is one line `fault CODE` or `fault CODE at PLACE` on the standard error, with a view for a person
+/// behind it where the job asks for one, and nothing is on the standard output then.
+pub fn perform<F: Files, O: Write, E: Write, R: Threads + Wait + Eprint + Sync>(
     rt: &R,
     alloc: Global,
     job: &Job<'_>,
@@ -83,11 +93,15 @@ pub fn perform<F: Files, O: Write, E: Write, R: Threads + Wait + Sync>(
 ) -> Ending
     ensures { Performs O.contents F.Disk job.now result out.old out.new }
 {
-    tell(done(rt, alloc, files, job), out, err)
+    let ending = tell(done(rt, alloc, files, job), out, err);
+    if let Ending::Fault(fault) = ending {
+        explain(alloc, files, job, fault, err);
+    }
+    ending
 }
 
 /// Does what the words ask, the program's name first.
-pub fn plant<F: Files, O: Write, E: Write, R: Threads + Wait + Sync>(
+pub fn plant<F: Files, O: Write, E: Write, R: Threads + Wait + Eprint + Sync>(
     rt: &R,
     alloc: Global,
     words: &[&str],

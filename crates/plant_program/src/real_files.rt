@@ -11,6 +11,20 @@ fn is_same(one: &Metadata, other: &Metadata) -> bool {
     one.dev() == other.dev() && one.ino() == other.ino()
 }
 
+/// The standard error as a file.
+const STANDARD_ERROR: &str = "/dev/stderr";
+
+/// Of a mode, what kind of file it is; and that of a character device.
+const KIND: u32 = 0o170000;
+
+const CHARACTER_DEVICE: u32 = 0o020000;
+
+/// Whether it is a character device whose major number Linux gives to terminals.
+fn is_terminal(file: &Metadata) -> bool {
+    let major = (file.rdev() >> 8) & 0xfff;
+    file.mode() & KIND == CHARACTER_DEVICE && matches!(major, 4 | 5 | 136..=143)
+}
+
 /// The files of the system. A retain file is locked as long as its disk is there.
 pub struct RealFiles<'a, R: std::rt::Files<File = File>> {
     rt: &'a R,
@@ -39,6 +53,13 @@ impl<R: std::rt::Files<File = File>> Files for RealFiles<'_, R> {
         match (self.rt.metadata(one), self.rt.metadata(other)) {
             (Ok(one), Ok(other)) => is_same(&one, &other),
             _ => false,
+        }
+    }
+
+    fn is_terminal(&mut self) -> bool {
+        match self.rt.metadata(STANDARD_ERROR) {
+            Ok(file) => is_terminal(&file),
+            Err(_) => false,
         }
     }
 

@@ -37,7 +37,11 @@ fn unread_trace(error: &io::Error) -> ReplayError
 const MAX_TRACE_BYTES: u64 = 16 * 1024 * 1024;
 
 /// The bytes of a trace, as far as a trace may have them.
-fn read_trace<F: Files>(alloc: Global, files: &mut F, name: &str) -> Result<Vec<u8>, ReplayError>
+pub(crate) fn read_trace<F: Files>(
+    alloc: Global,
+    files: &mut F,
+    name: &str,
+) -> Result<Vec<u8>, ReplayError>
     ensures { IfErr result (λ error. (error ≡ ReplayError.NoMemory) ⊎ (error ≡ ReplayError.Device)) }
 {
     let reader = match files.read(name) {

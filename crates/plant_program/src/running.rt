@@ -14,8 +14,8 @@ ghost use Rattle.plant_program.specs.Settling.{IsSettled};
 use crate::fault::Fault;
 use crate::files::Files;
 use crate::life::report_of;
-use crate::open_gate::OpenGate;
 use crate::plants::read_rows;
+use crate::progress::Progress;
 use crate::tracing::traced;
 use commit_lock::{Core, StartFault, StartMode};
 use config::Plan;
@@ -68,14 +68,15 @@ fn run_pace(pace: Pace) -> RunPace {
     }
 }
 
-/// Runs the rows in threads, and gives the report.
-fn served<D: Disk + Drop + Send, R: Threads + Wait + Sync>(
+/// Runs the rows in threads, and gives the report. How far it is, is told as it goes.
+fn served<D: Disk + Drop + Send, R: Threads + Wait + Eprint + Sync>(
     rt: &R,
     alloc: Global,
     plan: &Plan,
     core: Core<D>,
     pace: Pace,
     rows: Vec<Row>,
+    progress: &Progress<'_, R>,
 ) -> (Core<D>, Result<Vec<u8>, Fault>)
     requires own { plan.now ≡ core.state.plan }
     ensures settled { OnOk result.1 (IsSettled result.0 plan.now.resources) }
@@ -86,7 +87,7 @@ fn served<D: Disk + Drop + Send, R: Threads + Wait + Sync>(
     ensures legal { IfOk result.1 (λ _.
         IsLegal (plan_view result.0.state.plan) result.0.state.start result.0.state.before result.0.state.log) }
 {
-    match run_plant(rt, alloc, plan, core, rows, run_pace(pace), &OpenGate) {
+    match run_plant(rt, alloc, plan, core, rows, run_pace(pace), progress) {
         Ok(Report { core, told: _ }) => match report_of(alloc, &core) {
             Ok(report) => (core, Ok(report)),
             Err(_) => (core, Err(Fault::NO_MEMORY)),
@@ -97,7 +98,7 @@ fn served<D: Disk + Drop + Send, R: Threads + Wait + Sync>(
 
 /// Reads the plant, opens the store and starts, then runs in threads, then writes the trace where one is asked for, and
 /// gives the report; the first fault ends it.
-pub fn run_plan<F: Files, R: Threads + Wait + Sync>(
+pub fn run_plan<F: Files, R: Threads + Wait + Eprint + Sync>(
     rt: &R,
     alloc: Global,
     files: &mut F,
@@ -113,7 +114,9 @@ pub fn run_plan<F: Files, R: Threads + Wait + Sync>(
         return Err(Fault::Start(StartFault::NoMemory));
     };
     let core = start(alloc, files, Arc::clone(&plan)?, job.store, job.start)?;
-    let (core, report) = served(rt, alloc, &plan, core, job.pace, rows);
+    let progress = Progress::new(rt, rows.len(), files.is_terminal());
+    let (core, report) = served(rt, alloc, &plan, core, job.pace, rows, &progress);
+    progress.clear();
     let report = traced(alloc, files, job, &core, report);
     files.back(core.stop());
     report

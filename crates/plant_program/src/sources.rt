@@ -23,7 +23,11 @@ fn unread_source(error: &io::Error) -> Fault
 }
 
 /// The bytes of a source, as far as its limit and one more.
-fn read_source<F: Files>(alloc: Global, files: &mut F, name: &str) -> Result<Vec<u8>, Fault>
+pub(crate) fn read_source<F: Files>(
+    alloc: Global,
+    files: &mut F,
+    name: &str,
+) -> Result<Vec<u8>, Fault>
     ensures { IfErr result IsUnread }
 {
     let reader = match files.read(name) {

@@ -1,6 +1,6 @@
 //! The words that `plant` takes.
 
-use clap::{Arg, Command, value_parser};
+use clap::{Arg, ArgAction, Command, value_parser};
 use std::alloc::{AllocError, Global};
 
 /// The budget of an execution in ticks where none is given.
@@ -49,22 +49,45 @@ fn pace<'a>(alloc: Global) -> Arg<'a> {
         .default_value("settle")
 }
 
+fn plant_file<'a>(alloc: Global) -> Arg<'a> {
+    file(alloc, "plant", "The plant, a CSV file").required(true)
+}
+
+fn trace_file<'a>(alloc: Global) -> Arg<'a> {
+    file(alloc, "trace", "The trace to run again").required(true)
+}
+
+fn flag<'a>(alloc: Global, name: &'a str, help: &'a str) -> Arg<'a> {
+    Arg::new(alloc, name)
+        .long(name)
+        .help(help)
+        .action(ArgAction::SetTrue)
+}
+
+fn explain_flag<'a>(alloc: Global) -> Arg<'a> {
+    flag(alloc, "explain", "Say where a fault is, and what it means")
+}
+
 fn check<'a>(alloc: Global) -> Result<Command<'a>, AllocError> {
     Command::new(alloc, "check")
         .about("Builds a source and prints its sizes")
-        .arg(source(alloc))
+        .arg(source(alloc))?
+        .arg(explain_flag(alloc))
 }
 
 /// The files that a run reads and writes.
 fn with_files<'a>(alloc: Global, run: Command<'a>) -> Result<Command<'a>, AllocError> {
     run.arg(source(alloc))?
-        .arg(file(alloc, "plant", "The plant, a CSV file").required(true))?
+        .arg(plant_file(alloc))?
         .arg(file(alloc, "store", "The retain file").required(true))
 }
 
 /// How it runs.
 fn with_options<'a>(alloc: Global, run: Command<'a>) -> Result<Command<'a>, AllocError> {
-    run.arg(start(alloc))?.arg(budget(alloc))?.arg(pace(alloc))
+    run.arg(start(alloc))?
+        .arg(budget(alloc))?
+        .arg(pace(alloc))?
+        .arg(explain_flag(alloc))
 }
 
 fn run<'a>(alloc: Global) -> Result<Command<'a>, AllocError> {
@@ -80,8 +103,44 @@ fn replay<'a>(alloc: Global) -> Result<Command<'a>, AllocError> {
     Command::new(alloc, "replay")
         .about("Runs a trace again by one thread and prints the report")
         .arg(source(alloc))?
-        .arg(file(alloc, "plant", "The plant, a CSV file").required(true))?
-        .arg(file(alloc, "trace", "The trace to run again").required(true))
+        .arg(plant_file(alloc))?
+        .arg(trace_file(alloc))?
+        .arg(explain_flag(alloc))
+}
+
+fn show<'a>(alloc: Global) -> Result<Command<'a>, AllocError> {
+    let store = Arg::new(alloc, "store")
+        .value_name("FILE")
+        .help("The retain file")
+        .required(true);
+    Command::new(alloc, "show")
+        .about("Prints what a retain file holds, and never writes")
+        .arg(store)?
+        .arg(flag(alloc, "both", "Show both areas of the file"))
+}
+
+fn plot<'a>(alloc: Global) -> Result<Command<'a>, AllocError> {
+    let paths = Arg::new(alloc, "path")
+        .value_name("PATH")
+        .help("The variables to show; without any, the first ones")
+        .num_args(0..);
+    Command::new(alloc, "plot")
+        .about("Draws a run from its trace, as an SVG picture")
+        .arg(source(alloc))?
+        .arg(plant_file(alloc))?
+        .arg(trace_file(alloc))?
+        .arg(file(alloc, "out", "The file for the picture"))?
+        .arg(paths)
+}
+
+fn explain<'a>(alloc: Global) -> Result<Command<'a>, AllocError> {
+    let code = Arg::new(alloc, "code")
+        .value_name("CODE")
+        .help("A code, as C3 or S2")
+        .required(true);
+    Command::new(alloc, "explain")
+        .about("Says what a code means")
+        .arg(code)
 }
 
 /// The command `plant` before its subcommands.
@@ -108,5 +167,8 @@ pub(crate) fn command<'a>(alloc: Global) -> Result<Command<'a>, AllocError> {
     let command = plant(alloc)?.subcommand(first)?;
     let command = with(command, check(alloc))?;
     let command = with(command, run(alloc))?;
-    with(command, replay(alloc))
+    let command = with(command, replay(alloc))?;
+    let command = with(command, show(alloc))?;
+    let command = with(command, plot(alloc))?;
+    with(command, explain(alloc))
 }

@@ -31,6 +31,8 @@ pub struct RunJob<'a> {
     pub budget: u32,
     pub pace: Pace,
     pub trace: Option<&'a str>,
+    /// Whether a fault is explained.
+    pub explain: bool,
 }
 
 impl RunJob<'_> {
@@ -54,15 +56,64 @@ pub struct ReplayJob<'a> {
     pub source: &'a str,
     pub plant: &'a str,
     pub trace: &'a str,
+    /// Whether a fault is explained.
+    pub explain: bool,
+}
+
+/// The sizes of a source.
+#[derive(Clone, Copy, Debug, PartialEq, Eq)]
+pub struct CheckJob<'a> {
+    pub source: &'a str,
+    /// Whether a fault is explained.
+    pub explain: bool,
+}
+
+/// What a retain file holds.
+#[derive(Clone, Copy, Debug, PartialEq, Eq)]
+pub struct ShowJob<'a> {
+    pub store: &'a str,
+    /// Both areas, one after the other, and not the last record alone.
+    pub both: bool,
+}
+
+/// A picture of a run, from its trace.
+#[derive(Debug, Drop)]
+pub struct PlotJob<'a> {
+    pub source: &'a str,
+    pub plant: &'a str,
+    pub trace: &'a str,
+    /// The file for the picture; the standard output where none is given.
+    pub picture: Option<&'a str>,
+    /// The paths of the variables that it shows; where there are none, those that come first.
+    pub paths: Vec<&'a str>,
+}
+
+impl PlotJob<'_> {
+    ghost use Rattle.plant_words.specs.Jobs.{has_own_picture};
+
+    /// Whether the file for the picture is, by its name, none that is read.
+    pub fn has_own_picture(&self) -> bool
+        ensures { result ≡ has_own_picture self.now }
+    {
+        match self.picture {
+            Some(picture) => {
+                picture != self.source && picture != self.plant && picture != self.trace
+            }
+            None => true,
+        }
+    }
 }
 
 /// What a command line asks for. Files go by their names.
-#[derive(Clone, Copy, Debug, PartialEq, Eq)]
+#[derive(Debug, Drop)]
 pub enum Job<'a> {
     /// The built-in configuration.
     First,
-    /// The sizes of a source.
-    Check { source: &'a str },
+    Check(CheckJob<'a>),
     Run(RunJob<'a>),
     Replay(ReplayJob<'a>),
+    Show(ShowJob<'a>),
+    Plot(PlotJob<'a>),
+    /// What a code means.
+    Explain { code: &'a str },
 }

@@ -9,6 +9,6 @@ mod number;
 mod reading;
 
 pub use command::DEFAULT_BUDGET;
-pub use job::{Job, Pace, ReplayJob, RunJob, Start};
+pub use job::{CheckJob, Job, Pace, PlotJob, ReplayJob, RunJob, ShowJob, Start};
 pub use number::plain_number;
 pub use reading::{WordsError, is_out_of_memory, read_words};

@@ -1,11 +1,11 @@
 //! Reading a command line.
 
-ghost use Rattle.std.specs.Prelude.{◌≡◌, ◌↔◌, IsTrue, IfOk};
+ghost use Rattle.std.specs.Prelude.{◌≡◌, ◌↔◌, IsTrue, IfOk, IfNone};
 ghost use Rattle.clap.specs.Words.{kind_of};
 ghost use Rattle.plant_words.specs.Jobs.{IsSafe};
 
 use crate::command::command;
-use crate::job::{Job, Pace, ReplayJob, RunJob, Start};
+use crate::job::{CheckJob, Job, Pace, PlotJob, ReplayJob, RunJob, ShowJob, Start};
 use crate::number::plain_number;
 use clap::error::ErrorKind;
 use clap::{ArgMatches, Error};
@@ -39,6 +39,7 @@ fn run<'a>(given: &ArgMatches<'a>) -> Option<RunJob<'a>> {
         budget: plain_number(given.get_str("budget")?)?,
         pace: pace(given.get_str("pace")?)?,
         trace: given.get_str("trace"),
+        explain: given.get_flag("explain"),
     })
 }
 
@@ -47,19 +48,59 @@ fn replay<'a>(given: &ArgMatches<'a>) -> Option<ReplayJob<'a>> {
         source: given.get_str("source")?,
         plant: given.get_str("plant")?,
         trace: given.get_str("trace")?,
+        explain: given.get_flag("explain"),
     })
 }
 
-fn chosen<'a>(name: &str, given: &ArgMatches<'a>) -> Option<Job<'a>> {
-    match name {
-        "first" => Some(Job::First),
-        "check" => Some(Job::Check {
-            source: given.get_str("source")?,
-        }),
-        "run" => Some(Job::Run(run(given)?)),
-        "replay" => Some(Job::Replay(replay(given)?)),
-        _ => None,
+fn check<'a>(given: &ArgMatches<'a>) -> Option<CheckJob<'a>> {
+    Some(CheckJob {
+        source: given.get_str("source")?,
+        explain: given.get_flag("explain"),
+    })
+}
+
+fn show<'a>(given: &ArgMatches<'a>) -> Option<ShowJob<'a>> {
+    Some(ShowJob {
+        store: given.get_str("store")?,
+        both: given.get_flag("both"),
+    })
+}
+
+/// A picture of these variables.
+fn plot<'a>(given: &ArgMatches<'a>, paths: Vec<&'a str>) -> Option<PlotJob<'a>> {
+    Some(PlotJob {
+        source: given.get_str("source")?,
+        plant: given.get_str("plant")?,
+        trace: given.get_str("trace")?,
+        picture: given.get_str("out"),
+        paths,
+    })
+}
+
+/// The paths that are given.
+fn paths<'a>(alloc: Global, given: &ArgMatches<'a>) -> Result<Vec<&'a str>, AllocError> {
+    match given.get_strs("path") {
+        Some(paths) => Vec::from_slice(alloc, paths),
+        None => Ok(Vec::new(alloc)),
     }
+}
+
+fn chosen<'a>(
+    alloc: Global,
+    name: &str,
+    given: &ArgMatches<'a>,
+) -> Result<Option<Job<'a>>, AllocError> {
+    let job = match name {
+        "first" => Some(Job::First),
+        "check" => check(given).map(Job::Check),
+        "run" => run(given).map(Job::Run),
+        "replay" => replay(given).map(Job::Replay),
+        "show" => show(given).map(Job::Show),
+        "plot" => plot(given, paths(alloc, given)?).map(Job::Plot),
+        "explain" => given.get_str("code").map(|code| Job::Explain { code }),
+        _ => None,
+    };
+    Ok(job)
 }
 
 /// What is told of a budget with a sign, which clap takes.
@@ -70,18 +111,33 @@ const SIGNED: &str =
 const SHARED_STORE: &str =
     "invalid value for '--store <F>': it names the source, the plant or the trace";
 
+/// What is told of a picture that is a file which the plot reads.
+const SHARED_PICTURE: &str =
+    "invalid value for '--out <F>': it names the source, the plant or the trace";
+
 /// The refusal of what clap takes and `plant` does not.
 fn refusal(alloc: Global, text: &str) -> Result<Error, AllocError> {
     command(alloc)?.error(ErrorKind::ValueValidation, text)
+}
+
+/// What is told of a job that would write over a file which it reads.
+fn wrong_file(job: &Job<'_>) -> Option<&'static str>
+    ensures { IfNone result (IsSafe job.now) }
+{
+    match job {
+        Job::Run(run) if !run.has_own_store() => Some(SHARED_STORE),
+        Job::Plot(plot) if !plot.has_own_picture() => Some(SHARED_PICTURE),
+        _ => None,
+    }
 }
 
 /// A job that writes over no file which it reads.
 fn safe<'a>(alloc: Global, job: Job<'a>) -> Result<Job<'a>, Error>
     ensures { IfOk result (λ job. IsSafe job) }
 {
-    match job {
-        Job::Run(run) if !run.has_own_store() => Err(refusal(alloc, SHARED_STORE)?),
-        job => Ok(job),
+    match wrong_file(&job) {
+        Some(text) => Err(refusal(alloc, text)?),
+        None => Ok(job),
     }
 }
 
@@ -93,13 +149,14 @@ pub fn is_out_of_memory(error: &WordsError) -> bool
 }
 
 /// Reads the words, the program's name first. A refusal shows as the text for the user; one that asks for help is for
-/// the standard output. A retain file that has the name of another file of the run is refused.
+/// the standard output. A retain file that has the name of another file of the run is refused,
+/// and so is a picture that has the name of a file which the plot reads.
 pub fn read_words<'a>(alloc: Global, words: &'a [&'a str]) -> Result<Job<'a>, Error>
     ensures { IfOk result (λ job. IsSafe job) }
 {
     let matches = command(alloc)?.try_get_matches_from(words)?;
     let job = match matches.subcommand() {
-        Some((name, given)) => chosen(name, given),
+        Some((name, given)) => chosen(alloc, name, given)?,
         None => None,
     };
     match job {

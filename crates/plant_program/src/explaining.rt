@@ -1,0 +1,111 @@
+//! What a person is shown behind the line of a fault.
+
+use crate::fault::Fault;
+use crate::files::Files;
+use crate::sources::read_source;
+use plant_codes::title;
+use plant_words::Job;
+use source_faults::source_fault;
+use st_diagnose::{SourceFault, WholeFault};
+use st_reasons::write_reason;
+use std::alloc::{AllocError, Global};
+use std::io::Write;
+
+/// Whether the faults of a job are explained.
+fn is_explained(job: &Job<'_>) -> bool {
+    match job {
+        Job::Check(job) => job.explain,
+        Job::Run(job) => job.explain,
+        Job::Replay(job) => job.explain,
+        Job::Show(_) => true,
+        _ => false,
+    }
+}
+
+/// The source of a job.
+fn source_of<'a>(job: &Job<'a>) -> Option<&'a str> {
+    match job {
+        Job::Check(job) => Some(job.source),
+        Job::Run(job) => Some(job.source),
+        Job::Replay(job) => Some(job.source),
+        _ => None,
+    }
+}
+
+/// Why a source is refused, where it is.
+fn refused(fault: Fault) -> Option<SourceFault> {
+    match fault {
+        Fault::Source => Some(SourceFault::Whole(WholeFault::Unread)),
+        Fault::Build(error) => Some(source_fault(error)),
+        _ => None,
+    }
+}
+
+/// The code of a fault as its line tells it, and what stands behind it.
+fn line_of(alloc: Global, fault: Fault) -> Result<String, AllocError> {
+    format!(in alloc; "{fault}")
+}
+
+/// The code in front of a fault's line.
+fn code_in(line: &str) -> &str {
+    match line.split_once(' ') {
+        Some((code, _)) => code,
+        None => line,
+    }
+}
+
+/// Writes what the code of a fault means.
+fn tell_meaning<E: Write>(alloc: Global, fault: Fault, err: &mut E) {
+    let Ok(line) = line_of(alloc, fault) else {
+        return;
+    };
+    let code = code_in(&line);
+    if let Some(title) = title(code) {
+        let _ = writeln!(err, "{code}: {title}");
+        let _ = writeln!(err, " = help: `plant explain {code}` says more");
+    }
+}
+
+/// The source that is looked into: none of it where it can't be read.
+fn text_of<F: Files>(
+    alloc: Global,
+    files: &mut F,
+    name: &str,
+    fault: Fault,
+) -> Result<Vec<u8>, Fault> {
+    match fault {
+        Fault::Source => Ok(Vec::new(alloc)),
+        _ => read_source(alloc, files, name),
+    }
+}
+
+/// Writes what is wrong in the source of a job, and where; whether that is done.
+fn tell_place<F: Files, E: Write>(
+    alloc: Global,
+    files: &mut F,
+    job: &Job<'_>,
+    fault: Fault,
+    err: &mut E,
+) -> bool {
+    let (Some(name), Some(refused)) = (source_of(job), refused(fault)) else {
+        return false;
+    };
+    match text_of(alloc, files, name, fault) {
+        Ok(text) => write_reason(alloc, err, name, &text, refused).is_ok(),
+        Err(_) => false,
+    }
+}
+
+/// Shows what a fault means where the job asks for it: a refused source with the line at the place, all else by what its
+/// code means. What can't be written, or shown for want of memory, is left out.
+pub(crate) fn explain<F: Files, E: Write>(
+    alloc: Global,
+    files: &mut F,
+    job: &Job<'_>,
+    fault: Fault,
+    err: &mut E,
+) {
+    if is_explained(job) && !tell_place(alloc, files, job, fault, err) {
+        tell_meaning(alloc, fault, err);
+    }
+}
