@@ -2,7 +2,8 @@
 """Feeds the built program broken texts, plants and retain files.
 
 Each is accepted, or refused with one fault line and the status of its kind; a place lies inside the text, and a retain file that was
-there stays as it was. Nothing crashes.
+there stays as it was. Nothing crashes. With `--explain` a view follows that line: of printable characters alone, with the line and the column
+of the place, and a caret under its byte. `plant show` refuses just the retain files that a start refuses so, and leaves them as they are.
 
 Of the texts most are of the whole language; none takes more than a second of the processor.
 
@@ -76,6 +77,26 @@ def change(pick, tokens, pool):
     return changed
 
 
+def look_at_view(text, fault, answer):
+    """Whether a view of the fault follows its line, and stands at its place."""
+    if answer[:2] != (2, "") or not answer[2].startswith(fault[0]):
+        fail(text, answer)
+    view = answer[2][len(fault[0]) :]
+    if not view.startswith(f"error[{fault[1]}{fault[2]}]: ") or not re.fullmatch(r"[\t\n -~]+\n", view):
+        fail(text, answer)
+    if fault[3] is None:
+        return
+    place = int(fault[3])
+    line, column = text.count("\n", 0, place) + 1, place - text.rfind("\n", 0, place)
+    if f"--> broken.st:{line}:{column}\n" not in view:
+        fail(text, (line, column, view))
+    lines = view.split("\n")
+    carets = next(at for at, shown in enumerate(lines) if re.fullmatch(r" *\|\s*\^~*", shown))
+    under = (lines[carets - 1] + "\n")[lines[carets].index("^")]
+    if under != (text + "\n")[place]:
+        fail(text, (under, view))
+
+
 def texts(plant, pick, count):
     whole, plain = [], []
     for source in sorted(ROOT.glob("examples/*/*.st")) + sorted(ROOT.glob("tests/texts/*.st")):
@@ -98,6 +119,7 @@ def texts(plant, pick, count):
         again = plant.run("run", "broken.st", "--plant", "plant.csv", "--store", "store", "--start", "cold")
         if again != (2, "", fault[0]) or store.read_bytes() != b"kept":
             fail(text, again)
+        look_at_view(text, fault, plant.run("check", "broken.st", "--explain"))
     return accepted
 
 
@@ -147,7 +169,14 @@ def stores(plant, pick, count):
         store.write_bytes(broken)
         start = ("warm", "cold")[number % 2]
         words = ("run", source, "--plant", "none.csv", "--store", "broken", "--start", start)
-        if plant.look(broken[:64], plant.run(*words), 4, "SN") is None:
+        shown = plant.run("show", "broken")
+        if store.read_bytes() != broken:
+            fail(broken[:64], "a look changed the retain file")
+        fault = plant.look(broken[:64], plant.run(*words), 4, "SN")
+        refused = fault[0] if fault and fault[1] == "S" else None
+        if (shown[2].splitlines(keepends=True) or [None])[0] != refused or (shown[0] == 0) != (refused is None):
+            fail(broken[:64], (shown, fault))
+        if fault is None:
             accepted += 1
         elif store.read_bytes() != broken:
             fail(broken[:64], "a refused retain file was changed")

@@ -31,5 +31,5 @@ for example in "$examples"/*/; do
     cd "$work"
     rm -r "$work/now"
 done
-[ "$count" -ge 4 ] || { echo "examples.sh: only $count runs" >&2; exit 1; }
+[ "$count" -ge 18 ] || { echo "examples.sh: only $count runs" >&2; exit 1; }
 echo "examples.sh: $count runs and their replays as they should be"

@@ -1,0 +1,1 @@
+run batch.st --plant plant.csv --store batch.retain --start cold

@@ -1,0 +1,1 @@
+run batch.st --plant next.csv --store batch.retain --start warm

@@ -1,0 +1,1 @@
+run line.st --plant plant.csv --store line.retain --start cold

@@ -1,0 +1,1 @@
+run quadrature.st --plant plant.csv --store quadrature.retain --start cold

@@ -1,0 +1,1 @@
+run recipes.st --plant plant.csv --store recipes.retain --start cold

@@ -1,0 +1,1 @@
+run strokes.st --plant plant.csv --store strokes.retain --start cold

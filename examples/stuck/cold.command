@@ -1,0 +1,1 @@
+run stuck.st --plant plant.csv --store stuck.retain --start cold

@@ -1,0 +1,1 @@
+run stuck.st --plant next.csv --store stuck.retain --start warm

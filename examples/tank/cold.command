@@ -1,0 +1,1 @@
+run tank.st --plant plant.csv --store tank.retain --start cold

@@ -1,0 +1,1 @@
+run traffic.st --plant plant.csv --store traffic.retain --start cold

@@ -1,0 +1,108 @@
+#!/usr/bin/env python3
+"""Compares the pictures of README.md with what the program prints, or writes them anew.
+
+In README.md a line `<!-- picture: NAME -->` stands before each block that is one of them; docs/plot.svg is one too.
+
+usage: tests/pictures.py PLANT [--write]     PLANT is the built program
+"""
+import pathlib
+import re
+import shlex
+import shutil
+import subprocess
+import sys
+import tempfile
+
+ROOT = pathlib.Path(__file__).resolve().parent.parent
+README = ROOT / "README.md"
+PLOT = ROOT / "docs" / "plot.svg"
+
+# a text with a fault, as README.md shows it
+TANK = """PROGRAM Fill
+  VAR_EXTERNAL CONSTANT
+    raw : INT;
+  END_VAR
+  VAR_EXTERNAL
+    level : DINT;
+  END_VAR
+  level := raw * 2;
+END_PROGRAM
+
+CONFIGURATION Tank
+  VAR_GLOBAL
+    raw AT %IW0 : INT;
+  END_VAR
+  VAR_GLOBAL RETAIN
+    level : DINT;
+  END_VAR
+  RESOURCE Main ON CPU
+    TASK Cycle (INTERVAL := T#100ms, PRIORITY := 0);
+    PROGRAM Filler WITH Cycle : Fill;
+  END_RESOURCE
+END_CONFIGURATION
+"""
+
+
+class Pictures:
+    """A folder with the examples of the dosing pump and of the flow meter, in which the program runs."""
+
+    def __init__(self, plant, work):
+        self.plant = plant
+        self.work = work
+        for example in ("dosing", "flow"):
+            for path in (ROOT / "examples" / example).iterdir():
+                shutil.copy(path, work / (f"{example}.csv" if path.name == "plant.csv" else path.name))
+        (work / "tank.st").write_text(TANK)
+
+    def told(self, words, status=0):
+        """Returns what the program tells, with the command line before it."""
+        done = subprocess.run([self.plant, *shlex.split(words)], cwd=self.work, capture_output=True, text=True)
+        if done.returncode != status:
+            sys.exit(f"pictures.py: `plant {words}` ended with {done.returncode}: {done.stderr}")
+        return f"$ plant {words}\n{done.stdout}{done.stderr}"
+
+    def run(self):
+        cold = self.told("run dosing.st --plant dosing.csv --store dosing.retain --start cold")
+        warm = self.told("run dosing.st --plant next.csv --store dosing.retain --start warm")
+        # how many saves a run makes, and so the generation, hangs on its threads
+        shown = self.told("show dosing.retain").splitlines(keepends=True)
+        return cold + warm + "$ plant show dosing.retain | tail -n 3\n" + "".join(shown[-3:])
+
+    def fault(self):
+        return self.told("check tank.st --explain", status=2)
+
+    def plot(self):
+        self.told("run flow.st --plant flow.csv --store flow.retain --start cold --trace flow.trace")
+        self.told("plot flow.st --plant flow.csv --trace flow.trace --out flow.svg")
+        return (self.work / "flow.svg").read_text()
+
+
+def block(name):
+    """The block of README.md behind the mark of that name."""
+    return re.compile(rf"(<!-- picture: {name} -->\n```\n)(.*?)(```\n)", re.DOTALL)
+
+
+def main():
+    plant, *words = sys.argv[1:]
+    readme, differ = README.read_text(), []
+    with tempfile.TemporaryDirectory() as folder:
+        pictures = Pictures(str(pathlib.Path(plant).resolve()), pathlib.Path(folder))
+        for name, text in (("run", pictures.run()), ("fault", pictures.fault())):
+            found = block(name).search(readme)
+            if not found:
+                sys.exit(f"pictures.py: README.md has no picture {name}")
+            if found[2] != text:
+                differ.append(name)
+            readme = block(name).sub(lambda m: m[1] + text + m[3], readme)
+        plot = pictures.plot()
+    if not PLOT.exists() or PLOT.read_text() != plot:
+        differ.append("plot")
+    if words == ["--write"]:
+        README.write_text(readme)
+        PLOT.write_text(plot)
+    elif differ:
+        sys.exit(f"pictures.py: not what the program prints today: {', '.join(differ)}; tests/pictures.py PLANT --write writes them")
+    print("pictures.py: 3 pictures are what the program prints")
+
+
+main()
