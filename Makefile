@@ -1,6 +1,6 @@
 # What one does with this repository. README.md says more of each.
 
-.PHONY: run build test strength
+.PHONY: run build examples test strength
 
 # The dosing pump over a real retain file, cold and then warm, within two minutes: proved where the program is built, else not.
 run:
@@ -9,6 +9,10 @@ run:
 # Proves the program and builds it as out/plant.
 build:
 	@tools/build.sh
+
+# Each example on the built program: what it shows, its report, and whether that is as it should be.
+examples:
+	@tools/examples.sh
 
 # The gate: every proof from nothing, edits, tests, and the built program over real files. Its last line is 'N passed, 0 failed'.
 test:
