@@ -3,7 +3,7 @@
 use slot_bodies::{SlotFunction, SlotStmt};
 use st_trees::Source;
 use std::alloc::{AllocError, Global};
-use text_links::{LinkedText, link};
+use text_links::{CalledFunctions, LinkedText, link};
 
 /// A function: the slots of its inputs and of its result, how many values a call begins with, and how many statements
 /// there are.
@@ -84,7 +84,8 @@ fn shown_text(alloc: Global, linked: &LinkedText) -> Result<String, AllocError> 
 
 /// The linked form of a text, or why there is none.
 pub fn shown_links(alloc: Global, source: &Source) -> Result<String, AllocError> {
-    match link(alloc, source) {
+    let called = CalledFunctions::new(alloc, source)?;
+    match link(alloc, source, &called) {
         Ok(linked) => shown_text(alloc, &linked),
         Err(error) => error.to_string(alloc),
     }

@@ -187,7 +187,6 @@ fn push_statements<'a>(
 }
 
 /// The functions that a unit calls, standard ones too, by their names.
-
 pub fn calls_of<'a>(alloc: Global, unit: &'a Unit) -> Result<Vec<&'a Identifier>, AllocError>
     ensures { IfOk result (λ calls. map (λ x. x.now.name) calls.items ≡ calls_of (unit_view unit.now)) }
 {

@@ -25,9 +25,11 @@ mod too_deep;
 mod twice_declared;
 
 pub use arrays::{named_arrays, unnamed_arrays};
+pub use calls::calls_of;
 pub use declarations::declare;
 pub use declarings::{Declaring, Role, declarings_in};
 pub use elements::{types_in, units_in};
 pub use judging::CheckError;
 pub use started::{array_at, field_of};
 pub use starts::{Start, starts_of};
+pub use statements::all_in;

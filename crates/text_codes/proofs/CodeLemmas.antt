@@ -80,8 +80,8 @@ linked_same : (a b : LinkedText) (o : Option LinkedText) → o ≡ Some a → o 
 linked_same a b o x y = cc
 
 -- Codes over the linked form of a text mean its programs, and read what they ask for.
-pub codes_mean : (text : Source) (kept : KeptText) (kinds : List Kind) (codes : List CodeView)
-    (linked : IsLinked text kept) → kinds ≡ map (λ l. l.kind) (slots_of_text text)
+pub codes_mean : (text : Source) (called : Name → Bool) (kept : KeptText) (kinds : List Kind) (codes : List CodeView)
+    (linked : IsLinked text called kept) → kinds ≡ map (λ l. l.kind) (slots_of_text text)
     → AreCodesOver linked.whole.library kinds kept.programs codes
     → ((n : ℕ) (p : Program) (body : SlotStmts) (code : CodeView)
     → slice_get (programs_of_text text) n ≡ Some p → slice_get linked.whole.programs n ≡ Some body
@@ -91,7 +91,7 @@ pub codes_mean : (text : Source) (kept : KeptText) (kinds : List Kind) (codes : 
     → HasCodeRuns text n p → linked_source text ≡ Some whole → slice_get whole.programs n ≡ Some body
     → IsCodeOf text whole body depth code → Means (slots_of_text text) code p)
     → AreCodesOf text codes
-codes_mean text kept kinds codes linked are over read runs mean = λ n p there.
+codes_mean text called kept kinds codes linked are over read runs mean = λ n p there.
     let has = runs n p there in
     let same = linked_same has.linked linked.whole (linked_source text) has.is linked.linked in
     let in_whole : slice_get linked.whole.programs n ≡ Some has.body =

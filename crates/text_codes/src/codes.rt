@@ -12,6 +12,7 @@ ghost use Rattle.slot_trees.specs.SlotTrees as tree;
 ghost use Rattle.slot_bodies.specs.LibraryViews.{IsKeptOf, slot_library_view};
 ghost use Rattle.slot_bodies.specs.StatementViews.{slot_stmts_view};
 ghost use Rattle.text_links.specs.Accepted.{IsAccepted, IsLinked};
+ghost use Rattle.text_links.specs.CalledFunctions.{is_called};
 ghost use Rattle.text_links.specs.Linked.{linked_text_view};
 ghost use Rattle.coded_programs.specs.Codes.{code_view};
 ghost use Rattle.st_compile.specs.Linked.{ProgramLinked};
@@ -23,6 +24,7 @@ use crate::slot_kinds::kinds_of;
 use coded_programs::Code;
 use coded_texts::{code_of_texts_fails_as_their_programs, code_of_texts_means_their_programs};
 use layout::Layout;
+use machine_code::MAX_INSTRUCTIONS;
 use slot_bodies::{SlotLibrary, SlotStmt};
 use st_coded::code_of_accepted_texts_does_what_their_programs_do;
 use st_compile::{CompileError, compile};
@@ -33,17 +35,28 @@ use st_words::Kind;
 use std::alloc::Global;
 use std::sync::Arc;
 use text_fitting::accepted_texts_are_compiled;
-use text_links::{LinkedText, link};
+use text_links::{CalledFunctions, LinkedText, link};
 use text_reads::codes_of_accepted_texts_look_globals_up;
 
-/// A text linked.
-fn linked_text(alloc: Global, source: &Source) -> Result<LinkedText, CompileError>
+/// Whether there may be room for the values that calls of these functions begin with: each takes two instructions of a
+/// program.
+fn may_have_room(called: &CalledFunctions<'_>) -> bool {
+    called.values() <= called.programs().saturating_mul(MAX_INSTRUCTIONS / 2)
+}
+
+/// A text linked with the functions that are called.
+fn linked_text(
+    alloc: Global,
+    source: &Source,
+    called: &CalledFunctions<'_>,
+) -> Result<LinkedText, CompileError>
     ensures linked { IfOk result (λ linked. (text : trees.Source) → source_view source.now ≡ resolved_source text
-        → IsAccepted text → length (slots_of_text text) ≤ MAX_PATHS → IsLinked text (linked_text_view linked)) }
+        → IsAccepted text → length (slots_of_text text) ≤ MAX_PATHS
+        → IsLinked text (is_called called.now) (linked_text_view linked)) }
     ensures there { IfErr result (λ e. (text : trees.Source) → source_view source.now ≡ resolved_source text
         → IsAccepted text → length (slots_of_text text) ≤ MAX_PATHS → e ≢ CompileError.NotLinked) }
 {
-    match link(alloc, source) {
+    match link(alloc, source, called) {
         Ok(linked) => Ok(linked),
         Err(LinkError::NotThere) => Err(CompileError::NotLinked),
         Err(LinkError::OutOfMemory) => Err(CompileError::OutOfMemory),
@@ -123,7 +136,11 @@ pub fn codes_of_text(
     code_of_texts_fails_as_their_programs();
     codes_of_accepted_texts_look_globals_up();
     programs_of_accepted_texts_run_by_slots();
-    let linked = linked_text(alloc, source)?;
+    let called = CalledFunctions::new(alloc, source)?;
+    if !may_have_room(&called) {
+        return Err(CompileError::TooManyInstructions);
+    }
+    let linked = linked_text(alloc, source, &called)?;
     let kinds = Arc::new(alloc, kinds_of(alloc, &layout.slots)?)?;
     codes_of_programs(alloc, &linked.library, &kinds, &linked.programs)
 }

@@ -81,13 +81,13 @@ module _ (A : Type 0) (kept : OrganisationUnit → Option A) (x : Name) (i : ℕ
   tested v us names a gs n is ih true e h = first_kept v us a gs n e (some_is h) is
   tested v us names a gs n is ih false e h = later_kept v us a gs n (ih h)
 
-module _ (text : Declared) (x : Name) (i : ℕ) where
+module _ (called : Name → Bool) (text : Declared) (x : Name) (i : ℕ) where
   abbrev whole : Declared
   whole = taken_text text
 
   -- what is kept of a unit that is a function
   abbrev pub function_by : UnitSort → OrganisationUnit → Option (Option SlotFunction)
-  function_by (sorts.Function t) u = kept_function (taken_text text) t (resolved text u)
+  function_by (sorts.Function t) u = kept_function called (taken_text text) t (resolved text u)
   function_by sorts.FunctionBlock u = None
   function_by sorts.Program u = None
 
@@ -96,15 +96,15 @@ module _ (text : Declared) (x : Name) (i : ℕ) where
 
   function_cases : (v : OrganisationUnit) (us : List OrganisationUnit) (s : UnitSort) → v.sort ≡ s → (n : ℕ)
       (gs : List (Option SlotFunction))
-      → ((m : ℕ) (fs : List (Option SlotFunction)) → kept_functions whole (map (resolved text) us) ≡ Some fs
+      → ((m : ℕ) (fs : List (Option SlotFunction)) → kept_functions called whole (map (resolved text) us) ≡ Some fs
       → named_in (numbered_from m (function_names (map (resolved text) us))) x ≡ Some i
       → IsKeptAt (Option SlotFunction) function_of us fs x m i)
-      → kept_function_then whole s (resolved text v) (kept_functions whole (map (resolved text) us)) ≡ Some gs
+      → kept_function_then called whole s (resolved text v) (kept_functions called whole (map (resolved text) us)) ≡ Some gs
       → named_in (numbered_from n (function_name_then s v.name.name (function_names (map (resolved text) us)))) x
       ≡ Some i
       → IsKeptAt (Option SlotFunction) function_of (v ∷ us) gs x n i
   function_cases v us (sorts.Function t) sort n gs ih h g =
-      let p = linked_list (kept_function whole t (resolved text v)) (kept_functions whole (map (resolved text) us)) gs h
+      let p = linked_list (kept_function called whole t (resolved text v)) (kept_functions called whole (map (resolved text) us)) gs h
       in
       subst (λ hs. IsKeptAt (Option SlotFunction) function_of (v ∷ us) hs x n i) p.all
       (tested (Option SlotFunction) function_of x i v us (function_names (map (resolved text) us)) p.first p.others n
@@ -115,7 +115,7 @@ module _ (text : Declared) (x : Name) (i : ℕ) where
       other_kept (Option SlotFunction) function_of x i v us gs n (ih n gs h g)
 
   pub function_at : (us : List OrganisationUnit) (n : ℕ) (gs : List (Option SlotFunction))
-      → kept_functions (taken_text text) (map (resolved text) us) ≡ Some gs
+      → kept_functions called (taken_text text) (map (resolved text) us) ≡ Some gs
       → named_in (numbered_from n (function_names (map (resolved text) us))) x ≡ Some i
       → IsKeptAt (Option SlotFunction) function_of us gs x n i
   function_at [] n gs h g = absurd (cc)

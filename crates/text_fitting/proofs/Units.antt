@@ -78,8 +78,9 @@ use Rattle.st_fitting.specs.Sound.{StmtsSound, SymbolsWithin}
 use Rattle.st_fitting.proofs.Names.{block_within, function_within, program_within}
 use Rattle.st_fitting.proofs.Selected.{symbol_within}
 use Rattle.st_fitting.proofs.Statements.{stmts_linked}
-use Rattle.text_links.specs.KeptTexts.{block_fits, function_fits, kept_block, kept_blocks, kept_function, kept_functions}
+use Rattle.text_links.specs.KeptTexts.{block_fits, function_fits, is_linked, kept_block, kept_blocks, kept_function, kept_functions}
 use Rattle.text_links.specs.KeptTexts.{kept_if}
+use Rattle.text_links.proofs.FirstSlotLemmas.{both_hold}
 use Rattle.text_fitting.specs.Bounded.{HasBoundedArrays}
 use Rattle.text_fitting.specs.Callable.{IsCallable, AreInvocable}
 use Rattle.text_fitting.specs.Spelled.{AreSpelled, HaveFewNames, IsAny, StmtsOf}
@@ -133,10 +134,11 @@ pub record UnitsCompiled (source : Source) (kept : KeptLibrary) (size n : ℕ) :
       → named_in (numbers_of (taken_text (declared_in source))).members b.name ≡ Some ps
       → s.size ≡ size → s.base + sizes ps ≤ s.size → CallLinkedWithin kept n (of_block code s)
 
-module _ (source : Source) (h : IsWellTyped source) (vs : List Owned) (kept : KeptLibrary) (size : ℕ)
+module _ (source : Source) (called : Name → Bool) (h : IsWellTyped source) (vs : List Owned) (kept : KeptLibrary)
+    (size : ℕ)
     (few : HaveFewNames (enumerations_of (declared_in source).types)) (spelled : AreSpelled (units_in source))
     (bounded : HasBoundedArrays (taken_text (declared_in source)) vs)
-    (functions_are : kept_functions (taken_text (declared_in source))
+    (functions_are : kept_functions called (taken_text (declared_in source))
     (map (resolved (declared_in source)) (units_in source)) ≡ Some kept.functions)
     (blocks_are : kept_blocks (taken_text (declared_in source)) vs
     (map (resolved (declared_in source)) (units_in source)) ≡ Some kept.blocks)
@@ -303,12 +305,12 @@ module _ (source : Source) (h : IsWellTyped source) (vs : List Owned) (kept : Ke
               (body_linked instances whole symbols (stmts_of taken.body) g.body (c.1 ∙ ap Some same)),
         )
 
-    function_if : (o : Option SlotFunction) (start : ℕ) → kept_function whole r taken ≡ Some o
+    function_if : (o : Option SlotFunction) (start : ℕ) → kept_function called whole r taken ≡ Some o
         → IfFunctionLinked (CallLinkedWithin kept m) (Some o) start (length (input_kinds text u.blocks))
     function_if None start is = tt
     function_if (Some g) start is =
-        let k = kept_some (function_fits whole r taken) (linked_function whole r taken) g is in
-        function_compiled g start k.0 k.1
+        let k = kept_some (is_linked called whole r taken) (linked_function whole r taken) g is in
+        function_compiled g start (both_hold (called taken.name.name) (function_fits whole r taken) k.0).1 k.1
 
   -- a block
   module _ (m : ℕ) (units : UnitsCompiled source kept size m) (u : OrganisationUnit)
@@ -342,8 +344,8 @@ module _ (source : Source) (h : IsWellTyped source) (vs : List Owned) (kept : Ke
 
   -- by their depth
   function_kept : (f : Name) (i : ℕ) (u : OrganisationUnit) (r : SimpleType) → u.sort ≡ sorts.Function r
-      → kept_function whole r (resolved text u) ≡ function_of text f i u
-  function_kept f i u r sort = ap (λ (s : UnitSort). function_by text f i s u) (sym sort)
+      → kept_function called whole r (resolved text u) ≡ function_of called text f i u
+  function_kept f i u r sort = ap (λ (s : UnitSort). function_by called text f i s u) (sym sort)
 
   next_function : (m : ℕ) → UnitsCompiled source kept size m → (f : Name) (u : OrganisationUnit) (r : SimpleType)
       (i start : ℕ) → unit_named text.units f ≡ Some u → u.sort ≡ sorts.Function r
@@ -351,11 +353,11 @@ module _ (source : Source) (h : IsWellTyped source) (vs : List Owned) (kept : Ke
       → CallLinkedWithin kept (suc m) (of_function i start (length (input_kinds text u.blocks)))
   unfolding CallLinkedWithin
   next_function m units f u r i start is sort none numbered =
-      let k = function_at text f i (units_in source) 0 kept.functions functions_are numbered in
+      let k = function_at called text f i (units_in source) 0 kept.functions functions_are numbered in
       let same = same_unit f u k.unit is k.among k.named in
       let among = subst (λ (v : OrganisationUnit). Among v (units_in source)) same k.among in
-      let kept_is : kept_function whole r (resolved text u) ≡ Some k.value =
-      function_kept f i u r sort ∙ ap (function_of text f i) (sym same) ∙ k.is in
+      let kept_is : kept_function called whole r (resolved text u) ≡ Some k.value =
+      function_kept f i u r sort ∙ ap (function_of called text f i) (sym same) ∙ k.is in
       let there : slice_get kept.functions i ≡ Some k.value =
       ap (slice_get kept.functions) (sym (no_base i k.position k.number)) ∙ k.there in
       subst (λ (o : Option (Option SlotFunction)). IfFunctionLinked (CallLinkedWithin kept m) o start
@@ -363,8 +365,8 @@ module _ (source : Source) (h : IsWellTyped source) (vs : List Owned) (kept : Ke
       (function_if m units u among (unit_shallow source h f u is m none) r sort k.value start kept_is)
 
   block_kept : (f : Name) (i : ℕ) (u : OrganisationUnit) → u.sort ≡ sorts.FunctionBlock
-      → kept_block whole vs (resolved text u) ≡ kept_block_of text f i vs u
-  block_kept f i u sort = ap (λ (s : UnitSort). block_by text f i vs s u) (sym sort)
+      → kept_block whole vs (resolved text u) ≡ kept_block_of called text f i vs u
+  block_kept f i u sort = ap (λ (s : UnitSort). block_by called text f i vs s u) (sym sort)
 
   standard_compiled : (m : ℕ) (b : Name) (k : StandardBlock) (code : BlockCode) (ps : Parts) (s : Site)
       → block_of b ≡ Some k → named_in (numbers_of whole).blocks b ≡ Some code
@@ -398,11 +400,11 @@ module _ (source : Source) (h : IsWellTyped source) (vs : List Owned) (kept : Ke
       some_is (sym (named_behind standard_members (own_members whole whole.units) b
       (standard_member b ∙ ap (option_map (λ i. parts_of_members (members_of i))) own)
       ∙ own_members_named whole b (resolved text u) sort whole.units found) ∙ members) in
-      let k = block_at text b n.0 vs (units_in source) 0 kept.blocks blocks_are n.1 in
+      let k = block_at called text b n.0 vs (units_in source) 0 kept.blocks blocks_are n.1 in
       let same = same_unit b u k.unit is k.among k.named in
       let among = subst (λ (v : OrganisationUnit). Among v (units_in source)) same k.among in
       let kept_is : kept_block whole vs (resolved text u) ≡ Some k.value =
-      block_kept b n.0 u sort ∙ ap (kept_block_of text b n.0 vs) (sym same) ∙ k.is in
+      block_kept b n.0 u sort ∙ ap (kept_block_of called text b n.0 vs) (sym same) ∙ k.is in
       let there : slice_get kept.blocks n.0 ≡ Some k.value =
       ap (slice_get kept.blocks) (sym (no_base n.0 k.position k.number)) ∙ k.there in
       subst (λ (c : BlockCode). InstanceLinked (CallLinkedWithin kept m) kept c s) n.2

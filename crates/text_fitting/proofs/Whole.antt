@@ -1,5 +1,5 @@
 -- The programs of a whole text are compiled.
-use Rattle.std.proofs.Common.{◌≡◌, refl, sym, ap, ap₂, subst, ◌∙◌, ℕ, ◌≤◌, arith, true, List, [], ◌∷◌, length, map, Option}
+use Rattle.std.proofs.Common.{◌≡◌, refl, sym, ap, ap₂, subst, ◌∙◌, ℕ, ◌≤◌, arith, true, Bool, List, [], ◌∷◌, length, map, Option}
 use Rattle.std.proofs.Common.{Some, None, option_map}
 use Rattle.st_words.specs.declared.limits.TheConstants.{MAX_PATHS}
 use Rattle.st_words.specs.declared.path.Owner.{Owner}
@@ -90,8 +90,8 @@ module _ (source : Source) (h : IsWellTyped source) (spelled : IsSpelled source)
       (there (owned_variable (Some owner) (record { name = x; site = s }))
       (site_among (Some owner) (sites_of_blocks (resolved text u).blocks) x s g))
 
-  module _ (kept : KeptLibrary)
-      (functions : kept_functions (taken_text (declared_in source))
+  module _ (called : Name → Bool) (kept : KeptLibrary)
+      (functions : kept_functions called (taken_text (declared_in source))
       (map (resolved (declared_in source)) (units_in source)) ≡ Some kept.functions)
       (blocks : kept_blocks (taken_text (declared_in source)) (variables_of_configuration
       (taken_text (declared_in source)) (Some (taken_configuration (declared_in source) c)))
@@ -106,7 +106,7 @@ module _ (source : Source) (h : IsWellTyped source) (spelled : IsSpelled source)
     by_sort owner u among rest ready sorts.Program sort there bodies linked =
         let p = linked_list (linked_program whole layout owner (resolved text u)) rest bodies linked in
         subst (λ bs. AreCompiled kept size bs) p.all (
-          program_compiled source h layout kept size (few_names source h spelled) spelled.units
+          program_compiled source called h layout kept size (few_names source h spelled) spelled.units
               (arrays_bounded source h spelled c only layout (taken_layout text (Some c))) functions blocks room
               (omega (arith, few)) u among sort owner (has_variables owner u there) p.first p.first_is,
           ready p.others p.others_are,
@@ -153,37 +153,38 @@ module _ (source : Source) (h : IsWellTyped source) (spelled : IsSpelled source)
         (resources_compiled rs (λ v a. there v (among_right v own others a)))
         (λ v a. there v (among_left v own others a))
 
-  text_compiled : (kept : KeptText) → kept_text whole layout (Some (taken_configuration text c)) ≡ Some kept
+  text_compiled : (called : Name → Bool) (kept : KeptText)
+      → kept_text called whole layout (Some (taken_configuration text c)) ≡ Some kept
       → AreCompiled kept.library size kept.programs
-  text_compiled kept is =
+  text_compiled called kept is =
       let programs = linked_programs whole layout (Some (taken_configuration text c)) in
-      let l = then_some (λ library. option_map (kept_text_with library) programs) (kept_library whole layout) kept is in
+      let l = then_some (λ library. option_map (kept_text_with library) programs) (kept_library called whole layout) kept is in
       let p = map_some (kept_text_with l.0) programs kept l.2 in
       let f = then_some
       (λ functions. option_map (kept_library_with functions) (kept_blocks whole layout whole.units))
-      (kept_functions whole whole.units) l.0 l.1 in
+      (kept_functions called whole whole.units) l.0 l.1 in
       let b = map_some (kept_library_with f.0) (kept_blocks whole layout whole.units) l.0 f.2 in
       let library : kept_library_with f.0 b.0 ≡ kept.library = b.2 ∙ ap (λ (k : KeptText). k.library) p.2 in
       subst (λ bs. AreCompiled kept.library size bs) (ap (λ (k : KeptText). k.programs) p.2)
       (subst (λ lib. AreCompiled lib size p.0) library
-      (resources_compiled (kept_library_with f.0 b.0) f.1 b.1 c.resources
+      (resources_compiled called (kept_library_with f.0 b.0) f.1 b.1 c.resources
       (λ v a. among_right v (variables_of_globals (taken_configuration text c).globals)
       (variables_of_resources whole c.resources) a) p.0 p.1))
 
-pub accepted_compiled : (source : Source) (kept : KeptText) → IsAccepted source → IsSpelled source
-    → length (slots_of_text source) ≤ MAX_PATHS → kept_source source ≡ Some kept
+pub accepted_compiled : (source : Source) (called : Name → Bool) (kept : KeptText) → IsAccepted source
+    → IsSpelled source → length (slots_of_text source) ≤ MAX_PATHS → kept_source called source ≡ Some kept
     → AreCompiled kept.library (length (slots_of_text source)) kept.programs
-accepted_compiled source kept a spelled room is =
+accepted_compiled source called kept a spelled room is =
     let text = declared_in source in
     let c = a.configuration in
     let taken : configuration_of source ≡ Some (taken_configuration text c) =
     configuration_taken source ∙ ap (option_map (taken_configuration text)) a.only in
-    let same : kept_source source ≡ kept_text (taken_text text)
+    let same : kept_source called source ≡ kept_text called (taken_text text)
     (variables_of_configuration (taken_text text) (Some (taken_configuration text c)))
     (Some (taken_configuration text c)) =
-    ap₂ (λ d o. kept_text d (variables_of_configuration d o) o) (text_taken source) taken in
+    ap₂ (λ d o. kept_text called d (variables_of_configuration d o) o) (text_taken source) taken in
     let slots : length (slots_of_text source) ≡ length (slots_of (taken_text text)
     (variables_of_configuration (taken_text text) (Some (taken_configuration text c)))) =
     ap₂ (λ d o. length (slots_of d (variables_of_configuration d o))) (text_taken source) taken in
-    text_compiled source a.well_typed spelled c a.only (length (slots_of_text source)) (omega (arith, slots)) room kept
-    (sym same ∙ is)
+    text_compiled source a.well_typed spelled c a.only (length (slots_of_text source)) (omega (arith, slots)) room called
+    kept (sym same ∙ is)

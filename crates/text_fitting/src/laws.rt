@@ -1,6 +1,6 @@
 //! Laws of accepted texts, each proved of the definitions. The functions do nothing: their contracts are the laws.
 
-ghost use Rattle.std.specs.Prelude.{◌≡◌, ◌≤◌, ℕ, [], length};
+ghost use Rattle.std.specs.Prelude.{◌≡◌, ◌≤◌, ℕ, Bool, [], length};
 ghost use Rattle.st_words.specs.declared.limits.TheConstants.{MAX_PATHS};
 ghost use Rattle.st_trees.specs.Expressions.{Expr};
 ghost use Rattle.st_trees.specs.Sources.{Source};
@@ -8,6 +8,7 @@ ghost use Rattle.st_trees.specs.Statements.{Stmts};
 ghost use Rattle.st_types.specs.Enumerations.{enumerations_of};
 ghost use Rattle.st_types.specs.Resolution.{resolved_expr};
 ghost use Rattle.st_types.specs.ResolvedUnits.{resolved_stmts};
+ghost use Rattle.st_types.specs.Scopes.{Name};
 ghost use Rattle.st_statics.specs.declared.demand.Demand.{Demand};
 ghost use Rattle.st_statics.specs.Demands.{expected_of};
 ghost use Rattle.st_statics.specs.Environments.{Environment};
@@ -49,10 +50,11 @@ pub fn statements_without_faults_are_sound()
 {}
 
 /// So code is made of each program of an accepted text whose layout has room, but for the size of the code and of its
-/// memory: calls are at most 64 deep, since no unit contains more, and each function and block that is called is there.
+/// memory, whatever functions are linked: calls are at most 64 deep, since no unit contains more, and each function and
+/// block that is called has a number.
 /// The text's literals are as the grammar gives them.
 pub fn accepted_texts_are_compiled()
-    ensures { (source : Source) (kept : KeptText) → IsAccepted source → IsSpelled source
-        → length (slots_of_text source) ≤ MAX_PATHS → IsLinked source kept
+    ensures { (source : Source) (called : Name → Bool) (kept : KeptText) → IsAccepted source → IsSpelled source
+        → length (slots_of_text source) ≤ MAX_PATHS → IsLinked source called kept
         → AreCompiled kept.library (length (slots_of_text source)) kept.programs }
 {}

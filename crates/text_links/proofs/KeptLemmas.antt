@@ -7,6 +7,7 @@ use Rattle.st_trees.specs.declared.unit.UnitSort.TheVariants as units
 use Rattle.st_trees.specs.Configurations.{Configuration}
 use Rattle.st_trees.specs.Units.{OrganisationUnit}
 use Rattle.st_types.specs.NameTypes.{Declared}
+use Rattle.st_types.specs.Scopes.{Name}
 use Rattle.st_layouts.specs.LayoutVariables.{Owned}
 use Rattle.slot_trees.specs.SlotTrees.{SlotFunction, SlotStmts}
 use Rattle.slot_trees.specs.TextLinks.{LinkedText, library_with, linked_block, linked_block_then, linked_blocks}
@@ -15,7 +16,7 @@ use Rattle.slot_trees.specs.TextLinks.{linked_programs, linked_text, linked_then
 use Rattle.st_layouts.proofs.ListLemmas.{map_some}
 use Rattle.slot_trees.proofs.OptionLemmas.{then_some}
 use Rattle.slot_bodies.specs.LibraryViews.{IsKeptOf}
-use Rattle.text_links.specs.KeptTexts.{IsKeptLink, KeptText, block_fits, function_fits, kept_block_then, kept_blocks}
+use Rattle.text_links.specs.KeptTexts.{IsKeptLink, KeptText, block_fits, is_linked, kept_block_then, kept_blocks}
 use Rattle.text_links.specs.KeptTexts.{kept_function_then, kept_functions, kept_if, kept_library, kept_library_with}
 use Rattle.text_links.specs.KeptTexts.{kept_text, kept_text_with}
 
@@ -60,23 +61,23 @@ then_kept {A} b o rest kept_rest whole h ih =
           (one_kept x None xs k.kept (λ c e. absurd (cc)) k.at i a g);
     }
 
-pub functions_kept : (text : Declared) (us : List OrganisationUnit) (fs : List SlotFunction)
-    → linked_functions text us ≡ Some fs → HasKept SlotFunction fs (kept_functions text us)
-functions_kept text [] fs h = record {
+pub functions_kept : (called : Name → Bool) (text : Declared) (us : List OrganisationUnit) (fs : List SlotFunction)
+    → linked_functions text us ≡ Some fs → HasKept SlotFunction fs (kept_functions called text us)
+functions_kept called text [] fs h = record {
   kept = [];
   is = refl;
   at = λ i a g. absurd (cc);
 }
-functions_kept text (u ∷ us) fs h = by_sort u.sort fs h (λ gs. functions_kept text us gs)
+functions_kept called text (u ∷ us) fs h = by_sort u.sort fs h (λ gs. functions_kept called text us gs)
   where
     by_sort : (s : UnitSort) (fs : List SlotFunction)
         → linked_function_then text s u (linked_functions text us) ≡ Some fs
         → ((gs : List SlotFunction) → linked_functions text us ≡ Some gs
-        → HasKept SlotFunction gs (kept_functions text us))
-        → HasKept SlotFunction fs (kept_function_then text s u (kept_functions text us))
+        → HasKept SlotFunction gs (kept_functions called text us))
+        → HasKept SlotFunction fs (kept_function_then called text s u (kept_functions called text us))
     by_sort (units.Function t) fs h ih =
-        then_kept (function_fits text t u) (linked_function text t u) (linked_functions text us)
-        (kept_functions text us) fs h ih
+        then_kept (is_linked called text t u) (linked_function text t u) (linked_functions text us)
+        (kept_functions called text us) fs h ih
     by_sort units.FunctionBlock fs h ih = ih fs h
     by_sort units.Program fs h ih = ih fs h
 
@@ -106,18 +107,18 @@ pub record HasKeptText (whole : LinkedText) (r : Option KeptText) : Type 0 where
   pub is : r ≡ Some kept
   pub link : IsKeptLink kept whole
 
-pub text_kept : (text : Declared) (vs : List Owned) (c : Option Configuration) (whole : LinkedText)
-    → linked_text text vs c ≡ Some whole → HasKeptText whole (kept_text text vs c)
-text_kept text vs c whole h =
+pub text_kept : (called : Name → Bool) (text : Declared) (vs : List Owned) (c : Option Configuration)
+    (whole : LinkedText) → linked_text text vs c ≡ Some whole → HasKeptText whole (kept_text called text vs c)
+text_kept called text vs c whole h =
     let l = then_some (λ library. option_map (text_with library) (linked_programs text vs c))
     (linked_library text vs) whole h in
     let p = map_some (text_with l.0) (linked_programs text vs c) whole l.2 in
     let f = then_some (λ functions. option_map (library_with functions) (linked_blocks text vs text.units))
     (linked_functions text text.units) l.0 l.1 in
     let b = map_some (library_with f.0) (linked_blocks text vs text.units) l.0 f.2 in
-    let fk = functions_kept text text.units f.0 f.1 in
+    let fk = functions_kept called text text.units f.0 f.1 in
     let bk = blocks_kept text vs text.units b.0 b.1 in
-    let library : kept_library text vs ≡ Some (kept_library_with fk.kept bk.kept) =
+    let library : kept_library called text vs ≡ Some (kept_library_with fk.kept bk.kept) =
     ap (option_and_then (λ functions. option_map (kept_library_with functions) (kept_blocks text vs text.units))) fk.is
     ∙ ap (option_map (kept_library_with fk.kept)) bk.is in
     let part : IsKeptOf (kept_library_with fk.kept bk.kept) (library_with f.0 b.0) =

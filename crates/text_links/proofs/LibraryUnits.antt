@@ -9,6 +9,7 @@ use Rattle.st_trees.specs.declared.unit.UnitSort.TheVariants as sorts
 use Rattle.st_trees.specs.UnitViews.{unit_view}
 use Rattle.st_trees.specs.Units.{OrganisationUnit}
 use Rattle.st_types.specs.NameTypes.{Declared}
+use Rattle.st_types.specs.Scopes.{Name}
 use Rattle.st_layouts.specs.LayoutVariables.{Owned}
 use Rattle.slot_trees.specs.SlotTrees.{SlotFunction, SlotStmts}
 use Rattle.text_links.specs.KeptTexts.{kept_block, kept_function}
@@ -30,13 +31,14 @@ pub block_whole : (text : Declared) (u : OrganisationUnit) → u.sort ≡ sorts.
     → is_whole_unit text u ≡ true → are_whole text (variables_of_blocks u.blocks) ≡ true
 block_whole text u sort h = ap (λ s. are_whole text (variables_by_sort s u)) (sym sort) ∙ h
 
-pub function_given : (text : Declared) (u : OrganisationUnit) (t : SimpleType) (f : Option SlotFunction)
-    → u.sort ≡ sorts.Function t → kept_function text t u ≡ Some f → functions_of text u ≡ Some (f ∷ [])
-function_given text u t f sort h = ap (λ s. functions_by text s u) sort ∙ ap alone h
+pub function_given : (called : Name → Bool) (text : Declared) (u : OrganisationUnit) (t : SimpleType)
+    (f : Option SlotFunction) → u.sort ≡ sorts.Function t → kept_function called text t u ≡ Some f
+    → functions_of called text u ≡ Some (f ∷ [])
+function_given called text u t f sort h = ap (λ s. functions_by called text s u) sort ∙ ap alone h
 
-pub function_missing : (text : Declared) (u : OrganisationUnit) (t : SimpleType) → u.sort ≡ sorts.Function t
-    → kept_function text t u ≡ None → functions_of text u ≡ None
-function_missing text u t sort h = ap (λ s. functions_by text s u) sort ∙ ap alone h
+pub function_missing : (called : Name → Bool) (text : Declared) (u : OrganisationUnit) (t : SimpleType)
+    → u.sort ≡ sorts.Function t → kept_function called text t u ≡ None → functions_of called text u ≡ None
+function_missing called text u t sort h = ap (λ s. functions_by called text s u) sort ∙ ap alone h
 
 pub block_given : (text : Declared) (vs : List Owned) (u : OrganisationUnit) (b : Option SlotStmts)
     → u.sort ≡ sorts.FunctionBlock → kept_block text vs u ≡ Some b → blocks_of text vs u ≡ Some (b ∷ [])

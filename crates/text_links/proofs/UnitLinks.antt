@@ -1,6 +1,6 @@
 -- Units linked by their tables.
 use Rattle.std.proofs.Common.{◌≡◌, refl, sym, ap, subst, ◌∙◌, arith, ℕ, ◌+◌, ◌≤◌, List, [], ◌∷◌, ◌++◌, map, Bool}
-use Rattle.std.proofs.Common.{true, false, Option, Some, None, ◌<◌}
+use Rattle.std.proofs.Common.{true, false, Option, Some, None, ◌<◌, ◌&&◌}
 use Rattle.std.specs.Prelude.{nat_lt, not, option_map, option_and_then}
 use Rattle.std.proofs.lemmas.Bool.Decides.{nat_tests}
 use Rattle.st_words.specs.declared.limits.TheConstants.{MAX_PATHS}
@@ -37,6 +37,7 @@ use Rattle.text_links.specs.Linked.{programs_by, programs_of}
 use Rattle.text_links.specs.Orderly.{instances_of}
 use Rattle.text_links.specs.LinkVariables.{LinkVariable, of_site, result_of, variables_of_blocks}
 use Rattle.text_links.specs.Tables.{AreGlobals, BeginAt, IsUnitTable}
+use Rattle.text_links.proofs.FirstSlotLemmas.{both_hold_back}
 use Rattle.text_links.proofs.InstanceLemmas.{instances_seen}
 use Rattle.text_links.proofs.SiteLemmas.{sites_seen}
 use Rattle.text_links.proofs.UnitSymbols.{block_symbols_are, function_symbols_are, program_symbols_are}
@@ -111,6 +112,17 @@ block_small text u h =
     ap (λ n. not (nat_lt MAX_PATHS n)) (members_taken text u)
     ∙ ap not (not_too_many (slots_taken text (variables_of_blocks u.blocks)) h)
 
+-- a function that is called and has room is linked, and no other
+pub linked_there : (a b : Bool) → a ≡ true → b ≡ true → (a && b) ≡ true
+linked_there a b h k = both_hold_back a b h k
+
+pub not_called : (a b : Bool) → a ≡ false → (a && b) ≡ false
+not_called a b h = ap (λ c. c && b) h
+
+pub no_room : (a b : Bool) → b ≡ false → (a && b) ≡ false
+no_room true b h = h
+no_room false b h = refl
+
 -- what is kept
 pub kept_there : {A : Type 0} (b : Bool) (o : Option A) (x : A) → b ≡ true → o ≡ Some x → kept_if b o ≡ Some (Some x)
 kept_there b o x h is = ap (λ c. kept_if c o) h ∙ ap (λ p. option_map (λ y. Some y) p) is
@@ -132,18 +144,21 @@ rest_alone : {A : Type 0} (rest rest' : Option (List A)) → rest ≡ rest'
 rest_alone rest None e = e
 rest_alone rest (Some ys) e = e
 
-pub functions_gathered : (text : Declared) (us : List OrganisationUnit)
-    → kept_functions text us ≡ gathered (functions_of text) us
-functions_gathered text [] = refl
-functions_gathered text (u ∷ us) = by_sort u.sort (functions_gathered text us)
+pub functions_gathered : (called : Name → Bool) (text : Declared) (us : List OrganisationUnit)
+    → kept_functions called text us ≡ gathered (functions_of called text) us
+functions_gathered called text [] = refl
+functions_gathered called text (u ∷ us) = by_sort u.sort (functions_gathered called text us)
   where
-    by_sort : (s : UnitSort) → kept_functions text us ≡ gathered (functions_of text) us
-        → kept_function_then text s u (kept_functions text us)
-        ≡ option_and_then (λ ys. option_map (λ zs. ys ++ zs) (gathered (functions_of text) us)) (functions_by text s u)
+    by_sort : (s : UnitSort) → kept_functions called text us ≡ gathered (functions_of called text) us
+        → kept_function_then called text s u (kept_functions called text us)
+        ≡ option_and_then (λ ys. option_map (λ zs. ys ++ zs) (gathered (functions_of called text) us))
+        (functions_by called text s u)
     by_sort (units.Function t) ih =
-        then_alone (kept_function text t u) (kept_functions text us) (gathered (functions_of text) us) ih
-    by_sort units.FunctionBlock ih = rest_alone (kept_functions text us) (gathered (functions_of text) us) ih
-    by_sort units.Program ih = rest_alone (kept_functions text us) (gathered (functions_of text) us) ih
+        then_alone (kept_function called text t u) (kept_functions called text us)
+        (gathered (functions_of called text) us) ih
+    by_sort units.FunctionBlock ih =
+        rest_alone (kept_functions called text us) (gathered (functions_of called text) us) ih
+    by_sort units.Program ih = rest_alone (kept_functions called text us) (gathered (functions_of called text) us) ih
 
 pub blocks_gathered : (text : Declared) (vs : List Owned) (us : List OrganisationUnit)
     → kept_blocks text vs us ≡ gathered (blocks_of text vs) us

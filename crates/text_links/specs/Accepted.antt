@@ -1,8 +1,9 @@
 -- A text that is accepted, and its linked form.
-use Rattle.std.specs.Prelude.{◌≡◌, Some, true}
+use Rattle.std.specs.Prelude.{◌≡◌, Bool, Some, true}
 use Rattle.st_trees.specs.Configurations.{Configuration}
 use Rattle.st_trees.specs.Sources.{Source}
 use Rattle.st_types.specs.NameTypes.{declared_in}
+use Rattle.st_types.specs.Scopes.{Name}
 use Rattle.st_statics.specs.ConfigurationRules.{are_known}
 use Rattle.st_statics.specs.Rules.{IsWellTyped}
 use Rattle.st_layouts.specs.LayoutVariables.{configurations_in, only_configuration}
@@ -18,10 +19,10 @@ pub record IsAccepted (source : Source) : Type 0 where
   pub only : only_configuration (configurations_in source) ≡ Some configuration
   pub known : are_known (declared_in source) configuration ≡ true
 
--- This is the text's linked form, in which a function or a block is left out exactly where its own variables are more
--- than any layout has room for.
-pub record IsLinked (source : Source) (kept : KeptText) : Type 0 where
-  pub is : kept_source source ≡ Some kept
+-- This is the text's linked form, in which a function is left out exactly where it is none of those that are called or
+-- its own variables are more than any layout has room for, and a block exactly where its variables are.
+pub record IsLinked (source : Source) (called : Name → Bool) (kept : KeptText) : Type 0 where
+  pub is : kept_source called source ≡ Some kept
   pub whole : LinkedText
   pub linked : linked_source source ≡ Some whole
   pub part : IsKeptLink kept whole

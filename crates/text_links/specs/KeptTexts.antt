@@ -1,6 +1,6 @@
--- The linked form of a text, in which a function or a block is left out where its own variables are more than any
--- layout has room for.
-use Rattle.std.specs.Prelude.{◌≡◌, nat_lt, List, [], ◌∷◌, map, Bool, true, false, not, Option, Some, None}
+-- The linked form of a text for programs that call these functions: another function is left out, and so is a function
+-- or a block whose own variables are more than any layout has room for.
+use Rattle.std.specs.Prelude.{◌≡◌, nat_lt, List, [], ◌∷◌, map, Bool, true, false, not, ◌&&◌, Option, Some, None}
 use Rattle.std.specs.Prelude.{option_map, option_and_then}
 use Rattle.st_words.specs.declared.limits.TheConstants.{MAX_PATHS}
 use Rattle.st_trees.specs.declared.data_type.SimpleType.{SimpleType}
@@ -10,6 +10,7 @@ use Rattle.st_trees.specs.Configurations.{Configuration}
 use Rattle.st_trees.specs.Sources.{Source}
 use Rattle.st_trees.specs.Units.{OrganisationUnit}
 use Rattle.st_types.specs.NameTypes.{Declared}
+use Rattle.st_types.specs.Scopes.{Name}
 use Rattle.st_layouts.specs.LayoutVariables.{Owned, configuration_of, declared_of, layout_variables, owned_variable}
 use Rattle.st_layouts.specs.Shapes.{sizes}
 use Rattle.layout.specs.Growth.{is_too_large}
@@ -26,23 +27,27 @@ function_fits text t u = not (is_too_large text (map (owned_variable None) (site
 abbrev pub block_fits : Declared → OrganisationUnit → Bool
 block_fits text u = not (nat_lt MAX_PATHS (sizes (members_of_block text u)))
 
--- what has no room is left out
+-- a function is linked where it is called and has room
+abbrev pub is_linked : (Name → Bool) → Declared → SimpleType → OrganisationUnit → Bool
+is_linked called text t u = called u.name.name && function_fits text t u
+
+-- what is not linked is left out
 abbrev pub kept_if : {A : Type 0} → Bool → Option A → Option (Option A)
 kept_if true o = option_map (λ x. Some x) o
 kept_if false o = Some None
 
-abbrev pub kept_function : Declared → SimpleType → OrganisationUnit → Option (Option SlotFunction)
-kept_function text t u = kept_if (function_fits text t u) (linked_function text t u)
+abbrev pub kept_function : (Name → Bool) → Declared → SimpleType → OrganisationUnit → Option (Option SlotFunction)
+kept_function called text t u = kept_if (is_linked called text t u) (linked_function text t u)
 
-abbrev pub kept_function_then : Declared → UnitSort → OrganisationUnit → Option (List (Option SlotFunction))
-    → Option (List (Option SlotFunction))
-kept_function_then text (units.Function t) u rest = linked_then (kept_function text t u) rest
-kept_function_then text units.FunctionBlock u rest = rest
-kept_function_then text units.Program u rest = rest
+abbrev pub kept_function_then : (Name → Bool) → Declared → UnitSort → OrganisationUnit
+    → Option (List (Option SlotFunction)) → Option (List (Option SlotFunction))
+kept_function_then called text (units.Function t) u rest = linked_then (kept_function called text t u) rest
+kept_function_then called text units.FunctionBlock u rest = rest
+kept_function_then called text units.Program u rest = rest
 
-abbrev pub kept_functions : Declared → List OrganisationUnit → Option (List (Option SlotFunction))
-kept_functions text [] = Some []
-kept_functions text (u ∷ us) = kept_function_then text u.sort u (kept_functions text us)
+abbrev pub kept_functions : (Name → Bool) → Declared → List OrganisationUnit → Option (List (Option SlotFunction))
+kept_functions called text [] = Some []
+kept_functions called text (u ∷ us) = kept_function_then called text u.sort u (kept_functions called text us)
 
 abbrev pub kept_block : Declared → List Owned → OrganisationUnit → Option (Option SlotStmts)
 kept_block text vs u = kept_if (block_fits text u) (linked_block text vs u)
@@ -60,10 +65,10 @@ kept_blocks text vs (u ∷ us) = kept_block_then text vs u.sort u (kept_blocks t
 abbrev pub kept_library_with : List (Option SlotFunction) → List (Option SlotStmts) → KeptLibrary
 kept_library_with functions blocks = record { functions = functions; blocks = blocks }
 
-abbrev pub kept_library : Declared → List Owned → Option KeptLibrary
-kept_library text vs =
+abbrev pub kept_library : (Name → Bool) → Declared → List Owned → Option KeptLibrary
+kept_library called text vs =
     option_and_then (λ functions. option_map (kept_library_with functions) (kept_blocks text vs text.units))
-    (kept_functions text text.units)
+    (kept_functions called text text.units)
 
 -- a linked text, of which what has no room is left out
 pub record KeptText : Type 0 where
@@ -73,13 +78,15 @@ pub record KeptText : Type 0 where
 abbrev pub kept_text_with : KeptLibrary → List SlotStmts → KeptText
 kept_text_with library programs = record { library = library; programs = programs }
 
-abbrev pub kept_text : Declared → List Owned → Option Configuration → Option KeptText
-kept_text text vs c =
-    option_and_then (λ library. option_map (kept_text_with library) (linked_programs text vs c)) (kept_library text vs)
+abbrev pub kept_text : (Name → Bool) → Declared → List Owned → Option Configuration → Option KeptText
+kept_text called text vs c =
+    option_and_then (λ library. option_map (kept_text_with library) (linked_programs text vs c))
+    (kept_library called text vs)
 
 -- of a text, all of it over the literals as they are resolved
-abbrev pub kept_source : Source → Option KeptText
-kept_source source = kept_text (declared_of source) (layout_variables source) (configuration_of source)
+abbrev pub kept_source : (Name → Bool) → Source → Option KeptText
+kept_source called source =
+    kept_text called (declared_of source) (layout_variables source) (configuration_of source)
 
 -- It is the text's linked form, but for what is left out.
 pub record IsKeptLink (kept : KeptText) (linked : LinkedText) : Type 0 where

@@ -1,4 +1,5 @@
 pub mod LinkVariables
+pub mod CalledFunctions
 pub mod FirstSlots
 pub mod Tables
 pub mod Gathered

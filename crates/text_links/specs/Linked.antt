@@ -9,6 +9,7 @@ use Rattle.st_trees.specs.declared.unit.UnitSort.{UnitSort}
 use Rattle.st_trees.specs.declared.unit.UnitSort.TheVariants as units
 use Rattle.st_trees.specs.Units.{OrganisationUnit}
 use Rattle.st_types.specs.NameTypes.{Declared, unit_named}
+use Rattle.st_types.specs.Scopes.{Name}
 use Rattle.st_layouts.specs.LayoutVariables.{Owned}
 use Rattle.layout.specs.Instances.{OwnedProgram, variables_of_programs}
 use Rattle.layout.specs.Layouts.{layout_size}
@@ -32,13 +33,13 @@ abbrev pub alone : {A : Type 0} → Option A → Option (List A)
 alone o = option_map (λ x. x ∷ []) o
 
 -- the functions of a unit: itself, or none
-abbrev pub functions_by : Declared → UnitSort → OrganisationUnit → Option (List (Option SlotFunction))
-functions_by text (units.Function t) u = alone (kept_function text t u)
-functions_by text units.FunctionBlock u = Some []
-functions_by text units.Program u = Some []
+abbrev pub functions_by : (Name → Bool) → Declared → UnitSort → OrganisationUnit → Option (List (Option SlotFunction))
+functions_by called text (units.Function t) u = alone (kept_function called text t u)
+functions_by called text units.FunctionBlock u = Some []
+functions_by called text units.Program u = Some []
 
-abbrev pub functions_of : Declared → OrganisationUnit → Option (List (Option SlotFunction))
-functions_of text u = functions_by text u.sort u
+abbrev pub functions_of : (Name → Bool) → Declared → OrganisationUnit → Option (List (Option SlotFunction))
+functions_of called text u = functions_by called text u.sort u
 
 abbrev pub blocks_by : Declared → List Owned → UnitSort → OrganisationUnit → Option (List (Option SlotStmts))
 blocks_by text vs units.FunctionBlock u = alone (kept_block text vs u)

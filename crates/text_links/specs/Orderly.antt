@@ -1,10 +1,11 @@
 -- What is asked of a text in which each literal has its type, so that its tables are those of the definitions.
-use Rattle.std.specs.Prelude.{◌≡◌, ◌≤◌, List, [], true, Option, Some, None}
+use Rattle.std.specs.Prelude.{◌≡◌, ◌≤◌, List, [], Bool, true, Option, Some, None}
 use Rattle.std.specs.List.{list_all}
 use Rattle.st_words.specs.declared.limits.TheConstants.{MAX_PATHS}
 use Rattle.st_trees.specs.Configurations.{Configuration}
 use Rattle.st_trees.specs.Sources.{Source}
 use Rattle.st_types.specs.NameTypes.{declared_in}
+use Rattle.st_types.specs.Scopes.{Name}
 use Rattle.st_layouts.specs.LayoutVariables.{Owned, configurations_in, only_configuration, variables_of_configuration}
 use Rattle.layout.specs.Instances.{OwnedProgram, instances_in}
 use Rattle.layout.specs.Layouts.{layout_size}
@@ -26,9 +27,9 @@ configuration_in source = only_configuration (configurations_in source)
 abbrev pub layout_of : Source → List Owned
 layout_of source = variables_of_configuration (declared_in source) (configuration_in source)
 
--- its linked form
-abbrev pub kept_of : Source → Option KeptText
-kept_of source = kept_text (declared_in source) (layout_of source) (configuration_in source)
+-- its linked form for programs that call these functions
+abbrev pub kept_of : (Name → Bool) → Source → Option KeptText
+kept_of called source = kept_text called (declared_in source) (layout_of source) (configuration_in source)
 
 -- Types of variables are expanded whole, no two parts of one whole have one name, no two instances of programs have one
 -- owner, and the layout has room.

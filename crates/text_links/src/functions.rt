@@ -11,10 +11,12 @@ ghost use Rattle.slot_trees.specs.Tables.{Table};
 ghost use Rattle.slot_bodies.specs.LibraryViews.{slot_function_view};
 ghost use Rattle.st_link.specs.BodyTables.{ServesBody};
 ghost use Rattle.text_links.specs.FirstSlots.{slots_taken};
+ghost use Rattle.text_links.specs.CalledFunctions.{is_called};
 ghost use Rattle.text_links.specs.KeptTexts.{kept_function};
 ghost use Rattle.text_links.specs.LinkVariables.{LinkVariable, are_whole, result_of, variables_of_blocks};
 ghost use Rattle.text_links.specs.Tables.{ServesLinks};
 
+use crate::called_functions::CalledFunctions;
 use crate::declared_names::inputs_of;
 use crate::text_tables::TextTables;
 use crate::unit_tables::unit_table;
@@ -94,23 +96,27 @@ fn link_with<'a>(
     })
 }
 
-/// A function; None where its variables are more than a layout has room for.
+/// A function; None where it is not called, or its variables are more than a layout has room for.
 pub fn link_function<'a>(
     alloc: Global,
     tables: &TextTables<'a>,
+    called: &CalledFunctions<'_>,
     unit: &'a Unit,
     returned: &'a SimpleType,
 ) -> Result<Option<SlotFunction>, LinkError>
     ensures linked { IfOk result (λ function. (text : Declared) (globals : List LinkVariable)
         → ServesLinks tables.now text globals → are_whole text
         (result_of unit.now.name.name returned.now ∷ variables_of_blocks (unit_view unit.now).blocks) ≡ true
-        → kept_function text returned.now (unit_view unit.now) ≡ Some (option_map slot_function_view function)) }
+        → kept_function (is_called called.now) text returned.now (unit_view unit.now) ≡ Some (option_map slot_function_view function)) }
     ensures none { IfErr result (λ e. e ≡ LinkError.NotThere → (text : Declared) (globals : List LinkVariable)
         → ServesLinks tables.now text globals → are_whole text
         (result_of unit.now.name.name returned.now ∷ variables_of_blocks (unit_view unit.now).blocks) ≡ true
-        → kept_function text returned.now (unit_view unit.now) ≡ None) }
+        → kept_function (is_called called.now) text returned.now (unit_view unit.now) ≡ None) }
 {
     let name = &unit.name.name;
+    if !called.has(name) {
+        return Ok(None);
+    }
     match fresh_values(alloc, &tables.types, name, returned, &unit.blocks) {
         Ok(fresh) => Ok(Some(link_with(alloc, tables, unit, returned, fresh)?)),
         Err(LayoutError::TooLarge) => Ok(None),

@@ -5,6 +5,7 @@
 #![tactic(auto)]
 
 mod blocks;
+mod called_functions;
 mod declared_names;
 mod functions;
 mod libraries;
@@ -17,5 +18,6 @@ mod unit_tables;
 mod variables;
 mod whole_texts;
 
+pub use called_functions::CalledFunctions;
 pub use linked_text::LinkedText;
 pub use whole_texts::link;

@@ -7,6 +7,7 @@ ghost use Rattle.st_types.specs.NameTypes.{Declared};
 ghost use Rattle.st_layouts.specs.LayoutVariables.{Owned};
 ghost use Rattle.slot_bodies.specs.LibraryViews.{slot_function_view, slot_library_view};
 ghost use Rattle.slot_bodies.specs.StatementViews.{slot_stmts_view};
+ghost use Rattle.text_links.specs.CalledFunctions.{is_called};
 ghost use Rattle.text_links.specs.Gathered.{IsAppended, gathered};
 ghost use Rattle.text_links.specs.KeptTexts.{kept_library};
 ghost use Rattle.text_links.specs.Linked.{blocks_of, functions_of};
@@ -14,6 +15,7 @@ ghost use Rattle.text_links.specs.LinkVariables.{LinkVariable, is_whole_unit};
 ghost use Rattle.text_links.specs.Tables.{AreGlobals, ServesLinks};
 
 use crate::blocks::link_block;
+use crate::called_functions::CalledFunctions;
 use crate::functions::link_function;
 use crate::text_tables::TextTables;
 use slot_bodies::{SlotFunction, SlotLibrary, SlotStmt};
@@ -25,20 +27,21 @@ use std::alloc::Global;
 fn push_function<'a>(
     alloc: Global,
     tables: &TextTables<'a>,
+    called: &CalledFunctions<'_>,
     functions: &mut Vec<Option<SlotFunction>>,
     unit: &'a Unit,
 ) -> Result<(), LinkError>
     ensures linked { OnOk result ((text : Declared) (globals : List LinkVariable)
         → ServesLinks tables.now text globals → is_whole_unit text (unit_view unit.now) ≡ true
-        → IsAppended (functions_of text (unit_view unit.now))
+        → IsAppended (functions_of (is_called called.now) text (unit_view unit.now))
         (map (option_map slot_function_view) functions.old.items)
         (map (option_map slot_function_view) functions.new.items)) }
     ensures none { IfErr result (λ e. e ≡ LinkError.NotThere → (text : Declared) (globals : List LinkVariable)
         → ServesLinks tables.now text globals → is_whole_unit text (unit_view unit.now) ≡ true
-        → functions_of text (unit_view unit.now) ≡ None) }
+        → functions_of (is_called called.now) text (unit_view unit.now) ≡ None) }
 {
     if let UnitSort::Function(returned) = &unit.sort {
-        functions.push(link_function(alloc, tables, unit, returned)?)?;
+        functions.push(link_function(alloc, tables, called, unit, returned)?)?;
     }
     Ok(())
 }
@@ -46,21 +49,22 @@ fn push_function<'a>(
 fn link_functions<'a>(
     alloc: Global,
     tables: &TextTables<'a>,
+    called: &CalledFunctions<'_>,
     units: &[&'a Unit],
 ) -> Result<Vec<Option<SlotFunction>>, LinkError>
     ensures linked { IfOk result (λ functions. (text : Declared) (globals : List LinkVariable)
         → ServesLinks tables.now text globals
         → list_all (is_whole_unit text) (map (λ u. unit_view u.now) units.now) ≡ true
-        → gathered (functions_of text) (map (λ u. unit_view u.now) units.now)
+        → gathered (functions_of (is_called called.now) text) (map (λ u. unit_view u.now) units.now)
         ≡ Some (map (option_map slot_function_view) functions.items)) }
     ensures none { IfErr result (λ e. e ≡ LinkError.NotThere → (text : Declared) (globals : List LinkVariable)
         → ServesLinks tables.now text globals
         → list_all (is_whole_unit text) (map (λ u. unit_view u.now) units.now) ≡ true
-        → gathered (functions_of text) (map (λ u. unit_view u.now) units.now) ≡ None) }
+        → gathered (functions_of (is_called called.now) text) (map (λ u. unit_view u.now) units.now) ≡ None) }
 {
     let mut functions = Vec::new(alloc);
     for unit in units {
-        push_function(alloc, tables, &mut functions, unit)?;
+        push_function(alloc, tables, called, &mut functions, unit)?;
     }
     Ok(functions)
 }
@@ -114,18 +118,19 @@ fn link_blocks<'a>(
 pub fn link_library<'a>(
     alloc: Global,
     tables: &TextTables<'a>,
+    called: &CalledFunctions<'_>,
     units: &[&'a Unit],
 ) -> Result<SlotLibrary, LinkError>
     ensures linked { IfOk result (λ library. (text : Declared) (globals : List LinkVariable) (layout : List Owned)
         → ServesLinks tables.now text globals → AreGlobals text layout globals
         → map (λ u. unit_view u.now) units.now ≡ text.units → list_all (is_whole_unit text) text.units ≡ true
-        → kept_library text layout ≡ Some (slot_library_view library)) }
+        → kept_library (is_called called.now) text layout ≡ Some (slot_library_view library)) }
     ensures none { IfErr result (λ e. e ≡ LinkError.NotThere → (text : Declared) (globals : List LinkVariable)
         (layout : List Owned) → ServesLinks tables.now text globals → AreGlobals text layout globals
         → map (λ u. unit_view u.now) units.now ≡ text.units → list_all (is_whole_unit text) text.units ≡ true
-        → kept_library text layout ≡ None) }
+        → kept_library (is_called called.now) text layout ≡ None) }
 {
-    let functions = link_functions(alloc, tables, units)?;
+    let functions = link_functions(alloc, tables, called, units)?;
     let blocks = link_blocks(alloc, tables, units)?;
     Ok(SlotLibrary { functions, blocks })
 }

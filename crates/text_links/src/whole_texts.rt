@@ -9,10 +9,12 @@ ghost use Rattle.st_types.specs.ResolvedUnits.{resolved_source};
 ghost use Rattle.st_layouts.specs.TextLayouts.{slots_of_text};
 ghost use Rattle.layout.specs.Instances.{instance_view};
 ghost use Rattle.text_links.specs.Accepted.{IsAccepted, IsLinked};
+ghost use Rattle.text_links.specs.CalledFunctions.{is_called};
 ghost use Rattle.text_links.specs.Linked.{linked_text_view};
 ghost use Rattle.text_links.specs.LinkVariables.{variable_view};
 ghost use Rattle.text_links.specs.Orderly.{IsOrderlySource, globals_in, instances_of, kept_of};
 
+use crate::called_functions::CalledFunctions;
 use crate::libraries::link_library;
 use crate::linked_text::LinkedText;
 use crate::programs::link_programs;
@@ -53,18 +55,22 @@ fn instances_of<'a>(
 }
 
 /// A text linked, from its tree in which each literal has its type.
-fn link_source(alloc: Global, source: &Source) -> Result<LinkedText, LinkError>
+fn link_source(
+    alloc: Global,
+    source: &Source,
+    called: &CalledFunctions<'_>,
+) -> Result<LinkedText, LinkError>
     ensures linked { IfOk result (λ linked. IsOrderlySource (source_view source.now)
-        → kept_of (source_view source.now) ≡ Some (linked_text_view linked)) }
+        → kept_of (is_called called.now) (source_view source.now) ≡ Some (linked_text_view linked)) }
     ensures none { IfErr result (λ e. e ≡ LinkError.NotThere → IsOrderlySource (source_view source.now)
-        → kept_of (source_view source.now) ≡ None) }
+        → kept_of (is_called called.now) (source_view source.now) ≡ None) }
 {
     let configuration = only_configuration(source);
     let globals = globals_in(alloc, configuration)?;
     let instances = instances_of(alloc, configuration)?;
     let tables = TextTables::new(alloc, source, &globals)?;
     let units = units_in(alloc, source)?;
-    let library = link_library(alloc, &tables, &units)?;
+    let library = link_library(alloc, &tables, called, &units)?;
     let programs = link_programs(alloc, &tables, &instances)?;
     Ok(LinkedText { library, programs })
 }
@@ -72,15 +78,20 @@ fn link_source(alloc: Global, source: &Source) -> Result<LinkedText, LinkError>
 /// An accepted text linked, from its tree in which each literal has its type.
 ///
 /// What is linked are the functions and the blocks of the text in its order, and the programs of the configuration's
-/// instances in its order. A function or a block is left out, and None stands for it, exactly where its own variables
-/// are more than any layout has room for. Where the text's layout has room, the one error is that memory runs out.
-pub fn link(alloc: Global, source: &Source) -> Result<LinkedText, LinkError>
+/// instances in its order. A function is left out, and None stands for it, exactly where it is none of those that are
+/// called or its own variables are more than any layout has room for; a block exactly where its own variables are. Where
+/// the text's layout has room, the one error is that memory runs out.
+pub fn link(
+    alloc: Global,
+    source: &Source,
+    called: &CalledFunctions<'_>,
+) -> Result<LinkedText, LinkError>
     ensures ok { IfOk result (λ linked. (text : trees.Source) → source_view source.now ≡ resolved_source text
-        → IsAccepted text → length (slots_of_text text) ≤ MAX_PATHS → IsLinked text (linked_text_view linked)) }
+        → IsAccepted text → length (slots_of_text text) ≤ MAX_PATHS → IsLinked text (is_called called.now) (linked_text_view linked)) }
     ensures memory { IfErr result (λ e. (text : trees.Source) → source_view source.now ≡ resolved_source text
         → IsAccepted text → length (slots_of_text text) ≤ MAX_PATHS → e ≡ LinkError.OutOfMemory) }
 {
     leaves_of_shapes();
     texts_that_break_no_rule_are_linked();
-    link_source(alloc, source)
+    link_source(alloc, source, called)
 }

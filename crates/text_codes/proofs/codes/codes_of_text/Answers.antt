@@ -9,6 +9,7 @@ use Rattle.st_layouts.specs.TextLayouts.{slots_of_text}
 use Rattle.layout.specs.TextLayouts.{IsLayoutOf}
 use Rattle.st_compile.specs.declared.compile_error.CompileError.TheVariants.{NotLinked}
 use Rattle.text_links.specs.Accepted.{IsAccepted}
+use Rattle.text_links.specs.CalledFunctions.{is_called}
 use Rattle.text_fitting.specs.Compiled.{AreCompiled}
 use Rattle.text_fitting.specs.Spelled.{IsSpelled}
 use Rattle.slot_bodies.specs.StatementViews.{slot_stmts_view}
@@ -28,7 +29,7 @@ returns-clause-codes c =
     ok_weaker c.codes_of_programs.result _ _
     (λ codes over text is accepted layout.
     let link = c.in_ok-linked.ensures.linked text is accepted layout.room in
-    codes_mean text linked kinds (map code_view codes.items) link
+    codes_mean text (is_called c.in_ok-called.called) linked kinds (map code_view codes.items) link
     (told ∙ kinds_are slots _ layout.slots)
     (subst (λ ps. AreCodesOver link.whole.library kinds (map (λ b. slot_stmts_view b.items) ps)
     (map code_view codes.items))
@@ -69,7 +70,7 @@ returns-clause-linked c =
     (subst (λ ps. AreCompiled linked.library (length kinds) (map (λ b. slot_stmts_view b.items) ps))
     (sym c.deref-2.ensures.value)
     (subst (λ n. AreCompiled linked.library n linked.programs) (sym long)
-    (c.accepted_texts_are_compiled.ensures text linked accepted spelled layout.room link))))
+    (c.accepted_texts_are_compiled.ensures text (is_called c.in_ok-called.called) linked accepted spelled layout.room link))))
     c.codes_of_programs.ensures.there
 
 pub returns-clause-count : goal.returns-clause-count

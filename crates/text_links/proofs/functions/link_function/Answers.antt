@@ -12,9 +12,10 @@ use Rattle.slot_trees.specs.LinkedTexts.{values_of_fresh}
 use Rattle.slot_trees.specs.TextLinks.{linked_function, sites_of_call}
 use Rattle.slot_bodies.specs.LibraryViews.{slot_function_view}
 use Rattle.st_link.proofs.ErrorLemmas.{none_then}
-use Rattle.text_links.specs.KeptTexts.{function_fits}
+use Rattle.text_links.specs.CalledFunctions.{is_called}
+use Rattle.text_links.specs.KeptTexts.{function_fits, is_linked}
 use Rattle.text_links.proofs.FunctionLinks.{function_small, whole_expandable}
-use Rattle.text_links.proofs.UnitLinks.{kept_nowhere, kept_out, kept_there}
+use Rattle.text_links.proofs.UnitLinks.{kept_nowhere, kept_out, kept_there, linked_there, no_room, not_called}
 use Rattle.text_links.proofs.functions.link_function.Goals as goal
 
 pub returns-in_err-link_with-in-Ok-clause-none : goal.returns-in_err-link_with-in-Ok-clause-none
@@ -30,7 +31,8 @@ returns-in_err-link_with-in-Ok-clause-none c =
     sym (ap (λ bs. is_too_large text (map (owned_variable None)
     (result_site r u.name.name ∷ sites_of_blocks (map variable_block_view bs)))) c.deref.ensures.value)
     ∙ c.in-Ok.ensures.room text serves.types sound in
-    kept_nowhere (function_fits text r u) (linked_function text r u) (ap not few)
+    kept_nowhere (is_linked called text r u) (linked_function text r u)
+    (linked_there (called u.name.name) (function_fits text r u) there (ap not few))
     (h text globals serves whole (function_small text r u few))) (search rules)
 
 pub returns-in_ok-link_with-in-Ok-clause-linked : goal.returns-in_ok-link_with-in-Ok-clause-linked
@@ -47,8 +49,9 @@ returns-in_ok-link_with-in-Ok-clause-linked c text globals serves whole =
     let fresh = c.in-Ok.ensures.ok text serves.types sound
     ∙ ap (λ bs. values_of_fresh (fresh_values text
     (result_site r u.name.name ∷ sites_of_blocks (map variable_block_view bs)))) c.deref.ensures.value in
-    kept_there (function_fits text r u) (linked_function text r u)
-    (slot_function_view c.in_ok-link_with-in-Ok.field-0) (ap not few)
+    kept_there (is_linked called text r u) (linked_function text r u)
+    (slot_function_view c.in_ok-link_with-in-Ok.field-0)
+    (linked_there (called u.name.name) (function_fits text r u) there (ap not few))
     (c.in_ok-link_with-in-Ok.ensures.linked text globals serves whole (function_small text r u few) fresh)
 
 pub returns-in-Err-TooLarge-clause-linked : goal.returns-in-Err-TooLarge-clause-linked
@@ -65,4 +68,5 @@ returns-in-Err-TooLarge-clause-linked c text globals serves whole =
     (result_site r u.name.name ∷ sites_of_blocks (map variable_block_view bs)))) c.deref.ensures.value)
     ∙ subst (λ e. Exceeds (layout_size text vs) (instances_of text vs) e) c.in-Err-TooLarge.field-0-is
     (c.in-Err-TooLarge.ensures.err text serves.types sound) in
-    kept_out (function_fits text r u) (linked_function text r u) (ap not large)
+    kept_out (is_linked called text r u) (linked_function text r u)
+    (no_room (called u.name.name) (function_fits text r u) (ap not large))

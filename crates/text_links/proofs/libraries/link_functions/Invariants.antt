@@ -5,6 +5,7 @@ use Rattle.st_trees.specs.Units.{OrganisationUnit}
 use Rattle.st_types.specs.NameTypes.{Declared}
 use Rattle.slot_trees.specs.SlotTrees.{SlotFunction}
 use Rattle.slot_bodies.specs.LibraryViews.{slot_function_view}
+use Rattle.text_links.specs.CalledFunctions.{is_called}
 use Rattle.text_links.specs.Linked.{functions_of}
 use Rattle.text_links.specs.LinkVariables.{LinkVariable, is_whole_unit}
 use Rattle.text_links.specs.Tables.{ServesLinks}
@@ -14,5 +15,5 @@ use Rattle.text_links.proofs.libraries.link_functions.Given as goal
 abbrev pub invariant-loop-unit : goal.invariant-loop-unit
 invariant-loop-unit l = (text : Declared) (globals : List LinkVariable) → ServesLinks l.tables text globals
     → list_all (is_whole_unit text) (map (λ u. unit_view u.now) l.units) ≡ true
-    → GatheredSoFar OrganisationUnit (Option SlotFunction) (functions_of text) (map (λ u. unit_view u.now) l.units)
+    → GatheredSoFar OrganisationUnit (Option SlotFunction) (functions_of (is_called l.called) text) (map (λ u. unit_view u.now) l.units)
     (map (option_map slot_function_view) l.functions.items) (map (λ u. unit_view u.now) (drop l.unit-index l.units))

@@ -3,6 +3,7 @@ use Rattle.std.specs.Prelude.{option_map}
 use Rattle.st_trees.specs.UnitViews.{unit_view}
 use Rattle.slot_bodies.specs.LibraryViews.{slot_function_view}
 use Rattle.st_link.proofs.ErrorLemmas.{none_then}
+use Rattle.text_links.specs.CalledFunctions.{is_called}
 use Rattle.text_links.specs.Linked.{functions_of}
 use Rattle.text_links.proofs.GatheredLemmas.{appended_one}
 use Rattle.text_links.proofs.LibraryUnits.{function_given, function_missing, function_whole}
@@ -13,7 +14,7 @@ returns-in_err-link_function-clause-none c =
     let u = unit_view c.args.unit.now in
     let r = c.in-Function.returned in
     none_then _ c.in_err-link_function.field-0.0 _ _ c.in_err-link_function.ensures.none
-    (λ h text globals serves whole. function_missing text u r c.in-Function.is
+    (λ h text globals serves whole. function_missing (is_called c.args.called.now) text u r c.in-Function.is
     (h text globals serves (function_whole text u r c.in-Function.is whole))) (search rules)
 
 pub returns-in_ok-push-clause-linked : goal.returns-in_ok-push-clause-linked
@@ -21,8 +22,8 @@ returns-in_ok-push-clause-linked c text globals serves whole =
     let u = unit_view c.args.unit.now in
     let r = c.in-Function.returned in
     let f = c.in_ok-link_function.field-0 in
-    appended_one (option_map slot_function_view) (functions_of text u) c.args.functions.now.items
+    appended_one (option_map slot_function_view) (functions_of (is_called c.args.called.now) text u) c.args.functions.now.items
     c.push.new.self.items f
-    (function_given text u r (option_map slot_function_view f) c.in-Function.is
+    (function_given (is_called c.args.called.now) text u r (option_map slot_function_view f) c.in-Function.is
     (c.in_ok-link_function.ensures.linked text globals serves (function_whole text u r c.in-Function.is whole)))
     c.in_ok-push.ensures.items

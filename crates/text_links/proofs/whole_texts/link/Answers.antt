@@ -10,6 +10,7 @@ use Rattle.st_layouts.proofs.ListLemmas.{some_is}
 use Rattle.st_link.specs.declared.link_error.LinkError.{LinkError}
 use Rattle.st_link.specs.declared.link_error.LinkError.TheVariants.{NotThere, OutOfMemory}
 use Rattle.text_links.specs.Accepted.{IsAccepted, IsLinked}
+use Rattle.text_links.specs.CalledFunctions.{is_called}
 use Rattle.text_links.specs.KeptTexts.{IsKeptLink}
 use Rattle.text_links.specs.Linked.{linked_text_view}
 use Rattle.text_links.specs.Orderly.{IsOrderlySource, kept_of}
@@ -21,15 +22,15 @@ pub returns-clause-ok : goal.returns-clause-ok
 returns-clause-ok c =
     IfOk-weaker c.link_source.result _ (λ linked. (text : Source)
     → source_view c.args.source.now ≡ resolved_source text → IsAccepted text
-    → length (slots_of_text text) ≤ MAX_PATHS → IsLinked text (linked_text_view linked))
+    → length (slots_of_text text) ≤ MAX_PATHS → IsLinked text (is_called c.args.called.now) (linked_text_view linked))
     (λ linked is text seen a room.
     let law = c.texts_that_break_no_rule_are_linked.ensures text a.configuration a.well_typed a.functions a.only
     a.known in
     let orderly = accepted_orderly text a.well_typed a.configuration a.only law.link.names law.link.units
     c.leaves_of_shapes.ensures.count room in
-    let has = text_kept (declared_of text) (layout_variables text) (configuration_of text) law.linked law.link.is in
-    let made : kept_of (resolved_source text) ≡ Some (linked_text_view linked) =
-    ap kept_of (sym seen) ∙ is (subst IsOrderlySource (sym seen) orderly) in
+    let has = text_kept (is_called c.args.called.now) (declared_of text) (layout_variables text) (configuration_of text) law.linked law.link.is in
+    let made : kept_of (is_called c.args.called.now) (resolved_source text) ≡ Some (linked_text_view linked) =
+    ap (kept_of (is_called c.args.called.now)) (sym seen) ∙ is (subst IsOrderlySource (sym seen) orderly) in
     let same : has.kept ≡ linked_text_view linked = some_is (sym has.is ∙ made) in
     record {
       is = made;
@@ -53,9 +54,9 @@ returns-clause-memory c =
     a.known in
     let orderly = accepted_orderly text a.well_typed a.configuration a.only law.link.names law.link.units
     c.leaves_of_shapes.ensures.count room in
-    let has = text_kept (declared_of text) (layout_variables text) (configuration_of text) law.linked law.link.is in
-    let made : kept_of (resolved_source text) ≡ None =
-    ap kept_of (sym seen) ∙ none not_there (subst IsOrderlySource (sym seen) orderly) in
+    let has = text_kept (is_called c.args.called.now) (declared_of text) (layout_variables text) (configuration_of text) law.linked law.link.is in
+    let made : kept_of (is_called c.args.called.now) (resolved_source text) ≡ None =
+    ap (kept_of (is_called c.args.called.now)) (sym seen) ∙ none not_there (subst IsOrderlySource (sym seen) orderly) in
     let there = has.is in
     let clash : Some has.kept ≡ None = sym there ∙ made in
     cc))

@@ -9,6 +9,7 @@ use Rattle.layout.specs.Sizes.{cut}
 use Rattle.slot_trees.specs.TextLinks.{linked_programs}
 use Rattle.slot_bodies.specs.LibraryViews.{slot_library_view}
 use Rattle.st_link.proofs.ErrorLemmas.{and_none, none_then}
+use Rattle.text_links.specs.CalledFunctions.{is_called}
 use Rattle.text_links.specs.FirstSlots.{slots_taken}
 use Rattle.text_links.specs.Gathered.{gathered}
 use Rattle.text_links.specs.KeptTexts.{kept_library, kept_text_with}
@@ -68,9 +69,9 @@ returns-in_err-programs-clause-none c =
     let all : linked_programs text layout o
     ≡ gathered (programs_of text layout) (map instance_view c.deref-3.result.now) =
     programs_gathered text layout o ∙ ap (gathered (programs_of text layout)) (sym instances) in
-    ap (λ ps. option_and_then (λ library. option_map (kept_text_with library) ps) (kept_library text layout))
+    ap (λ ps. option_and_then (λ library. option_map (kept_text_with library) ps) (kept_library (is_called c.args.called.now) text layout))
     (all ∙ h text owned layout served counted orderly.units layouts)
-    ∙ and_none (kept_library text layout)) (search rules)
+    ∙ and_none (kept_library (is_called c.args.called.now) text layout)) (search rules)
 
 pub returns-clause-linked : goal.returns-clause-linked
 returns-clause-linked c orderly =
