@@ -131,33 +131,53 @@ def library(count):
     return configured(f"{units}PROGRAM p VAR n : INT; END_VAR n := f7(n); END_PROGRAM ", ["p"])
 
 
-def wide(count):
-    """Functions with as many values as a program has places for."""
+def wide(count, called):
+    """Functions with as many values as a program has places for, of which a program calls so many."""
     units = each(count, lambda k: f"FUNCTION f{k} : INT VAR a : ARRAY [0..4094] OF INT; END_VAR f{k} := a[0]; END_FUNCTION ")
-    return configured(f"{units}PROGRAM p VAR n : INT; END_VAR n := f7(); END_PROGRAM ", ["p"])
+    uses = each(called, lambda k: f"n:=f{k}();")
+    return configured(f"{units}PROGRAM p VAR n : INT; END_VAR {uses}END_PROGRAM ", ["p"])
 
 
+def shared(count, programs):
+    """Functions with as many values as a program has places for, of which each program calls another one."""
+    units = each(count, lambda k: f"FUNCTION f{k} : INT VAR a : ARRAY [0..4094] OF INT; END_VAR f{k} := a[0]; END_FUNCTION ")
+    units += each(programs, lambda k: f"PROGRAM p{k} VAR n : INT; END_VAR n := f{k}(); END_PROGRAM ")
+    return configured(units, [f"p{k}" for k in range(programs)])
+
+
+def trees(count):
+    """Functions with a structure of 2,047 parts, its halves unlike each other, that a program calls."""
+    types = "TYPE t0 : STRUCT a : INT; END_STRUCT; "
+    types += each(10, lambda k: f"t{k + 1} : STRUCT x : t{k}; y : t{k}; z : INT := {k}; END_STRUCT; ")
+    units = each(count, lambda k: f"FUNCTION f{k} : INT VAR a : t10; END_VAR f{k} := a.z; END_FUNCTION ")
+    uses = each(count, lambda k: f"n:=f{k}();")
+    return configured(f"{types}END_TYPE {units}PROGRAM p VAR n : INT; END_VAR {uses}END_PROGRAM ", ["p"])
+
+
+# what each is, the text, and the fault that is told, if any
 TEXTS = [
-    ("95,000 variables in one list", variables(95000)),
-    ("40,000 variables, used 28,000 times", used_variables(40000, 28000, 1)),
-    ("20,000 variables, used 180,000 times in sums of 62", used_variables(20000, 180000, 62)),
-    ("20,000 arrays with lists", lists(20000)),
-    ("10,000 types in a chain", types(10000)),
-    ("18,000 functions in a chain", functions(18000)),
-    ("20,000 fields, each with a value", fields(20000)),
-    ("a CASE of 150,000 labels", labels(150000)),
-    ("10,000 statements, 60 deep", nested(10000, 60)),
-    ("14,000 enumerated types, each used", enumerations(14000)),
-    ("140,000 names of one enumerated type", names_of_one_type(140000)),
-    ("a call with 30,000 named arguments", arguments(30000)),
-    ("50,000 calls of an instance", calls(50000)),
-    ("40,000 instances, each called", instances(40000)),
-    ("8,000 numbers in 60 parentheses", parentheses(8000)),
-    ("27 programs of 3,200 statements in 64 instances", programs(27, 3200)),
-    ("11,000 functions, one of them called", library(11000)),
-    ("60 functions that each call the one before twice", doubled(60)),
-    ("850 functions of 4,096 values", wide(850)),
-    ("9,500 functions of 4,096 values", wide(9500)),
+    ("95,000 variables in one list", variables(95000), "G2"),
+    ("40,000 variables, used 28,000 times", used_variables(40000, 28000, 1), "G2"),
+    ("20,000 variables, used 180,000 times in sums of 62", used_variables(20000, 180000, 62), "G2"),
+    ("20,000 arrays with lists", lists(20000), "G2"),
+    ("10,000 types in a chain", types(10000), "C6"),
+    ("18,000 functions in a chain", functions(18000), "C6"),
+    ("20,000 fields, each with a value", fields(20000), "G2"),
+    ("a CASE of 150,000 labels", labels(150000), "G2"),
+    ("10,000 statements, 60 deep", nested(10000, 60), "G2"),
+    ("14,000 enumerated types, each used", enumerations(14000), "G2"),
+    ("140,000 names of one enumerated type", names_of_one_type(140000), "C13"),
+    ("a call with 30,000 named arguments", arguments(30000), "G2"),
+    ("50,000 calls of an instance", calls(50000), "G2"),
+    ("40,000 instances, each called", instances(40000), "G2"),
+    ("8,000 numbers in 60 parentheses", parentheses(8000), "G2"),
+    ("27 programs of 3,200 statements in 64 instances", programs(27, 3200), None),
+    ("11,000 functions, one of them called", library(11000), None),
+    ("60 functions that each call the one before twice", doubled(60), "M2"),
+    ("9,500 functions of 4,096 values, one of them called", wide(9500, 1), None),
+    ("8,500 functions of 4,096 values, each called", wide(8500, 8500), "M2"),
+    ("9,000 functions of 4,096 values, and 64 programs that call one each", shared(9000, 64), None),
+    ("12,000 functions of a structure of 2,047 parts, each called", trees(12000), "M2"),
 ]
 
 
@@ -171,7 +191,7 @@ def main():
     plant = str(pathlib.Path(sys.argv[1]).resolve())
     with tempfile.TemporaryDirectory() as folder:
         source = pathlib.Path(folder) / "text.st"
-        for what, text in TEXTS:
+        for what, text, _ in TEXTS:
             if len(text) > LIMIT:
                 sys.exit(f"checks.py: {what}: {len(text)} bytes")
             source.write_text(text)
@@ -185,4 +205,5 @@ def main():
             print(f"{what}, {len(text):,} bytes: {min(times) * 1000:.0f} ms, {min(spent) * 1000:.0f} of the processor, {told}", flush=True)
 
 
-main()
+if __name__ == "__main__":
+    main()

@@ -10,7 +10,7 @@ tests/edits.py
 
 # program: the scripts over the built program, side by side, since each works in a folder of its own
 program() {
-    local told failed=0 at scripts=(program.sh language.py edges.py examples.sh replays.sh broken.py codes.py explanations.py explain.py shows.py plots.py pictures.py progress.py kill.sh two_runs.py) running=()
+    local told failed=0 at scripts=(program.sh language.py edges.py examples.sh replays.sh broken.py codes.py explanations.py explain.py shows.py plots.py pictures.py progress.py kill.sh two_runs.py hostile.py) running=()
     told=$(mktemp -d)
     for script in "${scripts[@]}"; do
         "tests/$script" "$plant" > "$told/$script" 2>&1 &
