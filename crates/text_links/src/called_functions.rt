@@ -6,7 +6,7 @@ ghost use Rattle.text_links.specs.CalledFunctions.{is_called};
 use crate::variables::{Variable, variables_of_blocks, variables_of_function};
 use layout::{ProgramInstance, Sizes, Types, instances_in, only_configuration, sum};
 use st_decl::{all_in, calls_of, units_in};
-use st_names::{Index, PlaceType, TextNames};
+use st_names::{Index, PlaceType};
 use st_trees::{SimpleType, Source, Stmt, Unit, UnitSort};
 use st_words::limits::MAX_PATHS;
 use st_words::{Identifier, Name};
@@ -56,7 +56,7 @@ fn types_of<'a>(
 
 /// The block of the text that an instance is of; none where it is of a standard block.
 fn block_of<'a>(
-    names: &TextNames<'a>,
+    names: &Types<'a>,
     types: &Index<'a, PlaceType<'a>>,
     instance: &Identifier,
 ) -> Option<&'a Unit> {
@@ -69,7 +69,7 @@ fn block_of<'a>(
 /// Adds the functions and blocks that a unit calls.
 fn add_callees<'a>(
     alloc: Global,
-    names: &TextNames<'a>,
+    names: &Types<'a>,
     reached: &mut Reached<'a>,
     unit: &'a Unit,
 ) -> Result<(), AllocError> {
@@ -88,10 +88,10 @@ fn add_callees<'a>(
 /// The units that the programs of these instances reach.
 fn reached_from<'a>(
     alloc: Global,
-    source: &'a Source,
+    names: &Types<'a>,
+    units: &[&'a Unit],
     instances: &[ProgramInstance<'a>],
 ) -> Result<Index<'a, ()>, AllocError> {
-    let names = TextNames::new(alloc, source)?;
     let mut reached = Reached {
         units: Index::new(alloc),
         waiting: Vec::new(alloc),
@@ -100,11 +100,11 @@ fn reached_from<'a>(
         reached.add(names.unit_named(instance.program))?;
     }
     // Each unit waits once at most.
-    for _ in &source.elements {
+    for _ in units {
         let Some(unit) = reached.waiting.pop() else {
             break;
         };
-        add_callees(alloc, &names, &mut reached, unit)?;
+        add_callees(alloc, names, &mut reached, unit)?;
     }
     Ok(reached.units)
 }
@@ -131,10 +131,11 @@ impl<'a> CalledFunctions<'a> {
             Some(configuration) => instances_in(alloc, &configuration.resources)?,
             None => Vec::new(alloc),
         };
-        let units = reached_from(alloc, source, &instances)?;
+        let all = units_in(alloc, source)?;
         let mut sizes = Sizes::new(alloc, Types::new(alloc, source)?);
+        let units = reached_from(alloc, sizes.types(), &all, &instances)?;
         let mut values: usize = 0;
-        for unit in &units_in(alloc, source)? {
+        for unit in &all {
             if let UnitSort::Function(returned) = &unit.sort {
                 if units.get(&unit.name.name).is_some() {
                     values = values.saturating_add(values_of(alloc, &mut sizes, unit, returned)?);
