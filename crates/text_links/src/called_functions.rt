@@ -124,6 +124,24 @@ fn values_of<'a>(
     Ok(if values > MAX_PATHS { 0 } else { values })
 }
 
+/// How many values one call of each of these functions begins with, taken together.
+fn values_of_all<'a>(
+    alloc: Global,
+    sizes: &mut Sizes<'a>,
+    units: &[&'a Unit],
+    called: &Index<'a, ()>,
+) -> Result<usize, AllocError> {
+    let mut values: usize = 0;
+    for unit in units {
+        if let UnitSort::Function(returned) = &unit.sort {
+            if called.get(&unit.name.name).is_some() {
+                values = values.saturating_add(values_of(alloc, sizes, unit, returned)?);
+            }
+        }
+    }
+    Ok(values)
+}
+
 impl<'a> CalledFunctions<'a> {
     /// The functions that the programs of a text's configuration call, from its tree in which each literal has its type.
     pub fn new(alloc: Global, source: &'a Source) -> Result<CalledFunctions<'a>, AllocError> {
@@ -134,14 +152,7 @@ impl<'a> CalledFunctions<'a> {
         let all = units_in(alloc, source)?;
         let mut sizes = Sizes::new(alloc, Types::new(alloc, source)?);
         let units = reached_from(alloc, sizes.types(), &all, &instances)?;
-        let mut values: usize = 0;
-        for unit in &all {
-            if let UnitSort::Function(returned) = &unit.sort {
-                if units.get(&unit.name.name).is_some() {
-                    values = values.saturating_add(values_of(alloc, &mut sizes, unit, returned)?);
-                }
-            }
-        }
+        let values = values_of_all(alloc, &mut sizes, &all, &units)?;
         Ok(CalledFunctions {
             units,
             values,
