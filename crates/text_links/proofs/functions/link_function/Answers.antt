@@ -24,6 +24,8 @@ returns-in_err-link_with-in-Ok-clause-none c =
     let u = unit_view c.args.unit.now in
     none_then _ c.in_err-link_with-in-Ok.field-0.0 _ _ c.in_err-link_with-in-Ok.ensures.none
     (λ h text globals serves whole.
+    let called = is_called c.args.called.now in
+    let there : called u.name.name ≡ true = sym c.has.ensures ∙ c.if-not-has.false in
     let sound = ap (λ bs. are_expandable text (map (owned_variable None)
     (result_site r u.name.name ∷ sites_of_blocks (map variable_block_view bs)))) c.deref.ensures.value
     ∙ whole_expandable text r u whole in
@@ -39,6 +41,8 @@ pub returns-in_ok-link_with-in-Ok-clause-linked : goal.returns-in_ok-link_with-i
 returns-in_ok-link_with-in-Ok-clause-linked c text globals serves whole =
     let r = c.args.returned.now in
     let u = unit_view c.args.unit.now in
+    let called = is_called c.args.called.now in
+    let there : called u.name.name ≡ true = sym c.has.ensures ∙ c.if-not-has.false in
     let sound = ap (λ bs. are_expandable text (map (owned_variable None)
     (result_site r u.name.name ∷ sites_of_blocks (map variable_block_view bs)))) c.deref.ensures.value
     ∙ whole_expandable text r u whole in
@@ -58,6 +62,7 @@ pub returns-in-Err-TooLarge-clause-linked : goal.returns-in-Err-TooLarge-clause-
 returns-in-Err-TooLarge-clause-linked c text globals serves whole =
     let r = c.args.returned.now in
     let u = unit_view c.args.unit.now in
+    let called = is_called c.args.called.now in
     let sound = ap (λ bs. are_expandable text (map (owned_variable None)
     (result_site r u.name.name ∷ sites_of_blocks (map variable_block_view bs)))) c.deref.ensures.value
     ∙ whole_expandable text r u whole in
@@ -70,3 +75,11 @@ returns-in-Err-TooLarge-clause-linked c text globals serves whole =
     (c.in-Err-TooLarge.ensures.err text serves.types sound) in
     kept_out (is_linked called text r u) (linked_function text r u)
     (no_room (called u.name.name) (function_fits text r u) (ap not large))
+
+pub returns-then-not-has-clause-linked : goal.returns-then-not-has-clause-linked
+returns-then-not-has-clause-linked c text globals serves whole =
+    let r = c.args.returned.now in
+    let u = unit_view c.args.unit.now in
+    let called = is_called c.args.called.now in
+    kept_out (is_linked called text r u) (linked_function text r u)
+    (not_called (called u.name.name) (function_fits text r u) (sym c.has.ensures ∙ c.if-not-has.true))
