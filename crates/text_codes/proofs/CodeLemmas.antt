@@ -1,11 +1,13 @@
 -- Codes of linked bodies, one after another.
-use Rattle.std.proofs.Common.{◌≡◌, ℕ, zero, suc, ◌+◌, List, [], ◌∷◌, ◌++◌, length, map, take, Option, Some, slice_get}
+use Rattle.std.proofs.Common.{◌≡◌, ℕ, zero, suc, ◌+◌, Bool, List, [], ◌∷◌, ◌++◌, length, map, take, Option, Some}
+use Rattle.std.proofs.Common.{slice_get}
 use Rattle.std.proofs.Common.{refl, ap, subst, ◌∙◌}
 use Rattle.std.specs.Prelude.{Result, Ok, Err, IfOk}
 use Rattle.std.proofs.lemmas.List.{length-map}
 use Rattle.st_words.specs.declared.kind.Kind.{Kind}
 use Rattle.st_trees.specs.Sources.{Source}
 use Rattle.st_types.specs.Runs.{Program}
+use Rattle.st_types.specs.Scopes.{Name}
 use Rattle.st_types.specs.Slots.{Slot}
 use Rattle.st_layouts.specs.Libraries.{programs_of_text}
 use Rattle.st_layouts.specs.TextLayouts.{slots_of_text}

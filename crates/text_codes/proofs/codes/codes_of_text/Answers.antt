@@ -48,7 +48,7 @@ returns-clause-codes c =
 
 pub returns-in_err-linked-clause-linked : goal.returns-in_err-linked-clause-linked
 returns-in_err-linked-clause-linked c =
-    let same : c.from_residual.result ≡ Err c.in_err-linked.field-0.0 = search rules in
+    let same : c.from_residual-in_err-linked.result ≡ Err c.in_err-linked.field-0.0 = search rules in
     subst (λ r. IfErr r (λ e. (text : Source) → source_view c.args.source.now ≡ resolved_source text
     → IsAccepted text → IsSpelled text → IsLayoutOf text c.args.layout.now.slots.items → e ≡ NotLinked → ⊥)) (sym same)
     (λ text seen accepted spelled layout. c.in_err-linked.ensures.there text seen accepted layout.room)
