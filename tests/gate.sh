@@ -7,6 +7,7 @@ cd "$(dirname "$0")/.."
 plant=crates/plant_main/out/plant_main
 
 tests/edits.py
+echo "free disk: $(df -m --output=avail . | tail -n 1 | tr -d ' ') MB; the proofs of all crates take about 25,000"
 
 # program: the scripts over the built program, side by side, since each works in a folder of its own
 program() {
