@@ -15,5 +15,7 @@ mod stack;
 mod stop;
 mod subscripts;
 
-pub use machine::run;
+pub use machine::{run, step};
+pub use memory::{mark_assigned, mark_seen};
+pub use stack::Stack;
 pub use stop::Stop;

@@ -19,10 +19,11 @@ use machine_code::{Instr, Mark};
 use st_words::{Fault, Value};
 use std::alloc::Global;
 
-/// One instruction of code of a size at a moment, where `place` is the one behind it.
+/// One instruction of code of a size at a moment, where `place` is the one behind it. It goes on, or ends with a fault or
+/// for want of memory.
 #[inline(always)]
 #[tactic(auto, using(crate::proofs::Running::weaker))]
-fn step(
+pub fn step(
     size: usize,
     now: u64,
     instr: &Instr,

@@ -1,0 +1,5 @@
+pub mod WordLemmas
+pub mod ArithmeticLemmas
+pub mod ComparisonLemmas
+pub mod BitLemmas
+pub mod OperatorLemmas
