@@ -107,7 +107,8 @@ pub fn link_function<'a>(
     ensures linked { IfOk result (λ function. (text : Declared) (globals : List LinkVariable)
         → ServesLinks tables.now text globals → are_whole text
         (result_of unit.now.name.name returned.now ∷ variables_of_blocks (unit_view unit.now).blocks) ≡ true
-        → kept_function (is_called called.now) text returned.now (unit_view unit.now) ≡ Some (option_map slot_function_view function)) }
+        → kept_function (is_called called.now) text returned.now (unit_view unit.now)
+        ≡ Some (option_map slot_function_view function)) }
     ensures none { IfErr result (λ e. e ≡ LinkError.NotThere → (text : Declared) (globals : List LinkVariable)
         → ServesLinks tables.now text globals → are_whole text
         (result_of unit.now.name.name returned.now ∷ variables_of_blocks (unit_view unit.now).blocks) ≡ true
