@@ -22,4 +22,4 @@ pub use name::Name;
 pub use operator::{BinaryOperator, UnaryOperator};
 pub use path::{Owner, Path, Step};
 pub use tree::{Tree, same_option, same_trees};
-pub use value::Value;
+pub use value::{Value, is_wide};

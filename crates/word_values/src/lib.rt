@@ -18,4 +18,4 @@ pub use comparisons::{equal, greater, greater_or_equal, less, less_or_equal, not
 pub use laws::{results_are_held, values_have_one_word};
 pub use operation::operate;
 pub use operators::{WordOperator, result_kind, word_operator};
-pub use words::{Bounds, bounds_of, is_wide, value, word};
+pub use words::{Bounds, bounds_of, value};
