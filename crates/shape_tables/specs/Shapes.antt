@@ -1,24 +1,30 @@
 -- What tables tell of declared types: how many slots a variable takes, and where its parts stand.
-use Rattle.std.specs.Prelude.{◌≡◌, ℕ, ◌+◌, ◌≤◌, List, [], ◌∷◌, Bool, true, false, Option, Some, None}
+use Rattle.std.specs.Prelude.{◌≡◌, ℕ, ◌+◌, ◌≤◌, List, [], ◌∷◌, map, Bool, true, false, Option, Some, None}
 use Rattle.std.specs.List.{list_all}
 use Rattle.st_words.specs.declared.limits.TheConstants.{MAX_PATHS}
 use Rattle.st_trees.specs.declared.data_type.VariableType.{VariableType}
 use Rattle.st_types.specs.NameTypes.{Declared, type_named, unit_named}
 use Rattle.st_types.specs.Scopes.{Name}
+use Rattle.st_types.specs.StandardBlocks.{members_of}
 use Rattle.st_statics.specs.declared.limits.TheConstants.{MAX_TYPE_DEPTH}
 use Rattle.st_names.specs.Agreeing.{Agree}
 use Rattle.st_names.specs.Found.{found, or_found}
 use Rattle.st_names.specs.PlaceTypes.{place_type_view}
+use Rattle.st_names.specs.Standard.{block_view}
 use Rattle.st_names.specs.declared.index.Index.{Index}
+use Rattle.st_names.specs.declared.standard_blocks.StandardBlock.{StandardBlock}
+use Rattle.st_names.specs.declared.standard_blocks.StandardBlock.TheVariants.{Sr, Rs, RTrig, FTrig, Ctu, Ctd, Ctud}
+use Rattle.st_names.specs.declared.standard_blocks.StandardBlock.TheVariants.{Ton, Tof, Tp}
 use Rattle.st_layouts.specs.Shapes.{Shape, plain, array, parts, Parts, no_parts, part_then, size, sizes}
-use Rattle.st_layouts.specs.Types.{shape_of_type, is_within_depth}
+use Rattle.st_layouts.specs.Types.{shape_of_type, is_within_depth, site_of_member}
 use Rattle.layout.specs.Compositions.{ServesTypes, named_type}
 use Rattle.layout.specs.Sizes.{cut}
 use Rattle.slot_trees.specs.Tables.{Part, part_at}
 use Rattle.shape_tables.specs.Members.{member_found}
-use Rattle.shape_tables.specs.NamedMembers.{NamedType}
+use Rattle.shape_tables.specs.NamedMembers.{NamedType, name_and_type}
 use Rattle.shape_tables.specs.declared.elements.Elements.{Elements}
 use Rattle.shape_tables.specs.declared.members.MemberPlace.{MemberPlace}
+use Rattle.shape_tables.specs.declared.standards.Standards.{Standards}
 use Rattle.shape_tables.specs.declared.wholes.Whole.{Whole}
 use Rattle.shape_tables.specs.declared.shape_tables.ShapeTables.{ShapeTables}
 
@@ -71,6 +77,24 @@ abbrev pub KnowsWholes : Declared → Index Whole → Type 0
 KnowsWholes text wholes = (x : Name) (w : Whole) → found wholes x ≡ Some w → (at : ℕ)
     → IsExpanded text (named_type x at) → IsWhole text (named_type x at) w
 
+-- what is kept of a standard block
+abbrev pub standard_kept : Standards → StandardBlock → Whole
+standard_kept kept Sr = kept.sr
+standard_kept kept Rs = kept.rs
+standard_kept kept RTrig = kept.r_trig
+standard_kept kept FTrig = kept.f_trig
+standard_kept kept Ctu = kept.ctu
+standard_kept kept Ctd = kept.ctd
+standard_kept kept Ctud = kept.ctud
+standard_kept kept Ton = kept.ton
+standard_kept kept Tof = kept.tof
+standard_kept kept Tp = kept.tp
+
+-- What is kept of each standard block is right in each text.
+abbrev pub AreStandards : Standards → Type 0
+AreStandards kept = (block : StandardBlock) (text : Declared)
+    → HasParts text (map name_and_type (map site_of_member (members_of (block_view block)))) (standard_kept kept block)
+
 -- All types and units of the text are kept.
 pub record IsUndeclared (text : Declared) (x : Name) : Type 0 where
   pub no_type : type_named text.types x ≡ None
@@ -80,6 +104,7 @@ pub record ServesShapes (tables : ShapeTables) (text : Declared) : Type 0 where
   pub types : ServesTypes tables.types text
   pub known : KnowsWholes text tables.wholes
   pub all : (x : Name) → found tables.wholes x ≡ None → IsUndeclared text x
+  pub standards : AreStandards tables.standards
 
 -- an elementary variable
 abbrev pub is_plain : Shape → Bool

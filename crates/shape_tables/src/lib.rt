@@ -9,6 +9,7 @@ mod elements;
 mod members;
 mod named_members;
 mod shape_tables;
+mod standards;
 mod wholes;
 
 pub use elements::Elements;

@@ -6,16 +6,17 @@ ghost use Rattle.st_trees.specs.declared.data_type.VariableType.TheVariants as t
 ghost use Rattle.st_types.specs.NameTypes.{Declared, declared_in};
 ghost use Rattle.st_names.specs.Agreeing.{Agree};
 ghost use Rattle.st_names.specs.PlaceTypes.{place_type_view};
-ghost use Rattle.st_layouts.specs.Shapes.{size};
+ghost use Rattle.st_layouts.specs.Shapes.{no_parts, of_structure, parts, size};
 ghost use Rattle.st_layouts.specs.Types.{shape_of_type};
 ghost use Rattle.layout.specs.Compositions.{named_type};
 ghost use Rattle.layout.specs.Sizes.{cut};
-ghost use Rattle.shape_tables.specs.Shapes.{AreElements, IsExpanded, IsMemberPlace, ServesShapes, has_parts};
-ghost use Rattle.shape_tables.specs.Shapes.{is_array, is_plain, member_of};
+ghost use Rattle.shape_tables.specs.Shapes.{AreElements, IsExpanded, IsMemberPlace, IsWhole, has_parts};
+ghost use Rattle.shape_tables.specs.Shapes.{ServesShapes, is_array, is_plain, member_of};
 
 use crate::elements::Elements;
 use crate::members::MemberPlace;
-use crate::wholes::{Whole, add_types, add_units, standard_whole};
+use crate::standards::Standards;
+use crate::wholes::{Whole, add_types, add_units};
 use layout::{Composition, Sizes, Types, count_of, product};
 use st_decl::{types_in, units_in};
 use st_names::{Index, PlaceType, standard_block};
@@ -29,6 +30,7 @@ use std::alloc::{AllocError, Global};
 pub struct ShapeTables<'a> {
     types: Types<'a>,
     wholes: Index<'a, Whole<'a>>,
+    standards: Standards<'a>,
 }
 
 impl<'a> ShapeTables<'a> {
@@ -43,127 +45,114 @@ impl<'a> ShapeTables<'a> {
         Ok(ShapeTables {
             types: Types::new(alloc, source)?,
             wholes,
+            standards: Standards::new(alloc)?,
         })
     }
 
-    /// How many slots a variable of a type or a block of this name takes, cut off.
-    fn size_named(&self, alloc: Global, name: &Name) -> Result<usize, AllocError>
-        ensures { IfOk result (λ n. (text : Declared) (at : ℕ) → ServesShapes self.now text
-            → IsExpanded text (named_type name.now at)
-            → n ≡ cut (size (shape_of_type text (named_type name.now at)))) }
+    /// What is kept of the type or the block of this name; nothing where there is none.
+    fn kept(&self, name: &Name) -> Option<&Whole<'a>>
+        ensures { (text : Declared) (at : ℕ) → ServesShapes self.now text → IsExpanded text (named_type name.now at)
+            → MatchOption result (shape_of_type text (named_type name.now at) ≡ parts of_structure no_parts)
+            (λ whole. IsWhole text (named_type name.now at) whole.now) }
     {
         if let Some(whole) = self.wholes.get(name) {
-            return Ok(whole.size);
+            return Some(whole);
         }
         match standard_block(name) {
-            Some(block) => Ok(standard_whole(alloc, block)?.size),
-            None => Ok(0),
+            Some(block) => Some(self.standards.whole(block)),
+            None => None,
+        }
+    }
+
+    /// How many slots a variable of a type or a block of this name takes, cut off.
+    fn size_named(&self, name: &Name) -> usize
+        ensures { (text : Declared) (at : ℕ) → ServesShapes self.now text → IsExpanded text (named_type name.now at)
+            → result ≡ cut (size (shape_of_type text (named_type name.now at))) }
+    {
+        match self.kept(name) {
+            Some(whole) => whole.size,
+            None => 0,
         }
     }
 
     /// How many slots a variable of a type takes, cut off.
-    fn size_of_simple(&self, alloc: Global, declared: &SimpleType) -> Result<usize, AllocError>
-        ensures { IfOk result (λ n. (text : Declared) → ServesShapes self.now text
-            → IsExpanded text (types.Simple declared.now)
-            → n ≡ cut (size (shape_of_type text (types.Simple declared.now)))) }
+    fn size_of_simple(&self, declared: &SimpleType) -> usize
+        ensures { (text : Declared) → ServesShapes self.now text → IsExpanded text (types.Simple declared.now)
+            → result ≡ cut (size (shape_of_type text (types.Simple declared.now))) }
     {
         match declared {
-            SimpleType::Elementary(_, _) => Ok(1),
-            SimpleType::Named(name) => self.size_named(alloc, &name.name),
+            SimpleType::Elementary(_, _) => 1,
+            SimpleType::Named(name) => self.size_named(&name.name),
         }
     }
 
     /// How many slots a variable of a type takes; 4,097 where they are more than 4,096.
-    pub fn size(&self, alloc: Global, declared: PlaceType<'a>) -> Result<usize, AllocError>
-        ensures { IfOk result (λ n. (text : Declared) → ServesShapes self.now text
-            → IsExpanded text (place_type_view declared.entry)
-            → n ≡ cut (size (shape_of_type text (place_type_view declared.entry)))) }
+    pub fn size(&self, declared: PlaceType<'a>) -> usize
+        ensures { (text : Declared) → ServesShapes self.now text → IsExpanded text (place_type_view declared.entry)
+            → result ≡ cut (size (shape_of_type text (place_type_view declared.entry))) }
     {
         match declared {
-            PlaceType::Simple(simple) => self.size_of_simple(alloc, simple),
+            PlaceType::Simple(simple) => self.size_of_simple(simple),
             PlaceType::Array(array) => {
-                let stride = self.size_of_simple(alloc, &array.element)?;
-                Ok(product(count_of(array), stride))
+                let stride = self.size_of_simple(&array.element);
+                product(count_of(array), stride)
             }
-            PlaceType::Standard(_) => Ok(1),
+            PlaceType::Standard(_) => 1,
         }
     }
 
     /// A member of what has the type or the block of this name.
-    fn member_named(
-        &self,
-        alloc: Global,
-        whole: &Name,
-        name: &Name,
-    ) -> Result<Option<MemberPlace<'a>>, AllocError>
-        ensures { IfOk result (λ place. (text : Declared) (at : ℕ) → ServesShapes self.now text
-            → IsExpanded text (named_type whole.now at) → Agree (IsMemberPlace text 0) place
-            (member_of (shape_of_type text (named_type whole.now at)) name.now)) }
+    fn member_named(&self, whole: &Name, name: &Name) -> Option<MemberPlace<'a>>
+        ensures { (text : Declared) (at : ℕ) → ServesShapes self.now text → IsExpanded text (named_type whole.now at)
+            → Agree (IsMemberPlace text 0) result
+            (member_of (shape_of_type text (named_type whole.now at)) name.now) }
     {
-        if let Some(whole) = self.wholes.get(whole) {
-            return Ok(whole.members.find(name));
-        }
-        match standard_block(whole) {
-            Some(block) => Ok(standard_whole(alloc, block)?.members.find(name)),
-            None => Ok(None),
+        match self.kept(whole) {
+            Some(whole) => whole.members.find(name),
+            None => None,
         }
     }
 
     /// A member of what has a type of one word.
-    fn member_of_simple(
-        &self,
-        alloc: Global,
-        declared: &SimpleType,
-        name: &Name,
-    ) -> Result<Option<MemberPlace<'a>>, AllocError>
-        ensures { IfOk result (λ place. (text : Declared) → ServesShapes self.now text
-            → IsExpanded text (types.Simple declared.now) → Agree (IsMemberPlace text 0) place
-            (member_of (shape_of_type text (types.Simple declared.now)) name.now)) }
+    fn member_of_simple(&self, declared: &SimpleType, name: &Name) -> Option<MemberPlace<'a>>
+        ensures { (text : Declared) → ServesShapes self.now text → IsExpanded text (types.Simple declared.now)
+            → Agree (IsMemberPlace text 0) result
+            (member_of (shape_of_type text (types.Simple declared.now)) name.now) }
     {
         match declared {
-            SimpleType::Elementary(_, _) => Ok(None),
-            SimpleType::Named(whole) => self.member_named(alloc, &whole.name, name),
+            SimpleType::Elementary(_, _) => None,
+            SimpleType::Named(whole) => self.member_named(&whole.name, name),
         }
     }
 
     /// A member of a structure or of a block's instance; none of what has no members.
-    pub fn member(
-        &self,
-        alloc: Global,
-        declared: PlaceType<'a>,
-        name: &Name,
-    ) -> Result<Option<MemberPlace<'a>>, AllocError>
-        ensures { IfOk result (λ place. (text : Declared) → ServesShapes self.now text
-            → IsExpanded text (place_type_view declared.entry) → Agree (IsMemberPlace text 0) place
-            (member_of (shape_of_type text (place_type_view declared.entry)) name.now)) }
+    pub fn member(&self, declared: PlaceType<'a>, name: &Name) -> Option<MemberPlace<'a>>
+        ensures { (text : Declared) → ServesShapes self.now text → IsExpanded text (place_type_view declared.entry)
+            → Agree (IsMemberPlace text 0) result
+            (member_of (shape_of_type text (place_type_view declared.entry)) name.now) }
     {
         match declared {
-            PlaceType::Simple(simple) => self.member_of_simple(alloc, simple, name),
-            PlaceType::Array(_) => Ok(None),
-            PlaceType::Standard(_) => Ok(None),
+            PlaceType::Simple(simple) => self.member_of_simple(simple, name),
+            PlaceType::Array(_) => None,
+            PlaceType::Standard(_) => None,
         }
     }
 
     /// The elements of an array; none of what is no array.
-    pub fn elements(
-        &self,
-        alloc: Global,
-        declared: PlaceType<'a>,
-    ) -> Result<Option<Elements<'a>>, AllocError>
-        ensures { IfOk result (λ elements. (text : Declared) → ServesShapes self.now text
-            → IsExpanded text (place_type_view declared.entry) → MatchOption elements
-            (is_array (shape_of_type text (place_type_view declared.entry)) ≡ false)
-            (AreElements text (shape_of_type text (place_type_view declared.entry)))) }
+    pub fn elements(&self, declared: PlaceType<'a>) -> Option<Elements<'a>>
+        ensures { (text : Declared) → ServesShapes self.now text → IsExpanded text (place_type_view declared.entry)
+            → MatchOption result (is_array (shape_of_type text (place_type_view declared.entry)) ≡ false)
+            (AreElements text (shape_of_type text (place_type_view declared.entry))) }
     {
         let Composition::Elements(array) = self.types.composition_of(declared) else {
-            return Ok(None);
+            return None;
         };
-        Ok(Some(Elements {
+        Some(Elements {
             lower: number_of(&array.lower),
             count: count_of(array),
-            stride: self.size_of_simple(alloc, &array.element)?,
+            stride: self.size_of_simple(&array.element),
             declared: PlaceType::Simple(&array.element),
-        }))
+        })
     }
 
     /// Whether a variable of the type is elementary.

@@ -159,9 +159,9 @@ fn link_selector<'a>(
         → LeadsOn text t whole reached.entry (selector_then (selector_view selector.now) rest) → whole ≡ None) }
 {
     match selector {
-        Selector::Member(name) => at_member(alloc, table.shapes, reached, name),
+        Selector::Member(name) => at_member(table.shapes, reached, name),
         Selector::Subscript(index) => {
-            let elements = elements_at(alloc, table.shapes, reached.declared)?;
+            let elements = elements_at(table.shapes, reached.declared)?;
             let index = link(alloc, table, index)?;
             at_element(reached, elements, index)
         }

@@ -23,7 +23,6 @@ use std::alloc::Global;
 
 /// Where an elementary member of an instance stands: so many slots behind the first one.
 fn member_offset<'a>(
-    alloc: Global,
     table: &BodyTable<'_, 'a>,
     instance: PlaceType<'a>,
     name: &Identifier,
@@ -35,7 +34,7 @@ fn member_offset<'a>(
         → ServesBody table.now text t → HasMembers text (place_type_view instance.entry) ps
         → option_and_then offset_of (part_at ps name.now.name) ≡ None) }
 {
-    let Some(member) = table.shapes.member(alloc, instance, &name.name)? else {
+    let Some(member) = table.shapes.member(instance, &name.name) else {
         return Err(LinkError::NotThere);
     };
     if !table.shapes.is_elementary(member.declared) {
@@ -63,12 +62,12 @@ fn link_argument<'a>(
 {
     match argument {
         Argument::Input(name, value) => {
-            let offset = member_offset(alloc, table, instance, name)?;
+            let offset = member_offset(table, instance, name)?;
             let value = link(alloc, table, value)?;
             Ok(SlotArgument::given(offset, value))
         }
         Argument::Output(name, target) => {
-            let offset = member_offset(alloc, table, instance, name)?;
+            let offset = member_offset(table, instance, name)?;
             let target = link_target(alloc, table, target)?;
             Ok(SlotArgument::copied(offset, target))
         }

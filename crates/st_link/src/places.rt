@@ -22,7 +22,6 @@ use slot_bodies::{Anchor, Place, SlotExpr, Subscript};
 use st_names::PlaceType;
 use st_words::Identifier;
 use st_words::limits::MAX_PATHS;
-use std::alloc::Global;
 
 /// What selectors lead to: so many slots further, 4,097 where they are more than 4,096, by these subscripts, to what is
 /// declared so.
@@ -35,7 +34,6 @@ pub struct Reached<'a> {
 
 /// A member of what was reached.
 pub fn at_member<'a>(
-    alloc: Global,
     shapes: &ShapeTables<'a>,
     reached: Reached<'a>,
     name: &Identifier,
@@ -47,7 +45,7 @@ pub fn at_member<'a>(
         (whole : Option Selected) (rest : Selectors) → ServesShapes shapes.now text
         → LeadsOn text t whole reached.entry (selector_then (member name.now) rest) → whole ≡ None) }
 {
-    let Some(place) = shapes.member(alloc, reached.declared, &name.name)? else {
+    let Some(place) = shapes.member(reached.declared, &name.name) else {
         return Err(LinkError::NotThere);
     };
     Ok(Reached {
@@ -59,7 +57,6 @@ pub fn at_member<'a>(
 
 /// The elements of what was reached, which take room.
 pub fn elements_at<'a>(
-    alloc: Global,
     shapes: &ShapeTables<'a>,
     declared: PlaceType<'a>,
 ) -> Result<Elements<'a>, LinkError>
@@ -73,7 +70,7 @@ pub fn elements_at<'a>(
         → linked_selectors t (shape_of_type text (place_type_view declared.entry))
         (selector_then (subscript index) rest) ≡ None) }
 {
-    let Some(elements) = shapes.elements(alloc, declared)? else {
+    let Some(elements) = shapes.elements(declared) else {
         return Err(LinkError::NotThere);
     };
     if elements.stride == 0 {

@@ -109,6 +109,22 @@ fn reached_from<'a>(
     Ok(reached.units)
 }
 
+/// The functions and blocks that the programs of these instances call; of a text without functions nothing is walked.
+fn called_from<'a>(
+    alloc: Global,
+    names: &Types<'a>,
+    units: &[&'a Unit],
+    instances: &[ProgramInstance<'a>],
+) -> Result<Index<'a, ()>, AllocError> {
+    if units
+        .iter()
+        .any(|unit| matches!(unit.sort, UnitSort::Function(_)))
+    {
+        return reached_from(alloc, names, units, instances);
+    }
+    Ok(Index::new(alloc))
+}
+
 /// How many values a call of a function begins with; 0 where a layout has no room for them.
 fn values_of<'a>(
     alloc: Global,
@@ -151,7 +167,7 @@ impl<'a> CalledFunctions<'a> {
         };
         let all = units_in(alloc, source)?;
         let mut sizes = Sizes::new(alloc, Types::new(alloc, source)?);
-        let units = reached_from(alloc, sizes.types(), &all, &instances)?;
+        let units = called_from(alloc, sizes.types(), &all, &instances)?;
         let values = values_of_all(alloc, &mut sizes, &all, &units)?;
         Ok(CalledFunctions {
             units,

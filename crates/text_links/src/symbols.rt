@@ -55,7 +55,6 @@ fn add_variable<'a>(
 /// Adds variables that stand one behind another from a slot on, but for names that are kept elsewhere. Answers how many
 /// slots they take; 4,097 where they are more than 4,096.
 pub fn add_variables<'a>(
-    alloc: Global,
     shapes: &ShapeTables<'a>,
     symbols: &mut Index<'a, LinkSymbol<'a>>,
     hidden: &Index<'a, bool>,
@@ -81,7 +80,7 @@ pub fn add_variables<'a>(
             declared: variable.declared,
         };
         add_variable(symbols, hidden, *variable, symbol)?;
-        offset = sum(offset, shapes.size(alloc, variable.declared)?);
+        offset = sum(offset, shapes.size(variable.declared));
     }
     Ok(offset)
 }

@@ -66,7 +66,7 @@ impl<'a> TextTables<'a> {
         let mut globals = Index::new(alloc);
         let hidden = Index::new(alloc);
         let first = Anchor::Absolute(0);
-        let global_slots = add_variables(alloc, &shapes, &mut globals, &hidden, first, variables)?;
+        let global_slots = add_variables(&shapes, &mut globals, &hidden, first, variables)?;
         Ok(TextTables {
             names: TextNames::new(alloc, source)?,
             types: Types::new(alloc, source)?,

@@ -50,14 +50,7 @@ pub fn unit_table<'t, 'a>(
     let mut symbols = Index::new(alloc);
     let hidden = hidden_names(alloc, externals)?;
     add_externals(&mut symbols, &tables.globals, externals)?;
-    let slots = add_variables(
-        alloc,
-        &tables.shapes,
-        &mut symbols,
-        &hidden,
-        base,
-        variables,
-    )?;
+    let slots = add_variables(&tables.shapes, &mut symbols, &hidden, base, variables)?;
     let codes = tables.codes_of(alloc, instances)?;
     Ok(UnitTable {
         table: BodyTable {

@@ -11,6 +11,6 @@ returns-then-member-gt-MAX_PATHS-clause-none c same text t ps serves has =
     let x = c.args.name.now.name in
     let whole = place_type_view c.args.instance in
     let there = subst (λ o. Agree (IsMemberPlace text 0) o (member_of (shape_of_type text whole) x)) c.in-Some.is
-    (c.in_ok-member.ensures text serves.shapes has.expanded) in
+    (c.member.ensures text serves.shapes has.expanded) in
     far_member text whole ps x c.in-Some.member has
     (member_agrees text whole ps x (Some c.in-Some.member) has there) c.if-member-gt-MAX_PATHS.true

@@ -11,7 +11,7 @@ returns-clause-leads c text t whole rest serves leads =
     let r = c.args.reached in
     let there = subst (λ o. Agree (IsMemberPlace text 0) o
     (member_of (shape_of_type text (place_type_view r.declared)) c.args.name.now.name)) c.in-Some.is
-    (c.in_ok-place.ensures text serves leads.expanded) in
+    (c.member.ensures text serves leads.expanded) in
     leads_to_member text t whole r (record {
       offset = c.sum.result;
       subscripts = r.subscripts;

@@ -31,9 +31,9 @@ loop-variable-preserved c =
     record {
       small = omega (arith, c.sum-offset.ensures);
       slots = λ text serves whole.
-          slots_more text xs i v c.loop-variable.offset c.in_ok-size.field-0 c.sum-offset.result more
+          slots_more text xs i v c.loop-variable.offset c.size.result c.sum-offset.result more
           (inv.slots text serves whole)
-          (c.in_ok-size.ensures text serves (whole_one text xs i v below more whole)) c.sum-offset.ensures;
+          (c.size.ensures text serves (whole_one text xs i v below more whole)) c.sum-offset.ensures;
       added = λ text x o serves whole room a.
           symbols_more text c.args.hidden.now (anchor_view c.args.base) x o xs i c.loop-variable.offset v s
           (found c.loop-variable.symbols x) (found c.add_variable.new.symbols x) more (c.in_ok-add_variable.ensures x)

@@ -27,6 +27,6 @@ returns c text serves expanded =
     record {
       shape = elements_shape text t a made expanded
           ∙ ap₂ (λ l n. array l n (shape_of_type text (element_of a))) (sym lower) (sym c.count_of.ensures);
-      stride = c.in_ok-size_of_simple.ensures text serves deep;
+      stride = c.size_of_simple.ensures text serves deep;
       expanded = deep;
     }

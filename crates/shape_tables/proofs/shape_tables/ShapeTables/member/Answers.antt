@@ -1,23 +1,16 @@
-use Rattle.std.proofs.Common.{◌≡◌, refl, ap, sym, subst}
-use Rattle.std.proofs.lemmas.Result.{IfOk-weaker}
-use Rattle.st_types.specs.NameTypes.{Declared}
+use Rattle.std.proofs.Common.{refl, ap, sym, subst}
 use Rattle.st_names.specs.Agreeing.{Agree}
 use Rattle.st_names.specs.PlaceTypes.{place_type_view}
 use Rattle.st_layouts.specs.Types.{composition_of, of_elements, of_kind, shape_of_type}
-use Rattle.shape_tables.specs.Shapes.{IsExpanded, IsMemberPlace, ServesShapes, member_of}
+use Rattle.shape_tables.specs.Shapes.{IsExpanded, IsMemberPlace, member_of}
 use Rattle.shape_tables.proofs.WholeLemmas.{no_members}
 use Rattle.shape_tables.proofs.shape_tables.ShapeTables.member.Goals as goal
 
 pub returns-in-Simple : goal.returns-in-Simple
-returns-in-Simple c =
-    IfOk-weaker c.member_of_simple.result _ (λ place. (text : Declared) → ServesShapes c.args.self.now text
-    → IsExpanded text (place_type_view c.args.declared) → Agree (IsMemberPlace text 0) place
-    (member_of (shape_of_type text (place_type_view c.args.declared)) c.args.name.now))
-    (λ place is text serves expanded.
-    subst (λ d. IsExpanded text (place_type_view d) → Agree (IsMemberPlace text 0) place
+returns-in-Simple c text serves expanded =
+    subst (λ d. IsExpanded text (place_type_view d) → Agree (IsMemberPlace text 0) c.member_of_simple.result
     (member_of (shape_of_type text (place_type_view d)) c.args.name.now)) (sym c.in-Simple.is)
-    (is text serves) expanded)
-    c.member_of_simple.ensures
+    (c.member_of_simple.ensures text serves) expanded
 
 pub returns-in-Array : goal.returns-in-Array
 returns-in-Array c text serves expanded =

@@ -27,4 +27,5 @@ returns c =
             no_unit = ap (λ us. unit_named us x) (sym (ap (map (λ u. unit_view u.now)) c.deref-2.ensures.value
                 ∙ c.in_ok-units_in.ensures)) ∙ units.1;
           };
+      standards = c.in_ok-new-3.ensures;
     }

@@ -1,11 +1,9 @@
 use Rattle.std.proofs.Common.{◌≡◌, ap, sym, subst}
-use Rattle.std.proofs.lemmas.Result.{IfOk-weaker}
 use Rattle.st_trees.specs.declared.data_type.VariableType.TheVariants.{Simple}
-use Rattle.st_types.specs.NameTypes.{Declared}
 use Rattle.st_layouts.specs.Shapes.{size}
 use Rattle.st_layouts.specs.Types.{composition_of, shape_of_type}
 use Rattle.layout.specs.Sizes.{cut}
-use Rattle.shape_tables.specs.Shapes.{IsExpanded, ServesShapes}
+use Rattle.shape_tables.specs.Shapes.{IsExpanded}
 use Rattle.shape_tables.proofs.WholeLemmas.{kind_size}
 use Rattle.shape_tables.proofs.shape_tables.ShapeTables.size_of_simple.Goals as goal
 
@@ -15,10 +13,6 @@ returns-in-Elementary c text serves expanded =
     (ap (λ d. composition_of text (Simple d)) c.in-Elementary.is) expanded
 
 pub returns-in-Named : goal.returns-in-Named
-returns-in-Named c =
-    IfOk-weaker c.size_named.result _ (λ n. (text : Declared) → ServesShapes c.args.self.now text
-    → IsExpanded text (Simple c.args.declared.now) → n ≡ cut (size (shape_of_type text (Simple c.args.declared.now))))
-    (λ n is text serves expanded.
-    subst (λ d. IsExpanded text (Simple d) → n ≡ cut (size (shape_of_type text (Simple d)))) (sym c.in-Named.is)
-    (is text c.in-Named.name.place serves) expanded)
-    c.size_named.ensures
+returns-in-Named c text serves expanded =
+    subst (λ d. IsExpanded text (Simple d) → c.size_named.result ≡ cut (size (shape_of_type text (Simple d))))
+    (sym c.in-Named.is) (c.size_named.ensures text c.in-Named.name.place serves) expanded
