@@ -1,8 +1,8 @@
-pub mod Results
-pub mod Operating
-pub mod Dropping
-pub mod Tops
 pub mod Computing
+mod Looking
 pub mod Marks
-pub mod Stepping
+pub mod Operating
+pub mod Results
 pub mod Running
+pub mod Stepping
+pub mod Tops

@@ -1,6 +1,6 @@
 //! Instructions that go elsewhere, and ticks.
 
-ghost use Rattle.std.specs.Prelude.{◌≡◌, ◌≤◌, ℕ, List, Some};
+ghost use Rattle.std.specs.Prelude.{◌≡◌, ◌≤◌, ◌∷◌, ℕ, List, Some};
 ghost use Rattle.st_words.specs.Values.{Datum};
 ghost use Rattle.machine_code.specs.Machine.{is_within};
 ghost use Rattle.machine_code.specs.Tracking.{Tracked};
@@ -10,7 +10,7 @@ ghost use Rattle.slot_machine.specs.Steps.{Steps, IsDown, IsTick};
 use crate::stack::Stack;
 use crate::stop::Stop;
 use st_words::{Fault, Value};
-use std_blocks::truth;
+use std_blocks::{is_at_most, is_same_number, truth};
 
 /// A jump to a place that is at most the one behind the instruction.
 #[inline(always)]
@@ -101,6 +101,19 @@ pub fn when(to: u16, place: &mut usize, stack: &mut Stack) -> Result<(), Stop>
     }
 }
 
+/// Goes down where a value is the number that is wanted.
+#[inline(always)]
+fn down_if_same(wanted: Value, value: Value, to: u16, place: &mut usize) -> Result<(), Stop>
+    ensures steps { (now size b : ℕ) (rest : List Datum) (m : Tracked) → Steps result now size (Some (instrs.Equals to))
+        place.old (wanted ∷ value ∷ rest) m b place.new (value ∷ rest) m b }
+    ensures within { place.new ≤ place.old }
+{
+    if is_same_number(value, wanted) {
+        return go_down(place, to);
+    }
+    Ok(())
+}
+
 #[inline(always)]
 pub fn equals(to: u16, place: &mut usize, stack: &mut Stack) -> Result<(), Stop>
     ensures steps { (now size b : ℕ) (m : Tracked)
@@ -108,20 +121,34 @@ pub fn equals(to: u16, place: &mut usize, stack: &mut Stack) -> Result<(), Stop>
     ensures within { place.new ≤ place.old }
 {
     let wanted = stack.pop()?;
-    let value = stack.pop()?;
-    stack.push(value)?;
-    if value.number() == wanted.number() {
-        return go_down(place, to);
-    }
-    Ok(())
+    let value = stack.top()?;
+    down_if_same(wanted, value, to, place)
 }
 
 #[inline(always)]
 fn is_within(least: Value, greatest: Value, value: Value) -> bool
     ensures { result ≡ is_within least.number greatest.number value.number }
 {
-    let number = value.number();
-    least.number() <= number && number <= greatest.number()
+    is_at_most(least, value) && is_at_most(value, greatest)
+}
+
+/// Goes down where a value is within bounds.
+#[inline(always)]
+fn down_if_within(
+    greatest: Value,
+    least: Value,
+    value: Value,
+    to: u16,
+    place: &mut usize,
+) -> Result<(), Stop>
+    ensures steps { (now size b : ℕ) (rest : List Datum) (m : Tracked) → Steps result now size (Some (instrs.Within to))
+        place.old (greatest ∷ least ∷ value ∷ rest) m b place.new (value ∷ rest) m b }
+    ensures within { place.new ≤ place.old }
+{
+    if is_within(least, greatest, value) {
+        return go_down(place, to);
+    }
+    Ok(())
 }
 
 #[inline(always)]
@@ -132,10 +159,6 @@ pub fn within(to: u16, place: &mut usize, stack: &mut Stack) -> Result<(), Stop>
 {
     let greatest = stack.pop()?;
     let least = stack.pop()?;
-    let value = stack.pop()?;
-    stack.push(value)?;
-    if is_within(least, greatest, value) {
-        return go_down(place, to);
-    }
-    Ok(())
+    let value = stack.top()?;
+    down_if_within(greatest, least, value, to, place)
 }

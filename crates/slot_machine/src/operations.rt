@@ -1,6 +1,6 @@
 //! Instructions that compute with the values on the stack.
 
-ghost use Rattle.std.specs.Prelude.{◌≡◌, drop, ℕ, List, Some};
+ghost use Rattle.std.specs.Prelude.{◌≡◌, ℕ, List, Some};
 ghost use Rattle.st_words.specs.Values.{Datum};
 ghost use Rattle.machine_code.specs.Tracking.{Tracked};
 ghost use Rattle.machine_code.specs.declared.instr.Instr.TheVariants as instrs;
@@ -49,21 +49,12 @@ pub fn binary(op: BinaryOperator, stack: &mut Stack) -> Result<(), Stop>
     }
 }
 
-/// Takes so many values away, or all.
-fn drop_values(n: u16, stack: &mut Stack)
-    ensures { stack.new ≡ drop n stack.old }
-{
-    for i in 0..n {
-        let _ = stack.take();
-    }
-}
-
 #[inline(always)]
 pub fn leave(n: u16, stack: &mut Stack) -> Result<(), Stop>
     ensures { (now size p b : ℕ) (m : Tracked)
         → Steps result now size (Some (instrs.Leave n)) p stack.old m b p stack.new m b }
 {
-    drop_values(n, stack);
+    stack.leave(n);
     Ok(())
 }
 
@@ -84,7 +75,7 @@ pub fn compute(function: Standard, n: u16, stack: &mut Stack) -> Result<(), Stop
 {
     match operated(function, n, stack) {
         Ok(value) => {
-            drop_values(n, stack);
+            stack.leave(n);
             stack.push(value)
         }
         Err(fault) => Err(Stop::Fault(fault)),

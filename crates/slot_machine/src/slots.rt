@@ -12,6 +12,7 @@ use crate::stack::Stack;
 use crate::stop::Stop;
 use machine_code::Mark;
 use st_words::{Fault, Value};
+use std_blocks::bits;
 
 #[inline(always)]
 pub fn load(k: u16, stack: &mut Stack, values: &[Value], marks: &mut [Mark]) -> Result<(), Stop>
@@ -69,8 +70,7 @@ pub fn set(k: u16, stack: &mut Stack, values: &mut [Value], marks: &mut [Mark]) 
 pub fn slot_of(value: Value) -> usize
     ensures { result ≡ natural value.number }
 {
-    let number = value.number();
-    if number < 0 { 0 } else { number as usize }
+    bits(value) as usize
 }
 
 #[inline(always)]

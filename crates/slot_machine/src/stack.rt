@@ -2,7 +2,7 @@
 
 ghost use Rattle.std.specs.Prelude.{◌≡◌, ◌<◌, ◌≤◌, [], ◌∷◌, ◌++◌, drop, take, length, reverse, MatchOption, OnOk};
 ghost use Rattle.std.specs.Prelude.{IfSome, IfNone};
-ghost use Rattle.slot_machine.specs.Steps.{IsPopped, IsPushed};
+ghost use Rattle.slot_machine.specs.Steps.{AreTops, IsPopped, IsPushed, IsTop};
 
 use crate::stop::Stop;
 use st_words::{Fault, Value};
@@ -62,6 +62,30 @@ impl Stack {
         }
     }
 
+    /// The topmost value, which stays; F4 where there is none.
+    #[inline(always)]
+    #[tactic(auto, using(crate::proofs::Looking::top_is))]
+    pub fn top(&self) -> Result<Value, Stop>
+        ensures { IsTop result self.now }
+    {
+        match self.tops(1) {
+            Some([value]) => Ok(*value),
+            _ => Err(Stop::Fault(Fault::Conversion)),
+        }
+    }
+
+    /// The two topmost values, which stay, the topmost of them first; F4 where there are fewer.
+    #[inline(always)]
+    #[tactic(auto, using(crate::proofs::Looking::tops_are))]
+    pub fn two_tops(&self) -> Result<(Value, Value), Stop>
+        ensures { AreTops result self.now }
+    {
+        match self.tops(2) {
+            Some([below, value]) => Ok((*value, *below)),
+            _ => Err(Stop::Fault(Fault::Conversion)),
+        }
+    }
+
     /// Puts a value on top.
     #[inline(always)]
     pub fn push(&mut self, value: Value) -> Result<(), Stop>
@@ -74,6 +98,7 @@ impl Stack {
     }
 
     /// The topmost values, the lowest of them first, where there are so many.
+    #[inline(always)]
     pub fn tops(&self, n: u16) -> Option<&[Value]>
         ensures some { IfSome result (λ xs. xs.now ≡ reverse (take n self.now)) }
         ensures enough { IfSome result (λ xs. n ≤ length self.now) }
@@ -84,6 +109,16 @@ impl Stack {
         }
         let start = self.values.len() - n as usize;
         Some(&self.values[start..])
+    }
+
+    /// Takes so many values away, or all.
+    #[inline(always)]
+    #[tactic(auto, using(crate::proofs::Tops::fewer))]
+    pub fn leave(&mut self, n: u16)
+        ensures { self.new ≡ drop n self.old }
+    {
+        let kept = self.values.len().saturating_sub(n as usize);
+        self.values.truncate(kept);
     }
 
     /// Turns the topmost values round, where there are so many.

@@ -3,3 +3,4 @@ pub mod MemberLemmas
 pub mod NumberLemmas
 pub mod Remainders
 pub mod ShiftLemmas
+pub mod SteppedLemmas

@@ -11,7 +11,8 @@ use Rattle.st_words.specs.declared.fault.Fault.TheVariants.{Range}
 use Rattle.st_words.specs.Values.{Datum, IsHeld, in_range}
 use Rattle.st_types.specs.Failures.{ill_typed}
 use Rattle.slot_trees.specs.SlotExecution.{stored_at, stored_over}
-use Rattle.std_blocks.specs.Members.{values_from}
+use Rattle.st_types.specs.Ticks.{proceed}
+use Rattle.std_blocks.specs.Members.{all_stored, values_from}
 
 front_is : (vs : List Datum) (k n : ℕ) (v : Datum) → slice_get vs k ≡ Some v → take (suc n) (drop k vs) ≡ v
     ∷ take n (drop (suc k) vs)
@@ -69,6 +70,14 @@ not_stored vs k old v there same =
     by_test : (a : Bool) → a ≡ false
         → (if a && holds v.kind v.number then Ok (slice_set vs k v) else Err ill_typed) ≡ Err ill_typed
     by_test a p = rw p refl
+
+-- what is behind a value that is stored
+pub stored_on : (vs us : List Datum) (k : ℕ) (x : Datum) (xs : List Datum) → stored_at vs k x ≡ Ok us
+    → all_stored vs k (x ∷ xs) ≡ all_stored us (k + 1) xs
+unfolding all_stored
+stored_on vs us k x xs e =
+    let next : suc k ≡ k + 1 = omega arith in
+    ap (λ r. proceed r (λ us. all_stored us (suc k) xs)) e ∙ ap (λ j. all_stored us j xs) next
 
 -- a list by its elements
 pub six : (xs : List Datum) (a b c d e f : Datum) → length xs ≡ 6 → a ≡ get_or xs 0 a → b ≡ get_or xs 1 b

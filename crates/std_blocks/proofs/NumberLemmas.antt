@@ -1,7 +1,7 @@
 -- Numbers that the code can hold.
-use Rattle.std.proofs.Common.{◌≡◌, ◌≢◌, Bool, true, false, if◌then◌else◌, arith, refl, Err, ◌&&◌, ◌^◌, suc, Result}
+use Rattle.std.proofs.Common.{◌≡◌, ◌≢◌, Bool, true, false, if◌then◌else◌, arith, refl, Err, ◌&&◌, ◌^◌, suc, Result, ap, ◌∙◌}
 use mir.Syntax.{w128}
-use Rattle.std.specs.Prelude.{ℤ, pos, negsuc, neg_ℤ, ◌≤ℤ◌, int_div, int_le, ◌-◌, Ok}
+use Rattle.std.specs.Prelude.{ℤ, pos, negsuc, neg_ℤ, ◌≤ℤ◌, int_div, int_le, int_lt, unsigned_abs, ◌-◌, Ok}
 use Rattle.std.specs.Int.RustNames.{FitsSigned}
 use Rattle.std.proofs.Math.Nat.{div-le_self}
 use Rattle.std.proofs.lemmas.Int.{ints}
@@ -53,3 +53,12 @@ converted k z v = by_test (holds k z)
     by_test : (t : Bool) → or_range t k z ≡ Ok v → or_conversion t k z ≡ Ok v
     by_test true e = e
     by_test false e = cc
+
+-- a value without a sign is what it is without its sign
+pub itself : (v : Datum) → holds v.kind v.number ≡ true → int_lt v.number (pos 0) ≡ false
+    → in_range v.kind (pos (unsigned_abs v.number)) ≡ Ok v
+itself v h n = ap (in_range v.kind) (unsigned v.number n) ∙ ap (λ t. or_range t v.kind v.number) h
+  where
+    unsigned : (z : ℤ) → int_lt z (pos 0) ≡ false → pos (unsigned_abs z) ≡ z
+    unsigned (pos n) e = refl
+    unsigned (negsuc n) e = absurd cc

@@ -7,6 +7,7 @@ ghost use Rattle.st_types.specs.Operators.{natural};
 ghost use Rattle.st_types.specs.StandardFunctions.{lesser, greater, conversion, standard_value};
 ghost use Rattle.st_names.specs.Standard.{standard_view};
 
+use crate::numbers::{is_at_most, is_negative};
 use crate::shifts::{rotate_left, rotate_right, shift_left, shift_right};
 use st_names::Standard;
 use st_words::{Fault, Kind, Value};
@@ -21,13 +22,26 @@ fn size(x: Value) -> i128
 fn lesser(a: Value, b: Value) -> Value
     ensures { result ≡ lesser a b }
 {
-    if a.number() <= b.number() { a } else { b }
+    if is_at_most(a, b) { a } else { b }
 }
 
 fn greater(a: Value, b: Value) -> Value
     ensures { result ≡ greater a b }
 {
-    if b.number() <= a.number() { a } else { b }
+    if is_at_most(b, a) { a } else { b }
+}
+
+/// The value without its sign; F1 where that leaves its type.
+#[tactic(auto, using(crate::proofs::NumberLemmas::itself))]
+fn absolute(x: Value) -> Result<Value, Fault>
+    ensures { result ≡ in_range x.kind (pos (unsigned_abs x.number)) }
+{
+    if !is_negative(x) {
+        // so that its type is known to hold it
+        let _word = x.word();
+        return Ok(x);
+    }
+    Value::new(x.kind(), size(x))
 }
 
 /// The same number as a value of another type; F4 where that does not hold it.
@@ -45,7 +59,7 @@ fn of_one(function: Standard, x: Value) -> Result<Value, Fault>
     ensures { result ≡ run_result (standard_value (standard_view function) (x ∷ [])) }
 {
     match function {
-        Standard::Abs => Value::new(x.kind(), size(x)),
+        Standard::Abs => absolute(x),
         Standard::Convert(from, to) => {
             if !x.kind().is(from) {
                 return Err(Fault::Conversion);

@@ -10,6 +10,7 @@ mod counters;
 mod edges;
 mod functions;
 mod members;
+mod numbers;
 mod operators;
 mod shifts;
 mod timer;
@@ -17,4 +18,5 @@ mod timers;
 
 pub use blocks::step;
 pub use functions::standard_value;
+pub use numbers::{bits, is_at_most, is_negative, is_same_number, stepped_on};
 pub use operators::{apply, apply_unary, truth};

@@ -24,6 +24,7 @@ type Ten = (
 );
 
 /// The values of so many slots from one on; F4 where they aren't there.
+#[inline(always)]
 #[tactic(auto, using(crate::proofs::MemberLemmas::values_there, crate::proofs::MemberLemmas::values_beyond))]
 fn members(slots: &[Value], at: usize, count: usize) -> Result<&[Value], Fault>
     requires { 0 < count }
@@ -40,6 +41,7 @@ fn members(slots: &[Value], at: usize, count: usize) -> Result<&[Value], Fault>
 }
 
 /// The three values from a slot on; F4 where they aren't there.
+#[inline(always)]
 pub fn three_members(slots: &[Value], at: usize) -> Result<(Value, Value, Value), Fault>
     ensures there { IfOk result (λ r. values_from slots.now at 3 ≡ Some (r.0 ∷ r.1 ∷ r.2 ∷ [])) }
     ensures within { IfOk result (λ r. at + 3 ≤ length slots.now) }
@@ -51,6 +53,7 @@ pub fn three_members(slots: &[Value], at: usize) -> Result<(Value, Value, Value)
 }
 
 /// The six values from a slot on; F4 where they aren't there.
+#[inline(always)]
 pub fn six_members(slots: &[Value], at: usize) -> Result<Six, Fault>
     ensures there { IfOk result (λ r. values_from slots.now at 6
         ≡ Some (r.0 ∷ r.1 ∷ r.2 ∷ r.3 ∷ r.4 ∷ r.5 ∷ [])) }
@@ -63,6 +66,7 @@ pub fn six_members(slots: &[Value], at: usize) -> Result<Six, Fault>
 }
 
 /// The ten values from a slot on; F4 where they aren't there.
+#[inline(always)]
 pub fn ten_members(slots: &[Value], at: usize) -> Result<Ten, Fault>
     ensures there { IfOk result (λ r. values_from slots.now at 10
         ≡ Some (r.0 ∷ r.1 ∷ r.2 ∷ r.3 ∷ r.4 ∷ r.5 ∷ r.6 ∷ r.7 ∷ r.8 ∷ r.9 ∷ [])) }
@@ -87,6 +91,7 @@ pub fn held_value(kind: Kind, number: i128) -> Result<Value, Fault>
 }
 
 /// Assigns a value to a slot; F4 where that is of another type.
+#[inline(always)]
 #[tactic(auto, using(crate::proofs::MemberLemmas::stored_where, crate::proofs::MemberLemmas::not_stored))]
 fn put(slots: &mut [Value], at: usize, value: Value) -> Result<(), Fault>
     requires { at < length slots.old }
@@ -99,9 +104,99 @@ fn put(slots: &mut [Value], at: usize, value: Value) -> Result<(), Fault>
     Ok(())
 }
 
-/// Assigns the values to the slots from one on; F4 where one is of another type.
+/// Assigns a value to a slot; F4 where that is of another type.
+#[inline(always)]
 #[tactic(auto, unfolding(crate::specs::Members::all_stored))]
-pub fn put_all(slots: &mut [Value], at: usize, values: &[Value]) -> Result<(), Fault>
+fn put_one(slots: &mut [Value], at: usize, a: Value) -> Result<(), Fault>
+    requires { at + 1 ≤ length slots.old }
+    ensures { Leaves result (all_stored slots.old at (a ∷ [])) slots.new }
+{
+    put(slots, at, a)?;
+    Ok(())
+}
+
+/// Assigns two values to the slots from one on; F4 where one is of another type.
+#[inline(always)]
+#[tactic(auto, unfolding(crate::specs::Members::all_stored))]
+fn put_two(slots: &mut [Value], at: usize, a: Value, b: Value) -> Result<(), Fault>
+    requires { at + 2 ≤ length slots.old }
+    ensures { Leaves result (all_stored slots.old at (a ∷ b ∷ [])) slots.new }
+{
+    put(slots, at, a)?;
+    put_one(slots, at + 1, b)
+}
+
+/// Assigns three values to the slots from one on; F4 where one is of another type.
+#[inline(always)]
+#[tactic(auto, unfolding(crate::specs::Members::all_stored))]
+fn put_three(slots: &mut [Value], at: usize, a: Value, b: Value, c: Value) -> Result<(), Fault>
+    requires { at + 3 ≤ length slots.old }
+    ensures { Leaves result (all_stored slots.old at (a ∷ b ∷ c ∷ [])) slots.new }
+{
+    put(slots, at, a)?;
+    put_two(slots, at + 1, b, c)
+}
+
+/// Assigns four values to the slots from one on; F4 where one is of another type.
+#[inline(always)]
+#[tactic(auto, unfolding(crate::specs::Members::all_stored))]
+fn put_four(
+    slots: &mut [Value],
+    at: usize,
+    a: Value,
+    b: Value,
+    c: Value,
+    d: Value,
+) -> Result<(), Fault>
+    requires { at + 4 ≤ length slots.old }
+    ensures { Leaves result (all_stored slots.old at (a ∷ b ∷ c ∷ d ∷ [])) slots.new }
+{
+    put(slots, at, a)?;
+    put_three(slots, at + 1, b, c, d)
+}
+
+/// Assigns five values to the slots from one on; F4 where one is of another type.
+#[inline(always)]
+#[tactic(auto, unfolding(crate::specs::Members::all_stored))]
+fn put_five(
+    slots: &mut [Value],
+    at: usize,
+    a: Value,
+    b: Value,
+    c: Value,
+    d: Value,
+    e: Value,
+) -> Result<(), Fault>
+    requires { at + 5 ≤ length slots.old }
+    ensures { Leaves result (all_stored slots.old at (a ∷ b ∷ c ∷ d ∷ e ∷ [])) slots.new }
+{
+    put(slots, at, a)?;
+    put_four(slots, at + 1, b, c, d, e)
+}
+
+/// Assigns six values to the slots from one on; F4 where one is of another type.
+#[inline(always)]
+#[tactic(auto, unfolding(crate::specs::Members::all_stored))]
+fn put_six(
+    slots: &mut [Value],
+    at: usize,
+    a: Value,
+    b: Value,
+    c: Value,
+    d: Value,
+    e: Value,
+    f: Value,
+) -> Result<(), Fault>
+    requires { at + 6 ≤ length slots.old }
+    ensures { Leaves result (all_stored slots.old at (a ∷ b ∷ c ∷ d ∷ e ∷ f ∷ [])) slots.new }
+{
+    put(slots, at, a)?;
+    put_five(slots, at + 1, b, c, d, e, f)
+}
+
+/// Assigns the values to the slots from one on, one after another; F4 where one is of another type.
+#[tactic(auto, unfolding(crate::specs::Members::all_stored))]
+fn put_each(slots: &mut [Value], at: usize, values: &[Value]) -> Result<(), Fault>
     requires { at + length values.now ≤ length slots.old }
     ensures { Leaves result (all_stored slots.old at values.now) slots.new }
 {
@@ -109,5 +204,18 @@ pub fn put_all(slots: &mut [Value], at: usize, values: &[Value]) -> Result<(), F
         return Ok(());
     };
     put(slots, at, *first)?;
-    put_all(slots, at + 1, rest)
+    put_each(slots, at + 1, rest)
+}
+
+/// Assigns the values to the slots from one on; F4 where one is of another type.
+#[inline(always)]
+pub fn put_all(slots: &mut [Value], at: usize, values: &[Value]) -> Result<(), Fault>
+    requires { at + length values.now ≤ length slots.old }
+    ensures { Leaves result (all_stored slots.old at values.now) slots.new }
+{
+    match values {
+        [a, b, c] => put_three(slots, at, *a, *b, *c),
+        [a, b, c, d, e, f] => put_six(slots, at, *a, *b, *c, *d, *e, *f),
+        _ => put_each(slots, at, values),
+    }
 }

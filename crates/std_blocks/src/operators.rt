@@ -7,6 +7,7 @@ ghost use Rattle.st_words.specs.Kinds.{greatest};
 ghost use Rattle.st_types.specs.Failures.{run_result, failing};
 ghost use Rattle.st_types.specs.Operators.{apply, applied, apply_unary, truth, quotient, remainder, natural};
 
+use crate::numbers::{bits, is_at_most, is_same_number};
 use st_words::{BinaryOperator, Fault, Kind, UnaryOperator, Value};
 
 /// The truth of a condition; F4 of a value of another type.
@@ -49,14 +50,6 @@ fn quotient(kind: Kind, a: Value, b: Value) -> Result<Value, Fault>
         return Err(Fault::DivisionByZero);
     }
     Value::new(kind, ratio(a, b))
-}
-
-/// The bits of a number that has no sign; none of one below 0.
-pub fn bits(a: Value) -> u64
-    ensures { result ≡ natural a.number }
-{
-    let number = a.number();
-    if number < 0 { 0 } else { number as u64 }
 }
 
 fn or_bits(a: Value, b: Value) -> u64
@@ -114,12 +107,12 @@ fn applied(op: BinaryOperator, kind: Kind, a: Value, b: Value) -> Result<Value, 
         BinaryOperator::Or => Value::new(kind, or_bits(a, b) as i128),
         BinaryOperator::Xor => Value::new(kind, xor_bits(a, b) as i128),
         BinaryOperator::And => Value::new(kind, and_bits(a, b) as i128),
-        BinaryOperator::Equal => Ok(Value::truth(a.number() == b.number())),
-        BinaryOperator::NotEqual => Ok(Value::truth(a.number() != b.number())),
-        BinaryOperator::Less => Ok(Value::truth(a.number() < b.number())),
-        BinaryOperator::Greater => Ok(Value::truth(b.number() < a.number())),
-        BinaryOperator::LessOrEqual => Ok(Value::truth(a.number() <= b.number())),
-        BinaryOperator::GreaterOrEqual => Ok(Value::truth(b.number() <= a.number())),
+        BinaryOperator::Equal => Ok(Value::truth(is_same_number(a, b))),
+        BinaryOperator::NotEqual => Ok(Value::truth(!is_same_number(a, b))),
+        BinaryOperator::Less => Ok(Value::truth(!is_at_most(b, a))),
+        BinaryOperator::Greater => Ok(Value::truth(!is_at_most(a, b))),
+        BinaryOperator::LessOrEqual => Ok(Value::truth(is_at_most(a, b))),
+        BinaryOperator::GreaterOrEqual => Ok(Value::truth(is_at_most(b, a))),
         BinaryOperator::Add => Value::new(kind, sum(a, b)),
         BinaryOperator::Subtract => Value::new(kind, difference(a, b)),
         BinaryOperator::Multiply => product(kind, a, b),

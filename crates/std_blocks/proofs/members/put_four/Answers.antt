@@ -1,0 +1,10 @@
+use Rattle.std.proofs.Common.{[], ◌∷◌, subst, sym}
+use Rattle.std_blocks.specs.Members.{Leaves}
+use Rattle.std_blocks.proofs.MemberLemmas.{stored_on}
+use Rattle.std_blocks.proofs.members.put_four.Goals as goal
+
+pub returns : goal.returns
+returns c =
+    subst (λ r. Leaves c.put_three.result r c.put_three.new.slots)
+    (sym (stored_on c.args.slots.now c.put.new.slots c.args.at c.args.a (c.args.b ∷ c.args.c ∷ c.args.d ∷ []) c.in_ok-put.ensures))
+    c.put_three.ensures
