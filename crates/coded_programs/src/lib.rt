@@ -5,8 +5,5 @@
 
 mod code;
 mod comparison;
-mod fused_code;
-mod making;
 
 pub use code::Code;
-pub use fused_code::FusedCode;

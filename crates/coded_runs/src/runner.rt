@@ -4,8 +4,6 @@ ghost use Rattle.std.specs.Prelude.{◌≡◌, ◌≤◌, [], IfOk, length, map,
 ghost use Rattle.st_types.specs.Failures.{in_runs};
 ghost use Rattle.machine_code.specs.Machine.{runs};
 ghost use Rattle.machine_code.specs.Tracking.{tracking, tracked};
-ghost use Rattle.slot_machine.specs.Steps.{Ends};
-ghost use Rattle.quick_code.specs.Kinds.{AreOfKinds};
 ghost use Rattle.coded_runs.specs.Cells.{cut};
 ghost use Rattle.coded_programs.specs.Codes.{code_view};
 ghost use Rattle.coded_runs.specs.Runs.{EndsAs, IsLong, marked_run, writes_left};
@@ -23,35 +21,6 @@ use st_types::Outcome;
 use st_words::Value;
 use std::alloc::{AllocError, Global};
 
-/// Runs the code, by its fused instructions where it has some. It answers the ticks that are left.
-fn run_machine(
-    alloc: Global,
-    code: &Code,
-    moment: u64,
-    memory: &mut [Value],
-    marks: &mut [Mark],
-    budget: u32,
-) -> Result<u32, Stop>
-    requires kinds { AreOfKinds code.now.kinds.value.items memory.old }
-    ensures { Ends result (runs tracking in_runs moment code.now.instrs.value.items
-        (length code.now.instrs.value.items) [] (tracked memory.old marks.old) budget)
-        (tracked memory.new marks.new) }
-{
-    match &code.fused {
-        Some(fused) => quick_machine::run(
-            alloc,
-            &code.instrs,
-            fused.fused(),
-            &code.kinds,
-            moment,
-            memory,
-            marks,
-            budget,
-        ),
-        None => slot_machine::run(alloc, &code.instrs, moment, memory, marks, budget),
-    }
-}
-
 /// How a run of the code ends, with what it leaves in memory and marks.
 fn end_of(
     alloc: Global,
@@ -61,12 +30,10 @@ fn end_of(
     marks: &mut [Mark],
     budget: u32,
 ) -> Result<Outcome, AllocError>
-    requires kinds { AreOfKinds code.now.kinds.value.items memory.old }
-    ensures ends { IfOk result (λ outcome. EndsAs outcome (runs tracking in_runs moment code.now.instrs.value.items
-        (length code.now.instrs.value.items) [] (tracked memory.old marks.old) budget)
-        (tracked memory.new marks.new)) }
+    ensures ends { IfOk result (λ outcome. EndsAs outcome (runs tracking in_runs moment code.now.instrs.items
+        (length code.now.instrs.items) [] (tracked memory.old marks.old) budget) (tracked memory.new marks.new)) }
 {
-    match run_machine(alloc, code, moment, memory, marks, budget) {
+    match slot_machine::run(alloc, &code.instrs, moment, memory, marks, budget) {
         Ok(_) => Ok(Outcome::Done),
         Err(Stop::Fault(fault)) => Ok(Outcome::Faulted(fault)),
         Err(Stop::Memory) => Err(AllocError),
@@ -104,7 +71,6 @@ fn run_code(
     slots: &[Value],
     budget: u32,
 ) -> Result<Ran, AllocError>
-    requires typed { map (λ v. v.kind) slots.now ≡ code.now.kinds.value.items }
     ensures ran { IfOk result (IsRunOf (marked_run (code_view code.now) moment slots.now budget) slots.now) }
     ensures long { IfOk result (λ _. IsLong (length slots.now) (marked_run (code_view code.now) moment slots.now
         budget)) }

@@ -57,14 +57,6 @@ use Rattle.st_words.specs.contracts.value.Value.TheInside as ValueInside
 use Rattle.st_words.specs.contracts.value.Value as Value
 use Rattle.machine_code.specs.contracts.instr.Instr as Instr
 use Rattle.st_names.specs.contracts.standard_functions.Standard as Standard
-use Rattle.word_values.specs.contracts.words.Bounds as Bounds
-use Rattle.word_values.specs.contracts.operators.WordOperator as WordOperator
-use Rattle.quick_code.specs.contracts.quick.Operand as Operand
-use Rattle.quick_code.specs.contracts.quick.Element as ArrayElement
-use Rattle.quick_code.specs.contracts.quick.Quick as Quick
-use Rattle.quick_code.specs.contracts.quick.Fused as Fused
-use Rattle.coded_programs.specs.contracts.fused_code.FusedCode as FusedCode
-use Rattle.coded_programs.specs.contracts.fused_code.FusedCode.TheInside as FusedInside
 use Rattle.coded_programs.specs.contracts.code.Code as Code
 use Rattle.config.specs.contracts.task.ProgramInstance as ProgramInstance
 use Rattle.st_plans.specs.contracts.plan.PlanVariable as PlanVariable
@@ -1478,130 +1470,16 @@ instr-sync = variants_sync Instr.enum (
   ),
 )
 
-pub bounds-send : IsSend Bounds.the_row
-bounds-send = search plain depth 20
-
-pub operator-send : IsSend WordOperator.the_row
-operator-send = variants_send WordOperator.enum (search (plain, bounds-send, kind-send) depth 60)
-
-pub operand-send : IsSend Operand.the_row
-operand-send = search plain depth 20
-
-pub array_element-send : IsSend ArrayElement.the_row
-array_element-send = search plain depth 20
-
-pub quick-send : IsSend Quick.the_row
-quick-send = variants_send Quick.enum (
-  tt, (
-  (search plain depth 20, (search plain depth 20, tt)), (
-  (search plain depth 20, (search plain depth 20, tt)), (
-  (operator-send, (operand-send, (operand-send, (search plain depth 20, tt)))), (
-  (operator-send, (search plain depth 20, (search plain depth 20, (search plain depth 20, tt)))), (
-  (operator-send, (search plain depth 20, (search plain depth 20, (search plain depth 20, tt)))), (
-  (bounds-send, (search plain depth 20, (search plain depth 20, (search plain depth 20, tt)))), (
-  (bounds-send, (search plain depth 20, (search plain depth 20, (search plain depth 20, tt)))), (
-  (bounds-send, (search plain depth 20, (search plain depth 20, (search plain depth 20, tt)))), (
-  (bounds-send, (search plain depth 20, (search plain depth 20, (search plain depth 20, tt)))), (
-  (operator-send, (operand-send, (operand-send, (search plain depth 20, tt)))), (
-  (operator-send, (search plain depth 20, (search plain depth 20, (search plain depth 20, tt)))), (
-  (operator-send, (search plain depth 20, (search plain depth 20, (search plain depth 20, tt)))), (
-  (search plain depth 20, (search plain depth 20, (search plain depth 20, tt))), (
-  (search plain depth 20, (search plain depth 20, (search plain depth 20, tt))), (
-  (operator-send, (operand-send, (operand-send, (search plain depth 20, tt)))), (
-  (search plain depth 20, tt), (
-  (search plain depth 20, tt), (
-  (search plain depth 20, (search plain depth 20, tt)), (
-  (array_element-send, tt), (
-  (operator-send, (operand-send, (operand-send, (search plain depth 20, tt)))), (
-  (operator-send, (kind-send, (search plain depth 20, tt))), (
-  (operator-send, (kind-send, (operand-send, (search plain depth 20, tt)))), (
-  (kind-send, (search plain depth 20, tt)), (
-  (array_element-send, (search plain depth 20, tt)), (
-  (operand-send, (array_element-send, tt)), tt)))))))))))))))))))))))))
-)
-
-pub fused-send : IsSend Fused.the_row
-fused-send = declared_send Fused.the_type (search plain depth 20, (quick-send, tt))
-
-pub bounds-sync : IsSync Bounds.the_row
-bounds-sync = search plain depth 20
-
-pub operator-sync : IsSync WordOperator.the_row
-operator-sync = variants_sync WordOperator.enum (search (plain, bounds-sync, kind-sync) depth 60)
-
-pub operand-sync : IsSync Operand.the_row
-operand-sync = search plain depth 20
-
-pub array_element-sync : IsSync ArrayElement.the_row
-array_element-sync = search plain depth 20
-
-pub quick-sync : IsSync Quick.the_row
-quick-sync = variants_sync Quick.enum (
-  tt, (
-  (search plain depth 20, (search plain depth 20, tt)), (
-  (search plain depth 20, (search plain depth 20, tt)), (
-  (operator-sync, (operand-sync, (operand-sync, (search plain depth 20, tt)))), (
-  (operator-sync, (search plain depth 20, (search plain depth 20, (search plain depth 20, tt)))), (
-  (operator-sync, (search plain depth 20, (search plain depth 20, (search plain depth 20, tt)))), (
-  (bounds-sync, (search plain depth 20, (search plain depth 20, (search plain depth 20, tt)))), (
-  (bounds-sync, (search plain depth 20, (search plain depth 20, (search plain depth 20, tt)))), (
-  (bounds-sync, (search plain depth 20, (search plain depth 20, (search plain depth 20, tt)))), (
-  (bounds-sync, (search plain depth 20, (search plain depth 20, (search plain depth 20, tt)))), (
-  (operator-sync, (operand-sync, (operand-sync, (search plain depth 20, tt)))), (
-  (operator-sync, (search plain depth 20, (search plain depth 20, (search plain depth 20, tt)))), (
-  (operator-sync, (search plain depth 20, (search plain depth 20, (search plain depth 20, tt)))), (
-  (search plain depth 20, (search plain depth 20, (search plain depth 20, tt))), (
-  (search plain depth 20, (search plain depth 20, (search plain depth 20, tt))), (
-  (operator-sync, (operand-sync, (operand-sync, (search plain depth 20, tt)))), (
-  (search plain depth 20, tt), (
-  (search plain depth 20, tt), (
-  (search plain depth 20, (search plain depth 20, tt)), (
-  (array_element-sync, tt), (
-  (operator-sync, (operand-sync, (operand-sync, (search plain depth 20, tt)))), (
-  (operator-sync, (kind-sync, (search plain depth 20, tt))), (
-  (operator-sync, (kind-sync, (operand-sync, (search plain depth 20, tt)))), (
-  (kind-sync, (search plain depth 20, tt)), (
-  (array_element-sync, (search plain depth 20, tt)), (
-  (operand-sync, (array_element-sync, tt)), tt)))))))))))))))))))))))))
-)
-
-pub fused-sync : IsSync Fused.the_row
-fused-sync = declared_sync Fused.the_type (search plain depth 20, (quick-sync, tt))
-
-fused_inside-send : IsSend FusedInside.the_row
-fused_inside-send = declared_send FusedInside.the_type (
-  Arc-send _ (Vec-send _ instr-send) (Vec-sync _ instr-sync),
-  (Arc-send _ (Vec-send _ kind-send) (Vec-sync _ kind-sync), (Vec-send _ fused-send, tt)),
-)
-
-pub fused_code-send : IsSend FusedCode.the_row
-fused_code-send = search (plain, fused_inside-send) depth 20
-
 pub code-send : IsSend Code.the_row
 code-send = declared_send Code.the_type (
-  Arc-send _ (Vec-send _ instr-send) (Vec-sync _ instr-sync),
-  (
-    Arc-send _ (Vec-send _ kind-send) (Vec-sync _ kind-sync),
-    (search plain depth 20, (option-send _ fused_code-send, tt)),
-  ),
+  Vec-send _ instr-send,
+  (Arc-send _ (Vec-send _ kind-send) (Vec-sync _ kind-sync), (search plain depth 20, tt)),
 )
-
-fused_inside-sync : IsSync FusedInside.the_row
-fused_inside-sync = declared_sync FusedInside.the_type (
-  Arc-sync _ (Vec-send _ instr-send) (Vec-sync _ instr-sync),
-  (Arc-sync _ (Vec-send _ kind-send) (Vec-sync _ kind-sync), (Vec-sync _ fused-sync, tt)),
-)
-
-pub fused_code-sync : IsSync FusedCode.the_row
-fused_code-sync = search (plain, fused_inside-sync) depth 20
 
 pub code-sync : IsSync Code.the_row
 code-sync = declared_sync Code.the_type (
-  Arc-sync _ (Vec-send _ instr-send) (Vec-sync _ instr-sync),
-  (
-    Arc-sync _ (Vec-send _ kind-send) (Vec-sync _ kind-sync),
-    (search plain depth 20, (option-sync _ fused_code-sync, tt)),
-  ),
+  Vec-sync _ instr-sync,
+  (Arc-sync _ (Vec-send _ kind-send) (Vec-sync _ kind-sync), (search plain depth 20, tt)),
 )
 
 pub instance-send : IsSend ProgramInstance.the_row
