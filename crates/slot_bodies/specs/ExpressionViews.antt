@@ -16,7 +16,7 @@ anchor_view (Absolute k) = absolute k
 
 -- one level, with each part already seen as its tree
 abbrev pub expr_step : SlotExpr-F SlotExpr Place Subscript → SlotExpr
-expr_step (SlotExpr-F.Constant l) = constant l
+expr_step (SlotExpr-F.Constant l) = constant l.value
 expr_step (SlotExpr-F.Load p) = load p
 expr_step (SlotExpr-F.Compute f es) = compute (standard_view f) (exprs_of es.items)
 expr_step (SlotExpr-F.Call f es) = call f (exprs_of es.items)

@@ -21,7 +21,7 @@ pub enum Anchor {
 #[derive(Drop)]
 #[cycle(slot_expression)]
 pub enum SlotExpr {
-    Constant(Literal),
+    Constant(Box<Literal>),
     Load(Place),
     /// A standard function with its arguments.
     Compute(Standard, Vec<SlotExpr>),
@@ -50,10 +50,10 @@ pub struct Subscript {
 }
 
 impl SlotExpr {
-    pub fn constant(literal: Literal) -> SlotExpr
-        ensures { slot_expr_view result ≡ tree.constant literal }
+    pub fn constant(alloc: Global, literal: Literal) -> Result<SlotExpr, AllocError>
+        ensures { IfOk result (λ e. slot_expr_view e ≡ tree.constant literal) }
     {
-        SlotExpr::Constant(literal)
+        Ok(SlotExpr::Constant(Box::new(alloc, literal)?))
     }
 
     pub fn load(place: Place) -> SlotExpr

@@ -59,7 +59,7 @@ pub fn link(alloc: Global, table: &BodyTable, expression: &Expr) -> Result<SlotE
         → ServesBody table.now text t → linked t (expr_view expression.now) ≡ None) }
 {
     match expression {
-        Expr::Literal(literal) => Ok(SlotExpr::constant(copied_literal(alloc, literal)?)),
+        Expr::Literal(literal) => Ok(SlotExpr::constant(alloc, copied_literal(alloc, literal)?)?),
         Expr::Variable(variable) => Ok(SlotExpr::load(link_variable(alloc, table, variable)?)),
         Expr::Call(function, arguments) => {
             let arguments = link_all(alloc, table, arguments)?;
