@@ -1,3 +1,2 @@
-pub mod TypedInstrs
 pub mod Codes
 pub mod Meanings

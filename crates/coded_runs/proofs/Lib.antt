@@ -1,5 +1,4 @@
 pub mod PickedLemmas
 pub mod InputLemmas
-pub mod KindLemmas
 pub mod TrueLemmas
 pub mod CommitLemmas
