@@ -4,5 +4,4 @@
 mod memory;
 mod runs;
 
-pub use memory::{put_back, words_over};
 pub use runs::run;
