@@ -5,6 +5,11 @@ use Rattle.slot_trees.specs.SlotTrees.{SlotExpr, SlotExprs, no_exprs, expr_then,
 use Rattle.slot_trees.specs.SlotTrees.{subscript_then, SlotStmt, SlotStmts, no_stmts, stmt_then, SlotArms, no_arms}
 use Rattle.slot_trees.specs.SlotTrees.{arm_then, SlotCaseArms, no_case_arms, case_arm_then}
 
+-- both operands of an operator
+pub record Operands : Type 0 where
+  pub left : SlotExpr
+  pub right : SlotExpr
+
 -- a subscript with its array
 pub record Subscript : Type 0 where
   pub index : SlotExpr

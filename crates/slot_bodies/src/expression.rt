@@ -28,7 +28,15 @@ pub enum SlotExpr {
     /// A function of the text by its number, with its arguments.
     Call(usize, Vec<SlotExpr>),
     Unary(UnaryOperator, Box<SlotExpr>),
-    Binary(BinaryOperator, Box<SlotExpr>, Box<SlotExpr>),
+    Binary(BinaryOperator, Box<Operands>),
+}
+
+/// Both operands of an operator.
+#[derive(Drop)]
+#[cycle(slot_expression)]
+pub struct Operands {
+    pub left: SlotExpr,
+    pub right: SlotExpr,
 }
 
 /// An elementary variable: the slot where its array begins, and the subscripts that lead on from there.
@@ -94,7 +102,7 @@ impl SlotExpr {
         ensures { IfOk result
             (λ e. slot_expr_view e ≡ tree.binary operator (slot_expr_view left) (slot_expr_view right)) }
     {
-        Ok(SlotExpr::Binary(operator, Box::new(alloc, left)?, Box::new(alloc, right)?))
+        Ok(SlotExpr::Binary(operator, Box::new(alloc, Operands { left, right })?))
     }
 }
 

@@ -7,6 +7,6 @@ mod expression;
 mod library;
 mod statement;
 
-pub use expression::{Anchor, Place, SlotExpr, Subscript};
+pub use expression::{Anchor, Operands, Place, SlotExpr, Subscript};
 pub use library::{SlotFunction, SlotLibrary};
 pub use statement::{BlockCode, SlotArgument, SlotArm, SlotCaseArm, SlotStmt};

@@ -41,10 +41,10 @@ pub fn put_expr(
             code.put(Instr::Unary(*operator))?;
             put_expr(library, scope, code, operand)
         }
-        SlotExpr::Binary(operator, left, right) => {
+        SlotExpr::Binary(operator, operands) => {
             code.put(Instr::Binary(*operator))?;
-            put_expr(library, scope, code, right)?;
-            put_expr(library, scope, code, left)
+            put_expr(library, scope, code, &operands.right)?;
+            put_expr(library, scope, code, &operands.left)
         }
         SlotExpr::Compute(function, arguments) => {
             let Ok(count) = u16::try_from(arguments.len()) else {
