@@ -20,7 +20,7 @@ pub fn what_a_run_reads_is_asked_for()
         → IsEffectOf snapshot effect → FailsAlike layout (code_view snapshot.code.value) program
         → IsLayout layout → AreOfTypes layout snapshot.slots.items
         → slice_get layout k ≡ Some l → l.path.owner ≡ None
-        → IsOnlyLookedUp snapshot.code.value.instrs.items k → Reads effect k
+        → IsOnlyLookedUp snapshot.code.value.instrs.value.items k → Reads effect k
         → IsAsked program snapshot.budget (variables_in layout snapshot.slots.items)
         (inputs_in layout snapshot.slots.items) snapshot.moment l.path }
 {}

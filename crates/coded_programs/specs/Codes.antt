@@ -12,4 +12,4 @@ pub record CodeView : Type 0 where
 
 abbrev pub code_view : Code → CodeView
 code_view code =
-    record { instrs = code.instrs.items; kinds = code.kinds.value.items; extra = code.extra }
+    record { instrs = code.instrs.value.items; kinds = code.kinds.value.items; extra = code.extra }

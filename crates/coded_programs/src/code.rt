@@ -1,8 +1,10 @@
 //! The code of a program.
 
+ghost use Rattle.std.specs.Option.{ForSome};
 ghost use Rattle.std.specs.Prelude.{◌≡◌, ◌≤◌, ◌+◌, length};
 ghost use Rattle.machine_code.specs.declared.limits.TheConstants.{MAX_INSTRUCTIONS, MAX_MEMORY};
 
+use crate::word_program::WordProgram;
 use machine_code::Instr;
 use st_words::Kind;
 use std::sync::Arc;
@@ -10,11 +12,14 @@ use std::sync::Arc;
 /// The code of a program: instructions over the slots of a layout, and behind these over values for functions.
 #[derive(Drop)]
 pub struct Code {
-    pub instrs: Vec<Instr>,
+    pub instrs: Arc<Vec<Instr>>,
     /// The types of the layout's slots in their order, those of inputs among them. All codes of a plan share them.
     pub kinds: Arc<Vec<Kind>>,
     /// How many values its memory has behind those of the slots, for the variables of functions.
     pub extra: usize,
-    ghost short: { length instrs.items ≤ MAX_INSTRUCTIONS },
+    /// Word code that stands for the instructions, where there is some (`Code::new`).
+    pub words: Option<WordProgram>,
+    ghost short: { length instrs.value.items ≤ MAX_INSTRUCTIONS },
     ghost numbered: { length kinds.value.items + extra ≤ MAX_MEMORY },
+    ghost stands: { ForSome words (λ f. (f.instrs ≡ instrs.value.items) × (f.kinds ≡ kinds.value.items)) },
 }

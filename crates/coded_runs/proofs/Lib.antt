@@ -1,4 +1,5 @@
 pub mod PickedLemmas
 pub mod InputLemmas
+pub mod KindLemmas
 pub mod TrueLemmas
 pub mod CommitLemmas

@@ -1,25 +1,86 @@
 //! Runs of code.
 
-ghost use Rattle.std.specs.Prelude.{◌≡◌, ◌≤◌, [], IfOk, length, map, take};
+ghost use Rattle.std.specs.Prelude.{◌≡◌, ◌≤◌, [], IfOk, length, map, replicate, take};
 ghost use Rattle.st_types.specs.Failures.{in_runs};
 ghost use Rattle.machine_code.specs.Machine.{runs};
 ghost use Rattle.machine_code.specs.Tracking.{tracking, tracked};
+ghost use Rattle.slot_machine.specs.Steps.{Ends};
 ghost use Rattle.coded_runs.specs.Cells.{cut};
 ghost use Rattle.coded_programs.specs.Codes.{code_view};
-ghost use Rattle.coded_runs.specs.Runs.{EndsAs, IsLong, marked_run, writes_left};
+ghost use Rattle.coded_runs.specs.Runs.{EndsAs, IsLong, marked_run, unmarked, writes_left};
 ghost use Rattle.coded_runs.specs.Executions.{IsEffectOf, IsRunOf};
 
 use crate::execution::{Cells, Execution};
 use crate::gathering::{reads_of, writes_of};
-use crate::memory::{memory_over, unmarked};
+use crate::memory::{memory_over, take_front, unmarked};
 use crate::snapshot::Snapshot;
-use coded_programs::Code;
+use coded_programs::{Code, WordProgram};
 use machine_code::Mark;
 use slot_machine::Stop;
 use smallvec::SmallVec;
 use st_types::Outcome;
 use st_words::Value;
 use std::alloc::{AllocError, Global};
+
+/// Runs the code by its word code, over the slots alone. It answers the ticks that are left.
+fn run_words(
+    alloc: Global,
+    code: &Code,
+    words: &WordProgram,
+    moment: u64,
+    memory: &mut [Value],
+    marks: &mut [Mark],
+    budget: u32,
+) -> Result<u32, Stop>
+    requires instrs { words.now.instrs ≡ code.now.instrs.value.items }
+    requires kinds { words.now.kinds ≡ code.now.kinds.value.items }
+    requires typed { map (λ v. v.kind) memory.old ≡ code.now.kinds.value.items }
+    requires marks { marks.old ≡ replicate (length memory.old) unmarked }
+    ensures { Ends result (runs tracking in_runs moment code.now.instrs.value.items
+        (length code.now.instrs.value.items) [] (tracked memory.old marks.old) budget)
+        (tracked memory.new marks.new) }
+{
+    let word_code = words.word_code();
+    let mut all = match unmarked(alloc, word_code.size) {
+        Ok(all) => all,
+        Err(_) => return Err(Stop::Memory),
+    };
+    let ended = word_runs::run(
+        alloc,
+        &code.instrs,
+        &code.kinds,
+        word_code,
+        moment,
+        memory,
+        &mut all,
+        budget,
+    );
+    take_front(&all, marks);
+    ended
+}
+
+/// Runs the code, by its word code where it has some. It answers the ticks that are left.
+fn run_machine(
+    alloc: Global,
+    code: &Code,
+    moment: u64,
+    memory: &mut [Value],
+    marks: &mut [Mark],
+    budget: u32,
+) -> Result<u32, Stop>
+    requires typed { code.now.extra ≡ 0 → map (λ v. v.kind) memory.old ≡ code.now.kinds.value.items }
+    requires marks { marks.old ≡ replicate (length memory.old) unmarked }
+    ensures { Ends result (runs tracking in_runs moment code.now.instrs.value.items
+        (length code.now.instrs.value.items) [] (tracked memory.old marks.old) budget)
+        (tracked memory.new marks.new) }
+{
+    match &code.words {
+        Some(words) if code.extra == 0 => {
+            run_words(alloc, code, words, moment, memory, marks, budget)
+        }
+        _ => slot_machine::run(alloc, &code.instrs, moment, memory, marks, budget),
+    }
+}
 
 /// How a run of the code ends, with what it leaves in memory and marks.
 fn end_of(
@@ -30,10 +91,13 @@ fn end_of(
     marks: &mut [Mark],
     budget: u32,
 ) -> Result<Outcome, AllocError>
-    ensures ends { IfOk result (λ outcome. EndsAs outcome (runs tracking in_runs moment code.now.instrs.items
-        (length code.now.instrs.items) [] (tracked memory.old marks.old) budget) (tracked memory.new marks.new)) }
+    requires typed { code.now.extra ≡ 0 → map (λ v. v.kind) memory.old ≡ code.now.kinds.value.items }
+    requires marks { marks.old ≡ replicate (length memory.old) unmarked }
+    ensures ends { IfOk result (λ outcome. EndsAs outcome (runs tracking in_runs moment code.now.instrs.value.items
+        (length code.now.instrs.value.items) [] (tracked memory.old marks.old) budget)
+        (tracked memory.new marks.new)) }
 {
-    match slot_machine::run(alloc, &code.instrs, moment, memory, marks, budget) {
+    match run_machine(alloc, code, moment, memory, marks, budget) {
         Ok(_) => Ok(Outcome::Done),
         Err(Stop::Fault(fault)) => Ok(Outcome::Faulted(fault)),
         Err(Stop::Memory) => Err(AllocError),
@@ -71,6 +135,7 @@ fn run_code(
     slots: &[Value],
     budget: u32,
 ) -> Result<Ran, AllocError>
+    requires typed { map (λ v. v.kind) slots.now ≡ code.now.kinds.value.items }
     ensures ran { IfOk result (IsRunOf (marked_run (code_view code.now) moment slots.now budget) slots.now) }
     ensures long { IfOk result (λ _. IsLong (length slots.now) (marked_run (code_view code.now) moment slots.now
         budget)) }

@@ -57,6 +57,18 @@ use Rattle.st_words.specs.contracts.value.Value.TheInside as ValueInside
 use Rattle.st_words.specs.contracts.value.Value as Value
 use Rattle.machine_code.specs.contracts.instr.Instr as Instr
 use Rattle.st_names.specs.contracts.standard_functions.Standard as Standard
+use Rattle.word_values.specs.contracts.words.Bounds as Bounds
+use Rattle.word_values.specs.contracts.operators.WordOperator as WordOperator
+use Rattle.word_code.specs.contracts.entry.Entry as WordEntry
+use Rattle.word_code.specs.contracts.entry.Site as WordSite
+use Rattle.word_code.specs.contracts.functions.Operand as Operand
+use Rattle.word_code.specs.contracts.functions.WordFunction as WordFunction
+use Rattle.word_code.specs.contracts.parts.Element as ArrayElement
+use Rattle.word_code.specs.contracts.parts.WordCode as WordCode
+use Rattle.word_code.specs.contracts.word_instr.WordInstr as WordInstr
+use Rattle.word_code.specs.contracts.word_instr.WordStep as WordStep
+use Rattle.coded_programs.specs.contracts.word_program.WordProgram as WordProgram
+use Rattle.coded_programs.specs.contracts.word_program.WordProgram.TheInside as WordInside
 use Rattle.coded_programs.specs.contracts.code.Code as Code
 use Rattle.config.specs.contracts.task.ProgramInstance as ProgramInstance
 use Rattle.st_plans.specs.contracts.plan.PlanVariable as PlanVariable
@@ -1470,16 +1482,262 @@ instr-sync = variants_sync Instr.enum (
   ),
 )
 
+pub bounds-send : IsSend Bounds.the_row
+bounds-send = search plain depth 20
+
+pub operator-send : IsSend WordOperator.the_row
+operator-send = variants_send WordOperator.enum (search (plain, bounds-send, kind-send) depth 60)
+
+pub word_entry-send : IsSend WordEntry.the_row
+word_entry-send = variants_send WordEntry.enum (search (plain, value-send, kind-send) depth 40)
+
+pub word_site-send : IsSend WordSite.the_row
+word_site-send = declared_send WordSite.the_type (search plain depth 20, (Vec-send _ word_entry-send, tt))
+
+pub array_element-send : IsSend ArrayElement.the_row
+array_element-send = search plain depth 20
+
+pub operand-send : IsSend Operand.the_row
+operand-send = declared_send Operand.the_type (kind-send, (search plain depth 20, tt))
+
+pub word_function-send : IsSend WordFunction.the_row
+word_function-send = variants_send WordFunction.enum ((search plain depth 20, (operand-send, tt)), ((standard-send, (operand-send, tt)), ((standard-send, (operand-send, (operand-send, tt))), ((standard-send, (operand-send, (operand-send, (operand-send, tt)))), tt))))
+
+pub word_instr-send : IsSend WordInstr.the_row
+word_instr-send = variants_send WordInstr.enum (
+  tt,
+  (
+    (search plain depth 20, tt),
+    (
+      (search plain depth 20, tt),
+      (
+        (search plain depth 20, (search plain depth 20, tt)),
+        (
+          (search plain depth 20, (search plain depth 20, (search plain depth 20, tt))),
+          (
+            (search plain depth 20, (search plain depth 20, (search plain depth 20, tt))),
+            (
+              (search plain depth 20, (search plain depth 20, (search plain depth 20, tt))),
+              (
+                (search plain depth 20, (search plain depth 20, (search plain depth 20, tt))),
+                (
+                  (search plain depth 20, (search plain depth 20, (search plain depth 20, tt))),
+                  (
+                    (search plain depth 20, (search plain depth 20, (search plain depth 20, (search plain depth 20, tt)))),
+                    (
+                      (search plain depth 20, (search plain depth 20, (search plain depth 20, tt))),
+                      (
+                        (search plain depth 20, (search plain depth 20, (search plain depth 20, tt))),
+                        (
+                          (search plain depth 20, (search plain depth 20, tt)),
+                          (
+                            (search plain depth 20, (search plain depth 20, (search plain depth 20, tt))),
+                            (
+                              (search plain depth 20, (search plain depth 20, (search plain depth 20, tt))),
+                              (
+                                (search plain depth 20, (search plain depth 20, (search plain depth 20, tt))),
+                                (
+                                  (search plain depth 20, (search plain depth 20, (search plain depth 20, tt))),
+                                  (
+                                    (search plain depth 20, (search plain depth 20, (search plain depth 20, tt))),
+                                    (
+                                      (search plain depth 20, (search plain depth 20, (search plain depth 20, tt))),
+                                      (
+                                        (search plain depth 20, (search plain depth 20, (search plain depth 20, (search plain depth 20, tt)))),
+                                        (
+                                          (search plain depth 20, (search plain depth 20, tt)),
+                                          (
+                                            (search plain depth 20, (search plain depth 20, tt)),
+                                            (
+                                              (search plain depth 20, (search plain depth 20, (search plain depth 20, tt))),
+                                              (
+                                                (search plain depth 20, (search plain depth 20, (search plain depth 20, tt))),
+                                                (
+                                                  (search plain depth 20, (search plain depth 20, (search plain depth 20, (search plain depth 20, tt)))),
+                                                  (
+                                                    (search plain depth 20, (search plain depth 20, (search plain depth 20, (search plain depth 20, (search plain depth 20, tt))))),
+                                                    (
+                                                      (search plain depth 20, (search plain depth 20, tt)),
+                                                      tt,
+                                                    ),
+                                                  ),
+                                                ),
+                                              ),
+                                            ),
+                                          ),
+                                        ),
+                                      ),
+                                    ),
+                                  ),
+                                ),
+                              ),
+                            ),
+                          ),
+                        ),
+                      ),
+                    ),
+                  ),
+                ),
+              ),
+            ),
+          ),
+        ),
+      ),
+    ),
+  ),
+)
+
+pub word_step-send : IsSend WordStep.the_row
+word_step-send = declared_send WordStep.the_type (search plain depth 20, (word_instr-send, tt))
+
+pub word_code-send : IsSend WordCode.the_row
+word_code-send = declared_send WordCode.the_type (Vec-send _ word_step-send, (Vec-send _ (search plain depth 20), (Vec-send _ operator-send, (Vec-send _ array_element-send, (Vec-send _ word_function-send, (search plain depth 20, (Vec-send _ word_site-send, tt)))))))
+
+pub bounds-sync : IsSync Bounds.the_row
+bounds-sync = search plain depth 20
+
+pub operator-sync : IsSync WordOperator.the_row
+operator-sync = variants_sync WordOperator.enum (search (plain, bounds-sync, kind-sync) depth 60)
+
+pub word_entry-sync : IsSync WordEntry.the_row
+word_entry-sync = variants_sync WordEntry.enum (search (plain, value-sync, kind-sync) depth 40)
+
+pub word_site-sync : IsSync WordSite.the_row
+word_site-sync = declared_sync WordSite.the_type (search plain depth 20, (Vec-sync _ word_entry-sync, tt))
+
+pub array_element-sync : IsSync ArrayElement.the_row
+array_element-sync = search plain depth 20
+
+pub operand-sync : IsSync Operand.the_row
+operand-sync = declared_sync Operand.the_type (kind-sync, (search plain depth 20, tt))
+
+pub word_function-sync : IsSync WordFunction.the_row
+word_function-sync = variants_sync WordFunction.enum ((search plain depth 20, (operand-sync, tt)), ((standard-sync, (operand-sync, tt)), ((standard-sync, (operand-sync, (operand-sync, tt))), ((standard-sync, (operand-sync, (operand-sync, (operand-sync, tt)))), tt))))
+
+pub word_instr-sync : IsSync WordInstr.the_row
+word_instr-sync = variants_sync WordInstr.enum (
+  tt,
+  (
+    (search plain depth 20, tt),
+    (
+      (search plain depth 20, tt),
+      (
+        (search plain depth 20, (search plain depth 20, tt)),
+        (
+          (search plain depth 20, (search plain depth 20, (search plain depth 20, tt))),
+          (
+            (search plain depth 20, (search plain depth 20, (search plain depth 20, tt))),
+            (
+              (search plain depth 20, (search plain depth 20, (search plain depth 20, tt))),
+              (
+                (search plain depth 20, (search plain depth 20, (search plain depth 20, tt))),
+                (
+                  (search plain depth 20, (search plain depth 20, (search plain depth 20, tt))),
+                  (
+                    (search plain depth 20, (search plain depth 20, (search plain depth 20, (search plain depth 20, tt)))),
+                    (
+                      (search plain depth 20, (search plain depth 20, (search plain depth 20, tt))),
+                      (
+                        (search plain depth 20, (search plain depth 20, (search plain depth 20, tt))),
+                        (
+                          (search plain depth 20, (search plain depth 20, tt)),
+                          (
+                            (search plain depth 20, (search plain depth 20, (search plain depth 20, tt))),
+                            (
+                              (search plain depth 20, (search plain depth 20, (search plain depth 20, tt))),
+                              (
+                                (search plain depth 20, (search plain depth 20, (search plain depth 20, tt))),
+                                (
+                                  (search plain depth 20, (search plain depth 20, (search plain depth 20, tt))),
+                                  (
+                                    (search plain depth 20, (search plain depth 20, (search plain depth 20, tt))),
+                                    (
+                                      (search plain depth 20, (search plain depth 20, (search plain depth 20, tt))),
+                                      (
+                                        (search plain depth 20, (search plain depth 20, (search plain depth 20, (search plain depth 20, tt)))),
+                                        (
+                                          (search plain depth 20, (search plain depth 20, tt)),
+                                          (
+                                            (search plain depth 20, (search plain depth 20, tt)),
+                                            (
+                                              (search plain depth 20, (search plain depth 20, (search plain depth 20, tt))),
+                                              (
+                                                (search plain depth 20, (search plain depth 20, (search plain depth 20, tt))),
+                                                (
+                                                  (search plain depth 20, (search plain depth 20, (search plain depth 20, (search plain depth 20, tt)))),
+                                                  (
+                                                    (search plain depth 20, (search plain depth 20, (search plain depth 20, (search plain depth 20, (search plain depth 20, tt))))),
+                                                    (
+                                                      (search plain depth 20, (search plain depth 20, tt)),
+                                                      tt,
+                                                    ),
+                                                  ),
+                                                ),
+                                              ),
+                                            ),
+                                          ),
+                                        ),
+                                      ),
+                                    ),
+                                  ),
+                                ),
+                              ),
+                            ),
+                          ),
+                        ),
+                      ),
+                    ),
+                  ),
+                ),
+              ),
+            ),
+          ),
+        ),
+      ),
+    ),
+  ),
+)
+
+pub word_step-sync : IsSync WordStep.the_row
+word_step-sync = declared_sync WordStep.the_type (search plain depth 20, (word_instr-sync, tt))
+
+pub word_code-sync : IsSync WordCode.the_row
+word_code-sync = declared_sync WordCode.the_type (Vec-sync _ word_step-sync, (Vec-sync _ (search plain depth 20), (Vec-sync _ operator-sync, (Vec-sync _ array_element-sync, (Vec-sync _ word_function-sync, (search plain depth 20, (Vec-sync _ word_site-sync, tt)))))))
+
+word_inside-send : IsSend WordInside.the_row
+word_inside-send = declared_send WordInside.the_type (
+  Arc-send _ (Vec-send _ instr-send) (Vec-sync _ instr-sync),
+  (Arc-send _ (Vec-send _ kind-send) (Vec-sync _ kind-sync), (word_code-send, tt)),
+)
+
+pub word_program-send : IsSend WordProgram.the_row
+word_program-send = search (plain, word_inside-send) depth 20
+
 pub code-send : IsSend Code.the_row
 code-send = declared_send Code.the_type (
-  Vec-send _ instr-send,
-  (Arc-send _ (Vec-send _ kind-send) (Vec-sync _ kind-sync), (search plain depth 20, tt)),
+  Arc-send _ (Vec-send _ instr-send) (Vec-sync _ instr-sync),
+  (
+    Arc-send _ (Vec-send _ kind-send) (Vec-sync _ kind-sync),
+    (search plain depth 20, (option-send _ word_program-send, tt)),
+  ),
 )
+
+word_inside-sync : IsSync WordInside.the_row
+word_inside-sync = declared_sync WordInside.the_type (
+  Arc-sync _ (Vec-send _ instr-send) (Vec-sync _ instr-sync),
+  (Arc-sync _ (Vec-send _ kind-send) (Vec-sync _ kind-sync), (word_code-sync, tt)),
+)
+
+pub word_program-sync : IsSync WordProgram.the_row
+word_program-sync = search (plain, word_inside-sync) depth 20
 
 pub code-sync : IsSync Code.the_row
 code-sync = declared_sync Code.the_type (
-  Vec-sync _ instr-sync,
-  (Arc-sync _ (Vec-send _ kind-send) (Vec-sync _ kind-sync), (search plain depth 20, tt)),
+  Arc-sync _ (Vec-send _ instr-send) (Vec-sync _ instr-sync),
+  (
+    Arc-sync _ (Vec-send _ kind-send) (Vec-sync _ kind-sync),
+    (search plain depth 20, (option-sync _ word_program-sync, tt)),
+  ),
 )
 
 pub instance-send : IsSend ProgramInstance.the_row

@@ -79,11 +79,7 @@ fn code_of(
     let size = kinds.len();
     let compiled = compile(alloc, library, 0, size, body)?;
     let extra = compiled.memory - size;
-    Ok(Code {
-        instrs: compiled.code,
-        kinds: Arc::clone(kinds)?,
-        extra,
-    })
+    Ok(Code::new(alloc, compiled.code, Arc::clone(kinds)?, extra)?)
 }
 
 /// The codes of linked bodies, in order.

@@ -3,9 +3,20 @@ use Rattle.machine_code.specs.Tracking.{tracked, are_read}
 use Rattle.coded_programs.specs.Codes.{code_view}
 use Rattle.coded_runs.specs.Cells.{cut, picked}
 use Rattle.coded_runs.specs.Runs.{memory_over, writes_left}
+use Rattle.coded_runs.proofs.KindLemmas.{typed_over}
 use Rattle.coded_runs.proofs.PickedLemmas.{take_front}
 use Rattle.coded_runs.proofs.TrueLemmas.{begins, begins_long, is_long, outcome_is, reads_is, writes_is}
 use Rattle.coded_runs.proofs.runner.run_code.Goals as goal
+
+pub end_of-requires : goal.end_of-requires
+end_of-requires c =
+    let us = c.args.slots.now in
+    let memory_is : c.deref_mut.result.now ≡ memory_over us c.args.code.now.extra = search rules in
+    record {
+      typed = typed_over c.args.code.now.kinds.value.items us c.deref_mut.result.now c.args.code.now.extra
+          c.requires.typed memory_is;
+      marks = search rules;
+    }
 
 pub returns : goal.returns
 returns c =

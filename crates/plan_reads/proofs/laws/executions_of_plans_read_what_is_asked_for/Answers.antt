@@ -18,4 +18,4 @@ returns c = λ plan n p snapshot effect k l asks there code of at nobody reads.
     snapshot.typed ∙ ap (λ x. x.kinds.value.items) code ∙ sym means.kinds in
     c.what_a_run_reads_is_asked_for.ensures snapshot effect layout program k l of
     (subst (λ x. FailsAlike layout (code_view x) program) (sym code) here.fails) asks.distinct typed at nobody
-    (subst (λ x. IsOnlyLookedUp x.instrs.items k) (sym code) (here.looked_up k l at nobody)) reads
+    (subst (λ x. IsOnlyLookedUp x.instrs.value.items k) (sym code) (here.looked_up k l at nobody)) reads
