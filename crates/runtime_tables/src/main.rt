@@ -4,6 +4,7 @@
 
 mod calls;
 mod chains;
+mod codes;
 mod configuration;
 mod cores;
 mod cuts;

@@ -1,6 +1,7 @@
 //! The parts of a row, one after another.
 
 use crate::chains::write_chain;
+use crate::codes::write_codes;
 use crate::configuration::Configuration;
 use crate::cuts::write_cuts;
 use crate::disk_calls::{play, write_content};
@@ -207,6 +208,7 @@ impl<'a, R: Threads + Wait + Clock + Sync> Scene<'a, R> {
             "rows" => write_row_count(&mut self.answer, self.alloc, number(given)?),
             "ready" => self.tell_ready(given),
             "run" => self.run(given),
+            "codes" => write_codes(&mut self.answer, self.alloc, self.setting.text),
             "commit" => self.commit(),
             "lives" => {
                 write_lives(
