@@ -1,4 +1,4 @@
-use Rattle.std.proofs.Common.{rules, ◌≡◌, ◌≤◌, [], length, map, replicate, take, drop, refl, sym, ap, ◌∙◌, ℕ, List}
+use Rattle.std.proofs.Common.{rules, ◌≡◌, ◌≤◌, [], length, replicate, take, drop, refl, ap, ◌∙◌}
 use Rattle.std.proofs.lemmas.List.{length-replicate}
 use Rattle.st_types.specs.Failures.{in_runs}
 use Rattle.machine_code.specs.Machine.{Ending, runs}
@@ -18,14 +18,17 @@ returns c =
     let left = c.run-ended.new.marks in
     let back = c.take_front.new.marks in
     let size = c.word_code-word_code.result.now.size in
-    let go : Tracked → Ending Tracked = λ (m : Tracked). runs tracking in_runs c.args.moment instrs (length instrs) [] m c.args.budget in
+    let budget = c.args.budget in
+    let go : Tracked → Ending Tracked =
+    λ (m : Tracked). runs tracking in_runs c.args.moment instrs (length instrs) [] m budget in
     let all_is : all ≡ replicate size unmarked = search rules in
     let kept : length left ≡ c.in-Ok.all.len = search rules in
     let left_is : c.deref-5.result.now ≡ left = c.deref-5.ensures.value
     ∙ take_front left (drop (length left) c.in-Ok.all.items) c.in-Ok.all.len kept in
     let back_is : back ≡ take (length c.args.marks.now) left =
     c.take_front.ensures ∙ ap (take (length c.args.marks.now)) left_is in
-    let long : length c.args.marks.now ≡ length vs = ap length c.requires.marks ∙ length-replicate (length vs) unmarked in
+    let long : length c.args.marks.now ≡ length vs =
+    ap length c.requires.marks ∙ length-replicate (length vs) unmarked in
     let ends : Ends c.run-ended.result (go (tracked vs (take (length vs) all))) (tracked ws (take (length vs) left)) =
     search rules in
     ends_in_front c.run-ended.result go vs ws c.args.marks.now all left back (length vs) size refl
