@@ -17,9 +17,11 @@ pub struct Code {
     pub kinds: Arc<Vec<Kind>>,
     /// How many values its memory has behind those of the slots, for the variables of functions.
     pub extra: usize,
-    /// Word code that stands for the instructions, where there is some (`Code::new`).
+    /// Word code that stands for the instructions, where there is some (`Code::new`): none where values stand behind
+    /// those of the slots.
     pub words: Option<WordProgram>,
     ghost short: { length instrs.value.items ≤ MAX_INSTRUCTIONS },
     ghost numbered: { length kinds.value.items + extra ≤ MAX_MEMORY },
-    ghost stands: { ForSome words (λ f. (f.instrs ≡ instrs.value.items) × (f.kinds ≡ kinds.value.items)) },
+    ghost stands: { ForSome words (λ f. (f.instrs ≡ instrs.value.items) × (f.kinds ≡ kinds.value.items)
+        × (extra ≡ 0)) },
 }

@@ -12,8 +12,8 @@ use std::alloc::{AllocError, Global};
 use std::sync::Arc;
 
 impl Code {
-    /// The code of these instructions over slots of these types, with so many values behind them, and with word code
-    /// where each instruction has some.
+    /// The code of these instructions over slots of these types, with so many values behind them; where there are none,
+    /// with word code, if each instruction has some.
     ///
     /// The only error is out of memory.
     pub fn new(
@@ -31,7 +31,11 @@ impl Code {
         }) }
     {
         let instrs = Arc::new(alloc, instrs)?;
-        let words = WordProgram::new(alloc, Arc::clone(&instrs)?, Arc::clone(&kinds)?)?;
+        let words = if extra == 0 {
+            WordProgram::new(alloc, Arc::clone(&instrs)?, Arc::clone(&kinds)?)?
+        } else {
+            None
+        };
         Ok(Code {
             instrs,
             kinds,

@@ -75,10 +75,8 @@ fn run_machine(
         (tracked memory.new marks.new) }
 {
     match &code.words {
-        Some(words) if code.extra == 0 => {
-            run_words(alloc, code, words, moment, memory, marks, budget)
-        }
-        _ => slot_machine::run(alloc, &code.instrs, moment, memory, marks, budget),
+        Some(words) => run_words(alloc, code, words, moment, memory, marks, budget),
+        None => slot_machine::run(alloc, &code.instrs, moment, memory, marks, budget),
     }
 }
 

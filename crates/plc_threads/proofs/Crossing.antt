@@ -1523,17 +1523,17 @@ word_instr-send = variants_send WordInstr.enum (
                 (
                   (search plain depth 20, (search plain depth 20, (search plain depth 20, tt))),
                   (
-                    (search plain depth 20, (search plain depth 20, (search plain depth 20, (search plain depth 20, tt)))),
+                    (search plain depth 20, (search plain depth 20, (search plain depth 20, tt))),
                     (
                       (search plain depth 20, (search plain depth 20, (search plain depth 20, tt))),
                       (
-                        (search plain depth 20, (search plain depth 20, (search plain depth 20, tt))),
+                        (search plain depth 20, (search plain depth 20, (search plain depth 20, (search plain depth 20, tt)))),
                         (
-                          (search plain depth 20, (search plain depth 20, tt)),
+                          (search plain depth 20, (search plain depth 20, (search plain depth 20, tt))),
                           (
                             (search plain depth 20, (search plain depth 20, (search plain depth 20, tt))),
                             (
-                              (search plain depth 20, (search plain depth 20, (search plain depth 20, tt))),
+                              (search plain depth 20, (search plain depth 20, tt)),
                               (
                                 (search plain depth 20, (search plain depth 20, (search plain depth 20, tt))),
                                 (
@@ -1543,22 +1543,46 @@ word_instr-send = variants_send WordInstr.enum (
                                     (
                                       (search plain depth 20, (search plain depth 20, (search plain depth 20, tt))),
                                       (
-                                        (search plain depth 20, (search plain depth 20, (search plain depth 20, (search plain depth 20, tt)))),
+                                        (search plain depth 20, (search plain depth 20, (search plain depth 20, tt))),
                                         (
-                                          (search plain depth 20, (search plain depth 20, tt)),
+                                          (search plain depth 20, (search plain depth 20, (search plain depth 20, tt))),
                                           (
-                                            (search plain depth 20, (search plain depth 20, tt)),
+                                            (search plain depth 20, (search plain depth 20, (search plain depth 20, (search plain depth 20, tt)))),
                                             (
-                                              (search plain depth 20, (search plain depth 20, (search plain depth 20, tt))),
+                                              (search plain depth 20, (search plain depth 20, tt)),
                                               (
-                                                (search plain depth 20, (search plain depth 20, (search plain depth 20, tt))),
+                                                (search plain depth 20, (search plain depth 20, tt)),
                                                 (
-                                                  (search plain depth 20, (search plain depth 20, (search plain depth 20, (search plain depth 20, tt)))),
+                                                  (search plain depth 20, (search plain depth 20, (search plain depth 20, tt))),
                                                   (
-                                                    (search plain depth 20, (search plain depth 20, (search plain depth 20, (search plain depth 20, (search plain depth 20, tt))))),
+                                                    (search plain depth 20, (search plain depth 20, (search plain depth 20, tt))),
                                                     (
-                                                      (search plain depth 20, (search plain depth 20, tt)),
-                                                      tt,
+                                                      (search plain depth 20, (search plain depth 20, (search plain depth 20, (search plain depth 20, (search plain depth 20, tt))))),
+                                                      (
+                                                        (search plain depth 20, (search plain depth 20, (search plain depth 20, (search plain depth 20, (search plain depth 20, tt))))),
+                                                        (
+                                                          (search plain depth 20, (search plain depth 20, (search plain depth 20, (search plain depth 20, (search plain depth 20, (search plain depth 20, (search plain depth 20, tt))))))),
+                                                          (
+                                                            (search plain depth 20, (search plain depth 20, (search plain depth 20, (search plain depth 20, (search plain depth 20, (search plain depth 20, (search plain depth 20, tt))))))),
+                                                            (
+                                                              (search plain depth 20, (search plain depth 20, (search plain depth 20, (search plain depth 20, (search plain depth 20, (search plain depth 20, (search plain depth 20, tt))))))),
+                                                              (
+                                                                (search plain depth 20, (search plain depth 20, (search plain depth 20, (search plain depth 20, (search plain depth 20, (search plain depth 20, (search plain depth 20, tt))))))),
+                                                                (
+                                                                  (search plain depth 20, (search plain depth 20, (search plain depth 20, (search plain depth 20, tt)))),
+                                                                  (
+                                                                    (search plain depth 20, (search plain depth 20, (search plain depth 20, (search plain depth 20, tt)))),
+                                                                    (
+                                                                      (search plain depth 20, (search plain depth 20, (search plain depth 20, (search plain depth 20, tt)))),
+                                                                      ((search plain depth 20, (search plain depth 20, tt)), tt),
+                                                                    ),
+                                                                  ),
+                                                                ),
+                                                              ),
+                                                            ),
+                                                          ),
+                                                        ),
+                                                      ),
                                                     ),
                                                   ),
                                                 ),
@@ -1634,17 +1658,17 @@ word_instr-sync = variants_sync WordInstr.enum (
                 (
                   (search plain depth 20, (search plain depth 20, (search plain depth 20, tt))),
                   (
-                    (search plain depth 20, (search plain depth 20, (search plain depth 20, (search plain depth 20, tt)))),
+                    (search plain depth 20, (search plain depth 20, (search plain depth 20, tt))),
                     (
                       (search plain depth 20, (search plain depth 20, (search plain depth 20, tt))),
                       (
-                        (search plain depth 20, (search plain depth 20, (search plain depth 20, tt))),
+                        (search plain depth 20, (search plain depth 20, (search plain depth 20, (search plain depth 20, tt)))),
                         (
-                          (search plain depth 20, (search plain depth 20, tt)),
+                          (search plain depth 20, (search plain depth 20, (search plain depth 20, tt))),
                           (
                             (search plain depth 20, (search plain depth 20, (search plain depth 20, tt))),
                             (
-                              (search plain depth 20, (search plain depth 20, (search plain depth 20, tt))),
+                              (search plain depth 20, (search plain depth 20, tt)),
                               (
                                 (search plain depth 20, (search plain depth 20, (search plain depth 20, tt))),
                                 (
@@ -1654,22 +1678,46 @@ word_instr-sync = variants_sync WordInstr.enum (
                                     (
                                       (search plain depth 20, (search plain depth 20, (search plain depth 20, tt))),
                                       (
-                                        (search plain depth 20, (search plain depth 20, (search plain depth 20, (search plain depth 20, tt)))),
+                                        (search plain depth 20, (search plain depth 20, (search plain depth 20, tt))),
                                         (
-                                          (search plain depth 20, (search plain depth 20, tt)),
+                                          (search plain depth 20, (search plain depth 20, (search plain depth 20, tt))),
                                           (
-                                            (search plain depth 20, (search plain depth 20, tt)),
+                                            (search plain depth 20, (search plain depth 20, (search plain depth 20, (search plain depth 20, tt)))),
                                             (
-                                              (search plain depth 20, (search plain depth 20, (search plain depth 20, tt))),
+                                              (search plain depth 20, (search plain depth 20, tt)),
                                               (
-                                                (search plain depth 20, (search plain depth 20, (search plain depth 20, tt))),
+                                                (search plain depth 20, (search plain depth 20, tt)),
                                                 (
-                                                  (search plain depth 20, (search plain depth 20, (search plain depth 20, (search plain depth 20, tt)))),
+                                                  (search plain depth 20, (search plain depth 20, (search plain depth 20, tt))),
                                                   (
-                                                    (search plain depth 20, (search plain depth 20, (search plain depth 20, (search plain depth 20, (search plain depth 20, tt))))),
+                                                    (search plain depth 20, (search plain depth 20, (search plain depth 20, tt))),
                                                     (
-                                                      (search plain depth 20, (search plain depth 20, tt)),
-                                                      tt,
+                                                      (search plain depth 20, (search plain depth 20, (search plain depth 20, (search plain depth 20, (search plain depth 20, tt))))),
+                                                      (
+                                                        (search plain depth 20, (search plain depth 20, (search plain depth 20, (search plain depth 20, (search plain depth 20, tt))))),
+                                                        (
+                                                          (search plain depth 20, (search plain depth 20, (search plain depth 20, (search plain depth 20, (search plain depth 20, (search plain depth 20, (search plain depth 20, tt))))))),
+                                                          (
+                                                            (search plain depth 20, (search plain depth 20, (search plain depth 20, (search plain depth 20, (search plain depth 20, (search plain depth 20, (search plain depth 20, tt))))))),
+                                                            (
+                                                              (search plain depth 20, (search plain depth 20, (search plain depth 20, (search plain depth 20, (search plain depth 20, (search plain depth 20, (search plain depth 20, tt))))))),
+                                                              (
+                                                                (search plain depth 20, (search plain depth 20, (search plain depth 20, (search plain depth 20, (search plain depth 20, (search plain depth 20, (search plain depth 20, tt))))))),
+                                                                (
+                                                                  (search plain depth 20, (search plain depth 20, (search plain depth 20, (search plain depth 20, tt)))),
+                                                                  (
+                                                                    (search plain depth 20, (search plain depth 20, (search plain depth 20, (search plain depth 20, tt)))),
+                                                                    (
+                                                                      (search plain depth 20, (search plain depth 20, (search plain depth 20, (search plain depth 20, tt)))),
+                                                                      ((search plain depth 20, (search plain depth 20, tt)), tt),
+                                                                    ),
+                                                                  ),
+                                                                ),
+                                                              ),
+                                                            ),
+                                                          ),
+                                                        ),
+                                                      ),
                                                     ),
                                                   ),
                                                 ),

@@ -7,7 +7,7 @@ use std::alloc::Global;
 
 /// `words` where runs of the code go by its word code, else `values`.
 fn way_of(code: &Code) -> &'static str {
-    if code.words.is_some() && code.extra == 0 {
+    if code.words.is_some() {
         "words"
     } else {
         "values"

@@ -3,3 +3,4 @@ pub mod ArithmeticLemmas
 pub mod ComparisonLemmas
 pub mod BitLemmas
 pub mod OperatorLemmas
+mod NarrowLemmas
