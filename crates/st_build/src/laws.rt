@@ -1,13 +1,15 @@
 //! Laws of the plans of texts.
 
-ghost use Rattle.std.specs.Prelude.{◌≡◌, List, ℕ, map, true};
+ghost use Rattle.std.specs.Prelude.{◌≡◌, List, None, Some, ℕ, map, true};
 ghost use Rattle.std.specs.List.{list_all};
+ghost use Rattle.st_plans.specs.declared.plan.PlanInput.{PlanInput};
 ghost use Rattle.st_plans.specs.Plans as plans;
+ghost use Rattle.st_trees.specs.declared.configuration.Task as declared_task;
 ghost use Rattle.st_trees.specs.Sources.{Source};
 ghost use Rattle.config.specs.Sound.{are_different};
 ghost use Rattle.text_paths.specs.Texts.{IsTextOf};
 ghost use Rattle.st_build.specs.Owners.{AreToldApart};
-ghost use Rattle.st_build.specs.TextPlans.{IsPlanOf};
+ghost use Rattle.st_build.specs.TextPlans.{IsPlanOf, task_of};
 
 use text_paths::declarations_of_texts_are_plain;
 
@@ -21,3 +23,13 @@ pub fn instances_of_plans_are_told_apart()
 {
     declarations_of_texts_are_plain();
 }
+
+/// A task of a plan has the INTERVAL and the PRIORITY of its declaration, and an interval of 0 where there is none.
+pub fn tasks_are_as_declared()
+    ensures interval { (inputs : List PlanInput) (t : declared_task.Task) (n : ℕ) → t.interval ≡ Some n
+        → (task_of inputs t).interval ≡ n }
+    ensures no_interval { (inputs : List PlanInput) (t : declared_task.Task) → t.interval ≡ None
+        → (task_of inputs t).interval ≡ 0 }
+    ensures priority { (inputs : List PlanInput) (t : declared_task.Task)
+        → (task_of inputs t).priority ≡ t.priority.number }
+{}

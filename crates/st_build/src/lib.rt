@@ -17,5 +17,5 @@ mod text_plan;
 
 pub use build_error::BuildError;
 pub use config::Plan;
-pub use laws::instances_of_plans_are_told_apart;
+pub use laws::{instances_of_plans_are_told_apart, tasks_are_as_declared};
 pub use source_plan::build;
