@@ -1,2 +1,1 @@
 pub mod Memories
-pub mod MarkNumbers

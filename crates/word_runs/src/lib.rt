@@ -1,7 +1,6 @@
 //! Runs of word code on values.
 #![tactic(auto)]
 
-mod marks;
 mod memory;
 mod runs;
 
