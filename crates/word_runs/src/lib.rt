@@ -1,6 +1,7 @@
 //! Runs of word code on values.
 #![tactic(auto)]
 
+mod marks;
 mod memory;
 mod runs;
 
