@@ -2,7 +2,7 @@
 
 .PHONY: run build examples test strength
 
-# The dosing pump over a real retain file, cold and then warm, in about three minutes: proved where the program is built, else not.
+# The dosing pump over a real retain file, cold and then warm, in about two minutes: proved where the program is built, else not.
 run:
 	@tools/run.sh
 

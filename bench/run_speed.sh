@@ -1,7 +1,8 @@
 #!/bin/sh
 # Runs five programs as slot code, by Lua 5.4 and as C of volatile variables by gcc -O2, side by side, and prints the nanoseconds of a
-# unit of work, best of three rounds of five series each. All three have to come to the same result. Give the root of the repository, and
-# then, if need be, the name of a program that is built already. It takes lua5.4 and gcc.
+# unit of work, best of three rounds of five series each, or of ROUNDS where that is set, which a machine whose host gives now more and now
+# less wants. All three have to come to the same result. Give the root of the repository, and then, if need be, the name of a program that is
+# built already. It takes lua5.4 and gcc.
 set -e
 . "$(dirname "$0")/copied.sh"
 # all crates below a text's plan and a core, by the lines of crates.txt; the kit's libraries among them have no line
@@ -26,7 +27,7 @@ fi
 # sides NAME RUNS UNITS: a line for each side, with the program, the side, the result and the nanoseconds of a unit
 sides() {
     gcc -O2 -Wall -o "$copy/$1" "$here/speed/$1.c"
-    for _ in 1 2 3; do
+    for _ in $(seq "${ROUNDS:-3}"); do
         echo "$1 code $("$built" "$here/speed/$1.st" "$2" "$3" 5)"
         echo "$1 lua $(cd "$here/speed" && lua5.4 measure.lua "$1" "$2" "$3" 5)"
         echo "$1 c $("$copy/$1" "$2" "$3" 5)"

@@ -41,7 +41,7 @@ unproved() {
 if is_new; then
     proved
 else
-    echo "This run is not proved. It compiles the sources as they are, in two or three minutes; 'make build' proves and builds the program."
+    echo "This run is not proved. It compiles the sources as they are, in about two minutes; 'make build' proves and builds the program."
     unproved
 fi | tee "$work/told"
 
