@@ -6,7 +6,9 @@ set -euo pipefail
 cd "$(dirname "$0")/.."
 
 jobs=$(tools/jobs.sh)
-crates=$(sed -n 's/^plant_main: *//p; s/^plant_program: *//p' crates.txt | tr ' ' '\n' | while read -r name; do [ ! -d "crates/$name" ] || echo "$name"; done | wc -l)
+# shellcheck source=bench/copied.sh
+. bench/copied.sh
+crates=$(below . plant_main | wc -l)
 log=$PWD/out/build.log
 mkdir -p out
 started=$SECONDS
@@ -19,7 +21,7 @@ told() {
             "== summary") ;;
             "== "*)
                 done=$((done + 1))
-                printf '%2d:%02d  %2d of %d  %s\n' $(((SECONDS - started) / 60)) $(((SECONDS - started) % 60)) "$done" $((crates + 1)) "${line#== }"
+                printf '%2d:%02d  %2d of %d  %s\n' $(((SECONDS - started) / 60)) $(((SECONDS - started) % 60)) "$done" "$crates" "${line#== }"
                 ;;
         esac
     done
