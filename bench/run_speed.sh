@@ -5,17 +5,8 @@
 # built already. It takes lua5.4 and gcc.
 set -e
 . "$(dirname "$0")/copied.sh"
-# all crates below a text's plan and a core, by the lines of crates.txt; the kit's libraries among them have no line
-crates=$(awk '
-    /^[a-z]/ { name = $1; sub(/:.*/, "", name); line = $0; sub(/^[^:]*:/, "", line); below[name] = line }
-    function add(name, words, count, i) {
-        if (!(name in below) || name in taken) return
-        taken[name] = 1
-        count = split(below[name], words, " ")
-        for (i = 1; i <= count; i++) add(words[i])
-        print name
-    }
-    END { add("st_build"); add("serial_core") }' "$1/crates.txt")
+# all that a text's plan and a core stand on
+crates=$(below "$1" 'st_build serial_core')
 built=${2:+$(realpath "$2")}
 # shellcheck disable=SC2086 # names without blanks
 copied "$1" speed 'anyhow thiserror smallvec' $crates
