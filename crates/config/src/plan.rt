@@ -13,7 +13,6 @@ use st_words::Name;
 use std::sync::Arc;
 
 /// What the runtime needs of a text: its variables, inputs, tasks and programs. It keeps the limits of the language.
-#[derive(Drop)]
 pub struct Plan {
     /// The text, with the type of each untyped literal.
     pub text: Arc<Source>,
@@ -32,6 +31,23 @@ pub struct Plan {
     pub budget: u32,
     ghost sound: { PlanInvariant (source_view text.value) (map vec_items enumerations.items) variables.items inputs.items
         slots.items resources tasks.items programs.items budget },
+}
+
+// Written out and not derived: who drops a plan stands on this, and does not prove again how the trees of a text are dropped.
+impl Drop for Plan {
+    fn drop(self) {
+        let Self {
+            text: _,
+            enumerations: _,
+            variables: _,
+            inputs: _,
+            slots: _,
+            resources: _,
+            tasks: _,
+            programs: _,
+            budget: _,
+        } = self;
+    }
 }
 
 impl Plan {

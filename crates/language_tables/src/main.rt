@@ -1,4 +1,5 @@
-//! Asks for the words of the language, and for the tokens, the trees and the broken rules of the texts of a table.
+//! Asks for the words of the language, and for the tokens, the trees, the broken rules, the layouts and the linked forms of
+//! the texts of a table.
 #![tactic(auto)]
 
 mod answer;
@@ -6,6 +7,7 @@ mod depths;
 mod kinds;
 mod layouts;
 mod lexed;
+mod links;
 mod names;
 mod numbers;
 mod parts;

@@ -32,6 +32,7 @@
 //! | `layout` | the slots of its layout, each with its type, and `input`, or what it starts with and `retained` |
 //! | `slots` | how many these are |
 //! | `sizes` | of each declaration of a unit the first name and the size of its type |
+//! | `linked` | the functions, the blocks and the programs of its linked form, each with how much it has |
 
 use crate::answer::Answer;
 use crate::kinds::write_kind;
@@ -60,7 +61,8 @@ fn part(out: &mut Answer, alloc: Global, word: &str, tokens: &[Token]) {
         | "configured"
         | "layout"
         | "slots"
-        | "sizes" => shown_source(out, alloc, word, tokens),
+        | "sizes"
+        | "linked" => shown_source(out, alloc, word, tokens),
         "expression" => shown_expression(out, alloc, tokens),
         "initial" => shown_initial(out, alloc, tokens),
         "number" => shown_number(out, tokens),

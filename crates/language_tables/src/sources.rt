@@ -2,6 +2,7 @@
 
 use crate::answer::Answer;
 use crate::layouts::shown_layout;
+use crate::links::shown_linked;
 use crate::shown_sources::declarations;
 use st_check::check;
 use st_configured::configure;
@@ -54,6 +55,11 @@ pub fn shown_source(out: &mut Answer, alloc: Global, word: &str, tokens: &[Token
         Ok(source) if word == "declarations" => declarations(out, &source),
         Ok(source) if matches!(word, "layout" | "slots" | "sizes") => {
             if shown_layout(out, alloc, word, source).is_none() {
+                out.put("no memory");
+            }
+        }
+        Ok(source) if word == "linked" => {
+            if shown_linked(out, alloc, source).is_none() {
                 out.put("no memory");
             }
         }

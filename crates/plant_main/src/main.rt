@@ -1,7 +1,8 @@
 //! The program `plant`: its words, the real files and the standard outputs.
 #![tactic(auto)]
 
-use plant_program::{Fault, RealFiles, plant};
+use plant_program::plant;
+use source_run::{Fault, RealFiles};
 use std::alloc::{AllocError, Global};
 use std::io::Write;
 use std::process::ExitCode;

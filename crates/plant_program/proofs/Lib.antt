@@ -1,5 +1,2 @@
 mod PlotLemmas
-mod ProgressLemmas
-mod SettleLemmas
 mod ReplayLemmas
-mod ReportLemmas

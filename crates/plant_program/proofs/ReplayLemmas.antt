@@ -22,11 +22,12 @@ use Rattle.traces.specs.declared.findings.Replayed.{Replayed}
 use Rattle.traces.specs.declared.trace_error.ReplayError.{ReplayError}
 use Rattle.traces.specs.declared.trace_error.ReplayError.TheVariants as replays
 use Rattle.traces.specs.Replays.{AreFindings, AreToldApart, IsToldApart, IsTrace}
-use Rattle.plant_program.specs.declared.fault.Fault.{Fault}
-use Rattle.plant_program.specs.declared.fault.Fault.TheVariants as faults
-use Rattle.plant_program.specs.Reports.{report_text}
-use Rattle.plant_program.specs.Lives.{IsReport, counts_of}
-use Rattle.plant_program.specs.Jobs.{IsPlanIn, IsToldBy, IsTraceFault, RefusesSource}
+use Rattle.source_run.specs.declared.fault.Fault.{Fault}
+use Rattle.source_run.specs.declared.fault.Fault.TheVariants as faults
+use Rattle.source_run.specs.Reports.{report_text}
+use Rattle.source_run.specs.Lives.{IsReport, counts_of}
+use Rattle.source_run.specs.Sources.{IsPlanIn, RefusesSource}
+use Rattle.plant_program.specs.Jobs.{IsToldBy, IsTraceFault}
 
 -- the owner of an instance is that of its program
 owner_at : (plan : Plan) (k : ℕ) (p : ProgramInstance) → slice_get plan.programs.items k ≡ Some p

@@ -3,7 +3,7 @@ use Rattle.std.specs.Prelude.{◌≡◌, ℕ, List, Option, Result, Ok, Err}
 use Rattle.std.specs.Io.KnownBytes.{Appends}
 use Rattle.plant_words.specs.declared.job.Job.{Job}
 use Rattle.plant_words.specs.Jobs.{IsSafe}
-use Rattle.plant_program.specs.declared.fault.Fault as faults
+use Rattle.source_run.specs.declared.fault.Fault as faults
 use Rattle.plant_program.specs.declared.ending.Ending.{Ending}
 use Rattle.plant_program.specs.declared.ending.Ending.TheVariants.{Done, Helped, Misworded, Declined, Fault, Untold}
 use Rattle.plant_program.specs.declared.telling.End.{End}

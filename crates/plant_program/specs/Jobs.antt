@@ -1,22 +1,16 @@
--- What jobs tell where they end well, and why their source is refused.
+-- What jobs tell where they end well, and why a trace is refused.
 use Rattle.std.specs.Prelude.{◌≡◌, ◌≤◌, ◌⊎◌, ◌++◌, ℕ, List, Some, None, Bool, true, false, find}
 use Rattle.std.specs.List.{Contains}
 use denote.Bor.{Bor}
 use Rattle.st_words.specs.declared.limits.TheConstants.{MAX_BUDGET}
 use Rattle.plant_words.specs.declared.command.TheConstants.{DEFAULT_BUDGET}
-use Rattle.st_trees.specs.Sources.{Source}
 use Rattle.st_plans.specs.Rows.{Latch}
 use Rattle.st_plans.specs.Restarts as restarts
 use Rattle.st_plans.specs.Logs.{Log}
 use Rattle.config.specs.declared.plan.Plan.{Plan}
-use Rattle.config.specs.PlanViews.{plan_view}
 use Rattle.image.specs.Plants.{AreRowsOf}
-use Rattle.commit_lock.specs.Cores.{CoreView}
 use Rattle.commit_lock.specs.declared.starting.StartMode.{StartMode}
 use Rattle.traces.specs.Replays.{IsTrace, budget_text}
-use Rattle.text_paths.specs.Texts.{IsTextOf}
-use Rattle.st_build.specs.Refusals.{TextLacksPlan}
-use Rattle.st_build.specs.TextPlans.{IsPlanOf}
 use Rattle.plots.specs.Calls.{IsUncalled}
 use Rattle.plant_codes.specs.Codes.{code_of, codes_like, is_code}
 use Rattle.plant_codes.specs.Spelling.{explanation_text}
@@ -26,25 +20,18 @@ use Rattle.retain_show.specs.Shown.{areas_shown, shown_text}
 use Rattle.plant_words.specs.declared.job.Job.{Job}
 use Rattle.plant_words.specs.declared.job.Job.TheVariants as jobs
 use Rattle.plant_words.specs.declared.job.Start.{Start}
-use Rattle.st_build.specs.declared.build_error.BuildError.TheVariants as errors
 use Rattle.traces.specs.declared.trace_error.ReplayError.TheVariants as replays
-use Rattle.plant_program.specs.declared.fault.Fault.{Fault}
-use Rattle.plant_program.specs.declared.fault.Fault.TheVariants as faults
+use Rattle.source_run.specs.declared.fault.Fault.{Fault}
+use Rattle.source_run.specs.declared.fault.Fault.TheVariants as faults
+use Rattle.source_run.specs.Sources.{IsPlanIn}
+use Rattle.source_run.specs.Lives.{IsReport}
+use Rattle.source_run.specs.Runs.{IsReportOf}
 use Rattle.plant_program.specs.declared.telling.End.{End}
 use Rattle.plant_program.specs.declared.ending.Declined.{Declined}
 use Rattle.plant_program.specs.declared.ending.Declined.TheVariants.{SharedStore, SharedPicture, NoPicture}
 use Rattle.plant_program.specs.declared.ending.Declined.TheVariants.{NoVariable, NoCode}
 use Rattle.plant_program.specs.declared.telling.End.TheVariants as ends
-use Rattle.plant_program.specs.Lives.{IsReport, start_of}
-use Rattle.plant_program.specs.Progress.{IsRunOf}
-use Rattle.plant_program.specs.Settling.{IsSettled}
 use Rattle.plant_program.specs.Sizes.{sizes_text}
-
--- the plan of a text
-pub record IsPlanIn (text : List ℕ) (budget : ℕ) (plan : Plan) : Type 0 where
-  pub source : Source
-  pub spelled : IsTextOf text source
-  pub is : IsPlanOf source budget (plan_view plan)
 
 -- the sizes of the plan of a text
 pub record IsCheck (budget : ℕ) (told : List ℕ) : Type 0 where
@@ -52,16 +39,6 @@ pub record IsCheck (budget : ℕ) (told : List ℕ) : Type 0 where
   pub plan : Plan
   pub is : IsPlanIn text budget plan
   pub sizes : told ≡ sizes_text plan
-
--- the report of a life of the plan, legal and begun as it was asked for, in which the rows of a plant are latched and
--- no others, nothing waits and all is acknowledged
-pub record IsReportOf (D : Type 0) (plan : Plan) (asked : Start) (told : List ℕ) : Type 0 where
-  pub life : CoreView D
-  pub rows : List Latch
-  pub rows_are : AreRowsOf plan.inputs.items rows
-  pub run : IsRunOf plan asked rows life.state
-  pub settled : IsSettled life plan.resources
-  pub report : IsReport plan (start_of life.state) life.state.log (Some life.acked) told
 
 -- the report of a run of the plan of a text
 pub record IsRun (D : Type 0) (budget : ℕ) (asked : Start) (told : List ℕ) : Type 0 where
@@ -171,10 +148,6 @@ abbrev pub EndsWell : Type 0 → Job → End → Type 0
 EndsWell D job (ends.Report text) = Tells D job text.items
 EndsWell D job (ends.Declined why) = Declines job why
 
--- a source that can't be read, or for which memory ran out
-abbrev pub IsUnread : Fault → Type 0
-IsUnread fault = (fault ≡ faults.Source) ⊎ (fault ≡ faults.Build errors.Memory)
-
 -- V1 to V4
 abbrev pub IsTraceFault : Fault → Type 0
 IsTraceFault (faults.Trace replays.NoMemory) = ⊥
@@ -198,13 +171,6 @@ pub record IsNoReplay (trace : List ℕ) : Type 0 where
 abbrev pub RefusesTrace : List ℕ → Fault → Type 0
 RefusesTrace trace fault = IsTraceFault fault
     → ((fault ≡ faults.Trace replays.Form) × HasNoBudget trace) ⊎ IsNoReplay trace
-
--- The source can't be read, of which files tell nothing, so X1 is not held to it; or the number of a text without a
--- plan applies to it.
-abbrev pub RefusesSource : ℕ → Fault → Type 0
-RefusesSource budget faults.Source = Unit {0}
-RefusesSource budget (faults.Build e) = (text : List ℕ) × TextLacksPlan text budget e
-RefusesSource budget _ = ⊥
 
 -- how a plot of this plan, over these rows and by this trace, ends well
 abbrev pub PlotsWell : Plan → List Latch → List ℕ → List (Bor (List ℕ)) → End → Type 0

@@ -1,7 +1,7 @@
 -- The sizes of a plan, as they are printed.
 use Rattle.std.specs.Prelude.{ℕ, List, ◌++◌, length, filter, codes}
 use Rattle.config.specs.declared.plan.Plan.{Plan}
-use Rattle.plant_program.specs.Reports.{count_line}
+use Rattle.source_run.specs.Reports.{count_line}
 
 -- a line each: resources, tasks, programs, variables (inputs are none), and those that are retained
 abbrev pub sizes_text : Plan → List ℕ

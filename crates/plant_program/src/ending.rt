@@ -2,7 +2,7 @@
 
 ghost use Rattle.std.specs.Prelude.{◌≡◌};
 
-use crate::fault::Fault;
+use source_run::Fault;
 use thiserror::Error;
 
 /// The exit status where the words are refused, or the job isn't begun.

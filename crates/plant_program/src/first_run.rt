@@ -3,15 +3,15 @@
 ghost use Rattle.std.specs.Prelude.{◌≡◌, IfOk};
 
 use crate::built_in;
-use crate::fault::Fault;
 use crate::open_gate::OpenGate;
-use crate::report::write_variable;
 use commit_lock::{Core, Refusal, StartMode};
 use config::Plan;
 use disk::{Disk, SimDisk};
 use plant_words::DEFAULT_BUDGET;
-use plc_threads::{Pace, Report, RunError, RunFault, run_plant};
+use plc_threads::{Pace, Report, RunError, run_plant};
+use run_lock::RunFault;
 use serial_core::Refusal as SerialRefusal;
+use source_run::{Fault, write_variable};
 use st_build::build;
 use st_plans::Row;
 use st_words::{Name, Path, Value};

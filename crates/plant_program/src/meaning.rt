@@ -5,8 +5,8 @@ ghost use Rattle.plant_codes.specs.Codes.{codes_like, is_code};
 ghost use Rattle.plant_codes.specs.Spelling.{explanation_text};
 ghost use Rattle.plant_program.specs.Jobs.{IsExplained};
 
-use crate::fault::Fault;
 use plant_codes::{Explanation, explanation, write_explanation};
+use source_run::Fault;
 use std::alloc::{AllocError, Global};
 
 /// What is told of a code as it is printed; the only error is out of memory.

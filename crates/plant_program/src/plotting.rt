@@ -5,15 +5,12 @@ ghost use Rattle.plant_words.specs.declared.job.Job.{Job};
 ghost use Rattle.plant_program.specs.Jobs.{EndsWell, IsDrawn, NamesNone, PlotsWell};
 
 use crate::ending::Declined;
-use crate::fault::Fault;
-use crate::files::Files;
-use crate::plants::read_rows;
 use crate::replaying::read_trace;
-use crate::sources::plan_of;
 use crate::telling::End;
 use config::Plan;
 use plant_words::PlotJob;
 use plots::{Plot, Shown, find, first_variables, gather, write_plot};
+use source_run::{Fault, Files, plan_of, read_rows};
 use st_plans::Row;
 use std::alloc::{AllocError, Global};
 use std::io;

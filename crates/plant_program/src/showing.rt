@@ -3,12 +3,11 @@
 ghost use Rattle.std.specs.Prelude.{◌≡◌, IfOk};
 ghost use Rattle.plant_program.specs.Jobs.{IsShowing, file_shown};
 
-use crate::fault::Fault;
-use crate::files::Files;
 use commit_lock::StartFault;
 use plant_words::ShowJob;
 use retain_show::{shown, shown_areas};
 use retain_store::{FILE_BYTES, StoreFault};
+use source_run::{Fault, Files};
 use std::alloc::Global;
 use std::io;
 use std::io::Read;

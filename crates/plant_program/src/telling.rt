@@ -5,8 +5,8 @@ ghost use Rattle.std.specs.Io.KnownBytes.{Appends};
 ghost use Rattle.plant_program.specs.Endings.{IsTold, IsAboutWords};
 
 use crate::ending::{Declined, Ending};
-use crate::fault::Fault;
 use plant_words::WordsError;
+use source_run::Fault;
 use std::io;
 use std::io::Write;
 

@@ -93,14 +93,14 @@ use Rattle.commit_lock.specs.contracts.core_state.Core.TheInside as CoreInside
 use Rattle.std.specs.declared.sync.ledger.Ledger as Ledger
 use Rattle.std.below.core.proofs.ledger.Book.TheSendSync as BookSend
 use Rattle.atomic_table.proofs.shared.Seat.TheSendSync as SeatSend
-use Rattle.plc_threads.specs.contracts.mark.Mark as Mark
-use Rattle.plc_threads.specs.contracts.mark.Mark.TheInside as MarkInside
+use Rattle.run_lock.specs.contracts.mark.Mark as Mark
+use Rattle.run_lock.specs.contracts.mark.Mark.TheInside as MarkInside
 use Rattle.atomic_table.proofs.shared.Shared.TheSendSync as SharedSync
 use Rattle.atomic_table.proofs.send_lease.SendLease.TheSendSync as LeaseSync
-use Rattle.plc_threads.specs.contracts.mark.RaisePass as RaisePass
-use Rattle.plc_threads.specs.contracts.mark.RaisePass.TheInside as RaiseInside
-use Rattle.plc_threads.specs.declared.locked.Run as Run
-use Rattle.plc_threads.specs.contracts.locked.Locked as Locked
+use Rattle.run_lock.specs.contracts.mark.RaisePass as RaisePass
+use Rattle.run_lock.specs.contracts.mark.RaisePass.TheInside as RaiseInside
+use Rattle.run_lock.specs.declared.locked.Run as Run
+use Rattle.run_lock.specs.contracts.locked.Locked as Locked
 use Rattle.plc_threads.specs.contracts.shared.Shared as Shared
 
 -- which types cross by their parts

@@ -5,14 +5,11 @@ ghost use Rattle.plc_threads.specs.Reports.{AreJoined};
 
 use crate::driver::{Pace, drive};
 use crate::gate::Gate;
-use crate::locked::Run;
-use crate::mark::{Mark, Pass};
-use crate::phase::{Phase, RunFault};
 use crate::report::Told;
 use crate::shared::Shared;
-use crate::tally::Tally;
 use crate::worker::{flush_all, work};
 use disk::Disk;
+use run_lock::{Mark, Pass, Phase, Run, RunFault, Tally};
 use std::alloc::Global;
 use std::sync::Wait;
 use std::sync::ledger::Share;

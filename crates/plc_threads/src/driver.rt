@@ -2,11 +2,9 @@
 
 ghost use Rattle.std.specs.Prelude.{◌≡◌};
 
-use crate::locked::Run;
-use crate::mark::{Mark, Pass};
-use crate::phase::Phase;
 use crate::shared::Shared;
 use disk::Disk;
+use run_lock::{Mark, Pass, Phase, Run};
 use std::sync::Wait;
 use std::thread;
 

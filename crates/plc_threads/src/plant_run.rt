@@ -4,21 +4,19 @@ ghost use Rattle.std.specs.Prelude.{◌≡◌, ◌+◌, ◌++◌, Some, IfOk, Ma
 ghost use Rattle.st_plans.specs.Logs.{done_count};
 ghost use Rattle.serial_core.specs.Steps.{made};
 ghost use Rattle.commit_lock.specs.Flushing.{IsAcknowledged};
-ghost use Rattle.plc_threads.specs.Lives.{life_of, NothingIsDue};
+ghost use Rattle.run_lock.specs.Lives.{life_of, NothingIsDue};
 ghost use Rattle.plc_threads.specs.Reports.{committed_in};
 
 use crate::crew::{Joined, in_scope};
 use crate::driver::Pace;
 use crate::gate::Gate;
-use crate::locked::{Locked, Run, is_settled};
-use crate::mark::{Mark, Pass, RaisePass};
-use crate::phase::{Phase, RunFault};
 use crate::report::{Report, RunError};
 use crate::shared::Shared;
 use commit_lock::Core;
 use config::Plan;
 use crossbeam_utils::CachePadded;
 use disk::Disk;
+use run_lock::{Locked, Mark, Pass, Phase, RaisePass, Run, RunFault, is_settled};
 use st_plans::Row;
 use std::alloc::Global;
 use std::collections::VecDeque;

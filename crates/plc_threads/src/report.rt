@@ -1,8 +1,8 @@
 //! What a run gives.
 
-use crate::phase::RunFault;
 use commit_lock::Core;
 use disk::Disk;
+use run_lock::RunFault;
 
 /// How often the worker of a resource was told Committed and Stale.
 #[derive(Clone, Copy, Debug, PartialEq, Eq)]

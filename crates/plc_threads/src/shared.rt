@@ -1,14 +1,12 @@
 //! What all threads of a run share.
 
 ghost use Rattle.std.specs.Prelude.{◌≡◌, ◌+◌, Ok, IfSome, IfNone};
-ghost use Rattle.plc_threads.specs.Answers.{committed_by, committed_here, stale_after};
+ghost use Rattle.run_lock.specs.Answers.{committed_by, committed_here, stale_after};
 
-use crate::locked::{Locked, Run};
-use crate::phase::{Phase, RunFault};
-use crate::tally::Tally;
 use coded_runs::{Execution, Snapshot};
 use commit_lock::{Answer, Core};
 use disk::Disk;
+use run_lock::{Locked, Phase, Run, RunFault, Tally};
 use st_plans::{Activation, Entry};
 use std::alloc::Global;
 use std::sync::{Condvar, Mutex, Wait};

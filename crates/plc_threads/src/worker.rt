@@ -3,14 +3,11 @@
 ghost use Rattle.std.specs.Prelude.{◌≡◌, ◌+◌};
 
 use crate::gate::Gate;
-use crate::locked::Run;
-use crate::mark::Mark;
-use crate::phase::{Phase, RunFault};
 use crate::shared::{Served, Shared};
-use crate::tally::Tally;
 use coded_runs::run;
 use commit_lock::Answer;
 use disk::Disk;
+use run_lock::{Mark, Phase, Run, RunFault, Tally};
 use std::alloc::Global;
 use std::sync::Wait;
 use std::sync::ledger::Share;

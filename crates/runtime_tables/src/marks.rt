@@ -2,7 +2,7 @@
 
 use crate::row_error::RowError;
 use crate::words::{number, split};
-use plc_threads::{Mark, Pass, RaisePass};
+use run_lock::{Mark, Pass, RaisePass};
 use std::alloc::Global;
 use std::fmt::Write;
 

@@ -3,7 +3,8 @@
 use crate::watch::Watch;
 use commit_lock::Core;
 use disk::SimDisk;
-use plc_threads::{RunFault, Told};
+use plc_threads::Told;
+use run_lock::RunFault;
 use st_plans::Entry;
 use std::alloc::AllocError;
 use std::fmt::Write;

@@ -3,5 +3,4 @@ pub mod Bodies
 pub mod Choices
 pub mod Listings
 pub mod Roots
-pub mod Spans
 pub mod Targets

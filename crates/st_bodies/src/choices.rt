@@ -18,9 +18,9 @@ ghost use Rattle.st_bodies.specs.Listings.{listed_view};
 ghost use Rattle.st_bodies.specs.Roots.{wrong_root};
 
 use crate::expressions::wrong_root;
-use crate::labels::wrong_labels;
 use crate::listings::Listed;
 use crate::roots::Root;
+use st_labels::wrong_labels;
 use st_names::UnitNames;
 use st_statics::{Broken, Demand, Sorts};
 use st_trees::{CaseArm, Expr, Stmt};

@@ -7,11 +7,9 @@ mod choices;
 mod exits;
 mod expressions;
 mod invocations;
-mod labels;
 mod listings;
 mod roots;
 mod selections;
-mod spans;
 mod targets;
 
 pub use bodies::wrong_bodies;

@@ -3,8 +3,8 @@ use Rattle.std.specs.Vec.{vec_items}
 use Rattle.config.specs.declared.plan.Plan.{Plan}
 use Rattle.traces.specs.Replays.{IsToldApart}
 use Rattle.plant_program.specs.Jobs.{IsNoTrace, IsToldBy}
-use Rattle.plant_program.specs.Lives.{counts_of}
-use Rattle.plant_program.specs.Reports.{report_text}
+use Rattle.source_run.specs.Lives.{counts_of}
+use Rattle.source_run.specs.Reports.{report_text}
 use Rattle.plant_program.proofs.ReplayLemmas.{mapped, no_memory, told_so}
 use Rattle.plant_program.proofs.replaying.run_again.Goals as goal
 
@@ -22,8 +22,10 @@ returns-in-Ok-replay_text-clause-report c =
     (λ text. IsToldBy c.args.plan.now.value c.args.rows.now c.args.trace.now text.items) c.report_of.result
     (λ text spelled. subst (λ (p : Plan). IsToldBy p c.args.rows.now c.args.trace.now text.items) plan_is
     (told_so shared c.args.rows.now c.args.trace.now text.items r
-    (subst (λ (p : Plan). text.items ≡ report_text (counts_of r) (map vec_items p.enumerations.items) p.variables.items r.values.items) (sym plan_is)
-    (subst (λ (p : Plan). text.items ≡ report_text (counts_of r) (map vec_items p.enumerations.items) p.variables.items r.values.items) here_is spelled))
+    (subst (λ (p : Plan). text.items ≡ report_text (counts_of r) (map vec_items p.enumerations.items)
+    p.variables.items r.values.items) (sym plan_is)
+    (subst (λ (p : Plan). text.items ≡ report_text (counts_of r) (map vec_items p.enumerations.items)
+    p.variables.items r.values.items) here_is spelled))
     mode start log is found (c.in-Ok-replay_text.ensures.only apart))) c.report_of.ensures.told
 
 pub returns-in-Err-clause-refused : goal.returns-in-Err-clause-refused

@@ -1,8 +1,8 @@
 use Rattle.std.proofs.Common.{◌≡◌, ◌∙◌, ap, arith, rules, sym, ◌++◌, deque_len, length}
 use Rattle.std.proofs.lemmas.Bool.Decides.{nat_tests}
 use Rattle.std.proofs.lemmas.List.{append-nil, nil_from_length}
-use Rattle.plc_threads.proofs.Gains.{rows_of}
-use Rattle.plc_threads.proofs.PhaseLemmas.{whole_unless_stopped}
+use Rattle.run_lock.proofs.Gains.{rows_of}
+use Rattle.run_lock.proofs.PhaseLemmas.{whole_unless_stopped}
 use Rattle.plc_threads.proofs.plant_run.run_as.Goals as goal
 
 pub returns : goal.returns

@@ -1,7 +1,7 @@
 use Rattle.std.proofs.Common.{◌++◌, Some}
 use Rattle.st_plans.specs.Logs.{done_count}
 use Rattle.serial_core.specs.Steps.{made}
-use Rattle.plc_threads.specs.Lives.{life_of}
+use Rattle.run_lock.specs.Lives.{life_of}
 use Rattle.plc_threads.proofs.plant_run.run_plant.Given as goal
 
 abbrev pub ghosts-run_as-J-Run : goal.ghosts-run_as-J-Run

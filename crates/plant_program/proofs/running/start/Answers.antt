@@ -1,8 +1,0 @@
-use Rattle.std.proofs.Common.{◌∙◌}
-use Rattle.plant_program.proofs.ProgressLemmas.{begins}
-use Rattle.plant_program.proofs.running.start.Goals as goal
-
-pub returns-in-Ok-clause-begins : goal.returns-in-Ok-clause-begins
-returns-in-Ok-clause-begins g c =
-    begins _ _ c.args.start c.in-Ok.core.store.last c.in-Ok.core.state
-    (λ is. c.in-Ok.ensures.resumed (c.mode.ensures ∙ is)) (λ is. c.in-Ok.ensures.cold (c.mode.ensures ∙ is))

@@ -1,5 +1,0 @@
-use Rattle.plc_threads.specs.Lives.{NothingIsDue}
-use Rattle.plc_threads.proofs.locked.is_settled.Given as goal
-
-abbrev pub invariant-loop-resource : goal.invariant-loop-resource
-invariant-loop-resource g l = NothingIsDue l.core.state l.resource

@@ -1,8 +1,0 @@
-use Rattle.std.proofs.Common.{rules, arith}
-use mathlib.Core.Option.{none}
-use Rattle.atomic_table.specs.Table.{step}
-use Rattle.plc_threads.proofs.Moves.{looks}
-use Rattle.plc_threads.proofs.mark.Mark.load.Goals as goal
-
-pub load-requires : goal.load-requires
-load-requires c = (search rules, omega (arith, c.self.invariant), looks _ _ _ (step 0 0 0 0 none))

@@ -1,0 +1,3 @@
+pub mod Gains
+mod Moves
+pub mod PhaseLemmas

@@ -1,0 +1,6 @@
+pub mod Rising
+pub mod Sighting
+pub mod Phases
+pub mod Answers
+pub mod Lives
+pub mod Latching

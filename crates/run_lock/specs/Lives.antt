@@ -1,0 +1,49 @@
+-- The life that a run is of.
+use Rattle.std.specs.Prelude.{◌≡◌, ℕ, ◌+◌, ◌<◌, List, [], ◌++◌, Option, Some}
+use Rattle.std.specs.Coded.{Coded-set, coded_list, coded_option}
+use Rattle.st_plans.specs.contracts.entry.Row as latch
+use Rattle.serial_core.specs.contracts.serial.SerialCore as state
+use Rattle.atomic_table.specs.Seated.{TableId}
+use Rattle.st_plans.specs.Logs.{done_count}
+use Rattle.serial_core.specs.Steps.{State, made, none_waits}
+use Rattle.st_plans.specs.Rows.{Latch}
+use Rattle.commit_lock.specs.Cores.{CoreView}
+use Rattle.run_lock.specs.declared.phase.Phase.{Phase}
+use Rattle.run_lock.specs.Phases.{unless_stopped}
+
+-- the plan, what the variables and the last moment were at the start, and the room: a life without its log
+abbrev pub life_of : State → State
+life_of state = record { plan = state.plan; start = state.start; before = state.before; log = []; room = state.room }
+
+-- the life is this one
+abbrev pub IsOfLife : {D : Type 0} → CoreView D → Option State → Type 0
+IsOfLife core life = Some (life_of core.state) ≡ life
+
+pub IsOfLife-prop : {D : Type 0} (core : CoreView D) (life : Option State) → IsProp (IsOfLife core life)
+IsOfLife-prop core life = Coded-set (coded_option state.the_row.coded) (Some (life_of core.state)) life
+
+-- The rows that were latched, and after them those that are left, are those of the run, until it is stopped.
+abbrev pub InOrder : {D : Type 0} → Phase → CoreView D → List Latch → List Latch → Type 0
+InOrder phase core rest rows = unless_stopped phase ((made core.state).rows ++ rest) ≡ unless_stopped phase rows
+
+pub InOrder-prop : {D : Type 0} (phase : Phase) (core : CoreView D) (rest rows : List Latch)
+    → IsProp (InOrder phase core rest rows)
+InOrder-prop phase core rest rows =
+    Coded-set (coded_list latch.the_row.coded) (unless_stopped phase ((made core.state).rows ++ rest))
+    (unless_stopped phase rows)
+
+-- nothing waits on one of so many resources
+abbrev pub NothingIsDue : State → ℕ → Type 0
+NothingIsDue state resources = (resource : ℕ) → resource < resources → none_waits state resource
+
+-- The life goes on with so many executions more, and its acknowledgements stay.
+pub record Gains {D : Type 0} (old new : CoreView D) (executions : ℕ) : Type 0 where
+  pub life_is : life_of new.state ≡ life_of old.state
+  pub done : done_count new.state.log ≡ done_count old.state.log + executions
+  pub rows_stay : (made new.state).rows ≡ (made old.state).rows
+  pub acked_stays : new.acked ≡ old.acked
+
+-- the name of no mark
+abbrev pub no_mark : TableId
+no_mark =
+    record { words = 0; slots = 0; views_name = 0; atom = 0; block = 0; offset = 0; slot_names = [] }

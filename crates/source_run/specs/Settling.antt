@@ -1,0 +1,9 @@
+-- When a life has nothing left to do.
+use Rattle.std.specs.Prelude.{ℕ}
+use Rattle.commit_lock.specs.Cores.{CoreView}
+use Rattle.commit_lock.specs.Flushing.{IsAcknowledged}
+use Rattle.run_lock.specs.Lives.{NothingIsDue}
+
+-- nothing waits on so many resources, and all of the log is acknowledged
+abbrev pub IsSettled : {D : Type 0} → CoreView D → ℕ → Type 0
+IsSettled core resources = IsAcknowledged core × NothingIsDue core.state resources

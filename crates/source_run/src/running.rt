@@ -1,0 +1,123 @@
+//! The run of a plan.
+
+ghost use Rattle.std.specs.Prelude.{◌≡◌, ◌++◌, IfOk, OnOk, Some};
+ghost use Rattle.commit_lock.specs.Starting.{IsNew};
+ghost use Rattle.source_run.specs.Runs.{IsReportOf};
+ghost use Rattle.source_run.specs.Lives.{IsReport, start_of};
+ghost use Rattle.st_plans.specs.Logs.{IsLegal};
+ghost use Rattle.config.specs.PlanViews.{plan_view};
+ghost use Rattle.source_run.specs.Progress.{BeginsAs, mode_of};
+ghost use Rattle.run_lock.specs.Lives.{life_of};
+ghost use Rattle.serial_core.specs.Steps.{made};
+ghost use Rattle.source_run.specs.Settling.{IsSettled};
+
+use crate::fault::Fault;
+use crate::files::Files;
+use crate::life::report_of;
+use crate::plants::read_rows;
+use crate::progress::Progress;
+use crate::tracing::traced;
+use commit_lock::{Core, StartFault, StartMode};
+use config::Plan;
+use disk::Disk;
+use plant_words::{Pace, RunJob, Start};
+use plc_threads::{Pace as RunPace, Report, RunError, run_plant};
+use retain_store::StoreFault;
+use st_plans::Row;
+use st_words::limits::MAX_LOG_ROOM;
+use std::alloc::Global;
+use std::sync::{Arc, Wait};
+use std::thread::Threads;
+
+fn mode(start: Start) -> StartMode
+    ensures { result ≡ mode_of start }
+{
+    match start {
+        Start::Warm => StartMode::Warm,
+        Start::Cold => StartMode::Cold,
+    }
+}
+
+/// A life over the retain file of that name; S3 where it can't be opened.
+fn start<F: Files>(
+    alloc: Global,
+    files: &mut F,
+    plan: Arc<Plan>,
+    store: &str,
+    start: Start,
+) -> Result<Core<F::Disk>, Fault>
+    ensures new { IfOk result (λ core. IsNew core.state plan.value MAX_LOG_ROOM) }
+    ensures begins { IfOk result (λ core. BeginsAs start core.state) }
+{
+    let Some(disk) = files.store(store) else {
+        return Err(Fault::Start(StartFault::Store(StoreFault::Device)));
+    };
+    match Core::start(alloc, plan, disk, mode(start), MAX_LOG_ROOM) {
+        Ok(core) => Ok(core),
+        Err((fault, disk)) => {
+            files.back(disk);
+            Err(Fault::Start(fault))
+        }
+    }
+}
+
+fn run_pace(pace: Pace) -> RunPace {
+    match pace {
+        Pace::Settle => RunPace::Settle,
+        Pace::Free => RunPace::Free,
+    }
+}
+
+/// Runs the rows in threads, and gives the report. How far it is, is told as it goes.
+fn served<D: Disk + Drop + Send, R: Threads + Wait + Eprint + Sync>(
+    rt: &R,
+    alloc: Global,
+    plan: &Plan,
+    core: Core<D>,
+    pace: Pace,
+    rows: Vec<Row>,
+    progress: &Progress<'_, R>,
+) -> (Core<D>, Result<Vec<u8>, Fault>)
+    requires own { plan.now ≡ core.state.plan }
+    ensures settled { OnOk result.1 (IsSettled result.0 plan.now.resources) }
+    ensures life { OnOk result.1 (life_of result.0.state ≡ life_of core.state) }
+    ensures latched { OnOk result.1 ((made result.0.state).rows ≡ (made core.state).rows ++ rows.items) }
+    ensures report { IfOk result.1 (λ text. IsReport result.0.state.plan (start_of result.0.state) result.0.state.log
+        (Some result.0.acked) text.items) }
+    ensures legal { IfOk result.1 (λ _.
+        IsLegal (plan_view result.0.state.plan) result.0.state.start result.0.state.before result.0.state.log) }
+{
+    match run_plant(rt, alloc, plan, core, rows, run_pace(pace), progress) {
+        Ok(Report { core, told: _ }) => match report_of(alloc, &core) {
+            Ok(report) => (core, Ok(report)),
+            Err(_) => (core, Err(Fault::NO_MEMORY)),
+        },
+        Err(RunError { core, fault }) => (core, Err(Fault::Run(fault))),
+    }
+}
+
+/// Reads the plant, opens the store and starts, then runs in threads, then writes the trace where one is asked for, and
+/// gives the report; the first fault ends it.
+pub fn run_plan<F: Files, R: Threads + Wait + Eprint + Sync>(
+    rt: &R,
+    alloc: Global,
+    files: &mut F,
+    plan: Plan,
+    job: &RunJob<'_>,
+) -> Result<Vec<u8>, Fault>
+    // The report is that of a legal life of the plan, begun as it was asked for, in which the rows of a plant are
+    // latched, nothing waits and all is acknowledged.
+    ensures report { IfOk result (λ text. IsReportOf F.Disk plan job.now.start text.items) }
+{
+    let rows = read_rows(alloc, files, job.plant, &plan)?;
+    let Ok(plan) = Arc::new(alloc, plan) else {
+        return Err(Fault::Start(StartFault::NoMemory));
+    };
+    let core = start(alloc, files, Arc::clone(&plan)?, job.store, job.start)?;
+    let progress = Progress::new(rt, rows.len(), files.is_terminal());
+    let (core, report) = served(rt, alloc, &plan, core, job.pace, rows, &progress);
+    progress.clear();
+    let report = traced(alloc, files, job, &core, report);
+    files.back(core.stop());
+    report
+}

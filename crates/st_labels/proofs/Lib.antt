@@ -1,0 +1,2 @@
+mod KindOrder
+mod SpanLemmas
