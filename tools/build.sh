@@ -1,35 +1,41 @@
 #!/usr/bin/env bash
 # Proves what the program stands on, independent crates side by side, builds it, and leaves it as out/plant.
 #
+# It is what the gate does of it, without edits, on a copy. What has passed is kept on this machine, so a second call, after a stop or a
+# change, goes on from there, and 'make test' does not prove it again.
+#
 # usage: tools/build.sh
 set -euo pipefail
 cd "$(dirname "$0")/.."
+# shellcheck source=tools/crates.sh
+. tools/crates.sh
 
-jobs=$(tools/jobs.sh)
-# shellcheck source=bench/copied.sh
-. bench/copied.sh
-crates=$(below . plant_main | wc -l)
+plant=$PWD/out/plant
 log=$PWD/out/build.log
 mkdir -p out
+names=$(below . plant_main)
+crates=$(wc -w <<< "$names")
+copy=$(mktemp -d)
+trap 'rm -rf "$copy"' EXIT
+copy_parts "$names" "$copy" src specs proofs args stdout
 started=$SECONDS
 
-# told: how far it is, a line for each crate that is proved
+# told: how far it is, a line for each crate that is proved, or was before
 told() {
     local line done=0
     while IFS= read -r line; do
         case $line in
-            "== summary") ;;
-            "== "*)
+            "rt: "*" proved" | "rt: "*" is kept: "*)
+                line=${line#rt: }
                 done=$((done + 1))
-                printf '%2d:%02d  %2d of %d  %s\n' $(((SECONDS - started) / 60)) $(((SECONDS - started) % 60)) "$done" "$crates" "${line#== }"
+                printf '%2d:%02d  %2d of %d  %s\n' $(((SECONDS - started) / 60)) $(((SECONDS - started) % 60)) "$done" "$crates" "${line%% *}"
                 ;;
         esac
     done
 }
 
-echo "proving with $jobs at once; out/build.log has all that the prover says"
-cd crates/plant_main
-# twice as many, since half of them may wait for a crate below
-{ rt all check --jobs $((2 * jobs)) 2>&1 && rt run -- first 2>&1; } | tee "$log" | told || { tail -n 40 "$log" >&2; exit 1; }
-cp out/plant_main ../../out/plant
+echo "proving, with $(nproc) processors; out/build.log has all that the prover says"
+cd "$copy"
+rt ci 2>&1 | tee "$log" | told || { tail -n 40 "$log" >&2; exit 1; }
+cp crates/plant_main/out/plant_main "$plant"
 echo "out/plant is proved and built"

@@ -9,6 +9,8 @@ cd "$(dirname "$0")/.."
 
 plant=$PWD/out/plant
 work=$PWD/out/dosing
+# what tools/first_run stands on
+libraries='source_run plant_words'
 rm -rf "$work"
 mkdir -p "$work/cases"
 cp examples/dosing/* "$work"
@@ -28,13 +30,21 @@ proved() {
     done
 }
 
-# unproved: the two runs by one start of the sources, each word of the examples' files with its folder
+# unproved: the two runs by one start of what `plant run` stands on, each word of the examples' files with its folder
 unproved() {
     for start in cold warm; do
         : > "$work/cases/$start"
         tr ' ' '\n' < "$work/$start.command" | sed -E "s#.*\.(st|csv|retain)\$#$work/&#" > "$work/cases/$start.args"
     done
-    cd crates/plant_main
+    # shellcheck source=tools/crates.sh
+    . tools/crates.sh
+    copy=$(mktemp -d)
+    trap 'rm -rf "$copy"' EXIT
+    copy_parts "$(below . "$libraries")" "$copy" src
+    echo "first_run: $libraries" >> "$copy/crates.txt"
+    mkdir -p "$copy/crates/first_run/src"
+    cp tools/first_run/main.rt.txt "$copy/crates/first_run/src/main.rt"
+    cd "$copy/crates/first_run"
     rt try --cases "$work/cases" 2> "$work/tried" || { cat "$work/tried" >&2; return 1; }
 }
 
