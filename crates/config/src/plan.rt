@@ -33,7 +33,7 @@ pub struct Plan {
         slots.items resources tasks.items programs.items budget },
 }
 
-// Written out and not derived: who drops a plan stands on this, and does not prove again how the trees of a text are dropped.
+// Written out, not derived: who drops a plan stands on this, and need not prove again how its trees are dropped.
 impl Drop for Plan {
     fn drop(self) {
         let Self {

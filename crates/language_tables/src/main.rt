@@ -1,5 +1,5 @@
-//! Asks for the words of the language, and for the tokens, the trees, the broken rules, the layouts and the linked forms of
-//! the texts of a table.
+//! Asks for the words of the language, and for the tokens, the trees, the broken rules, the layouts and the linked
+//! forms of the texts of a table.
 #![tactic(auto)]
 
 mod answer;
