@@ -110,7 +110,8 @@ live() {
 started=$SECONDS
 life=1
 # strike PACE COUNT WHOLE: kills lives of so many rows, which take about WHOLE milliseconds. A kill counts where the killed life had saved
-# a row: it came within the run, not before it and not after it.
+# a row: it came within the run, not before it and not after it. WHOLE follows what lives take: it shrinks where one was over before its
+# kill, and else it grows a little.
 strike() {
     local pace=$1 count=$2 whole=$3 counted=0 before pid ended whole_life
     while [ "$counted" -lt "$kills" ]; do
@@ -128,8 +129,10 @@ strike() {
         if [ $ended -ne 0 ] && [ ! -s report ]; then
             look
             [ "$known" -eq "$before" ] || counted=$((counted + 1))
+            whole=$((whole + whole / 100 + 1))
         elif [ $ended -eq 0 ] || grep -q '^B = [0-9]*$' report; then
             # It had ended, or was killed behind its report.
+            whole=$((whole * 9 / 10 + 1))
             check
             whole_life=$known
             look

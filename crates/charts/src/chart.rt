@@ -1,7 +1,6 @@
 //! What a chart shows.
 
 /// Strips, one below the other, over one axis of moments.
-#[derive(Drop)]
 pub struct Chart {
     /// What it is a chart of.
     pub title: String,
@@ -14,7 +13,18 @@ pub struct Chart {
     pub strips: Vec<Strip>,
 }
 
-#[derive(Drop)]
+impl Drop for Chart {
+    fn drop(self) {
+        let Self {
+            title: _,
+            note: _,
+            begin: _,
+            end: _,
+            strips: _,
+        } = self;
+    }
+}
+
 pub enum Strip {
     /// How a number changes.
     Line(Line),
@@ -22,8 +32,15 @@ pub enum Strip {
     Lanes(Lanes),
 }
 
+impl Drop for Strip {
+    fn drop(self) {
+        match self {
+            Self::Line(_) | Self::Lanes(_) => {}
+        }
+    }
+}
+
 /// How a number changes: it stays as it is until the next point.
-#[derive(Drop)]
 pub struct Line {
     pub label: String,
     pub shape: Shape,
@@ -31,6 +48,17 @@ pub struct Line {
     pub levels: Vec<Level>,
     /// In the order of their moments.
     pub points: Vec<Point>,
+}
+
+impl Drop for Line {
+    fn drop(self) {
+        let Self {
+            label: _,
+            shape: _,
+            levels: _,
+            points: _,
+        } = self;
+    }
 }
 
 #[derive(Clone, Copy, Debug, PartialEq, Eq)]
@@ -42,10 +70,15 @@ pub enum Shape {
 }
 
 /// A number that is marked, and how it is spelled.
-#[derive(Drop)]
 pub struct Level {
     pub number: i128,
     pub text: String,
+}
+
+impl Drop for Level {
+    fn drop(self) {
+        let Self { number: _, text: _ } = self;
+    }
 }
 
 /// From this moment in milliseconds on it is this number.
@@ -56,17 +89,27 @@ pub struct Point {
 }
 
 /// Lanes, one below the other.
-#[derive(Drop)]
 pub struct Lanes {
     pub label: String,
     pub lanes: Vec<Lane>,
 }
 
+impl Drop for Lanes {
+    fn drop(self) {
+        let Self { label: _, lanes: _ } = self;
+    }
+}
+
 /// Marks in the order of their moments.
-#[derive(Drop)]
 pub struct Lane {
     pub label: String,
     pub marks: Vec<Mark>,
+}
+
+impl Drop for Lane {
+    fn drop(self) {
+        let Self { label: _, marks: _ } = self;
+    }
 }
 
 /// Something that happened at a moment in milliseconds.

@@ -10,7 +10,6 @@ use st_words::Kind;
 use std::sync::Arc;
 
 /// The code of a program: instructions over the slots of a layout, and behind these over values for functions.
-#[derive(Drop)]
 pub struct Code {
     pub instrs: Arc<Vec<Instr>>,
     /// The types of the layout's slots in their order, those of inputs among them. All codes of a plan share them.
@@ -24,4 +23,15 @@ pub struct Code {
     ghost numbered: { length kinds.value.items + extra ≤ MAX_MEMORY },
     ghost stands: { ForSome words (λ f. (f.instrs ≡ instrs.value.items) × (f.kinds ≡ kinds.value.items)
         × (extra ≡ 0)) },
+}
+
+impl Drop for Code {
+    fn drop(self) {
+        let Self {
+            instrs: _,
+            kinds: _,
+            extra: _,
+            words: _,
+        } = self;
+    }
 }

@@ -1,6 +1,6 @@
 //! The core over a disk.
 
-ghost use Rattle.std.specs.Prelude.{◌≤◌, List, ℕ, length};
+ghost use Rattle.std.specs.Prelude.{◌≡◌, ◌≤◌, List, ℕ, length};
 ghost use Rattle.retain_store.specs.Recovered.{recovered};
 ghost use Rattle.commit_lock.specs.Cores.{survives};
 
@@ -16,7 +16,6 @@ use std::marker::Model;
 /// Its log is legal, its variables are what the executions of the log give, one after another, and on a disk that
 /// tells every file that a stop now may leave survives: a warm restart gives what a prefix of the log leaves, which
 /// holds all that is acknowledged.
-#[derive(Drop)]
 pub struct Core<D: Disk> {
     /// How it was started.
     pub(crate) mode: StartMode,
@@ -30,6 +29,20 @@ pub struct Core<D: Disk> {
     pub(crate) acked: usize,
     /// Why the store failed, once a flush has met it.
     pub(crate) failed: Option<StoreFault>,
+}
+
+impl<D: Disk + Drop> Drop for Core<D> {
+    fn drop(self) {
+        let Self {
+            mode: _,
+            serial: _,
+            store: _,
+            layout: _,
+            kept: _,
+            acked: _,
+            failed: _,
+        } = self;
+    }
 }
 
 impl<D: Disk> Model for Core<D> {
@@ -64,5 +77,23 @@ impl<D: Disk> Core<D> {
         ensures few { self.now.acked ≤ length self.now.state.log }
     {
         self.store.kept();
+    }
+
+    /// Ends the life and gives the disk back, without a call of it.
+    pub fn stop(self) -> D
+        ensures disk { result ≡ self.store.disk }
+        ensures survives { D.tells → (file : List ℕ) → D.may_leave result file → survives self (recovered file) }
+    {
+        self.kept();
+        let Core {
+            mode: _,
+            serial: _,
+            store,
+            layout: _,
+            kept: _,
+            acked: _,
+            failed: _,
+        } = self;
+        store.into_disk()
     }
 }

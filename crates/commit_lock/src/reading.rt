@@ -1,14 +1,12 @@
 //! What a core tells.
 
-ghost use Rattle.std.specs.Prelude.{◌≡◌, ◌<◌, ◌≤◌, List, ℕ, option_map, option_and_then, slice_get, length, map, MatchBool};
+ghost use Rattle.std.specs.Prelude.{◌≡◌, ◌<◌, ◌≤◌, option_map, option_and_then, slice_get, length, map, MatchBool};
 ghost use Rattle.st_plans.specs.Due.{HasOverruns};
 ghost use Rattle.st_plans.specs.Logs.{IsLegal, outcomes_of};
 ghost use Rattle.st_plans.specs.Plans.{schedules_of};
 ghost use Rattle.st_types.specs.Scopes.{seen};
 ghost use Rattle.config.specs.PlanViews.{plan_view};
-ghost use Rattle.retain_store.specs.Recovered.{recovered};
 ghost use Rattle.serial_core.specs.Steps.{made, none_waits, inputs_now, store_in};
-ghost use Rattle.commit_lock.specs.Cores.{survives};
 
 use crate::core_state::Core;
 use crate::starting::StartMode;
@@ -109,23 +107,5 @@ impl<D: Disk> Core<D> {
             → HasOverruns (schedules_of (plan_view self.now.state.plan)) (made self.now.state).history program result }
     {
         self.serial.overruns(program)
-    }
-
-    /// Ends the life and gives the disk back, without a call of it.
-    pub fn stop(self) -> D
-        ensures disk { result ≡ self.store.disk }
-        ensures survives { D.tells → (file : List ℕ) → D.may_leave result file → survives self (recovered file) }
-    {
-        self.kept();
-        let Core {
-            mode: _,
-            serial: _,
-            store,
-            layout: _,
-            kept: _,
-            acked: _,
-            failed: _,
-        } = self;
-        store.into_disk()
     }
 }

@@ -26,7 +26,6 @@ pub struct Task {
 }
 
 /// An instance of a program, with the code that does what its program does.
-#[derive(Drop)]
 pub struct ProgramInstance {
     pub resource: usize,
     /// The number of its task in declaration order, from 0.
@@ -36,4 +35,16 @@ pub struct ProgramInstance {
     /// The number of its program among those of the text's instances, from 0.
     pub number: usize,
     pub code: Arc<Code>,
+}
+
+impl Drop for ProgramInstance {
+    fn drop(self) {
+        let Self {
+            resource: _,
+            task: _,
+            owner: _,
+            number: _,
+            code: _,
+        } = self;
+    }
 }

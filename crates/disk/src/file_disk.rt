@@ -10,10 +10,18 @@ use std::rt::Files;
 
 /// A disk over a real file, with positioned reads and writes. That the file keeps the rules of a disk is for the user
 /// to know, so this disk tells none of them and promises no success. A contract sees it as the number of its failures.
-#[derive(Drop)]
 pub struct FileDisk<F: FileExt + OpenFile + Drop> {
     file: F,
     failures: u64,
+}
+
+impl<F: FileExt + OpenFile + Drop> Drop for FileDisk<F> {
+    fn drop(self) {
+        let Self {
+            file: _,
+            failures: _,
+        } = self;
+    }
 }
 
 impl<F: FileExt + OpenFile + Drop> Model for FileDisk<F> {

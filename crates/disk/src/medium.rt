@@ -7,13 +7,23 @@ use std::alloc::{AllocError, Global};
 use std::marker::Model;
 
 /// The file is the first `len` bytes of `bytes`, whose length is the room.
-#[derive(Drop)]
 pub struct Medium {
     bytes: Vec<u8>,
     /// Of each byte, whether it was written since the last sync.
     touched: Vec<bool>,
     len: usize,
     synced_len: usize,
+}
+
+impl Drop for Medium {
+    fn drop(self) {
+        let Self {
+            bytes: _,
+            touched: _,
+            len: _,
+            synced_len: _,
+        } = self;
+    }
 }
 
 impl Model for Medium {

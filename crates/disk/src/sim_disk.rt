@@ -15,7 +15,7 @@ use std::marker::Model;
 pub(crate) const ROOM_BYTES: usize = 262_144;
 
 /// A stop of the machine within a call, and what it leaves.
-#[derive(Debug, Drop)]
+#[derive(Debug)]
 pub struct Stop {
     /// The number of the call, a device step.
     pub step: u64,
@@ -24,6 +24,16 @@ pub struct Stop {
     pub torn: Vec<u8>,
     /// The length in bytes that is left, moved into the span from the synced length to the current one.
     pub len: u64,
+}
+
+impl Drop for Stop {
+    fn drop(self) {
+        let Self {
+            step: _,
+            torn: _,
+            len: _,
+        } = self;
+    }
 }
 
 impl Model for Stop {
@@ -36,7 +46,6 @@ impl Model for Stop {
 
 /// A disk in memory. It numbers its calls of `len`, `read`, `write_at` and `sync` from 0 as device steps, and fails or
 /// stops at those that it is told. It takes memory in `new` alone.
-#[derive(Drop)]
 pub struct SimDisk {
     medium: Medium,
     step: u64,
@@ -44,6 +53,19 @@ pub struct SimDisk {
     stop: Option<Stop>,
     stopped: bool,
     failures: u64,
+}
+
+impl Drop for SimDisk {
+    fn drop(self) {
+        let Self {
+            medium: _,
+            step: _,
+            failing: _,
+            stop: _,
+            stopped: _,
+            failures: _,
+        } = self;
+    }
 }
 
 impl Model for SimDisk {

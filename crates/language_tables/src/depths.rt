@@ -13,7 +13,7 @@ fn expression_depth(alloc: Global, tokens: &[Token]) -> Option<usize> {
 
 /// The depth of the variable that an expression reads.
 fn variable_depth(alloc: Global, tokens: &[Token]) -> Option<usize> {
-    match expression(alloc, tokens)? {
+    match &expression(alloc, tokens)? {
         Expr::Variable(found) => Some(found.depth()),
         _ => None,
     }

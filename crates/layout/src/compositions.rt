@@ -21,10 +21,18 @@ use st_words::{Kind, Name};
 use std::alloc::{AllocError, Global};
 
 /// The types and the units of a text by their names.
-#[derive(Drop)]
 pub struct Types<'a> {
     names: TextNames<'a>,
     enumerated: EnumeratedNames<'a>,
+}
+
+impl Drop for Types<'_> {
+    fn drop(self) {
+        let Self {
+            names: _,
+            enumerated: _,
+        } = self;
+    }
 }
 
 /// What a type is made of.

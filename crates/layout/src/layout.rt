@@ -19,10 +19,15 @@ use st_trees::Source;
 use std::alloc::{AllocError, Global};
 
 /// The layout of a text: a slot for each elementary part of its variables.
-#[derive(Drop)]
 pub struct Layout {
     /// The globals as they stand, inputs among them, then by resources the variables of each program's instance.
     pub slots: Vec<LayoutSlot>,
+}
+
+impl Drop for Layout {
+    fn drop(self) {
+        let Self { slots: _ } = self;
+    }
 }
 
 impl Layout {

@@ -147,10 +147,15 @@ fn size_within<'a>(
 }
 
 /// The sizes of a text's types, each found once.
-#[derive(Drop)]
 pub struct Sizes<'a> {
     types: Types<'a>,
     known: Index<'a, usize>,
+}
+
+impl Drop for Sizes<'_> {
+    fn drop(self) {
+        let Self { types: _, known: _ } = self;
+    }
 }
 
 impl<'a> Sizes<'a> {

@@ -9,7 +9,6 @@ use st_words::{Name, Owner, Path, Step, Value};
 use std::alloc::{AllocError, Global};
 
 /// An elementary part of a variable, as the layout has it.
-#[derive(Drop)]
 pub struct LayoutSlot {
     pub path: Path,
     /// The value that it starts with, which has its type: 0, FALSE, T#0s or the first name for an input.
@@ -18,6 +17,17 @@ pub struct LayoutSlot {
     pub retained: bool,
     /// Whether its value comes from the plant.
     pub is_input: bool,
+}
+
+impl Drop for LayoutSlot {
+    fn drop(self) {
+        let Self {
+            path: _,
+            initial: _,
+            retained: _,
+            is_input: _,
+        } = self;
+    }
 }
 
 /// An instance of a program, by the names of its resource and of itself.

@@ -19,7 +19,6 @@ pub struct Life {
 }
 
 /// What became of a life that was started.
-#[derive(Drop)]
 pub struct Course {
     /// The values of the variables at its start, in layout order.
     pub values: Vec<Value>,
@@ -31,11 +30,27 @@ pub struct Course {
     pub acked: usize,
 }
 
+impl Drop for Course {
+    fn drop(self) {
+        let Self {
+            values: _,
+            replies: _,
+            len: _,
+            acked: _,
+        } = self;
+    }
+}
+
 /// The end of a life.
-#[derive(Drop)]
 pub struct LifeEnd {
     /// What became of it, or why it was not started.
     pub course: Result<Course, StartFault>,
     /// The file that it leaves.
     pub file: Vec<u8>,
+}
+
+impl Drop for LifeEnd {
+    fn drop(self) {
+        let Self { course: _, file: _ } = self;
+    }
 }

@@ -69,43 +69,38 @@ fn explain_flag<'a>(alloc: Global) -> Arg<'a> {
 }
 
 fn check<'a>(alloc: Global) -> Result<Command<'a>, AllocError> {
+    let args = vec![in alloc; source(alloc), explain_flag(alloc)]?;
     Command::new(alloc, "check")
         .about("Builds a source and prints its sizes")
-        .arg(source(alloc))?
-        .arg(explain_flag(alloc))
-}
-
-/// The files that a run reads and writes.
-fn with_files<'a>(alloc: Global, run: Command<'a>) -> Result<Command<'a>, AllocError> {
-    run.arg(source(alloc))?
-        .arg(plant_file(alloc))?
-        .arg(file(alloc, "store", "The retain file").required(true))
-}
-
-/// How it runs.
-fn with_options<'a>(alloc: Global, run: Command<'a>) -> Result<Command<'a>, AllocError> {
-    run.arg(start(alloc))?
-        .arg(budget(alloc))?
-        .arg(pace(alloc))?
-        .arg(explain_flag(alloc))
+        .args(args)
 }
 
 fn run<'a>(alloc: Global) -> Result<Command<'a>, AllocError> {
-    let run = Command::new(alloc, "run").about(
-        "Runs a source against a plant and prints the report",
-    );
-    let run = with_files(alloc, run)?;
-    let run = with_options(alloc, run)?;
-    run.arg(file(alloc, "trace", "The trace to write after the run"))
+    let args = vec![in alloc;
+        source(alloc),
+        plant_file(alloc),
+        file(alloc, "store", "The retain file").required(true),
+        start(alloc),
+        budget(alloc),
+        pace(alloc),
+        explain_flag(alloc),
+        file(alloc, "trace", "The trace to write after the run"),
+    ]?;
+    Command::new(alloc, "run")
+        .about("Runs a source against a plant and prints the report")
+        .args(args)
 }
 
 fn replay<'a>(alloc: Global) -> Result<Command<'a>, AllocError> {
+    let args = vec![in alloc;
+        source(alloc),
+        plant_file(alloc),
+        trace_file(alloc),
+        explain_flag(alloc),
+    ]?;
     Command::new(alloc, "replay")
         .about("Runs a trace again by one thread and prints the report")
-        .arg(source(alloc))?
-        .arg(plant_file(alloc))?
-        .arg(trace_file(alloc))?
-        .arg(explain_flag(alloc))
+        .args(args)
 }
 
 fn show<'a>(alloc: Global) -> Result<Command<'a>, AllocError> {
@@ -113,10 +108,10 @@ fn show<'a>(alloc: Global) -> Result<Command<'a>, AllocError> {
         .value_name("FILE")
         .help("The retain file")
         .required(true);
+    let args = vec![in alloc; store, flag(alloc, "both", "Show both areas of the file")]?;
     Command::new(alloc, "show")
         .about("Prints what a retain file holds, and never writes")
-        .arg(store)?
-        .arg(flag(alloc, "both", "Show both areas of the file"))
+        .args(args)
 }
 
 fn plot<'a>(alloc: Global) -> Result<Command<'a>, AllocError> {
@@ -124,13 +119,16 @@ fn plot<'a>(alloc: Global) -> Result<Command<'a>, AllocError> {
         .value_name("PATH")
         .help("The variables to show; without any, the first ones")
         .num_args(0..);
+    let args = vec![in alloc;
+        source(alloc),
+        plant_file(alloc),
+        trace_file(alloc),
+        file(alloc, "out", "The file for the picture"),
+        paths,
+    ]?;
     Command::new(alloc, "plot")
         .about("Draws a run from its trace, as an SVG picture")
-        .arg(source(alloc))?
-        .arg(plant_file(alloc))?
-        .arg(trace_file(alloc))?
-        .arg(file(alloc, "out", "The file for the picture"))?
-        .arg(paths)
+        .args(args)
 }
 
 fn explain<'a>(alloc: Global) -> Result<Command<'a>, AllocError> {
@@ -143,32 +141,30 @@ fn explain<'a>(alloc: Global) -> Result<Command<'a>, AllocError> {
         .arg(code)
 }
 
-/// The command `plant` before its subcommands.
+/// The command `plant` with its first subcommand.
 fn plant<'a>(alloc: Global) -> Result<Command<'a>, AllocError> {
     let plant = Command::new(alloc, "plant").bin_name("plant")?;
-    Ok(
-        plant
-            .about("Runs Structured Text against a recorded plant")
-            .subcommand_required(true),
-    )
+    let first = Command::new(alloc, "first").about("Runs the built-in configuration");
+    plant
+        .about("Runs Structured Text against a recorded plant")
+        .subcommand_required(true)
+        .subcommand(first)
 }
 
-/// The command with a subcommand that was made.
+/// The command with one more subcommand, where memory sufficed for both.
 fn with<'a>(
-    command: Command<'a>,
+    command: Result<Command<'a>, AllocError>,
     made: Result<Command<'a>, AllocError>,
 ) -> Result<Command<'a>, AllocError> {
-    command.subcommand(made?)
+    command?.subcommand(made?)
 }
 
 /// The command `plant` with its subcommands.
 pub(crate) fn command<'a>(alloc: Global) -> Result<Command<'a>, AllocError> {
-    let first = Command::new(alloc, "first").about("Runs the built-in configuration");
-    let command = plant(alloc)?.subcommand(first)?;
-    let command = with(command, check(alloc))?;
-    let command = with(command, run(alloc))?;
-    let command = with(command, replay(alloc))?;
-    let command = with(command, show(alloc))?;
-    let command = with(command, plot(alloc))?;
+    let command = with(plant(alloc), check(alloc));
+    let command = with(command, run(alloc));
+    let command = with(command, replay(alloc));
+    let command = with(command, show(alloc));
+    let command = with(command, plot(alloc));
     with(command, explain(alloc))
 }

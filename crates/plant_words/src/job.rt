@@ -77,7 +77,7 @@ pub struct ShowJob<'a> {
 }
 
 /// A picture of a run, from its trace.
-#[derive(Debug, Drop)]
+#[derive(Debug)]
 pub struct PlotJob<'a> {
     pub source: &'a str,
     pub plant: &'a str,
@@ -86,6 +86,18 @@ pub struct PlotJob<'a> {
     pub picture: Option<&'a str>,
     /// The paths of the variables that it shows; where there are none, those that come first.
     pub paths: Vec<&'a str>,
+}
+
+impl Drop for PlotJob<'_> {
+    fn drop(self) {
+        let Self {
+            source: _,
+            plant: _,
+            trace: _,
+            picture: _,
+            paths: _,
+        } = self;
+    }
 }
 
 impl PlotJob<'_> {
@@ -105,7 +117,7 @@ impl PlotJob<'_> {
 }
 
 /// What a command line asks for. Files go by their names.
-#[derive(Debug, Drop)]
+#[derive(Debug)]
 pub enum Job<'a> {
     /// The built-in configuration.
     First,
@@ -116,4 +128,18 @@ pub enum Job<'a> {
     Plot(PlotJob<'a>),
     /// What a code means.
     Explain { code: &'a str },
+}
+
+impl Drop for Job<'_> {
+    fn drop(self) {
+        match self {
+            Self::First
+            | Self::Check(_)
+            | Self::Run(_)
+            | Self::Replay(_)
+            | Self::Show(_)
+            | Self::Plot(_)
+            | Self::Explain { code: _ } => {}
+        }
+    }
 }

@@ -21,11 +21,16 @@ use std::sync::Arc;
 use traces::{ReplayError, Replayed, replay_watched};
 
 /// What a plot shows: a life that was run again, the values of what is shown, and what happened to each program.
-#[derive(Drop)]
 pub struct Plot {
     /// What is told of the life.
     pub found: Replayed,
     notes: Notes,
+}
+
+impl Drop for Plot {
+    fn drop(self) {
+        let Self { found: _, notes: _ } = self;
+    }
 }
 
 /// Runs a trace again over the first of these rows, as `replay_text` does, and gathers what a plot shows.

@@ -17,7 +17,6 @@ use std::alloc::{AllocError, Global};
 use std::marker::Model;
 
 /// Which programs wait, and how often each was due while it waited. At most one activation of a program waits.
-#[derive(Drop)]
 pub struct ReadyList {
     schedules: Vec<Schedule>,
     /// SINGLE of each task at the last row; FALSE before the first.
@@ -29,6 +28,19 @@ pub struct ReadyList {
     last: u64,
     /// How many rows were taken; the next row's number.
     rows: u64,
+}
+
+impl Drop for ReadyList {
+    fn drop(self) {
+        let Self {
+            schedules: _,
+            samples: _,
+            standings: _,
+            first: _,
+            last: _,
+            rows: _,
+        } = self;
+    }
 }
 
 impl Model for ReadyList {

@@ -17,11 +17,20 @@ use std::marker::Model;
 
 /// What a record holds: the moment of the last row, the layout text, and the values in its order. It has room for every
 /// record.
-#[derive(Drop)]
 pub struct Record {
     moment: Option<u64>,
     layout: Vec<u8>,
     values: Vec<Value>,
+}
+
+impl Drop for Record {
+    fn drop(self) {
+        let Self {
+            moment: _,
+            layout: _,
+            values: _,
+        } = self;
+    }
 }
 
 impl Model for Record {

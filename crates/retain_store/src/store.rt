@@ -40,7 +40,6 @@ enum Saves {
 ///
 /// The type keeps that the last record is sound, and that each file which a stop now may leave is recovered to one of
 /// these two; on a disk that tells nothing it keeps nothing of files.
-#[derive(Drop)]
 pub struct Store<D: Disk> {
     disk: D,
     areas: Areas,
@@ -51,6 +50,19 @@ pub struct Store<D: Disk> {
     /// The room of an area after its gate.
     frame: Vec<u8>,
     saves: Saves,
+}
+
+impl<D: Disk + Drop> Drop for Store<D> {
+    fn drop(self) {
+        let Self {
+            disk: _,
+            areas: _,
+            last: _,
+            next: _,
+            frame: _,
+            saves: _,
+        } = self;
+    }
 }
 
 impl<D: Disk> Model for Store<D> {

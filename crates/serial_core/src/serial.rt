@@ -11,7 +11,6 @@ use std::sync::Arc;
 /// A core without a disk. Contracts see it as a `State`: its plan, what it started from, its log and its room.
 ///
 /// Its log is legal, and its variables are what the executions of the log give, one after another.
-#[derive(Drop)]
 pub struct SerialCore {
     pub(crate) plan: Arc<Plan>,
     /// The values that the variables started with.
@@ -32,6 +31,24 @@ pub struct SerialCore {
     pub(crate) ready: ReadyList,
     /// How many entries the log may have.
     pub(crate) room: usize,
+}
+
+impl Drop for SerialCore {
+    fn drop(self) {
+        let Self {
+            plan: _,
+            start: _,
+            before: _,
+            values: _,
+            samples: _,
+            log: _,
+            outcomes: _,
+            rows: _,
+            last: _,
+            ready: _,
+            room: _,
+        } = self;
+    }
 }
 
 impl Model for SerialCore {

@@ -18,7 +18,6 @@ pub enum Anchor {
 }
 
 /// An expression.
-#[derive(Drop)]
 #[cycle(slot_expression)]
 pub enum SlotExpr {
     Constant(Box<Literal>),
@@ -31,30 +30,70 @@ pub enum SlotExpr {
     Binary(BinaryOperator, Box<Operands>),
 }
 
+impl Drop for SlotExpr {
+    #[cycle(dropped_slot_expression)]
+    fn drop(self) {
+        match self {
+            Self::Constant(_)
+            | Self::Load(_)
+            | Self::Compute(_, _)
+            | Self::Call(_, _)
+            | Self::Unary(_, _)
+            | Self::Binary(_, _) => {}
+        }
+    }
+}
+
 /// Both operands of an operator.
-#[derive(Drop)]
 #[cycle(slot_expression)]
 pub struct Operands {
     pub left: SlotExpr,
     pub right: SlotExpr,
 }
 
+impl Drop for Operands {
+    #[cycle(dropped_slot_expression)]
+    fn drop(self) {
+        let Self { left: _, right: _ } = self;
+    }
+}
+
 /// An elementary variable: the slot where its array begins, and the subscripts that lead on from there.
-#[derive(Drop)]
 #[cycle(slot_expression)]
 pub struct Place {
     pub anchor: Anchor,
     pub subscripts: Vec<Subscript>,
 }
 
+impl Drop for Place {
+    #[cycle(dropped_slot_expression)]
+    fn drop(self) {
+        let Self {
+            anchor: _,
+            subscripts: _,
+        } = self;
+    }
+}
+
 /// A subscript with its lower bound, the number of elements, and how many slots an element takes.
-#[derive(Drop)]
 #[cycle(slot_expression)]
 pub struct Subscript {
     pub index: SlotExpr,
     pub lower: i128,
     pub count: usize,
     pub stride: usize,
+}
+
+impl Drop for Subscript {
+    #[cycle(dropped_slot_expression)]
+    fn drop(self) {
+        let Self {
+            index: _,
+            lower: _,
+            count: _,
+            stride: _,
+        } = self;
+    }
 }
 
 impl SlotExpr {

@@ -4,7 +4,6 @@ use crate::statement::SlotStmt;
 use st_words::Value;
 
 /// A function.
-#[derive(Drop)]
 pub struct SlotFunction {
     /// The values of its variables as a call begins.
     pub fresh: Vec<Value>,
@@ -15,10 +14,29 @@ pub struct SlotFunction {
     pub body: Vec<SlotStmt>,
 }
 
+impl Drop for SlotFunction {
+    fn drop(self) {
+        let Self {
+            fresh: _,
+            inputs: _,
+            result: _,
+            body: _,
+        } = self;
+    }
+}
+
 /// The functions, and the bodies of the blocks, by their numbers. None stands for one whose own variables take more
 /// slots than any layout has room for: no program has room for it.
-#[derive(Drop)]
 pub struct SlotLibrary {
     pub functions: Vec<Option<SlotFunction>>,
     pub blocks: Vec<Option<Vec<SlotStmt>>>,
+}
+
+impl Drop for SlotLibrary {
+    fn drop(self) {
+        let Self {
+            functions: _,
+            blocks: _,
+        } = self;
+    }
 }

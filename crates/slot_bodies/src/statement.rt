@@ -19,7 +19,6 @@ pub enum BlockCode {
 }
 
 /// An argument of a block call; its member stands so many slots behind the first one of the instance.
-#[derive(Drop)]
 pub enum SlotArgument {
     /// An input with its value.
     Given(usize, SlotExpr),
@@ -27,8 +26,15 @@ pub enum SlotArgument {
     Copied(usize, Place),
 }
 
+impl Drop for SlotArgument {
+    fn drop(self) {
+        match self {
+            Self::Given(_, _) | Self::Copied(_, _) => {}
+        }
+    }
+}
+
 /// A statement.
-#[derive(Drop)]
 #[cycle(slot_statement)]
 pub enum SlotStmt {
     Empty,
@@ -54,20 +60,59 @@ pub enum SlotStmt {
     Return,
 }
 
+impl Drop for SlotStmt {
+    #[cycle(dropped_slot_statement)]
+    fn drop(self) {
+        match self {
+            Self::Empty
+            | Self::Assign(_, _)
+            | Self::Invoke(_, _, _)
+            | Self::If(_, _)
+            | Self::Case(_, _, _)
+            | Self::For {
+                control: _,
+                start: _,
+                limit: _,
+                step: _,
+                body: _,
+            }
+            | Self::While(_, _)
+            | Self::Repeat(_, _)
+            | Self::Exit
+            | Self::Return => {}
+        }
+    }
+}
+
 /// A condition with the statements that it guards.
-#[derive(Drop)]
 #[cycle(slot_statement)]
 pub struct SlotArm {
     pub condition: SlotExpr,
     pub body: Vec<SlotStmt>,
 }
 
+impl Drop for SlotArm {
+    #[cycle(dropped_slot_statement)]
+    fn drop(self) {
+        let Self {
+            condition: _,
+            body: _,
+        } = self;
+    }
+}
+
 /// The labels of a CASE with their statements.
-#[derive(Drop)]
 #[cycle(slot_statement)]
 pub struct SlotCaseArm {
     pub labels: Vec<Label>,
     pub body: Vec<SlotStmt>,
+}
+
+impl Drop for SlotCaseArm {
+    #[cycle(dropped_slot_statement)]
+    fn drop(self) {
+        let Self { labels: _, body: _ } = self;
+    }
 }
 
 impl SlotArgument {

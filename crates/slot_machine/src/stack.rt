@@ -10,9 +10,14 @@ use std::alloc::{AllocError, Global};
 use std::marker::Model;
 
 /// Values, the topmost of them first.
-#[derive(Drop)]
 pub struct Stack {
     values: Vec<Value>,
+}
+
+impl Drop for Stack {
+    fn drop(self) {
+        let Self { values: _ } = self;
+    }
 }
 
 impl Model for Stack {

@@ -5,7 +5,7 @@ use Rattle.std.proofs.lemmas.Bool.Decides.{nat_tests}
 use Rattle.std.proofs.lemmas.List.{drop_all}
 use Rattle.coded_programs.specs.Codes.{CodeView}
 use Rattle.st_build.specs.declared.places.Place.{Place}
-use Rattle.st_build.specs.Programs.{CodedInstance, instances_from}
+use Rattle.st_build.specs.Programs.{instances_from}
 
 nothing : (n : ℕ) (cs : List CodeView) → instances_from n [] cs ≡ []
 nothing n [] = refl

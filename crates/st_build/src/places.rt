@@ -11,7 +11,6 @@ use st_words::{Identifier, Name, Owner};
 use std::alloc::{AllocError, Global};
 
 /// Where an instance of a program runs.
-#[derive(Drop)]
 pub struct Place {
     /// Its resource and itself, by their names.
     pub owner: Owner,
@@ -19,6 +18,16 @@ pub struct Place {
     pub resource: usize,
     /// The number of its task among those of all resources, from 0.
     pub task: usize,
+}
+
+impl Drop for Place {
+    fn drop(self) {
+        let Self {
+            owner: _,
+            resource: _,
+            task: _,
+        } = self;
+    }
 }
 
 /// The number of the first task of this name.

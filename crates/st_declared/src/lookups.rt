@@ -10,7 +10,6 @@ use st_trees::{Source, Unit};
 use std::alloc::{AllocError, Global};
 
 /// A text with its names, what they stand for, all its declarations, and its units.
-#[derive(Drop)]
 pub struct Lookups<'a> {
     pub source: &'a Source,
     pub names: TextNames<'a>,
@@ -18,6 +17,19 @@ pub struct Lookups<'a> {
     pub fields: FieldNames<'a>,
     pub declarings: Vec<Declaring<'a>>,
     pub units: Vec<&'a Unit>,
+}
+
+impl Drop for Lookups<'_> {
+    fn drop(self) {
+        let Self {
+            source: _,
+            names: _,
+            tables: _,
+            fields: _,
+            declarings: _,
+            units: _,
+        } = self;
+    }
 }
 
 impl<'a> Lookups<'a> {

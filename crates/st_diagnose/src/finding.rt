@@ -3,7 +3,6 @@
 use std::alloc::{AllocError, Global};
 
 /// What is said of a fault.
-#[derive(Drop)]
 pub struct Finding {
     /// What is wrong, in a sentence without its full stop.
     pub sentence: String,
@@ -11,6 +10,16 @@ pub struct Finding {
     pub help: Option<String>,
     /// The offset of the byte that is shown, where another one is than that of the fault, which may have none.
     pub place: Option<usize>,
+}
+
+impl Drop for Finding {
+    fn drop(self) {
+        let Self {
+            sentence: _,
+            help: _,
+            place: _,
+        } = self;
+    }
 }
 
 impl Finding {

@@ -16,7 +16,6 @@ pub struct WholeNumber {
 }
 
 /// What a token is. Spellings of one thing are one kind.
-#[derive(Drop)]
 pub enum TokenKind {
     /// A name that is no reserved word, in upper case.
     Name(Name),
@@ -36,12 +35,37 @@ pub enum TokenKind {
     Enumerated(Name, Name),
 }
 
+impl Drop for TokenKind {
+    fn drop(self) {
+        match self {
+            Self::Name(_)
+            | Self::Elementary(_)
+            | Self::Keyword(_)
+            | Self::Mark(_)
+            | Self::Number(_)
+            | Self::Truth(_)
+            | Self::Duration(_)
+            | Self::Address(_)
+            | Self::Enumerated(_, _) => {}
+        }
+    }
+}
+
 /// A token, and where it stands in the text.
-#[derive(Drop)]
 pub struct Token {
     pub kind: TokenKind,
     /// The offset of its first byte.
     pub start: usize,
     /// The offset after its last byte.
     pub end: usize,
+}
+
+impl Drop for Token {
+    fn drop(self) {
+        let Self {
+            kind: _,
+            start: _,
+            end: _,
+        } = self;
+    }
 }

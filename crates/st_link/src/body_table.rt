@@ -23,12 +23,22 @@ pub struct LinkSymbol<'a> {
 
 /// What the names of a body stand for: its variables, the blocks of its instances, and the functions of the text by
 /// their numbers.
-#[derive(Drop)]
 pub struct BodyTable<'t, 'a> {
     pub shapes: &'t ShapeTables<'a>,
     pub symbols: Index<'a, LinkSymbol<'a>>,
     pub codes: Index<'a, BlockCode>,
     pub functions: &'t Index<'a, usize>,
+}
+
+impl Drop for BodyTable<'_, '_> {
+    fn drop(self) {
+        let Self {
+            shapes: _,
+            symbols: _,
+            codes: _,
+            functions: _,
+        } = self;
+    }
 }
 
 impl<'t, 'a> BodyTable<'t, 'a> {

@@ -51,12 +51,21 @@ struct ValueNames<'a> {
 }
 
 /// The enumerated types of a text, and their values.
-#[derive(Drop)]
 pub struct EnumeratedNames<'a> {
     types: Index<'a, Enumeration<'a>>,
     values: ValueNames<'a>,
     /// How many enumerated types there are, those of one name too.
     count: u32,
+}
+
+impl Drop for EnumeratedNames<'_> {
+    fn drop(self) {
+        let Self {
+            types: _,
+            values: _,
+            count: _,
+        } = self;
+    }
 }
 
 impl<'a> ValueNames<'a> {

@@ -12,9 +12,14 @@ use st_words::Name;
 use std::alloc::{AllocError, Global};
 
 /// The fields of each structure of a text with their types; of several of one name the first.
-#[derive(Drop)]
 pub struct FieldNames<'a> {
     structures: Index<'a, Index<'a, &'a VariableType>>,
+}
+
+impl Drop for FieldNames<'_> {
+    fn drop(self) {
+        let Self { structures: _ } = self;
+    }
 }
 
 fn fields_of<'a>(

@@ -8,9 +8,14 @@ use std::alloc::{AllocError, Global};
 use std::collections::BTreeMap;
 
 /// What each name stands for; of several entries of one name the first.
-#[derive(Drop)]
 pub struct Index<'a, T> {
     map: BTreeMap<&'a [u8], T>,
+}
+
+impl<'a, T: Drop> Drop for Index<'a, T> {
+    fn drop(self) {
+        let Self { map: _ } = self;
+    }
 }
 
 impl<'a, T: Drop> Index<'a, T> {

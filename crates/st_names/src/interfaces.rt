@@ -23,11 +23,19 @@ use st_words::{Identifier, Kind, Name};
 use std::alloc::{AllocError, Global};
 
 /// What a call of a function takes and gives. What is neither elementary nor enumerated has no type here.
-#[derive(Drop)]
 pub struct Signature {
     /// The types of the inputs, in order.
     pub inputs: Vec<Option<Kind>>,
     pub result: Option<Kind>,
+}
+
+impl Drop for Signature {
+    fn drop(self) {
+        let Self {
+            inputs: _,
+            result: _,
+        } = self;
+    }
 }
 
 /// Which variables of a block are meant.
@@ -53,9 +61,14 @@ enum Interface<'a> {
 }
 
 /// The units of a text; of several of one name the first.
-#[derive(Drop)]
 pub struct UnitInterfaces<'a> {
     units: Index<'a, Interface<'a>>,
+}
+
+impl Drop for UnitInterfaces<'_> {
+    fn drop(self) {
+        let Self { units: _ } = self;
+    }
 }
 
 fn is_of(side: Side, section: Section) -> bool

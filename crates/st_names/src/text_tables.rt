@@ -39,12 +39,22 @@ pub enum Callee<'t> {
 }
 
 /// The types and units of a text by their names, with what is in them.
-#[derive(Drop)]
 pub struct TextTables<'a> {
     names: TextNames<'a>,
     enumerated: EnumeratedNames<'a>,
     fields: FieldNames<'a>,
     units: UnitInterfaces<'a>,
+}
+
+impl Drop for TextTables<'_> {
+    fn drop(self) {
+        let Self {
+            names: _,
+            enumerated: _,
+            fields: _,
+            units: _,
+        } = self;
+    }
 }
 
 /// What a type is that is declared as this.

@@ -14,10 +14,15 @@ use st_words::Name;
 use std::alloc::{AllocError, Global};
 
 /// The types and the units of a text; of several of one name the first.
-#[derive(Drop)]
 pub struct TextNames<'a> {
     types: Index<'a, &'a TypeDefinition>,
     units: Index<'a, &'a Unit>,
+}
+
+impl Drop for TextNames<'_> {
+    fn drop(self) {
+        let Self { types: _, units: _ } = self;
+    }
 }
 
 /// Adds the types of one block behind the others.

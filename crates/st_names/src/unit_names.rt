@@ -17,11 +17,20 @@ use st_words::Name;
 use std::alloc::{AllocError, Global};
 
 /// The names of a unit's body: its variables, and whatever its text declares.
-#[derive(Drop)]
 pub struct UnitNames<'t, 'a> {
     pub tables: &'t TextTables<'a>,
     unit: &'a Unit,
     variables: VariableNames<'a>,
+}
+
+impl Drop for UnitNames<'_, '_> {
+    fn drop(self) {
+        let Self {
+            tables: _,
+            unit: _,
+            variables: _,
+        } = self;
+    }
 }
 
 fn result_type<'a>(sort: &'a UnitSort) -> Option<PlaceType<'a>>

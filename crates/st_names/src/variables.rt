@@ -22,9 +22,14 @@ pub struct Variable<'a> {
 }
 
 /// The variables of a unit; of several of one name the first.
-#[derive(Drop)]
 pub struct VariableNames<'a> {
     variables: Index<'a, Variable<'a>>,
+}
+
+impl Drop for VariableNames<'_> {
+    fn drop(self) {
+        let Self { variables: _ } = self;
+    }
 }
 
 /// Adds one variable under each name.

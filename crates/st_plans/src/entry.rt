@@ -7,10 +7,18 @@ use st_words::Value;
 use std::marker::Model;
 
 /// A latched moment with the values of the plan's inputs, in declaration order. Contracts see these two.
-#[derive(Drop)]
 pub struct Row {
     moment: u64,
     image: Vec<Value>,
+}
+
+impl Drop for Row {
+    fn drop(self) {
+        let Self {
+            moment: _,
+            image: _,
+        } = self;
+    }
 }
 
 impl Model for Row {
@@ -54,12 +62,19 @@ pub struct Activation {
 }
 
 /// An entry of the log.
-#[derive(Drop)]
 pub enum Entry {
     /// A row was latched.
     Row(Row),
     /// An activation's execution was committed.
     Done(Activation),
+}
+
+impl Drop for Entry {
+    fn drop(self) {
+        match self {
+            Self::Row(_) | Self::Done(_) => {}
+        }
+    }
 }
 
 impl Activation {

@@ -3,7 +3,6 @@
 use st_words::{Kind, Path, Value};
 
 /// A variable of the layout that is no input of the plant.
-#[derive(Drop)]
 pub struct PlanVariable {
     pub path: Path,
     /// The value that it starts with: its declared one, else 0, FALSE or T#0s.
@@ -12,11 +11,26 @@ pub struct PlanVariable {
     pub retained: bool,
 }
 
+impl Drop for PlanVariable {
+    fn drop(self) {
+        let Self {
+            path: _,
+            initial: _,
+            retained: _,
+        } = self;
+    }
+}
+
 /// An input of the plant.
-#[derive(Drop)]
 pub struct PlanInput {
     pub path: Path,
     pub kind: Kind,
+}
+
+impl Drop for PlanInput {
+    fn drop(self) {
+        let Self { path: _, kind: _ } = self;
+    }
 }
 
 /// Where and how often an instance of a program runs.

@@ -9,13 +9,24 @@ use st_words::Kind;
 use std::alloc::{AllocError, Global};
 
 /// A text with its types, units and declarations, and what its names stand for.
-#[derive(Drop)]
 pub struct Lookups<'a> {
     pub source: &'a Source,
     pub types: Vec<&'a TypeDeclaration>,
     pub units: Vec<&'a Unit>,
     pub declarings: Vec<Declaring<'a>>,
     pub tables: TextTables<'a>,
+}
+
+impl Drop for Lookups<'_> {
+    fn drop(self) {
+        let Self {
+            source: _,
+            types: _,
+            units: _,
+            declarings: _,
+            tables: _,
+        } = self;
+    }
 }
 
 /// The name of the enumerated type of this number, from 0.

@@ -12,10 +12,15 @@ struct Candidate<'a> {
 }
 
 /// The names that a word may have been meant for.
-#[derive(Drop)]
 pub struct Candidates<'a> {
     text: &'a [u8],
     names: Vec<Candidate<'a>>,
+}
+
+impl Drop for Candidates<'_> {
+    fn drop(self) {
+        let Self { text: _, names: _ } = self;
+    }
 }
 
 fn are_swapped(this: &[u8], that: &[u8]) -> bool {

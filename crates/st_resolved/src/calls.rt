@@ -33,7 +33,7 @@ fn arguments_at_places(
     let mut arguments = Vec::new(alloc);
     for part in parts {
         let expected = expected_at(callee, common, arguments.len());
-        arguments.push(at_place(alloc, expected, part)?)?;
+        arguments.push(at_place(expected, part))?;
     }
     Ok(arguments)
 }

@@ -130,7 +130,7 @@ fn resolved_selector(
         Selector::Member(member) => Ok(Selector::member(member.copied(alloc)?)),
         Selector::Subscript(index) => {
             let index = resolve(alloc, names, index)?;
-            Ok(Selector::subscript(at_place(alloc, None, index)?))
+            Ok(Selector::subscript(at_place(None, index)))
         }
     }
 }
@@ -146,5 +146,5 @@ pub fn resolved_expr(
         → expr_view e ≡ resolved_expr env.text env.unit offered (expr_view expression.now)) }
 {
     let resolved = resolve(alloc, names, expression)?;
-    at_place(alloc, offered, resolved)
+    Ok(at_place(offered, resolved))
 }

@@ -66,8 +66,8 @@ pub fn operation(
     }
     let kind = kind_of_operation(operator, &left, &right);
     let offered = offered_to_operands(&left, &right);
-    let left = at_place(alloc, offered, left)?;
-    let right = at_place(alloc, offered, right)?;
+    let left = at_place(offered, left);
+    let right = at_place(offered, right);
     Ok(Resolution::Typed(kind, Expr::binary(alloc, operator, left, right)?))
 }
 

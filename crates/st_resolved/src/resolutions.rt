@@ -1,16 +1,15 @@
 //! What is resolved of an expression by itself.
 
-ghost use Rattle.std.specs.Prelude.{◌≡◌, IfOk};
+ghost use Rattle.std.specs.Prelude.{◌≡◌};
 ghost use Rattle.st_trees.specs.Expressions as tree;
 ghost use Rattle.st_trees.specs.ExpressionViews.{expr_view};
 ghost use Rattle.st_types.specs.Resolution.{resolved_expr};
 ghost use Rattle.st_statics.specs.Environments.{Environment};
 ghost use Rattle.st_resolved.specs.Resolutions.{is_left, kind_told, tree_told, Resolves};
 
-use crate::settling::settled;
+use crate::settling::settle;
 use st_trees::Expr;
 use st_words::Kind;
-use std::alloc::{AllocError, Global};
 
 /// An expression that is resolved as far as it can be without its place.
 #[derive(Drop)]
@@ -49,16 +48,15 @@ pub fn into_tree(resolution: Resolution) -> Expr
 }
 
 /// The expression at a place that offers a type.
-pub fn at_place(
-    alloc: Global,
-    offered: Option<Kind>,
-    resolution: Resolution,
-) -> Result<Expr, AllocError>
-    ensures { IfOk result (λ x. (env : Environment) (e : tree.Expr) → Resolves env e resolution
-        → expr_view x ≡ resolved_expr env.text env.unit offered e) }
+pub fn at_place(offered: Option<Kind>, resolution: Resolution) -> Expr
+    ensures { (env : Environment) (e : tree.Expr) → Resolves env e resolution
+        → expr_view result ≡ resolved_expr env.text env.unit offered e }
 {
     match resolution {
-        Resolution::Untyped(expression) => settled(alloc, offered, expression),
-        Resolution::Typed(_, expression) => Ok(expression),
+        Resolution::Untyped(mut expression) => {
+            settle(offered, &mut expression);
+            expression
+        }
+        Resolution::Typed(_, expression) => expression,
     }
 }

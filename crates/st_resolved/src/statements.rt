@@ -65,7 +65,7 @@ fn resolved_stmt(alloc: Global, names: &UnitNames, statement: &Stmt) -> Result<S
         Stmt::Case(selector, arms, otherwise) => {
             let selector = resolve(alloc, names, selector)?;
             let kind = kind_told(&selector);
-            let selector = at_place(alloc, None, selector)?;
+            let selector = at_place(None, selector);
             let arms = resolved_case_arms(alloc, names, kind, arms)?;
             let otherwise = resolved_stmts(alloc, names, otherwise)?;
             Ok(Stmt::select(selector, arms, otherwise))

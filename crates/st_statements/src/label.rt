@@ -49,7 +49,7 @@ pub fn label_of(name: Identifier) -> Label
     Label::Enumerated(EnumeratedValue {
         place: name.place,
         type_name: None,
-        name: name.name,
+        name: name.into_name(),
     })
 }
 

@@ -31,19 +31,35 @@ pub struct Address {
 }
 
 /// The names of a global declaration.
-#[derive(Drop)]
 pub enum GlobalNames {
     /// One name at an address.
     Located(Identifier, Address),
     Listed(Vec<Identifier>),
 }
 
+impl Drop for GlobalNames {
+    fn drop(self) {
+        match self {
+            Self::Located(_, _) | Self::Listed(_) => {}
+        }
+    }
+}
+
 /// Global names of one type and one initial value.
-#[derive(Drop)]
 pub struct GlobalDeclaration {
     pub names: GlobalNames,
     pub declared: VariableType,
     pub initial: Option<Initial>,
+}
+
+impl Drop for GlobalDeclaration {
+    fn drop(self) {
+        let Self {
+            names: _,
+            declared: _,
+            initial: _,
+        } = self;
+    }
 }
 
 /// The word after VAR_GLOBAL.
@@ -54,10 +70,18 @@ pub enum GlobalQualifier {
 }
 
 /// A block of global variables.
-#[derive(Drop)]
 pub struct GlobalBlock {
     pub qualifier: Option<GlobalQualifier>,
     pub declarations: Vec<GlobalDeclaration>,
+}
+
+impl Drop for GlobalBlock {
+    fn drop(self) {
+        let Self {
+            qualifier: _,
+            declarations: _,
+        } = self;
+    }
 }
 
 /// A task's priority as it is written: decimal digits at a place. The least number runs first.
@@ -68,7 +92,6 @@ pub struct Priority {
 }
 
 /// A task of a resource, by which program instances become due.
-#[derive(Drop)]
 pub struct Task {
     pub name: Identifier,
     /// The global whose rise makes the task due.
@@ -78,8 +101,18 @@ pub struct Task {
     pub priority: Priority,
 }
 
+impl Drop for Task {
+    fn drop(self) {
+        let Self {
+            name: _,
+            single: _,
+            interval: _,
+            priority: _,
+        } = self;
+    }
+}
+
 /// An instance of a program.
-#[derive(Drop)]
 pub struct Instance {
     pub name: Identifier,
     /// The task that runs it.
@@ -87,8 +120,17 @@ pub struct Instance {
     pub program: Identifier,
 }
 
+impl Drop for Instance {
+    fn drop(self) {
+        let Self {
+            name: _,
+            task: _,
+            program: _,
+        } = self;
+    }
+}
+
 /// A resource: what runs one program at a time.
-#[derive(Drop)]
 pub struct Resource {
     pub name: Identifier,
     /// The name after ON.
@@ -97,12 +139,32 @@ pub struct Resource {
     pub instances: Vec<Instance>,
 }
 
+impl Drop for Resource {
+    fn drop(self) {
+        let Self {
+            name: _,
+            processor: _,
+            tasks: _,
+            instances: _,
+        } = self;
+    }
+}
+
 /// A configuration: its globals, and its resources with their tasks and program instances.
-#[derive(Drop)]
 pub struct Configuration {
     pub name: Identifier,
     pub globals: Vec<GlobalBlock>,
     pub resources: Vec<Resource>,
+}
+
+impl Drop for Configuration {
+    fn drop(self) {
+        let Self {
+            name: _,
+            globals: _,
+            resources: _,
+        } = self;
+    }
 }
 
 fn same_qualifier(this: Option<GlobalQualifier>, that: Option<GlobalQualifier>) -> bool

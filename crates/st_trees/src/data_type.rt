@@ -6,15 +6,21 @@ use crate::initial::Initial;
 use st_words::{Identifier, Kind, Number, Tree, same_option, same_trees};
 
 /// A type that is named by one word, at its place.
-#[derive(Drop)]
 pub enum SimpleType {
     Elementary(Kind, usize),
     /// A declared type, or a block.
     Named(Identifier),
 }
 
+impl Drop for SimpleType {
+    fn drop(self) {
+        match self {
+            Self::Elementary(_, _) | Self::Named(_) => {}
+        }
+    }
+}
+
 /// The type of an array.
-#[derive(Drop)]
 pub struct ArrayType {
     /// The offset of the word ARRAY.
     pub place: usize,
@@ -23,23 +29,49 @@ pub struct ArrayType {
     pub element: SimpleType,
 }
 
+impl Drop for ArrayType {
+    fn drop(self) {
+        let Self {
+            place: _,
+            lower: _,
+            upper: _,
+            element: _,
+        } = self;
+    }
+}
+
 /// A type where a variable or a field is declared.
-#[derive(Drop)]
 pub enum VariableType {
     Simple(SimpleType),
     Array(ArrayType),
 }
 
+impl Drop for VariableType {
+    fn drop(self) {
+        match self {
+            Self::Simple(_) | Self::Array(_) => {}
+        }
+    }
+}
+
 /// A field of a structure.
-#[derive(Drop)]
 pub struct Field {
     pub name: Identifier,
     pub declared: VariableType,
     pub initial: Option<Initial>,
 }
 
+impl Drop for Field {
+    fn drop(self) {
+        let Self {
+            name: _,
+            declared: _,
+            initial: _,
+        } = self;
+    }
+}
+
 /// What a type is declared as.
-#[derive(Drop)]
 pub enum TypeDefinition {
     Array(ArrayType),
     Structure(Vec<Field>),
@@ -47,11 +79,27 @@ pub enum TypeDefinition {
     Enumeration(Vec<Identifier>),
 }
 
+impl Drop for TypeDefinition {
+    fn drop(self) {
+        match self {
+            Self::Array(_) | Self::Structure(_) | Self::Enumeration(_) => {}
+        }
+    }
+}
+
 /// A declaration of a type.
-#[derive(Drop)]
 pub struct TypeDeclaration {
     pub name: Identifier,
     pub definition: TypeDefinition,
+}
+
+impl Drop for TypeDeclaration {
+    fn drop(self) {
+        let Self {
+            name: _,
+            definition: _,
+        } = self;
+    }
 }
 
 impl Tree for SimpleType {

@@ -31,18 +31,35 @@ pub enum Section {
 }
 
 /// Names of one type and one initial value. Externals have none.
-#[derive(Drop)]
 pub struct Declaration {
     pub names: Vec<Identifier>,
     pub declared: VariableType,
     pub initial: Option<Initial>,
 }
 
+impl Drop for Declaration {
+    fn drop(self) {
+        let Self {
+            names: _,
+            declared: _,
+            initial: _,
+        } = self;
+    }
+}
+
 /// A block of variables, from its first word to END_VAR.
-#[derive(Drop)]
 pub struct VariableBlock {
     pub section: Section,
     pub declarations: Vec<Declaration>,
+}
+
+impl Drop for VariableBlock {
+    fn drop(self) {
+        let Self {
+            section: _,
+            declarations: _,
+        } = self;
+    }
 }
 
 fn same_retention(this: Option<Retention>, that: Option<Retention>) -> bool

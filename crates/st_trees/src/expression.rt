@@ -9,7 +9,6 @@ use st_words::{BinaryOperator, Identifier, Literal, Tree, UnaryOperator};
 use std::alloc::{AllocError, Global};
 
 /// An expression: a literal, a variable, a call of a function, or an operator over expressions.
-#[derive(Drop)]
 #[cycle(expression)]
 pub enum Expr {
     Literal(Literal),
@@ -23,22 +22,53 @@ pub enum Expr {
     Binary(BinaryOperator, Box<Expr>, Box<Expr>),
 }
 
+impl Drop for Expr {
+    #[cycle(dropped_expression)]
+    fn drop(self) {
+        match self {
+            Self::Literal(_)
+            | Self::Variable(_)
+            | Self::Call(_, _)
+            | Self::Parenthesis(_, _)
+            | Self::Unary(_, _, _)
+            | Self::Binary(_, _, _) => {}
+        }
+    }
+}
+
 /// A variable: a name, and what is selected of it, from the left.
-#[derive(Drop)]
 #[cycle(expression)]
 pub struct Variable {
     pub name: Identifier,
     pub selectors: Vec<Selector>,
 }
 
+impl Drop for Variable {
+    #[cycle(dropped_expression)]
+    fn drop(self) {
+        let Self {
+            name: _,
+            selectors: _,
+        } = self;
+    }
+}
+
 /// A part of a variable.
-#[derive(Drop)]
 #[cycle(expression)]
 pub enum Selector {
     /// A field of a structure, or an output of a block instance.
     Member(Identifier),
     /// An element of an array.
     Subscript(Expr),
+}
+
+impl Drop for Selector {
+    #[cycle(dropped_expression)]
+    fn drop(self) {
+        match self {
+            Self::Member(_) | Self::Subscript(_) => {}
+        }
+    }
 }
 
 impl Expr {

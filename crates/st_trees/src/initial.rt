@@ -8,7 +8,6 @@ ghost use Rattle.st_trees.specs.InitialViews.{initial_view, element_view, member
 use st_words::{Identifier, Literal, Number, Tree};
 
 /// An initial value: a constant, the elements of an array, or the members of a structure.
-#[derive(Drop)]
 #[cycle(initial)]
 pub enum Initial {
     Constant(Literal),
@@ -18,8 +17,16 @@ pub enum Initial {
     Structure(usize, Vec<InitialMember>),
 }
 
+impl Drop for Initial {
+    #[cycle(dropped_initial)]
+    fn drop(self) {
+        match self {
+            Self::Constant(_) | Self::List(_, _) | Self::Structure(_, _) => {}
+        }
+    }
+}
+
 /// Elements of an array's initial value.
-#[derive(Drop)]
 #[cycle(initial)]
 pub enum InitialElement {
     Single(Initial),
@@ -29,12 +36,27 @@ pub enum InitialElement {
     Defaults(Number),
 }
 
+impl Drop for InitialElement {
+    #[cycle(dropped_initial)]
+    fn drop(self) {
+        match self {
+            Self::Single(_) | Self::Repeated(_, _) | Self::Defaults(_) => {}
+        }
+    }
+}
+
 /// A field of a structure with its initial value.
-#[derive(Drop)]
 #[cycle(initial)]
 pub struct InitialMember {
     pub name: Identifier,
     pub value: Initial,
+}
+
+impl Drop for InitialMember {
+    #[cycle(dropped_initial)]
+    fn drop(self) {
+        let Self { name: _, value: _ } = self;
+    }
 }
 
 impl Initial {

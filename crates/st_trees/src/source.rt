@@ -8,7 +8,6 @@ use crate::unit::Unit;
 use st_words::{Tree, same_trees};
 
 /// A part of a text, which the standard calls a library element.
-#[derive(Drop)]
 pub enum LibraryElement {
     /// A block from TYPE to END_TYPE.
     Types(Vec<TypeDeclaration>),
@@ -16,10 +15,23 @@ pub enum LibraryElement {
     Configuration(Configuration),
 }
 
+impl Drop for LibraryElement {
+    fn drop(self) {
+        match self {
+            Self::Types(_) | Self::Unit(_) | Self::Configuration(_) => {}
+        }
+    }
+}
+
 /// The tree of a text.
-#[derive(Drop)]
 pub struct Source {
     pub elements: Vec<LibraryElement>,
+}
+
+impl Drop for Source {
+    fn drop(self) {
+        let Self { elements: _ } = self;
+    }
 }
 
 impl Tree for LibraryElement {

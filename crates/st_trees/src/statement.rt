@@ -10,7 +10,6 @@ use crate::expression::{Expr, Variable};
 use st_words::{EnumeratedValue, Identifier, Number, Tree, same_option, same_trees};
 
 /// A statement of a body, without its semicolon.
-#[derive(Drop)]
 #[cycle(statement)]
 pub enum Stmt {
     Empty,
@@ -36,24 +35,62 @@ pub enum Stmt {
     Return,
 }
 
+impl Drop for Stmt {
+    #[cycle(dropped_statement)]
+    fn drop(self) {
+        match self {
+            Self::Empty
+            | Self::Assign(_, _)
+            | Self::Invoke(_, _)
+            | Self::If(_, _)
+            | Self::Case(_, _, _)
+            | Self::For {
+                control: _,
+                start: _,
+                limit: _,
+                step: _,
+                body: _,
+            }
+            | Self::While(_, _)
+            | Self::Repeat(_, _)
+            | Self::Exit(_)
+            | Self::Return => {}
+        }
+    }
+}
+
 /// A condition with the statements that it guards.
-#[derive(Drop)]
 #[cycle(statement)]
 pub struct Arm {
     pub condition: Expr,
     pub body: Vec<Stmt>,
 }
 
+impl Drop for Arm {
+    #[cycle(dropped_statement)]
+    fn drop(self) {
+        let Self {
+            condition: _,
+            body: _,
+        } = self;
+    }
+}
+
 /// The labels of a CASE with their statements.
-#[derive(Drop)]
 #[cycle(statement)]
 pub struct CaseArm {
     pub labels: Vec<Label>,
     pub body: Vec<Stmt>,
 }
 
+impl Drop for CaseArm {
+    #[cycle(dropped_statement)]
+    fn drop(self) {
+        let Self { labels: _, body: _ } = self;
+    }
+}
+
 /// A label of a CASE.
-#[derive(Drop)]
 pub enum Label {
     Single(Number),
     /// A least and a greatest number.
@@ -61,13 +98,28 @@ pub enum Label {
     Enumerated(EnumeratedValue),
 }
 
+impl Drop for Label {
+    fn drop(self) {
+        match self {
+            Self::Single(_) | Self::Range(_, _) | Self::Enumerated(_) => {}
+        }
+    }
+}
+
 /// An argument of a block call.
-#[derive(Drop)]
 pub enum Argument {
     /// An input that is given a value.
     Input(Identifier, Expr),
     /// An output that is copied to a variable.
     Output(Identifier, Variable),
+}
+
+impl Drop for Argument {
+    fn drop(self) {
+        match self {
+            Self::Input(_, _) | Self::Output(_, _) => {}
+        }
+    }
 }
 
 impl Argument {

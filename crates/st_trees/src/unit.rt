@@ -8,7 +8,6 @@ use crate::statement::Stmt;
 use st_words::{Identifier, Tree, same_trees};
 
 /// What a unit is.
-#[derive(Drop)]
 pub enum UnitSort {
     /// A function, with the type of its result.
     Function(SimpleType),
@@ -16,13 +15,31 @@ pub enum UnitSort {
     Program,
 }
 
+impl Drop for UnitSort {
+    fn drop(self) {
+        match self {
+            Self::Function(_) | Self::FunctionBlock | Self::Program => {}
+        }
+    }
+}
+
 /// A program organisation unit: a function, a function block or a program.
-#[derive(Drop)]
 pub struct Unit {
     pub sort: UnitSort,
     pub name: Identifier,
     pub blocks: Vec<VariableBlock>,
     pub body: Vec<Stmt>,
+}
+
+impl Drop for Unit {
+    fn drop(self) {
+        let Self {
+            sort: _,
+            name: _,
+            blocks: _,
+            body: _,
+        } = self;
+    }
 }
 
 impl Tree for UnitSort {

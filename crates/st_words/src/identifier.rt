@@ -7,11 +7,16 @@ use crate::tree::Tree;
 use std::alloc::{AllocError, Global};
 
 /// A name where it stands in a text.
-#[derive(Drop)]
 pub struct Identifier {
     pub name: Name,
     /// The offset of its first byte in the text.
     pub place: usize,
+}
+
+impl Drop for Identifier {
+    fn drop(self) {
+        let Self { name: _, place: _ } = self;
+    }
 }
 
 impl Identifier {
@@ -23,6 +28,14 @@ impl Identifier {
             name: self.name.copied(alloc)?,
             place: self.place,
         })
+    }
+
+    /// Its name alone.
+    pub fn into_name(self) -> Name
+        ensures { result ≡ self.name }
+    {
+        let Self { name, place: _ } = self;
+        name
     }
 }
 

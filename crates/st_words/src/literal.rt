@@ -25,7 +25,6 @@ pub struct Number {
 /// A value of an enumerated type as a text writes it: `Fault`, or `Mode#Fault`.
 ///
 /// IEC 61131-3:2003, B.1.3.3, enumerated value.
-#[derive(Drop)]
 pub struct EnumeratedValue {
     /// The offset of its first byte.
     pub place: usize,
@@ -34,8 +33,17 @@ pub struct EnumeratedValue {
     pub name: Name,
 }
 
+impl Drop for EnumeratedValue {
+    fn drop(self) {
+        let Self {
+            place: _,
+            type_name: _,
+            name: _,
+        } = self;
+    }
+}
+
 /// A literal where it stands in a text.
-#[derive(Drop)]
 pub enum Literal {
     Number(Number),
     /// TRUE or FALSE, at a place.
@@ -43,6 +51,14 @@ pub enum Literal {
     /// A duration in milliseconds, at a place.
     Duration(usize, u64),
     Enumerated(EnumeratedValue),
+}
+
+impl Drop for Literal {
+    fn drop(self) {
+        match self {
+            Self::Number(_) | Self::Truth(_, _) | Self::Duration(_, _) | Self::Enumerated(_) => {}
+        }
+    }
 }
 
 fn same_names(this: &Option<Name>, that: &Option<Name>) -> bool

@@ -9,14 +9,21 @@ use std::alloc::{AllocError, Global};
 use std::marker::Model;
 
 /// The instance of a program that a variable belongs to.
-#[derive(Drop)]
 pub struct Owner {
     pub resource: Name,
     pub instance: Name,
 }
 
+impl Drop for Owner {
+    fn drop(self) {
+        let Self {
+            resource: _,
+            instance: _,
+        } = self;
+    }
+}
+
 /// A step from a variable to a part of it.
-#[derive(Drop)]
 pub enum Step {
     /// A field of a structure, or a member of a block's instance.
     Member(Name),
@@ -24,14 +31,31 @@ pub enum Step {
     Element(i128),
 }
 
+impl Drop for Step {
+    fn drop(self) {
+        match self {
+            Self::Member(_) | Self::Element(_) => {}
+        }
+    }
+}
+
 /// The path of a variable: whose it is, its name, and the steps to the part that is meant. Contracts see these three.
 ///
 /// A global has no owner, nor has a variable of a function.
-#[derive(Drop)]
 pub struct Path {
     owner: Option<Owner>,
     name: Name,
     steps: Vec<Step>,
+}
+
+impl Drop for Path {
+    fn drop(self) {
+        let Self {
+            owner: _,
+            name: _,
+            steps: _,
+        } = self;
+    }
 }
 
 impl Model for Path {

@@ -13,12 +13,21 @@ use st_words::{Identifier, Name};
 use std::alloc::{AllocError, Global};
 
 /// The functions that the programs of a text's configuration call, at any depth.
-#[derive(Drop)]
 pub struct CalledFunctions<'a> {
     /// The units that programs reach by calls, the programs among them.
     units: Index<'a, ()>,
     values: usize,
     programs: usize,
+}
+
+impl Drop for CalledFunctions<'_> {
+    fn drop(self) {
+        let Self {
+            units: _,
+            values: _,
+            programs: _,
+        } = self;
+    }
 }
 
 /// The units that are reached so far, and those of them whose calls are not followed yet.

@@ -33,7 +33,6 @@ use st_words::Identifier;
 use std::alloc::{AllocError, Global};
 
 /// The types and units of a text, the numbers of its functions and blocks, and its globals.
-#[derive(Drop)]
 pub struct TextTables<'a> {
     pub names: TextNames<'a>,
     pub types: Types<'a>,
@@ -43,6 +42,20 @@ pub struct TextTables<'a> {
     pub globals: Index<'a, LinkSymbol<'a>>,
     /// How many slots the globals take; 4,097 where they are more than 4,096.
     pub global_slots: usize,
+}
+
+impl Drop for TextTables<'_> {
+    fn drop(self) {
+        let Self {
+            names: _,
+            types: _,
+            shapes: _,
+            functions: _,
+            blocks: _,
+            globals: _,
+            global_slots: _,
+        } = self;
+    }
 }
 
 impl<'a> TextTables<'a> {

@@ -22,10 +22,15 @@ use st_words::Identifier;
 use std::alloc::{AllocError, Global};
 
 /// The table of a unit's body, and how many slots its own variables take; 4,097 where they are more than 4,096.
-#[derive(Drop)]
 pub struct UnitTable<'t, 'a> {
     pub table: BodyTable<'t, 'a>,
     pub slots: usize,
+}
+
+impl Drop for UnitTable<'_, '_> {
+    fn drop(self) {
+        let Self { table: _, slots: _ } = self;
+    }
 }
 
 /// The table of a unit whose own variables stand one behind another from a slot on; an external stands for its global.

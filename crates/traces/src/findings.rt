@@ -11,7 +11,6 @@ use st_words::Value;
 use std::alloc::{AllocError, Global};
 
 /// What is told of the life that a trace tells.
-#[derive(Drop)]
 pub struct Replayed {
     /// How many rows were latched.
     pub rows: u64,
@@ -23,6 +22,18 @@ pub struct Replayed {
     pub overruns: u64,
     /// The values of the variables in the end, in layout order.
     pub values: Vec<Value>,
+}
+
+impl Drop for Replayed {
+    fn drop(self) {
+        let Self {
+            rows: _,
+            done: _,
+            faults: _,
+            overruns: _,
+            values: _,
+        } = self;
+    }
 }
 
 /// Whether the execution of that entry ended with a fault.

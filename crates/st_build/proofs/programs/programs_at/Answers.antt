@@ -20,8 +20,3 @@ pub loop-code-preserved : goal.loop-code-preserved
 loop-code-preserved c =
     without_place (length c.loop-code.programs.items) c.args.places.now _ _ c.in-Some.code c.next.new.self.rest.items
     c.loop-code.code-iterator.rest.items (search rules) (search rules) c.loop-code.invariant
-
-pub loop-code-preserved-in_default : goal.loop-code-preserved-in_default
-loop-code-preserved-in_default c =
-    without_place (length c.loop-code.programs.items) c.args.places.now _ _ c.in-Some.code c.next.new.self.rest.items
-    c.loop-code.code-iterator.rest.items (search rules) (search rules) c.loop-code.invariant

@@ -21,7 +21,7 @@ loop-part-preserved c =
     let all = c.args.parts.items in
     let ks = expected_of_call (option_map callee_view c.args.callee) (map kind_told all) in
     let r = c.in-Some.part in
-    let x = c.in_ok-at_place.field-0 in
+    let x = c.at_place.result in
     let done = map expr_view at.arguments.items in
     let left = into_iter_items c.next.new.self in
     let steps : into_iter_items at.part-iterator ≡ r ∷ left = c.in-Some.ensures.steps.0 in
@@ -34,7 +34,7 @@ loop-part-preserved c =
           subst (Places env ks es done) steps (at.invariant.places env es resolves common) in
           subst (λ l. Places env ks es l left) (sym pushed)
           (places_more env ks es done r left (expr_view x) before (λ e h.
-          c.in_ok-at_place.ensures env e h
+          c.at_place.ensures env e h
           ∙ ap (λ k. resolved_expr env.text env.unit k e) (c.expected_at-expected.ensures (map kind_told all) common
           ∙ ap (λ n. first_kind (drop n ks)) count)));
       len = let was = at.invariant.len in let gone = c.in-Some.ensures.steps.1 in let short = ap length steps in omega arith;
