@@ -30,6 +30,7 @@ line_of() {
 copy_parts() {
     local names=$1 to=$2 crate part
     shift 2
+    mkdir -p "$to"
     for crate in $names; do
         mkdir -p "$to/crates/$crate"
         for part; do

@@ -8,21 +8,12 @@ use st_plans::Activation;
 const PARTS: u64 = 100;
 
 /// Lets every worker pass, and tells on a terminal how many rows are done.
+#[derive(Drop)]
 pub struct Progress<'a, R: Eprint> {
     rt: &'a R,
     /// How many rows the run has.
     rows: u64,
     is_told: bool,
-}
-
-impl<'a, R: Eprint + Drop> Drop for Progress<'a, R> {
-    fn drop(self) {
-        let Self {
-            rt: _,
-            rows: _,
-            is_told: _,
-        } = self;
-    }
 }
 
 impl<'a, R: Eprint> Progress<'a, R> {
