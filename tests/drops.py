@@ -1,0 +1,34 @@
+#!/usr/bin/env python3
+"""Looks whether each drop that is written out lets go of all that its value holds, and does nothing else.
+
+No contract says so: a drop that forgets a field is proved, and its memory is never given back.
+
+usage: tests/drops.py
+"""
+import pathlib
+import re
+import sys
+
+ROOT = pathlib.Path(__file__).resolve().parent.parent
+
+IMPL = re.compile(r"^impl\b[^\n]*\bDrop for (\w+)[^\n]*\{\n(.*?)^\}", re.M | re.S)
+FIELDS = r"(?:\((?:_,?)+\)|\{(?:\w+:_,?)*\})?"
+BODY = re.compile(rf"(?:#\[cycle\(\w+\)\])?fndrop\(self\)\{{(?:letSelf{FIELDS}=self;|matchself\{{Self::\w+{FIELDS}(?:\|Self::\w+{FIELDS})*=>\{{\}}\}})\}}")
+
+
+def main():
+    count, odd = 0, []
+    for path in sorted(ROOT.glob("crates/*/src/**/*.rt")):
+        for name, body in IMPL.findall(path.read_text()):
+            count += 1
+            if not BODY.fullmatch(re.sub(r"\s", "", body)):
+                odd.append(f"{path.relative_to(ROOT)}: the drop of {name} does more than let go of what it holds, or less")
+    for line in odd:
+        print(f"drops.py: {line}", file=sys.stderr)
+    if odd or not count:
+        sys.exit(1)
+    print(f"drops.py: {count} drops let go of all that their values hold")
+
+
+if __name__ == "__main__":
+    main()
