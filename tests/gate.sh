@@ -1,6 +1,7 @@
 #!/usr/bin/env bash
-# The gate: whether all edits apply, and drops do no more than they should; every proof from nothing, the edits that the prover must refuse, the tests; then the built program over
-# real files. Its last line is 'N passed, M failed', and only where all has passed does the script end with 0.
+# The gate: whether all edits apply, and drops do no more than they should; every proof from nothing, the edits that the prover must refuse,
+# the tests; then the built program over real files. Its last line is 'N passed, M failed', and only where all has passed does the script
+# end with 0.
 set -euo pipefail
 cd "$(dirname "$0")/.."
 
