@@ -9,7 +9,7 @@ set -e
 crates=$(below "$1" 'st_build serial_core')
 built=${2:+$(realpath "$2")}
 # shellcheck disable=SC2086 # names without blanks
-copied "$1" speed 'anyhow thiserror smallvec' $crates
+copied "$1" speed 'anyhow thiserror' $crates
 if [ -z "$built" ]; then
     rt run -- "$here/speed/count.st" 1 200000 1
     built=$PWD/out/speed

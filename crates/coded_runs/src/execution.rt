@@ -7,14 +7,10 @@ ghost use Rattle.coded_runs.specs.Effects.{IsTrueOf};
 
 use crate::cell::Cell;
 use coded_programs::Code;
-use smallvec::SmallVec;
 use st_plans::Activation;
 use st_types::Outcome;
 use std::marker::Model;
 use std::sync::Arc;
-
-/// The reads or the writes of a run. Up to eight of them take no memory beside the run's.
-pub type Cells = SmallVec<Cell, 8>;
 
 /// A run of an activation's code: what it read, what it writes, and how it ended. Contracts see these as an `Effect`.
 ///
@@ -27,8 +23,8 @@ pub struct Execution {
     activation: Activation,
     moment: u64,
     budget: u32,
-    reads: Cells,
-    writes: Cells,
+    reads: Vec<Cell>,
+    writes: Vec<Cell>,
     outcome: Outcome,
 }
 
@@ -63,8 +59,8 @@ impl Execution {
         activation: Activation,
         moment: u64,
         budget: u32,
-        reads: Cells,
-        writes: Cells,
+        reads: Vec<Cell>,
+        writes: Vec<Cell>,
         outcome: Outcome,
     ) -> Execution
         requires { IsTrueOf (code_view code.value) moment budget (map cut reads.items) (map cut writes.items) outcome }
@@ -123,14 +119,14 @@ impl Execution {
     pub fn reads(&self) -> &[Cell]
         ensures { map cut result.now ≡ self.now.reads }
     {
-        self.reads.as_slice()
+        &self.reads
     }
 
     /// What it writes, by slots in ascending order.
     pub fn writes(&self) -> &[Cell]
         ensures { map cut result.now ≡ self.now.writes }
     {
-        self.writes.as_slice()
+        &self.writes
     }
 
     /// How it ended.

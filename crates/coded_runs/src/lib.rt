@@ -13,7 +13,7 @@ mod runner;
 mod snapshot;
 
 pub use cell::Cell;
-pub use execution::{Cells, Execution};
+pub use execution::Execution;
 pub use laws::{commits_do_what_programs_do, writes_to_inputs_change_no_variable};
 pub use runner::run;
 pub use snapshot::Snapshot;

@@ -10,14 +10,14 @@ ghost use Rattle.coded_programs.specs.Codes.{code_view};
 ghost use Rattle.coded_runs.specs.Runs.{EndsAs, IsLong, marked_run, unmarked, writes_left};
 ghost use Rattle.coded_runs.specs.Executions.{IsEffectOf, IsRunOf};
 
-use crate::execution::{Cells, Execution};
+use crate::cell::Cell;
+use crate::execution::Execution;
 use crate::gathering::{reads_of, writes_of};
 use crate::memory::{memory_over, take_front, unmarked};
 use crate::snapshot::Snapshot;
 use coded_programs::{Code, WordProgram};
 use machine_code::Mark;
 use slot_machine::Stop;
-use smallvec::SmallVec;
 use st_types::Outcome;
 use st_words::Value;
 use std::alloc::{AllocError, Global};
@@ -45,7 +45,7 @@ fn run_words(
         Ok(all) => all,
         Err(_) => return Err(Stop::Memory),
     };
-    let ended = word_runs::run(
+    let ended = word_machine::run(
         alloc,
         &code.instrs,
         &code.kinds,
@@ -108,20 +108,20 @@ fn writes_left(
     outcome: Outcome,
     values: &[Value],
     marks: &[Mark],
-) -> Result<Cells, AllocError>
+) -> Result<Vec<Cell>, AllocError>
     ensures { IfOk result (λ cells. map cut cells.items ≡ writes_left outcome values.now marks.now) }
 {
     match outcome {
         Outcome::Done => writes_of(alloc, values, marks),
-        Outcome::Faulted(_) => Ok(SmallVec::new(alloc)),
+        Outcome::Faulted(_) => Ok(Vec::new(alloc)),
     }
 }
 
 /// What a run read and wrote, and how it ended.
 #[derive(Drop)]
 pub struct Ran {
-    pub reads: Cells,
-    pub writes: Cells,
+    pub reads: Vec<Cell>,
+    pub writes: Vec<Cell>,
     pub outcome: Outcome,
 }
 

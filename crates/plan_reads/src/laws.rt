@@ -10,10 +10,10 @@ ghost use Rattle.config.specs.Sources.{program_numbered};
 ghost use Rattle.coded_runs.specs.declared.snapshot.Snapshot.{Snapshot};
 ghost use Rattle.coded_runs.specs.Effects.{Effect};
 ghost use Rattle.coded_runs.specs.Executions.{IsEffectOf};
-ghost use Rattle.asked_reads.specs.Reading.{Reads};
+ghost use Rattle.plan_reads.specs.Reading.{Reads};
 ghost use Rattle.st_build.specs.Reads.{ReadsWhatItAsksFor, slots_of_plan};
 
-use asked_reads::what_a_run_reads_is_asked_for;
+use crate::asking::what_a_run_reads_is_asked_for;
 
 /// A global or an input that an execution reads, whose snapshot has the code of one of the plan's programs, is one whose
 /// value the program asks for: which it looks up before it has assigned it itself. The plans of texts keep what is asked

@@ -19,8 +19,8 @@ use Rattle.st_plans.specs.Logs.{Log}
 use Rattle.image.specs.declared.plant_error.PlantError.{PlantError}
 use Rattle.commit_lock.specs.declared.starting.StartMode.{StartMode}
 use Rattle.traces.specs.declared.findings.Replayed.{Replayed}
-use Rattle.traces.specs.declared.trace_error.ReplayError.{ReplayError}
-use Rattle.traces.specs.declared.trace_error.ReplayError.TheVariants as replays
+use Rattle.trace_lines.specs.declared.trace_error.ReplayError.{ReplayError}
+use Rattle.trace_lines.specs.declared.trace_error.ReplayError.TheVariants as replays
 use Rattle.traces.specs.Replays.{AreFindings, AreToldApart, IsToldApart, IsTrace}
 use Rattle.source_run.specs.declared.fault.Fault.{Fault}
 use Rattle.source_run.specs.declared.fault.Fault.TheVariants as faults

@@ -10,7 +10,8 @@ use Rattle.st_plans.specs.Logs.{Log}
 use Rattle.config.specs.declared.plan.Plan.{Plan}
 use Rattle.image.specs.Plants.{AreRowsOf}
 use Rattle.commit_lock.specs.declared.starting.StartMode.{StartMode}
-use Rattle.traces.specs.Replays.{IsTrace, budget_text}
+use Rattle.traces.specs.Replays.{IsTrace}
+use Rattle.trace_lines.specs.Texts.{budget_text}
 use Rattle.plots.specs.Calls.{IsUncalled}
 use Rattle.plant_codes.specs.Codes.{code_of, codes_like, is_code}
 use Rattle.plant_codes.specs.Spelling.{explanation_text}
@@ -20,7 +21,7 @@ use Rattle.retain_show.specs.Shown.{areas_shown, shown_text}
 use Rattle.plant_words.specs.declared.job.Job.{Job}
 use Rattle.plant_words.specs.declared.job.Job.TheVariants as jobs
 use Rattle.plant_words.specs.declared.job.Start.{Start}
-use Rattle.traces.specs.declared.trace_error.ReplayError.TheVariants as replays
+use Rattle.trace_lines.specs.declared.trace_error.ReplayError.TheVariants as replays
 use Rattle.source_run.specs.declared.fault.Fault.{Fault}
 use Rattle.source_run.specs.declared.fault.Fault.TheVariants as faults
 use Rattle.source_run.specs.Sources.{IsPlanIn}

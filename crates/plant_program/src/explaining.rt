@@ -1,8 +1,8 @@
 //! What a person is shown behind the line of a fault.
 
+use crate::source_faults::source_fault;
 use plant_codes::title;
 use plant_words::Job;
-use source_faults::source_fault;
 use source_run::{Fault, Files, read_source};
 use st_diagnose::{SourceFault, WholeFault};
 use st_reasons::write_reason;

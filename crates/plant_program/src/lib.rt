@@ -15,6 +15,7 @@ mod program;
 mod replaying;
 mod showing;
 mod sizes;
+mod source_faults;
 mod telling;
 
 pub use ending::{Declined, Ending};

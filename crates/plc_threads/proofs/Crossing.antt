@@ -57,8 +57,8 @@ use Rattle.st_words.specs.contracts.value.Value.TheInside as ValueInside
 use Rattle.st_words.specs.contracts.value.Value as Value
 use Rattle.machine_code.specs.contracts.instr.Instr as Instr
 use Rattle.st_names.specs.contracts.standard_functions.Standard as Standard
-use Rattle.word_values.specs.contracts.words.Bounds as Bounds
-use Rattle.word_values.specs.contracts.operators.WordOperator as WordOperator
+use Rattle.word_code.specs.contracts.words.Bounds as Bounds
+use Rattle.word_code.specs.contracts.operators.WordOperator as WordOperator
 use Rattle.word_code.specs.contracts.entry.Entry as WordEntry
 use Rattle.word_code.specs.contracts.entry.Site as WordSite
 use Rattle.word_code.specs.contracts.functions.Operand as Operand

@@ -4,7 +4,7 @@ ghost use Rattle.std.specs.Prelude.{◌≢◌, IfOk, IfErr};
 ghost use Rattle.st_plans.specs.Restarts.{Start};
 ghost use Rattle.st_plans.specs.Logs.{Log};
 ghost use Rattle.commit_lock.specs.declared.starting.StartMode.{StartMode};
-ghost use Rattle.traces.specs.declared.trace_error.ReplayError.{ReplayError};
+ghost use Rattle.trace_lines.specs.declared.trace_error.ReplayError.{ReplayError};
 ghost use Rattle.traces.specs.Replays.{AreFindings, IsToldApart, IsTrace};
 
 use crate::lanes::lanes;

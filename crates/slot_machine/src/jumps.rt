@@ -10,7 +10,7 @@ ghost use Rattle.slot_machine.specs.Steps.{Steps, IsDown, IsTick};
 use crate::stack::Stack;
 use crate::stop::Stop;
 use st_words::{Fault, Value};
-use std_blocks::{is_at_most, is_same_number, truth};
+use std_functions::{is_at_most, is_same_number, truth};
 
 /// A jump to a place that is at most the one behind the instruction.
 #[inline(always)]

@@ -13,7 +13,7 @@ use crate::stack::Stack;
 use crate::stop::Stop;
 use machine_code::Mark;
 use st_words::{Fault, Value};
-use std_blocks::{is_at_most, is_negative, stepped_on};
+use std_functions::{is_at_most, is_negative, stepped_on};
 
 /// Whether the control variable has not passed the limit.
 #[inline(always)]

@@ -12,7 +12,7 @@ use crate::stack::Stack;
 use crate::stop::Stop;
 use st_names::Standard;
 use st_words::{BinaryOperator, Fault, UnaryOperator, Value};
-use std_blocks::{apply, apply_unary, standard_value};
+use std_functions::{apply, apply_unary, standard_value};
 
 #[inline(always)]
 pub fn push_constant(value: Value, stack: &mut Stack) -> Result<(), Stop>

@@ -12,7 +12,7 @@ use crate::stack::Stack;
 use crate::stop::Stop;
 use machine_code::Mark;
 use st_words::{Fault, Value};
-use std_blocks::bits;
+use std_functions::bits;
 
 #[inline(always)]
 pub fn load(k: u16, stack: &mut Stack, values: &[Value], marks: &mut [Mark]) -> Result<(), Stop>

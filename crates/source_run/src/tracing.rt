@@ -2,7 +2,7 @@
 
 ghost use Rattle.std.specs.Prelude.{◌≡◌, OnOk, IfOk, IfErr, Ok};
 ghost use Rattle.std.specs.Io.KnownBytes.{Appends};
-ghost use Rattle.traces.specs.Texts.{trace_of};
+ghost use Rattle.trace_lines.specs.Texts.{trace_of};
 
 use crate::fault::Fault;
 use crate::files::Files;

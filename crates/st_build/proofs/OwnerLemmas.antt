@@ -18,7 +18,7 @@ use Rattle.st_layouts.specs.LayoutVariables.{configurations_in, only_configurati
 use Rattle.st_layouts.specs.Libraries.{programs_of_text}
 use Rattle.st_layouts.specs.Names.{are_different, has_different_instances, is_configuration_different}
 use Rattle.st_layouts.proofs.ListLemmas.{get_split, name_itself, same_name}
-use Rattle.st_stores.proofs.DifferentNames.{scopes_differ}
+use Rattle.st_sound.proofs.DifferentNames.{scopes_differ}
 use Rattle.st_plans.specs.Plans as plans
 use Rattle.text_paths.specs.PlainDeclarations.{is_plain, is_plain_configuration, is_plain_element, is_plain_globals}
 use Rattle.text_paths.specs.PlainDeclarations.{is_plain_instance, is_plain_resource, is_word}

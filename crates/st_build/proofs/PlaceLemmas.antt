@@ -24,8 +24,8 @@ use Rattle.st_plans.specs.declared.plan.PlanInput.{PlanInput}
 use Rattle.st_plans.specs.declared.plan.PlanVariable.{PlanVariable}
 use Rattle.st_layouts.specs.LayoutVariables.{owner_in, declared_of}
 use Rattle.st_layouts.specs.Libraries.{program_by_sort, program_if_there, programs_of_instances, programs_of_resources}
-use Rattle.st_stores.specs.WellTypedRuns.{program_given}
-use Rattle.st_stores.proofs.TakenBodies.{unit_taken}
+use Rattle.st_sound.specs.WellTypedRuns.{program_given}
+use Rattle.st_sound.proofs.TakenBodies.{unit_taken}
 use Rattle.config.specs.declared.task.Task.{Task}
 use Rattle.config.specs.Sound.{is_of_resource}
 use Rattle.st_build.specs.declared.places.Place.{Place}

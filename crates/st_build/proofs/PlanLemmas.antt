@@ -30,7 +30,7 @@ use Rattle.st_layouts.specs.Libraries.{programs_of_configuration, programs_of_te
 use Rattle.st_layouts.specs.TextLayouts.{enumeration_names, enumerations_of_text, plan_inputs_of_text, plan_variables_of_text}
 use Rattle.st_layouts.specs.TextLayouts.{slots_of_text}
 use Rattle.st_layouts.proofs.ResolvedLemmas.{configuration_taken, taken_configuration}
-use Rattle.st_stores.proofs.DifferentNames.{text_layout}
+use Rattle.st_sound.proofs.DifferentNames.{text_layout}
 use Rattle.layout.specs.declared.slots.LayoutSlot.{LayoutSlot}
 use Rattle.layout.specs.TextLayouts.{IsLayoutOf, slot_view, variables_among, inputs_among}
 use Rattle.coded_programs.specs.Codes.{CodeView, code_view}

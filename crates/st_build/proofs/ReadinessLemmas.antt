@@ -8,7 +8,7 @@ use Rattle.st_statics.specs.Rules.{IsWellTyped}
 use Rattle.st_plans.specs.Layouts.{path_text}
 use Rattle.st_configured.specs.Configured.{IsConfigured}
 use Rattle.st_layouts.specs.TextLayouts.{enumerations_of_text, plan_variables_of_text}
-use Rattle.st_stores.proofs.GrammarFunctions.{functions_clean}
+use Rattle.st_sound.proofs.GrammarFunctions.{functions_clean}
 use Rattle.text_paths.specs.Texts.{IsTextOf}
 use Rattle.config.specs.Sound.{are_different, has_line}
 use Rattle.layout.specs.declared.slots.LayoutSlot.{LayoutSlot}

@@ -30,10 +30,10 @@ use Rattle.st_layouts.proofs.ListLemmas.{same_name}
 use Rattle.st_layouts.proofs.NameLemmas.{configuration_once}
 use Rattle.st_layouts.proofs.ResolvedLemmas.{slots_taken}
 use Rattle.st_layouts.proofs.VariableLemmas.{variable_stands}
-use Rattle.st_stores.proofs.DifferentNames.{names_differ, scopes_differ}
-use Rattle.st_stores.proofs.GlobalVariables.{listed_variable, in_declarations, in_globals}
-use Rattle.st_stores.proofs.HomeLemmas.{among_left, found_at}
-use Rattle.st_stores.proofs.ListTests.{any_at}
+use Rattle.st_sound.proofs.DifferentNames.{names_differ, scopes_differ}
+use Rattle.st_sound.proofs.GlobalVariables.{listed_variable, in_declarations, in_globals}
+use Rattle.st_sound.proofs.HomeLemmas.{among_left, found_at}
+use Rattle.st_sound.proofs.ListTests.{any_at}
 use Rattle.st_build.proofs.ListLemmas.{both, some_is}
 
 -- a BOOL is one slot

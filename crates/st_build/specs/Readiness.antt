@@ -7,7 +7,7 @@ use Rattle.st_types.specs.ResolvedUnits.{resolved_source}
 use Rattle.st_statics.specs.Rules.{IsWellTyped}
 use Rattle.st_plans.specs.Layouts.{path_text}
 use Rattle.st_configured.specs.Configured.{IsConfigured}
-use Rattle.st_stores.specs.WellTypedRuns.{HaveFunctionsNoExternals}
+use Rattle.st_sound.specs.WellTypedRuns.{HaveFunctionsNoExternals}
 use Rattle.st_layouts.specs.TextLayouts.{enumerations_of_text, plan_variables_of_text}
 use Rattle.layout.specs.declared.slots.LayoutSlot.{LayoutSlot}
 use Rattle.layout.specs.TextLayouts.{IsLayoutOf}

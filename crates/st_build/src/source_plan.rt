@@ -25,8 +25,7 @@ use st_trees::Source;
 use st_words::limits::MAX_BUDGET;
 use std::alloc::Global;
 use text_codes::codes_of_text;
-use text_paths::paths_of_texts_are_written_apart;
-use text_spelling::literals_of_texts_are_spelled;
+use text_paths::{literals_of_texts_are_spelled, paths_of_texts_are_written_apart};
 
 /// The plan of a text that is judged, from its tree in which each literal has its type.
 fn plan_of_tree(alloc: Global, tree: Source, budget: u32) -> Result<Plan, BuildError>

@@ -15,7 +15,7 @@ use Rattle.st_statics.specs.Faults.{breaking}
 use Rattle.st_statics.specs.Rules.{wrong_types, wrong_starts, wrong_bodies}
 use Rattle.st_statics.specs.TypeRules.{wrong_declaring, wrong_element, wrong_result, wrong_bound_numbers}
 use Rattle.st_statics.specs.TypeRules.{wrong_priorities_of}
-use Rattle.st_declared.specs.Surplus.{surplus_names, HasNoSurplus}
+use Rattle.st_check.specs.Surplus.{surplus_names, HasNoSurplus}
 
 pub judges_behind : (ds ts ss bs : List Broken) (r : Result (Unit {0}) CheckError) → ds ≡ []
     → Judges (ts ++ ss ++ bs) r → Judges (ds ++ ts ++ ss ++ bs) r

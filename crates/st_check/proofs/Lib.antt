@@ -1,1 +1,3 @@
+pub mod InitialLemmas
+pub mod TypeLemmas
 pub mod JudgeLemmas

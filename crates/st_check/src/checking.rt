@@ -5,11 +5,14 @@ ghost use Rattle.st_trees.specs.SourceViews.{source_view};
 ghost use Rattle.st_statics.specs.Faults.{Finds};
 ghost use Rattle.st_statics.specs.Rules.{broken, wrong_types, wrong_starts, wrong_bodies};
 ghost use Rattle.st_decl.specs.Judgements.{Judges};
-ghost use Rattle.st_declared.specs.Surplus.{HasNoSurplus};
+ghost use Rattle.st_check.specs.Surplus.{HasNoSurplus};
 
+use crate::enumerations::surplus_names;
+use crate::lookups::Lookups;
+use crate::starts::wrong_starts;
+use crate::types::wrong_types;
 use st_bodies::wrong_bodies;
 use st_decl::{CheckError, declare};
-use st_declared::{Lookups, surplus_names, wrong_starts, wrong_types};
 use st_statics::{Broken, Rule};
 use st_trees::Source;
 use st_typing::broken_at;

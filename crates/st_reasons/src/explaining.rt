@@ -1,7 +1,7 @@
 //! What is said of the fault of a text, as far as its tree tells.
 
+use crate::configurations::of_configuration;
 use crate::rules::of_broken;
-use configuration_reasons::of_configuration;
 use st_diagnose::{Finding, SourceFault, Spot, WholeFault, explained, of_rule, of_whole};
 use st_lex::{Token, lex};
 use st_parse::parse;

@@ -5,13 +5,13 @@ use crate::assigned::of_assigned;
 use crate::calls::of_count;
 use crate::lookups::Lookups;
 use crate::spots::is_declaring;
+use crate::trees::of_tree;
 use crate::types::{of_body, of_number, of_start};
 use crate::unknown::of_unknown;
 use st_diagnose::{Finding, Spot, of_rule};
 use st_statics::Rule;
 use st_trees::Source;
 use std::alloc::{AllocError, Global};
-use tree_reasons::of_tree;
 
 /// What is said of a rule on types, numbers or calls that is broken in a declaration, or where tokens tell enough.
 fn of_declared<'a>(

@@ -1,6 +1,2 @@
 pub mod BlockLemmas
 pub mod MemberLemmas
-pub mod NumberLemmas
-pub mod Remainders
-pub mod ShiftLemmas
-pub mod SteppedLemmas

@@ -1,6 +1,6 @@
-//! What operators, standard functions and standard function blocks make of values.
+//! What standard function blocks make of the members of their instances.
 //!
-//! Each call is exactly its definition, whatever the types of its operands: what no well-typed text meets ends with the
+//! Each call is exactly its definition, whatever the types of the members: what no well-typed text meets ends with the
 //! fault that stands for it in a run. None of them takes memory.
 #![tactic(auto)]
 
@@ -8,15 +8,8 @@ mod bistables;
 mod blocks;
 mod counters;
 mod edges;
-mod functions;
 mod members;
-mod numbers;
-mod operators;
-mod shifts;
 mod timer;
 mod timers;
 
 pub use blocks::step;
-pub use functions::standard_value;
-pub use numbers::{bits, is_at_most, is_negative, is_same_number, stepped_on};
-pub use operators::{apply, apply_unary, truth};

@@ -16,7 +16,7 @@ use Rattle.layout.specs.declared.slots.LayoutSlot.{LayoutSlot}
 use Rattle.slot_trees.specs.SlotTrees.{SlotLibrary, SlotStmts}
 use Rattle.slot_trees.specs.TextLinks.{LinkedText, linked_source}
 use Rattle.tree_code.specs.Programs.{program_code, ProgramFits}
-use Rattle.st_coded.specs.CodedSources.{HasCodeRuns}
+use Rattle.text_codes.specs.CodedSources.{HasCodeRuns}
 use Rattle.text_links.specs.Accepted.{IsLinked}
 use Rattle.text_links.specs.KeptTexts.{KeptText}
 use Rattle.slot_bodies.specs.LibraryViews.{KeptLibrary}
@@ -24,7 +24,7 @@ use Rattle.st_compile.specs.Linked.{ProgramLinked}
 use Rattle.text_fitting.specs.Compiled.{AreCompiled}
 use Rattle.coded_programs.specs.Codes.{CodeView}
 use Rattle.coded_programs.specs.Meanings.{Means}
-use Rattle.coded_texts.specs.ProgramCodes.{IsCodeOf}
+use Rattle.text_codes.specs.ProgramCodes.{IsCodeOf}
 use Rattle.text_codes.specs.Codes.{AreCodesOf, AreCodesOver, IsCodeOver, ReadsAsAsked}
 
 -- one more

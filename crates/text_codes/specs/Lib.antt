@@ -1,1 +1,3 @@
+pub mod ProgramCodes
+pub mod CodedSources
 pub mod Codes

@@ -20,23 +20,23 @@ ghost use Rattle.text_fitting.specs.Compiled.{AreCompiled};
 ghost use Rattle.text_fitting.specs.Spelled.{IsSpelled};
 ghost use Rattle.text_codes.specs.Codes.{AreCodesOf, AreCodesOver, IsCodeOver};
 
+use crate::look_ups::codes_of_accepted_texts_look_globals_up;
+use crate::meaning::{code_of_texts_fails_as_their_programs, code_of_texts_means_their_programs};
+use crate::running::code_of_accepted_texts_does_what_their_programs_do;
 use crate::slot_kinds::kinds_of;
 use coded_programs::Code;
-use coded_texts::{code_of_texts_fails_as_their_programs, code_of_texts_means_their_programs};
 use layout::Layout;
 use machine_code::MAX_INSTRUCTIONS;
 use slot_bodies::{SlotLibrary, SlotStmt};
-use st_coded::code_of_accepted_texts_does_what_their_programs_do;
 use st_compile::{CompileError, compile};
 use st_link::LinkError;
-use st_linked::programs_of_accepted_texts_run_by_slots;
+use st_sound::programs_of_accepted_texts_run_by_slots;
 use st_trees::Source;
 use st_words::Kind;
 use std::alloc::Global;
 use std::sync::Arc;
 use text_fitting::accepted_texts_are_compiled;
 use text_links::{CalledFunctions, LinkedText, link};
-use text_reads::codes_of_accepted_texts_look_globals_up;
 
 /// Whether there may be room for the values that calls of these functions begin with: each takes two instructions of a
 /// program.

@@ -39,7 +39,7 @@ use Rattle.st_sound.proofs.ValueLaw.{one_less, callee_by, own_callee, alone_expr
 use Rattle.slot_trees.specs.Tables.{Table}
 use Rattle.tree_code.specs.Fitting.{UnitCall, of_function}
 use Rattle.tree_code.specs.Sites.{Site, end_of}
-use Rattle.st_fitting.specs.Sound.{number_of_exprs, CallSound, ExprSound, ExprsSound, SelectorsSound}
+use Rattle.text_fitting.specs.Sound.{number_of_exprs, CallSound, ExprSound, ExprsSound, SelectorsSound}
 use Rattle.text_fitting.specs.Callable.{IsCallable}
 use Rattle.text_fitting.specs.Spelled.{ExprOf, ExprsOf, SelectorsOf}
 use Rattle.text_fitting.proofs.Literals.{literal_value, named_held, member_value}

@@ -1,3 +1,8 @@
+pub mod Options
+pub mod Selected
+pub mod Linked
+pub mod LinkedStatements
+pub mod Names
 mod Literals
 mod Expressions
 mod Statements

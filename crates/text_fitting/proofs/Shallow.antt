@@ -43,7 +43,7 @@ use Rattle.st_sound.proofs.BodyRunLaw.{own_block}
 use Rattle.st_sound.proofs.FoundNames.{unit_found, unit_in, type_found, type_in_source}
 use Rattle.st_sound.proofs.InstanceSections.{instance_variable, found_among, absent}
 use Rattle.st_sound.proofs.WellTypedTexts.{PartsRight, parts_right}
-use Rattle.st_stores.proofs.RunHomes.{no_type_by}
+use Rattle.st_sound.proofs.RunHomes.{no_type_by}
 
 -- none of a list passes
 none_at : {A : Type 0} (p : A → Bool) {a : A} {xs : List A} → Among a xs → list_any p xs ≡ false → p a ≡ false

@@ -43,10 +43,10 @@ use Rattle.st_sound.proofs.BodyRunLaw.{own_block}
 use Rattle.st_sound.proofs.FoundFunctions.{own_function}
 use Rattle.st_sound.proofs.FoundNames.{unit_in}
 use Rattle.st_sound.proofs.WellTypedTexts.{PartsRight, parts_right, text_right}
-use Rattle.st_stores.proofs.LibraryBodies.{body_taken}
-use Rattle.st_stores.proofs.LibraryFunctions.{inputs_taken}
-use Rattle.st_stores.proofs.ListTests.{all_at, as_among}
-use Rattle.st_stores.proofs.TakenBodies.{text_taken, statements_taken}
+use Rattle.st_sound.proofs.LibraryBodies.{body_taken}
+use Rattle.st_sound.proofs.LibraryFunctions.{inputs_taken}
+use Rattle.st_sound.proofs.ListTests.{all_at, as_among}
+use Rattle.st_sound.proofs.TakenBodies.{text_taken, statements_taken}
 use Rattle.layout.specs.Growth.{is_too_large}
 use Rattle.layout.specs.Layouts.{layout_size}
 use Rattle.slot_trees.specs.SlotEvaluation.{slot_at}
@@ -71,13 +71,13 @@ use Rattle.tree_code.specs.Programs.{program_site}
 use Rattle.tree_code.specs.Sites.{Site, end_of, site_at, site_from}
 use Rattle.st_compile.specs.Linked.{CallLinkedWithin, FunctionLinked, IfBodyLinked, IfFunctionLinked, InstanceLinked}
 use Rattle.st_compile.specs.Linked.{ProgramLinked, StmtsLinked}
-use Rattle.st_linked.proofs.FunctionServes.{unit_in_order}
-use Rattle.st_linked.proofs.TakenTexts.{taken_differ}
-use Rattle.st_linked.proofs.UnitServes.{differ, named_once, unit_once}
-use Rattle.st_fitting.specs.Sound.{StmtsSound, SymbolsWithin}
-use Rattle.st_fitting.proofs.Names.{block_within, function_within, program_within}
-use Rattle.st_fitting.proofs.Selected.{symbol_within}
-use Rattle.st_fitting.proofs.Statements.{stmts_linked}
+use Rattle.st_sound.proofs.FunctionServes.{unit_in_order}
+use Rattle.st_sound.proofs.TakenTexts.{taken_differ}
+use Rattle.st_sound.proofs.UnitServes.{differ, named_once, unit_once}
+use Rattle.text_fitting.specs.Sound.{StmtsSound, SymbolsWithin}
+use Rattle.text_fitting.proofs.Names.{block_within, function_within, program_within}
+use Rattle.text_fitting.proofs.Selected.{symbol_within}
+use Rattle.text_fitting.proofs.LinkedStatements.{stmts_linked}
 use Rattle.text_links.specs.KeptTexts.{block_fits, function_fits, is_linked, kept_block, kept_blocks, kept_function, kept_functions}
 use Rattle.text_links.specs.KeptTexts.{kept_if}
 use Rattle.text_links.proofs.FirstSlotLemmas.{both_hold}

@@ -28,8 +28,8 @@ use Rattle.st_layouts.proofs.ResolvedLemmas.{taken_text}
 use Rattle.st_sound.proofs.Among.{Among}
 use Rattle.st_sound.proofs.FoundNames.{unit_found}
 use Rattle.st_sound.proofs.WellTypedTexts.{parts_right}
-use Rattle.st_stores.proofs.DifferentNames.{scopes_differ}
-use Rattle.st_stores.proofs.TakenBodies.{text_taken}
+use Rattle.st_sound.proofs.DifferentNames.{scopes_differ}
+use Rattle.st_sound.proofs.TakenBodies.{text_taken}
 use Rattle.slot_trees.specs.SlotTrees.{SlotStmts}
 use Rattle.slot_trees.specs.TextLinks.{linked_instances, linked_program, linked_program_by_sort, linked_program_then}
 use Rattle.slot_trees.specs.TextLinks.{linked_programs, linked_resources}
@@ -39,8 +39,8 @@ use Rattle.slot_trees.proofs.OptionLemmas.{then_some}
 use Rattle.slot_trees.proofs.ProgramLinks as links
 use Rattle.slot_trees.proofs.ProgramLinks.{among_left, among_right, site_among, variable_found}
 use Rattle.slot_bodies.specs.LibraryViews.{KeptLibrary}
-use Rattle.st_linked.proofs.TakenTexts.{taken_configuration_differs, taken_differ}
-use Rattle.st_linked.proofs.UnitServes.{differ}
+use Rattle.st_sound.proofs.TakenTexts.{taken_configuration_differs, taken_differ}
+use Rattle.st_sound.proofs.UnitServes.{differ}
 use Rattle.text_links.specs.Accepted.{IsAccepted}
 use Rattle.text_links.specs.KeptTexts.{KeptText, kept_blocks, kept_functions, kept_library, kept_library_with, kept_source}
 use Rattle.text_links.specs.KeptTexts.{kept_text, kept_text_with}

@@ -5,10 +5,10 @@ use Rattle.st_trees.specs.declared.unit.UnitSort.TheVariants.{Function, Function
 use Rattle.st_trees.specs.Units.{OrganisationUnit}
 use Rattle.st_types.specs.NameTypes.{Declared}
 use Rattle.st_layouts.specs.LayoutVariables.{Owned, owned_variable}
-use Rattle.st_stores.specs.Homes.{IsAmong}
+use Rattle.st_sound.specs.Homes.{IsAmong}
 use Rattle.slot_trees.specs.TextLinks.{sites_of_call}
 use Rattle.slot_trees.specs.TextNumbers.{members_of_block}
-use Rattle.st_fitting.specs.Sound.{AreBounded, AreBoundedVariables}
+use Rattle.text_fitting.specs.Sound.{AreBounded, AreBoundedVariables}
 
 -- those of the layout's variables, of functions' calls, and of members of blocks
 pub record HasBoundedArrays (text : Declared) (vs : List Owned) : Type 0 where

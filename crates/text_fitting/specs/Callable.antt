@@ -9,7 +9,7 @@ use Rattle.st_statics.specs.Environments.{Environment, own, callee_of, type_of_n
 use Rattle.slot_trees.specs.Tables.{Table, named_in}
 use Rattle.tree_code.specs.Fitting.{UnitCall, of_function}
 use Rattle.tree_code.specs.Sites.{Site, end_of}
-use Rattle.st_fitting.specs.Sound.{InstanceSound}
+use Rattle.text_fitting.specs.Sound.{InstanceSound}
 
 -- code is made of the function of a name, called with as many arguments as it has inputs
 abbrev pub IsCallable : (UnitCall → Type 0) → Site → Environment → Table → Name → Type 0

@@ -1,3 +1,4 @@
+pub mod Sound
 pub mod Spelled
 pub mod Callable
 pub mod Bounded

@@ -35,8 +35,8 @@ use Rattle.st_layouts.specs.Types.{NamedSite, is_within_depth, shape_of_type, si
 use Rattle.st_layouts.proofs.NameLemmas.{variables_once}
 use Rattle.st_layouts.proofs.ResolvedDepths.{same_depth}
 use Rattle.st_layouts.proofs.ResolvedLemmas.{configuration_taken, taken_configuration, taken_text}
-use Rattle.st_stores.proofs.KnownDepths.{declared_depths, depths_known}
-use Rattle.st_stores.proofs.TakenBodies.{text_taken}
+use Rattle.st_sound.proofs.KnownDepths.{declared_depths, depths_known}
+use Rattle.st_sound.proofs.TakenBodies.{text_taken}
 use Rattle.layout.proofs.PlanLemmas.{length_slots_of}
 use Rattle.slot_trees.specs.Orderly.{are_units_orderly, has_orderly_variables, is_orderly}
 use Rattle.text_links.specs.LinkVariables.{LinkVariable, are_whole, is_whole, is_whole_unit, named_so, of_site}

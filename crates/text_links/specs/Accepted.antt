@@ -7,7 +7,7 @@ use Rattle.st_types.specs.Scopes.{Name}
 use Rattle.st_statics.specs.ConfigurationRules.{are_known}
 use Rattle.st_statics.specs.Rules.{IsWellTyped}
 use Rattle.st_layouts.specs.LayoutVariables.{configurations_in, only_configuration}
-use Rattle.st_stores.specs.WellTypedRuns.{HaveFunctionsNoExternals}
+use Rattle.st_sound.specs.WellTypedRuns.{HaveFunctionsNoExternals}
 use Rattle.slot_trees.specs.TextLinks.{LinkedText, linked_source}
 use Rattle.text_links.specs.KeptTexts.{IsKeptLink, KeptText, kept_source}
 

@@ -24,7 +24,7 @@ use layout::{ProgramInstance, instances_in, only_configuration};
 use st_decl::units_in;
 use st_layouts::leaves_of_shapes;
 use st_link::LinkError;
-use st_linked::texts_that_break_no_rule_are_linked;
+use st_sound::texts_that_break_no_rule_are_linked;
 use st_trees::{Configuration, Source};
 use std::alloc::{AllocError, Global};
 

@@ -1,3 +1,5 @@
+mod SpelledGrammar
+mod SpelledArrays
 pub mod OnePath
 pub mod PlainTokens
 pub mod PlainRest

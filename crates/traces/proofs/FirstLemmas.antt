@@ -28,11 +28,12 @@ use Rattle.serial_core.specs.declared.refusal.Refusal.{Refusal}
 use Rattle.serial_core.specs.declared.refusal.Refusal.TheVariants as refusals
 use Rattle.serial_core.proofs.OutcomeLemmas.{outcomes_of-add}
 use Rattle.traces.specs.Replays.{AreToldApart, rows_in}
-use Rattle.traces.specs.Rests.{Grows, IsRest, outcome_in, told_text}
-use Rattle.traces.specs.Texts.{done_line, instance_text, line, outcome_text}
-use Rattle.traces.specs.Reads.{Follows}
-use Rattle.traces.proofs.ReadLemmas.{both_are, none_some}
-use Rattle.traces.proofs.TraceLemmas.{outcomes_long}
+use Rattle.traces.specs.Rests.{Grows, IsRest, outcome_in}
+use Rattle.trace_lines.specs.Texts.{told_text}
+use Rattle.trace_lines.specs.Texts.{done_line, instance_text, line, outcome_text}
+use Rattle.trace_lines.specs.Reads.{Follows}
+use Rattle.trace_lines.proofs.ReadLemmas.{both_are, none_some}
+use Rattle.trace_lines.proofs.TraceLemmas.{outcomes_long}
 use Rattle.traces.proofs.RestLemmas.{done_parts, first_line, head_is, program_there, rest_text, waited}
 
 -- ---- a row

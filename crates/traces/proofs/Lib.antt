@@ -1,13 +1,6 @@
-pub mod PutLemmas
-pub mod TraceLemmas
-pub mod ReadLemmas
 pub mod RestLemmas
 pub mod FindingLemmas
-pub mod KeepLemmas
 pub mod StartLemmas
-pub mod HeadLemmas
-pub mod ValueLemmas
 pub mod FirstLemmas
 pub mod ReplayLemmas
-pub mod NameLemmas
 pub mod WatchLemmas

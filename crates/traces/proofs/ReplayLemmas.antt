@@ -9,12 +9,12 @@ use Rattle.config.specs.declared.plan.Plan.{Plan}
 use Rattle.config.specs.PlanViews.{plan_view}
 use Rattle.serial_core.specs.Steps.{State}
 use Rattle.commit_lock.specs.declared.starting.StartMode.{StartMode}
-use Rattle.traces.specs.Reads.{Begins}
+use Rattle.trace_lines.specs.Reads.{Begins}
 use Rattle.traces.specs.Replays.{AreFindings, AreToldApart, IsTrace}
 use Rattle.traces.specs.Rests.{IsRest, with_log}
 use Rattle.traces.specs.Starts.{IsBegunSo, head_of}
-use Rattle.traces.specs.Texts.{end_line, head_text, log_text}
-use Rattle.traces.proofs.ReadLemmas.{both_are, none_some}
+use Rattle.trace_lines.specs.Texts.{end_line, head_text, log_text}
+use Rattle.trace_lines.proofs.ReadLemmas.{both_are, none_some}
 use Rattle.traces.proofs.RestLemmas.{one_rest}
 use Rattle.traces.proofs.StartLemmas.{life_of}
 

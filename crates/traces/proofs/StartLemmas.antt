@@ -25,10 +25,11 @@ use Rattle.serial_core.proofs.RetainedLemmas.{goes_by_itself, kept_paired, kinds
 use Rattle.commit_lock.specs.Starting.{started}
 use Rattle.commit_lock.specs.declared.starting.StartMode.{StartMode}
 use Rattle.commit_lock.specs.declared.starting.StartMode.TheVariants.{Warm, Cold}
-use Rattle.traces.specs.Reads.{Begins, Follows}
-use Rattle.traces.specs.Starts.{AreKept, IsBegun, IsBegunAt, IsBegunSo, IsEarly, MayBegin, begin_of, head_of, kept_lines, kept_of}
-use Rattle.traces.specs.Texts.{begin_text, keep_text}
-use Rattle.traces.proofs.ReadLemmas.{both_are, none_some}
+use Rattle.trace_lines.specs.Reads.{Begins, Follows}
+use Rattle.trace_lines.specs.Heads.{AreKept, IsEarly, MayBegin, begin_of, kept_lines}
+use Rattle.traces.specs.Starts.{IsBegun, IsBegunAt, IsBegunSo, head_of, kept_of}
+use Rattle.trace_lines.specs.Texts.{begin_text, keep_text}
+use Rattle.trace_lines.proofs.ReadLemmas.{both_are, none_some}
 
 -- ---- a cold start
 

@@ -1,8 +1,4 @@
-pub mod Puts
-pub mod Texts
-pub mod Reads
 pub mod Replays
 pub mod Starts
 pub mod Rests
-pub mod NamedValues
 pub mod Watching

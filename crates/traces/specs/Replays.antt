@@ -1,8 +1,6 @@
 -- What a trace tells, and what is told of its replay.
 use Rattle.std.specs.Prelude.{◌≡◌, ◌<◌, ◌≤◌, ◌-◌, ◌^◌, ℕ, min, List, [], ◌∷◌, ◌++◌, Bool, true, false, length, map, sum}
 use Rattle.std.specs.Prelude.{count_by, slice_index, slice_get, Option, Some, None, IfSome, codes}
-use Rattle.std.specs.List.{list_all}
-use Rattle.std.specs.Fmt.{decimal}
 use Rattle.st_words.specs.declared.limits.TheConstants.{MAX_LOG_ROOM, MOMENT_LIMIT}
 use Rattle.st_words.specs.Values.{Datum}
 use Rattle.st_types.specs.declared.outcome.Outcome.{Outcome}
@@ -11,20 +9,15 @@ use Rattle.st_plans.specs.declared.entry.Entry.TheVariants.{Row, Done}
 use Rattle.st_plans.specs.Rows.{Latch}
 use Rattle.st_plans.specs.Due.{HasOverruns}
 use Rattle.st_plans.specs.Plans.{schedules_of}
-use Rattle.st_plans.specs.Layouts.{Enumerations}
 use Rattle.st_plans.specs.Restarts.{Kept, Start, cold_start, warm_start}
 use Rattle.st_plans.specs.Logs.{Log, past_of, after, outcomes_of, row_count, done_count, IsLegal}
 use Rattle.config.specs.declared.task.ProgramInstance.{ProgramInstance}
 use Rattle.config.specs.declared.plan.Plan.{Plan}
 use Rattle.config.specs.PlanViews.{plan_view}
-use Rattle.config.specs.Sound.{are_different}
 use Rattle.commit_lock.specs.declared.starting.StartMode.{StartMode}
 use Rattle.commit_lock.specs.declared.starting.StartMode.TheVariants.{Warm, Cold}
-use Rattle.traces.specs.Texts.{instance_text, line, trace_text}
-
--- the first two lines, with this budget
-abbrev pub budget_text : ℕ → List ℕ
-budget_text budget = line (codes "trace 1") ++ line (codes "budget " ++ decimal budget)
+use Rattle.trace_lines.specs.NamedValues.{are_names_apart}
+use Rattle.trace_lines.specs.Texts.{instance_text, trace_text}
 
 -- the rows of a log
 abbrev pub rows_in : Log → List Latch
@@ -54,10 +47,6 @@ abbrev pub AreToldApart : List ProgramInstance → Type 0
 AreToldApart programs = (i j : ℕ) (p q : ProgramInstance) (more rest : List ℕ) → slice_get programs i ≡ Some p
     → slice_get programs j ≡ Some q
     → (instance_text (Some p) ++ codes " ") ++ more ≡ (instance_text (Some q) ++ codes " ") ++ rest → i ≡ j
-
--- the names of each enumerated type are different
-abbrev pub are_names_apart : Enumerations → Bool
-are_names_apart types = list_all are_different types
 
 -- lines tell their programs, and names tell their values
 abbrev pub IsToldApart : Plan → Type 0

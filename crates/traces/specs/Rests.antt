@@ -9,7 +9,7 @@ use Rattle.st_plans.specs.Logs.{Log, IsLegalFrom, outcome_at, outcomes_from}
 use Rattle.config.specs.PlanViews.{plan_view}
 use Rattle.serial_core.specs.Steps.{State, grown, made}
 use Rattle.traces.specs.Replays.{rows_in}
-use Rattle.traces.specs.Texts.{end_line, entry_line, line, log_text, outcome_text}
+use Rattle.trace_lines.specs.Texts.{end_line, entry_line, line, log_text, outcome_text}
 
 -- The text is the rest of the trace of a life that has come so far, and goes on with these entries.
 pub record IsRest (life : State) (rows : List Latch) (text : List ℕ) (more : Log) : Type 0 where
@@ -46,7 +46,3 @@ Goes old rows text (Some rest) new = Grows old rows text rest new
 abbrev pub with_log : State → Log → State
 with_log life log =
     record { plan = life.plan; start = life.start; before = life.before; log = log; room = life.room }
-
--- an execution's row, and how it ended
-abbrev pub told_text : ℕ × Outcome → List ℕ
-told_text told = (decimal told.0 ++ 32 ∷ []) ++ line (outcome_text (Some told.1))

@@ -8,19 +8,18 @@ ghost use Rattle.config.specs.PlanViews.{plan_view};
 ghost use Rattle.serial_core.specs.Steps.{grown, made, waits_in};
 ghost use Rattle.traces.specs.Replays.{AreToldApart};
 ghost use Rattle.traces.specs.Rests.{Goes, Grows, IsNoRest, IsRest, with_log};
-ghost use Rattle.traces.specs.Texts.{end_line, outcome_text};
+ghost use Rattle.trace_lines.specs.Texts.{end_line, outcome_text};
 ghost use Rattle.traces.specs.Watching.{HasSeen, stages};
 
-use crate::lines::outcome_word;
-use crate::parts::{behind, behind_count, first_number};
-use crate::told::{ending, program_of};
-use crate::trace_error::ReplayError;
 use crate::watcher::Watcher;
 use serial_core::{Refusal, SerialCore};
 use st_plans::Row;
 use st_types::Outcome;
 use st_words::limits::MOMENT_LIMIT;
 use std::alloc::{AllocError, Global};
+use trace_lines::{
+    ReplayError, behind, behind_count, ending, first_number, outcome_word, program_of,
+};
 
 /// Another row of the same moment and values.
 fn copied(alloc: Global, row: &Row) -> Result<Row, AllocError>

@@ -7,11 +7,9 @@ ghost use Rattle.commit_lock.specs.declared.starting.StartMode.{StartMode};
 ghost use Rattle.traces.specs.Replays.{AreFindings, IsToldApart, IsTrace};
 ghost use Rattle.traces.specs.Watching.{HasSeen, lives_of};
 
-use crate::apart::are_names_apart;
 use crate::entries::replay_log;
 use crate::findings::{Replayed, findings};
 use crate::starting::start;
-use crate::trace_error::ReplayError;
 use crate::watcher::{Nobody, Watcher};
 use config::Plan;
 use st_plans::Row;
@@ -19,6 +17,7 @@ use std::alloc::Global;
 use std::io;
 use std::io::Read;
 use std::sync::Arc;
+use trace_lines::{ReplayError, are_names_apart};
 
 /// Runs a trace again, line by line, over the first of these rows, and tells what it found. The watcher sees the core as
 /// the life was begun, and then after each entry.

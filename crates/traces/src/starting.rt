@@ -4,14 +4,11 @@ ghost use Rattle.std.specs.Prelude.{◌≡◌, IfOk, None, map, option_map, true
 ghost use Rattle.std.specs.Vec.{vec_items};
 ghost use Rattle.std.specs.List.{All};
 ghost use Rattle.st_words.specs.Values.{IsHeld};
-ghost use Rattle.traces.specs.Reads.{Begins};
-ghost use Rattle.traces.specs.Replays.{are_names_apart};
-ghost use Rattle.traces.specs.Starts.{AreKept, IsBegunAt, IsBegunSo, IsEarly, head_of, kept_lines, kept_of};
+ghost use Rattle.trace_lines.specs.Reads.{Begins};
+ghost use Rattle.trace_lines.specs.NamedValues.{are_names_apart};
+ghost use Rattle.trace_lines.specs.Heads.{AreKept, IsEarly, kept_lines};
+ghost use Rattle.traces.specs.Starts.{IsBegunAt, IsBegunSo, head_of, kept_of};
 
-use crate::head::begin;
-use crate::keeping::kept_values;
-use crate::parts::behind;
-use crate::writing::put_kept;
 use commit_lock::StartMode;
 use config::Plan;
 use serial_core::SerialCore;
@@ -20,6 +17,7 @@ use st_words::Value;
 use st_words::limits::MAX_LOG_ROOM;
 use std::alloc::{AllocError, Global};
 use std::sync::Arc;
+use trace_lines::{begin, behind, kept_values, put_kept};
 
 /// The lines of what the retained variables of a core started with.
 fn kept_of(alloc: Global, core: &SerialCore) -> Result<Vec<u8>, AllocError>

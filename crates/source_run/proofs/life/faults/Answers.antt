@@ -4,7 +4,7 @@ use Rattle.st_plans.specs.Logs.{outcomes_of, beginning}
 use Rattle.config.specs.PlanViews.{plan_view}
 use Rattle.traces.specs.Replays.{is_faulted}
 use Rattle.traces.proofs.FindingLemmas.{count_no, count_yes}
-use Rattle.traces.proofs.TraceLemmas.{outcomes_long}
+use Rattle.trace_lines.proofs.TraceLemmas.{outcomes_long}
 use Rattle.source_run.proofs.life.faults.Goals.{then-is_faulted_at, else-is_faulted_at}
 use Rattle.source_run.proofs.life.faults.Goals as goal
 

@@ -1,6 +1,6 @@
 use Rattle.std.proofs.Common.{◌∙◌, ap, sym, append-nil, [], ◌≡◌, true, false}
-use Rattle.traces.specs.Texts.{end_line}
-use Rattle.traces.proofs.ReadLemmas.{none_some}
+use Rattle.trace_lines.specs.Texts.{end_line}
+use Rattle.trace_lines.proofs.ReadLemmas.{none_some}
 use Rattle.traces.proofs.entries.is_end.Goals as goal
 
 pub returns-in-None-clause-end : goal.returns-in-None-clause-end

@@ -1,8 +1,8 @@
 use Rattle.std.proofs.Common.{◌≡◌, ◌∙◌, ap, sym, List, slice_get, true, false}
 use Rattle.config.specs.declared.task.ProgramInstance.{ProgramInstance}
 use Rattle.config.specs.declared.plan.Plan.{Plan}
-use Rattle.traces.specs.Texts.{outcome_text}
-use Rattle.traces.proofs.ReadLemmas.{none_some}
+use Rattle.trace_lines.specs.Texts.{outcome_text}
+use Rattle.trace_lines.proofs.ReadLemmas.{none_some}
 use Rattle.traces.proofs.FirstLemmas.{done_ended, done_grows, first_told, is_done, is_told}
 use Rattle.traces.proofs.entries.replay_done.Goals as goal
 

@@ -1,6 +1,6 @@
 use Rattle.std.proofs.Common.{◌≡◌, ◌∙◌, ap, sym, subst, refl, true, false, length, List, [], ◌∷◌, ◌++◌}
 use Rattle.serial_core.specs.Steps.{State, grown}
-use Rattle.traces.specs.Texts.{end_line}
+use Rattle.trace_lines.specs.Texts.{end_line}
 use Rattle.traces.specs.Watching.{HasSeen, stages}
 use Rattle.traces.proofs.RestLemmas.{IsFar, far_begun, far_end, far_more, far_no_end, far_refused}
 use Rattle.traces.proofs.WatchLemmas.{life_more, seen_more, told}

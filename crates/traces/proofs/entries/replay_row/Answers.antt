@@ -2,7 +2,7 @@ use Rattle.std.proofs.Common.{◌≡◌, ◌∙◌, ap, sym, arith, Some, ◌∷
 use Rattle.std.proofs.lemmas.Option.{slice_get-get_or}
 use Rattle.st_plans.specs.Rows.{Latch}
 use Rattle.serial_core.specs.Steps.{made}
-use Rattle.traces.proofs.ReadLemmas.{both_are, none_some}
+use Rattle.trace_lines.proofs.ReadLemmas.{both_are, none_some}
 use Rattle.traces.proofs.FirstLemmas.{first_row, latch_refused, row_grows, same_row}
 use Rattle.traces.proofs.entries.replay_row.Goals as goal
 

@@ -2,7 +2,7 @@ use Rattle.std.proofs.Common.{◌≢◌, List, ℕ}
 use Rattle.st_plans.specs.Restarts.{Start}
 use Rattle.st_plans.specs.Logs.{Log}
 use Rattle.commit_lock.specs.declared.starting.StartMode.{StartMode}
-use Rattle.traces.specs.declared.trace_error.ReplayError.TheVariants.{NoMemory, Device}
+use Rattle.trace_lines.specs.declared.trace_error.ReplayError.TheVariants.{NoMemory, Device}
 use Rattle.traces.specs.declared.findings.Replayed.{Replayed}
 use Rattle.traces.specs.Replays.{AreFindings, IsTrace}
 use Rattle.traces.proofs.ReplayLemmas.{read_refused, read_told}

@@ -1,7 +1,7 @@
 use Rattle.std.proofs.Common.{sym, subst, List, ℕ, Option, option_map, IfOk}
 use Rattle.serial_core.specs.Steps.{State}
 use Rattle.commit_lock.specs.declared.starting.StartMode.TheVariants.{Cold}
-use Rattle.traces.specs.Reads.{Begins}
+use Rattle.trace_lines.specs.Reads.{Begins}
 use Rattle.traces.specs.Starts as starts
 use Rattle.traces.specs.Starts.{IsBegunAt}
 use Rattle.traces.proofs.starting.cold.Goals as goal

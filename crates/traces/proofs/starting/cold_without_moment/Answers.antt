@@ -1,5 +1,5 @@
 use Rattle.std.proofs.Common.{Some, None, List, ℕ, subst}
-use Rattle.traces.specs.Reads.{Follows}
+use Rattle.trace_lines.specs.Reads.{Follows}
 use Rattle.traces.proofs.StartLemmas.{cold_begins}
 use Rattle.traces.proofs.starting.cold_without_moment.Goals as goal
 

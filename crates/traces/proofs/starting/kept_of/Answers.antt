@@ -4,9 +4,9 @@ use Rattle.st_plans.specs.Layouts.{Enumerations}
 use Rattle.config.specs.PlanViews.{plan_view}
 use Rattle.st_plans.specs.declared.plan.PlanVariable.{PlanVariable}
 use Rattle.config.specs.declared.plan.Plan.{Plan}
-use Rattle.traces.specs.Texts.{kept_text}
-use Rattle.traces.proofs.PutLemmas.{put_vec}
-use Rattle.traces.proofs.TraceLemmas.{kept_is}
+use Rattle.trace_lines.specs.Texts.{kept_text}
+use Rattle.trace_lines.proofs.PutLemmas.{put_vec}
+use Rattle.trace_lines.proofs.TraceLemmas.{kept_is}
 use Rattle.traces.proofs.starting.kept_of.Goals as goal
 
 pub returns-then-put_kept : goal.returns-then-put_kept

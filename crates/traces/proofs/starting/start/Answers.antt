@@ -1,7 +1,7 @@
 use Rattle.std.proofs.Common.{Some, None, subst}
 use Rattle.config.specs.declared.plan.Plan.{Plan}
-use Rattle.traces.specs.Reads.{Begins}
-use Rattle.traces.specs.Starts.{MayBegin, begin_of}
+use Rattle.trace_lines.specs.Reads.{Begins}
+use Rattle.trace_lines.specs.Heads.{MayBegin, begin_of}
 use Rattle.traces.proofs.StartLemmas.{start_begins, start_not}
 use Rattle.traces.proofs.starting.start.Goals as goal
 

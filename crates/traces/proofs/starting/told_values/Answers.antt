@@ -3,8 +3,8 @@ use Rattle.std.specs.Vec.{vec_items}
 use Rattle.st_words.specs.Values.{Datum}
 use Rattle.st_plans.specs.declared.plan.PlanVariable.{PlanVariable}
 use Rattle.st_plans.specs.Layouts.{Enumerations}
-use Rattle.traces.specs.Reads.{Begins}
-use Rattle.traces.specs.Starts.{AreKept, kept_lines}
+use Rattle.trace_lines.specs.Reads.{Begins}
+use Rattle.trace_lines.specs.Heads.{AreKept, kept_lines}
 use Rattle.traces.proofs.starting.told_values.Goals as goal
 
 pub returns : goal.returns

@@ -6,9 +6,10 @@ use Rattle.config.specs.declared.plan.Plan.{Plan}
 use Rattle.config.specs.PlanViews.{plan_view}
 use Rattle.serial_core.specs.Steps.{State}
 use Rattle.commit_lock.specs.declared.starting.StartMode.TheVariants.{Warm}
-use Rattle.traces.specs.Reads.{Begins}
+use Rattle.trace_lines.specs.Reads.{Begins}
 use Rattle.traces.specs.Starts as starts
-use Rattle.traces.specs.Starts.{AreKept, IsBegunAt, kept_lines}
+use Rattle.trace_lines.specs.Heads.{AreKept, kept_lines}
+use Rattle.traces.specs.Starts.{IsBegunAt}
 use Rattle.traces.proofs.StartLemmas.{all_held, resumed_life, warm_begins}
 use Rattle.traces.proofs.starting.warm.Goals as goal
 

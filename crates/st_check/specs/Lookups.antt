@@ -1,0 +1,21 @@
+-- What is looked up in a text to judge it.
+use Rattle.std.specs.Prelude.{◌≡◌, map}
+use Rattle.st_trees.specs.Sources.{Source}
+use Rattle.st_trees.specs.SourceViews.{source_view}
+use Rattle.st_trees.specs.UnitViews.{unit_view}
+use Rattle.st_types.specs.NameTypes.{declared_in, units_in}
+use Rattle.st_statics.specs.DeclaredTypes.{declarings_in}
+use Rattle.st_names.specs.Fields.{ServesFields}
+use Rattle.st_names.specs.Tables.{ServesTables}
+use Rattle.st_names.specs.Texts.{ServesText}
+use Rattle.st_decl.specs.DeclaringViews.{declaring_view}
+use Rattle.st_check.specs.declared.lookups.Lookups.{Lookups}
+
+-- It is that of the text.
+pub record ServesSource (lookups : Lookups) (source : Source) : Type 0 where
+  pub source_is : source_view lookups.source.now ≡ source
+  pub names : ServesText lookups.names (declared_in source)
+  pub tables : ServesTables lookups.tables (declared_in source)
+  pub fields : ServesFields lookups.fields (declared_in source)
+  pub declarings : map declaring_view lookups.declarings.items ≡ declarings_in source
+  pub units : map (λ u. unit_view u.now) lookups.units.items ≡ units_in source

@@ -1,0 +1,54 @@
+//! What is looked up in a text to judge it.
+
+ghost use Rattle.std.specs.Prelude.{IfOk};
+ghost use Rattle.st_trees.specs.SourceViews.{source_view};
+ghost use Rattle.st_check.specs.Lookups.{ServesSource};
+
+use st_decl::{Declaring, declarings_in, types_in, units_in};
+use st_names::{FieldNames, TextNames, TextTables};
+use st_trees::{Source, Unit};
+use std::alloc::{AllocError, Global};
+
+/// A text with its names, what they stand for, all its declarations, and its units.
+pub struct Lookups<'a> {
+    pub source: &'a Source,
+    pub names: TextNames<'a>,
+    pub tables: TextTables<'a>,
+    pub fields: FieldNames<'a>,
+    pub declarings: Vec<Declaring<'a>>,
+    pub units: Vec<&'a Unit>,
+}
+
+impl Drop for Lookups<'_> {
+    fn drop(self) {
+        let Self {
+            source: _,
+            names: _,
+            tables: _,
+            fields: _,
+            declarings: _,
+            units: _,
+        } = self;
+    }
+}
+
+impl<'a> Lookups<'a> {
+    pub fn new(alloc: Global, source: &'a Source) -> Result<Lookups<'a>, AllocError>
+        ensures { IfOk result (λ lookups. ServesSource lookups (source_view source.now)) }
+    {
+        let types = types_in(alloc, source)?;
+        let units = units_in(alloc, source)?;
+        let names = TextNames::new(alloc, source)?;
+        let tables = TextTables::new(alloc, TextNames::new(alloc, source)?, &types, &units)?;
+        let fields = FieldNames::new(alloc, &types)?;
+        let declarings = declarings_in(alloc, source)?;
+        Ok(Lookups {
+            source,
+            names,
+            tables,
+            fields,
+            declarings,
+            units,
+        })
+    }
+}

@@ -1,0 +1,24 @@
+//! The initial values of a text (C1, C3, C4).
+
+ghost use Rattle.std.specs.Prelude.{IfOk};
+ghost use Rattle.st_trees.specs.Sources as tree;
+ghost use Rattle.st_statics.specs.Faults.{Finds};
+ghost use Rattle.st_statics.specs.Rules.{wrong_starts};
+ghost use Rattle.st_check.specs.Lookups.{ServesSource};
+
+use crate::initials::first_wrong_start;
+use crate::lookups::Lookups;
+use st_decl::starts_of;
+use st_statics::Broken;
+use std::alloc::{AllocError, Global};
+
+/// What is wrong in the initial values of a text.
+pub fn wrong_starts<'a>(alloc: Global, lookups: &Lookups<'a>) -> Result<Option<Broken>, AllocError>
+    ensures { IfOk result (λ broken. (source : tree.Source) → ServesSource lookups.now source
+        → Finds (wrong_starts source) broken) }
+{
+    let names = &lookups.names;
+    let fields = &lookups.fields;
+    let starts = starts_of(alloc, names, fields, &lookups.declarings)?;
+    Ok(first_wrong_start(names, &lookups.tables, fields, &starts))
+}

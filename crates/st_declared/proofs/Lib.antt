@@ -1,2 +1,0 @@
-pub mod InitialLemmas
-pub mod TypeLemmas

@@ -1,9 +1,0 @@
-use Rattle.std.proofs.Common.{◌≡◌, map, drop}
-use Rattle.st_trees.specs.Initials.{elements_of}
-use Rattle.st_trees.specs.InitialViews.{element_view}
-use Rattle.st_statics.specs.InitialRules.{wrong_counts}
-use Rattle.st_declared.proofs.initials.wrong_counts.Given as goal
-
-abbrev pub invariant-loop-element : goal.invariant-loop-element
-invariant-loop-element l = wrong_counts (elements_of (map element_view (drop l.element-index l.elements)))
-    ≡ wrong_counts (elements_of (map element_view l.elements))

@@ -1,3 +1,0 @@
-pub mod Homes
-pub mod WellTypedRuns
-pub mod RunExamples

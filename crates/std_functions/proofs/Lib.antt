@@ -1,0 +1,4 @@
+pub mod NumberLemmas
+pub mod Remainders
+pub mod ShiftLemmas
+pub mod SteppedLemmas

@@ -1,0 +1,16 @@
+use Rattle.std.proofs.Common.{ap, ◌∙◌, rules}
+use mir.Syntax.{w128}
+use Rattle.std.specs.Prelude.{int_div}
+use Rattle.std.specs.Int.RustNames.{FitsSigned}
+use Rattle.std.proofs.lemmas.Int.{ints, quot_is}
+use Rattle.std_functions.proofs.NumberLemmas.{quotient_fits}
+use Rattle.std_functions.proofs.operators.ratio.Goals as goal
+
+pub returns : goal.returns
+returns c =
+    let x = c.number.result in
+    let y = c.number-2.result in
+    let fa : FitsSigned w128 x = search (rules, ints) in
+    let fb : FitsSigned w128 y = search (rules, ints) in
+    quot_is w128 x y fa fb (quotient_fits x y c.number.ensures.least c.number.ensures.greatest)
+    ∙ ap (λ z. int_div z y) c.number.ensures.number ∙ ap (λ z. int_div c.args.a.number z) c.number-2.ensures.number

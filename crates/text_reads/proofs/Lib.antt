@@ -1,6 +1,0 @@
-mod Taking
-mod Codes
-mod Counters
-mod Linked
-mod Units
-mod OwnNames

@@ -1,2 +1,0 @@
-mod SpelledGrammar
-mod SpelledArrays

@@ -1,0 +1,5 @@
+pub mod Puts
+pub mod Texts
+pub mod Reads
+pub mod NamedValues
+pub mod Heads

@@ -1,2 +1,0 @@
-pub mod Memories
-pub mod MarkNumbers
