@@ -1,5 +1,5 @@
 mod Taking
-mod Codes
+mod CodeReads
 mod Counters
 mod Linked
 mod Units

@@ -19,7 +19,7 @@ use Rattle.slot_trees.specs.Tables.{Table, symbol_of, part_at}
 use Rattle.slot_trees.proofs.OptionLemmas.{then_some}
 use Rattle.tree_code.specs.Codes.{CodeUnits}
 use Rattle.tree_code.specs.Sites.{Site, slot_in}
-use Rattle.text_codes.proofs.Codes.{CopiesAvoid, BlockKeeps, StmtAvoids, StmtsAvoid, ArmsAvoid, CaseArmsAvoid}
+use Rattle.text_codes.proofs.CodeReads.{CopiesAvoid, BlockKeeps, StmtAvoids, StmtsAvoid, ArmsAvoid, CaseArmsAvoid}
 use Rattle.text_codes.proofs.Counters.{StmtCounts, StmtsCount, ArmsCount, CaseArmsCount}
 
 -- a call of an instance of a block keeps code clean, and no output of it stands in the slot

@@ -42,8 +42,8 @@ use Rattle.tree_code.specs.Growing.{Code}
 use Rattle.tree_code.specs.Programs.{program_code}
 use Rattle.tree_code.specs.Sites.{Site, end_of, site_at, site_from}
 use Rattle.text_codes.proofs.Taking.{unequal, Keeps, same_code, keeps_on, put, put_on}
-use Rattle.text_codes.proofs.Codes.{stores_keep, resets_keep, CopiesAvoid, StmtAvoids, StmtsAvoid, ArmsAvoid}
-use Rattle.text_codes.proofs.Codes.{CaseArmsAvoid, stmts_keep}
+use Rattle.text_codes.proofs.CodeReads.{stores_keep, resets_keep, CopiesAvoid, StmtAvoids, StmtsAvoid, ArmsAvoid}
+use Rattle.text_codes.proofs.CodeReads.{CaseArmsAvoid, stmts_keep}
 use Rattle.text_codes.proofs.Counters.{StmtsCount}
 use Rattle.text_codes.proofs.Linked.{InstanceAvoids, stmts_avoid}
 
