@@ -1,4 +1,4 @@
-//! The law of reads. The function does nothing: its contract is the law.
+//! The law of what a run of code reads. The function does nothing: its contract is the law.
 
 ghost use Rattle.std.specs.Prelude.{◌≡◌, ℕ, List, None, Some, slice_get, Contains, map};
 ghost use Rattle.st_types.specs.Asked.{IsAsked};

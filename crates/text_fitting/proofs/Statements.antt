@@ -46,7 +46,8 @@ use Rattle.st_sound.proofs.ValueLaw.{inside}
 use Rattle.slot_trees.specs.Tables.{Table}
 use Rattle.tree_code.specs.Fitting.{UnitCall}
 use Rattle.tree_code.specs.Sites.{Site}
-use Rattle.text_fitting.specs.Sound.{ExprSound, VariableSound, StepSound, ArgumentsSound, StmtSound, StmtsSound, ArmsSound}
+use Rattle.text_fitting.specs.Sound.{ExprSound, VariableSound, StepSound, ArgumentsSound, StmtSound, StmtsSound}
+use Rattle.text_fitting.specs.Sound.{ArmsSound}
 use Rattle.text_fitting.specs.Sound.{CaseArmsSound}
 use Rattle.text_fitting.specs.Callable.{IsCallable, AreInvocable}
 use Rattle.text_fitting.specs.Spelled.{HaveFewNames, ExprOf, VariableOf, StepOf, ArgumentsOf, StmtOf, StmtsOf, ArmsOf}

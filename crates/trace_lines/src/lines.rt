@@ -6,8 +6,8 @@ ghost use Rattle.std.specs.Fmt.{decimal};
 ghost use Rattle.st_plans.specs.Layouts.{owner_text, path_text, step_text, steps_text};
 ghost use Rattle.st_print.specs.Spelling.{value_text};
 ghost use Rattle.trace_lines.specs.Puts.{Puts};
-ghost use Rattle.trace_lines.specs.Texts.{begin_text, done_line, end_line, ending_text, entry_text, fault_text, instance_text};
-ghost use Rattle.trace_lines.specs.Texts.{keep_line, line, mode_text, moment_text, outcome_text};
+ghost use Rattle.trace_lines.specs.Texts.{begin_text, done_line, end_line, ending_text, entry_text, fault_text};
+ghost use Rattle.trace_lines.specs.Texts.{instance_text, keep_line, line, mode_text, moment_text, outcome_text};
 
 use crate::putting::{put, put_number};
 use arrayvec::ArrayVec;

@@ -40,7 +40,7 @@ pub(crate) fn first_field(mark: u8, text: &[u8]) -> Option<(&[u8], &[u8])>
     Some((&text[..end], &text[end + 1..]))
 }
 
-/// The number in front of the first such byte, and what stands behind that.
+/// The number in front of the first such byte, which lies below the digits, and what stands behind that.
 pub fn first_number(mark: u8, text: &[u8]) -> Option<(u64, &[u8])>
     requires { mark < 48 }
     ensures { Begins (λ (n : ℕ). n < 2 ^ 64) (λ n. decimal n ++ mark ∷ []) text.now

@@ -22,7 +22,7 @@ fn behind_program<'a>(text: &'a [u8], program: &ProgramInstance) -> Option<&'a [
     behind(space, b" ")
 }
 
-/// The number of the first program with whose resource and instance the text begins, and what stands behind a space.
+/// The number of a program with whose resource and instance the text begins, and what stands behind a space.
 pub fn program_of<'a>(programs: &[ProgramInstance], text: &'a [u8]) -> Option<(usize, &'a [u8])>
     ensures told { IfSome result (λ p. (q : ProgramInstance) × (slice_get programs.now p.0 ≡ Some q)
         × (text.now ≡ (instance_text (Some q) ++ codes " ") ++ p.1.now)) }

@@ -35,7 +35,8 @@ fn put_kept_line<W: Write>(
     }
 }
 
-/// Writes the lines of the retained variables, with the names of these enumerated types.
+/// Writes the lines of the retained variables, with the names of these enumerated types, unless a part before them was
+/// not written whole. It answers whether all was.
 pub fn put_kept<W: Write>(
     out: &mut W,
     works: bool,

@@ -1,6 +1,5 @@
 -- What is left of a trace while it is run again.
 use Rattle.std.specs.Prelude.{◌≡◌, ◌+◌, ◌≤◌, List, ℕ, [], ◌∷◌, ◌++◌, length, Option, Some, None}
-use Rattle.std.specs.Fmt.{decimal}
 use Rattle.st_words.specs.declared.limits.TheConstants.{MAX_LOG_ROOM}
 use Rattle.st_types.specs.declared.outcome.Outcome.{Outcome}
 use Rattle.st_plans.specs.declared.entry.Entry.{Entry}
@@ -9,7 +8,7 @@ use Rattle.st_plans.specs.Logs.{Log, IsLegalFrom, outcome_at, outcomes_from}
 use Rattle.config.specs.PlanViews.{plan_view}
 use Rattle.serial_core.specs.Steps.{State, grown, made}
 use Rattle.traces.specs.Replays.{rows_in}
-use Rattle.trace_lines.specs.Texts.{end_line, entry_line, line, log_text, outcome_text}
+use Rattle.trace_lines.specs.Texts.{end_line, entry_line, log_text}
 
 -- The text is the rest of the trace of a life that has come so far, and goes on with these entries.
 pub record IsRest (life : State) (rows : List Latch) (text : List ℕ) (more : Log) : Type 0 where
