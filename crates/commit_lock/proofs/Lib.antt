@@ -3,5 +3,4 @@ pub mod RecordLemmas
 pub mod StartLemmas
 pub mod SurvivalLemmas
 pub mod CallLemmas
-pub mod DriveLemmas
 pub mod GivenBack

@@ -5,4 +5,3 @@ pub mod Cores
 pub mod Kept
 pub mod Starting
 pub mod Flushing
-pub mod Driving

@@ -42,8 +42,9 @@ pub fn what_survives_is_given_back()
 {}
 
 /// A record knows no more of an enumerated type than its names, so that the types of two texts with the same names are
-/// one type there; a value of an elementary type is in it as it is. Of `Mode : (Stopped, Running, Fault)`, wherever it stands among the types of its text, and a retained
-/// `m : Mode` that is FAULT the body has 39 bytes, of which the last is 02.
+/// one type there; a value of an elementary type is in it as it is. Of `Mode : (Stopped, Running, Fault)`, wherever it
+/// stands among the types of its text, and a retained `m : Mode` that is FAULT the body has 39 bytes, of which the last
+/// is 02.
 pub fn records_know_types_by_their_names()
     ensures enumerated { (number : ℕ) → ◌≡◌ {A = Datum} (recorded record { kind = Enumerated 3 number; number = pos 2 })
         record { kind = Enumerated 3 0; number = pos 2 } }

@@ -7,8 +7,6 @@
 
 mod calling;
 mod core_state;
-mod driving;
-mod event;
 mod flushing;
 mod laws;
 mod parts;
@@ -19,8 +17,6 @@ mod saving;
 mod starting;
 
 pub use core_state::Core;
-pub use driving::drive;
-pub use event::{Event, Reply};
 pub use laws::{
     records_know_types_by_their_names, records_tell_what_was_kept, what_survives_is_given_back,
 };

@@ -8,13 +8,13 @@ use Rattle.serial_core.specs.declared.refusal.Refusal.{Refusal as SerialRefusal}
 use Rattle.serial_core.specs.Steps.{State, grown}
 use Rattle.commit_lock.specs.declared.refusal.Refusal.{Refusal}
 use Rattle.commit_lock.specs.declared.refusal.Refusal.TheVariants.{StoreFailed, Serial}
-use Rattle.commit_lock.specs.declared.event.Event.{Event}
-use Rattle.commit_lock.specs.declared.event.Event.TheVariants.{Latch, Take, Commit, CommitHere, Flush}
-use Rattle.commit_lock.specs.declared.event.Reply.{Reply}
-use Rattle.commit_lock.specs.declared.event.Reply.TheVariants.{Latched, Taken, Answered, Here, Flushed, Refused}
+use Rattle.lives.specs.declared.event.Event.{Event}
+use Rattle.lives.specs.declared.event.Event.TheVariants.{Latch, Take, Commit, CommitHere, Flush}
+use Rattle.lives.specs.declared.event.Reply.{Reply}
+use Rattle.lives.specs.declared.event.Reply.TheVariants.{Latched, Taken, Answered, Here, Flushed, Refused}
 use Rattle.commit_lock.specs.Cores.{CoreView, Guards, IsLonger}
 use Rattle.commit_lock.specs.Flushing.{Flushes}
-use Rattle.commit_lock.specs.Driving.{Held, held_at, taken_of, reply_to, CommitsHeld, Step, Drives}
+use Rattle.lives.specs.Driving.{Held, held_at, taken_of, reply_to, CommitsHeld, Step, Drives}
 use Rattle.commit_lock.proofs.CallLemmas.{latches_longer, commits_longer, here_longer}
 use Rattle.lives.specs.Lives.{flushed, most_flushed}
 

@@ -1,3 +1,4 @@
+mod DriveLemmas
 mod LogLemmas
 mod AckedLemmas
 mod LifeLemmas

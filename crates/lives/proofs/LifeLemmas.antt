@@ -11,12 +11,12 @@ use Rattle.retain_store.specs.Recovered.{recovered}
 use Rattle.config.specs.declared.plan.Plan.{Plan}
 use Rattle.config.specs.PlanViews.{plan_view}
 use Rattle.serial_core.specs.Steps.{State}
-use Rattle.commit_lock.specs.declared.event.Event.{Event}
-use Rattle.commit_lock.specs.declared.event.Reply.{Reply}
+use Rattle.lives.specs.declared.event.Event.{Event}
+use Rattle.lives.specs.declared.event.Reply.{Reply}
 use Rattle.commit_lock.specs.Restart.{Survives}
 use Rattle.commit_lock.specs.Starting.{start_of, started, CanStart}
 use Rattle.commit_lock.specs.Cores.{CoreView, survives}
-use Rattle.commit_lock.specs.Driving.{Held}
+use Rattle.lives.specs.Driving.{Held}
 use Rattle.lives.specs.declared.life.Life.{Life}
 use Rattle.lives.specs.declared.life.Course.{Course}
 use Rattle.lives.specs.declared.life.LifeEnd.{LifeEnd}

@@ -18,13 +18,13 @@ use Rattle.serial_core.specs.declared.refusal.Refusal.TheVariants as refusals
 use Rattle.serial_core.specs.Steps.{State, Latches, Takes, Commits, CommitsHere}
 use Rattle.commit_lock.specs.declared.refusal.Refusal.{Refusal}
 use Rattle.commit_lock.specs.declared.refusal.Refusal.TheVariants.{StoreFailed, Serial}
-use Rattle.commit_lock.specs.declared.event.Event.{Event}
-use Rattle.commit_lock.specs.declared.event.Event.TheVariants.{Latch, Take, Commit, CommitHere, Flush}
-use Rattle.commit_lock.specs.declared.event.Reply.{Reply}
-use Rattle.commit_lock.specs.declared.event.Reply.TheVariants.{Latched, Taken, Answered, Here, Flushed, Refused}
+use Rattle.lives.specs.declared.event.Event.{Event}
+use Rattle.lives.specs.declared.event.Event.TheVariants.{Latch, Take, Commit, CommitHere, Flush}
+use Rattle.lives.specs.declared.event.Reply.{Reply}
+use Rattle.lives.specs.declared.event.Reply.TheVariants.{Latched, Taken, Answered, Here, Flushed, Refused}
 use Rattle.commit_lock.specs.Cores.{CoreView, Guards}
 use Rattle.commit_lock.specs.Flushing.{Flushes}
-use Rattle.commit_lock.specs.Driving.{Held, held_at, held_of, reply_to, taken_of, CommitsHeld, Step, Drives}
+use Rattle.lives.specs.Driving.{Held, held_at, held_of, reply_to, taken_of, CommitsHeld, Step, Drives}
 use Rattle.lives.specs.LogsOfLives.{Takings, Adds, Logs}
 
 -- ---- what is held is of what was taken

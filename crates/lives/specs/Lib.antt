@@ -1,2 +1,3 @@
+pub mod Driving
 pub mod LogsOfLives
 pub mod Lives

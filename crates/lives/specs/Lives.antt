@@ -10,14 +10,14 @@ use Rattle.retain_store.specs.Recovered.{recovered}
 use Rattle.config.specs.declared.plan.Plan.{Plan}
 use Rattle.config.specs.PlanViews.{plan_view}
 use Rattle.serial_core.specs.Steps.{State}
-use Rattle.commit_lock.specs.declared.event.Event.{Event}
-use Rattle.commit_lock.specs.declared.event.Reply.{Reply}
-use Rattle.commit_lock.specs.declared.event.Reply.TheVariants.{Flushed}
+use Rattle.lives.specs.declared.event.Event.{Event}
+use Rattle.lives.specs.declared.event.Reply.{Reply}
+use Rattle.lives.specs.declared.event.Reply.TheVariants.{Flushed}
 use Rattle.commit_lock.specs.declared.refusal.StartFault.TheVariants as faults
 use Rattle.commit_lock.specs.Restart.{Survives}
 use Rattle.commit_lock.specs.Starting.{start_of, started, CanStart, RefusesStart, LeftByStart}
 use Rattle.commit_lock.specs.Cores.{CoreView}
-use Rattle.commit_lock.specs.Driving.{Held, Drives, IsWellAnswered}
+use Rattle.lives.specs.Driving.{Held, Drives, IsWellAnswered}
 use Rattle.lives.specs.declared.life.Life.{Life}
 use Rattle.lives.specs.declared.life.Course.{Course}
 use Rattle.lives.specs.declared.life.LifeEnd.{LifeEnd}

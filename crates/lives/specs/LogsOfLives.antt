@@ -7,10 +7,10 @@ use Rattle.st_plans.specs.Due.{IsBest}
 use Rattle.st_plans.specs.Plans.{Plan, schedules_of}
 use Rattle.st_plans.specs.Logs.{Log, past_of}
 use Rattle.serial_core.specs.declared.refusal.Answer.TheVariants.{Committed}
-use Rattle.commit_lock.specs.declared.event.Event.{Event}
-use Rattle.commit_lock.specs.declared.event.Event.TheVariants.{Latch, Take, Commit, CommitHere}
-use Rattle.commit_lock.specs.declared.event.Reply.{Reply}
-use Rattle.commit_lock.specs.declared.event.Reply.TheVariants.{Latched, Taken, Answered, Here}
+use Rattle.lives.specs.declared.event.Event.{Event}
+use Rattle.lives.specs.declared.event.Event.TheVariants.{Latch, Take, Commit, CommitHere}
+use Rattle.lives.specs.declared.event.Reply.{Reply}
+use Rattle.lives.specs.declared.event.Reply.TheVariants.{Latched, Taken, Answered, Here}
 
 -- what each take so far gave, none where it gave nothing
 abbrev pub Takings : Type 0

@@ -1,6 +1,7 @@
 //! Lives as data, and what becomes of them.
 
-use commit_lock::{Event, Reply, StartFault, StartMode};
+use crate::event::{Event, Reply};
+use commit_lock::{StartFault, StartMode};
 use disk::Stop;
 use st_words::Value;
 

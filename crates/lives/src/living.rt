@@ -10,8 +10,10 @@ ghost use Rattle.lives.specs.Lives.{EachLife, IsLife, IsLived, BeginsSo, IsAnswe
 ghost use Rattle.lives.specs.Lives.{HasCause, IsAllWell};
 
 use crate::disks::disk_of;
+use crate::driving::drive;
+use crate::event::Event;
 use crate::life::{Course, Life, LifeEnd};
-use commit_lock::{Core, Event, drive};
+use commit_lock::Core;
 use config::Plan;
 use disk::SimDisk;
 use std::alloc::{AllocError, Global};

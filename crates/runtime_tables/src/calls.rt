@@ -2,7 +2,7 @@
 
 use crate::row_error::RowError;
 use crate::words::{number, split};
-use commit_lock::Event;
+use lives::Event;
 use st_plans::Row;
 use st_words::Value;
 use std::alloc::{AllocError, Global};

@@ -10,8 +10,8 @@ use crate::living::{Setting, plan_of};
 use crate::records::opened;
 use crate::row_error::RowError;
 use crate::words::{number, split, write_number};
-use commit_lock::{Refusal, Reply, StartFault, StartMode};
-use lives::{Course, LifeEnd, lives};
+use commit_lock::{Refusal, StartFault, StartMode};
+use lives::{Course, LifeEnd, Reply, lives};
 use retain_store::{FILE_BYTES, StoreFault};
 use std::alloc::{AllocError, Global};
 

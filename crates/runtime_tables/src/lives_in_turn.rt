@@ -10,9 +10,9 @@ use crate::living::{Setting, plan_of};
 use crate::row_error::RowError;
 use crate::telling::{write_fault, write_replies};
 use crate::words::{number, split, write_number};
-use commit_lock::{Event, StartMode};
+use commit_lock::StartMode;
 use disk::Stop;
-use lives::{Course, Life, LifeEnd, lives};
+use lives::{Course, Event, Life, LifeEnd, lives};
 use std::alloc::{AllocError, Global};
 
 /// Room in the log of a life.

@@ -7,8 +7,9 @@ use crate::telling::{
 };
 use crate::trace_texts::{write_short_trace, write_trace_of};
 use crate::words::write_number;
-use commit_lock::{Core, StartMode, drive};
+use commit_lock::{Core, StartMode};
 use disk::{Disk, SimDisk};
+use lives::drive;
 use st_build::{Plan, build};
 use st_words::limits::MAX_LOG_ROOM;
 use std::alloc::Global;

@@ -2,8 +2,9 @@
 
 use crate::words::write_number;
 use coded_runs::{Cell, Execution};
-use commit_lock::{Answer, Core, Refusal, Reply, StartFault};
+use commit_lock::{Answer, Core, Refusal, StartFault};
 use disk::SimDisk;
+use lives::Reply;
 use st_types::Outcome;
 use st_words::{Name, Path};
 use std::alloc::{AllocError, Global};

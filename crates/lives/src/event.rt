@@ -1,6 +1,6 @@
 //! Calls of a core as data, and what they are answered.
 
-use crate::refusal::Refusal;
+use commit_lock::Refusal;
 use serial_core::Answer;
 use st_plans::Row;
 

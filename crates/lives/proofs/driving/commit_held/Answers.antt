@@ -1,5 +1,5 @@
 use Rattle.std.proofs.Common.{inr, Ok, Err, refl}
-use Rattle.commit_lock.proofs.driving.commit_held.Goals as goal
+use Rattle.lives.proofs.driving.commit_held.Goals as goal
 
 pub returns-in-Ok-commit-clause-commits : goal.returns-in-Ok-commit-clause-commits
 returns-in-Ok-commit-clause-commits g c = rw c.in-Some.is

@@ -1,10 +1,10 @@
 use Rattle.std.proofs.Common.{rules, ◌≡◌, ◌∙◌, ◌∷◌, ◌++◌, [], List, subst, sym, ap, arith, length, length-append}
 use Rattle.std.specs.List.{AllByRecursion}
-use Rattle.commit_lock.specs.Driving.{Drives, IsWellAnswered}
-use Rattle.commit_lock.specs.declared.event.Reply.{Reply}
-use Rattle.commit_lock.specs.declared.event.Event.{Event}
-use Rattle.commit_lock.proofs.DriveLemmas.{drives_step, drives_end, endures, all_more}
-use Rattle.commit_lock.proofs.driving.drive.Goals as goal
+use Rattle.lives.specs.Driving.{Drives, IsWellAnswered}
+use Rattle.lives.specs.declared.event.Reply.{Reply}
+use Rattle.lives.specs.declared.event.Event.{Event}
+use Rattle.lives.proofs.DriveLemmas.{drives_step, drives_end, endures, all_more}
+use Rattle.lives.proofs.driving.drive.Goals as goal
 
 pub loop-event-preserved : goal.loop-event-preserved
 loop-event-preserved g c =

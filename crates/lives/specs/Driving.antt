@@ -13,10 +13,10 @@ use Rattle.retain_store.specs.declared.format.TheConstants.{FILE_BYTES}
 use Rattle.retain_store.specs.Recovered.{recovered}
 use Rattle.commit_lock.specs.declared.refusal.Refusal.{Refusal}
 use Rattle.commit_lock.specs.declared.refusal.Refusal.TheVariants.{StoreFailed, Serial}
-use Rattle.commit_lock.specs.declared.event.Event.{Event}
-use Rattle.commit_lock.specs.declared.event.Event.TheVariants.{Latch, Take, Commit, CommitHere, Flush}
-use Rattle.commit_lock.specs.declared.event.Reply.{Reply}
-use Rattle.commit_lock.specs.declared.event.Reply.TheVariants.{Latched, Taken, Answered, Here, Flushed, Refused}
+use Rattle.lives.specs.declared.event.Event.{Event}
+use Rattle.lives.specs.declared.event.Event.TheVariants.{Latch, Take, Commit, CommitHere, Flush}
+use Rattle.lives.specs.declared.event.Reply.{Reply}
+use Rattle.lives.specs.declared.event.Reply.TheVariants.{Latched, Taken, Answered, Here, Flushed, Refused}
 use Rattle.commit_lock.specs.Cores.{CoreView, Guards, Outlives}
 use Rattle.commit_lock.specs.Flushing.{Flushes, CountsFlush}
 use Rattle.commit_lock.specs.Restart.{Survives}

@@ -1,9 +1,9 @@
 use Rattle.std.proofs.Common.{◌+◌, ◌≤◌, ◌++◌, [], List, length, vec_len, vec_capacity}
 use Rattle.std.specs.List.{AllByRecursion}
 use Rattle.commit_lock.specs.Cores.{CoreView}
-use Rattle.commit_lock.specs.Driving.{Held, Drives, IsWell, IsWellAnswered}
-use Rattle.commit_lock.specs.declared.event.Reply.{Reply}
-use Rattle.commit_lock.proofs.driving.drive.Given as goal
+use Rattle.lives.specs.Driving.{Held, Drives, IsWell, IsWellAnswered}
+use Rattle.lives.specs.declared.event.Reply.{Reply}
+use Rattle.lives.proofs.driving.drive.Given as goal
 
 abbrev pub invariant-loop-event : goal.invariant-loop-event
 invariant-loop-event g l =

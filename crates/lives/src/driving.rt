@@ -6,16 +6,15 @@ ghost use Rattle.std.specs.List.{AllByRecursion};
 ghost use Rattle.coded_runs.specs.declared.snapshot.Snapshot.{Snapshot};
 ghost use Rattle.serial_core.specs.Steps.{Takes};
 ghost use Rattle.commit_lock.specs.declared.refusal.Refusal.{Refusal};
-ghost use Rattle.commit_lock.specs.declared.event.Event.{Event};
-ghost use Rattle.commit_lock.specs.declared.event.Reply.{Reply};
+ghost use Rattle.lives.specs.declared.event.Event.{Event};
+ghost use Rattle.lives.specs.declared.event.Reply.{Reply};
 ghost use Rattle.commit_lock.specs.Cores.{Guards, Outlives};
-ghost use Rattle.commit_lock.specs.Driving.{Held, Step, Drives, Endures, CommitsHeld, held_at, held_of};
-ghost use Rattle.commit_lock.specs.Driving.{reply_to, taken_of, IsWell, IsWellAnswered};
+ghost use Rattle.lives.specs.Driving.{Held, Step, Drives, Endures, CommitsHeld, held_at, held_of};
+ghost use Rattle.lives.specs.Driving.{reply_to, taken_of, IsWell, IsWellAnswered};
 
-use crate::core_state::Core;
 use crate::event::{Event, Reply};
-use crate::refusal::Refusal;
 use coded_runs::{Snapshot, run};
+use commit_lock::{Core, Refusal};
 use disk::Disk;
 use std::alloc::{AllocError, Global};
 

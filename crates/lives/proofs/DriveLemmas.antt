@@ -8,15 +8,15 @@ use Rattle.serial_core.specs.declared.refusal.Refusal.{Refusal as SerialRefusal}
 use Rattle.retain_store.specs.Recovered.{recovered}
 use Rattle.commit_lock.specs.declared.refusal.Refusal.{Refusal}
 use Rattle.commit_lock.specs.declared.refusal.Refusal.TheVariants.{StoreFailed, Serial}
-use Rattle.commit_lock.specs.declared.event.Event.{Event}
-use Rattle.commit_lock.specs.declared.event.Event.TheVariants.{Latch, Take, Commit, CommitHere, Flush}
-use Rattle.commit_lock.specs.declared.event.Reply.{Reply}
-use Rattle.commit_lock.specs.declared.event.Reply.TheVariants.{Latched, Answered, Here, Flushed}
+use Rattle.lives.specs.declared.event.Event.{Event}
+use Rattle.lives.specs.declared.event.Event.TheVariants.{Latch, Take, Commit, CommitHere, Flush}
+use Rattle.lives.specs.declared.event.Reply.{Reply}
+use Rattle.lives.specs.declared.event.Reply.TheVariants.{Latched, Answered, Here, Flushed}
 use Rattle.commit_lock.specs.Cores.{CoreView, Guards, Outlives}
 use Rattle.commit_lock.specs.Flushing.{Flushes}
 use Rattle.commit_lock.specs.Restart.{Survives}
-use Rattle.commit_lock.specs.Driving.{Held, held_at, taken_of, reply_to, acked_after, acked_by, CommitsHeld, Step}
-use Rattle.commit_lock.specs.Driving.{Drives, Endures}
+use Rattle.lives.specs.Driving.{Held, held_at, taken_of, reply_to, acked_after, acked_by, CommitsHeld, Step}
+use Rattle.lives.specs.Driving.{Drives, Endures}
 
 -- one element more
 pub all_more : {X : Type 0} (P : X → Type 0) (xs : List X) (x : X) → AllByRecursion P xs → P x
