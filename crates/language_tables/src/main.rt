@@ -9,7 +9,6 @@ mod layouts;
 mod lexed;
 mod links;
 mod names;
-mod numbers;
 mod parts;
 mod paths;
 mod printing;

@@ -30,15 +30,6 @@ pub fn identifier_of(alloc: Global, written: &str) -> Option<Identifier> {
     })
 }
 
-/// Names that are written `a@7 b@8`.
-pub fn identifiers_of(alloc: Global, written: &str) -> Option<Vec<Identifier>> {
-    let mut names = Vec::new(alloc);
-    for word in written.split_whitespace() {
-        names.push(identifier_of(alloc, word)?).ok()?;
-    }
-    Some(names)
-}
-
 /// Writes the name, of a copy.
 pub fn write_name(out: &mut Answer, alloc: Global, name: Option<Name>) -> Option<()> {
     let copied = name?.copied(alloc).ok()?;

@@ -3,8 +3,11 @@
 use crate::answer::Answer;
 use crate::depths::depth_of;
 use crate::reading::{expression, initial, source, statements, tokens_of};
-use st_lex::Token;
-use st_words::{Tree, same_trees};
+use crate::shown_expressions::expression as show_expression;
+use crate::shown_initials::initial as show_initial;
+use crate::shown_sources::declarations;
+use crate::shown_statements::block;
+use st_trees::{LibraryElement, Source};
 use std::alloc::Global;
 
 /// How deep a tree is of the form that stands before the text.
@@ -15,35 +18,38 @@ pub fn depth(out: &mut Answer, alloc: Global, asked: &str) -> Option<()> {
     Some(())
 }
 
-fn same<T: Tree + Drop>(this: Option<T>, that: Option<T>) -> Option<bool> {
-    let this = this?;
-    let that = that?;
-    Some(this.is(&that))
-}
-
-fn same_statements(alloc: Global, this: &[Token], that: &[Token]) -> Option<bool> {
-    let this = statements(alloc, this)?;
-    let that = statements(alloc, that)?;
-    Some(same_trees(&this, &that))
-}
-
-/// Whether the texts have one tree of this form. Its places count.
-fn are_same(alloc: Global, form: &str, this: &[Token], that: &[Token]) -> Option<bool> {
-    match form {
-        "expression" => same(expression(alloc, this), expression(alloc, that)),
-        "initial" => same(initial(alloc, this), initial(alloc, that)),
-        "statements" => same_statements(alloc, this, that),
-        "source" => same(source(alloc, this), source(alloc, that)),
-        _ => None,
+/// The statements of each unit of a source, unit by unit.
+fn show_bodies(out: &mut Answer, shown: &Source) {
+    for element in &shown.elements {
+        if let LibraryElement::Unit(unit) = element {
+            block(out, " with", &unit.body);
+        }
     }
 }
 
-/// Whether two texts have one tree of this form.
+fn show_source(out: &mut Answer, shown: &Source) {
+    declarations(out, shown);
+    show_bodies(out, shown)
+}
+
+/// What the tree of a text of this form shows as, with all its places.
+fn shown(alloc: Global, form: &str, written: &str) -> Option<String> {
+    let tokens = tokens_of(alloc, written)?;
+    let mut out = Answer::new(alloc);
+    match form {
+        "expression" => show_expression(&mut out, &expression(alloc, &tokens)?),
+        "initial" => show_initial(&mut out, &initial(alloc, &tokens)?),
+        "statements" => block(&mut out, "", &statements(alloc, &tokens)?),
+        "source" => show_source(&mut out, &source(alloc, &tokens)?),
+        _ => return None,
+    }
+    out.finished().ok()
+}
+
+/// Whether two texts have one tree of this form. Its places count.
 pub fn sameness(out: &mut Answer, alloc: Global, form: &str, written: &str) -> Option<()> {
     let (this, that) = written.split_once(" // ")?;
-    let this = tokens_of(alloc, this)?;
-    let that = tokens_of(alloc, that)?;
-    let is_same = are_same(alloc, form, &this, &that)?;
+    let is_same = shown(alloc, form, this)?.as_str() == shown(alloc, form, that)?.as_str();
     out.put(if is_same { "yes" } else { "no" });
     Some(())
 }

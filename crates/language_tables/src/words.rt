@@ -2,14 +2,10 @@
 
 use crate::answer::Answer;
 use crate::kinds::kind_of;
-use crate::names::{identifier_of, identifiers_of, name_of, name_of_bytes};
-use crate::numbers::{literal_of, number_of};
-use crate::paths::{owner_of, path_of, step_of};
+use crate::names::{name_of, name_of_bytes};
+use crate::paths::path_of;
 use crate::values::value_of;
-use st_words::{
-    Identifier, Kind, Literal, Name, Number, Owner, Path, Step, Tree, Value, same_option,
-    same_trees,
-};
+use st_words::{Kind, Name, Path, Value};
 use std::alloc::Global;
 
 /// A word of the language.
@@ -18,14 +14,7 @@ enum Word {
     Type(Kind),
     Value(Value),
     Name(Name),
-    Identifier(Identifier),
-    List(Vec<Identifier>),
-    Option(Option<Identifier>),
-    Owner(Owner),
-    Step(Step),
     Path(Path),
-    Number(Number),
-    Literal(Literal),
 }
 
 /// The word of this form that is written so.
@@ -35,15 +24,7 @@ fn word_of(alloc: Global, form: &str, written: &str) -> Option<Word> {
         "values" => Some(Word::Value(value_of(written)?)),
         "names" => Some(Word::Name(name_of(alloc, written)?)),
         "bytes" => Some(Word::Name(name_of_bytes(alloc, written)?)),
-        "identifiers" => Some(Word::Identifier(identifier_of(alloc, written)?)),
-        "lists" => Some(Word::List(identifiers_of(alloc, written)?)),
-        "options" if written == "none" => Some(Word::Option(None)),
-        "options" => Some(Word::Option(Some(identifier_of(alloc, written)?))),
-        "owners" => Some(Word::Owner(owner_of(alloc, written)?)),
-        "steps" => Some(Word::Step(step_of(alloc, written)?)),
         "paths" => Some(Word::Path(path_of(alloc, written)?)),
-        "numbers" => Some(Word::Number(number_of(written)?)),
-        "literals" => Some(Word::Literal(literal_of(written)?)),
         _ => None,
     }
 }
@@ -53,14 +34,7 @@ fn are_one(this: &Word, that: &Word) -> bool {
         (Word::Type(a), Word::Type(b)) => a.is(*b),
         (Word::Value(a), Word::Value(b)) => a.is(*b),
         (Word::Name(a), Word::Name(b)) => a.is(b),
-        (Word::Identifier(a), Word::Identifier(b)) => a.is(b),
-        (Word::List(a), Word::List(b)) => same_trees(a, b),
-        (Word::Option(a), Word::Option(b)) => same_option(a, b),
-        (Word::Owner(a), Word::Owner(b)) => a.is(b),
-        (Word::Step(a), Word::Step(b)) => a.is(b),
         (Word::Path(a), Word::Path(b)) => a.is(b),
-        (Word::Number(a), Word::Number(b)) => a.is(b),
-        (Word::Literal(a), Word::Literal(b)) => a.is(b),
         _ => false,
     }
 }

@@ -1,10 +1,8 @@
 //! Configurations.
 
-ghost use Rattle.std.specs.Prelude.{◌≡◌, ◌↔◌, IsTrue};
-
 use crate::data_type::VariableType;
 use crate::initial::Initial;
-use st_words::{Identifier, Tree, same_option, same_trees};
+use st_words::{Identifier, Tree};
 
 /// Where a global variable stands in the plant: inputs come from it, outputs go to it.
 #[derive(Clone, Copy, Debug, PartialEq, Eq)]
@@ -167,42 +165,12 @@ impl Drop for Configuration {
     }
 }
 
-fn same_qualifier(this: Option<GlobalQualifier>, that: Option<GlobalQualifier>) -> bool
-    ensures { IsTrue result ↔ (this ≡ that) }
-{
-    match this {
-        Some(a) => match that {
-            Some(b) => a == b,
-            None => false,
-        },
-        None => that.is_none(),
-    }
-}
-
-fn same_interval(this: Option<u64>, that: Option<u64>) -> bool
-    ensures { IsTrue result ↔ (this ≡ that) }
-{
-    match this {
-        Some(a) => match that {
-            Some(b) => a == b,
-            None => false,
-        },
-        None => that.is_none(),
-    }
-}
-
 impl Tree for Address {
     ghost use Rattle.st_trees.specs.declared.configuration.Address.{Address};
 
     ghost Mirror = { Address };
 
     ghost view = { λ x. x };
-
-    fn is(&self, other: &Address) -> bool {
-        self.direction == other.direction
-            && self.width == other.width
-            && self.number == other.number
-    }
 }
 
 impl Tree for GlobalNames {
@@ -212,19 +180,6 @@ impl Tree for GlobalNames {
     ghost Mirror = { tree.GlobalNames };
 
     ghost view = { global_names_view };
-
-    fn is(&self, other: &GlobalNames) -> bool {
-        match self {
-            GlobalNames::Located(x, a) => match other {
-                GlobalNames::Located(y, b) => x.is(y) && a.is(b),
-                GlobalNames::Listed(_) => false,
-            },
-            GlobalNames::Listed(a) => match other {
-                GlobalNames::Located(_, _) => false,
-                GlobalNames::Listed(b) => same_trees(a, b),
-            },
-        }
-    }
 }
 
 impl Tree for GlobalDeclaration {
@@ -234,12 +189,6 @@ impl Tree for GlobalDeclaration {
     ghost Mirror = { tree.GlobalDeclaration };
 
     ghost view = { global_declaration_view };
-
-    fn is(&self, other: &GlobalDeclaration) -> bool {
-        self.names.is(&other.names)
-            && self.declared.is(&other.declared)
-            && same_option(&self.initial, &other.initial)
-    }
 }
 
 impl Tree for GlobalBlock {
@@ -249,11 +198,6 @@ impl Tree for GlobalBlock {
     ghost Mirror = { tree.GlobalBlock };
 
     ghost view = { global_block_view };
-
-    fn is(&self, other: &GlobalBlock) -> bool {
-        same_qualifier(self.qualifier, other.qualifier)
-            && same_trees(&self.declarations, &other.declarations)
-    }
 }
 
 impl Tree for Task {
@@ -262,14 +206,6 @@ impl Tree for Task {
     ghost Mirror = { Task };
 
     ghost view = { λ x. x };
-
-    fn is(&self, other: &Task) -> bool {
-        self.name.is(&other.name)
-            && same_option(&self.single, &other.single)
-            && same_interval(self.interval, other.interval)
-            && self.priority.place == other.priority.place
-            && self.priority.number == other.priority.number
-    }
 }
 
 impl Tree for Instance {
@@ -278,12 +214,6 @@ impl Tree for Instance {
     ghost Mirror = { Instance };
 
     ghost view = { λ x. x };
-
-    fn is(&self, other: &Instance) -> bool {
-        self.name.is(&other.name)
-            && same_option(&self.task, &other.task)
-            && self.program.is(&other.program)
-    }
 }
 
 impl Tree for Resource {
@@ -293,13 +223,6 @@ impl Tree for Resource {
     ghost Mirror = { tree.Resource };
 
     ghost view = { resource_view };
-
-    fn is(&self, other: &Resource) -> bool {
-        self.name.is(&other.name)
-            && self.processor.is(&other.processor)
-            && same_trees(&self.tasks, &other.tasks)
-            && same_trees(&self.instances, &other.instances)
-    }
 }
 
 impl Tree for Configuration {
@@ -309,10 +232,4 @@ impl Tree for Configuration {
     ghost Mirror = { tree.Configuration };
 
     ghost view = { configuration_view };
-
-    fn is(&self, other: &Configuration) -> bool {
-        self.name.is(&other.name)
-            && same_trees(&self.globals, &other.globals)
-            && same_trees(&self.resources, &other.resources)
-    }
 }

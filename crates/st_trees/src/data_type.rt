@@ -1,9 +1,7 @@
 //! Types as a text names and declares them.
 
-ghost use Rattle.std.specs.Prelude.{◌≡◌, ◌↔◌, IsTrue};
-
 use crate::initial::Initial;
-use st_words::{Identifier, Kind, Number, Tree, same_option, same_trees};
+use st_words::{Identifier, Kind, Number, Tree};
 
 /// A type that is named by one word, at its place.
 pub enum SimpleType {
@@ -108,19 +106,6 @@ impl Tree for SimpleType {
     ghost Mirror = { SimpleType };
 
     ghost view = { λ x. x };
-
-    fn is(&self, other: &SimpleType) -> bool {
-        match self {
-            SimpleType::Elementary(k, p) => match other {
-                SimpleType::Elementary(l, q) => k == l && p == q,
-                SimpleType::Named(_) => false,
-            },
-            SimpleType::Named(a) => match other {
-                SimpleType::Elementary(_, _) => false,
-                SimpleType::Named(b) => a.is(b),
-            },
-        }
-    }
 }
 
 impl Tree for ArrayType {
@@ -129,13 +114,6 @@ impl Tree for ArrayType {
     ghost Mirror = { ArrayType };
 
     ghost view = { λ x. x };
-
-    fn is(&self, other: &ArrayType) -> bool {
-        self.place == other.place
-            && self.lower.is(&other.lower)
-            && self.upper.is(&other.upper)
-            && self.element.is(&other.element)
-    }
 }
 
 impl Tree for VariableType {
@@ -144,19 +122,6 @@ impl Tree for VariableType {
     ghost Mirror = { VariableType };
 
     ghost view = { λ x. x };
-
-    fn is(&self, other: &VariableType) -> bool {
-        match self {
-            VariableType::Simple(a) => match other {
-                VariableType::Simple(b) => a.is(b),
-                VariableType::Array(_) => false,
-            },
-            VariableType::Array(a) => match other {
-                VariableType::Simple(_) => false,
-                VariableType::Array(b) => a.is(b),
-            },
-        }
-    }
 }
 
 impl Tree for Field {
@@ -166,12 +131,6 @@ impl Tree for Field {
     ghost Mirror = { tree.Field };
 
     ghost view = { field_view };
-
-    fn is(&self, other: &Field) -> bool {
-        self.name.is(&other.name)
-            && self.declared.is(&other.declared)
-            && same_option(&self.initial, &other.initial)
-    }
 }
 
 impl Tree for TypeDeclaration {
@@ -181,10 +140,6 @@ impl Tree for TypeDeclaration {
     ghost Mirror = { tree.TypeDeclaration };
 
     ghost view = { type_declaration_view };
-
-    fn is(&self, other: &TypeDeclaration) -> bool {
-        self.name.is(&other.name) && self.definition.is(&other.definition)
-    }
 }
 
 impl Tree for TypeDefinition {
@@ -194,21 +149,4 @@ impl Tree for TypeDefinition {
     ghost Mirror = { tree.TypeDefinition };
 
     ghost view = { type_definition_view };
-
-    fn is(&self, other: &TypeDefinition) -> bool {
-        match self {
-            TypeDefinition::Array(a) => match other {
-                TypeDefinition::Array(b) => a.is(b),
-                _ => false,
-            },
-            TypeDefinition::Structure(a) => match other {
-                TypeDefinition::Structure(b) => same_trees(a, b),
-                _ => false,
-            },
-            TypeDefinition::Enumeration(a) => match other {
-                TypeDefinition::Enumeration(b) => same_trees(a, b),
-                _ => false,
-            },
-        }
-    }
 }

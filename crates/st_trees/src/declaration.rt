@@ -1,10 +1,8 @@
 //! Declarations of variables.
 
-ghost use Rattle.std.specs.Prelude.{◌≡◌, ◌↔◌, IsTrue};
-
 use crate::data_type::VariableType;
 use crate::initial::Initial;
-use st_words::{Identifier, Tree, same_option, same_trees};
+use st_words::{Identifier, Tree};
 
 /// What a block of variables says of their retention.
 #[derive(Clone, Copy, Debug, PartialEq, Eq)]
@@ -62,44 +60,12 @@ impl Drop for VariableBlock {
     }
 }
 
-fn same_retention(this: Option<Retention>, that: Option<Retention>) -> bool
-    ensures { IsTrue result ↔ (this ≡ that) }
-{
-    match this {
-        Some(a) => match that {
-            Some(b) => a == b,
-            None => false,
-        },
-        None => that.is_none(),
-    }
-}
-
 impl Tree for Section {
     ghost use Rattle.st_trees.specs.declared.declaration.Section.{Section};
 
     ghost Mirror = { Section };
 
     ghost view = { λ x. x };
-
-    fn is(&self, other: &Section) -> bool {
-        match self {
-            Section::Input(a) => match other {
-                Section::Input(b) => same_retention(*a, *b),
-                _ => false,
-            },
-            Section::Output(a) => match other {
-                Section::Output(b) => same_retention(*a, *b),
-                _ => false,
-            },
-            Section::Local(a) => match other {
-                Section::Local(b) => same_retention(*a, *b),
-                _ => false,
-            },
-            Section::Constant => matches!(other, Section::Constant),
-            Section::External => matches!(other, Section::External),
-            Section::ConstantExternal => matches!(other, Section::ConstantExternal),
-        }
-    }
 }
 
 impl Tree for Declaration {
@@ -109,12 +75,6 @@ impl Tree for Declaration {
     ghost Mirror = { tree.Declaration };
 
     ghost view = { declaration_view };
-
-    fn is(&self, other: &Declaration) -> bool {
-        same_trees(&self.names, &other.names)
-            && self.declared.is(&other.declared)
-            && same_option(&self.initial, &other.initial)
-    }
 }
 
 impl Tree for VariableBlock {
@@ -124,8 +84,4 @@ impl Tree for VariableBlock {
     ghost Mirror = { tree.VariableBlock };
 
     ghost view = { variable_block_view };
-
-    fn is(&self, other: &VariableBlock) -> bool {
-        self.section.is(&other.section) && same_trees(&self.declarations, &other.declarations)
-    }
 }

@@ -1,6 +1,6 @@
 //! Expressions.
 
-ghost use Rattle.std.specs.Prelude.{◌≡◌, ◌↔◌, IsTrue, IfOk, map};
+ghost use Rattle.std.specs.Prelude.{◌≡◌, IfOk, map};
 ghost use Rattle.st_trees.specs.Expressions as tree;
 ghost use Rattle.st_trees.specs.Expressions.{exprs_of, selectors_of};
 ghost use Rattle.st_trees.specs.ExpressionViews.{expr_view, variable_view, selector_view};
@@ -141,92 +141,6 @@ impl Selector {
     }
 }
 
-#[cycle(same_expression)]
-fn same_expr(this: &Expr, that: &Expr) -> bool
-    ensures { IsTrue result ↔ (expr_view this.now ≡ expr_view that.now) }
-{
-    match this {
-        Expr::Literal(a) => match that {
-            Expr::Literal(b) => a.is(b),
-            _ => false,
-        },
-        Expr::Variable(a) => match that {
-            Expr::Variable(b) => same_variable(a, b),
-            _ => false,
-        },
-        Expr::Call(f, a) => match that {
-            Expr::Call(g, b) => f.is(g) && same_exprs(a, b),
-            _ => false,
-        },
-        Expr::Parenthesis(p, a) => match that {
-            Expr::Parenthesis(q, b) => p == q && same_expr(a, b),
-            _ => false,
-        },
-        Expr::Unary(f, p, a) => match that {
-            Expr::Unary(g, q, b) => f == g && p == q && same_expr(a, b),
-            _ => false,
-        },
-        Expr::Binary(f, a, c) => match that {
-            Expr::Binary(g, b, d) => f == g && same_expr(a, b) && same_expr(c, d),
-            _ => false,
-        },
-    }
-}
-
-#[cycle(same_expression)]
-fn same_exprs(these: &[Expr], those: &[Expr]) -> bool
-    ensures { IsTrue result ↔ (exprs_of (map expr_view these.now) ≡ exprs_of (map expr_view those.now)) }
-{
-    if these.len() != those.len() {
-        return false;
-    }
-    for i in 0..these.len() {
-        if !same_expr(&these[i], &those[i]) {
-            return false;
-        }
-    }
-    true
-}
-
-#[cycle(same_expression)]
-fn same_variable(this: &Variable, that: &Variable) -> bool
-    ensures { IsTrue result ↔ (variable_view this.now ≡ variable_view that.now) }
-{
-    this.name.is(&that.name) && same_selectors(&this.selectors, &that.selectors)
-}
-
-#[cycle(same_expression)]
-fn same_selectors(these: &[Selector], those: &[Selector]) -> bool
-    ensures { IsTrue result
-        ↔ (selectors_of (map selector_view these.now) ≡ selectors_of (map selector_view those.now)) }
-{
-    if these.len() != those.len() {
-        return false;
-    }
-    for i in 0..these.len() {
-        if !same_selector(&these[i], &those[i]) {
-            return false;
-        }
-    }
-    true
-}
-
-#[cycle(same_expression)]
-fn same_selector(this: &Selector, that: &Selector) -> bool
-    ensures { IsTrue result ↔ (selector_view this.now ≡ selector_view that.now) }
-{
-    match this {
-        Selector::Member(a) => match that {
-            Selector::Member(b) => a.is(b),
-            Selector::Subscript(_) => false,
-        },
-        Selector::Subscript(a) => match that {
-            Selector::Member(_) => false,
-            Selector::Subscript(b) => same_expr(a, b),
-        },
-    }
-}
-
 impl Tree for Expr {
     ghost use Rattle.st_trees.specs.Expressions as tree;
     ghost use Rattle.st_trees.specs.ExpressionViews.{expr_view};
@@ -234,10 +148,6 @@ impl Tree for Expr {
     ghost Mirror = { tree.Expr };
 
     ghost view = { expr_view };
-
-    fn is(&self, other: &Expr) -> bool {
-        same_expr(self, other)
-    }
 }
 
 impl Tree for Variable {
@@ -247,10 +157,6 @@ impl Tree for Variable {
     ghost Mirror = { tree.Variable };
 
     ghost view = { variable_view };
-
-    fn is(&self, other: &Variable) -> bool {
-        same_variable(self, other)
-    }
 }
 
 impl Tree for Selector {
@@ -260,8 +166,4 @@ impl Tree for Selector {
     ghost Mirror = { tree.Selector };
 
     ghost view = { selector_view };
-
-    fn is(&self, other: &Selector) -> bool {
-        same_selector(self, other)
-    }
 }

@@ -1,6 +1,6 @@
 //! Initial values.
 
-ghost use Rattle.std.specs.Prelude.{◌≡◌, ◌↔◌, IsTrue, map};
+ghost use Rattle.std.specs.Prelude.{◌≡◌, map};
 ghost use Rattle.st_trees.specs.Initials as tree;
 ghost use Rattle.st_trees.specs.Initials.{elements_of, members_of};
 ghost use Rattle.st_trees.specs.InitialViews.{initial_view, element_view, member_view};
@@ -100,84 +100,6 @@ impl InitialElement {
     }
 }
 
-#[cycle(same_initial)]
-#[tactic(auto, using(crate::proofs::Bridge::structure_view))]
-fn same_initial(this: &Initial, that: &Initial) -> bool
-    ensures { IsTrue result ↔ (initial_view this.now ≡ initial_view that.now) }
-{
-    match this {
-        Initial::Constant(a) => match that {
-            Initial::Constant(b) => a.is(b),
-            _ => false,
-        },
-        Initial::List(p, a) => match that {
-            Initial::List(q, b) => p == q && same_elements(a, b),
-            _ => false,
-        },
-        Initial::Structure(p, a) => match that {
-            Initial::Structure(q, b) => p == q && same_members(a, b),
-            _ => false,
-        },
-    }
-}
-
-#[cycle(same_initial)]
-fn same_elements(these: &[InitialElement], those: &[InitialElement]) -> bool
-    ensures { IsTrue result ↔ (elements_of (map element_view these.now) ≡ elements_of (map element_view those.now)) }
-{
-    if these.len() != those.len() {
-        return false;
-    }
-    for i in 0..these.len() {
-        if !same_element(&these[i], &those[i]) {
-            return false;
-        }
-    }
-    true
-}
-
-#[cycle(same_initial)]
-fn same_element(this: &InitialElement, that: &InitialElement) -> bool
-    ensures { IsTrue result ↔ (element_view this.now ≡ element_view that.now) }
-{
-    match this {
-        InitialElement::Single(a) => match that {
-            InitialElement::Single(b) => same_initial(a, b),
-            _ => false,
-        },
-        InitialElement::Repeated(n, a) => match that {
-            InitialElement::Repeated(m, b) => n.is(m) && same_initial(a, b),
-            _ => false,
-        },
-        InitialElement::Defaults(n) => match that {
-            InitialElement::Defaults(m) => n.is(m),
-            _ => false,
-        },
-    }
-}
-
-#[cycle(same_initial)]
-fn same_members(these: &[InitialMember], those: &[InitialMember]) -> bool
-    ensures { IsTrue result ↔ (members_of (map member_view these.now) ≡ members_of (map member_view those.now)) }
-{
-    if these.len() != those.len() {
-        return false;
-    }
-    for i in 0..these.len() {
-        if !same_member(&these[i], &those[i]) {
-            return false;
-        }
-    }
-    true
-}
-
-#[cycle(same_initial)]
-fn same_member(this: &InitialMember, that: &InitialMember) -> bool
-    ensures { IsTrue result ↔ (member_view this.now ≡ member_view that.now) }
-{
-    this.name.is(&that.name) && same_initial(&this.value, &that.value)
-}
-
 impl Tree for Initial {
     ghost use Rattle.st_trees.specs.Initials as tree;
     ghost use Rattle.st_trees.specs.InitialViews.{initial_view};
@@ -185,8 +107,4 @@ impl Tree for Initial {
     ghost Mirror = { tree.Initial };
 
     ghost view = { initial_view };
-
-    fn is(&self, other: &Initial) -> bool {
-        same_initial(self, other)
-    }
 }

@@ -1,11 +1,9 @@
 //! Whole texts.
 
-ghost use Rattle.std.specs.Prelude.{◌≡◌, ◌↔◌, IsTrue};
-
 use crate::configuration::Configuration;
 use crate::data_type::TypeDeclaration;
 use crate::unit::Unit;
-use st_words::{Tree, same_trees};
+use st_words::Tree;
 
 /// A part of a text, which the standard calls a library element.
 pub enum LibraryElement {
@@ -41,23 +39,6 @@ impl Tree for LibraryElement {
     ghost Mirror = { tree.LibraryElement };
 
     ghost view = { element_view };
-
-    fn is(&self, other: &LibraryElement) -> bool {
-        match self {
-            LibraryElement::Types(a) => match other {
-                LibraryElement::Types(b) => same_trees(a, b),
-                _ => false,
-            },
-            LibraryElement::Unit(a) => match other {
-                LibraryElement::Unit(b) => a.is(b),
-                _ => false,
-            },
-            LibraryElement::Configuration(a) => match other {
-                LibraryElement::Configuration(b) => a.is(b),
-                _ => false,
-            },
-        }
-    }
 }
 
 impl Tree for Source {
@@ -67,8 +48,4 @@ impl Tree for Source {
     ghost Mirror = { tree.Source };
 
     ghost view = { source_view };
-
-    fn is(&self, other: &Source) -> bool {
-        same_trees(&self.elements, &other.elements)
-    }
 }

@@ -1,13 +1,13 @@
 //! Statements.
 
-ghost use Rattle.std.specs.Prelude.{◌≡◌, ◌↔◌, IsTrue, map, option_map};
+ghost use Rattle.std.specs.Prelude.{◌≡◌, map, option_map};
 ghost use Rattle.st_trees.specs.Statements as tree;
 ghost use Rattle.st_trees.specs.Statements.{stmts_of, arms_of, case_arms_of};
 ghost use Rattle.st_trees.specs.ExpressionViews.{expr_view, variable_view};
 ghost use Rattle.st_trees.specs.StatementViews.{argument_view, arm_view, case_arm_view, stmt_view};
 
 use crate::expression::{Expr, Variable};
-use st_words::{EnumeratedValue, Identifier, Number, Tree, same_option, same_trees};
+use st_words::{EnumeratedValue, Identifier, Number, Tree};
 
 /// A statement of a body, without its semicolon.
 #[cycle(statement)]
@@ -221,23 +221,6 @@ impl Tree for Label {
     ghost Mirror = { Label };
 
     ghost view = { λ x. x };
-
-    fn is(&self, other: &Label) -> bool {
-        match self {
-            Label::Single(a) => match other {
-                Label::Single(b) => a.is(b),
-                _ => false,
-            },
-            Label::Range(a, c) => match other {
-                Label::Range(b, d) => a.is(b) && c.is(d),
-                _ => false,
-            },
-            Label::Enumerated(a) => match other {
-                Label::Enumerated(b) => a.is(b),
-                _ => false,
-            },
-        }
-    }
 }
 
 impl Tree for Argument {
@@ -247,140 +230,6 @@ impl Tree for Argument {
     ghost Mirror = { tree.Argument };
 
     ghost view = { argument_view };
-
-    fn is(&self, other: &Argument) -> bool {
-        match self {
-            Argument::Input(x, a) => match other {
-                Argument::Input(y, b) => x.is(y) && a.is(b),
-                Argument::Output(_, _) => false,
-            },
-            Argument::Output(x, a) => match other {
-                Argument::Input(_, _) => false,
-                Argument::Output(y, b) => x.is(y) && a.is(b),
-            },
-        }
-    }
-}
-
-#[cycle(same_statement)]
-#[tactic(auto, using(crate::proofs::Bridge::choose_view, crate::proofs::Bridge::select_view))]
-fn same_stmt(this: &Stmt, that: &Stmt) -> bool
-    ensures { IsTrue result ↔ (stmt_view this.now ≡ stmt_view that.now) }
-{
-    match this {
-        Stmt::Empty => matches!(that, Stmt::Empty),
-        Stmt::Assign(x, a) => match that {
-            Stmt::Assign(y, b) => x.is(y) && a.is(b),
-            _ => false,
-        },
-        Stmt::Invoke(x, a) => match that {
-            Stmt::Invoke(y, b) => x.is(y) && same_trees(a, b),
-            _ => false,
-        },
-        Stmt::If(a, c) => match that {
-            Stmt::If(b, d) => same_arms(a, b) && same_stmts(c, d),
-            _ => false,
-        },
-        Stmt::Case(x, a, c) => match that {
-            Stmt::Case(y, b, d) => x.is(y) && same_case_arms(a, b) && same_stmts(c, d),
-            _ => false,
-        },
-        Stmt::For {
-            control,
-            start,
-            limit,
-            step,
-            body,
-        } => match that {
-            Stmt::For {
-                control: other_control,
-                start: other_start,
-                limit: other_limit,
-                step: other_step,
-                body: other_body,
-            } => {
-                control.is(other_control)
-                    && start.is(other_start)
-                    && limit.is(other_limit)
-                    && same_option(step, other_step)
-                    && same_stmts(body, other_body)
-            }
-            _ => false,
-        },
-        Stmt::While(x, a) => match that {
-            Stmt::While(y, b) => x.is(y) && same_stmts(a, b),
-            _ => false,
-        },
-        Stmt::Repeat(a, x) => match that {
-            Stmt::Repeat(b, y) => same_stmts(a, b) && x.is(y),
-            _ => false,
-        },
-        Stmt::Exit(p) => match that {
-            Stmt::Exit(q) => p == q,
-            _ => false,
-        },
-        Stmt::Return => matches!(that, Stmt::Return),
-    }
-}
-
-#[cycle(same_statement)]
-fn same_stmts(these: &[Stmt], those: &[Stmt]) -> bool
-    ensures { IsTrue result ↔ (stmts_of (map stmt_view these.now) ≡ stmts_of (map stmt_view those.now)) }
-{
-    if these.len() != those.len() {
-        return false;
-    }
-    for i in 0..these.len() {
-        if !same_stmt(&these[i], &those[i]) {
-            return false;
-        }
-    }
-    true
-}
-
-#[cycle(same_statement)]
-fn same_arms(these: &[Arm], those: &[Arm]) -> bool
-    ensures { IsTrue result ↔ (arms_of (map arm_view these.now) ≡ arms_of (map arm_view those.now)) }
-{
-    if these.len() != those.len() {
-        return false;
-    }
-    for i in 0..these.len() {
-        if !same_arm(&these[i], &those[i]) {
-            return false;
-        }
-    }
-    true
-}
-
-#[cycle(same_statement)]
-fn same_arm(this: &Arm, that: &Arm) -> bool
-    ensures { IsTrue result ↔ (arm_view this.now ≡ arm_view that.now) }
-{
-    this.condition.is(&that.condition) && same_stmts(&this.body, &that.body)
-}
-
-#[cycle(same_statement)]
-fn same_case_arms(these: &[CaseArm], those: &[CaseArm]) -> bool
-    ensures { IsTrue result
-        ↔ (case_arms_of (map case_arm_view these.now) ≡ case_arms_of (map case_arm_view those.now)) }
-{
-    if these.len() != those.len() {
-        return false;
-    }
-    for i in 0..these.len() {
-        if !same_case_arm(&these[i], &those[i]) {
-            return false;
-        }
-    }
-    true
-}
-
-#[cycle(same_statement)]
-fn same_case_arm(this: &CaseArm, that: &CaseArm) -> bool
-    ensures { IsTrue result ↔ (case_arm_view this.now ≡ case_arm_view that.now) }
-{
-    same_trees(&this.labels, &that.labels) && same_stmts(&this.body, &that.body)
 }
 
 impl Tree for Stmt {
@@ -390,10 +239,6 @@ impl Tree for Stmt {
     ghost Mirror = { tree.Stmt };
 
     ghost view = { stmt_view };
-
-    fn is(&self, other: &Stmt) -> bool {
-        same_stmt(self, other)
-    }
 }
 
 impl Tree for Arm {
@@ -403,10 +248,6 @@ impl Tree for Arm {
     ghost Mirror = { tree.Arm };
 
     ghost view = { arm_view };
-
-    fn is(&self, other: &Arm) -> bool {
-        same_arm(self, other)
-    }
 }
 
 impl Tree for CaseArm {
@@ -416,8 +257,4 @@ impl Tree for CaseArm {
     ghost Mirror = { tree.CaseArm };
 
     ghost view = { case_arm_view };
-
-    fn is(&self, other: &CaseArm) -> bool {
-        same_case_arm(self, other)
-    }
 }

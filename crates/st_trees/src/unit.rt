@@ -1,11 +1,9 @@
 //! Functions, function blocks and programs.
 
-ghost use Rattle.std.specs.Prelude.{◌≡◌, ◌↔◌, IsTrue};
-
 use crate::data_type::SimpleType;
 use crate::declaration::VariableBlock;
 use crate::statement::Stmt;
-use st_words::{Identifier, Tree, same_trees};
+use st_words::{Identifier, Tree};
 
 /// What a unit is.
 pub enum UnitSort {
@@ -48,17 +46,6 @@ impl Tree for UnitSort {
     ghost Mirror = { UnitSort };
 
     ghost view = { λ x. x };
-
-    fn is(&self, other: &UnitSort) -> bool {
-        match self {
-            UnitSort::Function(a) => match other {
-                UnitSort::Function(b) => a.is(b),
-                _ => false,
-            },
-            UnitSort::FunctionBlock => matches!(other, UnitSort::FunctionBlock),
-            UnitSort::Program => matches!(other, UnitSort::Program),
-        }
-    }
 }
 
 impl Tree for Unit {
@@ -68,11 +55,4 @@ impl Tree for Unit {
     ghost Mirror = { tree.OrganisationUnit };
 
     ghost view = { unit_view };
-
-    fn is(&self, other: &Unit) -> bool {
-        self.sort.is(&other.sort)
-            && self.name.is(&other.name)
-            && same_trees(&self.blocks, &other.blocks)
-            && same_trees(&self.body, &other.body)
-    }
 }

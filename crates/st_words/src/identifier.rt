@@ -45,8 +45,4 @@ impl Tree for Identifier {
     ghost Mirror = { Identifier };
 
     ghost view = { λ x. x };
-
-    fn is(&self, other: &Identifier) -> bool {
-        self.name.is(&other.name) && self.place == other.place
-    }
 }

@@ -21,5 +21,5 @@ pub use literal::{EnumeratedValue, Literal, Number};
 pub use name::Name;
 pub use operator::{BinaryOperator, UnaryOperator};
 pub use path::{Owner, Path, Step};
-pub use tree::{Tree, same_option, same_trees};
+pub use tree::Tree;
 pub use value::{Value, is_wide};

@@ -1,7 +1,5 @@
 //! Literals.
 
-ghost use Rattle.std.specs.Prelude.{◌≡◌, ◌↔◌, IsTrue};
-
 use crate::kind::Kind;
 use crate::name::Name;
 use crate::tree::Tree;
@@ -61,45 +59,12 @@ impl Drop for Literal {
     }
 }
 
-fn same_names(this: &Option<Name>, that: &Option<Name>) -> bool
-    ensures { IsTrue result ↔ (this.now ≡ that.now) }
-{
-    match this {
-        Some(a) => match that {
-            Some(b) => a.is(b),
-            None => false,
-        },
-        None => that.is_none(),
-    }
-}
-
-fn same_kinds(this: Option<Kind>, that: Option<Kind>) -> bool
-    ensures { IsTrue result ↔ (this ≡ that) }
-{
-    match this {
-        Some(a) => match that {
-            Some(b) => a == b,
-            None => false,
-        },
-        None => that.is_none(),
-    }
-}
-
 impl Tree for Number {
     ghost use Rattle.st_words.specs.declared.literal.Number.{Number};
 
     ghost Mirror = { Number };
 
     ghost view = { λ x. x };
-
-    fn is(&self, other: &Number) -> bool {
-        self.place == other.place
-            && self.is_negative == other.is_negative
-            && self.magnitude == other.magnitude
-            && same_kinds(self.written, other.written)
-            && self.is_decimal == other.is_decimal
-            && same_kinds(self.taken, other.taken)
-    }
 }
 
 impl Tree for EnumeratedValue {
@@ -108,12 +73,6 @@ impl Tree for EnumeratedValue {
     ghost Mirror = { EnumeratedValue };
 
     ghost view = { λ x. x };
-
-    fn is(&self, other: &EnumeratedValue) -> bool {
-        self.place == other.place
-            && same_names(&self.type_name, &other.type_name)
-            && self.name.is(&other.name)
-    }
 }
 
 impl Tree for Literal {
@@ -122,25 +81,4 @@ impl Tree for Literal {
     ghost Mirror = { Literal };
 
     ghost view = { λ x. x };
-
-    fn is(&self, other: &Literal) -> bool {
-        match self {
-            Literal::Number(a) => match other {
-                Literal::Number(b) => a.is(b),
-                _ => false,
-            },
-            Literal::Truth(p, a) => match other {
-                Literal::Truth(q, b) => p == q && a == b,
-                _ => false,
-            },
-            Literal::Duration(p, a) => match other {
-                Literal::Duration(q, b) => p == q && a == b,
-                _ => false,
-            },
-            Literal::Enumerated(a) => match other {
-                Literal::Enumerated(b) => a.is(b),
-                _ => false,
-            },
-        }
-    }
 }

@@ -4,7 +4,6 @@ ghost use Rattle.std.specs.Prelude.{◌≡◌, ◌↔◌, ◌++◌, ◌∷◌, [
 ghost use Rattle.st_words.specs.Paths as paths;
 
 use crate::name::Name;
-use crate::tree::{Tree, same_option, same_trees};
 use std::alloc::{AllocError, Global};
 use std::marker::Model;
 
@@ -109,6 +108,49 @@ fn copied_steps(alloc: Global, steps: &[Step]) -> Result<Vec<Step>, AllocError>
     Ok(copied)
 }
 
+/// Whether the two are one instance of a program, or there is none both times.
+fn same_owners(this: &Option<Owner>, that: &Option<Owner>) -> bool
+    ensures { IsTrue result ↔ (this.now ≡ that.now) }
+{
+    match this {
+        Some(a) => match that {
+            Some(b) => a.resource.is(&b.resource) && a.instance.is(&b.instance),
+            None => false,
+        },
+        None => that.is_none(),
+    }
+}
+
+fn same_step(this: &Step, that: &Step) -> bool
+    ensures { IsTrue result ↔ (this.now ≡ that.now) }
+{
+    match this {
+        Step::Member(a) => match that {
+            Step::Member(b) => a.is(b),
+            Step::Element(_) => false,
+        },
+        Step::Element(a) => match that {
+            Step::Member(_) => false,
+            Step::Element(b) => a == b,
+        },
+    }
+}
+
+/// Whether two lists have the same steps in the same order.
+fn same_steps(these: &[Step], those: &[Step]) -> bool
+    ensures { IsTrue result ↔ (these.now ≡ those.now) }
+{
+    if these.len() != those.len() {
+        return false;
+    }
+    for i in 0..these.len() {
+        if !same_step(&these[i], &those[i]) {
+            return false;
+        }
+    }
+    true
+}
+
 impl Path {
     /// The path of a global, or of a variable of a function.
     pub fn global(alloc: Global, name: Name) -> Path
@@ -174,41 +216,8 @@ impl Path {
     pub fn is(&self, other: &Path) -> bool
         ensures { IsTrue result ↔ (self.now ≡ other.now) }
     {
-        same_option(&self.owner, &other.owner)
+        same_owners(&self.owner, &other.owner)
             && self.name.is(&other.name)
-            && same_trees(&self.steps, &other.steps)
-    }
-}
-
-impl Tree for Owner {
-    ghost use Rattle.st_words.specs.declared.path.Owner.{Owner};
-
-    ghost Mirror = { Owner };
-
-    ghost view = { λ x. x };
-
-    fn is(&self, other: &Owner) -> bool {
-        self.resource.is(&other.resource) && self.instance.is(&other.instance)
-    }
-}
-
-impl Tree for Step {
-    ghost use Rattle.st_words.specs.declared.path.Step.{Step};
-
-    ghost Mirror = { Step };
-
-    ghost view = { λ x. x };
-
-    fn is(&self, other: &Step) -> bool {
-        match self {
-            Step::Member(a) => match other {
-                Step::Member(b) => a.is(b),
-                Step::Element(_) => false,
-            },
-            Step::Element(a) => match other {
-                Step::Member(_) => false,
-                Step::Element(b) => a == b,
-            },
-        }
+            && same_steps(&self.steps, &other.steps)
     }
 }
