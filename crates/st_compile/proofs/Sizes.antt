@@ -44,12 +44,12 @@ abbrev mutual
   stmt_size empty = 1
   stmt_size (assign p e) = suc (place_size p + expr_size e)
   stmt_size (invoke a code arguments) = suc (suc (arguments_size arguments))
-  stmt_size (IF arms otherwise) = suc (arms_size arms + stmts_size otherwise)
-  stmt_size (CASE e arms otherwise) = suc (expr_size e + case_size arms + stmts_size otherwise)
+  stmt_size (IF arms otherwise) = suc (suc (arms_size arms + stmts_size otherwise))
+  stmt_size (CASE e arms otherwise) = suc (suc (expr_size e + case_size arms + stmts_size otherwise))
   stmt_size (FOR a start limit step body) =
-      suc (suc (expr_size start + expr_size limit + step_size step + stmts_size body))
-  stmt_size (WHILE e body) = suc (expr_size e + stmts_size body)
-  stmt_size (REPEAT body e) = suc (expr_size e + stmts_size body)
+      suc (suc (suc (expr_size start + expr_size limit + step_size step + stmts_size body)))
+  stmt_size (WHILE e body) = suc (suc (expr_size e + stmts_size body))
+  stmt_size (REPEAT body e) = suc (suc (expr_size e + stmts_size body))
   stmt_size EXIT = 1
   stmt_size RETURN = 1
 

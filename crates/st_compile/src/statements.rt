@@ -5,6 +5,7 @@ ghost use Rattle.machine_code.specs.declared.instr.Instr.TheVariants as instrs;
 ghost use Rattle.slot_bodies.specs.Chains.{stmts_of, arms_of, case_arms_of};
 ghost use Rattle.slot_bodies.specs.ExpressionViews.{slot_expr_view};
 ghost use Rattle.slot_bodies.specs.StatementViews.{slot_stmt_view, slot_arm_view, slot_case_arm_view};
+ghost use Rattle.slot_trees.specs.SlotTrees as trees;
 ghost use Rattle.tree_code.specs.Codes.{stmt_code, stmts_code, arms_code, case_code, step_code};
 ghost use Rattle.tree_code.specs.Fitting.{StmtFits, StmtsFit, ArmsFit, CaseArmsFit, StepFits};
 ghost use Rattle.st_compile.specs.Emitting.{site_of, units_in, FitsIn, LinkedIn, turns_code};
@@ -50,19 +51,9 @@ fn put_statement(
             put_invocation(library, scope, code, *instance, *block, arguments)?;
             code.put(Instr::Tick)
         }
-        SlotStmt::If(arms, otherwise) => {
-            let end = code.len();
-            put_statements(library, scope, code, otherwise, ways)?;
-            put_arms(library, scope, code, arms, ways, end)?;
-            code.put(Instr::Tick)
-        }
+        SlotStmt::If(arms, otherwise) => put_if(library, scope, code, arms, otherwise, ways),
         SlotStmt::Case(selector, arms, otherwise) => {
-            let end = code.len();
-            put_statements(library, scope, code, otherwise, ways)?;
-            code.put(Instr::Leave(1))?;
-            put_case_arms(library, scope, code, arms, ways, end)?;
-            put_expr(library, scope, code, selector)?;
-            code.put(Instr::Tick)
+            put_case(library, scope, code, selector, arms, otherwise, ways)
         }
         SlotStmt::For {
             control,
@@ -79,24 +70,10 @@ fn put_statement(
             put_expr(library, scope, code, start)?;
             code.put(Instr::Tick)
         }
-        SlotStmt::While(condition, body) => {
-            let end = code.len();
-            code.put(Instr::Back(0))?;
-            put_statements(library, scope, code, body, Ways { exit: end, ..ways })?;
-            code.put(Instr::Unless(end))?;
-            put_expr(library, scope, code, condition)?;
-            code.close(end);
-            code.put(Instr::Tick)
-        }
-        SlotStmt::Repeat(body, condition) => {
-            let end = code.len();
-            code.put(Instr::Back(0))?;
-            code.put(Instr::When(end))?;
-            put_expr(library, scope, code, condition)?;
-            put_statements(library, scope, code, body, Ways { exit: end, ..ways })?;
-            code.close(end);
-            code.put(Instr::Tick)
-        }
+        SlotStmt::While(condition, body) => put_while(library, scope, code, condition, body, ways),
+        SlotStmt::Repeat(body, condition) => put_repeat(
+            library, scope, code, body, condition, ways,
+        ),
         SlotStmt::Exit => {
             code.put(Instr::Jump(ways.exit))?;
             code.put(Instr::Tick)
@@ -107,6 +84,127 @@ fn put_statement(
             code.put(Instr::Tick)
         }
     }
+}
+
+/// The same of an IF: its arms, and the statements that run where no condition holds.
+#[cycle(unit)]
+fn put_if(
+    library: &SlotLibrary,
+    scope: Scope,
+    code: &mut Draft,
+    arms: &[SlotArm],
+    otherwise: &[SlotStmt],
+    ways: Ways,
+) -> Result<(), CompileError>
+    ensures code { OnOk result (code.new ≡ stmt_code (units_in library.now scope) (site_of scope)
+        (trees.IF (arms_of (map slot_arm_view arms.now))
+        (stmts_of (map slot_stmt_view otherwise.now))) ways code.old) }
+    ensures fits { OnOk result (StmtFits (FitsIn library.now scope) (site_of scope)
+        (trees.IF (arms_of (map slot_arm_view arms.now))
+        (stmts_of (map slot_stmt_view otherwise.now)))) }
+    ensures longer { OnOk result (length code.old ≤ length code.new) }
+    ensures wrong { IfErr result (λ e. e ≡ CompileError.NotLinked
+        → ¬ (StmtLinked (LinkedIn library.now scope) (site_of scope)
+        (trees.IF (arms_of (map slot_arm_view arms.now))
+        (stmts_of (map slot_stmt_view otherwise.now))))) }
+{
+    let end = code.len();
+    put_statements(library, scope, code, otherwise, ways)?;
+    put_arms(library, scope, code, arms, ways, end)?;
+    code.put(Instr::Tick)
+}
+
+/// The same of a CASE: its selector, its arms, and the statements that run where no label holds.
+#[cycle(unit)]
+fn put_case(
+    library: &SlotLibrary,
+    scope: Scope,
+    code: &mut Draft,
+    selector: &SlotExpr,
+    arms: &[SlotCaseArm],
+    otherwise: &[SlotStmt],
+    ways: Ways,
+) -> Result<(), CompileError>
+    ensures code { OnOk result (code.new ≡ stmt_code (units_in library.now scope) (site_of scope)
+        (trees.CASE (slot_expr_view selector.now) (case_arms_of (map slot_case_arm_view arms.now))
+        (stmts_of (map slot_stmt_view otherwise.now))) ways code.old) }
+    ensures fits { OnOk result (StmtFits (FitsIn library.now scope) (site_of scope)
+        (trees.CASE (slot_expr_view selector.now) (case_arms_of (map slot_case_arm_view arms.now))
+        (stmts_of (map slot_stmt_view otherwise.now)))) }
+    ensures longer { OnOk result (length code.old ≤ length code.new) }
+    ensures wrong { IfErr result (λ e. e ≡ CompileError.NotLinked
+        → ¬ (StmtLinked (LinkedIn library.now scope) (site_of scope)
+        (trees.CASE (slot_expr_view selector.now) (case_arms_of (map slot_case_arm_view arms.now))
+        (stmts_of (map slot_stmt_view otherwise.now))))) }
+{
+    let end = code.len();
+    put_statements(library, scope, code, otherwise, ways)?;
+    code.put(Instr::Leave(1))?;
+    put_case_arms(library, scope, code, arms, ways, end)?;
+    put_expr(library, scope, code, selector)?;
+    code.put(Instr::Tick)
+}
+
+/// The same of a WHILE.
+#[cycle(unit)]
+fn put_while(
+    library: &SlotLibrary,
+    scope: Scope,
+    code: &mut Draft,
+    condition: &SlotExpr,
+    body: &[SlotStmt],
+    ways: Ways,
+) -> Result<(), CompileError>
+    ensures code { OnOk result (code.new ≡ stmt_code (units_in library.now scope) (site_of scope)
+        (trees.WHILE (slot_expr_view condition.now)
+        (stmts_of (map slot_stmt_view body.now))) ways code.old) }
+    ensures fits { OnOk result (StmtFits (FitsIn library.now scope) (site_of scope)
+        (trees.WHILE (slot_expr_view condition.now)
+        (stmts_of (map slot_stmt_view body.now)))) }
+    ensures longer { OnOk result (length code.old ≤ length code.new) }
+    ensures wrong { IfErr result (λ e. e ≡ CompileError.NotLinked
+        → ¬ (StmtLinked (LinkedIn library.now scope) (site_of scope)
+        (trees.WHILE (slot_expr_view condition.now)
+        (stmts_of (map slot_stmt_view body.now))))) }
+{
+    let end = code.len();
+    code.put(Instr::Back(0))?;
+    put_statements(library, scope, code, body, Ways { exit: end, ..ways })?;
+    code.put(Instr::Unless(end))?;
+    put_expr(library, scope, code, condition)?;
+    code.close(end);
+    code.put(Instr::Tick)
+}
+
+/// The same of a REPEAT.
+#[cycle(unit)]
+fn put_repeat(
+    library: &SlotLibrary,
+    scope: Scope,
+    code: &mut Draft,
+    body: &[SlotStmt],
+    condition: &SlotExpr,
+    ways: Ways,
+) -> Result<(), CompileError>
+    ensures code { OnOk result (code.new ≡ stmt_code (units_in library.now scope) (site_of scope)
+        (trees.REPEAT (stmts_of (map slot_stmt_view body.now))
+        (slot_expr_view condition.now)) ways code.old) }
+    ensures fits { OnOk result (StmtFits (FitsIn library.now scope) (site_of scope)
+        (trees.REPEAT (stmts_of (map slot_stmt_view body.now))
+        (slot_expr_view condition.now))) }
+    ensures longer { OnOk result (length code.old ≤ length code.new) }
+    ensures wrong { IfErr result (λ e. e ≡ CompileError.NotLinked
+        → ¬ (StmtLinked (LinkedIn library.now scope) (site_of scope)
+        (trees.REPEAT (stmts_of (map slot_stmt_view body.now))
+        (slot_expr_view condition.now)))) }
+{
+    let end = code.len();
+    code.put(Instr::Back(0))?;
+    code.put(Instr::When(end))?;
+    put_expr(library, scope, code, condition)?;
+    put_statements(library, scope, code, body, Ways { exit: end, ..ways })?;
+    code.close(end);
+    code.put(Instr::Tick)
 }
 
 /// The same of statements one after another.

@@ -63,6 +63,27 @@ decreases-statements::put_case_arms l =
     weight (filled (slot_library_view l.library.now)) l.scope.depth + case_size (case_arms_of (map slot_case_arm_view
     l.arms.now))
 
+abbrev pub decreases-statements::put_case : goal.decreases-statements::put_case
+decreases-statements::put_case l =
+    weight (filled (slot_library_view l.library.now)) l.scope.depth + suc (expr_size (slot_expr_view l.selector.now)
+    + case_size (case_arms_of (map slot_case_arm_view l.arms.now)) + stmts_size (stmts_of (map slot_stmt_view
+    l.otherwise.now)))
+
+abbrev pub decreases-statements::put_if : goal.decreases-statements::put_if
+decreases-statements::put_if l =
+    weight (filled (slot_library_view l.library.now)) l.scope.depth + suc (arms_size (arms_of (map slot_arm_view
+    l.arms.now)) + stmts_size (stmts_of (map slot_stmt_view l.otherwise.now)))
+
+abbrev pub decreases-statements::put_repeat : goal.decreases-statements::put_repeat
+decreases-statements::put_repeat l =
+    weight (filled (slot_library_view l.library.now)) l.scope.depth + suc (expr_size (slot_expr_view l.condition.now)
+    + stmts_size (stmts_of (map slot_stmt_view l.body.now)))
+
+abbrev pub decreases-statements::put_while : goal.decreases-statements::put_while
+decreases-statements::put_while l =
+    weight (filled (slot_library_view l.library.now)) l.scope.depth + suc (expr_size (slot_expr_view l.condition.now)
+    + stmts_size (stmts_of (map slot_stmt_view l.body.now)))
+
 abbrev pub decreases-statements::put_statement : goal.decreases-statements::put_statement
 decreases-statements::put_statement l =
     weight (filled (slot_library_view l.library.now)) l.scope.depth + stmt_size (slot_stmt_view l.statement.now)
