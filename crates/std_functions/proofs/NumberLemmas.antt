@@ -1,10 +1,12 @@
 -- Numbers that the code can hold.
-use Rattle.std.proofs.Common.{◌≡◌, ◌≢◌, Bool, true, false, if◌then◌else◌, arith, refl, Err, ◌&&◌, ◌^◌, suc, Result, ap, ◌∙◌}
+use Rattle.std.proofs.Common.{◌≡◌, ◌≢◌, Bool, true, false, if◌then◌else◌, arith, refl, Err, ◌&&◌, ◌^◌, ◌<◌, suc, zero}
+use Rattle.std.proofs.Common.{Result, ap, ◌∙◌, subst, sym}
 use mir.Syntax.{w128}
+use mir.Val.{of_z, to_z}
 use Rattle.std.specs.Prelude.{ℤ, pos, negsuc, neg_ℤ, ◌≤ℤ◌, int_div, int_le, int_lt, unsigned_abs, ◌-◌, Ok}
 use Rattle.std.specs.Int.RustNames.{FitsSigned}
 use Rattle.std.proofs.Math.Nat.{div-le_self}
-use Rattle.std.proofs.lemmas.Int.{ints}
+use Rattle.std.proofs.lemmas.Int.{ints, to_z-of_z}
 use Rattle.std.proofs.lemmas.Bool.Decides.{Decides-int_eq}
 use Rattle.std.proofs.lemmas.Grind.{common_steps}
 use Rattle.st_words.specs.declared.kind.Kind.{Kind}
@@ -21,6 +23,20 @@ quotient_fits (pos a) (pos b) l h = record { sfits = omega (arith, ints, div-le_
 quotient_fits (pos a) (negsuc b) l h = omega (arith, ints, div-le_self a (suc b))
 quotient_fits (negsuc a) (pos b) l h = omega (arith, ints, div-le_self (suc a) b)
 quotient_fits (negsuc a) (negsuc b) l h = record { sfits = omega (arith, ints, div-le_self (suc a) (suc b)) }
+
+not_zero : (d : ℤ) → FitsSigned w128 d → d ≢ pos 0 → 0 < of_z w128 d
+not_zero (pos zero) f h = absurd (h refl)
+not_zero (pos (suc n)) f h = omega arith
+not_zero (negsuc n) f h = let below = f.sfits in omega arith
+
+-- what a division asks: the divisor is not 0, and the quotient is a number that the code can hold
+pub divides : (a d : ℤ) → FitsSigned w128 a → FitsSigned w128 d → d ≢ pos 0 → FitsSigned w128 (int_div a d)
+    → (0 < of_z w128 d) × FitsSigned w128 (int_div (to_z w128 (of_z w128 a)) (to_z w128 (of_z w128 d)))
+divides a d f g h fits = (
+  not_zero d g h,
+  subst (λ z. FitsSigned w128 (int_div z (to_z w128 (of_z w128 d)))) (sym (to_z-of_z w128 a f))
+      (subst (λ z. FitsSigned w128 (int_div a z)) (sym (to_z-of_z w128 d g)) fits),
+)
 
 pub divided : (k : Kind) (x y : ℤ) → y ≢ pos 0 → in_range k (int_div x y) ≡ quotient k x y
 divided k x y h = grind (arith, common_steps, Decides-int_eq)
