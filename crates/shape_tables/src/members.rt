@@ -17,9 +17,14 @@ pub struct MemberPlace<'a> {
 }
 
 /// The members of one whole; of several of one name the first.
-#[derive(Drop)]
 pub struct Members<'a> {
     map: BTreeMap<&'a [u8], MemberPlace<'a>>,
+}
+
+impl Drop for Members<'_> {
+    fn drop(self) {
+        let Self { map: _ } = self;
+    }
 }
 
 impl<'a> Members<'a> {

@@ -26,11 +26,20 @@ use st_words::Name;
 use std::alloc::{AllocError, Global};
 
 /// The types and blocks of a text, with their sizes and members.
-#[derive(Drop)]
 pub struct ShapeTables<'a> {
     types: Types<'a>,
     wholes: Index<'a, Whole<'a>>,
     standards: Standards<'a>,
+}
+
+impl Drop for ShapeTables<'_> {
+    fn drop(self) {
+        let Self {
+            types: _,
+            wholes: _,
+            standards: _,
+        } = self;
+    }
 }
 
 impl<'a> ShapeTables<'a> {

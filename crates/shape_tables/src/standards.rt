@@ -8,7 +8,6 @@ use st_names::StandardBlock;
 use std::alloc::{AllocError, Global};
 
 /// The standard blocks, each taken apart once.
-#[derive(Drop)]
 pub struct Standards<'a> {
     sr: Whole<'a>,
     rs: Whole<'a>,
@@ -20,6 +19,23 @@ pub struct Standards<'a> {
     ton: Whole<'a>,
     tof: Whole<'a>,
     tp: Whole<'a>,
+}
+
+impl Drop for Standards<'_> {
+    fn drop(self) {
+        let Self {
+            sr: _,
+            rs: _,
+            r_trig: _,
+            f_trig: _,
+            ctu: _,
+            ctd: _,
+            ctud: _,
+            ton: _,
+            tof: _,
+            tp: _,
+        } = self;
+    }
 }
 
 impl<'a> Standards<'a> {

@@ -27,10 +27,18 @@ use std::alloc::{AllocError, Global};
 
 /// A named type or a block: how many slots a variable of it takes, 4,097 where they are more than 4,096, and where its
 /// members stand.
-#[derive(Drop)]
 pub struct Whole<'a> {
     pub size: usize,
     pub members: Members<'a>,
+}
+
+impl Drop for Whole<'_> {
+    fn drop(self) {
+        let Self {
+            size: _,
+            members: _,
+        } = self;
+    }
 }
 
 /// The size of a type; of one that is too deep nothing is said.
