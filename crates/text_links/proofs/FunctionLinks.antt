@@ -5,12 +5,13 @@ use Rattle.std.specs.Prelude.{nat_lt, option_map, option_and_then}
 use Rattle.std.proofs.lemmas.Bool.Decides.{nat_tests}
 use Rattle.st_words.specs.declared.limits.TheConstants.{MAX_PATHS}
 use Rattle.st_trees.specs.declared.data_type.SimpleType.{SimpleType}
-use Rattle.st_trees.specs.Statements.{Stmts}
+use Rattle.st_trees.specs.Statements.{Stmts, stmts_of}
 use Rattle.st_trees.specs.Units.{OrganisationUnit}
 use Rattle.st_types.specs.NameTypes.{Declared}
 use Rattle.st_types.specs.Scopes.{Name}
 use Rattle.st_statics.specs.declared.limits.TheConstants.{MAX_TYPE_DEPTH}
 use Rattle.st_layouts.specs.LayoutVariables.{owned_variable}
+use Rattle.st_layouts.specs.Libraries.{body_of_unit, input_names}
 use Rattle.st_layouts.specs.Shapes.{is_sound}
 use Rattle.st_layouts.specs.TextLayouts.{instances_of}
 use Rattle.st_layouts.specs.Types.{NamedSite, is_within_depth, shape_of_type}
@@ -19,10 +20,13 @@ use Rattle.layout.specs.Layouts.{are_expandable, layout_size}
 use Rattle.layout.specs.declared.limits.TheConstants.{MAX_INSTANCES}
 use Rattle.slot_trees.specs.LinkedStatements.{linked_stmts}
 use Rattle.slot_trees.specs.LinkedTexts.{table_of}
+use Rattle.slot_trees.specs.SlotTrees.{SlotStmts}
 use Rattle.slot_trees.specs.Tables.{Symbol}
-use Rattle.slot_trees.specs.TextLinks.{linked_function_body, sites_of_call}
+use Rattle.slot_trees.specs.TextLinks.{call_slot, call_slots, function_with, linked_function}
+use Rattle.slot_trees.specs.TextLinks.{linked_function_body, sites_of_call, symbols_of_function}
 use Rattle.slot_trees.specs.TextNumbers.{numbers_of}
 use Rattle.text_links.specs.FirstSlots.{slots_taken}
+use Rattle.text_links.specs.Linked.{function_parts}
 use Rattle.text_links.specs.LinkVariables.{are_whole, is_whole, of_site, result_of, variables_of_blocks}
 use Rattle.text_links.specs.Tables.{has_some}
 use Rattle.text_links.proofs.FirstSlotLemmas.{both_hold, both_hold_back}
@@ -64,6 +68,26 @@ pub body_without : (text : Declared) (symbols : List Symbol) (is : List (Name ×
     → linked_function_body text symbols is xs ≡ linked_stmts (table_of (numbers_of text) symbols []) xs
 body_without text symbols [] xs h = refl
 body_without text symbols (i ∷ is) xs h = absurd (cc)
+
+-- three parts as one
+by_parts : {A B C D : Type 0} (f : A → B → C → D) (o : Option A) (p : Option B) (b : Option C)
+    → three f o p b ≡ option_map (λ (x : A × B × C). f x.0 x.1 x.2) (three (λ x y z. (x, y, z)) o p b)
+by_parts f None p b = refl
+by_parts f (Some x) None b = refl
+by_parts f (Some x) (Some y) None = refl
+by_parts f (Some x) (Some y) (Some z) = refl
+
+-- a function whose body has no instances, by its parts
+pub function_by_parts : (text : Declared) (t : SimpleType) (u : OrganisationUnit)
+    → has_some (body_of_unit text u).instances ≡ false → linked_function text t u
+    ≡ option_map (λ (x : List ℕ × ℕ × SlotStmts). function_with text t u x.0 x.1 x.2)
+    (function_parts (table_of (numbers_of text) (symbols_of_function text t u) []) u)
+function_by_parts text t u h =
+    let s = symbols_of_function text t u in
+    let o = call_slots s (input_names u.blocks) in
+    let p = call_slot s u.name.name in
+    ap (three (function_with text t u) o p) (body_without text s (body_of_unit text u).instances (stmts_of u.body) h)
+    ∙ by_parts (function_with text t u) o p (linked_stmts (table_of (numbers_of text) s []) (stmts_of u.body))
 
 -- room
 whole_sites : (text : Declared) (ds : List NamedSite) → are_whole text (map of_site ds) ≡ true

@@ -1,20 +1,24 @@
 -- What units and instances of programs add to a linked text.
 use Rattle.std.specs.Prelude.{◌≡◌, ℕ, ◌+◌, ◌≤◌, List, [], ◌∷◌, ◌++◌, map, Bool, true, not, ◌&&◌, Option, Some, None}
-use Rattle.std.specs.Prelude.{is_none, option_map}
+use Rattle.std.specs.Prelude.{is_none, option_and_then, option_map}
 use Rattle.std.specs.List.{list_all, list_any}
 use Rattle.st_words.specs.declared.limits.TheConstants.{MAX_PATHS}
 use Rattle.st_words.specs.declared.path.Owner.{Owner}
 use Rattle.st_words.specs.Paths.{same_owner}
 use Rattle.st_trees.specs.declared.unit.UnitSort.{UnitSort}
 use Rattle.st_trees.specs.declared.unit.UnitSort.TheVariants as units
+use Rattle.st_trees.specs.Statements.{stmts_of}
 use Rattle.st_trees.specs.Units.{OrganisationUnit}
 use Rattle.st_types.specs.NameTypes.{Declared, unit_named}
 use Rattle.st_types.specs.Scopes.{Name}
 use Rattle.st_layouts.specs.LayoutVariables.{Owned}
+use Rattle.st_layouts.specs.Libraries.{input_names}
 use Rattle.layout.specs.Instances.{OwnedProgram, variables_of_programs}
 use Rattle.layout.specs.Layouts.{layout_size}
 use Rattle.slot_trees.specs.SlotTrees.{SlotFunction, SlotStmts}
-use Rattle.slot_trees.specs.TextLinks.{linked_program}
+use Rattle.slot_trees.specs.LinkedStatements.{linked_stmts}
+use Rattle.slot_trees.specs.Tables.{Table}
+use Rattle.slot_trees.specs.TextLinks.{call_slot, call_slots, linked_program}
 use Rattle.slot_bodies.specs.StatementViews.{slot_stmts_view}
 use Rattle.slot_bodies.specs.LibraryViews.{slot_library_view}
 use Rattle.text_links.specs.FirstSlots.{slots_taken}
@@ -28,6 +32,13 @@ linked_text_view l = record {
   library = slot_library_view l.library;
   programs = map (λ b. slot_stmts_view b.items) l.programs.items;
 }
+
+-- the slots of a function's inputs and of its result, and its body, by what the names in it stand for
+abbrev pub function_parts : Table → OrganisationUnit → Option (List ℕ × ℕ × SlotStmts)
+function_parts t u =
+    option_and_then (λ inputs. option_and_then (λ result. option_map (λ body. (inputs, result, body))
+    (linked_stmts t (stmts_of u.body))) (call_slot t.symbols u.name.name))
+    (call_slots t.symbols (input_names u.blocks))
 
 abbrev pub alone : {A : Type 0} → Option A → Option (List A)
 alone o = option_map (λ x. x ∷ []) o

@@ -4,25 +4,55 @@ ghost use Rattle.std.specs.Prelude.{◌≡◌, ◌≤◌, ◌+◌, List, ℕ, No
 ghost use Rattle.st_words.specs.declared.limits.TheConstants.{MAX_PATHS};
 ghost use Rattle.st_words.specs.declared.path.Owner.{Owner};
 ghost use Rattle.st_trees.specs.UnitViews.{unit_view};
+ghost use Rattle.st_types.specs.Bodies.{externals_in};
 ghost use Rattle.st_types.specs.NameTypes.{Declared};
 ghost use Rattle.st_layouts.specs.LayoutVariables.{Owned};
 ghost use Rattle.layout.specs.Sizes.{cut};
+ghost use Rattle.slot_trees.specs.Tables.{Table};
 ghost use Rattle.slot_trees.specs.TextLinks.{linked_program};
+ghost use Rattle.slot_bodies.specs.ExpressionViews.{anchor_view};
 ghost use Rattle.slot_bodies.specs.StatementViews.{slot_stmts_view};
+ghost use Rattle.st_link.specs.BodyTables.{ServesBody};
+ghost use Rattle.st_link.specs.Rooms.{first_slot};
 ghost use Rattle.text_links.specs.FirstSlots.{slots_taken};
 ghost use Rattle.text_links.specs.KeptTexts.{kept_block};
 ghost use Rattle.text_links.specs.LinkVariables.{LinkVariable, are_whole, variables_of_blocks};
-ghost use Rattle.text_links.specs.Tables.{AreGlobals, BeginAt, ServesLinks};
+ghost use Rattle.text_links.specs.Tables.{AreGlobals, BeginAt, IsUnitTable, ServesLinks};
 
 use crate::declared_names::externals_of;
 use crate::text_tables::TextTables;
-use crate::unit_tables::unit_table;
+use crate::unit_tables::{UnitTable, unit_table};
 use crate::variables::variables_of_blocks;
 use slot_bodies::{Anchor, SlotStmt};
 use st_link::{LinkError, link_statements};
 use st_trees::Unit;
 use st_words::limits::MAX_PATHS;
-use std::alloc::Global;
+use std::alloc::{AllocError, Global};
+
+/// The table of the body of a block or a program, whose own variables begin there.
+fn own_table<'t, 'a>(
+    alloc: Global,
+    tables: &'t TextTables<'a>,
+    unit: &'a Unit,
+    base: Anchor,
+) -> Result<UnitTable<'t, 'a>, AllocError>
+    requires { first_slot (anchor_view base) ≤ MAX_PATHS + 1 }
+    ensures slots { IfOk result (λ made. (text : Declared) (globals : List LinkVariable)
+        → ServesLinks tables.now text globals
+        → are_whole text (variables_of_blocks (unit_view unit.now).blocks) ≡ true
+        → made.slots ≡ cut (slots_taken text (variables_of_blocks (unit_view unit.now).blocks))) }
+    ensures serves { IfOk result (λ made. (text : Declared) (globals : List LinkVariable) (t : Table)
+        → ServesLinks tables.now text globals
+        → are_whole text (variables_of_blocks (unit_view unit.now).blocks) ≡ true → first_slot (anchor_view base)
+        + slots_taken text (variables_of_blocks (unit_view unit.now).blocks) ≤ MAX_PATHS
+        → IsUnitTable text globals (externals_in (unit_view unit.now).blocks) (anchor_view base)
+        (variables_of_blocks (unit_view unit.now).blocks) (variables_of_blocks (unit_view unit.now).blocks) t
+        → ServesBody made.table text t) }
+{
+    let variables = variables_of_blocks(alloc, &unit.blocks)?;
+    let externals = externals_of(alloc, &unit.blocks)?;
+    unit_table(alloc, tables, &externals, base, &variables, &variables)
+}
 
 /// A function block; None where its members are more than a layout has room for.
 pub fn link_block<'a>(
@@ -39,10 +69,7 @@ pub fn link_block<'a>(
         → are_whole text (variables_of_blocks (unit_view unit.now).blocks) ≡ true
         → kept_block text layout (unit_view unit.now) ≡ None) }
 {
-    let variables = variables_of_blocks(alloc, &unit.blocks)?;
-    let externals = externals_of(alloc, &unit.blocks)?;
-    let first = Anchor::Own(0);
-    let made = unit_table(alloc, tables, &externals, first, &variables, &variables)?;
+    let made = own_table(alloc, tables, unit, Anchor::Own(0))?;
     if made.slots > MAX_PATHS {
         return Ok(None);
     }
@@ -81,10 +108,7 @@ pub fn link_program<'a>(
         → BeginAt text layout owner first (variables_of_blocks (unit_view unit.now).blocks)
         → linked_program text layout owner (unit_view unit.now) ≡ None) }
 {
-    let variables = variables_of_blocks(alloc, &unit.blocks)?;
-    let externals = externals_of(alloc, &unit.blocks)?;
-    let base = Anchor::Absolute(first);
-    let made = unit_table(alloc, tables, &externals, base, &variables, &variables)?;
+    let made = own_table(alloc, tables, unit, Anchor::Absolute(first))?;
     let body = link_statements(alloc, &made.table, &unit.body)?;
     let slots = made.slots;
     Ok(LinkedProgram { body, slots })

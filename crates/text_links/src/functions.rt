@@ -1,28 +1,32 @@
 //! Functions linked.
 
-ghost use Rattle.std.specs.Prelude.{◌≡◌, ◌≤◌, ◌∷◌, List, None, Some, map, option_map, IfErr, IfOk, true};
+ghost use Rattle.std.specs.Prelude.{◌≡◌, ◌≤◌, ◌∷◌, [], List, false, None, Some, map, option_map, IfErr, IfOk, true};
 ghost use Rattle.st_words.specs.declared.limits.TheConstants.{MAX_PATHS};
 ghost use Rattle.st_trees.specs.UnitViews.{unit_view};
 ghost use Rattle.st_types.specs.NameTypes.{Declared};
-ghost use Rattle.st_layouts.specs.Libraries.{fresh_values};
-ghost use Rattle.slot_trees.specs.LinkedTexts.{values_of_fresh};
+ghost use Rattle.st_layouts.specs.Libraries.{body_of_unit, fresh_values};
+ghost use Rattle.slot_trees.specs.LinkedTexts.{table_of, values_of_fresh};
 ghost use Rattle.slot_trees.specs.TextLinks.{call_slot, call_slots, linked_function, sites_of_call};
+ghost use Rattle.slot_trees.specs.TextLinks.{symbols_of_function};
+ghost use Rattle.slot_trees.specs.TextNumbers.{numbers_of};
 ghost use Rattle.slot_trees.specs.Tables.{Table};
 ghost use Rattle.slot_bodies.specs.LibraryViews.{slot_function_view};
+ghost use Rattle.slot_bodies.specs.StatementViews.{slot_stmts_view};
 ghost use Rattle.st_link.specs.BodyTables.{ServesBody};
 ghost use Rattle.text_links.specs.FirstSlots.{slots_taken};
 ghost use Rattle.text_links.specs.CalledFunctions.{is_called};
 ghost use Rattle.text_links.specs.KeptTexts.{kept_function};
+ghost use Rattle.text_links.specs.Linked.{function_parts};
 ghost use Rattle.text_links.specs.LinkVariables.{LinkVariable, are_whole, result_of, variables_of_blocks};
-ghost use Rattle.text_links.specs.Tables.{ServesLinks};
+ghost use Rattle.text_links.specs.Tables.{ServesLinks, has_some};
 
 use crate::called_functions::CalledFunctions;
 use crate::declared_names::inputs_of;
 use crate::text_tables::TextTables;
-use crate::unit_tables::unit_table;
+use crate::unit_tables::{UnitTable, unit_table};
 use crate::variables::{variables_of_blocks, variables_of_function};
 use layout::{LayoutError, fresh_values};
-use slot_bodies::{Anchor, SlotFunction};
+use slot_bodies::{Anchor, SlotFunction, SlotStmt};
 use st_link::{BodyTable, LinkError, link_control, link_statements};
 use st_trees::{SimpleType, Unit};
 use st_words::{Identifier, Value};
@@ -59,6 +63,60 @@ fn link_slots(
     Ok(slots)
 }
 
+/// The table of a function's body, whose variables begin at its call's first slot; an error where one is an instance.
+fn function_table<'t, 'a>(
+    alloc: Global,
+    tables: &'t TextTables<'a>,
+    unit: &'a Unit,
+    returned: &'a SimpleType,
+) -> Result<UnitTable<'t, 'a>, LinkError>
+    ensures serves { IfOk result (λ made. (text : Declared) (globals : List LinkVariable)
+        → ServesLinks tables.now text globals → are_whole text
+        (result_of unit.now.name.name returned.now ∷ variables_of_blocks (unit_view unit.now).blocks) ≡ true
+        → slots_taken text
+        (result_of unit.now.name.name returned.now ∷ variables_of_blocks (unit_view unit.now).blocks) ≤ MAX_PATHS
+        → ServesBody made.table text (table_of (numbers_of text)
+        (symbols_of_function text returned.now (unit_view unit.now)) [])) }
+    ensures without { IfOk result (λ made. (text : Declared) (globals : List LinkVariable)
+        → ServesLinks tables.now text globals
+        → has_some (body_of_unit text (unit_view unit.now)).instances ≡ false) }
+    ensures none { IfErr result (λ e. e ≡ LinkError.NotThere → (text : Declared) (globals : List LinkVariable)
+        → ServesLinks tables.now text globals
+        → has_some (body_of_unit text (unit_view unit.now)).instances ≡ true) }
+{
+    let own = variables_of_blocks(alloc, &unit.blocks)?;
+    if tables.has_instances(&own) {
+        return Err(LinkError::NotThere);
+    }
+    let variables = variables_of_function(alloc, &unit.name.name, returned, &unit.blocks)?;
+    Ok(unit_table(alloc, tables, &[], Anchor::Own(0), &variables, &[])?)
+}
+
+/// The slots of a function's inputs and of its result, and its body.
+struct Parts {
+    inputs: Vec<usize>,
+    result: usize,
+    body: Vec<SlotStmt>,
+}
+
+/// What of a function the names of its body are needed for.
+fn link_parts(alloc: Global, table: &BodyTable, unit: &Unit) -> Result<Parts, LinkError>
+    ensures linked { IfOk result (λ parts. (text : Declared) (t : Table) → ServesBody table.now text t
+        → function_parts t (unit_view unit.now)
+        ≡ Some (parts.inputs.items, parts.result, slot_stmts_view parts.body.items)) }
+    ensures none { IfErr result (λ e. e ≡ LinkError.NotThere → (text : Declared) (t : Table)
+        → ServesBody table.now text t → function_parts t (unit_view unit.now) ≡ None) }
+{
+    let inputs = link_slots(alloc, table, &inputs_of(alloc, &unit.blocks)?)?;
+    let result = link_slot(table, &unit.name)?;
+    let body = link_statements(alloc, table, &unit.body)?;
+    Ok(Parts {
+        inputs,
+        result,
+        body,
+    })
+}
+
 /// A function whose calls begin with these values.
 fn link_with<'a>(
     alloc: Global,
@@ -81,18 +139,17 @@ fn link_with<'a>(
         (result_of unit.now.name.name returned.now ∷ variables_of_blocks (unit_view unit.now).blocks) ≤ MAX_PATHS
         → linked_function text returned.now (unit_view unit.now) ≡ None) }
 {
-    let own = variables_of_blocks(alloc, &unit.blocks)?;
-    if tables.has_instances(&own) {
-        return Err(LinkError::NotThere);
-    }
-    let variables = variables_of_function(alloc, &unit.name.name, returned, &unit.blocks)?;
-    let made = unit_table(alloc, tables, &[], Anchor::Own(0), &variables, &[])?;
-    let inputs = inputs_of(alloc, &unit.blocks)?;
+    let made = function_table(alloc, tables, unit, returned)?;
+    let Parts {
+        inputs,
+        result,
+        body,
+    } = link_parts(alloc, &made.table, unit)?;
     Ok(SlotFunction {
         fresh,
-        inputs: link_slots(alloc, &made.table, &inputs)?,
-        result: link_slot(&made.table, &unit.name)?,
-        body: link_statements(alloc, &made.table, &unit.body)?,
+        inputs,
+        result,
+        body,
     })
 }
 

@@ -1,18 +1,27 @@
 //! Numbers of functions and blocks: their positions among those of the text.
 
 ghost use Rattle.std.specs.Prelude.{◌≡◌, List, ℕ, map, IfOk};
+ghost use Rattle.st_trees.specs.SourceViews.{source_view};
 ghost use Rattle.st_trees.specs.UnitViews.{unit_view};
+ghost use Rattle.st_types.specs.NameTypes.{declared_in};
 ghost use Rattle.st_names.specs.Found.{found};
 ghost use Rattle.slot_trees.specs.Tables.{named_in};
 ghost use Rattle.slot_trees.specs.TextNumbers.{block_names, function_names, numbered_from};
 
+use st_decl::units_in;
 use st_names::Index;
-use st_trees::{Unit, UnitSort};
+use st_trees::{Source, Unit, UnitSort};
 use st_words::Name;
 use std::alloc::{AllocError, Global};
 
+/// The numbers of a text's functions and of its blocks.
+pub struct Numbers<'a> {
+    pub functions: Index<'a, usize>,
+    pub blocks: Index<'a, usize>,
+}
+
 /// The names of functions, in order.
-pub fn function_names<'a>(alloc: Global, units: &[&'a Unit]) -> Result<Vec<&'a Name>, AllocError>
+fn function_names<'a>(alloc: Global, units: &[&'a Unit]) -> Result<Vec<&'a Name>, AllocError>
     ensures { IfOk result (λ names. map (λ x. x.now) names.items
         ≡ function_names (map (λ u. unit_view u.now) units.now)) }
 {
@@ -26,7 +35,7 @@ pub fn function_names<'a>(alloc: Global, units: &[&'a Unit]) -> Result<Vec<&'a N
 }
 
 /// The names of blocks, in order.
-pub fn block_names<'a>(alloc: Global, units: &[&'a Unit]) -> Result<Vec<&'a Name>, AllocError>
+fn block_names<'a>(alloc: Global, units: &[&'a Unit]) -> Result<Vec<&'a Name>, AllocError>
     ensures { IfOk result (λ names. map (λ x. x.now) names.items
         ≡ block_names (map (λ u. unit_view u.now) units.now)) }
 {
@@ -40,7 +49,7 @@ pub fn block_names<'a>(alloc: Global, units: &[&'a Unit]) -> Result<Vec<&'a Name
 }
 
 /// The position of each name; of several of one name the first.
-pub fn numbered<'a>(alloc: Global, names: &[&'a Name]) -> Result<Index<'a, usize>, AllocError>
+fn numbered<'a>(alloc: Global, names: &[&'a Name]) -> Result<Index<'a, usize>, AllocError>
     ensures { IfOk result (λ numbers. (x : List ℕ) → found numbers x
         ≡ named_in (numbered_from 0 (map (λ y. y.now) names.now)) x) }
 {
@@ -49,4 +58,17 @@ pub fn numbered<'a>(alloc: Global, names: &[&'a Name]) -> Result<Index<'a, usize
         numbers.add(name, number)?;
     }
     Ok(numbers)
+}
+
+/// The numbers of a text's functions and of its blocks.
+pub fn numbers_in<'a>(alloc: Global, source: &'a Source) -> Result<Numbers<'a>, AllocError>
+    ensures functions { IfOk result (λ numbers. (x : List ℕ) → found numbers.functions x
+        ≡ named_in (numbered_from 0 (function_names (declared_in (source_view source.now)).units)) x) }
+    ensures blocks { IfOk result (λ numbers. (x : List ℕ) → found numbers.blocks x
+        ≡ named_in (numbered_from 0 (block_names (declared_in (source_view source.now)).units)) x) }
+{
+    let units = units_in(alloc, source)?;
+    let functions = numbered(alloc, &function_names(alloc, &units)?)?;
+    let blocks = numbered(alloc, &block_names(alloc, &units)?)?;
+    Ok(Numbers { functions, blocks })
 }

@@ -8,24 +8,27 @@ ghost use Rattle.st_trees.specs.declared.data_type.VariableType.TheVariants as t
 ghost use Rattle.st_types.specs.NameTypes.{Declared, declared_in, unit_named};
 ghost use Rattle.st_types.specs.Scopes.{block_named};
 ghost use Rattle.st_types.specs.StandardBlocks.{block_of};
+ghost use Rattle.st_names.specs.Agreeing.{Agree};
 ghost use Rattle.st_names.specs.Found.{found};
 ghost use Rattle.st_names.specs.PlaceTypes.{place_type_view};
 ghost use Rattle.st_layouts.specs.Types.{instance_of, own_block_type};
 ghost use Rattle.layout.specs.Sizes.{cut};
+ghost use Rattle.slot_trees.specs.SlotTrees.{absolute};
 ghost use Rattle.slot_trees.specs.Tables.{named_in};
 ghost use Rattle.slot_trees.specs.TextNumbers.{numbers_of};
 ghost use Rattle.slot_bodies.specs.StatementViews.{block_code_view};
-ghost use Rattle.text_links.specs.FirstSlots.{slots_taken};
+ghost use Rattle.shape_tables.specs.Shapes.{ServesShapes};
+ghost use Rattle.st_link.specs.BodyTables.{IsSymbol};
+ghost use Rattle.text_links.specs.FirstSlots.{slots_taken, symbol_among};
 ghost use Rattle.text_links.specs.LinkVariables.{LinkVariable, are_whole, variable_view};
 ghost use Rattle.text_links.specs.Tables.{IsCode, ServesLinks, has_some, instances_in};
 
-use crate::numbers::{block_names, function_names, numbered};
+use crate::numbers::{Numbers, numbers_in};
 use crate::symbols::add_variables;
 use crate::variables::Variable;
 use layout::Types;
 use shape_tables::ShapeTables;
 use slot_bodies::{Anchor, BlockCode};
-use st_decl::units_in;
 use st_link::LinkSymbol;
 use st_names::{Index, PlaceType, TextNames, standard_block};
 use st_trees::{SimpleType, Source, UnitSort};
@@ -58,6 +61,33 @@ impl Drop for TextTables<'_> {
     }
 }
 
+/// What the names of globals stand for, and how many slots the globals take; 4,097 where they are more than 4,096.
+struct Globals<'a> {
+    symbols: Index<'a, LinkSymbol<'a>>,
+    slots: usize,
+}
+
+/// The globals of a text, which stand at the front of its layout.
+fn globals_at<'a>(
+    alloc: Global,
+    shapes: &ShapeTables<'a>,
+    variables: &[Variable<'a>],
+) -> Result<Globals<'a>, AllocError>
+    ensures symbols { IfOk result (λ globals. (text : Declared) (x : List ℕ) → ServesShapes shapes.now text
+        → are_whole text (map variable_view variables.now) ≡ true
+        → slots_taken text (map variable_view variables.now) ≤ MAX_PATHS → Agree (IsSymbol text)
+        (found globals.symbols x) (symbol_among text (absolute 0) (map variable_view variables.now) x)) }
+    ensures slots { IfOk result (λ globals. (text : Declared) → ServesShapes shapes.now text
+        → are_whole text (map variable_view variables.now) ≡ true
+        → globals.slots ≡ cut (slots_taken text (map variable_view variables.now))) }
+{
+    let mut symbols = Index::new(alloc);
+    let hidden = Index::new(alloc);
+    let first = Anchor::Absolute(0);
+    let slots = add_variables(shapes, &mut symbols, &hidden, first, variables)?;
+    Ok(Globals { symbols, slots })
+}
+
 impl<'a> TextTables<'a> {
     /// The tables of a text with these globals.
     pub fn new(
@@ -74,20 +104,19 @@ impl<'a> TextTables<'a> {
             → tables.global_slots
             ≡ cut (slots_taken (declared_in (source_view source.now)) (map variable_view variables.now))) }
     {
-        let units = units_in(alloc, source)?;
         let shapes = ShapeTables::new(alloc, source)?;
-        let mut globals = Index::new(alloc);
-        let hidden = Index::new(alloc);
-        let first = Anchor::Absolute(0);
-        let global_slots = add_variables(&shapes, &mut globals, &hidden, first, variables)?;
+        let names = TextNames::new(alloc, source)?;
+        let types = Types::new(alloc, source)?;
+        let Globals { symbols, slots } = globals_at(alloc, &shapes, variables)?;
+        let Numbers { functions, blocks } = numbers_in(alloc, source)?;
         Ok(TextTables {
-            names: TextNames::new(alloc, source)?,
-            types: Types::new(alloc, source)?,
+            names,
+            types,
             shapes,
-            functions: numbered(alloc, &function_names(alloc, &units)?)?,
-            blocks: numbered(alloc, &block_names(alloc, &units)?)?,
-            globals,
-            global_slots,
+            functions,
+            blocks,
+            globals: symbols,
+            global_slots: slots,
         })
     }
 
