@@ -5,6 +5,7 @@ ghost use Rattle.std.specs.List.{flat_map};
 ghost use Rattle.st_types.specs.Operators.{number_of};
 ghost use Rattle.st_statics.specs.TypeRules.{elements_of_array, has_wrong_bounds, wrong_bounds};
 
+use crate::places::push_in_case;
 use st_statics::limits::MAX_ELEMENTS;
 use st_trees::ArrayType;
 use st_types::number_of;
@@ -46,9 +47,7 @@ pub fn push_wrong_bounds(places: &mut Vec<usize>, arrays: &[&ArrayType]) -> Resu
         ++ flat_map wrong_bounds (map (λ a. a.now) arrays.now)) }
 {
     for array in arrays {
-        if has_wrong_bounds(array) {
-            places.push(array.lower.place)?;
-        }
+        push_in_case(places, has_wrong_bounds(array), array.lower.place)?;
     }
     Ok(())
 }

@@ -3,7 +3,7 @@
 ghost use Rattle.std.specs.Prelude.{◌≡◌, ◌++◌, ℕ, List, map, IfOk};
 ghost use Rattle.std.specs.List.{flat_map};
 ghost use Rattle.st_trees.specs.SourceViews.{source_view};
-ghost use Rattle.st_types.specs.NameTypes.{declared_in};
+ghost use Rattle.st_types.specs.NameTypes.{Declared, declared_in};
 ghost use Rattle.st_statics.specs.declared.rule.Rule.TheVariants.{DeclaredTwice, TooDeep, WrongBounds, RetainedAddress};
 ghost use Rattle.st_statics.specs.DeclaredTypes.{declarings_in, arrays_in, unnamed_arrays_in};
 ghost use Rattle.st_statics.specs.Faults.{breaking, Finds};
@@ -13,8 +13,10 @@ ghost use Rattle.st_statics.specs.TypeRules.{wrong_bounds, retained_addresses_of
 ghost use Rattle.st_statics.specs.InitialRules.{too_long};
 ghost use Rattle.st_statics.specs.Rules.{starts_in, wrong_declarations};
 ghost use Rattle.st_names.specs.Searches.{FindsPlace};
+ghost use Rattle.st_names.specs.Texts.{ServesText};
 ghost use Rattle.st_decl.specs.DeclaringViews.{declaring_view};
 ghost use Rattle.st_decl.specs.Judgements.{Judges};
+ghost use Rattle.st_decl.specs.StartViews.{start_view};
 
 use crate::arrays::{named_arrays, unnamed_arrays};
 use crate::bounds::push_wrong_bounds;
@@ -23,7 +25,7 @@ use crate::elements::types_in;
 use crate::judging::{CheckError, broken_at};
 use crate::long_lists::push_long_lists;
 use crate::retained::retained_addresses;
-use crate::starts::starts_of;
+use crate::starts::{Start, starts_of};
 use crate::too_deep::first_too_deep;
 use crate::twice_declared::declared_twice;
 use st_names::{FieldNames, TextNames};
@@ -54,6 +56,36 @@ fn first_wrong_bounds(
     Ok(first_of(&places))
 }
 
+/// The initial values of a text with these declarations.
+fn starts_in<'a>(
+    alloc: Global,
+    source: &'a Source,
+    names: &TextNames<'a>,
+    declarings: &[Declaring<'a>],
+) -> Result<Vec<Start<'a>>, AllocError>
+    requires listed { map declaring_view declarings.now ≡ declarings_in (source_view source.now) }
+    requires names { ServesText names.now (declared_in (source_view source.now)) }
+    ensures { IfOk result (λ starts. map start_view starts.items ≡ starts_in (source_view source.now)) }
+{
+    let types = types_in(alloc, source)?;
+    let fields = FieldNames::new(alloc, &types)?;
+    starts_of(alloc, names, &fields, declarings)
+}
+
+/// A place at which one of these lists has more elements than its array.
+fn first_too_long<'a>(
+    alloc: Global,
+    names: &TextNames<'a>,
+    starts: &[Start<'a>],
+) -> Result<Option<usize>, AllocError>
+    ensures { IfOk result (λ place. (text : Declared) → ServesText names.now text
+        → FindsPlace (flat_map (too_long text) (map start_view starts.now)) place) }
+{
+    let mut places = Vec::new(alloc);
+    push_long_lists(&mut places, names, starts)?;
+    Ok(first_of(&places))
+}
+
 /// A place at which a list has more elements than its array.
 fn first_long_list<'a>(
     alloc: Global,
@@ -64,13 +96,9 @@ fn first_long_list<'a>(
     ensures { IfOk result (λ place. FindsPlace
         (flat_map (too_long (declared_in (source_view source.now))) (starts_in (source_view source.now))) place) }
 {
-    let types = types_in(alloc, source)?;
     let names = TextNames::new(alloc, source)?;
-    let fields = FieldNames::new(alloc, &types)?;
-    let starts = starts_of(alloc, &names, &fields, declarings)?;
-    let mut places = Vec::new(alloc);
-    push_long_lists(&mut places, &names, &starts)?;
-    Ok(first_of(&places))
+    let starts = starts_in(alloc, source, &names, declarings)?;
+    first_too_long(alloc, &names, &starts)
 }
 
 /// An array with wrong bounds, or a list that is too long for its array (C8).

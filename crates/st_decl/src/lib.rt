@@ -15,6 +15,7 @@ mod long_lists;
 mod names;
 mod names_of;
 mod parts;
+mod places;
 mod retained;
 mod scopes;
 mod standard;

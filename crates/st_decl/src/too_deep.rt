@@ -5,7 +5,7 @@ ghost use Rattle.std.specs.List.{flat_map};
 ghost use Rattle.st_trees.specs.DeclarationViews.{type_declaration_view};
 ghost use Rattle.st_trees.specs.UnitViews.{unit_view};
 ghost use Rattle.st_trees.specs.SourceViews.{source_view};
-ghost use Rattle.st_types.specs.NameTypes.{Declared};
+ghost use Rattle.st_types.specs.NameTypes.{Declared, declared_in, types_in, units_in};
 ghost use Rattle.st_statics.specs.DeclaredTypes.{unnamed_arrays_in};
 ghost use Rattle.st_statics.specs.Faults.{in_case};
 ghost use Rattle.st_statics.specs.Containment as rules;
@@ -13,13 +13,15 @@ ghost use Rattle.st_statics.specs.Containment.{is_too_deep, is_wrong_unit, too_d
 ghost use Rattle.st_names.specs.Found.{found};
 ghost use Rattle.st_names.specs.Searches.{FindsPlace};
 ghost use Rattle.st_decl.specs.Places.{first};
-ghost use Rattle.st_decl.specs.Walks.{is_deep};
+ghost use Rattle.st_decl.specs.Parts.{link_of, node_parts};
+ghost use Rattle.st_decl.specs.Walks.{is_deep, AreDepths};
 ghost use Rattle.st_decl.specs.Numbered.{node_places, AreJudged};
 
 use crate::depths::{Depths, Mark, Seen, depths_of, seen_of};
 use crate::elements::{types_in, units_in};
 use crate::links::{Link, link_of, links_in, numbers_of};
 use crate::parts::Part;
+use crate::places::push_in_case;
 use st_names::{Index, TextNames};
 use st_statics::limits::MAX_TYPE_DEPTH;
 use st_trees::{ArrayType, Source, TypeDeclaration, Unit, UnitSort};
@@ -55,9 +57,8 @@ fn push_types(
         (map (λ t. type_declaration_view t.now) types.now)) }
 {
     for declaration in types {
-        if is_deep_name(numbers, marks, &declaration.name.name) {
-            places.push(declaration.name.place)?;
-        }
+        let deep = is_deep_name(numbers, marks, &declaration.name.name);
+        push_in_case(places, deep, declaration.name.place)?;
     }
     Ok(())
 }
@@ -85,9 +86,7 @@ fn push_units(
         (map (λ u. unit_view u.now) units.now)) }
 {
     for unit in units {
-        if is_wrong_unit(numbers, marks, unit) {
-            places.push(unit.name.place)?;
-        }
+        push_in_case(places, is_wrong_unit(numbers, marks, unit), unit.name.place)?;
     }
     Ok(())
 }
@@ -103,9 +102,8 @@ fn push_arrays(
         ++ flat_map (too_deep_array text) (map (λ a. a.now) arrays.now)) }
 {
     for array in arrays {
-        if is_deep(marks, link_of(numbers, Part::Row(&array.element))) {
-            places.push(array.place)?;
-        }
+        let deep = is_deep(marks, link_of(numbers, Part::Row(&array.element)));
+        push_in_case(places, deep, array.place)?;
     }
     Ok(())
 }
@@ -169,6 +167,44 @@ fn first_deep(
     Ok(places.first().copied())
 }
 
+/// The depths of a text's types and units, by the links that their parts make.
+fn depths_in(
+    alloc: Global,
+    source: &Source,
+    numbers: &Index<usize>,
+    types: &[&TypeDeclaration],
+    units: &[&Unit],
+) -> Result<Depths, AllocError>
+    requires types { map (λ t. type_declaration_view t.now) types.now ≡ types_in (source_view source.now) }
+    requires units { map (λ u. unit_view u.now) units.now ≡ units_in (source_view source.now) }
+    ensures { IfOk result
+        (AreDepths (map (map (link_of (found numbers.now))) (node_parts (declared_in (source_view source.now))))) }
+{
+    let names = TextNames::new(alloc, source)?;
+    let graph = links_in(alloc, &names, numbers, types, units)?;
+    depths_of(alloc, &graph)
+}
+
+/// A place at which a type or unit of these contains itself or is too deep, or an array without a name is.
+fn first_too_deep_of(
+    alloc: Global,
+    source: &Source,
+    types: &[&TypeDeclaration],
+    units: &[&Unit],
+    arrays: &[&ArrayType],
+) -> Result<Option<usize>, AllocError>
+    requires types { map (λ t. type_declaration_view t.now) types.now ≡ types_in (source_view source.now) }
+    requires units { map (λ u. unit_view u.now) units.now ≡ units_in (source_view source.now) }
+    requires arrays { map (λ a. a.now) arrays.now ≡ unnamed_arrays_in (source_view source.now) }
+    ensures { IfOk result (FindsPlace (too_deep (source_view source.now))) }
+{
+    let numbers = numbers_of(alloc, types, units)?;
+    match depths_in(alloc, source, &numbers, types, units)? {
+        Depths::Cycle(node) => place_of(alloc, types, units, node),
+        Depths::Known(marks) => first_deep(alloc, &numbers, &marks, types, units, arrays),
+    }
+}
+
 /// A place at which a type or unit contains itself or is too deep, or an array without a name is (C6).
 pub fn first_too_deep(
     alloc: Global,
@@ -180,11 +216,5 @@ pub fn first_too_deep(
 {
     let types = types_in(alloc, source)?;
     let units = units_in(alloc, source)?;
-    let names = TextNames::new(alloc, source)?;
-    let numbers = numbers_of(alloc, &types, &units)?;
-    let graph = links_in(alloc, &names, &numbers, &types, &units)?;
-    match depths_of(alloc, &graph)? {
-        Depths::Cycle(node) => place_of(alloc, &types, &units, node),
-        Depths::Known(marks) => first_deep(alloc, &numbers, &marks, &types, &units, arrays),
-    }
+    first_too_deep_of(alloc, source, &types, &units, arrays)
 }

@@ -1,0 +1,11 @@
+use Rattle.std.proofs.Common.{rules}
+use Rattle.st_decl.proofs.PushLemmas.{pushed_turn, pushed_all}
+use Rattle.st_decl.proofs.names_of.push_declared.Goals as goal
+
+pub loop-declaration-preserved : goal.loop-declaration-preserved
+loop-declaration-preserved c =
+    pushed_turn _ _ _ _ _ _ _ _ c.loop-declaration-test.true c.declaration-item.is
+    c.loop-declaration.invariant (search rules)
+
+pub returns : goal.returns
+returns c = pushed_all _ _ _ _ _ _ c.loop-declaration-test.false c.loop-declaration.invariant
