@@ -1,7 +1,7 @@
 -- Lists of parts, resolved one by one.
-use Rattle.std.proofs.Common.{◌≡◌, ◌∙◌, sym, ap, refl, ℕ, ◌+◌, ◌<◌, List, [], ◌∷◌, ◌++◌, map, drop, length, Option}
+use Rattle.std.proofs.Common.{◌≡◌, ◌∙◌, sym, ap, refl, ℕ, ◌+◌, ◌<◌, ◌≤◌, List, [], ◌∷◌, ◌++◌, map, drop, length, Option}
 use Rattle.std.proofs.Common.{append_assoc, slice_index_or}
-use Rattle.std.proofs.lemmas.List.{drop_more, map-append}
+use Rattle.std.proofs.lemmas.List.{drop_more, drop_all, append-nil, map-append}
 use Rattle.st_words.specs.declared.kind.Kind.{Kind}
 use Rattle.st_trees.specs.declared.data_type.VariableType.{VariableType}
 use Rattle.st_trees.specs.Expressions.{Selector, selectors_of, selector_then}
@@ -62,3 +62,37 @@ resolved_turn v f xs i x all done next new h is before pushed one =
     ap (λ ys. map v ys ++ left) pushed ∙ ap (λ ys. ys ++ left) (map-append v done (new ∷ []))
     ∙ append_assoc (map v done) (v new ∷ []) left ∙ ap (λ y. map v done ++ y ∷ left) one
     ∙ ap (λ ys. map v done ++ map f ys) (sym (left_viewed v xs i x h is)) ∙ before
+
+-- nothing is left after the last turn
+pub all_resolved : {A B : Type 0} (v : A → B) (f : B → B) (xs : List A) (i : ℕ) (all : List B) (done : List A)
+    → length xs ≤ i → map v done ++ map f (map v (drop i xs)) ≡ all → map v done ≡ all
+all_resolved v f xs i all done end whole =
+    sym (append-nil (map v done)) ∙ sym (ap (λ ys. map v done ++ map f (map v ys)) (drop_all i xs end)) ∙ whole
+
+-- the same of copies, seen by a view or as they are
+pub viewed_turn : {A B : Type 0} (v : A → B) (xs : List A) (i : ℕ) (x : A) (all : List B) (done next : List A) (new : A)
+    → i < length xs → x ≡ slice_index_or xs i x → map v done ++ map v (drop i xs) ≡ all → next ≡ done ++ new ∷ []
+    → v new ≡ v x → map v next ++ map v (drop (i + 1) xs) ≡ all
+viewed_turn v xs i x all done next new h is before pushed one =
+    let left = map v (drop (i + 1) xs) in
+    ap (λ ys. map v ys ++ left) pushed ∙ ap (λ ys. ys ++ left) (map-append v done (new ∷ []))
+    ∙ append_assoc (map v done) (v new ∷ []) left ∙ ap (λ y. map v done ++ y ∷ left) one
+    ∙ ap (λ ys. map v done ++ ys) (sym (left_viewed v xs i x h is)) ∙ before
+
+pub copied_turn : {A : Type 0} (xs : List A) (i : ℕ) (x : A) (all done next : List A) (new : A) → i < length xs
+    → x ≡ slice_index_or xs i x → done ++ drop i xs ≡ all → next ≡ done ++ new ∷ [] → new ≡ x
+    → next ++ drop (i + 1) xs ≡ all
+copied_turn xs i x all done next new h is before pushed one =
+    let left = drop (i + 1) xs in
+    ap (λ ys. ys ++ left) pushed ∙ append_assoc done (new ∷ []) left
+    ∙ ap (λ ys. done ++ ys) (ap (λ y. y ∷ left) (one ∙ is) ∙ sym (drop_more xs i x h)) ∙ before
+
+pub all_viewed : {A B : Type 0} (v : A → B) (xs : List A) (i : ℕ) (all : List B) (done : List A)
+    → length xs ≤ i → map v done ++ map v (drop i xs) ≡ all → map v done ≡ all
+all_viewed v xs i all done end whole =
+    sym (append-nil (map v done)) ∙ sym (ap (λ ys. map v done ++ map v ys) (drop_all i xs end)) ∙ whole
+
+pub all_copied : {A : Type 0} (xs : List A) (i : ℕ) (all done : List A) → length xs ≤ i → done ++ drop i xs ≡ all
+    → done ≡ all
+all_copied xs i all done end whole =
+    sym (append-nil done) ∙ sym (ap (λ ys. done ++ ys) (drop_all i xs end)) ∙ whole

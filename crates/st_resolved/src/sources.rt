@@ -1,8 +1,9 @@
 //! Whole texts.
 
 ghost use Rattle.std.specs.Prelude.{◌≡◌, IfOk, map};
+ghost use Rattle.st_trees.specs.DeclarationViews.{type_declaration_view};
 ghost use Rattle.st_trees.specs.SourceViews.{element_view, source_view};
-ghost use Rattle.st_types.specs.NameTypes.{Declared};
+ghost use Rattle.st_types.specs.NameTypes.{Declared, declared_in, types_in};
 ghost use Rattle.st_types.specs.ResolvedUnits.{resolved_element_of_text, resolved_source};
 ghost use Rattle.st_names.specs.Fields.{ServesFields};
 ghost use Rattle.st_names.specs.Tables.{ServesTables};
@@ -12,7 +13,7 @@ use crate::globals::resolved_configuration;
 use crate::units::resolved_unit;
 use st_decl::{types_in, units_in};
 use st_names::{FieldNames, TextNames, TextTables};
-use st_trees::{LibraryElement, Source};
+use st_trees::{LibraryElement, Source, TypeDeclaration};
 use std::alloc::{AllocError, Global};
 
 fn resolved_element<'a>(
@@ -56,17 +57,29 @@ fn resolved_elements<'a>(
     Ok(resolved)
 }
 
+/// What the names of a text with these types stand for.
+fn tables_of<'a>(
+    alloc: Global,
+    source: &'a Source,
+    types: &[&'a TypeDeclaration],
+) -> Result<TextTables<'a>, AllocError>
+    requires { map (λ t. type_declaration_view t.now) types.now ≡ types_in (source_view source.now) }
+    ensures { IfOk result (λ tables. ServesTables tables (declared_in (source_view source.now))) }
+{
+    let units = units_in(alloc, source)?;
+    let names = TextNames::new(alloc, source)?;
+    TextTables::new(alloc, names, types, &units)
+}
+
 /// The resolved tree of a text, whatever the text: the tree of its parse, in which each literal has its type and each
 /// name of a value of an enumerated type is a number of its type. It fails for want of memory alone; a type with more
 /// names than its rule allows may count as that.
 pub fn resolved_source(alloc: Global, source: &Source) -> Result<Source, AllocError>
     ensures { IfOk result (λ s. source_view s ≡ resolved_source (source_view source.now)) }
 {
-    let names = TextNames::new(alloc, source)?;
     let types = types_in(alloc, source)?;
-    let units = units_in(alloc, source)?;
-    let tables = TextTables::new(alloc, names, &types, &units)?;
     let fields = FieldNames::new(alloc, &types)?;
+    let tables = tables_of(alloc, source, &types)?;
     let elements = resolved_elements(alloc, &tables, &fields, &source.elements)?;
     Ok(Source { elements })
 }

@@ -12,7 +12,7 @@ use Rattle.st_statics.specs.Environments.{Environment}
 use Rattle.st_names.specs.Serving.{Serves}
 use Rattle.st_resolved.specs.declared.resolutions.Resolution.TheVariants.{Typed}
 use Rattle.st_resolved.specs.Resolutions.{Resolves, ResolvesAll}
-use Rattle.st_resolved.proofs.ListLemmas.{selectors_resolved}
+use Rattle.st_resolved.proofs.ListLemmas.{selectors_resolved, resolved_turn, all_resolved}
 use Rattle.st_resolved.proofs.ReadLemmas.{none_there, some_there, selected_resolves}
 use Rattle.st_resolved.proofs.expressions.+resolve.Goals as goal
 
@@ -110,3 +110,13 @@ resolved_variable-returns t c env serves =
     c.new.ensures ∙ ap (variable c.in_ok-copied.field-0) (ap selectors_of each ∙ selectors_resolved env.text env.unit xs)
     ∙ ap (λ x. resolved_variable env.text env.unit (variable x (selectors_of xs))) c.in_ok-copied.ensures
     ∙ sym (ap (resolved_variable env.text env.unit) seen)
+
+pub resolved_selectors-loop-selector-preserved : goal.resolved_selectors-loop-selector-preserved
+resolved_selectors-loop-selector-preserved t c env serves =
+    resolved_turn _ _ _ _ _ _ _ _ _ c.loop-selector-test.true c.selector-item.is
+    (c.loop-selector.invariant env serves) c.in_ok-push.ensures.items
+    (c.in_ok-resolved_selector.ensures env serves)
+
+pub resolved_selectors-returns : goal.resolved_selectors-returns
+resolved_selectors-returns t c env serves =
+    all_resolved _ _ _ _ _ _ c.loop-selector-test.false (c.loop-selector.invariant env serves)

@@ -7,7 +7,7 @@ use Rattle.st_trees.specs.InitialViews.{initial_view, element_view, member_view}
 use Rattle.st_types.specs.ResolvedUnits.{resolved_initial}
 use Rattle.st_names.specs.PlaceTypes.{place_type_view}
 use Rattle.st_resolved.specs.Arms.{resolved_member}
-use Rattle.st_resolved.proofs.ListLemmas.{resolved_turn}
+use Rattle.st_resolved.proofs.ListLemmas.{resolved_turn, all_resolved}
 use Rattle.st_resolved.proofs.InitialLemmas.{list_resolved, structure_resolved, member_resolved}
 use Rattle.st_resolved.proofs.initials.+resolved_initial.Goals as goal
 
@@ -44,3 +44,17 @@ resolved_members-loop-member-preserved t c text serves fields =
     c.push.new.self.items new c.loop-member-test.true c.member-item.is (at.invariant text serves fields) (search rules)
     (member_resolved text declared _ x.name c.in_ok-name.name (initial_view x.value) (initial_view c.in_ok-value.value)
     (c.field_of-field.ensures text fields) (search rules) (c.in_ok-value.ensures text serves fields))
+
+pub resolved_elements-loop-element-preserved : goal.resolved_elements-loop-element-preserved
+resolved_elements-loop-element-preserved t c text serves fields =
+    resolved_turn _ _ _ _ _ _ _ _ _ c.loop-element-test.true c.element-item.is
+    (c.loop-element.invariant text serves fields) c.in_ok-push.ensures.items
+    (c.in_ok-resolved_element.ensures text serves fields)
+
+pub resolved_elements-returns : goal.resolved_elements-returns
+resolved_elements-returns t c text serves fields =
+    all_resolved _ _ _ _ _ _ c.loop-element-test.false (c.loop-element.invariant text serves fields)
+
+pub resolved_members-returns : goal.resolved_members-returns
+resolved_members-returns t c text serves fields =
+    all_resolved _ _ _ _ _ _ c.loop-member-test.false (c.loop-member.invariant text serves fields)

@@ -9,7 +9,7 @@ use Rattle.st_trees.proofs.Bridge.{choose_view, select_view}
 use Rattle.st_types.specs.Resolution.{own_kind, resolved_expr}
 use Rattle.st_types.specs.ResolvedUnits.{resolved_stmt}
 use Rattle.st_resolved.specs.Arms.{resolved_arm, resolved_case_arm}
-use Rattle.st_resolved.proofs.ListLemmas.{resolved_turn}
+use Rattle.st_resolved.proofs.ListLemmas.{resolved_turn, all_resolved}
 use Rattle.st_resolved.proofs.StatementLemmas.{arm_resolved, case_arm_resolved, if_resolved, case_resolved}
 use Rattle.st_resolved.proofs.StatementLemmas.{for_resolved, while_resolved, repeat_resolved}
 use Rattle.st_resolved.proofs.statements.+resolved_stmt.Goals as goal
@@ -106,3 +106,20 @@ resolved_stmt-returns-in_ok-body-in-Repeat t c env serves =
     (rw c.deref-in-Repeat.ensures.value at (c.in_ok-body-in-Repeat.ensures env serves)) e _
     (c.in_ok-condition-in-Repeat.ensures env serves)
     ∙ sym (ap (resolved_stmt env.text env.unit) seen)
+
+pub resolved_stmts-loop-statement-preserved : goal.resolved_stmts-loop-statement-preserved
+resolved_stmts-loop-statement-preserved t c env serves =
+    resolved_turn _ _ _ _ _ _ _ _ _ c.loop-statement-test.true c.statement-item.is
+    (c.loop-statement.invariant env serves) c.in_ok-push.ensures.items (c.in_ok-resolved_stmt.ensures env serves)
+
+pub resolved_stmts-returns : goal.resolved_stmts-returns
+resolved_stmts-returns t c env serves =
+    all_resolved _ _ _ _ _ _ c.loop-statement-test.false (c.loop-statement.invariant env serves)
+
+pub resolved_arms-returns : goal.resolved_arms-returns
+resolved_arms-returns t c env serves =
+    all_resolved _ _ _ _ _ _ c.loop-arm-test.false (c.loop-arm.invariant env serves)
+
+pub resolved_case_arms-returns : goal.resolved_case_arms-returns
+resolved_case_arms-returns t c env serves =
+    all_resolved _ _ _ _ _ _ c.loop-arm-test.false (c.loop-arm.invariant env serves)
