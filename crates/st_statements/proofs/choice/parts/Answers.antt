@@ -3,7 +3,7 @@ use Rattle.std.proofs.lemmas.Grind.{common_steps}
 use Rattle.st_statements.specs.Parsers.{loops, turns}
 use Rattle.st_statements.specs.ArmsView.{arms_view}
 use Rattle.st_statements.specs.StatementReading.{line_at, part_at, starts_part}
-use Rattle.st_statements.proofs.CountedLoops.{one_more, no_more}
+use Rattle.st_statements.proofs.CountedLoops.{one_more, stopped, went_on, ended}
 use Rattle.st_statements.proofs.choice.parts.Goals as goal
 
 pub loop-turn-init : goal.loop-turn-init
@@ -11,12 +11,8 @@ unfolding turns
 loop-turn-init g c = first_of (search rules, grind (arith, common_steps))
 
 pub returns-then-not-starts_part : goal.returns-then-not-starts_part
-unfolding loops
 returns-then-not-starts_part g c =
-    let e = one_more (λ n. loops starts_part (part_at c.args.below (line_at c.args.below)) n
-    (arms_view c.loop-turn.arms) c.loop-turn.tokens.now) _ c.loop-turn._turn c.loop-turn-test.true
-    c.loop-turn.invariant in
-    first_of (search rules, grind (arith, common_steps))
+    stopped _ _ _ _ _ _ _ c.loop-turn-test.true c.loop-turn.invariant (search rules)
 
 pub returns-in_err-next : goal.returns-in_err-next
 unfolding loops
@@ -27,17 +23,8 @@ returns-in_err-next g c =
     first_of (search rules, grind (arith, common_steps))
 
 pub loop-turn-preserved : goal.loop-turn-preserved
-unfolding loops
 loop-turn-preserved g c =
-    let e = one_more (λ n. loops starts_part (part_at c.args.below (line_at c.args.below)) n
-    (arms_view c.loop-turn.arms) c.loop-turn.tokens.now) _ c.loop-turn._turn c.loop-turn-test.true
-    c.loop-turn.invariant in
-    first_of (search rules, grind (arith, common_steps))
+    went_on _ _ _ _ _ _ _ _ _ c.loop-turn-test.true c.loop-turn.invariant (search rules) c.in_ok-next.ensures
 
 pub returns : goal.returns
-unfolding loops
-returns g c =
-    let e = no_more (λ n. loops starts_part (part_at c.args.below (line_at c.args.below)) n
-    (arms_view c.loop-turn.arms) c.loop-turn.tokens.now) _ c.loop-turn._turn c.loop-turn-test.false
-    c.loop-turn.invariant in
-    first_of (search rules, grind (arith, common_steps))
+returns g c = ended _ _ _ _ _ _ _ c.loop-turn-test.false c.loop-turn.invariant

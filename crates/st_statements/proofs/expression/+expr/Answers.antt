@@ -6,7 +6,7 @@ use Rattle.st_statements.specs.Tokens.{is_mark}
 use Rattle.st_statements.specs.Operators.{goes_on}
 use Rattle.st_statements.specs.Parsers.{loops, turns, gather, after_comma}
 use Rattle.st_statements.specs.ExpressionReading.{expr_at, starts_selector, selector_at, selectors_at, operation_within}
-use Rattle.st_statements.proofs.CountedLoops.{one_more, no_more}
+use Rattle.st_statements.proofs.CountedLoops.{one_more, stopped, ended, gathered}
 use Rattle.st_statements.proofs.expression.+expr.Goals as goal
 
 pub operations-loop-turn-init : goal.operations-loop-turn-init
@@ -14,12 +14,8 @@ unfolding turns
 operations-loop-turn-init t c = first_of (search rules, grind (arith, common_steps))
 
 pub operations-returns-then-not-goes_on : goal.operations-returns-then-not-goes_on
-unfolding loops
 operations-returns-then-not-goes_on t c =
-    let e = one_more (λ n. loops (goes_on c.args.least) (operation_within (expr_at c.args.below) c.args.below) n
-    (expr_view c.loop-turn.left) c.loop-turn.tokens.now) _ c.loop-turn._turn c.loop-turn-test.true
-    c.loop-turn.invariant in
-    first_of (search rules, grind (arith, common_steps))
+    stopped _ _ _ _ _ _ _ c.loop-turn-test.true c.loop-turn.invariant (search rules)
 
 pub operations-returns-then-is_deeper : goal.operations-returns-then-is_deeper
 unfolding loops
@@ -46,24 +42,15 @@ operations-loop-turn-preserved t c =
     first_of (search rules, grind (arith, common_steps))
 
 pub operations-returns : goal.operations-returns
-unfolding loops
-operations-returns t c =
-    let e = no_more (λ n. loops (goes_on c.args.least) (operation_within (expr_at c.args.below) c.args.below) n
-    (expr_view c.loop-turn.left) c.loop-turn.tokens.now) _ c.loop-turn._turn c.loop-turn-test.false
-    c.loop-turn.invariant in
-    first_of (search rules, grind (arith, common_steps))
+operations-returns t c = ended _ _ _ _ _ _ _ c.loop-turn-test.false c.loop-turn.invariant
 
 pub selectors-loop-turn-init : goal.selectors-loop-turn-init
 unfolding turns selectors_at
 selectors-loop-turn-init t c = first_of (search rules, grind (arith, common_steps))
 
 pub selectors-returns-then-not-starts_selector : goal.selectors-returns-then-not-starts_selector
-unfolding loops
 selectors-returns-then-not-starts_selector t c =
-    let e = one_more (λ n. loops starts_selector (gather (selector_at (expr_at c.args.below))) n
-    (map selector_view c.loop-turn.found.items) c.loop-turn.tokens.now) _ c.loop-turn._turn c.loop-turn-test.true
-    c.loop-turn.invariant in
-    first_of (search rules, grind (arith, common_steps))
+    stopped _ _ _ _ _ _ _ c.loop-turn-test.true c.loop-turn.invariant (search rules)
 
 pub selectors-returns-in_err-next : goal.selectors-returns-in_err-next
 unfolding loops
@@ -74,32 +61,20 @@ selectors-returns-in_err-next t c =
     first_of (search rules, grind (arith, common_steps))
 
 pub selectors-loop-turn-preserved : goal.selectors-loop-turn-preserved
-unfolding loops
 selectors-loop-turn-preserved t c =
-    let e = one_more (λ n. loops starts_selector (gather (selector_at (expr_at c.args.below))) n
-    (map selector_view c.loop-turn.found.items) c.loop-turn.tokens.now) _ c.loop-turn._turn c.loop-turn-test.true
-    c.loop-turn.invariant in
-    first_of (search rules, grind (arith, common_steps))
+    gathered _ _ _ _ _ _ _ _ _ _ _ c.loop-turn-test.true c.loop-turn.invariant (search rules)
+    c.in_ok-next.ensures c.in_ok-push.ensures.items
 
 pub selectors-returns : goal.selectors-returns
-unfolding loops
-selectors-returns t c =
-    let e = no_more (λ n. loops starts_selector (gather (selector_at (expr_at c.args.below))) n
-    (map selector_view c.loop-turn.found.items) c.loop-turn.tokens.now) _ c.loop-turn._turn c.loop-turn-test.false
-    c.loop-turn.invariant in
-    first_of (search rules, grind (arith, common_steps))
+selectors-returns t c = ended _ _ _ _ _ _ _ c.loop-turn-test.false c.loop-turn.invariant
 
 pub more_arguments-loop-turn-init : goal.more_arguments-loop-turn-init
 unfolding turns
 more_arguments-loop-turn-init t c = first_of (search rules, grind (arith, common_steps))
 
 pub more_arguments-returns-then-not-begins : goal.more_arguments-returns-then-not-begins
-unfolding loops
 more_arguments-returns-then-not-begins t c =
-    let e = one_more (λ n. loops (is_mark m.Comma) (gather (after_comma (expr_at c.args.below 1))) n
-    (map expr_view c.loop-turn.found.items) c.loop-turn.tokens.now) _ c.loop-turn._turn c.loop-turn-test.true
-    c.loop-turn.invariant in
-    first_of (search rules, grind (arith, common_steps))
+    stopped _ _ _ _ _ _ _ c.loop-turn-test.true c.loop-turn.invariant (search rules)
 
 pub more_arguments-returns-in_err-next : goal.more_arguments-returns-in_err-next
 unfolding loops
@@ -110,17 +85,9 @@ more_arguments-returns-in_err-next t c =
     first_of (search rules, grind (arith, common_steps))
 
 pub more_arguments-loop-turn-preserved : goal.more_arguments-loop-turn-preserved
-unfolding loops
 more_arguments-loop-turn-preserved t c =
-    let e = one_more (λ n. loops (is_mark m.Comma) (gather (after_comma (expr_at c.args.below 1))) n
-    (map expr_view c.loop-turn.found.items) c.loop-turn.tokens.now) _ c.loop-turn._turn c.loop-turn-test.true
-    c.loop-turn.invariant in
-    first_of (search rules, grind (arith, common_steps))
+    gathered _ _ _ _ _ _ _ _ _ _ _ c.loop-turn-test.true c.loop-turn.invariant (search rules)
+    c.in_ok-next.ensures c.in_ok-push.ensures.items
 
 pub more_arguments-returns : goal.more_arguments-returns
-unfolding loops
-more_arguments-returns t c =
-    let e = no_more (λ n. loops (is_mark m.Comma) (gather (after_comma (expr_at c.args.below 1))) n
-    (map expr_view c.loop-turn.found.items) c.loop-turn.tokens.now) _ c.loop-turn._turn c.loop-turn-test.false
-    c.loop-turn.invariant in
-    first_of (search rules, grind (arith, common_steps))
+more_arguments-returns t c = ended _ _ _ _ _ _ _ c.loop-turn-test.false c.loop-turn.invariant

@@ -5,7 +5,7 @@ use Rattle.st_trees.specs.InitialViews.{element_view, member_view}
 use Rattle.st_statements.specs.Tokens.{is_mark}
 use Rattle.st_statements.specs.Parsers.{loops, turns, gather, after_comma}
 use Rattle.st_statements.specs.InitialReading.{initial_at, element_at, member_at}
-use Rattle.st_statements.proofs.CountedLoops.{one_more, no_more}
+use Rattle.st_statements.proofs.CountedLoops.{one_more, stopped, ended, gathered}
 use Rattle.st_statements.proofs.initial.+initial.Goals as goal
 
 pub more_elements-loop-turn-init : goal.more_elements-loop-turn-init
@@ -13,13 +13,8 @@ unfolding turns
 more_elements-loop-turn-init t c = first_of (search rules, grind (arith, common_steps))
 
 pub more_elements-returns-then-not-begins : goal.more_elements-returns-then-not-begins
-unfolding loops
 more_elements-returns-then-not-begins t c =
-    let e = one_more
-    (λ n. loops (is_mark m.Comma) (gather (after_comma (element_at (initial_at c.args.depth) c.args.depth))) n
-    (map element_view c.loop-turn.found.items) c.loop-turn.tokens.now) _ c.loop-turn._turn c.loop-turn-test.true
-    c.loop-turn.invariant in
-    first_of (search rules, grind (arith, common_steps))
+    stopped _ _ _ _ _ _ _ c.loop-turn-test.true c.loop-turn.invariant (search rules)
 
 pub more_elements-returns-in_err-next : goal.more_elements-returns-in_err-next
 unfolding loops
@@ -31,34 +26,20 @@ more_elements-returns-in_err-next t c =
     first_of (search rules, grind (arith, common_steps))
 
 pub more_elements-loop-turn-preserved : goal.more_elements-loop-turn-preserved
-unfolding loops
 more_elements-loop-turn-preserved t c =
-    let e = one_more
-    (λ n. loops (is_mark m.Comma) (gather (after_comma (element_at (initial_at c.args.depth) c.args.depth))) n
-    (map element_view c.loop-turn.found.items) c.loop-turn.tokens.now) _ c.loop-turn._turn c.loop-turn-test.true
-    c.loop-turn.invariant in
-    first_of (search rules, grind (arith, common_steps))
+    gathered _ _ _ _ _ _ _ _ _ _ _ c.loop-turn-test.true c.loop-turn.invariant (search rules)
+    c.in_ok-next.ensures c.in_ok-push.ensures.items
 
 pub more_elements-returns : goal.more_elements-returns
-unfolding loops
-more_elements-returns t c =
-    let e =
-    no_more (λ n. loops (is_mark m.Comma) (gather (after_comma (element_at (initial_at c.args.depth) c.args.depth)))
-    n (map element_view c.loop-turn.found.items) c.loop-turn.tokens.now) _ c.loop-turn._turn c.loop-turn-test.false
-    c.loop-turn.invariant in
-    first_of (search rules, grind (arith, common_steps))
+more_elements-returns t c = ended _ _ _ _ _ _ _ c.loop-turn-test.false c.loop-turn.invariant
 
 pub more_members-loop-turn-init : goal.more_members-loop-turn-init
 unfolding turns
 more_members-loop-turn-init t c = first_of (search rules, grind (arith, common_steps))
 
 pub more_members-returns-then-not-begins : goal.more_members-returns-then-not-begins
-unfolding loops
 more_members-returns-then-not-begins t c =
-    let e = one_more (λ n. loops (is_mark m.Comma) (gather (after_comma (member_at (initial_at c.args.depth)))) n
-    (map member_view c.loop-turn.found.items) c.loop-turn.tokens.now) _ c.loop-turn._turn c.loop-turn-test.true
-    c.loop-turn.invariant in
-    first_of (search rules, grind (arith, common_steps))
+    stopped _ _ _ _ _ _ _ c.loop-turn-test.true c.loop-turn.invariant (search rules)
 
 pub more_members-returns-in_err-next : goal.more_members-returns-in_err-next
 unfolding loops
@@ -69,17 +50,9 @@ more_members-returns-in_err-next t c =
     first_of (search rules, grind (arith, common_steps))
 
 pub more_members-loop-turn-preserved : goal.more_members-loop-turn-preserved
-unfolding loops
 more_members-loop-turn-preserved t c =
-    let e = one_more (λ n. loops (is_mark m.Comma) (gather (after_comma (member_at (initial_at c.args.depth)))) n
-    (map member_view c.loop-turn.found.items) c.loop-turn.tokens.now) _ c.loop-turn._turn c.loop-turn-test.true
-    c.loop-turn.invariant in
-    first_of (search rules, grind (arith, common_steps))
+    gathered _ _ _ _ _ _ _ _ _ _ _ c.loop-turn-test.true c.loop-turn.invariant (search rules)
+    c.in_ok-next.ensures c.in_ok-push.ensures.items
 
 pub more_members-returns : goal.more_members-returns
-unfolding loops
-more_members-returns t c =
-    let e = no_more (λ n. loops (is_mark m.Comma) (gather (after_comma (member_at (initial_at c.args.depth)))) n
-    (map member_view c.loop-turn.found.items) c.loop-turn.tokens.now) _ c.loop-turn._turn c.loop-turn-test.false
-    c.loop-turn.invariant in
-    first_of (search rules, grind (arith, common_steps))
+more_members-returns t c = ended _ _ _ _ _ _ _ c.loop-turn-test.false c.loop-turn.invariant

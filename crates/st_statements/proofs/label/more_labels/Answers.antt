@@ -4,7 +4,7 @@ use Rattle.st_lex.specs.declared.mark.Mark.TheVariants as m
 use Rattle.st_statements.specs.Tokens.{is_mark}
 use Rattle.st_statements.specs.Parsers.{loops, turns, gather, after_comma}
 use Rattle.st_statements.specs.StatementReading.{label_at}
-use Rattle.st_statements.proofs.CountedLoops.{one_more, no_more}
+use Rattle.st_statements.proofs.CountedLoops.{one_more, stopped, ended}
 use Rattle.st_statements.proofs.label.more_labels.Goals as goal
 
 pub loop-turn-init : goal.loop-turn-init
@@ -12,12 +12,8 @@ unfolding turns
 loop-turn-init c = first_of (search rules, grind (arith, common_steps))
 
 pub returns-then-not-begins : goal.returns-then-not-begins
-unfolding loops
 returns-then-not-begins c =
-    let e = one_more
-    (λ n. loops (is_mark m.Comma) (gather (after_comma label_at)) n c.loop-turn.found.items c.loop-turn.tokens.now)
-    _ c.loop-turn._turn c.loop-turn-test.true c.loop-turn.invariant in
-    first_of (search rules, grind (arith, common_steps))
+    stopped _ _ _ _ _ _ _ c.loop-turn-test.true c.loop-turn.invariant (search rules)
 
 pub returns-in_err-next : goal.returns-in_err-next
 unfolding loops
@@ -36,9 +32,4 @@ loop-turn-preserved c =
     first_of (search rules, grind (arith, common_steps))
 
 pub returns : goal.returns
-unfolding loops
-returns c =
-    let e = no_more
-    (λ n. loops (is_mark m.Comma) (gather (after_comma label_at)) n c.loop-turn.found.items c.loop-turn.tokens.now)
-    _ c.loop-turn._turn c.loop-turn-test.false c.loop-turn.invariant in
-    first_of (search rules, grind (arith, common_steps))
+returns c = ended _ _ _ _ _ _ _ c.loop-turn-test.false c.loop-turn.invariant
