@@ -1,4 +1,3 @@
-pub mod PickedLemmas
 pub mod InputLemmas
 pub mod KindLemmas
 pub mod TrueLemmas

@@ -20,12 +20,11 @@ use Rattle.machine_code.specs.Endings.{outcome_at_end, values_at_end}
 use Rattle.machine_code.proofs.Tracks.{marked_reads_suffice}
 use Rattle.coded_programs.specs.Codes.{CodeView}
 use Rattle.coded_programs.specs.Meanings.{code_run}
-use Rattle.coded_runs.specs.Cells.{picked, AreAscending}
+use Rattle.run_cells.specs.Cells.{picked, writes_left, AreAscending}
 use Rattle.coded_runs.specs.Runs.{memory_over, unmarked, beginning, marked_run, reads_of, writes_of, EndsAs}
-use Rattle.coded_runs.specs.Runs.{writes_left}
 use Rattle.coded_runs.specs.Runs.{IsLong}
 use Rattle.coded_runs.specs.Effects.{IsTrueOf}
-use Rattle.coded_runs.proofs.PickedLemmas.{picked_ascend, read_agrees, written_behind, picked_none}
+use Rattle.run_cells.proofs.PickedLemmas.{picked_ascend, read_agrees, written_behind, picked_none}
 
 -- Values of slots and what stands behind them.
 abbrev kinds_of : List Datum → List Kind

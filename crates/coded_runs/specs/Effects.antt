@@ -9,7 +9,7 @@ use Rattle.st_types.specs.Runs.{Program, outcome_of, store_after}
 use Rattle.st_types.specs.Slots.{Slot, Cell, AreOfTypes, variables_in, inputs_in, agrees, written}
 use Rattle.coded_programs.specs.Codes.{CodeView}
 use Rattle.coded_programs.specs.Meanings.{Means}
-use Rattle.coded_runs.specs.Cells.{AreAscending}
+use Rattle.run_cells.specs.Cells.{AreAscending}
 
 -- an execution: what ran, what it read, what it writes, and how it ended
 pub record Effect : Type 0 where

@@ -5,7 +5,7 @@ use Rattle.machine_code.specs.Machine.{Ending}
 use Rattle.machine_code.specs.Tracking.{Tracked}
 use Rattle.machine_code.specs.Endings.{outcome_at_end}
 use Rattle.coded_programs.specs.Codes.{code_view}
-use Rattle.coded_runs.specs.Cells.{cut}
+use Rattle.run_cells.specs.Cells.{cut}
 use Rattle.coded_runs.specs.Runs.{marked_run, reads_of, writes_of}
 use Rattle.coded_runs.specs.Effects.{Effect}
 use Rattle.coded_runs.specs.declared.runner.Ran.{Ran}

@@ -1,4 +1,3 @@
-pub mod Cells
 pub mod Runs
 pub mod Effects
 pub mod Executions

@@ -9,7 +9,7 @@ use Rattle.machine_code.specs.declared.mark.Mark.{Mark}
 use Rattle.machine_code.specs.Machine.{Ending, finished, failed, runs}
 use Rattle.machine_code.specs.Tracking.{Tracked, tracked, tracking, memory_of, are_read, are_assigned}
 use Rattle.coded_programs.specs.Codes.{CodeView}
-use Rattle.coded_runs.specs.Cells.{picked}
+use Rattle.run_cells.specs.Cells.{picked}
 
 -- the memory that a run begins with: the values of the slots, and FALSE in each place behind them
 abbrev pub memory_over : List Datum → ℕ → List Datum
@@ -42,11 +42,6 @@ EndsAs Done (finished m b) n = n ≡ m
 EndsAs Done (failed m f) n = ⊥
 EndsAs (Faulted f) (failed m g) n = (g ≡ f) × (are_read m.marks ≡ are_read n.marks)
 EndsAs (Faulted f) (finished m b) n = ⊥
-
--- the writes that such an end leaves in slots with these values and marks
-abbrev pub writes_left : Outcome → List Datum → List Mark → List Cell
-writes_left Done vs marks = picked (are_assigned marks) 0 vs
-writes_left (Faulted f) vs marks = []
 
 -- at the end of the code the memory has at least so many values
 abbrev pub IsLong : ℕ → Ending Tracked → Type 0

@@ -2,11 +2,11 @@
 
 ghost use Rattle.std.specs.Prelude.{◌≡◌, map};
 ghost use Rattle.coded_programs.specs.Codes.{code_view};
-ghost use Rattle.coded_runs.specs.Cells.{cut};
+ghost use Rattle.run_cells.specs.Cells.{cut};
 ghost use Rattle.coded_runs.specs.Effects.{IsTrueOf};
 
-use crate::cell::Cell;
 use coded_programs::Code;
+use run_cells::Cell;
 use st_plans::Activation;
 use st_types::Outcome;
 use std::marker::Model;
@@ -36,7 +36,7 @@ impl Model for Execution {
     ghost use Rattle.std.specs.Prelude.{map};
     ghost use Rattle.coded_programs.specs.Codes.{code_view};
     ghost use Rattle.coded_runs.specs.Effects.{IsTrueOf};
-    ghost use Rattle.coded_runs.specs.Cells.{cut};
+    ghost use Rattle.run_cells.specs.Cells.{cut};
 
     ghost view = { λ x. record {
       code = code_view x.code.value;

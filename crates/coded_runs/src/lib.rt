@@ -4,15 +4,12 @@
 //! and leaves its writes. A faulted execution writes nothing, and a run changes no variable: a commit does.
 #![tactic(auto)]
 
-mod cell;
 mod execution;
-mod gathering;
 mod laws;
 mod memory;
 mod runner;
 mod snapshot;
 
-pub use cell::Cell;
 pub use execution::Execution;
 pub use laws::{commits_do_what_programs_do, writes_to_inputs_change_no_variable};
 pub use runner::run;

@@ -1,22 +1,20 @@
 //! Runs of code.
 
-ghost use Rattle.std.specs.Prelude.{◌≡◌, ◌≤◌, [], IfOk, length, map, replicate, take};
+ghost use Rattle.std.specs.Prelude.{◌≡◌, [], IfOk, length, map, replicate};
 ghost use Rattle.st_types.specs.Failures.{in_runs};
 ghost use Rattle.machine_code.specs.Machine.{runs};
 ghost use Rattle.machine_code.specs.Tracking.{tracking, tracked};
 ghost use Rattle.slot_machine.specs.Steps.{Ends};
-ghost use Rattle.coded_runs.specs.Cells.{cut};
 ghost use Rattle.coded_programs.specs.Codes.{code_view};
-ghost use Rattle.coded_runs.specs.Runs.{EndsAs, IsLong, marked_run, unmarked, writes_left};
+ghost use Rattle.coded_runs.specs.Runs.{EndsAs, IsLong, marked_run, unmarked};
 ghost use Rattle.coded_runs.specs.Executions.{IsEffectOf, IsRunOf};
 
-use crate::cell::Cell;
 use crate::execution::Execution;
-use crate::gathering::{reads_of, writes_of};
 use crate::memory::{memory_over, take_front, unmarked};
 use crate::snapshot::Snapshot;
 use coded_programs::{Code, WordProgram};
 use machine_code::Mark;
+use run_cells::{Cell, reads_of, writes_left};
 use slot_machine::Stop;
 use st_types::Outcome;
 use st_words::Value;
@@ -99,21 +97,6 @@ fn end_of(
         Ok(_) => Ok(Outcome::Done),
         Err(Stop::Fault(fault)) => Ok(Outcome::Faulted(fault)),
         Err(Stop::Memory) => Err(AllocError),
-    }
-}
-
-/// The writes that such an end leaves in the first slots: a fault leaves none.
-fn writes_left(
-    alloc: Global,
-    outcome: Outcome,
-    values: &[Value],
-    marks: &[Mark],
-) -> Result<Vec<Cell>, AllocError>
-    ensures { IfOk result (λ cells. map cut cells.items ≡ writes_left outcome values.now marks.now) }
-{
-    match outcome {
-        Outcome::Done => writes_of(alloc, values, marks),
-        Outcome::Faulted(_) => Ok(Vec::new(alloc)),
     }
 }
 

@@ -25,7 +25,7 @@ use Rattle.machine_code.specs.Asking.{IsOnlyLookedUp, FailsWith}
 use Rattle.machine_code.proofs.Asks.{reads_are_asked}
 use Rattle.coded_programs.specs.Codes.{CodeView}
 use Rattle.coded_programs.specs.Meanings.{FailsAlike, code_run_where}
-use Rattle.coded_runs.specs.Cells.{picked}
+use Rattle.run_cells.specs.Cells.{picked}
 use Rattle.coded_runs.specs.Runs.{unmarked, beginning, marked_run, reads_of}
 use Rattle.plan_reads.proofs.WithoutValues.{variables_without, inputs_without}
 

@@ -1,10 +1,11 @@
 //! What a life, a core or an execution tells, in words.
 
 use crate::words::write_number;
-use coded_runs::{Cell, Execution};
+use coded_runs::Execution;
 use commit_lock::{Answer, Core, Refusal, StartFault};
 use disk::SimDisk;
 use lives::Reply;
+use run_cells::Cell;
 use st_types::Outcome;
 use st_words::{Name, Path};
 use std::alloc::{AllocError, Global};

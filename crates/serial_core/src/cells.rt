@@ -3,10 +3,10 @@
 ghost use Rattle.std.specs.Prelude.{◌≡◌, length, map, slice_get, true};
 ghost use Rattle.st_types.specs.Slots.{agrees, is_value as is_value_of};
 ghost use Rattle.config.specs.SlotPlaces.{are_numbered, merged, value_in, written_variables};
-ghost use Rattle.coded_runs.specs.Cells.{cut};
+ghost use Rattle.run_cells.specs.Cells.{cut};
 
-use coded_runs::Cell;
 use config::SlotPlace;
+use run_cells::Cell;
 use st_words::Value;
 
 fn item(values: &[Value], number: usize) -> Option<Value>

@@ -8,9 +8,9 @@ ghost use Rattle.machine_code.specs.Tracking.{tracked, seen, assigned};
 ghost use Rattle.machine_code.specs.declared.instr.Instr.TheVariants as instrs;
 ghost use Rattle.slot_machine.specs.Steps.{StepsOn, marks_from};
 
-use crate::memory::{mark_assigned, mark_seen};
 use crate::stop::Stop;
 use machine_code::Mark;
+use slot_memory::{mark_assigned, mark_seen};
 use st_names::StandardBlock;
 use st_words::Value;
 use std_blocks::step;

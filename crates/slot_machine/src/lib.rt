@@ -8,7 +8,6 @@ mod blocks;
 mod jumps;
 mod loops;
 mod machine;
-mod memory;
 mod operations;
 mod slots;
 mod stack;
@@ -16,6 +15,5 @@ mod stop;
 mod subscripts;
 
 pub use machine::{run, step};
-pub use memory::{mark_assigned, mark_seen};
 pub use stack::Stack;
 pub use stop::Stop;

@@ -8,12 +8,12 @@ ghost use Rattle.machine_code.specs.declared.instr.Instr.TheVariants as instrs;
 ghost use Rattle.slot_machine.specs.Steps.{Steps};
 
 use crate::jumps::go_down;
-use crate::memory::{look, mark_seen, peek, put, put_seen};
 use crate::stack::Stack;
 use crate::stop::Stop;
 use machine_code::Mark;
+use slot_memory::{look, mark_seen, peek, put, put_seen, stepped_on};
 use st_words::{Fault, Value};
-use std_functions::{is_at_most, is_negative, stepped_on};
+use std_functions::{is_at_most, is_negative};
 
 /// Whether the control variable has not passed the limit.
 #[inline(always)]

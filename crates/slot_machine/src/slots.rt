@@ -1,16 +1,15 @@
 //! Instructions that read and write slots.
 
-ghost use Rattle.std.specs.Prelude.{◌≡◌, ℕ, List, Some};
-ghost use Rattle.st_words.specs.Values.{Datum};
+ghost use Rattle.std.specs.Prelude.{◌≡◌, ℕ, Some};
 ghost use Rattle.st_types.specs.Operators.{natural};
 ghost use Rattle.machine_code.specs.Tracking.{tracked};
 ghost use Rattle.machine_code.specs.declared.instr.Instr.TheVariants as instrs;
 ghost use Rattle.slot_machine.specs.Steps.{Steps};
 
-use crate::memory::{look, put, reset};
 use crate::stack::Stack;
 use crate::stop::Stop;
 use machine_code::Mark;
+use slot_memory::{look, put, reset};
 use st_words::{Fault, Value};
 use std_functions::bits;
 

@@ -8,7 +8,7 @@ use Rattle.st_lex.specs.declared.token.TokenKind.{TokenKind}
 use Rattle.st_lex.specs.declared.token.Token.{Token}
 use Rattle.st_lex.specs.declared.front.Front.{Front}
 use Rattle.st_lex.specs.declared.front.Front.TheVariants as fronts
-use Rattle.st_lex.specs.Characters.{is_word_character}
+use Rattle.st_terminals.specs.Characters.{is_word_character}
 use Rattle.st_lex.specs.Fronts.{front_of, IsWithin}
 use Rattle.st_lex.specs.Texts.{Spells, ends, blank, token, IsSpelledBy}
 use Rattle.st_lex.specs.Laws.{AreInOrder, Each, IsItsSlice, IsParted, IsWhole}

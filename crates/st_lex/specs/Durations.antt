@@ -4,26 +4,9 @@ use Rattle.std.specs.Prelude.{nat_lt, if◌then◌else◌, Option, Some, None, c
 use Rattle.std.specs.Str.{str_eq_ignore_ascii_case}
 use Rattle.std.specs.List.{take_while}
 use Rattle.std.specs.Char.{is_ascii_digit, is_ascii_alphabetic}
-use Rattle.st_lex.specs.declared.duration.TimeUnit.{TimeUnit}
-use Rattle.st_lex.specs.declared.duration.TimeUnit.TheVariants.{Day, Hour, Minute, Second, Millisecond}
+use Rattle.st_terminals.specs.declared.time_unit.TimeUnit.{TimeUnit}
+use Rattle.st_terminals.specs.TimeUnits.{UnitRow, unit_row, units}
 use Rattle.st_lex.specs.Numbers.{value_from, below, before_hash, behind_hash}
-
--- a line of the table of units: its letters, its length in milliseconds, and below how many of it a later part must be;
--- a day is none
-pub record UnitRow : Type 0 where
-  pub letters : List ℕ
-  pub milliseconds : ℕ
-  pub limit : ℕ
-
-abbrev pub unit_row : TimeUnit → UnitRow
-unit_row Day = record { letters = codes "D"; milliseconds = 86400000; limit = 0 }
-unit_row Hour = record { letters = codes "H"; milliseconds = 3600000; limit = 24 }
-unit_row Minute = record { letters = codes "M"; milliseconds = 60000; limit = 60 }
-unit_row Second = record { letters = codes "S"; milliseconds = 1000; limit = 60 }
-unit_row Millisecond = record { letters = codes "MS"; milliseconds = 1; limit = 1000 }
-
-abbrev pub units : List TimeUnit
-units = Day ∷ Hour ∷ Minute ∷ Second ∷ Millisecond ∷ []
 
 abbrev pub starts_with_underscore : List ℕ → Bool
 starts_with_underscore [] = false

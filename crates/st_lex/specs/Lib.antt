@@ -1,4 +1,3 @@
-pub mod Characters
 pub mod Tables
 pub mod ReservedWords
 pub mod Numbers

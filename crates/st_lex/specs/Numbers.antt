@@ -9,7 +9,7 @@ use Rattle.st_words.specs.declared.kind.Sort.{Sort}
 use Rattle.st_words.specs.declared.kind.Sort.TheVariants as sorts
 use Rattle.st_words.specs.Kinds.{row_of}
 use Rattle.st_lex.specs.declared.token.WholeNumber.{WholeNumber}
-use Rattle.st_lex.specs.Characters.{is_spaced}
+use Rattle.st_terminals.specs.Characters.{is_spaced}
 use Rattle.st_lex.specs.Tables.{lookup}
 use Rattle.st_lex.specs.ReservedWords.{elementary}
 

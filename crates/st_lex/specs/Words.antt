@@ -11,7 +11,7 @@ use Rattle.st_lex.specs.declared.fault.LexFault.{LexFault}
 use Rattle.st_lex.specs.declared.fault.LexFault.TheVariants as faults
 use Rattle.st_lex.specs.declared.front.Front.{Front}
 use Rattle.st_lex.specs.declared.front.Front.TheVariants as fronts
-use Rattle.st_lex.specs.Characters.{is_word_character, is_spaced}
+use Rattle.st_terminals.specs.Characters.{is_word_character, is_spaced}
 use Rattle.st_lex.specs.ReservedWords.{reserved}
 use Rattle.st_lex.specs.Literals.{literal}
 use Rattle.st_lex.specs.Numbers.{before_hash, behind_hash}

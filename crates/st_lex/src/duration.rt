@@ -1,22 +1,14 @@
 //! Durations.
 
-ghost use Rattle.std.specs.Prelude.{◌≡◌, ◌≤◌, ◌<◌, ◌^◌, ◌*◌, ◌+◌, length, Option};
+ghost use Rattle.std.specs.Prelude.{◌≡◌, ◌≤◌, ◌<◌, ◌^◌, ◌*◌, length, Option};
 ghost use Rattle.std.specs.Str.{str_eq_ignore_ascii_case};
+ghost use Rattle.st_terminals.specs.TimeUnits.{unit_row};
 ghost use Rattle.st_lex.specs.Numbers.{below};
 ghost use Rattle.st_lex.specs.Durations as durations;
 
 use crate::number::{before_hash, behind_hash, value};
 use crate::table::same_word;
-
-/// A unit of a duration.
-#[derive(Clone, Copy)]
-pub enum TimeUnit {
-    Day,
-    Hour,
-    Minute,
-    Second,
-    Millisecond,
-}
+use st_terminals::TimeUnit;
 
 /// All units, from great to small.
 const UNITS: [TimeUnit; 5] = [
@@ -27,41 +19,16 @@ const UNITS: [TimeUnit; 5] = [
     TimeUnit::Millisecond,
 ];
 
-impl TimeUnit {
-    fn is_written(self, letters: &[u8]) -> bool
-        ensures { result ≡ str_eq_ignore_ascii_case letters.now (durations.unit_row self).letters }
-    {
-        match self {
-            TimeUnit::Day => same_word(letters, b"D"),
-            TimeUnit::Hour => same_word(letters, b"H"),
-            TimeUnit::Minute => same_word(letters, b"M"),
-            TimeUnit::Second => same_word(letters, b"S"),
-            TimeUnit::Millisecond => same_word(letters, b"MS"),
-        }
-    }
-
-    fn length(self) -> u64
-        ensures { result ≡ (durations.unit_row self).milliseconds }
-    {
-        match self {
-            TimeUnit::Day => 86_400_000,
-            TimeUnit::Hour => 3_600_000,
-            TimeUnit::Minute => 60_000,
-            TimeUnit::Second => 1000,
-            TimeUnit::Millisecond => 1,
-        }
-    }
-
-    /// Below how many of it a part must be that is not the first. A day's is never looked at.
-    fn limit(self) -> u64
-        ensures { result ≡ (durations.unit_row self).limit }
-    {
-        match self {
-            TimeUnit::Day => 0,
-            TimeUnit::Hour => 24,
-            TimeUnit::Minute | TimeUnit::Second => 60,
-            TimeUnit::Millisecond => 1000,
-        }
+/// Whether the letters are the unit's.
+fn is_written(unit: TimeUnit, letters: &[u8]) -> bool
+    ensures { result ≡ str_eq_ignore_ascii_case letters.now (unit_row unit).letters }
+{
+    match unit {
+        TimeUnit::Day => same_word(letters, b"D"),
+        TimeUnit::Hour => same_word(letters, b"H"),
+        TimeUnit::Minute => same_word(letters, b"M"),
+        TimeUnit::Second => same_word(letters, b"S"),
+        TimeUnit::Millisecond => same_word(letters, b"MS"),
     }
 }
 
@@ -126,7 +93,7 @@ fn is_part_in(unit: TimeUnit, text: &[u8]) -> bool
     ensures { result ≡ durations.is_part_in unit text.now }
 {
     let part = leading_part(text);
-    !part.digits.is_empty() && unit.is_written(part.letters)
+    !part.digits.is_empty() && is_written(unit, part.letters)
 }
 
 /// At most 9,223,372,036,854,775,807.

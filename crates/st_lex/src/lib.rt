@@ -7,7 +7,6 @@
 #![tactic(auto)]
 
 mod address;
-mod character;
 mod comment;
 mod duration;
 mod fault;

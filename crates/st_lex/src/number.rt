@@ -6,10 +6,10 @@ ghost use Rattle.std.specs.Char.{is_digit, digit_value};
 ghost use Rattle.st_words.specs.Kinds.{row_of};
 ghost use Rattle.st_lex.specs.Numbers as numbers;
 
-use crate::character::is_spaced;
 use crate::keyword::elementary;
 use crate::table::lookup;
 use crate::token::WholeNumber;
+use st_terminals::is_spaced;
 use st_words::{Kind, Sort};
 
 /// The value of a digit or letter, from 0 to 35, and 36 for any other byte.

@@ -1,74 +1,15 @@
 //! Counters.
 
-ghost use Rattle.std.specs.Prelude.{◌≡◌, ◌+◌, ◌∷◌, [], ◌≤◌, ℕ, int_le, pos, length};
-ghost use Rattle.st_types.specs.StandardBlocks.{CTU, CTD, CTUD, one_up, one_down, counted, up_count, down_count};
-ghost use Rattle.st_types.specs.StandardBlocks.{up_down_count, int};
+ghost use Rattle.std.specs.Prelude.{◌+◌, ◌∷◌, [], ◌≤◌, ℕ, int_le, pos, length};
+ghost use Rattle.st_types.specs.StandardBlocks.{CTU, CTD, CTUD, int};
 ghost use Rattle.st_words.specs.Values.{datum_of_truth, is_true};
 ghost use Rattle.std_blocks.specs.Members.{all_stored, block_stepped, Leaves};
 
-use crate::edges::edge;
 use crate::members::{held_value, put_all, six_members, ten_members};
 use st_words::{Fault, Kind, Value};
-
-/// One more, but not past the end of INT.
-fn one_up(z: i128) -> i128
-    ensures { result ≡ one_up z }
-{
-    if z < Kind::Int.greatest() { z + 1 } else { z }
-}
-
-/// One less, but not past the end of INT.
-fn one_down(z: i128) -> i128
-    ensures { result ≡ one_down z }
-{
-    if Kind::Int.least() < z { z - 1 } else { z }
-}
-
-/// What a counter counts where it is neither reset nor loaded. Two edges at once count nothing.
-fn counted(up: bool, down: bool, z: i128) -> i128
-    ensures { result ≡ counted up down z }
-{
-    if up && down {
-        z
-    } else if up {
-        one_up(z)
-    } else if down {
-        one_down(z)
-    } else {
-        z
-    }
-}
-
-fn up_count(reset: bool, up: bool, z: i128) -> i128
-    ensures { result ≡ up_count reset up z }
-{
-    if reset { 0 } else { counted(up, false, z) }
-}
-
-fn down_count(load: bool, preset: i128, down: bool, z: i128) -> i128
-    ensures { result ≡ down_count load preset down z }
-{
-    if load {
-        preset
-    } else {
-        counted(false, down, z)
-    }
-}
-
-fn up_down_count(reset: bool, load: bool, preset: i128, up: bool, down: bool, z: i128) -> i128
-    ensures { result ≡ up_down_count reset load preset up down z }
-{
-    if reset {
-        0
-    } else if load {
-        preset
-    } else {
-        counted(up, down, z)
-    }
-}
+use std_counts::{down_count, edge, up_count, up_down_count};
 
 /// Assigns the six members of an up counter or a down counter; F4 where one is of another type, or the count is none.
-
 #[tactic(auto, using(crate::proofs::BlockLemmas::unheld_count))]
 fn put_counter(
     slots: &mut [Value],
@@ -142,7 +83,6 @@ struct UpDown {
 }
 
 /// Assigns the ten members of an up and down counter; F4 where one is of another type, or the count is none.
-
 #[tactic(auto, using(crate::proofs::BlockLemmas::unheld_up_down))]
 fn put_up_down(slots: &mut [Value], at: usize, inputs: UpDown, count: i128) -> Result<(), Fault>
     requires { at + 10 ≤ length slots.old }

@@ -1,18 +1,12 @@
 //! Edge detection.
 
-ghost use Rattle.std.specs.Prelude.{◌≡◌, ℕ};
-ghost use Rattle.st_types.specs.StandardBlocks.{R_TRIG, F_TRIG, edge};
+ghost use Rattle.std.specs.Prelude.{ℕ};
+ghost use Rattle.st_types.specs.StandardBlocks.{R_TRIG, F_TRIG};
 ghost use Rattle.std_blocks.specs.Members.{block_stepped, Leaves};
 
 use crate::members::{put_all, three_members};
 use st_words::{Fault, Value};
-
-/// Whether the input is TRUE, and its memory is not.
-pub fn edge(input: bool, memory: bool) -> bool
-    ensures { result ≡ edge input memory }
-{
-    input && !memory
-}
+use std_counts::{edge, falls};
 
 /// R_TRIG: a rising edge.
 #[tactic(auto, using(crate::proofs::BlockLemmas::no_members, crate::proofs::BlockLemmas::rising_steps))]
@@ -31,7 +25,7 @@ pub fn step_falling(slots: &mut [Value], at: usize) -> Result<(), Fault>
     ensures { (now : ℕ) → Leaves result (block_stepped F_TRIG now at slots.old) slots.new }
 {
     let (clock, _, memory) = three_members(slots, at)?;
-    let off = !clock.is_true();
-    let q = Value::truth(edge(off, memory.is_true()));
-    put_all(slots, at, &[clock, q, Value::truth(off)])
+    let input = clock.is_true();
+    let q = Value::truth(falls(input, memory.is_true()));
+    put_all(slots, at, &[clock, q, Value::truth(!input)])
 }

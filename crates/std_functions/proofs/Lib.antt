@@ -1,4 +1,3 @@
 pub mod NumberLemmas
 pub mod Remainders
 pub mod ShiftLemmas
-pub mod SteppedLemmas

@@ -10,5 +10,5 @@ mod operators;
 mod shifts;
 
 pub use functions::standard_value;
-pub use numbers::{bits, is_at_most, is_negative, is_same_number, stepped_on};
+pub use numbers::{bits, holds_word, is_at_most, is_negative, is_same_number};
 pub use operators::{apply, apply_unary, truth};

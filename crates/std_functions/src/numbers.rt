@@ -1,11 +1,9 @@
 //! Numbers of values, which are compared and added as words where words are numbers.
 
-ghost use Rattle.std.specs.Prelude.{◌≡◌, ◌+ℤ◌, int_le, int_lt, pos, false};
+ghost use Rattle.std.specs.Prelude.{◌≡◌, int_le, int_lt, pos, false};
 ghost use Rattle.std.specs.Ordering.{int_eq};
 ghost use Rattle.st_words.specs.Kinds.{greatest, holds, least};
-ghost use Rattle.st_words.specs.Values.{in_range};
 ghost use Rattle.st_words.specs.Words.{is_wide};
-ghost use Rattle.st_types.specs.Loops.{stepped_on, unless_fault};
 ghost use Rattle.st_types.specs.Operators.{natural};
 
 use st_words::{Kind, Value, is_wide};
@@ -98,49 +96,4 @@ pub fn holds_word(kind: Kind, word: i64) -> bool
     ensures { result ≡ holds kind word }
 {
     least_word(kind) <= word && word <= greatest_word(kind)
-}
-
-/// The sum without bounds.
-#[inline(always)]
-fn sum(a: Value, b: Value) -> i128
-    ensures { result ≡ a.number +ℤ b.number }
-{
-    a.number() + b.number()
-}
-
-/// A value one step on by its number, or none where that leaves its type.
-fn stepped_by_number(step: Value, value: Value) -> Option<Value>
-    ensures { result ≡ stepped_on step.number value }
-{
-    match Value::new(value.kind(), sum(value, step)) {
-        Ok(moved) => Some(moved),
-        Err(_) => None,
-    }
-}
-
-/// The value of a type that a word is, or none where the type does not hold it.
-#[inline(always)]
-#[tactic(auto, using(crate::proofs::SteppedLemmas::within, crate::proofs::SteppedLemmas::past))]
-fn of_word(value: Value, word: i64) -> Option<Value>
-    requires { is_wide value.kind ≡ false }
-    ensures { result ≡ unless_fault (in_range value.kind word) }
-{
-    if !holds_word(value.kind(), word) {
-        return None;
-    }
-    Some(value.with_word(word))
-}
-
-/// A value one step on, or none where that leaves its type.
-#[inline(always)]
-pub fn stepped_on(step: Value, value: Value) -> Option<Value>
-    ensures { result ≡ stepped_on step.number value }
-{
-    if is_wide(value.kind()) || is_wide(step.kind()) {
-        return stepped_by_number(step, value);
-    }
-    match value.word().checked_add(step.word()) {
-        Some(word) => of_word(value, word),
-        None => stepped_by_number(step, value),
-    }
 }

@@ -1,6 +1,6 @@
 //! Function blocks and programs linked.
 
-ghost use Rattle.std.specs.Prelude.{◌≡◌, ◌≤◌, ◌+◌, List, ℕ, None, Some, map, option_map, IfErr, IfOk, true};
+ghost use Rattle.std.specs.Prelude.{◌≡◌, ◌≤◌, ◌+◌, List, None, Some, option_map, IfErr, IfOk, true};
 ghost use Rattle.st_words.specs.declared.limits.TheConstants.{MAX_PATHS};
 ghost use Rattle.st_words.specs.declared.path.Owner.{Owner};
 ghost use Rattle.st_trees.specs.UnitViews.{unit_view};

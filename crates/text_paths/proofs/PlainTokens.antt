@@ -26,14 +26,15 @@ use Rattle.st_lex.specs.declared.token.TokenKind.{TokenKind}
 use Rattle.st_lex.specs.declared.token.TokenKind.TheVariants as tokens
 use Rattle.st_lex.specs.declared.token.WholeNumber.{WholeNumber}
 use Rattle.st_lex.specs.Tables.{lookup}
-use Rattle.st_lex.specs.Characters.{is_allowed, is_space, is_word_character, begins, is_spaced, ends_or_underscore}
+use Rattle.st_terminals.specs.Characters.{is_allowed, is_space, is_word_character, begins, is_spaced, ends_or_underscore}
 use Rattle.st_lex.specs.Comments.{to_close, to_open, comment_front}
 use Rattle.st_lex.specs.Numbers.{numeral, is_numeral, value_from, below, bases, in_base, based, before_hash}
 use Rattle.st_lex.specs.Numbers.{behind_hash, magnitude, is_whole, with_type, typed, untyped, whole_number}
 use Rattle.st_lex.specs.ReservedWords.{types, keyword_of, elementary, truth, reserved}
 use Rattle.st_lex.specs.Literals as literals
 use Rattle.st_lex.specs.Literals.{literal}
-use Rattle.st_lex.specs.Durations.{duration, is_duration, milliseconds, fits, parts, units}
+use Rattle.st_lex.specs.Durations.{duration, is_duration, milliseconds, fits, parts}
+use Rattle.st_terminals.specs.TimeUnits.{units}
 use Rattle.st_lex.specs.Addresses.{address}
 use Rattle.st_lex.specs.Words.{word_length, upper, must_be_literal, is_identifier, named, read_as, identifier, is_name}
 use Rattle.st_lex.specs.Words.{begins_duration, enumerated, literal_of, word_front}

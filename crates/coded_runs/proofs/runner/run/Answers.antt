@@ -1,6 +1,6 @@
 use Rattle.std.proofs.Common.{◌≡◌, length, map, rules}
 use Rattle.coded_programs.specs.Codes.{code_view}
-use Rattle.coded_runs.specs.Cells.{cut}
+use Rattle.run_cells.specs.Cells.{cut}
 use Rattle.coded_runs.specs.Runs.{IsLong, marked_run}
 use Rattle.coded_runs.specs.Executions.{IsRunOf}
 use Rattle.coded_runs.proofs.TrueLemmas.{told_is_true}

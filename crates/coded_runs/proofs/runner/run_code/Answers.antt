@@ -1,10 +1,10 @@
 use Rattle.std.proofs.Common.{◌≡◌, rules, map, length, take, drop, ◌∙◌}
 use Rattle.machine_code.specs.Tracking.{tracked, are_read}
 use Rattle.coded_programs.specs.Codes.{code_view}
-use Rattle.coded_runs.specs.Cells.{cut, picked}
-use Rattle.coded_runs.specs.Runs.{memory_over, writes_left}
+use Rattle.run_cells.specs.Cells.{cut, picked, writes_left}
+use Rattle.coded_runs.specs.Runs.{memory_over}
 use Rattle.coded_runs.proofs.KindLemmas.{typed_over}
-use Rattle.coded_runs.proofs.PickedLemmas.{take_front}
+use Rattle.run_cells.proofs.PickedLemmas.{take_front}
 use Rattle.coded_runs.proofs.TrueLemmas.{begins, begins_long, is_long, outcome_is, reads_is, writes_is}
 use Rattle.coded_runs.proofs.runner.run_code.Goals as goal
 

@@ -1,11 +1,11 @@
-use Rattle.std.proofs.Common.{rules, ◌≡◌, ◌≤◌, [], length, replicate, take, drop, refl, ap, ◌∙◌}
+use Rattle.std.proofs.Common.{rules, ◌≡◌, [], length, replicate, take, drop, refl, ap, ◌∙◌}
 use Rattle.std.proofs.lemmas.List.{length-replicate}
 use Rattle.st_types.specs.Failures.{in_runs}
 use Rattle.machine_code.specs.Machine.{Ending, runs}
 use Rattle.machine_code.specs.Tracking.{Tracked, tracking, tracked}
 use Rattle.slot_machine.specs.Steps.{Ends}
 use Rattle.coded_runs.specs.Runs.{unmarked}
-use Rattle.coded_runs.proofs.PickedLemmas.{take_front}
+use Rattle.run_cells.proofs.PickedLemmas.{take_front}
 use Rattle.coded_runs.proofs.KindLemmas.{ends_in_front, fits_in}
 use Rattle.coded_runs.proofs.runner.run_words.Goals as goal
 

@@ -1,7 +1,7 @@
 use Rattle.std.proofs.Common.{◌≡◌, map, drop}
 use Rattle.st_types.specs.Slots.{agrees}
 use Rattle.config.specs.SlotPlaces.{merged}
-use Rattle.coded_runs.specs.Cells.{cut}
+use Rattle.run_cells.specs.Cells.{cut}
 use Rattle.serial_core.proofs.cells.stand.Given as goal
 
 abbrev pub invariant-loop-cell : goal.invariant-loop-cell

@@ -1,6 +1,6 @@
 use Rattle.std.proofs.Common.{◌≡◌, map, drop}
 use Rattle.config.specs.SlotPlaces.{written_variables}
-use Rattle.coded_runs.specs.Cells.{cut}
+use Rattle.run_cells.specs.Cells.{cut}
 use Rattle.serial_core.proofs.cells.write_all.Given as goal
 
 abbrev pub invariant-loop-cell : goal.invariant-loop-cell
