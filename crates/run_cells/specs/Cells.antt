@@ -18,7 +18,7 @@ picked [] k vs = []
 picked (b ∷ bs) k [] = []
 picked (b ∷ bs) k (v ∷ vs) = if b then (k, v) ∷ picked bs (suc k) vs else picked bs (suc k) vs
 
--- the writes that such an end leaves in slots with these values and marks
+-- the writes that a run which ends so leaves in slots with these values and marks: none where it faulted
 abbrev pub writes_left : Outcome → List Datum → List Mark → List slots.Cell
 writes_left Done vs marks = picked (are_assigned marks) 0 vs
 writes_left (Faulted f) vs marks = []

@@ -1,6 +1,6 @@
 //! The trees of a text, and their pure mirror, of which grammar, rules and meaning speak.
 //!
-//! Two trees are equal exactly where their mirrors are. Nothing here judges a tree.
+//! Nothing here judges a tree, or compares two.
 #![tactic(auto)]
 
 mod configuration;

@@ -34,14 +34,14 @@ fn counted(up: bool, down: bool, z: i128) -> i128
     }
 }
 
-/// What an up counter counts: nothing where it is reset.
+/// What an up counter counts: 0 where it is reset.
 pub fn up_count(reset: bool, up: bool, z: i128) -> i128
     ensures { result ≡ up_count reset up z }
 {
     if reset { 0 } else { counted(up, false, z) }
 }
 
-/// What a down counter counts, which starts again at its preset where it is loaded.
+/// What a down counter counts: its preset where it is loaded.
 pub fn down_count(load: bool, preset: i128, down: bool, z: i128) -> i128
     ensures { result ≡ down_count load preset down z }
 {
@@ -52,7 +52,7 @@ pub fn down_count(load: bool, preset: i128, down: bool, z: i128) -> i128
     }
 }
 
-/// The same of both: a reset goes before a load, and that before edges.
+/// What an up and down counter counts: a reset goes before a load, and that before edges.
 pub fn up_down_count(reset: bool, load: bool, preset: i128, up: bool, down: bool, z: i128) -> i128
     ensures { result ≡ up_down_count reset load preset up down z }
 {

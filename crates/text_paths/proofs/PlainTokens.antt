@@ -26,7 +26,8 @@ use Rattle.st_lex.specs.declared.token.TokenKind.{TokenKind}
 use Rattle.st_lex.specs.declared.token.TokenKind.TheVariants as tokens
 use Rattle.st_lex.specs.declared.token.WholeNumber.{WholeNumber}
 use Rattle.st_lex.specs.Tables.{lookup}
-use Rattle.st_terminals.specs.Characters.{is_allowed, is_space, is_word_character, begins, is_spaced, ends_or_underscore}
+use Rattle.st_terminals.specs.Characters.{is_allowed, is_space, is_word_character}
+use Rattle.st_terminals.specs.Characters.{begins, is_spaced, ends_or_underscore}
 use Rattle.st_lex.specs.Comments.{to_close, to_open, comment_front}
 use Rattle.st_lex.specs.Numbers.{numeral, is_numeral, value_from, below, bases, in_base, based, before_hash}
 use Rattle.st_lex.specs.Numbers.{behind_hash, magnitude, is_whole, with_type, typed, untyped, whole_number}
