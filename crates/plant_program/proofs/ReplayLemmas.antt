@@ -21,7 +21,8 @@ use Rattle.commit_lock.specs.declared.starting.StartMode.{StartMode}
 use Rattle.traces.specs.declared.findings.Replayed.{Replayed}
 use Rattle.trace_lines.specs.declared.trace_error.ReplayError.{ReplayError}
 use Rattle.trace_lines.specs.declared.trace_error.ReplayError.TheVariants as replays
-use Rattle.traces.specs.Replays.{AreFindings, AreToldApart, IsToldApart, IsTrace}
+use Rattle.log_replay.specs.ToldApart.{AreToldApart}
+use Rattle.traces.specs.Replays.{AreFindings, IsToldApart, IsTrace}
 use Rattle.source_run.specs.declared.fault.Fault.{Fault}
 use Rattle.source_run.specs.declared.fault.Fault.TheVariants as faults
 use Rattle.source_run.specs.Reports.{report_text}

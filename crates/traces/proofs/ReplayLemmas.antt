@@ -10,12 +10,13 @@ use Rattle.config.specs.PlanViews.{plan_view}
 use Rattle.serial_core.specs.Steps.{State}
 use Rattle.commit_lock.specs.declared.starting.StartMode.{StartMode}
 use Rattle.trace_lines.specs.Reads.{Begins}
-use Rattle.traces.specs.Replays.{AreFindings, AreToldApart, IsTrace}
-use Rattle.traces.specs.Rests.{IsRest, with_log}
+use Rattle.log_replay.specs.ToldApart.{AreToldApart}
+use Rattle.traces.specs.Replays.{AreFindings, IsTrace}
+use Rattle.log_replay.specs.Rests.{IsRest, with_log}
 use Rattle.traces.specs.Starts.{IsBegunSo, head_of}
 use Rattle.trace_lines.specs.Texts.{end_line, head_text, log_text}
 use Rattle.trace_lines.proofs.ReadLemmas.{both_are, none_some}
-use Rattle.traces.proofs.RestLemmas.{one_rest}
+use Rattle.log_replay.proofs.RestLemmas.{one_rest}
 use Rattle.traces.proofs.StartLemmas.{life_of}
 
 -- the start of a life

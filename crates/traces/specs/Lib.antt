@@ -1,4 +1,2 @@
 pub mod Replays
 pub mod Starts
-pub mod Rests
-pub mod Watching

@@ -1,29 +1,23 @@
 -- What a trace tells, and what is told of its replay.
-use Rattle.std.specs.Prelude.{◌≡◌, ◌<◌, ◌≤◌, ◌-◌, ◌^◌, ℕ, min, List, [], ◌∷◌, ◌++◌, Bool, true, false, length, map, sum}
-use Rattle.std.specs.Prelude.{count_by, slice_index, slice_get, Option, Some, None, IfSome, codes}
+use Rattle.std.specs.Prelude.{◌≡◌, ◌<◌, ◌≤◌, ◌-◌, ◌^◌, ℕ, min, List, ◌++◌, Bool, true, false, length, map, sum}
+use Rattle.std.specs.Prelude.{count_by, slice_index, Option, Some, None, IfSome}
 use Rattle.st_words.specs.declared.limits.TheConstants.{MAX_LOG_ROOM, MOMENT_LIMIT}
 use Rattle.st_words.specs.Values.{Datum}
 use Rattle.st_types.specs.declared.outcome.Outcome.{Outcome}
 use Rattle.st_types.specs.declared.outcome.Outcome.TheVariants.{Done as Ended, Faulted}
-use Rattle.st_plans.specs.declared.entry.Entry.TheVariants.{Row, Done}
 use Rattle.st_plans.specs.Rows.{Latch}
 use Rattle.st_plans.specs.Due.{HasOverruns}
 use Rattle.st_plans.specs.Plans.{schedules_of}
 use Rattle.st_plans.specs.Restarts.{Kept, Start, cold_start, warm_start}
 use Rattle.st_plans.specs.Logs.{Log, past_of, after, outcomes_of, row_count, done_count, IsLegal}
-use Rattle.config.specs.declared.task.ProgramInstance.{ProgramInstance}
 use Rattle.config.specs.declared.plan.Plan.{Plan}
 use Rattle.config.specs.PlanViews.{plan_view}
 use Rattle.commit_lock.specs.declared.starting.StartMode.{StartMode}
 use Rattle.commit_lock.specs.declared.starting.StartMode.TheVariants.{Warm, Cold}
 use Rattle.trace_lines.specs.NamedValues.{are_names_apart}
-use Rattle.trace_lines.specs.Texts.{instance_text, trace_text}
-
--- the rows of a log
-abbrev pub rows_in : Log → List Latch
-rows_in [] = []
-rows_in (Row row ∷ log) = row ∷ rows_in log
-rows_in (Done a ∷ log) = rows_in log
+use Rattle.trace_lines.specs.Texts.{trace_text}
+use Rattle.log_replay.specs.Rests.{rows_in}
+use Rattle.log_replay.specs.ToldApart.{AreToldApart}
 
 -- A cold start has the initial values and no moment. A warm one goes on from what some record tells, or from none.
 abbrev pub IsStart : Plan → StartMode → Start → Type 0
@@ -41,12 +35,6 @@ pub record IsTrace (plan : Plan) (rows : List Latch) (text : List ℕ) (mode : S
   pub behind : List Latch
   pub rows_are : rows ≡ rows_in log ++ behind
   pub spelled : text ≡ trace_text plan mode start log
-
--- A line `done RES/INST ..` tells its program: no text begins so with two.
-abbrev pub AreToldApart : List ProgramInstance → Type 0
-AreToldApart programs = (i j : ℕ) (p q : ProgramInstance) (more rest : List ℕ) → slice_get programs i ≡ Some p
-    → slice_get programs j ≡ Some q
-    → (instance_text (Some p) ++ codes " ") ++ more ≡ (instance_text (Some q) ++ codes " ") ++ rest → i ≡ j
 
 -- lines tell their programs, and names tell their values
 abbrev pub IsToldApart : Plan → Type 0

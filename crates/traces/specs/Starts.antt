@@ -1,14 +1,16 @@
 -- Lives that were begun as the head of a trace tells.
 use Rattle.std.specs.Prelude.{◌≡◌, ℕ, List, Option}
 use Rattle.st_words.specs.declared.limits.TheConstants.{MAX_LOG_ROOM}
-use Rattle.st_plans.specs.Restarts.{kept}
+use Rattle.st_plans.specs.Logs.{Log}
+use Rattle.st_plans.specs.Restarts.{Start, kept}
 use Rattle.config.specs.declared.plan.Plan.{Plan}
 use Rattle.config.specs.PlanViews.{plan_view}
-use Rattle.serial_core.specs.Steps.{State}
+use Rattle.serial_core.specs.Steps.{State, grown}
 use Rattle.commit_lock.specs.Starting.{started}
 use Rattle.commit_lock.specs.declared.starting.StartMode.{StartMode}
 use Rattle.trace_lines.specs.Heads.{IsEarly}
 use Rattle.trace_lines.specs.Texts.{head_text, keep_text}
+use Rattle.log_replay.specs.Watching.{stages}
 use Rattle.traces.specs.Replays.{IsStart}
 
 -- a life of the plan with room for the longest log, which was started so and has done nothing yet
@@ -31,3 +33,7 @@ IsBegunSo plan told = IsBegun plan told.0 told.1
 -- the head of the trace of a life
 abbrev pub head_of : StartMode × State → List ℕ
 head_of told = head_text told.1.plan told.0 record { store = told.1.start; moment = told.1.before }
+
+-- a life of the plan as it was begun, and after each entry of its log
+abbrev pub lives_of : Plan → Start → Log → List State
+lives_of plan start log = stages grown (started plan MAX_LOG_ROOM start) log

@@ -1,13 +1,12 @@
 //! Traces: what the threads of a run did, as a text that a person can read and one thread can run again.
 #![tactic(auto)]
 
-mod entries;
 mod findings;
+mod nobody;
 mod replaying;
 mod starting;
-mod watcher;
 
 pub use findings::Replayed;
+pub use log_replay::Watcher;
 pub use replaying::{replay, replay_text, replay_watched};
 pub use trace_lines::{ReplayError, trace_budget, write_trace};
-pub use watcher::Watcher;

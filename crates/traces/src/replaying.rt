@@ -4,14 +4,15 @@ ghost use Rattle.std.specs.Prelude.{◌≡◌, ◌≢◌, ◌⊎◌, IfOk, IfErr
 ghost use Rattle.st_plans.specs.Restarts.{Start};
 ghost use Rattle.st_plans.specs.Logs.{Log};
 ghost use Rattle.commit_lock.specs.declared.starting.StartMode.{StartMode};
+ghost use Rattle.log_replay.specs.Watching.{HasSeen};
 ghost use Rattle.traces.specs.Replays.{AreFindings, IsToldApart, IsTrace};
-ghost use Rattle.traces.specs.Watching.{HasSeen, lives_of};
+ghost use Rattle.traces.specs.Starts.{lives_of};
 
-use crate::entries::replay_log;
 use crate::findings::{Replayed, findings};
+use crate::nobody::Nobody;
 use crate::starting::start;
-use crate::watcher::{Nobody, Watcher};
 use config::Plan;
+use log_replay::{Watcher, replay_log};
 use st_plans::Row;
 use std::alloc::Global;
 use std::io;

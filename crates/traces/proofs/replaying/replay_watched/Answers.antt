@@ -1,8 +1,8 @@
 use Rattle.std.proofs.Common.{◌≡◌, ap, sym, subst}
 use Rattle.config.specs.declared.plan.Plan.{Plan}
 use Rattle.serial_core.specs.Steps.{State, grown}
-use Rattle.traces.specs.Replays.{AreToldApart}
-use Rattle.traces.specs.Watching.{HasSeen, stages}
+use Rattle.log_replay.specs.ToldApart.{AreToldApart}
+use Rattle.log_replay.specs.Watching.{HasSeen, stages}
 use Rattle.traces.proofs.ReplayLemmas.{found, found_only, no_head, rest_trace, start_of, trace_rest}
 use Rattle.traces.proofs.replaying.replay_watched.Goals as goal
 

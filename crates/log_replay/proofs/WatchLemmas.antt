@@ -2,7 +2,7 @@
 use Rattle.std.proofs.Common.{◌≡◌, ◌∙◌, ap, sym, refl, subst, List, [], ◌∷◌, ◌++◌, true, false, Result, Ok, Err, is_err, OnOk}
 use Rattle.st_plans.specs.declared.entry.Entry.{Entry}
 use Rattle.serial_core.specs.Steps.{State, grown}
-use Rattle.traces.specs.Watching.{HasSeen, stages}
+use Rattle.log_replay.specs.Watching.{HasSeen, stages}
 
 -- one more is seen
 pub seen_more : {W S : Type 0} (sees : W → S → W → Type 0) (first before after : W) (lives : List S) (life : S)

@@ -27,14 +27,14 @@ use Rattle.serial_core.specs.Steps.{CommitsWaiting, Latches, State, comes_later,
 use Rattle.serial_core.specs.declared.refusal.Refusal.{Refusal}
 use Rattle.serial_core.specs.declared.refusal.Refusal.TheVariants as refusals
 use Rattle.serial_core.proofs.OutcomeLemmas.{outcomes_of-add}
-use Rattle.traces.specs.Replays.{AreToldApart, rows_in}
-use Rattle.traces.specs.Rests.{Grows, IsRest, outcome_in}
+use Rattle.log_replay.specs.Rests.{Grows, IsRest, outcome_in, rows_in}
+use Rattle.log_replay.specs.ToldApart.{AreToldApart}
 use Rattle.trace_lines.specs.Texts.{told_text}
 use Rattle.trace_lines.specs.Texts.{done_line, instance_text, line, outcome_text}
 use Rattle.trace_lines.specs.Reads.{Follows}
 use Rattle.trace_lines.proofs.ReadLemmas.{both_are, none_some}
 use Rattle.trace_lines.proofs.TraceLemmas.{outcomes_long}
-use Rattle.traces.proofs.RestLemmas.{done_parts, first_line, head_is, program_there, rest_text, waited}
+use Rattle.log_replay.proofs.RestLemmas.{done_parts, first_line, head_is, program_there, rest_text, waited}
 
 -- ---- a row
 

@@ -26,8 +26,8 @@ use Rattle.config.specs.PlanViews.{plan_view}
 use Rattle.serial_core.specs.Steps.{State, grown, made}
 use Rattle.serial_core.proofs.OutcomeLemmas.{outcomes_of-add}
 use Rattle.trace_lines.proofs.TraceLemmas.{outcomes_long}
-use Rattle.traces.specs.Replays.{AreToldApart, rows_in}
-use Rattle.traces.specs.Rests.{Grows, IsNoRest, IsRest, outcome_in, with_log}
+use Rattle.log_replay.specs.Rests.{Grows, IsNoRest, IsRest, outcome_in, rows_in, with_log}
+use Rattle.log_replay.specs.ToldApart.{AreToldApart}
 use Rattle.trace_lines.specs.Texts.{done_line, end_line, entry_line, instance_text, line, log_text, outcome_text}
 
 -- ---- heads of lists

@@ -1,8 +1,8 @@
 use Rattle.std.proofs.Common.{◌≡◌, List, [], ◌∷◌, ◌++◌, length}
 use Rattle.serial_core.specs.Steps.{State, grown}
-use Rattle.traces.specs.Watching.{HasSeen, stages}
-use Rattle.traces.proofs.RestLemmas.{IsFar}
-use Rattle.traces.proofs.entries.replay_log.Given as goal
+use Rattle.log_replay.specs.Watching.{HasSeen, stages}
+use Rattle.log_replay.proofs.RestLemmas.{IsFar}
+use Rattle.log_replay.proofs.entries.replay_log.Given as goal
 
 abbrev pub invariant-lines : goal.invariant-lines
 invariant-lines g l = record {

@@ -1,10 +1,10 @@
 use Rattle.std.proofs.Common.{◌≡◌, ◌∙◌, ap, sym, subst, refl, true, false, length, List, [], ◌∷◌, ◌++◌}
 use Rattle.serial_core.specs.Steps.{State, grown}
 use Rattle.trace_lines.specs.Texts.{end_line}
-use Rattle.traces.specs.Watching.{HasSeen, stages}
-use Rattle.traces.proofs.RestLemmas.{IsFar, far_begun, far_end, far_more, far_no_end, far_refused}
-use Rattle.traces.proofs.WatchLemmas.{life_more, seen_more, told}
-use Rattle.traces.proofs.entries.replay_log.Goals as goal
+use Rattle.log_replay.specs.Watching.{HasSeen, stages}
+use Rattle.log_replay.proofs.RestLemmas.{IsFar, far_begun, far_end, far_more, far_no_end, far_refused}
+use Rattle.log_replay.proofs.WatchLemmas.{life_more, seen_more, told}
+use Rattle.log_replay.proofs.entries.replay_log.Goals as goal
 
 pub lines-init : goal.lines-init
 lines-init g c = record {

@@ -1,6 +1,6 @@
 //! Who watches a life that is run again.
 
-ghost use Rattle.std.specs.Prelude.{OnOk, ⊤};
+ghost use Rattle.std.specs.Prelude.{OnOk};
 ghost use Rattle.serial_core.specs.Steps.{State};
 
 use serial_core::SerialCore;
@@ -14,16 +14,4 @@ pub trait Watcher {
     /// Sees the core as the life was begun, and then after each entry of its log; an error ends the replay.
     fn seen(&mut self, core: &SerialCore) -> Result<(), AllocError>
         ensures { OnOk result (sees self.old core.now self.new) };
-}
-
-/// Nobody.
-#[derive(Drop)]
-pub(crate) struct Nobody;
-
-impl Watcher for Nobody {
-    ghost sees = { λ _ _ _. ⊤ };
-
-    fn seen(&mut self, _: &SerialCore) -> Result<(), AllocError> {
-        Ok(())
-    }
 }

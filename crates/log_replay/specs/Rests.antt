@@ -3,12 +3,18 @@ use Rattle.std.specs.Prelude.{◌≡◌, ◌+◌, ◌≤◌, List, ℕ, [], ◌�
 use Rattle.st_words.specs.declared.limits.TheConstants.{MAX_LOG_ROOM}
 use Rattle.st_types.specs.declared.outcome.Outcome.{Outcome}
 use Rattle.st_plans.specs.declared.entry.Entry.{Entry}
+use Rattle.st_plans.specs.declared.entry.Entry.TheVariants.{Row, Done}
 use Rattle.st_plans.specs.Rows.{Latch}
 use Rattle.st_plans.specs.Logs.{Log, IsLegalFrom, outcome_at, outcomes_from}
 use Rattle.config.specs.PlanViews.{plan_view}
 use Rattle.serial_core.specs.Steps.{State, grown, made}
-use Rattle.traces.specs.Replays.{rows_in}
 use Rattle.trace_lines.specs.Texts.{end_line, entry_line, log_text}
+
+-- the rows of a log
+abbrev pub rows_in : Log → List Latch
+rows_in [] = []
+rows_in (Row row ∷ log) = row ∷ rows_in log
+rows_in (Done a ∷ log) = rows_in log
 
 -- The text is the rest of the trace of a life that has come so far, and goes on with these entries.
 pub record IsRest (life : State) (rows : List Latch) (text : List ℕ) (more : Log) : Type 0 where

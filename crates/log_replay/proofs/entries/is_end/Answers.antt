@@ -1,7 +1,7 @@
 use Rattle.std.proofs.Common.{◌∙◌, ap, sym, append-nil, [], ◌≡◌, true, false}
 use Rattle.trace_lines.specs.Texts.{end_line}
 use Rattle.trace_lines.proofs.ReadLemmas.{none_some}
-use Rattle.traces.proofs.entries.is_end.Goals as goal
+use Rattle.log_replay.proofs.entries.is_end.Goals as goal
 
 pub returns-in-None-clause-end : goal.returns-in-None-clause-end
 returns-in-None-clause-end c = (

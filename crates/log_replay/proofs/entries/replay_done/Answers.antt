@@ -3,8 +3,8 @@ use Rattle.config.specs.declared.task.ProgramInstance.{ProgramInstance}
 use Rattle.config.specs.declared.plan.Plan.{Plan}
 use Rattle.trace_lines.specs.Texts.{outcome_text}
 use Rattle.trace_lines.proofs.ReadLemmas.{none_some}
-use Rattle.traces.proofs.FirstLemmas.{done_ended, done_grows, first_told, is_done, is_told}
-use Rattle.traces.proofs.entries.replay_done.Goals as goal
+use Rattle.log_replay.proofs.FirstLemmas.{done_ended, done_grows, first_told, is_done, is_told}
+use Rattle.log_replay.proofs.entries.replay_done.Goals as goal
 
 pub returns-in-None-clause-refused : goal.returns-in-None-clause-refused
 returns-in-None-clause-refused c = λ apart other rows more left.

@@ -3,8 +3,8 @@ use Rattle.std.proofs.lemmas.Option.{slice_get-get_or}
 use Rattle.st_plans.specs.Rows.{Latch}
 use Rattle.serial_core.specs.Steps.{made}
 use Rattle.trace_lines.proofs.ReadLemmas.{both_are, none_some}
-use Rattle.traces.proofs.FirstLemmas.{first_row, latch_refused, row_grows, same_row}
-use Rattle.traces.proofs.entries.replay_row.Goals as goal
+use Rattle.log_replay.proofs.FirstLemmas.{first_row, latch_refused, row_grows, same_row}
+use Rattle.log_replay.proofs.entries.replay_row.Goals as goal
 
 pub returns-in-None-clause-refused : goal.returns-in-None-clause-refused
 returns-in-None-clause-refused c = λ other more left.

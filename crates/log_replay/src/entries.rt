@@ -6,10 +6,10 @@ ghost use Rattle.st_plans.specs.Rows.{Latch};
 ghost use Rattle.st_plans.specs.Logs.{IsLegal, outcomes_of};
 ghost use Rattle.config.specs.PlanViews.{plan_view};
 ghost use Rattle.serial_core.specs.Steps.{grown, made, waits_in};
-ghost use Rattle.traces.specs.Replays.{AreToldApart};
-ghost use Rattle.traces.specs.Rests.{Goes, Grows, IsNoRest, IsRest, with_log};
 ghost use Rattle.trace_lines.specs.Texts.{end_line, outcome_text};
-ghost use Rattle.traces.specs.Watching.{HasSeen, stages};
+ghost use Rattle.log_replay.specs.Rests.{Goes, Grows, IsNoRest, IsRest, with_log};
+ghost use Rattle.log_replay.specs.ToldApart.{AreToldApart};
+ghost use Rattle.log_replay.specs.Watching.{HasSeen, stages};
 
 use crate::watcher::Watcher;
 use serial_core::{Refusal, SerialCore};
@@ -164,7 +164,7 @@ fn is_end(core: &SerialCore, text: &[u8]) -> bool
 }
 
 /// Runs the log again that the text tells to its end. The watcher sees the core as it was begun, and after each entry.
-pub(crate) fn replay_log<W: Watcher>(
+pub fn replay_log<W: Watcher>(
     alloc: Global,
     core: &mut SerialCore,
     rows: &[Row],

@@ -1,7 +1,7 @@
 use Rattle.std.proofs.Common.{sym, subst, List, ℕ, refl}
-use Rattle.traces.specs.Rests.{Grows, IsRest}
-use Rattle.traces.proofs.FirstLemmas.{no_entry}
-use Rattle.traces.proofs.entries.replay_entry.Goals as goal
+use Rattle.log_replay.specs.Rests.{Grows, IsRest}
+use Rattle.log_replay.proofs.FirstLemmas.{no_entry}
+use Rattle.log_replay.proofs.entries.replay_entry.Goals as goal
 
 pub returns-in-Err-clause-refused : goal.returns-in-Err-clause-refused
 returns-in-Err-clause-refused c = λ apart other more left. c.in-Err.ensures.refused other more

@@ -1,0 +1,3 @@
+pub mod RestLemmas
+pub mod FirstLemmas
+pub mod WatchLemmas

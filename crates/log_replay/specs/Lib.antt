@@ -1,0 +1,3 @@
+pub mod ToldApart
+pub mod Rests
+pub mod Watching
