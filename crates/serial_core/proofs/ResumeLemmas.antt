@@ -8,7 +8,8 @@ use Rattle.st_plans.specs.Restarts.{kept, warm_start}
 use Rattle.config.specs.declared.plan.Plan.{Plan}
 use Rattle.config.specs.PlanViews.{plan_view}
 use Rattle.serial_core.specs.Steps.{State, store_in}
-use Rattle.serial_core.specs.Retained.{retained_kinds, retained_paths, retained_values, restored, paired, told_by}
+use Rattle.core_parts.specs.Restored.{restored}
+use Rattle.serial_core.specs.Retained.{retained_kinds, retained_paths, retained_values, paired, told_by}
 use Rattle.serial_core.proofs.RetainedLemmas.{restart_is, goes_by_itself, kept_paired, values_paired, kinds_kept}
 use Rattle.serial_core.proofs.RetainedLemmas.{restored_back, restored_typed}
 use Rattle.std.proofs.lemmas.List.{length-map}

@@ -19,8 +19,8 @@ use Rattle.st_plans.proofs.RestartLemmas.{restarts, taken, AreUnlike, all_unlike
 use Rattle.st_types.specs.Scopes.{Name, contains_name}
 use Rattle.st_types.proofs.SlotLemmas.{same_path_is, same_path_itself}
 use Rattle.config.specs.Sound.{are_different}
-use Rattle.serial_core.specs.Retained.{retained_paths, retained_kinds, retained_values, first_or, others, restored}
-use Rattle.serial_core.specs.Retained.{paired}
+use Rattle.core_parts.specs.Restored.{first_or, others, restored}
+use Rattle.serial_core.specs.Retained.{retained_paths, retained_kinds, retained_values, paired}
 use Rattle.serial_core.proofs.PlanSlots.{no_variables}
 
 abbrev initials : List PlanVariable → List Datum

@@ -6,12 +6,11 @@ ghost use Rattle.ready_list.specs.Ready.{IsReadyOf, Removes};
 ghost use Rattle.st_plans.specs.Logs.{row_at};
 ghost use Rattle.serial_core.specs.Steps.{Commits, Judges, IsOwn, IsOwnOf, made, stands, waits_in};
 
-use crate::cells::{stand, write_all};
 use crate::refusal::{Answer, Refusal};
-use crate::rows::row_of;
 use crate::serial::SerialCore;
 use coded_runs::Execution;
 use config::Plan;
+use core_parts::{row_of, stand, write_all};
 use ready_list::ReadyList;
 use st_plans::{Activation, Entry, Row};
 

@@ -4,10 +4,10 @@ ghost use Rattle.std.specs.Prelude.{◌≡◌};
 ghost use Rattle.serial_core.specs.Steps.{Latches};
 
 use crate::refusal::Refusal;
-use crate::rows::{fits, is_later};
 use crate::sampling::sample_all;
 use crate::serial::SerialCore;
 use config::Plan;
+use core_parts::{fits, is_later};
 use st_plans::{Entry, Row};
 
 impl SerialCore {

@@ -4,7 +4,6 @@
 //! list are what the log makes. A call that is refused changes nothing.
 #![tactic(auto)]
 
-mod cells;
 mod committing;
 mod committing_here;
 mod keeping;
@@ -13,7 +12,6 @@ mod lookup;
 mod reading;
 mod refusal;
 mod resuming;
-mod rows;
 mod sampling;
 mod serial;
 mod starting;

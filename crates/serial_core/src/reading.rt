@@ -11,8 +11,8 @@ ghost use Rattle.config.specs.PlanViews.{plan_view};
 ghost use Rattle.serial_core.specs.Steps.{made, none_waits, first_image, last_image, inputs_now, store_in, IsWaiting};
 
 use crate::lookup::{input_at, variable_at};
-use crate::rows::row_of;
 use crate::serial::SerialCore;
+use core_parts::row_of;
 use st_plans::Entry;
 use st_types::Outcome;
 use st_words::{Kind, Path, Value};

@@ -1,51 +1,17 @@
 //! Going on from a record.
 
-ghost use Rattle.std.specs.Prelude.{◌≡◌, ◌<◌, ◌^◌, IfSome, [], Some, map, length, if◌then◌else◌};
+ghost use Rattle.std.specs.Prelude.{◌≡◌, ◌<◌, ◌^◌, IfSome, [], Some, map};
 ghost use Rattle.std.specs.List.{AllByRecursion};
 ghost use Rattle.st_words.specs.declared.limits.TheConstants.{MOMENT_LIMIT};
 ghost use Rattle.st_words.specs.Values.{IsHeld};
 ghost use Rattle.st_plans.specs.Restarts.{kept, warm_start};
 ghost use Rattle.config.specs.PlanViews.{plan_view};
-ghost use Rattle.serial_core.specs.Retained.{restored, retained_kinds, told_by, first_or};
-ghost use Rattle.serial_core.specs.Retained.{others};
+ghost use Rattle.serial_core.specs.Retained.{retained_kinds, told_by};
 
 use crate::serial::SerialCore;
 use config::Plan;
-use st_plans::PlanVariable;
+use core_parts::restore;
 use st_words::Value;
-
-/// What a variable starts with, where these values are left for it and the retained variables after it.
-fn value_of(variable: &PlanVariable, kept: &[Value]) -> Value
-    ensures { result
-        ≡ (if variable.now.retained then first_or variable.now.initial kept.now else variable.now.initial) }
-{
-    match kept.first() {
-        Some(value) if variable.retained => *value,
-        _ => variable.initial,
-    }
-}
-
-/// The values that are left after a variable.
-fn left_behind<'a>(variable: &PlanVariable, kept: &'a [Value]) -> &'a [Value]
-    ensures { result.now ≡ (if variable.now.retained then others kept.now else kept.now) }
-{
-    match kept {
-        [_, others @ ..] if variable.retained => others,
-        _ => kept,
-    }
-}
-
-/// Gives each variable its initial value, but these to the retained ones, in order.
-fn restore(values: &mut Vec<Value>, variables: &[PlanVariable], kept: &[Value])
-    requires sized { length values.old.items ≡ length variables.now }
-    ensures { values.new.items ≡ restored variables.now kept.now }
-{
-    let mut rest = kept;
-    for i in 0..variables.len() {
-        values[i] = value_of(&variables[i], rest);
-        rest = left_behind(&variables[i], rest);
-    }
-}
 
 impl SerialCore {
     /// Goes on from a record: the retained variables take these values, in order, and rows have to be later than this

@@ -18,8 +18,8 @@ use Rattle.st_plans.specs.Restarts.{Kept, KeptLine, Start, cold_start, is_line_o
 use Rattle.config.specs.declared.plan.Plan.{Plan}
 use Rattle.config.specs.PlanViews.{plan_view}
 use Rattle.serial_core.specs.Steps.{State, store_in}
-use Rattle.serial_core.specs.Retained.{paired, restored, retained_kinds, retained_paths, retained_values}
-use Rattle.serial_core.specs.Retained.{told_by}
+use Rattle.core_parts.specs.Restored.{restored}
+use Rattle.serial_core.specs.Retained.{paired, retained_kinds, retained_paths, retained_values, told_by}
 use Rattle.serial_core.proofs.PlanSlots.{no_variables}
 use Rattle.serial_core.proofs.RetainedLemmas.{goes_by_itself, kept_paired, kinds_kept, restart_is, restored_back, restored_typed}
 use Rattle.commit_lock.specs.Starting.{started}

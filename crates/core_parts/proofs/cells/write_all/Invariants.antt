@@ -1,7 +1,7 @@
 use Rattle.std.proofs.Common.{◌≡◌, map, drop}
 use Rattle.config.specs.SlotPlaces.{written_variables}
 use Rattle.run_cells.specs.Cells.{cut}
-use Rattle.serial_core.proofs.cells.write_all.Given as goal
+use Rattle.core_parts.proofs.cells.write_all.Given as goal
 
 abbrev pub invariant-loop-cell : goal.invariant-loop-cell
 invariant-loop-cell l = written_variables l.places l.fn.values.items (map cut l.cells)

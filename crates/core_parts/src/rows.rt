@@ -14,7 +14,7 @@ use st_words::Value;
 use st_words::limits::MOMENT_LIMIT;
 
 /// The row of this number, by where each row stands in the log.
-pub(crate) fn row_of<'a>(log: &'a [Entry], rows: &[usize], k: usize) -> &'a Row
+pub fn row_of<'a>(log: &'a [Entry], rows: &[usize], k: usize) -> &'a Row
     requires there { k < length rows.now }
     requires row { (latch : Latch) × (slice_get log.now (slice_index rows.now k) ≡ Some (row_entry latch)) }
     ensures { slice_get log.now (slice_index rows.now k) ≡ Some (row_entry result.now) }
@@ -26,7 +26,7 @@ pub(crate) fn row_of<'a>(log: &'a [Entry], rows: &[usize], k: usize) -> &'a Row
 }
 
 /// Whether the moment is later than the last one, if there is one.
-pub(crate) fn is_later(last: Option<u64>, moment: u64) -> bool
+pub fn is_later(last: Option<u64>, moment: u64) -> bool
     ensures { result ≡ is_later_than last moment }
 {
     match last {
@@ -59,7 +59,7 @@ fn is_image(inputs: &[PlanInput], image: &[Value]) -> bool
 }
 
 /// Whether the row has the plan's inputs, and its moment is within its limit.
-pub(crate) fn fits(plan: &Plan, row: &Row) -> bool
+pub fn fits(plan: &Plan, row: &Row) -> bool
     ensures { result ≡ fits_plan (plan_view plan.now) row.now }
 {
     is_image(&plan.inputs, row.image()) && row.moment() < MOMENT_LIMIT

@@ -1,7 +1,7 @@
 use Rattle.std.proofs.Common.{◌∙◌, ap, sym, length}
 use Rattle.config.specs.SlotPlaces.{value_in}
 use Rattle.config.proofs.SlotLemmas.{found_merged, from_first}
-use Rattle.serial_core.proofs.cells.value_at.Goals as goal
+use Rattle.core_parts.proofs.cells.value_at.Goals as goal
 
 pub returns : goal.returns
 returns c =

@@ -57,7 +57,7 @@ fn is_value(found: Option<Value>, value: Value) -> bool
 }
 
 /// Whether each cell's value stands in its slot.
-pub(crate) fn stand(places: &[SlotPlace], values: &[Value], image: &[Value], cells: &[Cell]) -> bool
+pub fn stand(places: &[SlotPlace], values: &[Value], image: &[Value], cells: &[Cell]) -> bool
     requires { are_numbered 0 0 places.now (length values.now) (length image.now) ≡ true }
     ensures { result ≡ agrees (merged places.now values.now image.now) (map cut cells.now) }
 {
@@ -70,7 +70,7 @@ pub(crate) fn stand(places: &[SlotPlace], values: &[Value], image: &[Value], cel
 }
 
 /// Writes each cell's value to its variable. A cell of another slot changes nothing.
-pub(crate) fn write_all(places: &[SlotPlace], values: &mut Vec<Value>, cells: &[Cell])
+pub fn write_all(places: &[SlotPlace], values: &mut Vec<Value>, cells: &[Cell])
     ensures { values.new.items ≡ written_variables places.now values.old.items (map cut cells.now) }
 {
     for cell in cells {

@@ -1,6 +1,6 @@
 use Rattle.std.proofs.Common.{◌≡◌, ◌++◌, take, drop, length}
-use Rattle.serial_core.specs.Retained.{restored}
-use Rattle.serial_core.proofs.resuming.restore.Given as goal
+use Rattle.core_parts.specs.Restored.{restored}
+use Rattle.core_parts.proofs.restoring.restore.Given as goal
 
 abbrev pub invariant-loop-i : goal.invariant-loop-i
 invariant-loop-i l =

@@ -1,0 +1,11 @@
+//! What a core does with its parts, each by itself: values of slots, rows of a log, what variables start with after a
+//! restart.
+#![tactic(auto)]
+
+mod cells;
+mod restoring;
+mod rows;
+
+pub use crate::cells::{stand, write_all};
+pub use crate::restoring::restore;
+pub use crate::rows::{fits, is_later, row_of};
