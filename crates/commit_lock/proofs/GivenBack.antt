@@ -17,8 +17,8 @@ use Rattle.st_plans.specs.Plans.{initial_store, is_retained}
 use Rattle.st_plans.specs.Logs.{past_of, after, last_moment}
 use Rattle.st_plans.specs.Restarts.{lines_with, kept, kept_of, warm_start}
 use Rattle.st_plans.proofs.RestartLemmas.{initials, GoesByItself, goes_by_itself, given_back, after_same}
-use Rattle.retain_store.specs.Records.{Content}
-use Rattle.retain_store.specs.Recovered.{Recovered, TooLong, Refused, Nothing, Found}
+use Rattle.retain_records.specs.Records.{Content}
+use Rattle.retain_areas.specs.Recovered.{Recovered, TooLong, Refused, Nothing, Found}
 use Rattle.config.specs.declared.plan.Plan.{Plan}
 use Rattle.config.specs.PlanViews.{plan_view}
 use Rattle.config.specs.Sound.{are_different}

@@ -21,14 +21,13 @@ use Rattle.config.specs.Sound.{are_different, is_spelled, has_names, has_spellin
 use Rattle.config.specs.PlanViews.{plan_view}
 use Rattle.st_plans.specs.Restarts.{line_with, lines_with}
 use Rattle.config.specs.declared.plan.Plan.{Plan}
-use Rattle.retain_store.specs.Records.{Content, Line, line_text, text_of, is_path_text, is_visible, by_keyword, by_names}
-use Rattle.retain_store.specs.Records.{IsLine, IsLayoutText, Spells, is_byte_place}
-use Rattle.retain_store.specs.Records.{IsRecordable}
-use Rattle.retain_store.specs.Records.{value_bytes, record_bytes}
-use Rattle.retain_store.specs.Reading.{line_at}
-use Rattle.retain_store.specs.FieldLaws.{some_is, cut_again}
-use Rattle.retain_store.specs.LineLaws.{line_again, value_length, line_parts, path_has_no_space, spelling_in_line}
-use Rattle.retain_store.specs.RecordLaws.{body_length}
+use Rattle.retain_records.specs.Records.{Content, Line, line_text, text_of, is_path_text, is_visible, by_keyword}
+use Rattle.retain_records.specs.Records.{by_names, IsLine, IsLayoutText, Spells, is_byte_place, IsRecordable}
+use Rattle.retain_records.specs.Records.{value_bytes, record_bytes}
+use Rattle.retain_records.specs.Reading.{line_at}
+use Rattle.cut_bytes.specs.CutLaws.{some_is, cut_again}
+use Rattle.retain_records.specs.LineLaws.{line_again, value_length, line_parts, path_has_no_space, spelling_in_line}
+use Rattle.retain_records.specs.RecordLaws.{body_length}
 use Rattle.serial_core.specs.Retained.{retained_kinds, retained_paths, paired, told_by}
 use Rattle.commit_lock.specs.Recorded.{all_renumbered, recorded, recorded_kind}
 use Rattle.commit_lock.specs.Restart.{layout_text_of}

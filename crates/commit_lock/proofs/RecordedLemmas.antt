@@ -10,7 +10,7 @@ use Rattle.st_words.specs.declared.fault.Fault.{Fault}
 use Rattle.st_words.specs.declared.fault.Fault.TheVariants.{Range}
 use Rattle.st_words.specs.Kinds.{holds, width_of}
 use Rattle.st_words.specs.Values.{Datum, IsHeld, in_range}
-use Rattle.retain_store.specs.Records.{has_keyword, is_byte_place}
+use Rattle.retain_records.specs.Records.{has_keyword, is_byte_place}
 use Rattle.commit_lock.specs.Recorded.{recorded_kind, recorded, renumbered, all_renumbered}
 
 -- a record knows an elementary type as it is

@@ -3,10 +3,10 @@ use Rattle.std.proofs.Common.{◌≡◌, ℕ, ◌+◌, List, [], map, Option, So
 use Rattle.std.proofs.Common.{arith}
 use Rattle.st_types.specs.Stores.{Store}
 use Rattle.st_plans.specs.Restarts.{Kept, kept, warm_start}
-use Rattle.retain_store.specs.Records.{Content}
-use Rattle.retain_store.specs.Recovered.{Recovered, TooLong, Refused, Nothing, Found}
+use Rattle.retain_records.specs.Records.{Content}
+use Rattle.retain_areas.specs.Recovered.{Recovered, TooLong, Refused, Nothing, Found}
 use Rattle.retain_store.specs.Kept.{record_in, IsLast}
-use Rattle.retain_store.specs.FieldLaws.{some_is}
+use Rattle.cut_bytes.specs.CutLaws.{some_is}
 use Rattle.config.specs.declared.plan.Plan.{Plan}
 use Rattle.config.specs.PlanViews.{plan_view}
 use Rattle.serial_core.specs.Steps.{State}
@@ -24,7 +24,7 @@ use Rattle.commit_lock.specs.declared.refusal.StartFault.TheVariants as faults
 use Rattle.retain_store.specs.declared.fault.StoreFault.TheVariants as stores
 use Rattle.retain_store.specs.Opening.{KeepsRecord}
 use Rattle.commit_lock.specs.declared.starting.StartMode.TheVariants.{Cold}
-use Rattle.retain_store.specs.Areas.{IsEither}
+use Rattle.retain_areas.specs.Areas.{IsEither}
 use Rattle.std.specs.Prelude.{MatchResult, IfOk, IfErr, Result, Ok, Err}
 
 -- the record that a life goes on from is that of its start

@@ -3,8 +3,8 @@ use Rattle.std.proofs.Common.{ℕ, ◌≤◌, List, [], ◌∷◌, ◌++◌, len
 use Rattle.std.proofs.Common.{append-nil, append_assoc}
 use Rattle.st_plans.specs.declared.entry.Entry.{Entry}
 use Rattle.st_types.specs.Stores.{Store}
-use Rattle.retain_store.specs.Areas.{IsEither}
-use Rattle.retain_store.specs.Recovered.{Recovered, Found}
+use Rattle.retain_areas.specs.Areas.{IsEither}
+use Rattle.retain_areas.specs.Recovered.{Recovered, Found}
 use Rattle.config.specs.declared.plan.Plan.{Plan}
 use Rattle.serial_core.specs.Steps.{State}
 use Rattle.commit_lock.specs.Restart.{Survives, record_now}

@@ -4,7 +4,7 @@ use Rattle.disk.specs.Runs.{LeavesOnly}
 use Rattle.st_plans.specs.declared.entry.Entry.{Entry}
 use Rattle.retain_store.specs.declared.fault.StoreFault.{StoreFault}
 use Rattle.retain_store.specs.Kept.{StoreView}
-use Rattle.retain_store.specs.Recovered.{Recovered, recovered}
+use Rattle.retain_areas.specs.Recovered.{Recovered, recovered}
 use Rattle.serial_core.specs.declared.refusal.Refusal.{Refusal as SerialRefusal}
 use Rattle.serial_core.specs.Steps.{State, grown}
 use Rattle.commit_lock.specs.declared.refusal.Refusal.{Refusal}

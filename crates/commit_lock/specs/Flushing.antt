@@ -3,7 +3,7 @@ use Rattle.std.specs.Prelude.{◌≡◌, ◌≢◌, ◌⊎◌, ◌+◌, ◌-◌,
 use Rattle.retain_store.specs.declared.fault.StoreFault.TheVariants as stores
 use Rattle.commit_lock.specs.declared.refusal.Refusal.{Refusal}
 use Rattle.commit_lock.specs.declared.refusal.Refusal.TheVariants.{StoreFailed, Serial}
-use Rattle.retain_store.specs.Recovered.{Found}
+use Rattle.retain_areas.specs.Recovered.{Found}
 use Rattle.commit_lock.specs.Cores.{CoreView}
 use Rattle.commit_lock.specs.Restart.{record_now}
 

@@ -6,8 +6,8 @@ use Rattle.st_plans.specs.Restarts.{Start, kept, cold_start, warm_start}
 use Rattle.st_plans.specs.Plans.{initial_store}
 use Rattle.st_plans.specs.Layouts.{layout_text}
 use Rattle.st_plans.specs.Logs.{past_of, after, last_moment}
-use Rattle.retain_store.specs.Records.{Content}
-use Rattle.retain_store.specs.Recovered.{Recovered, TooLong, Refused, Nothing, Found}
+use Rattle.retain_records.specs.Records.{Content}
+use Rattle.retain_areas.specs.Recovered.{Recovered, TooLong, Refused, Nothing, Found}
 use Rattle.config.specs.declared.plan.Plan.{Plan}
 use Rattle.config.specs.PlanViews.{plan_view}
 use Rattle.serial_core.specs.Steps.{State, made}

@@ -2,7 +2,7 @@
 use Rattle.std.specs.Prelude.{◌≡◌, ◌≢◌, ◌⊎◌, ◌+◌, ◌-◌, ◌^◌, ℕ, List, []}
 use Rattle.st_plans.specs.Restarts.{Start, cold_start}
 use Rattle.retain_store.specs.declared.fault.StoreFault.TheVariants as stores
-use Rattle.retain_store.specs.Recovered.{Recovered, TooLong, Refused, Nothing, Found}
+use Rattle.retain_areas.specs.Recovered.{Recovered, TooLong, Refused, Nothing, Found}
 use Rattle.retain_store.specs.Opening.{CountsFault, KeepsFile}
 use Rattle.retain_store.specs.Kept.{StoreView}
 use Rattle.config.specs.declared.plan.Plan.{Plan}

@@ -2,8 +2,8 @@
 use Rattle.std.specs.Prelude.{ℕ, List, [], ◌∷◌, Option, Some, None}
 use Rattle.st_words.specs.Values.{Datum}
 use Rattle.st_plans.specs.Restarts.{Kept, KeptLine}
-use Rattle.retain_store.specs.Records.{Content}
-use Rattle.retain_store.specs.Reading.{◌>>=◌, cut}
+use Rattle.retain_records.specs.Records.{Content}
+use Rattle.cut_bytes.specs.Cuts.{◌>>=◌, cut}
 
 -- the path and the type of the first line of a layout text, and the text after it
 pub record Words : Type 0 where

@@ -1,7 +1,7 @@
 //! Rows, snapshots and executions.
 
 ghost use Rattle.std.specs.Prelude.{List, ℕ};
-ghost use Rattle.retain_store.specs.Recovered.{recovered};
+ghost use Rattle.retain_areas.specs.Recovered.{recovered};
 ghost use Rattle.serial_core.specs.Steps.{Latches, Takes, Commits, CommitsHere};
 ghost use Rattle.commit_lock.specs.Cores.{Guards, Outlives, survives};
 

@@ -1,7 +1,7 @@
 //! The core over a disk.
 
 ghost use Rattle.std.specs.Prelude.{◌≡◌, ◌≤◌, List, ℕ, length};
-ghost use Rattle.retain_store.specs.Recovered.{recovered};
+ghost use Rattle.retain_areas.specs.Recovered.{recovered};
 ghost use Rattle.commit_lock.specs.Cores.{survives};
 
 use crate::starting::StartMode;

@@ -1,7 +1,7 @@
 //! Acknowledging what is in the log.
 
 ghost use Rattle.std.specs.Prelude.{◌≡◌, ◌≤◌, None, Some, IfOk, IfErr, IsErrOf, MatchResult, length};
-ghost use Rattle.retain_store.specs.declared.format.TheConstants.{FILE_BYTES};
+ghost use Rattle.retain_areas.specs.declared.shape.TheConstants.{FILE_BYTES};
 ghost use Rattle.commit_lock.specs.Cores.{Outlives};
 ghost use Rattle.commit_lock.specs.Flushing.{Flushes, CountsFlush};
 

@@ -5,7 +5,7 @@ use Rattle.std.proofs.Common.{Option, Some, None, Result, Ok, Err, inl, inr}
 use Rattle.std.specs.List.{AllByRecursion}
 use Rattle.coded_runs.specs.declared.snapshot.Snapshot.{Snapshot}
 use Rattle.serial_core.specs.declared.refusal.Refusal.{Refusal as SerialRefusal}
-use Rattle.retain_store.specs.Recovered.{recovered}
+use Rattle.retain_areas.specs.Recovered.{recovered}
 use Rattle.commit_lock.specs.declared.refusal.Refusal.{Refusal}
 use Rattle.commit_lock.specs.declared.refusal.Refusal.TheVariants.{StoreFailed, Serial}
 use Rattle.lives.specs.declared.event.Event.{Event}

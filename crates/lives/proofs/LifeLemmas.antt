@@ -6,8 +6,8 @@ use Rattle.disk.specs.Medium.{MayLeave}
 use Rattle.disk.specs.Simulated.{SimView, IsReliable}
 use Rattle.st_types.specs.Stores.{Store}
 use Rattle.st_plans.specs.Logs.{IsLegal}
-use Rattle.retain_store.specs.declared.format.TheConstants.{FILE_BYTES}
-use Rattle.retain_store.specs.Recovered.{recovered}
+use Rattle.retain_areas.specs.declared.shape.TheConstants.{FILE_BYTES}
+use Rattle.retain_areas.specs.Recovered.{recovered}
 use Rattle.config.specs.declared.plan.Plan.{Plan}
 use Rattle.config.specs.PlanViews.{plan_view}
 use Rattle.serial_core.specs.Steps.{State}

@@ -9,8 +9,8 @@ use Rattle.serial_core.specs.declared.refusal.Refusal.TheVariants.{NotWaiting, N
 use Rattle.serial_core.specs.Steps.{Latches, Takes, Commits, CommitsHere}
 use Rattle.retain_store.specs.declared.fault.StoreFault.{StoreFault}
 use Rattle.retain_store.specs.declared.fault.StoreFault.TheVariants as stores
-use Rattle.retain_store.specs.declared.format.TheConstants.{FILE_BYTES}
-use Rattle.retain_store.specs.Recovered.{recovered}
+use Rattle.retain_areas.specs.declared.shape.TheConstants.{FILE_BYTES}
+use Rattle.retain_areas.specs.Recovered.{recovered}
 use Rattle.commit_lock.specs.declared.refusal.Refusal.{Refusal}
 use Rattle.commit_lock.specs.declared.refusal.Refusal.TheVariants.{StoreFailed, Serial}
 use Rattle.lives.specs.declared.event.Event.{Event}

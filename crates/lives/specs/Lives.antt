@@ -6,7 +6,7 @@ use Rattle.disk.specs.Simulated.{SimView}
 use Rattle.st_plans.specs.Restarts.{Start}
 use Rattle.st_plans.specs.Logs.{Log, IsLegal}
 use Rattle.retain_store.specs.declared.fault.StoreFault.TheVariants as stores
-use Rattle.retain_store.specs.Recovered.{recovered}
+use Rattle.retain_areas.specs.Recovered.{recovered}
 use Rattle.config.specs.declared.plan.Plan.{Plan}
 use Rattle.config.specs.PlanViews.{plan_view}
 use Rattle.serial_core.specs.Steps.{State}

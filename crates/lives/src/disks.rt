@@ -4,7 +4,7 @@ ghost use Rattle.std.specs.Prelude.{◌≡◌, None, IfOk};
 ghost use Rattle.disk.specs.Disk.{Only};
 ghost use Rattle.disk.specs.Medium.{MayLeave};
 ghost use Rattle.disk.specs.Simulated.{fresh, IsReliable, StopView};
-ghost use Rattle.retain_store.specs.declared.format.TheConstants.{FILE_BYTES};
+ghost use Rattle.retain_areas.specs.declared.shape.TheConstants.{FILE_BYTES};
 
 use disk::{SimDisk, Stop};
 use std::alloc::{AllocError, Global};

@@ -3,7 +3,7 @@
 ghost use Rattle.std.specs.Prelude.{◌≡◌, ◌≤◌, None, IfOk, IsOk, List};
 ghost use Rattle.std.specs.List.{AllByRecursion};
 ghost use Rattle.st_words.specs.declared.limits.TheConstants.{MAX_LOG_ROOM};
-ghost use Rattle.retain_store.specs.declared.format.TheConstants.{FILE_BYTES};
+ghost use Rattle.retain_areas.specs.declared.shape.TheConstants.{FILE_BYTES};
 ghost use Rattle.disk.specs.Simulated.{IsReliable};
 ghost use Rattle.commit_lock.specs.Starting.{IsNew};
 ghost use Rattle.lives.specs.Lives.{EachLife, IsLife, IsLived, BeginsSo, IsAnswered, IsAcked, LeavesLog, IsRefused};

@@ -16,7 +16,7 @@ use Rattle.plots.specs.Calls.{IsUncalled}
 use Rattle.plant_codes.specs.Codes.{code_of, codes_like, is_code}
 use Rattle.plant_codes.specs.Spelling.{explanation_text}
 use Rattle.plant_codes.specs.declared.entry.Explanation.{Explanation}
-use Rattle.retain_store.specs.Recovered.{recovered}
+use Rattle.retain_areas.specs.Recovered.{recovered}
 use Rattle.retain_show.specs.Shown.{areas_shown, shown_text}
 use Rattle.plant_words.specs.declared.job.Job.{Job}
 use Rattle.plant_words.specs.declared.job.Job.TheVariants as jobs

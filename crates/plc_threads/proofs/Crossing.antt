@@ -83,8 +83,8 @@ use Rattle.st_types.specs.contracts.outcome.Outcome as Outcome
 use Rattle.ready_list.specs.contracts.list.ReadyList as ReadyList
 use Rattle.serial_core.specs.contracts.serial.SerialCore.TheInside as SerialInside
 use Rattle.serial_core.specs.contracts.serial.SerialCore as SerialCore
-use Rattle.retain_store.specs.contracts.record.Record.TheInside as RecordInside
-use Rattle.retain_store.specs.contracts.record.Record as Record
+use Rattle.retain_records.specs.contracts.record.Record.TheInside as RecordInside
+use Rattle.retain_records.specs.contracts.record.Record as Record
 use Rattle.disk.specs.declared.disk.Disk as Disk
 use Rattle.retain_store.specs.contracts.store.Store as Store
 use Rattle.retain_store.specs.contracts.store.Store.TheInside as StoreInside

@@ -3,10 +3,10 @@
 ghost use Rattle.std.specs.Prelude.{◌≡◌, ◌∷◌, [], IfOk, OnOk, map};
 ghost use Rattle.std.specs.Vec.{vec_items};
 ghost use Rattle.std.specs.Io.KnownBytes.{Appends};
-ghost use Rattle.retain_store.specs.Reading.{parted};
+ghost use Rattle.cut_bytes.specs.Cuts.{parted};
 ghost use Rattle.retain_show.specs.Shown.{inner, line_shown, lines_shown, names_in, spelling_of};
 
-use retain_store::cut;
+use cut_bytes::cut;
 use st_print::write_value;
 use st_words::{Name, Value};
 use std::alloc::{AllocError, Global};

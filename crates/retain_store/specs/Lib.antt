@@ -1,11 +1,2 @@
-pub mod Areas
-pub mod FieldLaws
 pub mod Kept
-pub mod LineLaws
 pub mod Opening
-pub mod Reading
-pub mod RecordLaws
-pub mod Records
-pub mod Recovered
-pub mod Rooms
-pub mod Surveys

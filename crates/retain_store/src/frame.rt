@@ -3,12 +3,12 @@
 ghost use Rattle.std.specs.Prelude.{◌≡◌, ◌+◌, ◌≤◌, ◌<◌, ◌++◌, length, take, drop};
 ghost use Rattle.std.specs.Int.{w32, w64, to_be_bytes};
 ghost use Rattle.st_words.specs.declared.limits.TheConstants.{MAX_RECORD_BODY};
-ghost use Rattle.retain_store.specs.Records.{IsRecordable, record_bytes};
-ghost use Rattle.retain_store.specs.Areas.{IsFrame};
+ghost use Rattle.retain_records.specs.Records.{IsRecordable, record_bytes};
+ghost use Rattle.retain_areas.specs.Areas.{IsFrame};
 ghost use Rattle.retain_store.specs.Kept.{content_of};
 
-use crate::format::HEADER_BYTES;
-use crate::spelling::spell;
+use retain_areas::HEADER_BYTES;
+use retain_records::spell;
 use st_words::Value;
 
 /// Writes a header.

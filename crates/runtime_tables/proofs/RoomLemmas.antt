@@ -7,9 +7,9 @@ use Rattle.st_words.specs.declared.kind.Kind.TheVariants.{Sint, Int, Dint, Lint,
 use Rattle.st_words.specs.declared.kind.Kind.TheVariants.{Dword, Lword, Time, Bool as Boolean, Enumerated}
 use Rattle.st_words.specs.Values.{Datum}
 use Rattle.st_words.specs.Kinds.{width_of}
-use Rattle.retain_store.specs.Records.{value_bytes, record_bytes}
-use Rattle.retain_store.specs.LineLaws.{value_length}
-use Rattle.retain_store.specs.RecordLaws.{body_length}
+use Rattle.retain_records.specs.Records.{value_bytes, record_bytes}
+use Rattle.retain_records.specs.LineLaws.{value_length}
+use Rattle.retain_records.specs.RecordLaws.{body_length}
 use Rattle.std.proofs.Common.{lit≤}
 
 width_small : (k : Kind) → width_of k ≤ 8

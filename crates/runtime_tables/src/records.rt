@@ -1,6 +1,6 @@
 //! Records of a store alone, whatever the plan is.
 
-ghost use Rattle.retain_store.specs.Records.{IsRecordable};
+ghost use Rattle.retain_records.specs.Records.{IsRecordable};
 
 use crate::row_error::RowError;
 use crate::words::write_number;

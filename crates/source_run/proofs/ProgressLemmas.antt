@@ -11,7 +11,7 @@ use Rattle.commit_lock.specs.Restart.{begun, warm}
 use Rattle.commit_lock.specs.Told.{told}
 use Rattle.commit_lock.specs.declared.starting.StartMode.TheVariants as modes
 use Rattle.run_lock.specs.Lives.{life_of}
-use Rattle.retain_store.specs.Recovered.{Recovered, TooLong, Refused, Nothing, Found}
+use Rattle.retain_areas.specs.Recovered.{Recovered, TooLong, Refused, Nothing, Found}
 use Rattle.st_plans.specs.Restarts.{warm_start}
 use Rattle.plant_words.specs.declared.job.Start.{Start}
 use Rattle.plant_words.specs.declared.job.Start.TheVariants.{Warm, Cold}

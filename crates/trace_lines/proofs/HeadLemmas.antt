@@ -7,7 +7,7 @@ use Rattle.st_words.specs.declared.limits.TheConstants.{MOMENT_LIMIT}
 use Rattle.st_words.specs.declared.fault.Fault.TheVariants.{Range, DivisionByZero, Index, Conversion, Budget, ZeroStep}
 use Rattle.st_types.specs.declared.outcome.Outcome.{Outcome}
 use Rattle.st_types.specs.declared.outcome.Outcome.TheVariants.{Done, Faulted}
-use Rattle.retain_store.specs.FieldLaws.{has_no}
+use Rattle.cut_bytes.specs.CutLaws.{has_no}
 use Rattle.trace_lines.specs.Heads.{IsEarly}
 use Rattle.trace_lines.specs.Texts.{moment_text, outcome_text}
 use Rattle.trace_lines.proofs.ReadLemmas.{high_mark, low_mark, plain_decimal}

@@ -21,9 +21,9 @@ use Rattle.st_plans.specs.Layouts.{Enumerations, path_text}
 use Rattle.st_types.specs.Scopes.{Name, contains_name}
 use Rattle.st_print.specs.Spelling.{name_at, name_of, named_or, value_text}
 use Rattle.config.specs.Sound.{are_different, has_line, has_names, has_spelling, is_spelled}
-use Rattle.retain_store.specs.FieldLaws.{has_no}
-use Rattle.retain_store.specs.LineLaws.{spelling_in_line}
-use Rattle.retain_store.specs.Records.{by_names}
+use Rattle.cut_bytes.specs.CutLaws.{has_no}
+use Rattle.retain_records.specs.LineLaws.{spelling_in_line}
+use Rattle.retain_records.specs.Records.{by_names}
 use Rattle.trace_lines.specs.NamedValues.{is_place, value_at_place, value_named}
 use Rattle.trace_lines.specs.Reads.{Spells}
 use Rattle.trace_lines.specs.NamedValues.{are_names_apart}

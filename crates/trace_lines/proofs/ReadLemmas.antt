@@ -9,8 +9,8 @@ use Rattle.std.proofs.lemmas.Bool.{and_from, and_parts}
 use Rattle.std.proofs.lemmas.Bool.Decides.{nat_tests, Decides-eqb}
 use Rattle.std.proofs.lemmas.Slice.Eq.{strip_prefix_is}
 use Rattle.std.specs.Cmp.Lexicographic.{pointwise}
-use Rattle.retain_store.specs.Reading.{cut}
-use Rattle.retain_store.specs.FieldLaws.{has_no, cut_takes, cut_again}
+use Rattle.cut_bytes.specs.Cuts.{cut}
+use Rattle.cut_bytes.specs.CutLaws.{has_no, cut_takes, cut_again}
 use Rattle.trace_lines.specs.Reads.{Begins, Follows, Spells}
 
 -- ---- words

@@ -20,7 +20,7 @@ use Rattle.st_words.specs.declared.kind.Sort.TheVariants.{Signed, Unsigned, Bits
 use Rattle.st_words.specs.Kinds.{holds, names_in, row_of, same_kind}
 use Rattle.st_words.proofs.KindLemmas.{same_kind_is, same_kind-refl}
 use Rattle.st_words.specs.Values.{Datum, IsHeld, in_range}
-use Rattle.retain_store.specs.FieldLaws.{has_no}
+use Rattle.cut_bytes.specs.CutLaws.{has_no}
 use Rattle.st_print.specs.Spelling.{hexadecimal, name_of, named_or, number_text, value_text}
 use Rattle.st_print.specs.Numbers.{SpellsValue}
 use Rattle.st_print.proofs.NumberLemmas.{held_short, one_number}

@@ -2,7 +2,7 @@
 
 ghost use Rattle.std.specs.Prelude.{◌≡◌, ◌<◌, ◌^◌, ◌++◌, ◌∷◌, [], ◌==◌, ℕ, option_map, position};
 ghost use Rattle.std.specs.Fmt.{decimal};
-ghost use Rattle.retain_store.specs.Reading.{cut};
+ghost use Rattle.cut_bytes.specs.Cuts.{cut};
 ghost use Rattle.trace_lines.specs.Reads.{Begins, Follows};
 ghost use Rattle.trace_lines.specs.Texts.{line};
 

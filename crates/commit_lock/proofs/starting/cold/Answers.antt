@@ -1,5 +1,5 @@
 use Rattle.std.proofs.Common.{◌+◌, ◌∙◌, sym, subst, arith}
-use Rattle.retain_store.specs.Recovered.{Recovered}
+use Rattle.retain_areas.specs.Recovered.{Recovered}
 use Rattle.commit_lock.specs.Restart.{Survives}
 use Rattle.commit_lock.proofs.SurvivalLemmas.{survives_now}
 use Rattle.commit_lock.proofs.starting.cold.Goals as goal

@@ -1,5 +1,5 @@
 use Rattle.std.proofs.Common.{rules, ◌≡◌, ◌∙◌, Some, length, map, ap, sym}
-use Rattle.retain_store.specs.Records.{IsRecordable}
+use Rattle.retain_records.specs.Records.{IsRecordable}
 use Rattle.retain_store.specs.Kept.{record_in}
 use Rattle.serial_core.specs.Steps.{State}
 use Rattle.commit_lock.specs.Recorded.{all_renumbered, recorded}

@@ -1,4 +1,4 @@
-use Rattle.retain_store.specs.Records.{record_bytes}
+use Rattle.retain_records.specs.Records.{record_bytes}
 use Rattle.retain_store.specs.Kept.{content_of}
 use Rattle.retain_store.proofs.Frames.{is_frame, frame_body, frame_of}
 use Rattle.retain_store.proofs.frame.put_frame.Goals as goal

@@ -1,5 +1,5 @@
 use Rattle.std.proofs.Common.{sym, ◌∙◌}
-use Rattle.retain_store.proofs.LineLemmas.{cut_none, cut_some}
+use Rattle.cut_bytes.proofs.CutLemmas.{cut_none, cut_some}
 use Rattle.trace_lines.proofs.parts.first_field.Goals as goal
 
 pub returns-in_err-end : goal.returns-in_err-end

@@ -1,6 +1,6 @@
 use Rattle.std.proofs.Common.{rules, Err, sym, ap, subst}
 use Rattle.disk.specs.Runs.{LeavesOnly, started}
-use Rattle.retain_store.specs.Recovered.{recovered}
+use Rattle.retain_areas.specs.Recovered.{recovered}
 use Rattle.serial_core.specs.Steps.{Commits}
 use Rattle.commit_lock.specs.Cores.{CoreView, survives}
 use Rattle.commit_lock.proofs.CallLemmas.{kept_longer, commits_longer}

@@ -1,6 +1,6 @@
 use Rattle.std.proofs.Common.{rules, ◌≡◌, ◌+◌, ◌∙◌, None, false, sym, ap, subst}
 use Rattle.disk.specs.Runs.{LeavesOnly, weakens}
-use Rattle.retain_store.specs.Recovered.{recovered, Found}
+use Rattle.retain_areas.specs.Recovered.{recovered, Found}
 use Rattle.commit_lock.specs.Kept.{is_failed}
 use Rattle.commit_lock.specs.Restart.{record_now}
 use Rattle.commit_lock.specs.Cores.{CoreView, survives}

@@ -1,7 +1,7 @@
 use Rattle.std.proofs.Common.{◌≡◌, ◌∙◌, ap, inl, subst}
 use Rattle.std.specs.Prelude.{IfOk}
 use Rattle.disk.specs.Runs.{joins, weakens}
-use Rattle.retain_store.specs.Recovered.{recovered, Found}
+use Rattle.retain_areas.specs.Recovered.{recovered, Found}
 use Rattle.serial_core.specs.Steps.{State}
 use Rattle.commit_lock.specs.Restart.{record_now}
 use Rattle.commit_lock.specs.Starting.{next_generation}

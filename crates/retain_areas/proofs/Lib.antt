@@ -1,0 +1,5 @@
+pub mod AreaLemmas
+pub mod Formats
+mod Steps
+pub mod Stretches
+pub mod Surveys

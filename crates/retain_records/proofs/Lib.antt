@@ -1,0 +1,5 @@
+pub mod PathLemmas
+pub mod ReadingLemmas
+pub mod RecordLemmas
+pub mod SpellingLemmas
+pub mod ValueLemmas

@@ -1,5 +1,0 @@
-use Rattle.retain_store.specs.LineLaws.{value_length}
-use Rattle.retain_store.proofs.laws.values_have_their_width.Goals as goal
-
-pub returns : goal.returns
-returns c = value_length
