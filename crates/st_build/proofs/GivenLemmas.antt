@@ -20,7 +20,7 @@ use Rattle.st_layouts.specs.TextLayouts.{instances_of_text, slots_of_text}
 use Rattle.layout.specs.declared.layout_error.LayoutError.{LayoutError}
 use Rattle.layout.specs.declared.layout_error.LayoutError.TheVariants as layouts
 use Rattle.layout.specs.declared.limits.TheConstants.{MAX_INSTANCES}
-use Rattle.st_compile.specs.declared.compile_error.CompileError.TheVariants as coding
+use Rattle.code_drafts.specs.declared.compile_error.CompileError.TheVariants as coding
 use Rattle.config.specs.declared.plan.Plan.{Plan}
 use Rattle.config.specs.PlanViews.{plan_view}
 use Rattle.st_build.specs.declared.build_error.BuildError.{BuildError}

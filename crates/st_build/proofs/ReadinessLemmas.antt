@@ -14,8 +14,8 @@ use Rattle.config.specs.Sound.{are_different, has_line}
 use Rattle.layout.specs.declared.slots.LayoutSlot.{LayoutSlot}
 use Rattle.layout.specs.TextLayouts.{IsLayoutOf}
 use Rattle.coded_programs.specs.Codes.{CodeView}
-use Rattle.st_compile.specs.declared.compile_error.CompileError.{CompileError}
-use Rattle.st_compile.specs.declared.compile_error.CompileError.TheVariants as coding
+use Rattle.code_drafts.specs.declared.compile_error.CompileError.{CompileError}
+use Rattle.code_drafts.specs.declared.compile_error.CompileError.TheVariants as coding
 use Rattle.text_codes.specs.Codes.{AreCodesOf}
 use Rattle.text_fitting.specs.Spelled.{IsSpelled}
 use Rattle.text_links.specs.Accepted.{IsAccepted}

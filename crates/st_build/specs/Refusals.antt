@@ -17,7 +17,7 @@ use Rattle.st_plans.specs.Plans as plans
 use Rattle.st_layouts.specs.TextLayouts.{enumerations_of_text, instances_of_text, plan_variables_of_text, slots_of_text}
 use Rattle.layout.specs.declared.layout_error.LayoutError.TheVariants as layouts
 use Rattle.layout.specs.Growth.{Exceeds}
-use Rattle.st_compile.specs.declared.compile_error.CompileError.TheVariants as coding
+use Rattle.code_drafts.specs.declared.compile_error.CompileError.TheVariants as coding
 use Rattle.text_paths.specs.Texts.{IsTextOf}
 use Rattle.config.specs.declared.plan.Plan.{Plan}
 use Rattle.config.specs.PlanViews.{plan_view}

@@ -13,7 +13,7 @@ use Rattle.tree_code.specs.Growing.{Code, ◌◂◌}
 use Rattle.tree_code.specs.Programs.{program_code, program_site, ProgramFits}
 use Rattle.tree_code.specs.Sites.{Site, site_from}
 use Rattle.machine_code.specs.declared.instr.Instr.TheVariants.{Fetch, Turn}
-use Rattle.st_compile.specs.Emitting.{or_unfit_function, or_unfit_body, filled}
+use Rattle.code_drafts.specs.Emitting.{or_unfit_function, or_unfit_body, filled}
 use Rattle.st_compile.proofs.MoreFits.{stmts_more}
 use Rattle.st_compile.proofs.SameCode.{SameUnits, stmts_same}
 
@@ -154,11 +154,3 @@ module _ (memory : ℕ) (kept : KeptLibrary) (whole : SlotLibrary) (is : IsKeptO
   pub kept_code : (base size : ℕ) (body : SlotStmts) (n : ℕ) → ProgramFits memory (filled kept) base size body n
       → program_code (filled kept) base size body n ≡ program_code whole base size body n
   kept_code = code_same memory (filled kept) whole agree
-
-pub filled_function : (kept : KeptLibrary) (i : ℕ) (f : SlotFunction) → slice_get kept.functions i ≡ Some (Some f)
-    → slice_get (filled kept).functions i ≡ Some f
-filled_function kept i f at = slice_get-map or_unfit_function kept.functions i ∙ ap (option_map or_unfit_function) at
-
-pub filled_body : (kept : KeptLibrary) (i : ℕ) (b : SlotStmts) → slice_get kept.blocks i ≡ Some (Some b)
-    → slice_get (filled kept).blocks i ≡ Some b
-filled_body kept i b at = slice_get-map or_unfit_body kept.blocks i ∙ ap (option_map or_unfit_body) at

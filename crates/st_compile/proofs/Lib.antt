@@ -1,7 +1,3 @@
-pub mod Elements
-pub mod Sizes
-pub mod Depths
-pub mod Joints
 pub mod MoreFits
 pub mod SameCode
 pub mod Kept

@@ -5,16 +5,14 @@ ghost use Rattle.slot_trees.specs.SlotTrees as tree;
 ghost use Rattle.slot_bodies.specs.LibraryViews.{IsKeptOf, slot_library_view};
 ghost use Rattle.slot_bodies.specs.StatementViews.{slot_stmts_view};
 ghost use Rattle.tree_code.specs.Programs.{program_code, ProgramFits};
-ghost use Rattle.st_compile.specs.Linked.{ProgramLinked};
+ghost use Rattle.code_drafts.specs.Linked.{ProgramLinked};
 
-use crate::compile_error::CompileError;
-use crate::draft::Draft;
-use crate::scope::Scope;
-use crate::statements::put_statements;
+use code_drafts::{CompileError, Draft, Scope};
 use machine_code::Instr;
 use slot_bodies::{SlotLibrary, SlotStmt};
 use std::alloc::Global;
 use tree_code::Ways;
+use tree_compiler::put_statements;
 
 /// How deep calls may be.
 pub const CALL_DEPTH: u16 = 64;

@@ -6,19 +6,20 @@ ghost use Rattle.st_trees.specs.Statements.{case_arms_of};
 ghost use Rattle.st_trees.specs.StatementViews.{case_arm_view};
 ghost use Rattle.st_types.specs.NameTypes.{Declared};
 ghost use Rattle.st_statics.specs.Faults.{Finds};
-ghost use Rattle.st_statics.specs.LabelRules.{labels_of, is_selected, wrong_label_number, wrong_label_value};
-ghost use Rattle.st_statics.specs.LabelRules.{wrong_label, span_of_reading, span_of, spans_of, wrong_labels};
+ghost use Rattle.st_statics.specs.LabelRules.{labels_of, wrong_label, span_of_reading, span_of, spans_of};
+ghost use Rattle.st_statics.specs.LabelRules.{wrong_labels};
 ghost use Rattle.st_names.specs.Enumerated.{reading_view};
 ghost use Rattle.st_names.specs.Tables.{ServesTables};
 ghost use Rattle.st_labels.specs.Spans.{span_view};
 
 use crate::spans::{Span, first_wrong_span};
+use lone_labels::wrong_label;
 use st_names::{Reading, TextTables};
 use st_statics::{Broken, Rule};
 use st_trees::{CaseArm, Label};
 use st_types::number_of;
-use st_typing::{broken_at, either, kind_or_taken, unless, wrong_number, wrong_reading};
-use st_words::{Kind, Number};
+use st_typing::{broken_at, kind_or_taken};
+use st_words::Kind;
 use std::alloc::{AllocError, Global};
 
 /// Appends the labels of one list.
@@ -42,58 +43,6 @@ fn labels_of<'a>(alloc: Global, arms: &'a [CaseArm]) -> Result<Vec<&'a Label>, A
         push_labels(&mut labels, &arm.labels)?;
     }
     Ok(labels)
-}
-
-/// Whether a label's type is the selector's, where that is known.
-fn is_selected(selector: Option<Kind>, kind: Kind) -> bool
-    ensures { result ≡ is_selected selector kind }
-{
-    match selector {
-        Some(other) => other.is(kind),
-        None => true,
-    }
-}
-
-#[tactic(auto, using(st_typing::proofs::Finding::finds_front))]
-fn wrong_label_number(selector: Option<Kind>, number: &Number) -> Option<Broken>
-    ensures { Finds (wrong_label_number selector number.now) result }
-{
-    let kind = kind_or_taken(selector, number.written);
-    either(
-        unless(is_selected(selector, kind), Rule::WrongType, number.place),
-        wrong_number(selector, number),
-    )
-}
-
-fn wrong_label_value(selector: Option<Kind>, place: usize, reading: Reading) -> Option<Broken>
-    ensures { Finds (wrong_label_value selector place (reading_view reading)) result }
-{
-    match reading {
-        Reading::Value(member) => unless(
-            is_selected(selector, member.kind),
-            Rule::WrongType,
-            place,
-        ),
-        _ => wrong_reading(place, reading),
-    }
-}
-
-/// What is wrong in a label by itself: its type, its numbers, or its name.
-#[tactic(auto, using(st_typing::proofs::Finding::finds_front))]
-fn wrong_label(tables: &TextTables, selector: Option<Kind>, label: &Label) -> Option<Broken>
-    ensures { (text : Declared) → ServesTables tables.now text
-        → Finds (wrong_label text selector label.now) result }
-{
-    match label {
-        Label::Single(number) => wrong_label_number(selector, number),
-        Label::Range(lower, upper) => either(
-            wrong_label_number(selector, lower),
-            wrong_label_number(selector, upper),
-        ),
-        Label::Enumerated(value) => {
-            wrong_label_value(selector, value.place, tables.reading_written(value))
-        }
-    }
 }
 
 fn first_wrong_label(

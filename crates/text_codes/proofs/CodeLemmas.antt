@@ -20,7 +20,7 @@ use Rattle.text_codes.specs.CodedSources.{HasCodeRuns}
 use Rattle.text_links.specs.Accepted.{IsLinked}
 use Rattle.text_links.specs.KeptTexts.{KeptText}
 use Rattle.slot_bodies.specs.LibraryViews.{KeptLibrary}
-use Rattle.st_compile.specs.Linked.{ProgramLinked}
+use Rattle.code_drafts.specs.Linked.{ProgramLinked}
 use Rattle.text_fitting.specs.Compiled.{AreCompiled}
 use Rattle.coded_programs.specs.Codes.{CodeView}
 use Rattle.coded_programs.specs.Meanings.{Means}

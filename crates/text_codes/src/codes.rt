@@ -15,7 +15,7 @@ ghost use Rattle.text_links.specs.Accepted.{IsAccepted, IsLinked};
 ghost use Rattle.text_links.specs.CalledFunctions.{is_called};
 ghost use Rattle.text_links.specs.Linked.{linked_text_view};
 ghost use Rattle.coded_programs.specs.Codes.{code_view};
-ghost use Rattle.st_compile.specs.Linked.{ProgramLinked};
+ghost use Rattle.code_drafts.specs.Linked.{ProgramLinked};
 ghost use Rattle.text_fitting.specs.Compiled.{AreCompiled};
 ghost use Rattle.text_fitting.specs.Spelled.{IsSpelled};
 ghost use Rattle.text_codes.specs.Codes.{AreCodesOf, AreCodesOver, IsCodeOver};

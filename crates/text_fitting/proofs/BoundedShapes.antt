@@ -71,7 +71,7 @@ use Rattle.st_sound.proofs.FoundNames.{type_found, type_in_source, unit_found, u
 use Rattle.st_sound.proofs.KnownTypes.{unnamed_among, variable_among}
 use Rattle.st_sound.proofs.WellTypedTexts.{PartsRight, parts_right}
 use Rattle.st_sound.proofs.DeclaredSites.{declared_in_blocks}
-use Rattle.st_compile.specs.Linked.{IsNumber}
+use Rattle.code_drafts.specs.Linked.{IsNumber}
 use Rattle.text_fitting.specs.Sound.{AreBounded, AreBoundedVariables, IsBounded}
 use Rattle.st_sound.specs.Homes.{IsAmong, here as first, further_on}
 use Rattle.slot_trees.specs.TextLinks.{sites_of_call}

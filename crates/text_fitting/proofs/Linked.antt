@@ -19,7 +19,7 @@ use Rattle.slot_trees.specs.Tables.{Table, Symbol, symbol_of, named_in, moved, P
 use Rattle.tree_code.specs.Codes.{count_of}
 use Rattle.tree_code.specs.Fitting.{UnitCall, of_function, reach}
 use Rattle.tree_code.specs.Sites.{Site, end_of}
-use Rattle.st_compile.specs.Linked.{ExprLinked, ExprsLinked, PlaceLinked, SubscriptsLinked}
+use Rattle.code_drafts.specs.Linked.{ExprLinked, ExprsLinked, PlaceLinked, SubscriptsLinked}
 use Rattle.text_fitting.specs.Sound.{IsBounded, SymbolsWithin, number_of_exprs, CallSound, ExprSound, ExprsSound}
 use Rattle.text_fitting.specs.Sound.{VariableSound, SelectorsSound}
 use Rattle.slot_trees.proofs.OptionLemmas.{then_some}

@@ -19,8 +19,8 @@ use Rattle.slot_trees.specs.SlotTrees.{SlotArms, no_arms, arm_then, SlotCaseArms
 use Rattle.slot_trees.specs.Tables.{Table, Symbol, symbol_of, part_at}
 use Rattle.tree_code.specs.Fitting.{UnitCall}
 use Rattle.tree_code.specs.Sites.{Site}
-use Rattle.st_compile.specs.Linked.{StepLinked, ArgumentsLinked, StmtLinked, StmtsLinked}
-use Rattle.st_compile.specs.Linked.{ArmsLinked, CaseArmsLinked}
+use Rattle.code_drafts.specs.Linked.{StepLinked, ArgumentsLinked, StmtLinked, StmtsLinked}
+use Rattle.code_drafts.specs.Linked.{ArmsLinked, CaseArmsLinked}
 use Rattle.text_fitting.specs.Sound.{IsBounded, AreBounded, SymbolsWithin, StepSound, ArgumentsSound, StmtSound}
 use Rattle.text_fitting.specs.Sound.{StmtsSound}
 use Rattle.text_fitting.specs.Sound.{ArmsSound, CaseArmsSound}

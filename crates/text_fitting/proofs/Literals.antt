@@ -42,7 +42,7 @@ use Rattle.st_sound.proofs.RangeLemmas.{in_held}
 use Rattle.slot_trees.proofs.OptionLemmas.{then_some}
 use Rattle.tree_code.specs.Fitting.{IsValue}
 use Rattle.st_layouts.proofs.ListLemmas.{map_some}
-use Rattle.st_compile.specs.Linked.{IsNumber, IsLabel, AreLabels}
+use Rattle.code_drafts.specs.Linked.{IsNumber, IsLabel, AreLabels}
 use Rattle.text_fitting.specs.Spelled.{HaveFewNames, IsKeyword, IsSpelledLiteral, IsSpelledLabel, AreSpelledLabels}
 
 -- a number that a type holds is a value

@@ -69,8 +69,8 @@ use Rattle.slot_bodies.specs.LibraryViews.{KeptLibrary}
 use Rattle.tree_code.specs.Fitting.{of_block, of_function, AllBelow}
 use Rattle.tree_code.specs.Programs.{program_site}
 use Rattle.tree_code.specs.Sites.{Site, end_of, site_at, site_from}
-use Rattle.st_compile.specs.Linked.{CallLinkedWithin, FunctionLinked, IfBodyLinked, IfFunctionLinked, InstanceLinked}
-use Rattle.st_compile.specs.Linked.{ProgramLinked, StmtsLinked}
+use Rattle.code_drafts.specs.Linked.{CallLinkedWithin, FunctionLinked, IfBodyLinked, IfFunctionLinked, InstanceLinked}
+use Rattle.code_drafts.specs.Linked.{ProgramLinked, StmtsLinked}
 use Rattle.st_sound.proofs.FunctionServes.{unit_in_order}
 use Rattle.st_sound.proofs.TakenTexts.{taken_differ}
 use Rattle.st_sound.proofs.UnitServes.{differ, named_once, unit_once}

@@ -2,7 +2,7 @@
 use Rattle.std.specs.Prelude.{ℕ, List, [], ◌∷◌}
 use Rattle.slot_bodies.specs.LibraryViews.{KeptLibrary}
 use Rattle.slot_trees.specs.SlotTrees.{SlotStmts}
-use Rattle.st_compile.specs.Linked.{ProgramLinked}
+use Rattle.code_drafts.specs.Linked.{ProgramLinked}
 
 -- each over so many slots, with calls at most 64 deep
 abbrev pub AreCompiled : KeptLibrary → ℕ → List SlotStmts → Type 0

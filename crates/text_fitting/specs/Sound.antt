@@ -19,7 +19,7 @@ use Rattle.slot_trees.specs.SlotTrees.{BlockCode}
 use Rattle.slot_trees.specs.Tables.{Symbol, Table, symbol_of, named_in}
 use Rattle.tree_code.specs.Fitting.{UnitCall, of_function, of_block, IsValue}
 use Rattle.tree_code.specs.Sites.{Site, end_of, site_at}
-use Rattle.st_compile.specs.Linked.{IsNumber, AreLabels}
+use Rattle.code_drafts.specs.Linked.{IsNumber, AreLabels}
 
 -- each array has an element, and a lower bound that instructions hold
 abbrev mutual

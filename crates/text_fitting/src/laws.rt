@@ -20,7 +20,7 @@ ghost use Rattle.st_layouts.specs.TextLayouts.{slots_of_text};
 ghost use Rattle.slot_bodies.specs.LibraryViews.{KeptLibrary};
 ghost use Rattle.slot_trees.specs.Tables.{Table};
 ghost use Rattle.tree_code.specs.Sites.{Site};
-ghost use Rattle.st_compile.specs.Linked.{CallLinkedWithin};
+ghost use Rattle.code_drafts.specs.Linked.{CallLinkedWithin};
 ghost use Rattle.text_fitting.specs.Sound.{ExprSound, StmtsSound};
 ghost use Rattle.text_links.specs.Accepted.{IsAccepted, IsLinked};
 ghost use Rattle.text_links.specs.KeptTexts.{KeptText};

@@ -7,7 +7,7 @@ ghost use Rattle.slot_trees.specs.LinkedStatements.{linked_stmts};
 ghost use Rattle.slot_trees.specs.SlotTrees.{SlotStmts};
 ghost use Rattle.slot_trees.specs.Tables.{Table};
 ghost use Rattle.tree_code.specs.Sites.{Site};
-ghost use Rattle.st_compile.specs.Linked.{CallLinkedWithin, StmtsLinked};
+ghost use Rattle.code_drafts.specs.Linked.{CallLinkedWithin, StmtsLinked};
 ghost use Rattle.text_fitting.specs.Sound.{AreBounded, AreBoundedVariables, SymbolsWithin, StmtsSound};
 ghost use Rattle.st_layouts.specs.LayoutVariables.{Owned, owned_variable};
 ghost use Rattle.st_layouts.specs.TextLayouts.{slots_of};

@@ -2,7 +2,7 @@ use Rattle.std.proofs.Common.{◌≡◌, rules, ◌∙◌}
 use Rattle.slot_bodies.specs.LibraryViews.{slot_library_view}
 use Rattle.slot_bodies.specs.StatementViews.{slot_stmts_view}
 use Rattle.tree_code.specs.Programs.{program_code, ProgramFits}
-use Rattle.st_compile.specs.Emitting.{filled}
+use Rattle.code_drafts.specs.Emitting.{filled}
 use Rattle.st_compile.proofs.Kept.{kept_code, kept_fits}
 use Rattle.st_compile.proofs.compiler.compile_within.Goals as goal
 

@@ -3,8 +3,8 @@ use Rattle.std.specs.Prelude.{IfErr}
 use Rattle.std.proofs.lemmas.List.{map-append}
 use Rattle.slot_bodies.specs.LibraryViews.{slot_library_view}
 use Rattle.slot_bodies.specs.StatementViews.{slot_stmts_view}
-use Rattle.st_compile.specs.declared.compile_error.CompileError.TheVariants.{NotLinked}
-use Rattle.st_compile.specs.Linked.{ProgramLinked}
+use Rattle.code_drafts.specs.declared.compile_error.CompileError.TheVariants.{NotLinked}
+use Rattle.code_drafts.specs.Linked.{ProgramLinked}
 use Rattle.text_fitting.specs.Compiled.{AreCompiled}
 use Rattle.text_links.proofs.SymbolLemmas.{more_taken}
 use Rattle.coded_programs.specs.Codes.{code_view}

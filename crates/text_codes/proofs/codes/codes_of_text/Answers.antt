@@ -7,7 +7,7 @@ use Rattle.st_trees.specs.SourceViews.{source_view}
 use Rattle.st_types.specs.ResolvedUnits.{resolved_source}
 use Rattle.st_layouts.specs.TextLayouts.{slots_of_text}
 use Rattle.layout.specs.TextLayouts.{IsLayoutOf}
-use Rattle.st_compile.specs.declared.compile_error.CompileError.TheVariants.{NotLinked}
+use Rattle.code_drafts.specs.declared.compile_error.CompileError.TheVariants.{NotLinked}
 use Rattle.text_links.specs.Accepted.{IsAccepted}
 use Rattle.text_links.specs.CalledFunctions.{is_called}
 use Rattle.text_fitting.specs.Compiled.{AreCompiled}

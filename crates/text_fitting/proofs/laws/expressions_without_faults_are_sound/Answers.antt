@@ -1,4 +1,4 @@
-use Rattle.st_compile.specs.Linked.{CallLinkedWithin}
+use Rattle.code_drafts.specs.Linked.{CallLinkedWithin}
 use Rattle.st_sound.proofs.ValueLaw.{inside}
 use Rattle.st_statics.specs.Demands.{expected_of}
 use Rattle.text_fitting.proofs.Expressions.{expr_sound}

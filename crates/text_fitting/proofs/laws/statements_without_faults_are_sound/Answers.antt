@@ -1,4 +1,4 @@
-use Rattle.st_compile.specs.Linked.{CallLinkedWithin}
+use Rattle.code_drafts.specs.Linked.{CallLinkedWithin}
 use Rattle.text_fitting.proofs.Statements.{stmts_sound}
 use Rattle.text_fitting.proofs.laws.statements_without_faults_are_sound.Goals as goal
 

@@ -1,4 +1,4 @@
-use Rattle.st_compile.specs.Linked.{CallLinkedWithin}
+use Rattle.code_drafts.specs.Linked.{CallLinkedWithin}
 use Rattle.text_fitting.proofs.LinkedStatements.{stmts_linked}
 use Rattle.text_fitting.proofs.linked_bodies.linked_bodies_are_compiled.Goals as goal
 

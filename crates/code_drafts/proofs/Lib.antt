@@ -1,0 +1,5 @@
+pub mod Elements
+pub mod Sizes
+pub mod Depths
+pub mod Joints
+pub mod Filled

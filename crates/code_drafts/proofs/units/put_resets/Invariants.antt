@@ -1,0 +1,14 @@
+use Rattle.std.proofs.Common.{◌≡◌, ◌≤◌, ◌+◌, drop, length}
+use Rattle.tree_code.specs.Calls.{resets_code}
+use Rattle.code_drafts.proofs.units.put_resets.Given as goal
+
+-- the code is that of the values from here on
+abbrev pub invariant-loop-left : goal.invariant-loop-left
+invariant-loop-left l = record {
+  within : l.left ≤ length l.fresh;
+  longer : length l.fn.code ≤ length l.code;
+  code : l.code ≡ resets_code (l.first + l.left) (drop l.left l.fresh) l.fn.code;
+}
+
+abbrev pub decreases-loop-left : goal.decreases-loop-left
+decreases-loop-left l = l.left
