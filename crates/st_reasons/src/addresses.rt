@@ -1,6 +1,7 @@
 //! What is said of addresses (G4).
 
-use crate::spelling::Words;
+use crate::spelling::Text;
+use crate::telling::said_at;
 use st_diagnose::{Finding, position_of};
 use st_lex::Token;
 use st_trees::{
@@ -94,25 +95,24 @@ fn of_misplaced(
     name: &str,
     address: &str,
     why: Misplaced,
-) -> Result<Finding, AllocError> {
-    let sentence = match why {
+) -> Result<String, AllocError> {
+    match why {
         Misplaced::OutOfRange(last) => {
-            format!(in alloc; "`{address}` is out of its range: 0 to {last}")?
+            format!(in alloc; "`{address}` is out of its range: 0 to {last}")
         }
         Misplaced::OtherWidth(AddressWidth::Bit) => {
-            format!(in alloc; "`{address}` is one bit: `{name}` has to be BOOL")?
+            format!(in alloc; "`{address}` is one bit: `{name}` has to be BOOL")
         }
         Misplaced::OtherWidth(AddressWidth::Word) => {
-            format!(in alloc; "`{address}` has 16 bits: `{name}` has to be INT, UINT or WORD")?
+            format!(in alloc; "`{address}` has 16 bits: `{name}` has to be INT, UINT or WORD")
         }
         Misplaced::Constant => {
-            format!(in alloc; "`{name}` has the address `{address}` and stands under CONSTANT")?
+            format!(in alloc; "`{name}` has the address `{address}` and stands under CONSTANT")
         }
         Misplaced::Initial => {
-            format!(in alloc; "`{address}` is an input: `{name}` may have no initial value")?
+            format!(in alloc; "`{address}` is an input: `{name}` may have no initial value")
         }
-    };
-    Ok(Finding::new(sentence))
+    }
 }
 
 /// The first of some globals that may not stand at its address.
@@ -137,71 +137,52 @@ fn first_at<'a>(located: &[Located<'a>], address: Address) -> Option<Located<'a>
 
 /// The first of some globals whose address an earlier one has, and that one. All are in their ranges, in which there
 /// are 2,560 addresses: so few are looked at.
-fn first_doubled<'a>(
-    alloc: Global,
-    located: &[Located<'a>],
-) -> Result<Option<(Located<'a>, Located<'a>)>, AllocError> {
-    let mut before = Vec::new(alloc);
+fn first_doubled<'a>(located: &[Located<'a>]) -> Option<(Located<'a>, Located<'a>)> {
     for one in located {
-        if let Some(first) = first_at(&before, one.address) {
-            return Ok(Some((*one, first)));
+        match first_at(located, one.address) {
+            Some(first) if first.name.place != one.name.place => return Some((*one, first)),
+            _ => {}
         }
-        before.push(*one)?;
     }
-    Ok(None)
+    None
 }
 
-fn of_doubled(
-    alloc: Global,
-    words: Words,
-    address: &Token,
-    first: &Identifier,
-) -> Result<Finding, AllocError> {
-    let (spelled, name) = (words.spelled_token(address), words.spelled(first));
-    let line = position_of(words.text, first.place).line;
-    let sentence = format!(in alloc;
-        "`{spelled}` is used twice: `{name}` in line {line} has it already"
-    )?;
-    Ok(Finding::new(sentence).at(address.start))
+fn of_doubled(text: &Text, address: &Token, first: &Identifier) -> Result<String, AllocError> {
+    let (spelled, name) = (text.spelled_token(address), text.spelled(first));
+    let line = position_of(text.bytes, first.place).line;
+    format!(in text.alloc; "`{spelled}` is used twice: `{name}` in line {line} has it already")
 }
 
 fn of_first_misplaced(
-    alloc: Global,
-    words: Words,
+    text: &Text,
     name: &Identifier,
     why: Misplaced,
 ) -> Result<Option<Finding>, AllocError> {
-    let Some(address) = words.address_behind(name) else {
+    let Some(address) = text.address_behind(name) else {
         return Ok(None);
     };
-    let (name, spelled) = (words.spelled(name), words.spelled_token(address));
-    let finding = of_misplaced(alloc, name, spelled, why)?;
-    Ok(Some(finding.at(address.start)))
+    let (name, spelled) = (text.spelled(name), text.spelled_token(address));
+    said_at(address.start, of_misplaced(text.alloc, name, spelled, why))
 }
 
-fn of_first_doubled(
-    alloc: Global,
-    words: Words,
-    located: &[Located],
-) -> Result<Option<Finding>, AllocError> {
-    let Some((second, first)) = first_doubled(alloc, located)? else {
+fn of_first_doubled(text: &Text, located: &[Located]) -> Result<Option<Finding>, AllocError> {
+    let Some((second, first)) = first_doubled(located) else {
         return Ok(None);
     };
-    match words.address_behind(second.name) {
-        Some(address) => Ok(Some(of_doubled(alloc, words, address, first.name)?)),
+    match text.address_behind(second.name) {
+        Some(address) => said_at(address.start, of_doubled(text, address, first.name)),
         None => Ok(None),
     }
 }
 
 /// What is said of an address that may not stand where it does, or that stands twice.
 pub fn of_addresses(
-    alloc: Global,
-    words: Words,
+    text: &Text,
     configuration: &Configuration,
 ) -> Result<Option<Finding>, AllocError> {
-    let located = located_in(alloc, configuration)?;
+    let located = located_in(text.alloc, configuration)?;
     match first_misplaced(&located) {
-        Some((one, why)) => of_first_misplaced(alloc, words, one.name, why),
-        None => of_first_doubled(alloc, words, &located),
+        Some((one, why)) => of_first_misplaced(text, one.name, why),
+        None => of_first_doubled(text, &located),
     }
 }

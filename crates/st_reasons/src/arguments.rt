@@ -1,14 +1,15 @@
 //! What is said of the arguments of blocks (C10).
 
-use crate::lookups::Lookups;
 use crate::members::{of_missing_side, variable_type};
+use crate::sites::Site;
 use crate::spots::{name_at, spelled_name};
+use crate::telling::{may_help, said, said_with};
 use st_diagnose::{Finding, Spot, is_mark};
 use st_lex::{Mark, TokenKind};
 use st_names::{PlaceType, Side};
 use st_trees::SimpleType;
 use st_words::{Identifier, Name};
-use std::alloc::{AllocError, Global};
+use std::alloc::AllocError;
 
 /// The call of an instance in which an argument is at the place.
 #[derive(Clone, Copy)]
@@ -64,87 +65,83 @@ fn call_at<'a>(spot: &Spot<'a>, argument: &Name) -> Option<Call<'a>> {
 }
 
 /// The block of which a variable of the unit at the place is an instance.
-fn block_of<'a>(lookups: &Lookups<'a>, place: usize, instance: &Name) -> Option<&'a Identifier> {
-    match variable_type(lookups, place, instance) {
-        Some(PlaceType::Simple(SimpleType::Named(block))) if lookups.tables.is_block(&block.name) =>
-            { Some(block) }
+fn block_of<'a>(site: &Site<'a>, instance: &Name) -> Option<&'a Identifier> {
+    match variable_type(site, instance) {
+        Some(PlaceType::Simple(SimpleType::Named(block))) if site.tables.is_block(&block.name) => {
+            Some(block)
+        }
         _ => None,
     }
 }
 
 /// Whether the block of an instance has an input or an output of a name.
-fn has(lookups: &Lookups, place: usize, instance: &Name, side: Side, name: &Name) -> bool {
-    match variable_type(lookups, place, instance) {
-        Some(declared) => lookups
-            .tables
-            .block_variable(side, declared, name)
-            .is_some(),
+fn has(site: &Site, instance: &Name, side: Side, name: &Name) -> bool {
+    match variable_type(site, instance) {
+        Some(declared) => site.tables.block_variable(side, declared, name).is_some(),
         None => false,
+    }
+}
+
+/// What may help where an argument stands on this side, and its block has it on the other.
+fn help_for(site: &Site, side: Side) -> Result<Option<String>, AllocError> {
+    let spelled = site.spot.spelled();
+    match side {
+        Side::Input => {
+            may_help(format!(in site.alloc; "an output is copied: `{spelled} => variable`"))
+        }
+        Side::Output => {
+            may_help(format!(in site.alloc; "an input is given a value: `{spelled} := value`"))
+        }
     }
 }
 
 /// An output that is given a value, or an input that is copied.
 fn of_other_side(
-    alloc: Global,
-    spot: &Spot,
+    site: &Site,
     block: &Identifier,
     side: Side,
-) -> Result<Finding, AllocError> {
-    let (spelled, name) = (spot.spelled(), spelled_name(spot, block));
-    match side {
-        Side::Input => {
-            let finding = Finding::new(format!(in alloc; "`{spelled}` is an output of `{name}`")?);
-            let help = format!(in alloc; "an output is copied: `{spelled} => variable`")?;
-            Ok(finding.helped(help))
-        }
-        Side::Output => {
-            let finding = Finding::new(format!(in alloc; "`{spelled}` is an input of `{name}`")?);
-            let help = format!(in alloc; "an input is given a value: `{spelled} := value`")?;
-            Ok(finding.helped(help))
-        }
-    }
+) -> Result<Option<Finding>, AllocError> {
+    let (spelled, name) = (site.spot.spelled(), spelled_name(&site.spot, block));
+    let other = match side {
+        Side::Input => "output",
+        Side::Output => "input",
+    };
+    said_with(
+        format!(in site.alloc; "`{spelled}` is an {other} of `{name}`"),
+        help_for(site, side),
+    )
 }
 
 /// An argument that stands once in its call.
 fn of_wrong<'a>(
-    alloc: Global,
-    spot: &Spot<'a>,
-    lookups: &Lookups<'a>,
+    site: &Site<'a>,
     instance: &Name,
     side: Side,
-    name: &Name,
+    name: &'a Name,
 ) -> Result<Option<Finding>, AllocError> {
-    let Some(block) = block_of(lookups, spot.place, instance) else {
-        return Ok(None);
-    };
-    if has(lookups, spot.place, instance, side, name) {
-        return Ok(None);
-    }
     let other = match side {
         Side::Input => Side::Output,
         Side::Output => Side::Input,
     };
-    if has(lookups, spot.place, instance, other, name) {
-        return Ok(Some(of_other_side(alloc, spot, block, side)?));
+    match block_of(site, instance) {
+        Some(_) if has(site, instance, side, name) => Ok(None),
+        Some(block) if has(site, instance, other, name) => of_other_side(site, block, side),
+        Some(block) => of_missing_side(site, block, side, name),
+        None => Ok(None),
     }
-    Ok(Some(of_missing_side(alloc, spot, lookups, block, side, name)?))
 }
 
 /// What is said of an argument of a block that it has not, or that is given twice; nothing where the place is at none.
-pub fn of_argument<'a>(
-    alloc: Global,
-    spot: &Spot<'a>,
-    lookups: &Lookups<'a>,
-) -> Result<Option<Finding>, AllocError> {
-    let (Some(side), Some(name)) = (side_at(spot), name_at(spot)) else {
+pub fn of_argument(site: &Site) -> Result<Option<Finding>, AllocError> {
+    let (Some(side), Some(name)) = (side_at(&site.spot), name_at(&site.spot)) else {
         return Ok(None);
     };
-    match call_at(spot, name) {
+    match call_at(&site.spot, name) {
         Some(call) if call.is_repeated => {
-            let spelled = spot.spelled();
-            Ok(Some(Finding::new(format!(in alloc; "`{spelled}` is given twice")?)))
+            let spelled = site.spot.spelled();
+            said(format!(in site.alloc; "`{spelled}` is given twice"))
         }
-        Some(call) => of_wrong(alloc, spot, lookups, call.instance, side, name),
+        Some(call) => of_wrong(site, call.instance, side, name),
         None => Ok(None),
     }
 }

@@ -1,7 +1,8 @@
 //! What is said of what may not be assigned (C5).
 
-use crate::lookups::Lookups;
+use crate::sites::Site;
 use crate::spots::name_at;
+use crate::telling::{may_help, said_with};
 use st_diagnose::{Finding, Spot, is_mark};
 use st_lex::Mark;
 use st_trees::{Section, Unit};
@@ -35,20 +36,26 @@ fn why(spot: &Spot, section: Option<Section>) -> &'static str {
     }
 }
 
+/// What may help where a variable of a block that begins with these words may not be assigned.
+fn help_of(alloc: Global, section: Option<Section>) -> Result<Option<String>, AllocError> {
+    match section {
+        Some(Section::ConstantExternal) => may_help(String::from_str(
+            alloc,
+            "a global that is neither CONSTANT nor an input is named under VAR_EXTERNAL",
+        )),
+        _ => Ok(None),
+    }
+}
+
 /// What is said of a variable that may not be assigned.
-pub fn of_assigned(alloc: Global, spot: &Spot, lookups: &Lookups) -> Result<Finding, AllocError> {
-    let section = match (lookups.unit_at(spot.place), name_at(spot)) {
+pub fn of_assigned(site: &Site) -> Result<Option<Finding>, AllocError> {
+    let section = match (site.unit(), name_at(&site.spot)) {
         (Some(unit), Some(name)) => section_of(unit, name),
         _ => None,
     };
-    let spelled = spot.spelled();
-    let why = why(spot, section);
-    let finding = Finding::new(format!(in alloc; "`{spelled}` {why}")?);
-    match section {
-        Some(Section::ConstantExternal) => finding.with_help(
-            alloc,
-            "a global that is neither CONSTANT nor an input is named under VAR_EXTERNAL",
-        ),
-        _ => Ok(finding),
-    }
+    let (spelled, why) = (site.spot.spelled(), why(&site.spot, section));
+    said_with(
+        format!(in site.alloc; "`{spelled}` {why}"),
+        help_of(site.alloc, section),
+    )
 }

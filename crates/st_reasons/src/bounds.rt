@@ -1,5 +1,6 @@
 //! What is said of the bounds of arrays (C8).
 
+use crate::telling::said;
 use st_decl::{declarings_in, named_arrays, unnamed_arrays};
 use st_diagnose::Finding;
 use st_statics::limits::MAX_ELEMENTS;
@@ -17,19 +18,35 @@ fn bounded_at<'a>(arrays: &[&'a ArrayType], place: usize) -> Option<&'a ArrayTyp
     None
 }
 
-/// The array whose lower bound is at a place.
-fn array_bounded_at<'a>(
+fn named_at(
     alloc: Global,
-    source: &'a Source,
+    source: &Source,
     place: usize,
-) -> Result<Option<&'a ArrayType>, AllocError> {
+) -> Result<Option<&ArrayType>, AllocError> {
     let named = named_arrays(alloc, source)?;
-    if let Some(array) = bounded_at(&named, place) {
-        return Ok(Some(array));
-    }
+    Ok(bounded_at(&named, place))
+}
+
+fn unnamed_at(
+    alloc: Global,
+    source: &Source,
+    place: usize,
+) -> Result<Option<&ArrayType>, AllocError> {
     let declarings = declarings_in(alloc, source)?;
     let unnamed = unnamed_arrays(alloc, &declarings)?;
     Ok(bounded_at(&unnamed, place))
+}
+
+/// The array whose lower bound is at a place.
+fn array_bounded_at(
+    alloc: Global,
+    source: &Source,
+    place: usize,
+) -> Result<Option<&ArrayType>, AllocError> {
+    match named_at(alloc, source, place) {
+        Ok(None) => unnamed_at(alloc, source, place),
+        found => found,
+    }
 }
 
 /// How many elements an array has whose bounds are in order.
@@ -39,22 +56,25 @@ pub fn elements_of(array: &ArrayType) -> i128 {
         .saturating_add(1)
 }
 
+fn of_array(alloc: Global, array: &ArrayType) -> Result<String, AllocError> {
+    let (lower, upper) = (number_of(&array.lower), number_of(&array.upper));
+    if upper < lower {
+        return format!(in alloc; "the bounds {lower}..{upper} are reversed");
+    }
+    let count = elements_of(array);
+    format!(in alloc;
+        "an array of {lower}..{upper} has {count} elements, at most {MAX_ELEMENTS} are allowed"
+    )
+}
+
 /// What is said of bounds that are reversed or too wide.
 pub fn of_bounds(
     alloc: Global,
     place: usize,
     source: &Source,
 ) -> Result<Option<Finding>, AllocError> {
-    let Some(array) = array_bounded_at(alloc, source, place)? else {
-        return Ok(None);
-    };
-    let (lower, upper) = (number_of(&array.lower), number_of(&array.upper));
-    if upper < lower {
-        let sentence = format!(in alloc; "the bounds {lower}..{upper} are reversed")?;
-        return Ok(Some(Finding::new(sentence)));
+    match array_bounded_at(alloc, source, place)? {
+        Some(array) => said(of_array(alloc, array)),
+        None => Ok(None),
     }
-    let count = elements_of(array);
-    Ok(Some(Finding::new(format!(in alloc;
-        "an array of {lower}..{upper} has {count} elements, at most {MAX_ELEMENTS} are allowed"
-    )?)))
 }

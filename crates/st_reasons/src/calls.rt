@@ -1,12 +1,13 @@
 //! What is said of calls of functions with too many or too few arguments (C10).
 
-use crate::lookups::Lookups;
+use crate::sites::Site;
 use crate::spots::name_at;
+use crate::telling::said;
 use st_diagnose::{Finding, Spot, is_mark};
 use st_lex::{Mark, Token, TokenKind};
 use st_names::{Callee, Standard};
 use st_words::Name;
-use std::alloc::{AllocError, Global};
+use std::alloc::AllocError;
 
 /// How many arguments stand behind an opening parenthesis, up to where it closes.
 fn count(tokens: &[Token]) -> usize {
@@ -36,8 +37,8 @@ fn given(spot: &Spot) -> usize {
 }
 
 /// How many arguments a function takes.
-fn taken(lookups: &Lookups, function: &Name) -> Option<usize> {
-    match lookups.tables.callee_of(function) {
+fn taken(site: &Site, function: &Name) -> Option<usize> {
+    match site.tables.callee_of(function) {
         Some(Callee::Own(signature)) => Some(signature.inputs.len()),
         Some(Callee::Standard(called)) => match called {
             Standard::Abs | Standard::Convert(_, _) => Some(1),
@@ -49,22 +50,14 @@ fn taken(lookups: &Lookups, function: &Name) -> Option<usize> {
 }
 
 /// What is said of a function at the place that is called with too many or too few arguments.
-pub fn of_count(
-    alloc: Global,
-    spot: &Spot,
-    lookups: &Lookups,
-) -> Result<Option<Finding>, AllocError> {
-    if !is_mark(spot.next(), Mark::Open) {
-        return Ok(None);
-    }
-    let Some(function) = name_at(spot) else {
+pub fn of_count(site: &Site) -> Result<Option<Finding>, AllocError> {
+    let taken = match name_at(&site.spot) {
+        Some(function) if is_mark(site.spot.next(), Mark::Open) => taken(site, function),
+        _ => None,
+    };
+    let Some(taken) = taken else {
         return Ok(None);
     };
-    let Some(taken) = taken(lookups, function) else {
-        return Ok(None);
-    };
-    let (name, given) = (spot.spelled(), given(spot));
-    Ok(Some(Finding::new(format!(in alloc;
-        "the number of arguments is {given}, `{name}` takes {taken}"
-    )?)))
+    let (name, given) = (site.spot.spelled(), given(&site.spot));
+    said(format!(in site.alloc; "the number of arguments is {given}, `{name}` takes {taken}"))
 }

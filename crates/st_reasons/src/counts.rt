@@ -1,27 +1,20 @@
 //! What is said of how many configurations, resources, tasks and programs there are (G2, G5), and of programs without a
 //! task (G8).
 
-use crate::spelling::Words;
+use crate::spelling::Text;
+use crate::telling::said_at;
 use st_diagnose::Finding;
-use st_trees::{Configuration, Instance, Resource};
+use st_trees::{Configuration, Instance, Resource, Task};
 use st_words::limits::{MAX_PROGRAMS, MAX_RESOURCES, MAX_TASKS};
-use std::alloc::{AllocError, Global};
+use std::alloc::AllocError;
 
-/// What is said where a text has no CONFIGURATION, or a second one.
-pub fn of_number(
-    alloc: Global,
-    words: Words,
-    configurations: &[&Configuration],
-) -> Result<Option<Finding>, AllocError> {
-    match configurations {
-        [] => Ok(Some(Finding::plain(alloc, "the text has no CONFIGURATION")?)),
-        [_, second, ..] => {
-            let name = words.spelled(&second.name);
-            let sentence = format!(in alloc; "`{name}` is a second CONFIGURATION, a text has one")?;
-            Ok(Some(Finding::new(sentence).at(second.name.place)))
-        }
-        [_] => Ok(None),
-    }
+/// What is said where a text has a second CONFIGURATION.
+pub fn of_second(text: &Text, second: &Configuration) -> Result<Option<Finding>, AllocError> {
+    let name = text.spelled(&second.name);
+    said_at(
+        second.name.place,
+        format!(in text.alloc; "`{name}` is a second CONFIGURATION, a text has one"),
+    )
 }
 
 /// The first program of a configuration that is one too many.
@@ -46,62 +39,65 @@ fn programs(configuration: &Configuration) -> usize {
     count
 }
 
-/// The first resource with too many tasks.
-fn resource_of_too_many(configuration: &Configuration) -> Option<&Resource> {
+/// The first resource with too many tasks, and the task that is one too many.
+fn task_too_many(configuration: &Configuration) -> Option<(&Resource, &Task)> {
     for resource in &configuration.resources {
-        if resource.tasks.len() > MAX_TASKS {
-            return Some(resource);
+        if let Some(task) = resource.tasks.get(MAX_TASKS) {
+            return Some((resource, task));
         }
     }
     None
 }
 
-fn of_programs(
-    alloc: Global,
-    configuration: &Configuration,
-) -> Result<Option<Finding>, AllocError> {
+fn of_programs(text: &Text, configuration: &Configuration) -> Result<Option<Finding>, AllocError> {
     let Some(instance) = program_too_many(configuration) else {
         return Ok(None);
     };
     let count = programs(configuration);
-    let sentence = format!(in alloc;
-        "there are {count} programs, at most {MAX_PROGRAMS} are allowed"
-    )?;
-    Ok(Some(Finding::new(sentence).at(instance.name.place)))
+    said_at(
+        instance.name.place,
+        format!(in text.alloc; "there are {count} programs, at most {MAX_PROGRAMS} are allowed"),
+    )
 }
 
 fn of_many_tasks(
-    alloc: Global,
-    words: Words,
+    text: &Text,
+    resource: &Resource,
+    task: &Task,
+) -> Result<Option<Finding>, AllocError> {
+    let (name, count) = (text.spelled(&resource.name), resource.tasks.len());
+    said_at(
+        task.name.place,
+        format!(in text.alloc;
+            "the resource `{name}` has {count} tasks, at most {MAX_TASKS} are allowed"
+        ),
+    )
+}
+
+fn of_many_resources(
+    text: &Text,
+    configuration: &Configuration,
     resource: &Resource,
 ) -> Result<Option<Finding>, AllocError> {
-    let (name, count) = (words.spelled(&resource.name), resource.tasks.len());
-    let sentence = format!(in alloc;
-        "the resource `{name}` has {count} tasks, at most {MAX_TASKS} are allowed"
-    )?;
-    let finding = Finding::new(sentence);
-    match resource.tasks.get(MAX_TASKS) {
-        Some(task) => Ok(Some(finding.at(task.name.place))),
-        None => Ok(Some(finding)),
-    }
+    let count = configuration.resources.len();
+    said_at(
+        resource.name.place,
+        format!(in text.alloc; "there are {count} resources, at most {MAX_RESOURCES} are allowed"),
+    )
 }
 
 /// What is said where there are too many resources, tasks or programs.
 pub fn of_counts(
-    alloc: Global,
-    words: Words,
+    text: &Text,
     configuration: &Configuration,
 ) -> Result<Option<Finding>, AllocError> {
-    if let Some(resource) = configuration.resources.get(MAX_RESOURCES) {
-        let count = configuration.resources.len();
-        let sentence = format!(in alloc;
-            "there are {count} resources, at most {MAX_RESOURCES} are allowed"
-        )?;
-        return Ok(Some(Finding::new(sentence).at(resource.name.place)));
-    }
-    match resource_of_too_many(configuration) {
-        Some(resource) => of_many_tasks(alloc, words, resource),
-        None => of_programs(alloc, configuration),
+    match (
+        configuration.resources.get(MAX_RESOURCES),
+        task_too_many(configuration),
+    ) {
+        (Some(resource), _) => of_many_resources(text, configuration, resource),
+        (None, Some((resource, task))) => of_many_tasks(text, resource, task),
+        (None, None) => of_programs(text, configuration),
     }
 }
 
@@ -118,16 +114,14 @@ fn without_task(configuration: &Configuration) -> Option<&Instance> {
 }
 
 /// What is said of a program without a task.
-pub fn of_tasks(
-    alloc: Global,
-    words: Words,
-    configuration: &Configuration,
-) -> Result<Option<Finding>, AllocError> {
+pub fn of_tasks(text: &Text, configuration: &Configuration) -> Result<Option<Finding>, AllocError> {
     let Some(instance) = without_task(configuration) else {
         return Ok(None);
     };
-    let name = words.spelled(&instance.name);
-    let finding = Finding::new(format!(in alloc; "the program `{name}` has no task")?);
-    let help = format!(in alloc; "write WITH and the name of a task behind `{name}`")?;
-    Ok(Some(finding.at(instance.name.place).helped(help)))
+    let name = text.spelled(&instance.name);
+    Ok(Some(Finding {
+        sentence: format!(in text.alloc; "the program `{name}` has no task")?,
+        help: Some(format!(in text.alloc; "write WITH and the name of a task behind `{name}`")?),
+        place: Some(instance.name.place),
+    }))
 }

@@ -1,15 +1,15 @@
 //! Types that certainly differ, and what types are called.
 
-use crate::spelling::Words;
+use crate::spelling::Text;
 use st_names::TextNames;
 use st_trees::{ArrayType, SimpleType, TypeDefinition, VariableType};
 use st_types::number_of;
 
 /// What a type is called.
-pub fn type_name<'a>(words: Words<'a>, declared: &VariableType) -> &'a str {
+pub fn type_name<'a>(text: &Text<'a>, declared: &VariableType) -> &'a str {
     match declared {
         VariableType::Simple(SimpleType::Elementary(kind, _)) => kind.row().keyword,
-        VariableType::Simple(SimpleType::Named(name)) => words.spelled(name),
+        VariableType::Simple(SimpleType::Named(name)) => text.spelled(name),
         VariableType::Array(_) => "an array",
     }
 }

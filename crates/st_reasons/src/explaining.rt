@@ -2,6 +2,7 @@
 
 use crate::configurations::of_configuration;
 use crate::rules::of_broken;
+use crate::spelling::Text;
 use st_diagnose::{Finding, SourceFault, Spot, WholeFault, explained, of_rule, of_whole};
 use st_lex::{Token, lex};
 use st_parse::parse;
@@ -30,7 +31,15 @@ fn of_text(
     fault: WholeFault,
 ) -> Result<Finding, AllocError> {
     match parse(alloc, tokens) {
-        Ok(source) => of_configuration(alloc, text, tokens, &source, fault),
+        Ok(source) => {
+            let text = Text {
+                alloc,
+                bytes: text,
+                tokens,
+                source: &source,
+            };
+            of_configuration(&text, fault)
+        }
         Err(_) => of_whole(alloc, fault),
     }
 }

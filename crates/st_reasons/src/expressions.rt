@@ -1,13 +1,14 @@
 //! What is said of operators and functions in expressions that have wrong types (C3).
 
-use crate::lookups::Lookups;
+use crate::sites::Site;
+use crate::telling::said;
 use st_diagnose::{Finding, shown};
 use st_names::{Callee, UnitNames};
 use st_statics::{Demand, Sorts, Typing};
 use st_trees::Expr;
 use st_typing::{meets, settled, typing};
 use st_words::{BinaryOperator, Identifier, UnaryOperator};
-use std::alloc::{AllocError, Global};
+use std::alloc::AllocError;
 
 /// The type of an expression in which nothing is wrong.
 pub fn typing_in(names: &UnitNames, expression: &Expr) -> Typing {
@@ -38,47 +39,39 @@ fn operator_of(operator: BinaryOperator) -> (&'static str, &'static str) {
 }
 
 fn of_binary(
-    alloc: Global,
-    lookups: &Lookups,
+    site: &Site,
     operator: BinaryOperator,
     left: Typing,
     right: Typing,
-) -> Result<Finding, AllocError> {
+) -> Result<String, AllocError> {
     let (name, taken) = operator_of(operator);
-    let (first, second) = (lookups.typing_name(left), lookups.typing_name(right));
-    let sentence = if left == right {
-        format!(in alloc; "`{name}` takes {taken}, the operands are {first}")?
+    let (first, second) = (site.typing_name(left), site.typing_name(right));
+    if left == right {
+        format!(in site.alloc; "`{name}` takes {taken}, the operands are {first}")
     } else {
-        format!(in alloc;
+        format!(in site.alloc;
             "the operands of `{name}` are {first} and {second}: they have to be of one type"
-        )?
-    };
-    Ok(Finding::new(sentence))
+        )
+    }
 }
 
-fn of_unary(
-    alloc: Global,
-    lookups: &Lookups,
-    operator: UnaryOperator,
-    operand: Typing,
-) -> Result<Finding, AllocError> {
+fn of_unary(site: &Site, operator: UnaryOperator, operand: Typing) -> Result<String, AllocError> {
     let asked = match operator {
         UnaryOperator::Negate => "`-` takes a number with a sign",
         UnaryOperator::Not => "NOT takes a BOOL or a bit string",
     };
-    let given = lookups.typing_name(operand);
-    Ok(Finding::new(format!(in alloc; "{asked}, the operand is {given}")?))
+    let given = site.typing_name(operand);
+    format!(in site.alloc; "{asked}, the operand is {given}")
 }
 
 /// The first argument of a function of the text that is of another type than its input: its number from 1, its type and
 /// the input's.
 fn first_wrong(
-    lookups: &Lookups,
     names: &UnitNames,
     function: &Identifier,
     arguments: &[Expr],
 ) -> Option<(usize, Typing, Typing)> {
-    let Some(Callee::Own(signature)) = lookups.tables.callee_of(&function.name) else {
+    let Some(Callee::Own(signature)) = names.tables.callee_of(&function.name) else {
         return None;
     };
     for (number, (input, argument)) in signature.inputs.iter().zip(arguments).enumerate() {
@@ -93,62 +86,53 @@ fn first_wrong(
 }
 
 /// The types of arguments, as they are listed in a sentence.
-fn listed(
-    alloc: Global,
-    lookups: &Lookups,
-    names: &UnitNames,
-    arguments: &[Expr],
-) -> Result<String, AllocError> {
-    let mut list = String::new(alloc);
+fn listed(site: &Site, names: &UnitNames, arguments: &[Expr]) -> Result<String, AllocError> {
+    let mut list = String::new(site.alloc);
     for argument in arguments {
         if !list.is_empty() {
             list.push_str(" and ")?;
         }
-        list.push_str(lookups.typing_name(typing_in(names, argument)))?;
+        list.push_str(site.typing_name(typing_in(names, argument)))?;
     }
     Ok(list)
 }
 
+fn of_listed(site: &Site, name: &str, given: &str) -> Result<String, AllocError> {
+    format!(in site.alloc; "`{name}` takes arguments of other types than {given}")
+}
+
 fn of_call(
-    alloc: Global,
-    lookups: &Lookups,
+    site: &Site,
     names: &UnitNames,
     function: &Identifier,
     arguments: &[Expr],
-) -> Result<Finding, AllocError> {
+) -> Result<String, AllocError> {
     let name = shown(function.name.as_slice());
-    let sentence = match first_wrong(lookups, names, function, arguments) {
+    match first_wrong(names, function, arguments) {
         Some((number, given, wanted)) => {
-            let (is, input) = (lookups.typing_name(given), lookups.typing_name(wanted));
-            format!(in alloc; "argument {number} of `{name}` is {is}, its input is {input}")?
+            let (is, input) = (site.typing_name(given), site.typing_name(wanted));
+            format!(in site.alloc; "argument {number} of `{name}` is {is}, its input is {input}")
         }
-        None => {
-            let given = listed(alloc, lookups, names, arguments)?;
-            format!(in alloc; "`{name}` takes arguments of other types than {given}")?
-        }
-    };
-    Ok(Finding::new(sentence))
+        None => of_listed(site, name, &listed(site, names, arguments)?),
+    }
 }
 
 /// What is said of an expression with a wrong type whose parts are right; nothing where it is no operation and no call.
 pub fn of_expression(
-    alloc: Global,
-    lookups: &Lookups,
+    site: &Site,
     names: &UnitNames,
     expression: &Expr,
 ) -> Result<Option<Finding>, AllocError> {
     match expression {
         Expr::Binary(operator, left, right) => {
             let (left, right) = (typing_in(names, left), typing_in(names, right));
-            Ok(Some(of_binary(alloc, lookups, *operator, left, right)?))
+            said(of_binary(site, *operator, left, right))
         }
         Expr::Unary(operator, _, operand) => {
             let operand = typing_in(names, operand);
-            Ok(Some(of_unary(alloc, lookups, *operator, operand)?))
+            said(of_unary(site, *operator, operand))
         }
-        Expr::Call(function, arguments) => {
-            Ok(Some(of_call(alloc, lookups, names, function, arguments)?))
-        }
+        Expr::Call(function, arguments) => said(of_call(site, names, function, arguments)),
         _ => Ok(None),
     }
 }

@@ -1,22 +1,13 @@
 //! What is said of the externals of units, which stand for globals (G3).
 
 use crate::declared_types::{Difference, how_differ, type_name};
-use crate::globals::{Global, Origin, index_of};
-use crate::spelling::Words;
+use crate::globals::{Names, Origin};
+use crate::spelling::Text;
+use crate::telling::said_at;
 use st_diagnose::Finding;
-use st_names::{Index, TextNames};
-use st_trees::{
-    Configuration, Declaration, LibraryElement, Section, Source, Unit, UnitSort, VariableType,
-};
+use st_trees::{Declaration, LibraryElement, Section, Source, Unit, UnitSort, VariableType};
 use st_words::Identifier;
-use std::alloc::{AllocError, Global as Alloc};
-
-/// What the names of a text stand for: its types, and the globals of its configuration.
-#[derive(Clone, Copy)]
-struct Names<'t, 'a> {
-    text: &'t TextNames<'a>,
-    globals: &'t Index<'a, Global<'a>>,
-}
+use std::alloc::AllocError;
 
 /// A variable of a unit that stands for a global.
 #[derive(Clone, Copy)]
@@ -53,7 +44,7 @@ fn what_is_wrong<'a>(
         (false, Origin::Constant) => Some(Wrong::NotConstant),
         (false, Origin::Plant) => Some(Wrong::NotConstantInput),
         (true, Origin::Programs) => Some(Wrong::Constant),
-        _ => match how_differ(names.text, declared, global.declared) {
+        _ => match how_differ(names.declared, declared, global.declared) {
             Some(difference) => Some(Wrong::Type(difference, global.declared)),
             None => None,
         },
@@ -134,15 +125,15 @@ pub fn sort_name(sort: &UnitSort) -> &'static str {
 }
 
 fn of_other_type(
-    alloc: Alloc,
-    words: Words,
+    text: &Text,
     external: External,
     difference: Difference,
     other: &VariableType,
 ) -> Result<String, AllocError> {
+    let alloc = text.alloc;
     let (name, unit) = (
-        words.spelled(external.name),
-        words.spelled(&external.unit.name),
+        text.spelled(external.name),
+        text.spelled(&external.unit.name),
     );
     let sort = sort_name(&external.unit.sort);
     if difference == Difference::Array {
@@ -150,24 +141,19 @@ fn of_other_type(
             "the VAR_EXTERNAL `{name}` of {sort} `{unit}` has other bounds or elements than the global"
         );
     }
-    let (here, there) = (type_name(words, external.declared), type_name(words, other));
+    let (here, there) = (type_name(text, external.declared), type_name(text, other));
     format!(in alloc;
         "the VAR_EXTERNAL `{name}` of {sort} `{unit}` is {here}, the global is {there}"
     )
 }
 
-fn sentence_of(
-    alloc: Alloc,
-    words: Words,
-    external: External,
-    wrong: Wrong,
-) -> Result<String, AllocError> {
-    let name = words.spelled(external.name);
+fn sentence_of(text: &Text, external: External, wrong: Wrong) -> Result<String, AllocError> {
+    let (alloc, name) = (text.alloc, text.spelled(external.name));
     match wrong {
         Wrong::NoGlobal => {
             let (sort, unit) = (
                 sort_name(&external.unit.sort),
-                words.spelled(&external.unit.name),
+                text.spelled(&external.unit.name),
             );
             format!(in alloc; "the global `{name}` of {sort} `{unit}` is unknown")
         }
@@ -180,26 +166,19 @@ fn sentence_of(
         Wrong::Constant => format!(in alloc;
             "the global `{name}` is neither CONSTANT nor an input: its VAR_EXTERNAL can't be CONSTANT"
         ),
-        Wrong::Type(difference, other) => of_other_type(alloc, words, external, difference, other),
+        Wrong::Type(difference, other) => of_other_type(text, external, difference, other),
     }
 }
 
 /// What is said of the first external whose global is unknown or another than it is used as.
 pub fn of_externals<'a>(
-    alloc: Alloc,
-    words: Words<'a>,
-    text: &TextNames<'a>,
-    source: &'a Source,
-    configuration: &'a Configuration,
+    text: &Text<'a>,
+    names: Names<'_, 'a>,
 ) -> Result<Option<Finding>, AllocError> {
-    let globals = index_of(alloc, &configuration.globals)?;
-    let names = Names {
-        text,
-        globals: &globals,
-    };
-    let Some((external, wrong)) = first_in_source(names, source) else {
-        return Ok(None);
-    };
-    let sentence = sentence_of(alloc, words, external, wrong)?;
-    Ok(Some(Finding::new(sentence).at(external.name.place)))
+    match first_in_source(names, text.source) {
+        Some((external, wrong)) => {
+            said_at(external.name.place, sentence_of(text, external, wrong))
+        }
+        None => Ok(None),
+    }
 }

@@ -1,6 +1,6 @@
 //! The globals of a configuration by their names.
 
-use st_names::Index;
+use st_names::{Index, TextNames};
 use st_trees::{
     Direction, GlobalBlock, GlobalDeclaration, GlobalNames, GlobalQualifier, VariableType,
 };
@@ -22,6 +22,13 @@ pub enum Origin {
 pub struct Global<'a> {
     pub origin: Origin,
     pub declared: &'a VariableType,
+}
+
+/// What the names of a text stand for: its types and units, and the globals of its configuration.
+#[derive(Clone, Copy)]
+pub struct Names<'t, 'a> {
+    pub declared: &'t TextNames<'a>,
+    pub globals: &'t Index<'a, Global<'a>>,
 }
 
 fn origin_of(qualifier: Option<GlobalQualifier>, names: &GlobalNames) -> Origin {

@@ -1,6 +1,7 @@
 //! What is said of the labels of a CASE (C7).
 
 use crate::statements::{Labelled, label_at, place_of_label};
+use crate::telling::said;
 use st_diagnose::{Finding, Spot, position_of};
 use st_trees::{CaseArm, Label, Source};
 use st_types::number_of;
@@ -52,23 +53,22 @@ fn of_overlap(
     spot: &Spot,
     label: &Label,
     other: &Label,
-) -> Result<Finding, AllocError> {
+) -> Result<String, AllocError> {
     let line = position_of(spot.text, place_of_label(other)).line;
-    let sentence = match (label, other) {
+    match (label, other) {
         (Label::Range(lower, upper), _) => {
             let (from, to) = (number_of(lower), number_of(upper));
-            format!(in alloc; "the range {from}..{to} overlaps a label in line {line}")?
+            format!(in alloc; "the range {from}..{to} overlaps a label in line {line}")
         }
         (_, Label::Range(lower, upper)) => {
             let (spelled, from, to) = (spot.spelled(), number_of(lower), number_of(upper));
-            format!(in alloc; "`{spelled}` is in the range {from}..{to} of line {line} already")?
+            format!(in alloc; "`{spelled}` is in the range {from}..{to} of line {line} already")
         }
         _ => {
             let spelled = spot.spelled();
-            format!(in alloc; "`{spelled}` is a label in line {line} already")?
+            format!(in alloc; "`{spelled}` is a label in line {line} already")
         }
-    };
-    Ok(Finding::new(sentence))
+    }
 }
 
 fn of_labelled(
@@ -76,16 +76,15 @@ fn of_labelled(
     spot: &Spot,
     labelled: Labelled,
 ) -> Result<Option<Finding>, AllocError> {
-    match span(labelled.label) {
-        Some((from, to)) if to < from => {
-            let sentence = format!(in alloc; "the range {from}..{to} is reversed")?;
-            return Ok(Some(Finding::new(sentence)));
+    match (
+        span(labelled.label),
+        other_of(labelled.arms, labelled.label),
+    ) {
+        (Some((from, to)), _) if to < from => {
+            said(format!(in alloc; "the range {from}..{to} is reversed"))
         }
-        _ => {}
-    }
-    match other_of(labelled.arms, labelled.label) {
-        Some(other) => Ok(Some(of_overlap(alloc, spot, labelled.label, other)?)),
-        None => Ok(None),
+        (_, Some(other)) => said(of_overlap(alloc, spot, labelled.label, other)),
+        (_, None) => Ok(None),
     }
 }
 

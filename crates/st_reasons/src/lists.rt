@@ -1,7 +1,8 @@
 //! What is said of lists that are longer than their arrays (C8).
 
 use crate::bounds::elements_of;
-use st_decl::{array_at, declarings_in, starts_of, types_in};
+use crate::telling::said;
+use st_decl::{Start, array_at, declarings_in, starts_of, types_in};
 use st_diagnose::Finding;
 use st_names::{FieldNames, TextNames};
 use st_trees::{Initial, InitialElement, Source};
@@ -38,26 +39,43 @@ fn count(elements: &[InitialElement]) -> i128 {
     count
 }
 
-fn list_at(alloc: Global, source: &Source, place: usize) -> Result<Option<List>, AllocError> {
+/// The fields of the structures of a text.
+fn fields_in(alloc: Global, source: &Source) -> Result<FieldNames<'_>, AllocError> {
     let types = types_in(alloc, source)?;
-    let names = TextNames::new(alloc, source)?;
-    let fields = FieldNames::new(alloc, &types)?;
+    FieldNames::new(alloc, &types)
+}
+
+/// The initial values of a text, and those inside them.
+fn starts_in<'a>(
+    alloc: Global,
+    source: &'a Source,
+    names: &TextNames<'a>,
+) -> Result<Vec<Start<'a>>, AllocError> {
+    let fields = fields_in(alloc, source)?;
     let declarings = declarings_in(alloc, source)?;
-    let starts = starts_of(alloc, &names, &fields, &declarings)?;
-    for start in &starts {
-        if let Initial::List(begin, elements) = start.initial {
-            if *begin == place {
-                return match array_at(&names, start.declared) {
-                    Some(array) => Ok(Some(List {
-                        given: count(elements),
-                        room: elements_of(array),
-                    })),
-                    None => Ok(None),
-                };
+    starts_of(alloc, names, &fields, &declarings)
+}
+
+/// The one of some initial values that is a list at a place.
+fn list_among<'a>(names: &TextNames<'a>, starts: &[Start<'a>], place: usize) -> Option<List> {
+    for start in starts {
+        match (start.initial, array_at(names, start.declared)) {
+            (Initial::List(begin, elements), Some(array)) if *begin == place => {
+                return Some(List {
+                    given: count(elements),
+                    room: elements_of(array),
+                });
             }
+            _ => {}
         }
     }
-    Ok(None)
+    None
+}
+
+fn list_at(alloc: Global, source: &Source, place: usize) -> Result<Option<List>, AllocError> {
+    let names = TextNames::new(alloc, source)?;
+    let starts = starts_in(alloc, source, &names)?;
+    Ok(list_among(&names, &starts, place))
 }
 
 /// What is said of a list at a place that is longer than its array.
@@ -70,7 +88,5 @@ pub fn of_list(
         return Ok(None);
     };
     let (given, room) = (list.given, list.room);
-    Ok(Some(Finding::new(format!(in alloc;
-        "the list has {given} elements, its array has {room}"
-    )?)))
+    said(format!(in alloc; "the list has {given} elements, its array has {room}"))
 }

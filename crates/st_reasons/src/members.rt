@@ -1,21 +1,30 @@
 //! Inputs, outputs and fields: which of them a type has, and what is said of one that it has not (C1).
 
-use crate::lookups::Lookups;
-use crate::near::Candidates;
+use crate::near::Nearest;
+use crate::sites::Site;
 use crate::spots::spelled_name;
-use st_diagnose::{Finding, Spot, is_mark};
+use crate::telling::{may_help, said_with};
+use st_diagnose::{Finding, is_mark};
 use st_lex::{Mark, Token, TokenKind};
 use st_names::{PlaceType, Side, StandardBlock, place_type, standard_block};
 use st_trees::{Section, SimpleType, TypeDefinition, Unit};
 use st_types::lookup::{is_named, type_in_blocks};
 use st_words::{Identifier, Name};
-use std::alloc::{AllocError, Global};
+use std::alloc::AllocError;
 
 /// What a member is.
 #[derive(Clone, Copy)]
 enum Part {
     Field,
     Block(Side),
+}
+
+/// A member that a type has not.
+#[derive(Clone, Copy)]
+struct Missing<'a> {
+    owner: &'a Identifier,
+    part: Part,
+    member: &'a Name,
 }
 
 fn part_name(part: Part) -> &'static str {
@@ -52,95 +61,80 @@ fn is_on(section: Section, side: Side) -> bool {
     }
 }
 
-fn add_sides<'a>(names: &mut Candidates<'a>, unit: &'a Unit, side: Side) -> Result<(), AllocError> {
+fn meet_sides<'a>(nearest: &mut Nearest<'a>, unit: &'a Unit, side: Side) {
     for block in &unit.blocks {
         if is_on(block.section, side) {
             for declaration in &block.declarations {
-                names.add_all(&declaration.names)?;
+                nearest.meet_all(&declaration.names);
             }
         }
     }
-    Ok(())
 }
 
-/// Adds the members of a type of the text.
-fn add_members<'a>(
-    names: &mut Candidates<'a>,
-    lookups: &Lookups<'a>,
-    owner: &Name,
-    part: Part,
-) -> Result<(), AllocError> {
-    match part {
-        Part::Field => {
-            for declaration in &lookups.types {
-                match &declaration.definition {
-                    TypeDefinition::Structure(fields) if is_named(owner, &declaration.name) => {
-                        for field in fields {
-                            names.add(&field.name)?;
-                        }
-                    }
-                    _ => {}
+fn meet_fields<'a>(nearest: &mut Nearest<'a>, site: &Site<'a>, owner: &Name) {
+    for declaration in &site.types {
+        match &declaration.definition {
+            TypeDefinition::Structure(fields) if is_named(owner, &declaration.name) => {
+                for field in fields {
+                    nearest.meet(&field.name);
                 }
             }
+            _ => {}
         }
-        Part::Block(side) => {
-            for unit in &lookups.units {
-                if is_named(owner, &unit.name) {
-                    add_sides(names, unit, side)?;
-                }
-            }
-        }
-    }
-    Ok(())
-}
-
-/// What may help where a type has not a member of this name.
-fn help_of<'a>(
-    alloc: Global,
-    spot: &Spot<'a>,
-    lookups: &Lookups<'a>,
-    owner: &Identifier,
-    part: Part,
-    member: &Name,
-) -> Result<Option<String>, AllocError> {
-    if let (Part::Block(side), Some(block)) = (part, standard_block(&owner.name)) {
-        let (sort, members) = (part_name(part), standard_members(block, side));
-        return Ok(Some(format!(in alloc; "its {sort}s: {members}")?));
-    }
-    let mut names = Candidates::new(alloc, spot.text);
-    add_members(&mut names, lookups, &owner.name, part)?;
-    match names.near(member) {
-        Some(near) => Ok(Some(format!(in alloc; "did you mean `{near}`?")?)),
-        None => Ok(None),
     }
 }
 
-fn of_missing<'a>(
-    alloc: Global,
-    spot: &Spot<'a>,
-    lookups: &Lookups<'a>,
-    owner: &Identifier,
-    part: Part,
-    member: &Name,
-) -> Result<Finding, AllocError> {
-    let (name, spelled, sort) = (spelled_name(spot, owner), spot.spelled(), part_name(part));
-    let finding = Finding::new(format!(in alloc; "`{name}` has no {sort} `{spelled}`")?);
-    match help_of(alloc, spot, lookups, owner, part, member)? {
-        Some(help) => Ok(finding.helped(help)),
-        None => Ok(finding),
+fn meet_block<'a>(nearest: &mut Nearest<'a>, site: &Site<'a>, owner: &Name, side: Side) {
+    for unit in &site.units {
+        if is_named(owner, &unit.name) {
+            meet_sides(nearest, unit, side);
+        }
     }
+}
+
+/// The name that may have been meant, where it is one of a type of the text.
+fn help_in_text<'a>(site: &Site<'a>, missing: Missing<'a>) -> Result<Option<String>, AllocError> {
+    let mut nearest = Nearest::new(site.spot.text, missing.member);
+    match missing.part {
+        Part::Field => meet_fields(&mut nearest, site, &missing.owner.name),
+        Part::Block(side) => meet_block(&mut nearest, site, &missing.owner.name, side),
+    }
+    nearest.help(site.alloc)
+}
+
+/// What may help where a type has not a member.
+fn help_of<'a>(site: &Site<'a>, missing: Missing<'a>) -> Result<Option<String>, AllocError> {
+    match (missing.part, standard_block(&missing.owner.name)) {
+        (Part::Block(side), Some(block)) => {
+            let (sort, members) = (part_name(missing.part), standard_members(block, side));
+            may_help(format!(in site.alloc; "its {sort}s: {members}"))
+        }
+        _ => help_in_text(site, missing),
+    }
+}
+
+fn of_missing<'a>(site: &Site<'a>, missing: Missing<'a>) -> Result<Option<Finding>, AllocError> {
+    let (name, spelled) = (spelled_name(&site.spot, missing.owner), site.spot.spelled());
+    let sort = part_name(missing.part);
+    said_with(
+        format!(in site.alloc; "`{name}` has no {sort} `{spelled}`"),
+        help_of(site, missing),
+    )
 }
 
 /// What is said of a block that has not an input or an output of this name.
 pub fn of_missing_side<'a>(
-    alloc: Global,
-    spot: &Spot<'a>,
-    lookups: &Lookups<'a>,
-    block: &Identifier,
+    site: &Site<'a>,
+    block: &'a Identifier,
     side: Side,
-    member: &Name,
-) -> Result<Finding, AllocError> {
-    of_missing(alloc, spot, lookups, block, Part::Block(side), member)
+    member: &'a Name,
+) -> Result<Option<Finding>, AllocError> {
+    let missing = Missing {
+        owner: block,
+        part: Part::Block(side),
+        member,
+    };
+    of_missing(site, missing)
 }
 
 /// How many of the last tokens are names that end with a dot each.
@@ -162,13 +156,9 @@ fn path_length(tokens: &[Token]) -> usize {
     count
 }
 
-/// The type of a variable of the unit at a place.
-pub fn variable_type<'a>(
-    lookups: &Lookups<'a>,
-    place: usize,
-    variable: &Name,
-) -> Option<PlaceType<'a>> {
-    let unit = lookups.unit_at(place)?;
+/// The type of a variable of the unit at the place.
+pub fn variable_type<'a>(site: &Site<'a>, variable: &Name) -> Option<PlaceType<'a>> {
+    let unit = site.unit()?;
     match type_in_blocks(&unit.blocks, variable) {
         Some(declared) => Some(place_type(declared)),
         None => None,
@@ -176,18 +166,16 @@ pub fn variable_type<'a>(
 }
 
 /// The type of what stands before the dot at whose member the place is, where that is names and dots alone.
-fn owner_type<'a>(spot: &Spot<'a>, lookups: &Lookups<'a>) -> Option<PlaceType<'a>> {
-    let length = path_length(spot.before);
-    let (_, path) = spot
-        .before
-        .split_at(spot.before.len().saturating_sub(length));
+fn owner_type<'a>(site: &Site<'a>) -> Option<PlaceType<'a>> {
+    let before = site.spot.before;
+    let (_, path) = before.split_at(before.len().saturating_sub(path_length(before)));
     let mut found: Option<PlaceType<'a>> = None;
     let mut is_first = true;
     for token in path {
         if let TokenKind::Name(name) = &token.kind {
             found = match found {
-                Some(owner) => lookups.tables.member_type(owner, name),
-                None if is_first => variable_type(lookups, spot.place, name),
+                Some(owner) => site.tables.member_type(owner, name),
+                None if is_first => variable_type(site, name),
                 None => None,
             };
             is_first = false;
@@ -197,11 +185,11 @@ fn owner_type<'a>(spot: &Spot<'a>, lookups: &Lookups<'a>) -> Option<PlaceType<'a
 }
 
 /// What of a type is selected by a dot.
-fn part_of_type(lookups: &Lookups, owner: &Name) -> Option<Part> {
-    if lookups.tables.is_block(owner) {
+fn part_of_type(site: &Site, owner: &Name) -> Option<Part> {
+    if site.tables.is_block(owner) {
         return Some(Part::Block(Side::Output));
     }
-    for declaration in &lookups.types {
+    for declaration in &site.types {
         match &declaration.definition {
             TypeDefinition::Structure(_) if is_named(owner, &declaration.name) => {
                 return Some(Part::Field);
@@ -212,26 +200,26 @@ fn part_of_type(lookups: &Lookups, owner: &Name) -> Option<Part> {
     None
 }
 
+/// The member behind a dot, where what stands before it certainly has not one of this name.
+fn missing_at<'a>(site: &Site<'a>, member: &'a Name) -> Option<Missing<'a>> {
+    let declared = owner_type(site)?;
+    let PlaceType::Simple(SimpleType::Named(owner)) = declared else {
+        return None;
+    };
+    match part_of_type(site, &owner.name) {
+        Some(part) if site.tables.member_type(declared, member).is_none() => Some(Missing {
+            owner,
+            part,
+            member,
+        }),
+        _ => None,
+    }
+}
+
 /// What is said of a member behind a dot that what stands before it has not; nothing where that isn't certain.
-pub fn of_member<'a>(
-    alloc: Global,
-    spot: &Spot<'a>,
-    lookups: &Lookups<'a>,
-    member: &Name,
-) -> Result<Option<Finding>, AllocError> {
-    let Some(PlaceType::Simple(declared)) = owner_type(spot, lookups) else {
-        return Ok(None);
-    };
-    let SimpleType::Named(owner) = declared else {
-        return Ok(None);
-    };
-    let found = lookups
-        .tables
-        .member_type(PlaceType::Simple(declared), member);
-    match part_of_type(lookups, &owner.name) {
-        Some(part) if found.is_none() => {
-            Ok(Some(of_missing(alloc, spot, lookups, owner, part, member)?))
-        }
-        _ => Ok(None),
+pub fn of_member<'a>(site: &Site<'a>, member: &'a Name) -> Result<Option<Finding>, AllocError> {
+    match missing_at(site, member) {
+        Some(missing) => of_missing(site, missing),
+        None => Ok(None),
     }
 }

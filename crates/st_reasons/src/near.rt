@@ -1,5 +1,6 @@
 //! Names that differ by one letter from a word that stands for nothing.
 
+use crate::telling::may_help;
 use st_diagnose::{part_of, shown, word_in_front};
 use st_words::{Identifier, Name};
 use std::alloc::{AllocError, Global};
@@ -11,16 +12,14 @@ struct Candidate<'a> {
     spelled: &'a [u8],
 }
 
-/// The names that a word may have been meant for.
-pub struct Candidates<'a> {
+/// A search for the one name that differs by one letter from a word.
+#[derive(Clone, Copy)]
+pub struct Nearest<'a> {
     text: &'a [u8],
-    names: Vec<Candidate<'a>>,
-}
-
-impl Drop for Candidates<'_> {
-    fn drop(self) {
-        let Self { text: _, names: _ } = self;
-    }
+    word: &'a Name,
+    found: Option<Candidate<'a>>,
+    /// Whether several names differ by one letter.
+    are_several: bool,
 }
 
 fn are_swapped(this: &[u8], that: &[u8]) -> bool {
@@ -59,57 +58,64 @@ fn differ_by_one(this: &[u8], that: &[u8]) -> bool {
     right.len() == 1
 }
 
-impl<'a> Candidates<'a> {
-    pub fn new(alloc: Global, text: &'a [u8]) -> Candidates<'a> {
-        Candidates {
+impl<'a> Nearest<'a> {
+    pub fn new(text: &'a [u8], word: &'a Name) -> Nearest<'a> {
+        Nearest {
             text,
-            names: Vec::new(alloc),
+            word,
+            found: None,
+            are_several: false,
         }
     }
 
-    /// Adds a name that the text declares.
-    pub fn add(&mut self, declared: &'a Identifier) -> Result<(), AllocError> {
+    fn has_other(&self, upper: &[u8]) -> bool {
+        match self.found {
+            Some(found) => found.upper != upper,
+            None => false,
+        }
+    }
+
+    fn try_one(&mut self, candidate: Candidate<'a>) {
+        if differ_by_one(self.word.as_slice(), candidate.upper) {
+            self.are_several = self.are_several || self.has_other(candidate.upper);
+            self.found = Some(candidate);
+        }
+    }
+
+    /// Looks at a name that the text declares.
+    pub fn meet(&mut self, declared: &'a Identifier) {
         let behind = part_of(self.text, declared.place, self.text.len());
-        self.names.push(Candidate {
+        self.try_one(Candidate {
             upper: declared.name.as_slice(),
             spelled: word_in_front(behind),
-        })?;
-        Ok(())
+        });
     }
 
-    /// Adds names that the text declares.
-    pub fn add_all(&mut self, declared: &'a [Identifier]) -> Result<(), AllocError> {
+    /// Looks at names that the text declares.
+    pub fn meet_all(&mut self, declared: &'a [Identifier]) {
         for one in declared {
-            self.add(one)?;
+            self.meet(one);
         }
-        Ok(())
     }
 
-    /// Adds words of the language, which are in upper case.
-    pub fn add_words(&mut self, words: &[&'static [u8]]) -> Result<(), AllocError> {
+    /// Looks at words of the language, which are in upper case.
+    pub fn meet_words(&mut self, words: &[&'static [u8]]) {
         for word in words {
-            self.names.push(Candidate {
+            self.try_one(Candidate {
                 upper: *word,
                 spelled: *word,
-            })?;
+            });
         }
-        Ok(())
     }
 
-    /// The one name that differs by one letter from a word, as it is spelled; none where several do.
-    pub fn near(&self, word: &Name) -> Option<&'a str> {
-        let mut found: Option<Candidate<'a>> = None;
-        for candidate in &self.names {
-            if differ_by_one(word.as_slice(), candidate.upper) {
-                match found {
-                    Some(first) if first.upper != candidate.upper => return None,
-                    _ => found = Some(*candidate),
-                }
+    /// What may help: the name that was found.
+    pub fn help(&self, alloc: Global) -> Result<Option<String>, AllocError> {
+        match self.found {
+            Some(candidate) if !self.are_several => {
+                let near = shown(candidate.spelled);
+                may_help(format!(in alloc; "did you mean `{near}`?"))
             }
-        }
-        match found {
-            Some(candidate) => Some(shown(candidate.spelled)),
-            None => None,
+            _ => Ok(None),
         }
     }
 }

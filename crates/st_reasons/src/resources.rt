@@ -2,21 +2,14 @@
 
 use crate::declared_types::type_name;
 use crate::externals::sort_name;
-use crate::globals::{Global, index_of};
-use crate::spelling::Words;
+use crate::globals::Names;
+use crate::spelling::Text;
+use crate::telling::said_at;
 use st_diagnose::Finding;
-use st_names::{Index, TextNames};
 use st_trees::{Configuration, Instance, Resource, Task, UnitSort, VariableType};
 use st_types::lookup::{is_named, kind_of_type};
 use st_words::{Identifier, Kind};
-use std::alloc::{AllocError, Global as Alloc};
-
-/// What the names of a text stand for: its units, and the globals of its configuration.
-#[derive(Clone, Copy)]
-struct Names<'t, 'a> {
-    text: &'t TextNames<'a>,
-    globals: &'t Index<'a, Global<'a>>,
-}
+use std::alloc::AllocError;
 
 /// What of a resource is wrong, and the name that is.
 #[derive(Clone, Copy)]
@@ -51,7 +44,7 @@ fn wrong_task<'a>(resource: &'a Resource, instance: &'a Instance) -> Option<Wron
 }
 
 fn wrong_program<'a>(names: Names<'_, 'a>, instance: &'a Instance) -> Option<Wrong<'a>> {
-    match names.text.unit_named(&instance.program.name) {
+    match names.declared.unit_named(&instance.program.name) {
         Some(unit) => match &unit.sort {
             UnitSort::Program => None,
             sort => Some(Wrong::Unit(&instance.program, sort)),
@@ -83,16 +76,22 @@ fn wrong_instance<'a>(names: Names<'_, 'a>, resource: &'a Resource) -> Option<Wr
     None
 }
 
-fn first_in_resource<'a>(names: Names<'_, 'a>, resource: &'a Resource) -> Option<Wrong<'a>> {
-    if let Some(wrong) = wrong_instance(names, resource) {
-        return Some(wrong);
-    }
-    for task in &resource.tasks {
-        if let Some(wrong) = wrong_single(names, task) {
-            return Some(wrong);
+/// The first wrong SINGLE of some tasks.
+fn wrong_among<'a>(names: Names<'_, 'a>, tasks: &'a [Task]) -> Option<Wrong<'a>> {
+    for task in tasks {
+        let found = wrong_single(names, task);
+        if found.is_some() {
+            return found;
         }
     }
     None
+}
+
+fn first_in_resource<'a>(names: Names<'_, 'a>, resource: &'a Resource) -> Option<Wrong<'a>> {
+    match wrong_instance(names, resource) {
+        Some(wrong) => Some(wrong),
+        None => wrong_among(names, &resource.tasks),
+    }
 }
 
 fn first_wrong<'a>(
@@ -115,16 +114,11 @@ fn name_of<'a>(wrong: Wrong<'a>) -> &'a Identifier {
     }
 }
 
-fn sentence_of(
-    alloc: Alloc,
-    words: Words,
-    resource: &Resource,
-    wrong: Wrong,
-) -> Result<String, AllocError> {
-    let name = words.spelled(name_of(wrong));
+fn sentence_of(text: &Text, resource: &Resource, wrong: Wrong) -> Result<String, AllocError> {
+    let (alloc, name) = (text.alloc, text.spelled(name_of(wrong)));
     match wrong {
         Wrong::NoTask(_) => {
-            let resource = words.spelled(&resource.name);
+            let resource = text.spelled(&resource.name);
             format!(in alloc; "the task `{name}` is unknown in resource `{resource}`")
         }
         Wrong::NoProgram(_) => format!(in alloc; "the program type `{name}` is unknown"),
@@ -136,7 +130,7 @@ fn sentence_of(
             format!(in alloc; "the global `{name}` is unknown: SINGLE takes a BOOL global")
         }
         Wrong::Single(_, declared) => {
-            let declared = type_name(words, declared);
+            let declared = type_name(text, declared);
             format!(in alloc; "the global `{name}` is {declared}: SINGLE takes a BOOL global")
         }
     }
@@ -144,19 +138,14 @@ fn sentence_of(
 
 /// What is said of the first task, program or SINGLE that is unknown or another than it is used as.
 pub fn of_resources<'a>(
-    alloc: Alloc,
-    words: Words<'a>,
-    text: &TextNames<'a>,
+    text: &Text<'a>,
+    names: Names<'_, 'a>,
     configuration: &'a Configuration,
 ) -> Result<Option<Finding>, AllocError> {
-    let globals = index_of(alloc, &configuration.globals)?;
-    let names = Names {
-        text,
-        globals: &globals,
-    };
-    let Some((resource, wrong)) = first_wrong(names, &configuration.resources) else {
-        return Ok(None);
-    };
-    let sentence = sentence_of(alloc, words, resource, wrong)?;
-    Ok(Some(Finding::new(sentence).at(name_of(wrong).place)))
+    match first_wrong(names, &configuration.resources) {
+        Some((resource, wrong)) => {
+            said_at(name_of(wrong).place, sentence_of(text, resource, wrong))
+        }
+        None => Ok(None),
+    }
 }

@@ -3,7 +3,7 @@
 use crate::arguments::of_argument;
 use crate::assigned::of_assigned;
 use crate::calls::of_count;
-use crate::lookups::Lookups;
+use crate::sites::Site;
 use crate::spots::is_declaring;
 use crate::trees::of_tree;
 use crate::types::{of_body, of_number, of_start};
@@ -13,37 +13,37 @@ use st_statics::Rule;
 use st_trees::Source;
 use std::alloc::{AllocError, Global};
 
+/// What is said of an argument, or of how many there are.
+fn of_arguments(site: &Site) -> Result<Option<Finding>, AllocError> {
+    match of_argument(site) {
+        Ok(None) => of_count(site),
+        told => told,
+    }
+}
+
 /// What is said of a rule on types, numbers or calls that is broken in a declaration, or where tokens tell enough.
-fn of_declared<'a>(
-    alloc: Global,
-    spot: &Spot<'a>,
-    lookups: &Lookups<'a>,
-    rule: Rule,
-) -> Result<Option<Finding>, AllocError> {
+fn of_declared(site: &Site, rule: Rule) -> Result<Option<Finding>, AllocError> {
     match rule {
-        Rule::WrongType => of_start(alloc, spot, lookups),
-        Rule::OutOfRange => of_number(alloc, spot, lookups),
-        Rule::WrongArguments => match of_argument(alloc, spot, lookups)? {
-            Some(finding) => Ok(Some(finding)),
-            None => of_count(alloc, spot, lookups),
-        },
+        Rule::WrongType => of_start(site),
+        Rule::OutOfRange => of_number(site),
+        Rule::WrongArguments => of_arguments(site),
+        _ => Ok(None),
+    }
+}
+
+/// What is said of a rule on types, numbers or calls in the body of a unit.
+fn of_unit(site: &Site, rule: Rule) -> Result<Option<Finding>, AllocError> {
+    match site.unit() {
+        Some(unit) if !is_declaring(&site.spot) => of_body(site, unit, rule),
         _ => Ok(None),
     }
 }
 
 /// What is said of a rule on types, numbers or calls.
-fn of_types<'a>(
-    alloc: Global,
-    spot: &Spot<'a>,
-    lookups: &Lookups<'a>,
-    rule: Rule,
-) -> Result<Finding, AllocError> {
-    if let Some(finding) = of_declared(alloc, spot, lookups, rule)? {
-        return Ok(finding);
-    }
-    match lookups.unit_at(spot.place) {
-        Some(unit) if !is_declaring(spot) => of_body(alloc, spot, lookups, unit, rule),
-        _ => of_rule(alloc, spot, rule),
+fn of_types(site: &Site, rule: Rule) -> Result<Option<Finding>, AllocError> {
+    match of_declared(site, rule) {
+        Ok(None) => of_unit(site, rule),
+        told => told,
     }
 }
 
@@ -53,12 +53,29 @@ fn of_names<'a>(
     spot: &Spot<'a>,
     source: &'a Source,
     rule: Rule,
-) -> Result<Finding, AllocError> {
-    let lookups = Lookups::new(alloc, source)?;
+) -> Result<Option<Finding>, AllocError> {
+    let site = Site::new(alloc, *spot, source)?;
     match rule {
-        Rule::UnknownName => of_unknown(alloc, spot, &lookups),
-        Rule::NotAssignable => of_assigned(alloc, spot, &lookups),
-        _ => of_types(alloc, spot, &lookups, rule),
+        Rule::UnknownName => of_unknown(&site),
+        Rule::NotAssignable => of_assigned(&site),
+        _ => of_types(&site, rule),
+    }
+}
+
+/// What is said of a rule as far as the tree and its names tell.
+fn of_source<'a>(
+    alloc: Global,
+    spot: &Spot<'a>,
+    source: &'a Source,
+    rule: Rule,
+) -> Result<Option<Finding>, AllocError> {
+    match rule {
+        Rule::UnknownName
+        | Rule::WrongType
+        | Rule::OutOfRange
+        | Rule::NotAssignable
+        | Rule::WrongArguments => of_names(alloc, spot, source, rule),
+        _ => of_tree(alloc, spot, source, rule),
     }
 }
 
@@ -69,15 +86,8 @@ pub fn of_broken<'a>(
     source: &'a Source,
     rule: Rule,
 ) -> Result<Finding, AllocError> {
-    match rule {
-        Rule::UnknownName
-        | Rule::WrongType
-        | Rule::OutOfRange
-        | Rule::NotAssignable
-        | Rule::WrongArguments => of_names(alloc, spot, source, rule),
-        _ => match of_tree(alloc, spot, source, rule)? {
-            Some(finding) => Ok(finding),
-            None => of_rule(alloc, spot, rule),
-        },
+    match of_source(alloc, spot, source, rule)? {
+        Some(finding) => Ok(finding),
+        None => of_rule(alloc, spot, rule),
     }
 }

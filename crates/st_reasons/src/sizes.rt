@@ -1,6 +1,7 @@
 //! What is said of texts that are too large (G6, M1, M2).
 
-use crate::spelling::Words;
+use crate::spelling::Text;
+use crate::telling::{said, said_at};
 use machine_code::MAX_INSTRUCTIONS;
 use st_diagnose::Finding;
 use st_trees::{
@@ -10,7 +11,7 @@ use st_trees::{
 use st_types::lookup::kind_of_type;
 use st_words::limits::{MAX_PATHS, MAX_RECORD_BODY};
 use st_words::{Identifier, Kind};
-use std::alloc::{AllocError, Global};
+use std::alloc::AllocError;
 
 /// How many bytes the value of a type takes in the record.
 fn width(kind: Kind) -> usize {
@@ -82,20 +83,18 @@ fn has_retaining_unit(source: &Source) -> bool {
 
 /// What is said of a record that is too long, where globals of elementary types alone are in it: how long it is.
 pub fn of_record(
-    alloc: Global,
-    source: &Source,
+    text: &Text,
     configuration: &Configuration,
 ) -> Result<Option<Finding>, AllocError> {
-    if has_retaining_unit(source) {
-        return Ok(None);
+    match length_of_globals(configuration) {
+        Some(globals) if !has_retaining_unit(text.source) => {
+            let bytes = globals.saturating_add(12);
+            said(format!(in text.alloc;
+                "the record of the RETAIN variables has {bytes} bytes, at most {MAX_RECORD_BODY} are allowed"
+            ))
+        }
+        _ => Ok(None),
     }
-    let Some(globals) = length_of_globals(configuration) else {
-        return Ok(None);
-    };
-    let bytes = globals.saturating_add(12);
-    Ok(Some(Finding::new(format!(in alloc;
-        "the record of the RETAIN variables has {bytes} bytes, at most {MAX_RECORD_BODY} are allowed"
-    )?)))
 }
 
 fn number_of_globals(configuration: &Configuration) -> usize {
@@ -113,17 +112,12 @@ fn number_of_globals(configuration: &Configuration) -> usize {
 }
 
 /// What is said of too many paths, where there are too many globals, each of which has one at least.
-pub fn of_paths(
-    alloc: Global,
-    configuration: &Configuration,
-) -> Result<Option<Finding>, AllocError> {
+pub fn of_paths(text: &Text, configuration: &Configuration) -> Result<Option<Finding>, AllocError> {
     let count = number_of_globals(configuration);
     if count <= MAX_PATHS {
         return Ok(None);
     }
-    Ok(Some(Finding::new(format!(in alloc;
-        "there are {count} globals, at most {MAX_PATHS} paths are allowed"
-    )?)))
+    said(format!(in text.alloc; "there are {count} globals, at most {MAX_PATHS} paths are allowed"))
 }
 
 /// The program of a text that has no other.
@@ -143,17 +137,15 @@ fn only_program(source: &Source) -> Option<&Unit> {
 }
 
 /// What is said of a program with too many instructions, where the text has no other.
-pub fn of_instructions(
-    alloc: Global,
-    words: Words,
-    source: &Source,
-) -> Result<Option<Finding>, AllocError> {
-    let Some(program) = only_program(source) else {
+pub fn of_instructions(text: &Text) -> Result<Option<Finding>, AllocError> {
+    let Some(program) = only_program(text.source) else {
         return Ok(None);
     };
-    let name = words.spelled(&program.name);
-    let finding = Finding::new(format!(in alloc;
-        "the program `{name}` has more than {MAX_INSTRUCTIONS} instructions"
-    )?);
-    Ok(Some(finding.at(program.name.place)))
+    let name = text.spelled(&program.name);
+    said_at(
+        program.name.place,
+        format!(in text.alloc;
+            "the program `{name}` has more than {MAX_INSTRUCTIONS} instructions"
+        ),
+    )
 }

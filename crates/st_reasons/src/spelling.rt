@@ -1,25 +1,29 @@
-//! A text with its tokens, and how it spells its names.
+//! A text with its tokens and its tree, and how it spells its names.
 
 use st_diagnose::{Spot, part_of, shown, word_in_front};
 use st_lex::Token;
+use st_trees::Source;
 use st_words::Identifier;
+use std::alloc::Global;
 
-/// A text with its tokens.
+/// A text with its tokens and its tree. What is said of it is written with the allocator.
 #[derive(Clone, Copy)]
-pub struct Words<'a> {
-    pub text: &'a [u8],
+pub struct Text<'a> {
+    pub alloc: Global,
+    pub bytes: &'a [u8],
     pub tokens: &'a [Token],
+    pub source: &'a Source,
 }
 
-impl<'a> Words<'a> {
+impl<'a> Text<'a> {
     /// A name as the text spells it where it stands.
     pub fn spelled(&self, name: &Identifier) -> &'a str {
-        shown(word_in_front(part_of(self.text, name.place, self.text.len())))
+        shown(word_in_front(part_of(self.bytes, name.place, self.bytes.len())))
     }
 
     /// The address behind the name of a global, as `out AT %QW0` has one.
     pub fn address_behind(&self, name: &Identifier) -> Option<&'a Token> {
-        match Spot::new(self.text, self.tokens, name.place).behind {
+        match Spot::new(self.bytes, self.tokens, name.place).behind {
             [_, _, address, ..] => Some(address),
             _ => None,
         }
@@ -27,6 +31,6 @@ impl<'a> Words<'a> {
 
     /// A token as the text spells it.
     pub fn spelled_token(&self, token: &Token) -> &'a str {
-        shown(part_of(self.text, token.start, token.end))
+        shown(part_of(self.bytes, token.start, token.end))
     }
 }

@@ -1,10 +1,12 @@
 //! What is said of names that are declared twice, or that are taken (C2).
 
+use crate::externals::sort_name;
 use crate::search::{Search, first_declared};
+use crate::telling::said;
 use st_diagnose::{Finding, Spot, is_mark, position_of};
 use st_lex::{Mark, TokenKind};
 use st_names::{standard_block, standard_function};
-use st_trees::{LibraryElement, Source, TypeDeclaration, UnitSort};
+use st_trees::{LibraryElement, Source, TypeDeclaration};
 use st_types::lookup::is_named;
 use st_words::Name;
 use std::alloc::{AllocError, Global};
@@ -26,14 +28,6 @@ fn holder_in(types: &[TypeDeclaration], name: &Name) -> Option<Holder> {
         }
     }
     None
-}
-
-fn sort_name(sort: &UnitSort) -> &'static str {
-    match sort {
-        UnitSort::Function(_) => "function",
-        UnitSort::FunctionBlock => "function block",
-        UnitSort::Program => "program",
-    }
 }
 
 /// The type or unit that has a name.
@@ -79,15 +73,11 @@ fn of_taken(
     name: &Name,
 ) -> Result<Option<Finding>, AllocError> {
     let spelled = spot.spelled();
-    if let Some(sort) = standard_sort(name) {
-        return Ok(Some(Finding::new(format!(in alloc; "`{spelled}` is the name of {sort}")?)));
-    }
-    match holder_of(source, name) {
-        Some(holder) if holder.place != spot.place => {
+    match (standard_sort(name), holder_of(source, name)) {
+        (Some(sort), _) => said(format!(in alloc; "`{spelled}` is the name of {sort}")),
+        (None, Some(holder)) if holder.place != spot.place => {
             let (sort, line) = (holder.sort, position_of(spot.text, holder.place).line);
-            Ok(Some(Finding::new(format!(in alloc;
-                "`{spelled}` is the name of the {sort} in line {line}"
-            )?)))
+            said(format!(in alloc; "`{spelled}` is the name of the {sort} in line {line}"))
         }
         _ => Ok(None),
     }
@@ -104,14 +94,12 @@ pub fn of_twice(
     };
     let spelled = spot.spelled();
     if is_given(spot) {
-        return Ok(Some(Finding::new(format!(in alloc; "`{spelled}` is given twice")?)));
+        return said(format!(in alloc; "`{spelled}` is given twice"));
     }
     match first_declared(source, Search::new(name, spot.place)) {
         Some(first) => {
             let line = position_of(spot.text, first).line;
-            Ok(Some(Finding::new(format!(in alloc;
-                "`{spelled}` is declared in line {line} already"
-            )?)))
+            said(format!(in alloc; "`{spelled}` is declared in line {line} already"))
         }
         None => of_taken(alloc, spot, source, name),
     }

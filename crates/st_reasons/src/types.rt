@@ -2,20 +2,21 @@
 
 use crate::culprit::culprit;
 use crate::expressions::{of_expression, typing_in};
-use crate::lookups::Lookups;
 use crate::roots::{Purpose, Root, root_at};
+use crate::sites::Site;
 use crate::spots::spelled_from;
-use st_diagnose::{Finding, Spot, of_rule, shown};
+use crate::telling::{may_help, said, said_with};
+use st_diagnose::{Finding, Spot, shown};
 use st_lex::{Keyword, TokenKind};
 use st_names::{Side, UnitNames, place_type};
 use st_statics::{Demand, Rule, Sorts, Typing};
-use st_trees::{Expr, Initial, Unit};
+use st_trees::{Expr, Initial, Unit, Variable};
 use st_typing::{
     demand_of_typing, first_byte, kind_of, meets, place_of, place_of_literal, settled, taken_kind,
     typing, typing_of_place,
 };
 use st_words::limits::MAX_PRIORITY;
-use st_words::{Kind, Literal};
+use st_words::{Kind, Literal, Name};
 use std::alloc::{AllocError, Global};
 
 /// What may help where a value of one type stands for another: a conversion, where there is one.
@@ -28,13 +29,12 @@ fn conversion(alloc: Global, given: Typing, wanted: Typing) -> Result<Option<Str
     if from.is(to) || !is_whole(from) || !is_whole(to) {
         return Ok(None);
     }
-    Ok(Some(format!(in alloc; "convert it with {first}_TO_{second}")?))
+    may_help(format!(in alloc; "convert it with {first}_TO_{second}"))
 }
 
 /// What is said where a value of another type is wanted; nothing where the two fit.
 fn of_value(
-    alloc: Global,
-    lookups: &Lookups,
+    site: &Site,
     subject: &str,
     wanted: Typing,
     given: Typing,
@@ -42,30 +42,35 @@ fn of_value(
     if meets(demand_of_typing(wanted), settled(kind_of(wanted), given)) {
         return Ok(None);
     }
-    let (is, other) = (lookups.typing_name(wanted), lookups.typing_name(given));
-    let finding = Finding::new(format!(in alloc; "{subject} is {is}, the expression is {other}")?);
-    match conversion(alloc, given, wanted)? {
-        Some(help) => Ok(Some(finding.helped(help))),
-        None => Ok(Some(finding)),
+    let (is, other) = (site.typing_name(wanted), site.typing_name(given));
+    said_with(
+        format!(in site.alloc; "{subject} is {is}, the expression is {other}"),
+        conversion(site.alloc, given, wanted),
+    )
+}
+
+fn typing_of_variable(names: &UnitNames, variable: &Variable) -> Typing {
+    match place_of(names, variable) {
+        Ok(declared) => typing_of_place(names.tables, declared),
+        Err(_) => Typing::Nothing,
+    }
+}
+
+fn typing_of_input(names: &UnitNames, instance: &Name, input: &Name) -> Typing {
+    match names.type_of_name(instance) {
+        Some(block) => {
+            let declared = names.tables.block_variable(Side::Input, block, input);
+            typing_of_place(names.tables, declared)
+        }
+        None => Typing::Nothing,
     }
 }
 
 /// The type that an expression has to have for what it is for; nothing where that is not one type.
 fn wanted_for(names: &UnitNames, purpose: Purpose) -> Typing {
     match purpose {
-        Purpose::Assigned(variable) => match place_of(names, variable) {
-            Ok(declared) => typing_of_place(names.tables, declared),
-            Err(_) => Typing::Nothing,
-        },
-        Purpose::Given(instance, input) => match names.type_of_name(&instance.name) {
-            Some(declared) => typing_of_place(
-                names.tables,
-                names
-                    .tables
-                    .block_variable(Side::Input, declared, &input.name),
-            ),
-            None => Typing::Nothing,
-        },
+        Purpose::Assigned(variable) => typing_of_variable(names, variable),
+        Purpose::Given(instance, input) => typing_of_input(names, &instance.name, &input.name),
         Purpose::Condition => Typing::Elementary(Kind::Bool),
         Purpose::Count(control) => {
             typing_of_place(names.tables, names.type_of_name(&control.name))
@@ -75,10 +80,11 @@ fn wanted_for(names: &UnitNames, purpose: Purpose) -> Typing {
 }
 
 /// What an expression is for, as the subject of a sentence.
-fn subject_of(alloc: Global, spot: &Spot, purpose: Purpose) -> Result<String, AllocError> {
+fn subject_of(site: &Site, purpose: Purpose) -> Result<String, AllocError> {
+    let alloc = site.alloc;
     match purpose {
         Purpose::Assigned(variable) => {
-            let spelled = spelled_from(spot, variable.name.place);
+            let spelled = spelled_from(&site.spot, variable.name.place);
             format!(in alloc; "`{spelled}`")
         }
         Purpose::Given(_, input) => {
@@ -94,66 +100,60 @@ fn subject_of(alloc: Global, spot: &Spot, purpose: Purpose) -> Result<String, Al
     }
 }
 
+/// What is said where a value of some of the whole numbers and enumerated types is wanted; nothing where it is one.
+fn of_sorts(
+    site: &Site,
+    sorts: Sorts,
+    wanted: &str,
+    given: Typing,
+) -> Result<Option<Finding>, AllocError> {
+    if meets(Demand::Asked(None, sorts), settled(None, given)) {
+        return Ok(None);
+    }
+    let given = site.typing_name(given);
+    said(format!(in site.alloc; "{wanted}, this expression is {given}"))
+}
+
 /// What is said of an expression that has a type which is none for what it is for.
 fn of_purpose(
-    alloc: Global,
-    spot: &Spot,
-    lookups: &Lookups,
+    site: &Site,
     names: &UnitNames,
     purpose: Purpose,
     given: Typing,
 ) -> Result<Option<Finding>, AllocError> {
-    let (demand, asked) = match purpose {
-        Purpose::Selector => (
-            Demand::Asked(None, Sorts::Selecting),
-            "a CASE selects by a whole number or an enumerated type",
-        ),
-        Purpose::Subscript => (
-            Demand::Asked(None, Sorts::Whole),
-            "a subscript is a whole number",
-        ),
-        _ => {
-            let subject = subject_of(alloc, spot, purpose)?;
-            return of_value(alloc, lookups, &subject, wanted_for(names, purpose), given);
+    match purpose {
+        Purpose::Selector => {
+            let wanted = "a CASE selects by a whole number or an enumerated type";
+            of_sorts(site, Sorts::Selecting, wanted, given)
         }
-    };
-    if meets(demand, settled(None, given)) {
-        return Ok(None);
+        Purpose::Subscript => {
+            of_sorts(site, Sorts::Whole, "a subscript is a whole number", given)
+        }
+        _ => {
+            let subject = subject_of(site, purpose)?;
+            of_value(site, &subject, wanted_for(names, purpose), given)
+        }
     }
-    let given = lookups.typing_name(given);
-    Ok(Some(Finding::new(format!(in alloc; "{asked}, this expression is {given}")?)))
 }
 
 /// What is said of the wrong type of an expression, or of a part of it, that begins at the place.
-fn of_root(
-    alloc: Global,
-    spot: &Spot,
-    lookups: &Lookups,
-    names: &UnitNames,
-    root: Root,
-) -> Result<Option<Finding>, AllocError> {
+fn of_root(site: &Site, names: &UnitNames, root: Root) -> Result<Option<Finding>, AllocError> {
     match typing(names, root.tree) {
-        Ok(given) if first_byte(root.tree) == spot.place => {
-            of_purpose(alloc, spot, lookups, names, root.purpose, given)
+        Ok(given) if first_byte(root.tree) == site.spot.place => {
+            of_purpose(site, names, root.purpose, given)
         }
-        Err(broken) if broken.place == spot.place && broken.rule == Rule::WrongType => {
-            of_expression(alloc, lookups, names, culprit(names, root.tree))
+        Err(broken) if broken.place == site.spot.place && broken.rule == Rule::WrongType => {
+            of_expression(site, names, culprit(names, root.tree))
         }
         _ => Ok(None),
     }
 }
 
 /// What is said of a number that is outside a type.
-fn of_range(
-    alloc: Global,
-    spot: &Spot,
-    lookups: &Lookups,
-    kind: Kind,
-) -> Result<Finding, AllocError> {
-    let spelled = spot.spelled();
-    let name = lookups.type_name(kind);
+fn of_range(site: &Site, kind: Kind) -> Result<Option<Finding>, AllocError> {
+    let (spelled, name) = (site.spot.spelled(), site.type_name(kind));
     let (least, greatest) = (kind.least(), kind.greatest());
-    Ok(Finding::new(format!(in alloc; "{spelled} is outside {name} ({least} to {greatest})")?))
+    said(format!(in site.alloc; "{spelled} is outside {name} ({least} to {greatest})"))
 }
 
 /// The type that a number without a type takes in an operation that has one: that of the other operand.
@@ -195,28 +195,34 @@ fn kind_in(spot: &Spot, names: &UnitNames, root: Root) -> Option<Kind> {
     }
 }
 
-/// What is said of a rule on types or numbers that is broken in the body of a unit.
+/// What is said of a rule on types or numbers that an expression breaks.
+fn of_names(
+    site: &Site,
+    names: &UnitNames,
+    root: Root,
+    rule: Rule,
+) -> Result<Option<Finding>, AllocError> {
+    if rule != Rule::OutOfRange {
+        return of_root(site, names, root);
+    }
+    match kind_in(&site.spot, names, root) {
+        Some(kind) => of_range(site, kind),
+        None => Ok(None),
+    }
+}
+
+/// What is said of a rule on types or numbers that is broken in the body of a unit; nothing where no expression of it
+/// is certainly wrong.
 pub fn of_body<'a>(
-    alloc: Global,
-    spot: &Spot,
-    lookups: &Lookups<'a>,
+    site: &Site<'a>,
     unit: &'a Unit,
     rule: Rule,
-) -> Result<Finding, AllocError> {
-    let names = UnitNames::new(alloc, &lookups.tables, unit)?;
-    let Some(root) = root_at(&unit.body, spot.place) else {
-        return of_rule(alloc, spot, rule);
+) -> Result<Option<Finding>, AllocError> {
+    let Some(root) = root_at(&unit.body, site.spot.place) else {
+        return Ok(None);
     };
-    if rule == Rule::OutOfRange {
-        return match kind_in(spot, &names, root) {
-            Some(kind) => of_range(alloc, spot, lookups, kind),
-            None => of_rule(alloc, spot, rule),
-        };
-    }
-    match of_root(alloc, spot, lookups, &names, root)? {
-        Some(finding) => Ok(finding),
-        None => of_rule(alloc, spot, rule),
-    }
+    let names = UnitNames::new(site.alloc, &site.tables, unit)?;
+    of_names(site, &names, root, rule)
 }
 
 /// The typing of a literal that is no value of an enumerated type.
@@ -232,14 +238,12 @@ fn typing_of_constant(literal: &Literal) -> Typing {
     }
 }
 
-/// The type of the variable whose initial value is a literal at a place, and the literal's.
-fn started_at(lookups: &Lookups, place: usize) -> Option<(Typing, Typing)> {
-    for declaring in &lookups.declarings {
+/// The type of the variable whose initial value is the literal at the place, and the literal's.
+fn started_at(site: &Site) -> Option<(Typing, Typing)> {
+    for declaring in &site.declarings {
         match declaring.initial {
-            Some(Initial::Constant(literal)) if place_of_literal(literal) == place => {
-                let wanted = lookups
-                    .tables
-                    .typing_of_type(place_type(declaring.declared));
+            Some(Initial::Constant(literal)) if place_of_literal(literal) == site.spot.place => {
+                let wanted = site.tables.typing_of_type(place_type(declaring.declared));
                 return Some((wanted, typing_of_constant(literal)));
             }
             _ => {}
@@ -256,33 +260,24 @@ fn is_priority(spot: &Spot) -> bool {
 }
 
 /// What is said of a number that is outside its type, where tokens and declarations tell the type.
-pub fn of_number(
-    alloc: Global,
-    spot: &Spot,
-    lookups: &Lookups,
-) -> Result<Option<Finding>, AllocError> {
-    if is_priority(spot) {
-        let spelled = spot.spelled();
-        return Ok(Some(Finding::new(format!(in alloc;
+pub fn of_number(site: &Site) -> Result<Option<Finding>, AllocError> {
+    if is_priority(&site.spot) {
+        let spelled = site.spot.spelled();
+        return said(format!(in site.alloc;
             "{spelled} is over {MAX_PRIORITY}, the greatest PRIORITY"
-        )?)));
+        ));
     }
-    let kind = match (written_kind(spot), started_at(lookups, spot.place)) {
-        (Some(kind), _) => kind,
-        (None, Some((wanted, _))) => taken_kind(kind_of(wanted)),
-        (None, None) => return Ok(None),
-    };
-    Ok(Some(of_range(alloc, spot, lookups, kind)?))
+    match (written_kind(&site.spot), started_at(site)) {
+        (Some(kind), _) => of_range(site, kind),
+        (None, Some((wanted, _))) => of_range(site, taken_kind(kind_of(wanted))),
+        (None, None) => Ok(None),
+    }
 }
 
 /// What is said of an initial value of a wrong type; nothing where the place is that of none.
-pub fn of_start(
-    alloc: Global,
-    spot: &Spot,
-    lookups: &Lookups,
-) -> Result<Option<Finding>, AllocError> {
-    match started_at(lookups, spot.place) {
-        Some((wanted, given)) => of_value(alloc, lookups, "the variable", wanted, given),
+pub fn of_start(site: &Site) -> Result<Option<Finding>, AllocError> {
+    match started_at(site) {
+        Some((wanted, given)) => of_value(site, "the variable", wanted, given),
         None => Ok(None),
     }
 }

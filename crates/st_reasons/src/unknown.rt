@@ -1,10 +1,11 @@
 //! What is said of names that stand for nothing (C1).
 
-use crate::lookups::Lookups;
 use crate::members::of_member;
-use crate::near::Candidates;
+use crate::near::Nearest;
+use crate::sites::Site;
 use crate::spots::{is_declaring, name_at};
-use st_diagnose::{Finding, Spot, is_mark, of_rule};
+use crate::telling::may_help;
+use st_diagnose::{Finding, is_mark, of_rule};
 use st_lex::Mark;
 use st_statics::Rule;
 use st_trees::{
@@ -12,7 +13,7 @@ use st_trees::{
 };
 use st_types::lookup::{is_listed, is_named};
 use st_words::Name;
-use std::alloc::{AllocError, Global};
+use std::alloc::AllocError;
 
 /// The elementary types and the standard function blocks.
 const TYPES: [&[u8]; 24] = [
@@ -39,49 +40,49 @@ enum Sought {
     Value,
 }
 
-fn add_variables<'a>(names: &mut Candidates<'a>, unit: &'a Unit) -> Result<(), AllocError> {
+fn meet_variables<'a>(nearest: &mut Nearest<'a>, unit: &'a Unit) {
     for block in &unit.blocks {
         for declaration in &block.declarations {
-            names.add_all(&declaration.names)?;
+            nearest.meet_all(&declaration.names);
         }
     }
-    Ok(())
 }
 
-/// Adds the types and function blocks.
-fn add_types<'a>(names: &mut Candidates<'a>, lookups: &Lookups<'a>) -> Result<(), AllocError> {
-    for declaration in &lookups.types {
-        names.add(&declaration.name)?;
+/// Looks at the types and function blocks.
+fn meet_types<'a>(nearest: &mut Nearest<'a>, site: &Site<'a>) {
+    for declaration in &site.types {
+        nearest.meet(&declaration.name);
     }
-    for unit in &lookups.units {
+    for unit in &site.units {
         if let UnitSort::FunctionBlock = unit.sort {
-            names.add(&unit.name)?;
+            nearest.meet(&unit.name);
         }
     }
-    names.add_words(&TYPES)
+    nearest.meet_words(&TYPES);
 }
 
-fn add_functions<'a>(names: &mut Candidates<'a>, lookups: &Lookups<'a>) -> Result<(), AllocError> {
-    for unit in &lookups.units {
+fn meet_functions<'a>(nearest: &mut Nearest<'a>, site: &Site<'a>) {
+    for unit in &site.units {
         if let UnitSort::Function(_) = unit.sort {
-            names.add(&unit.name)?;
+            nearest.meet(&unit.name);
         }
     }
-    names.add_words(&FUNCTIONS)
+    nearest.meet_words(&FUNCTIONS);
 }
 
-/// Adds the values of enumerated types.
-fn add_values<'a>(names: &mut Candidates<'a>, lookups: &Lookups<'a>) -> Result<(), AllocError> {
-    for declaration in &lookups.types {
+/// Looks at the values of enumerated types.
+fn meet_values<'a>(nearest: &mut Nearest<'a>, site: &Site<'a>) {
+    for declaration in &site.types {
         if let TypeDefinition::Enumeration(values) = &declaration.definition {
-            names.add_all(values)?;
+            nearest.meet_all(values);
         }
     }
-    Ok(())
 }
 
-fn is_type_at(lookups: &Lookups, place: usize) -> bool {
-    lookups.declarings.iter().any(|d| match d.declared {
+/// Whether the name at the place is that of a type.
+fn is_type(site: &Site) -> bool {
+    let place = site.spot.place;
+    site.declarings.iter().any(|d| match d.declared {
         VariableType::Simple(SimpleType::Named(name)) => name.place == place,
         VariableType::Array(array) => match &array.element {
             SimpleType::Named(name) => name.place == place,
@@ -91,10 +92,11 @@ fn is_type_at(lookups: &Lookups, place: usize) -> bool {
     })
 }
 
-fn sought_at(spot: &Spot, lookups: &Lookups) -> Sought {
+fn sought_at(site: &Site) -> Sought {
+    let spot = &site.spot;
     if is_mark(spot.last(), Mark::Dot) {
         Sought::Member
-    } else if is_type_at(lookups, spot.place) {
+    } else if is_type(site) {
         Sought::Type
     } else if is_mark(spot.next(), Mark::Open) {
         Sought::Callee
@@ -105,32 +107,25 @@ fn sought_at(spot: &Spot, lookups: &Lookups) -> Sought {
     }
 }
 
-/// The names that may have been meant.
-fn names_for<'a>(
-    alloc: Global,
-    spot: &Spot<'a>,
-    lookups: &Lookups<'a>,
-    sought: Sought,
-) -> Result<Candidates<'a>, AllocError> {
-    let mut names = Candidates::new(alloc, spot.text);
+/// Looks at the names that may have been meant.
+fn meet_names<'a>(nearest: &mut Nearest<'a>, site: &Site<'a>, sought: Sought) {
     match sought {
         Sought::Member => {}
-        Sought::Type => add_types(&mut names, lookups)?,
-        Sought::Callee => add_functions(&mut names, lookups)?,
-        Sought::Value => add_values(&mut names, lookups)?,
+        Sought::Type => meet_types(nearest, site),
+        Sought::Callee => meet_functions(nearest, site),
+        Sought::Value => meet_values(nearest, site),
     }
-    match (sought, lookups.unit_at(spot.place)) {
-        (Sought::Callee | Sought::Value, Some(unit)) if !is_declaring(spot) => {
-            add_variables(&mut names, unit)?;
+    match (sought, site.unit()) {
+        (Sought::Callee | Sought::Value, Some(unit)) if !is_declaring(&site.spot) => {
+            meet_variables(nearest, unit);
         }
         _ => {}
     }
-    Ok(names)
 }
 
 /// Whether a configuration of the text has a global of this name.
-fn is_global(lookups: &Lookups, word: &Name) -> bool {
-    for element in &lookups.source.elements {
+fn is_global(site: &Site, word: &Name) -> bool {
+    for element in &site.source.elements {
         if let LibraryElement::Configuration(configuration) = element {
             for block in &configuration.globals {
                 for declaration in &block.declarations {
@@ -148,52 +143,46 @@ fn is_global(lookups: &Lookups, word: &Name) -> bool {
     false
 }
 
-fn help_of<'a>(
-    alloc: Global,
-    spot: &Spot<'a>,
-    lookups: &Lookups<'a>,
-    word: &Name,
-) -> Result<Option<String>, AllocError> {
-    let sought = sought_at(spot, lookups);
-    if matches!(sought, Sought::Value) && is_global(lookups, word) {
-        let spelled = spot.spelled();
-        let help = format!(in alloc; "a unit names the global `{spelled}` under VAR_EXTERNAL")?;
-        return Ok(Some(help));
-    }
-    let names = names_for(alloc, spot, lookups, sought)?;
-    match names.near(word) {
-        Some(near) => Ok(Some(format!(in alloc; "did you mean `{near}`?")?)),
-        None => Ok(None),
+fn help_of<'a>(site: &Site<'a>, word: &'a Name) -> Result<Option<String>, AllocError> {
+    match sought_at(site) {
+        Sought::Value if is_global(site, word) => {
+            let spelled = site.spot.spelled();
+            may_help(format!(in site.alloc;
+                "a unit names the global `{spelled}` under VAR_EXTERNAL"
+            ))
+        }
+        sought => {
+            let mut nearest = Nearest::new(site.spot.text, word);
+            meet_names(&mut nearest, site, sought);
+            nearest.help(site.alloc)
+        }
     }
 }
 
 /// What is said of a member behind a dot; nothing of any other name, and where it isn't certain.
-fn of_selected<'a>(
-    alloc: Global,
-    spot: &Spot<'a>,
-    lookups: &Lookups<'a>,
-) -> Result<Option<Finding>, AllocError> {
-    match name_at(spot) {
-        Some(member) if is_mark(spot.last(), Mark::Dot) => of_member(alloc, spot, lookups, member),
-        _ => Ok(None),
+fn of_selected<'a>(site: &Site<'a>, member: &'a Name) -> Result<Option<Finding>, AllocError> {
+    if is_mark(site.spot.last(), Mark::Dot) {
+        of_member(site, member)
+    } else {
+        Ok(None)
     }
 }
 
-/// What is said of a name that stands for nothing.
-pub fn of_unknown<'a>(
-    alloc: Global,
-    spot: &Spot<'a>,
-    lookups: &Lookups<'a>,
-) -> Result<Finding, AllocError> {
-    if let Some(finding) = of_selected(alloc, spot, lookups)? {
-        return Ok(finding);
+/// What is said of the word with what may help; nothing where nothing may.
+fn of_word<'a>(site: &Site<'a>, word: &'a Name) -> Result<Option<Finding>, AllocError> {
+    match help_of(site, word)? {
+        Some(help) => Ok(Some(of_rule(site.alloc, &site.spot, Rule::UnknownName)?.helped(help))),
+        None => Ok(None),
     }
-    let finding = of_rule(alloc, spot, Rule::UnknownName)?;
-    let Some(word) = name_at(spot) else {
-        return Ok(finding);
+}
+
+/// What is said of a name that stands for nothing; nothing where the rule tells as much.
+pub fn of_unknown(site: &Site) -> Result<Option<Finding>, AllocError> {
+    let Some(word) = name_at(&site.spot) else {
+        return Ok(None);
     };
-    match help_of(alloc, spot, lookups, word)? {
-        Some(help) => Ok(finding.helped(help)),
-        None => Ok(finding),
+    match of_selected(site, word) {
+        Ok(None) => of_word(site, word),
+        told => told,
     }
 }

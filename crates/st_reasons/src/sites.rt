@@ -1,15 +1,18 @@
-//! What is looked up in a text to say what is wrong in it.
+//! A place of a text at which a rule is broken, and what is looked up to say why.
 
 use st_decl::{Declaring, declarings_in, types_in, units_in};
-use st_diagnose::shown;
+use st_diagnose::{Spot, shown};
 use st_names::{TextNames, TextTables};
 use st_statics::Typing;
 use st_trees::{Source, TypeDeclaration, TypeDefinition, Unit};
 use st_words::Kind;
 use std::alloc::{AllocError, Global};
 
-/// A text with its types, units and declarations, and what its names stand for.
-pub struct Lookups<'a> {
+/// A place at which a rule is broken, with the types, units and declarations of its text, and what names stand for.
+/// What is said of it is written with the allocator.
+pub struct Site<'a> {
+    pub alloc: Global,
+    pub spot: Spot<'a>,
     pub source: &'a Source,
     pub types: Vec<&'a TypeDeclaration>,
     pub units: Vec<&'a Unit>,
@@ -17,9 +20,11 @@ pub struct Lookups<'a> {
     pub tables: TextTables<'a>,
 }
 
-impl Drop for Lookups<'_> {
+impl Drop for Site<'_> {
     fn drop(self) {
         let Self {
+            alloc: _,
+            spot: _,
             source: _,
             types: _,
             units: _,
@@ -43,14 +48,26 @@ fn enumerated_name<'a>(types: &[&'a TypeDeclaration], number: u32) -> &'a str {
     "an enumerated type"
 }
 
-impl<'a> Lookups<'a> {
-    pub fn new(alloc: Global, source: &'a Source) -> Result<Lookups<'a>, AllocError> {
+/// What the names of a text stand for.
+fn tables_of<'a>(
+    alloc: Global,
+    source: &'a Source,
+    types: &[&'a TypeDeclaration],
+    units: &[&'a Unit],
+) -> Result<TextTables<'a>, AllocError> {
+    let names = TextNames::new(alloc, source)?;
+    TextTables::new(alloc, names, types, units)
+}
+
+impl<'a> Site<'a> {
+    pub fn new(alloc: Global, spot: Spot<'a>, source: &'a Source) -> Result<Site<'a>, AllocError> {
         let types = types_in(alloc, source)?;
         let units = units_in(alloc, source)?;
         let declarings = declarings_in(alloc, source)?;
-        let names = TextNames::new(alloc, source)?;
-        let tables = TextTables::new(alloc, names, &types, &units)?;
-        Ok(Lookups {
+        let tables = tables_of(alloc, source, &types, &units)?;
+        Ok(Site {
+            alloc,
+            spot,
             source,
             types,
             units,
@@ -59,11 +76,11 @@ impl<'a> Lookups<'a> {
         })
     }
 
-    /// The last unit that begins before a place.
-    pub fn unit_at(&self, place: usize) -> Option<&'a Unit> {
+    /// The last unit that begins before the place.
+    pub fn unit(&self) -> Option<&'a Unit> {
         let mut found: Option<&'a Unit> = None;
         for unit in &self.units {
-            if unit.name.place < place {
+            if unit.name.place < self.spot.place {
                 found = Some(*unit);
             }
         }
