@@ -5,7 +5,7 @@ use layout::{Layout, LayoutSlot, Sizes, Types};
 use st_check::check;
 use st_names::place_type;
 use st_print::{write_path, write_value};
-use st_trees::{Declaration, LibraryElement, Source};
+use st_trees::{Declaration, LibraryElement, Source, Unit};
 use st_words::Kind;
 use std::alloc::Global;
 
@@ -84,14 +84,25 @@ fn declared_sizes<'a>(
     Some(())
 }
 
+/// The sizes of the types of all variables of a unit.
+fn unit_sizes<'a>(
+    out: &mut Answer,
+    alloc: Global,
+    sizes: &mut Sizes<'a>,
+    unit: &'a Unit,
+) -> Option<()> {
+    for block in &unit.blocks {
+        declared_sizes(out, alloc, sizes, &block.declarations)?;
+    }
+    Some(())
+}
+
 /// The sizes of the types of all variables of units.
 fn shown_sizes(out: &mut Answer, alloc: Global, source: &Source) -> Option<()> {
     let mut sizes = Sizes::new(alloc, Types::new(alloc, source).ok()?);
     for element in &source.elements {
         if let LibraryElement::Unit(unit) = element {
-            for block in &unit.blocks {
-                declared_sizes(out, alloc, &mut sizes, &block.declarations)?;
-            }
+            unit_sizes(out, alloc, &mut sizes, unit)?;
         }
     }
     Some(())

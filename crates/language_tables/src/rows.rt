@@ -51,6 +51,18 @@ use st_lex::{Token, lex};
 use st_words::Value;
 use std::alloc::{AllocError, Global};
 
+/// The words that a row may begin with.
+const WORDS: &str =
+    "type value truth printed named spelled faults name bytes identifier owner step path same lexer \
+    depth source prefixes declarations declared checked configured layout slots sizes linked expression initial number \
+    statements tokens next refused last end deep memory";
+
+/// Whether a row asks something of the language, by its first word.
+pub fn asks(asked: &str) -> bool {
+    let (word, _) = asked.split_once(' ').unwrap_or((asked, ""));
+    WORDS.split(' ').any(|known| known == word)
+}
+
 /// What is answered of the tokens of a text.
 fn part(out: &mut Answer, alloc: Global, word: &str, tokens: &[Token]) {
     match word {
@@ -98,17 +110,9 @@ fn same(out: &mut Answer, alloc: Global, asked: &str) -> Option<()> {
     }
 }
 
-/// What is answered to a row; nothing where it is none of the table's, or memory ran out.
-fn tell(out: &mut Answer, alloc: Global, asked: &str) -> Option<()> {
-    let (word, given) = asked.split_once(' ').unwrap_or((asked, ""));
+/// What is answered to a row of names, paths or texts.
+fn tell_other(out: &mut Answer, alloc: Global, word: &str, given: &str) -> Option<()> {
     match word {
-        "type" => write_kind(out, given),
-        "value" => write_value(out, given),
-        "truth" => Some(show_value(out, Value::truth(given == "TRUE"))),
-        "printed" => print_value(out, alloc, given),
-        "named" => print_named(out, alloc, given),
-        "spelled" => print_path(out, alloc, given),
-        "faults" => Some(write_faults(out)),
         "name" => write_name(out, alloc, name_of(alloc, given)),
         "bytes" => write_name(out, alloc, name_of_bytes(alloc, given)),
         "identifier" => write_identifier(out, alloc, given),
@@ -122,8 +126,23 @@ fn tell(out: &mut Answer, alloc: Global, asked: &str) -> Option<()> {
     }
 }
 
+/// What is answered to a row; nothing where it is none of the table's, or memory ran out.
+fn tell(out: &mut Answer, alloc: Global, asked: &str) -> Option<()> {
+    let (word, given) = asked.split_once(' ').unwrap_or((asked, ""));
+    match word {
+        "type" => write_kind(out, given),
+        "value" => write_value(out, given),
+        "truth" => Some(show_value(out, Value::truth(given == "TRUE"))),
+        "printed" => print_value(out, alloc, given),
+        "named" => print_named(out, alloc, given),
+        "spelled" => print_path(out, alloc, given),
+        "faults" => Some(write_faults(out)),
+        _ => tell_other(out, alloc, word, given),
+    }
+}
+
 /// What is answered to a row.
-pub fn answer(alloc: Global, asked: &str) -> Result<String, AllocError> {
+pub fn answer_of(alloc: Global, asked: &str) -> Result<String, AllocError> {
     let mut out = Answer::new(alloc);
     if tell(&mut out, alloc, asked).is_none() {
         out.put("unread");

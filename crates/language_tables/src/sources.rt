@@ -46,27 +46,38 @@ fn configured(out: &mut Answer, alloc: Global, source: &Source) {
     }
 }
 
-/// What is answered of the source that the tokens are, or why they are none.
-pub fn shown_source(out: &mut Answer, alloc: Global, word: &str, tokens: &[Token]) {
-    match parse(alloc, tokens) {
-        Ok(source) if word == "declared" => declared(out, alloc, &source),
-        Ok(source) if word == "checked" => checked(out, alloc, source),
-        Ok(source) if word == "configured" => configured(out, alloc, &source),
-        Ok(source) if word == "declarations" => declarations(out, &source),
-        Ok(source) if matches!(word, "layout" | "slots" | "sizes") => {
-            if shown_layout(out, alloc, word, source).is_none() {
-                out.put("no memory");
-            }
-        }
-        Ok(source) if word == "linked" => {
-            if shown_linked(out, alloc, source).is_none() {
-                out.put("no memory");
-            }
-        }
-        Ok(source) => {
+/// What is answered of a source as it was parsed.
+fn shown_parsed(out: &mut Answer, alloc: Global, word: &str, source: &Source) {
+    match word {
+        "declared" => declared(out, alloc, source),
+        "configured" => configured(out, alloc, source),
+        "declarations" => declarations(out, source),
+        _ => {
             out.show(&source.elements.len());
             out.put(" read");
         }
+    }
+}
+
+/// What is answered of a source that is checked first.
+fn shown_checked(out: &mut Answer, alloc: Global, word: &str, source: Source) {
+    let shown = match word {
+        "linked" => shown_linked(out, alloc, source),
+        _ => shown_layout(out, alloc, word, source),
+    };
+    if shown.is_none() {
+        out.put("no memory");
+    }
+}
+
+/// What is answered of the source that the tokens are, or why they are none.
+pub fn shown_source(out: &mut Answer, alloc: Global, word: &str, tokens: &[Token]) {
+    match parse(alloc, tokens) {
+        Ok(source) if word == "checked" => checked(out, alloc, source),
+        Ok(source) if matches!(word, "layout" | "slots" | "sizes" | "linked") => {
+            shown_checked(out, alloc, word, source)
+        }
+        Ok(source) => shown_parsed(out, alloc, word, &source),
         Err(error) => out.show(&error),
     }
 }

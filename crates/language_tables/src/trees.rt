@@ -7,6 +7,7 @@ use crate::shown_expressions::expression as show_expression;
 use crate::shown_initials::initial as show_initial;
 use crate::shown_sources::declarations;
 use crate::shown_statements::block;
+use st_lex::Token;
 use st_trees::{LibraryElement, Source};
 use std::alloc::Global;
 
@@ -32,24 +33,38 @@ fn show_source(out: &mut Answer, shown: &Source) {
     show_bodies(out, shown)
 }
 
+/// What the tree of these tokens shows as, where they are one of this form.
+fn show(out: &mut Answer, alloc: Global, form: &str, tokens: &[Token]) -> Option<()> {
+    match form {
+        "expression" => show_expression(out, &expression(alloc, tokens)?),
+        "initial" => show_initial(out, &initial(alloc, tokens)?),
+        "statements" => block(out, "", &statements(alloc, tokens)?),
+        "source" => show_source(out, &source(alloc, tokens)?),
+        _ => return None,
+    }
+    Some(())
+}
+
 /// What the tree of a text of this form shows as, with all its places.
 fn shown(alloc: Global, form: &str, written: &str) -> Option<String> {
     let tokens = tokens_of(alloc, written)?;
     let mut out = Answer::new(alloc);
-    match form {
-        "expression" => show_expression(&mut out, &expression(alloc, &tokens)?),
-        "initial" => show_initial(&mut out, &initial(alloc, &tokens)?),
-        "statements" => block(&mut out, "", &statements(alloc, &tokens)?),
-        "source" => show_source(&mut out, &source(alloc, &tokens)?),
-        _ => return None,
-    }
+    show(&mut out, alloc, form, &tokens)?;
     out.finished().ok()
+}
+
+/// Whether both are there and are one.
+fn are_same(this: Option<String>, that: Option<String>) -> Option<bool> {
+    match (this, that) {
+        (Some(this), Some(that)) => Some(this.as_str() == that.as_str()),
+        _ => None,
+    }
 }
 
 /// Whether two texts have one tree of this form. Its places count.
 pub fn sameness(out: &mut Answer, alloc: Global, form: &str, written: &str) -> Option<()> {
     let (this, that) = written.split_once(" // ")?;
-    let is_same = shown(alloc, form, this)?.as_str() == shown(alloc, form, that)?.as_str();
+    let is_same = are_same(shown(alloc, form, this), shown(alloc, form, that))?;
     out.put(if is_same { "yes" } else { "no" });
     Some(())
 }

@@ -53,12 +53,8 @@ impl<'a> Configuration<'a> {
         write!(self.units, "END_VAR {body} END_PROGRAM\n")
     }
 
-    /// Adds a resource that is written `BODY`, or `COUNT times BODY` with so many programs.
-    pub fn add_resource(&mut self, written: &str) -> Result<(), RowError> {
-        let (times, body) = written.split_once(" times ").unwrap_or(("1", written));
-        write!(self.resources, "RESOURCE R{} ON CPU\n", self.resource_count)?;
-        let first = self.program_count;
-        let end = first.saturating_add(number(times)?);
+    /// The types and the tasks of the programs from a number to before another one.
+    fn add_tasks(&mut self, first: u64, end: u64, body: &str) -> Result<(), AllocError> {
         for k in first..end {
             self.add_unit(k, body)?;
             write!(
@@ -66,26 +62,48 @@ impl<'a> Configuration<'a> {
                 "TASK T{k} (INTERVAL := T#10ms, PRIORITY := 0);\n"
             )?;
         }
+        Ok(())
+    }
+
+    /// These programs, each with its task.
+    fn add_programs(&mut self, first: u64, end: u64) -> Result<(), AllocError> {
         for k in first..end {
             write!(self.resources, "PROGRAM P{k} WITH T{k} : Unit{k};\n")?;
         }
-        self.resources.push_str("END_RESOURCE\n")?;
+        Ok(())
+    }
+
+    /// A resource with these programs.
+    fn add_numbered(&mut self, first: u64, end: u64, body: &str) -> Result<(), AllocError> {
+        write!(self.resources, "RESOURCE R{} ON CPU\n", self.resource_count)?;
+        self.add_tasks(first, end, body)?;
+        self.add_programs(first, end)?;
+        self.resources.push_str("END_RESOURCE\n")
+    }
+
+    /// Adds a resource that is written `BODY`, or `COUNT times BODY` with so many programs.
+    pub fn add_resource(&mut self, asked: &str) -> Result<(), RowError> {
+        let (times, body) = asked.split_once(" times ").unwrap_or(("1", asked));
+        let first = self.program_count;
+        let end = first.saturating_add(number(times)?);
+        self.add_numbered(first, end, body)?;
         self.program_count = end;
         self.resource_count = self.resource_count.saturating_add(1);
         Ok(())
     }
 
-    /// Its text, with all globals retained.
-    pub fn text(&self, alloc: Global) -> Result<String, AllocError> {
-        let mut text = String::new(alloc);
-        text.push_str(self.units.as_str())?;
-        text.push_str("CONFIGURATION C VAR_GLOBAL RETAIN ")?;
+    fn write(&self, text: &mut String) -> Result<(), AllocError> {
+        write!(text, "{}CONFIGURATION C VAR_GLOBAL RETAIN ", self.units)?;
         for global in self.globals.split_whitespace() {
             write!(text, "{global} : {}; ", self.kind)?;
         }
-        text.push_str("END_VAR\n")?;
-        text.push_str(self.resources.as_str())?;
-        text.push_str("END_CONFIGURATION\n")?;
+        write!(text, "END_VAR\n{}END_CONFIGURATION\n", self.resources)
+    }
+
+    /// Its text, with all globals retained.
+    pub fn text(&self, alloc: Global) -> Result<String, AllocError> {
+        let mut text = String::new(alloc);
+        self.write(&mut text)?;
         Ok(text)
     }
 }

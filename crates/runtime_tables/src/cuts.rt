@@ -1,6 +1,6 @@
 //! Runs in threads that are cut off by a stop of the machine within each of some device steps.
 
-use crate::disks::{Cut, Mishap};
+use crate::disks::Cut;
 use crate::living::{Setting, plan_of};
 use crate::row_error::RowError;
 use crate::telling::number_of;
@@ -84,10 +84,7 @@ pub fn write_cuts<R: Threads + Wait + Clock + Sync>(
             torn: TORN,
             len: u64::MAX,
         };
-        let mishap = Mishap {
-            stops: Some(cut),
-            ..terms.mishap
-        };
+        let mishap = terms.mishap.stopped(cut);
         if is_right(rt, alloc, setting, Terms { mishap, ..terms }, rows)? {
             right = right.saturating_add(1);
         }

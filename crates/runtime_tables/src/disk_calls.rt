@@ -1,6 +1,6 @@
 //! The calls of a disk.
 
-use crate::row_error::RowError;
+use crate::row_error::{RowError, written};
 use crate::words::{count, number, split, write_bytes, write_number};
 use disk::{Disk, DiskError};
 use scene_tables::unescaped;
@@ -66,23 +66,25 @@ fn read<D: Disk>(
     text: &mut String,
     alloc: Global,
     disk: &mut D,
-    place: u64,
-    count: usize,
-) -> Result<(), AllocError> {
-    let mut buf = vec![in alloc; UNREAD; count]?;
+    place: &str,
+    len: &str,
+) -> Result<(), RowError> {
+    let (place, len) = (number(place)?, count(len)?);
+    let mut buf = vec![in alloc; UNREAD; len]?;
     let answer = disk.read(place, &mut buf);
-    write_read(text, answer, &buf)
+    written(write_read(text, answer, &buf))
 }
 
 fn write<D: Disk>(
     text: &mut String,
     alloc: Global,
     disk: &mut D,
-    place: u64,
+    place: &str,
     bytes: &str,
-) -> Result<(), AllocError> {
+) -> Result<(), RowError> {
+    let place = number(place)?;
     let bytes = unescaped(alloc, bytes)?;
-    text.push_str(word_of(disk.write_at(place, &bytes)))
+    written(text.push_str(word_of(disk.write_at(place, &bytes))))
 }
 
 /// Makes a call that is written `len`, `sync`, `read PLACE COUNT` or `write PLACE BYTES`, and tells its answer.
@@ -90,15 +92,15 @@ fn call<D: Disk>(
     text: &mut String,
     alloc: Global,
     disk: &mut D,
-    written: &str,
+    asked: &str,
 ) -> Result<(), RowError> {
-    let (word, given) = split(written, " ");
+    let (word, given) = split(asked, " ");
     let (place, what) = split(given, " ");
     match word {
-        "len" => Ok(write_len(text, disk.len())?),
-        "sync" => Ok(text.push_str(word_of(disk.sync()))?),
-        "read" => Ok(read(text, alloc, disk, number(place)?, count(what)?)?),
-        "write" => Ok(write(text, alloc, disk, number(place)?, what)?),
+        "len" => written(write_len(text, disk.len())),
+        "sync" => written(text.push_str(word_of(disk.sync()))),
+        "read" => read(text, alloc, disk, place, what),
+        "write" => write(text, alloc, disk, place, what),
         _ => Err(RowError::Form),
     }
 }
@@ -110,8 +112,8 @@ pub fn play<D: Disk>(
     disk: &mut D,
     calls: &str,
 ) -> Result<(), RowError> {
-    for written in calls.split(", ") {
-        call(text, alloc, disk, written)?;
+    for asked in calls.split(", ") {
+        call(text, alloc, disk, asked)?;
         text.push_str(" | ")?;
     }
     write_number(text, "failures ", i128::from(disk.failures()))?;

@@ -48,6 +48,24 @@ pub struct Mishap<'a> {
     pub stops: Option<Cut<'a>>,
 }
 
+impl<'a> Mishap<'a> {
+    /// The same with this failing step.
+    pub fn failing(self, step: u64) -> Mishap<'a> {
+        Mishap {
+            fails: Some(step),
+            ..self
+        }
+    }
+
+    /// The same with this stop.
+    pub fn stopped(self, cut: Cut<'a>) -> Mishap<'a> {
+        Mishap {
+            stops: Some(cut),
+            ..self
+        }
+    }
+}
+
 /// A disk with a copy of this file that meets the mishap.
 pub fn disk_with(alloc: Global, file: &[u8], mishap: Mishap<'_>) -> Result<SimDisk, AllocError> {
     let stop = match mishap.stops {

@@ -37,28 +37,39 @@ pub fn life_with(
 }
 
 /// What a life meets, as it is written.
+#[derive(Drop)]
 struct Terms {
     mode: StartMode,
     stop: Option<Stop>,
     fails: Option<u64>,
 }
 
-/// What is written `cold, stops 3 \A5 0, fails 2`.
-fn terms_of(alloc: Global, written: &str) -> Result<Terms, RowError> {
-    let mut mode = StartMode::Warm;
-    let mut stop: Option<Stop> = None;
-    let mut fails = None;
-    for term in written.split(", ") {
+impl Terms {
+    /// Takes a term that is written `cold`, `warm`, `stops 3 \A5 0` or `fails 2`.
+    fn take(&mut self, alloc: Global, term: &str) -> Result<(), RowError> {
         let (word, given) = split(term, " ");
         match word {
-            "cold" => mode = StartMode::Cold,
-            "warm" => mode = StartMode::Warm,
-            "stops" => stop = Some(Cut::read(given)?.stop(alloc)?),
-            "fails" => fails = Some(number(given)?),
+            "cold" => self.mode = StartMode::Cold,
+            "warm" => self.mode = StartMode::Warm,
+            "stops" => self.stop = Some(Cut::read(given)?.stop(alloc)?),
+            "fails" => self.fails = Some(number(given)?),
             _ => return Err(RowError::Form),
         }
+        Ok(())
     }
-    Ok(Terms { mode, stop, fails })
+}
+
+/// What is written `cold, stops 3 \A5 0, fails 2`.
+fn terms_of(alloc: Global, written: &str) -> Result<Terms, RowError> {
+    let mut terms = Terms {
+        mode: StartMode::Warm,
+        stop: None,
+        fails: None,
+    };
+    for term in written.split(", ") {
+        terms.take(alloc, term)?;
+    }
+    Ok(terms)
 }
 
 /// A life that is written `cold, stops 3 \A5 0: row 0, here 0`.

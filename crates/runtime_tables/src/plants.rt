@@ -1,7 +1,7 @@
 //! Recorded plants.
 
 use crate::row_error::RowError;
-use crate::words::{split, write_number};
+use crate::words::{number, split, write_number};
 use config::Plan;
 use image::read_plant;
 use st_build::build;
@@ -115,8 +115,8 @@ fn numbered(alloc: Global, rows: u64) -> Result<String, AllocError> {
 }
 
 /// Writes how many rows are read of a plant with so many.
-pub fn write_row_count(text: &mut String, alloc: Global, rows: u64) -> Result<(), RowError> {
-    let plant = numbered(alloc, rows)?;
+pub fn write_row_count(text: &mut String, alloc: Global, rows: &str) -> Result<(), RowError> {
+    let plant = numbered(alloc, number(rows)?)?;
     let plan = plan_with(alloc, "")?;
     match read_plant(alloc, plant.as_bytes(), &plan) {
         Ok(rows) => {

@@ -64,7 +64,7 @@
 //!   step, and a warm restart: how often the first global is what a front of the log gives that holds all that is
 //!   acknowledged. Each execution adds 1 to it
 //! - `mark raise 5, load, raise 3, load`: what a new mark is told to load
-//! - `refusals`, `faults`: the numbers that the refusals of a core and the faults of a start show as
+//! - `refusals`, `start_faults`: the numbers that the refusals of a core and the faults of a start show as
 
 use crate::row_error::{RowError, write_error};
 use crate::scene::Scene;
@@ -84,7 +84,7 @@ fn read_all<'a, R: Threads + Wait + Clock + Sync>(
 }
 
 /// What is answered to a row.
-pub fn answer<R: Threads + Wait + Clock + Sync>(
+pub fn answer_of<R: Threads + Wait + Clock + Sync>(
     rt: &HostRuntime,
     threads: &R,
     alloc: Global,

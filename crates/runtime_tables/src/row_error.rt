@@ -56,6 +56,11 @@ impl From<Refusal> for RowError {
     }
 }
 
+/// What was written, where memory sufficed.
+pub fn written(text: Result<(), AllocError>) -> Result<(), RowError> {
+    Ok(text?)
+}
+
 pub fn write_error(text: &mut String, error: RowError) -> Result<(), AllocError> {
     match error {
         RowError::Memory => text.push_str("no memory"),

@@ -5,7 +5,7 @@ use crate::codes::write_codes;
 use crate::configuration::Configuration;
 use crate::cuts::write_cuts;
 use crate::disk_calls::{play, write_content};
-use crate::disks::{Cut, disk_with};
+use crate::disks::disk_with;
 use crate::executions::{committed, execution_of};
 use crate::files::file_of;
 use crate::lives_in_turn::write_lives;
@@ -16,15 +16,14 @@ use crate::plants::{write_plant, write_row_count};
 use crate::ready_lists::write_ready;
 use crate::real_files::{write_folderless, write_real};
 use crate::records::{resaved, write_recovered};
-use crate::row_error::RowError;
+use crate::row_error::{RowError, written};
 use crate::telling::{write_execution, write_reply};
 use crate::terms::{TERMS, Terms};
 use crate::thread_runs::write_run;
 use crate::trace_replays::{write_budget, write_replay};
-use crate::words::{count, number, split, write_bytes, write_number};
+use crate::words::{count, split, write_bytes, write_number};
 use coded_runs::Execution;
 use commit_lock::StartMode;
-use plc_threads::Pace;
 use scene_tables::unescaped;
 use std::alloc::{AllocError, Global};
 use std::rt::Clock;
@@ -203,9 +202,9 @@ impl<'a, R: Threads + Wait + Clock + Sync> Scene<'a, R> {
         self.divide()?;
         match word {
             "sim:" => self.simulate(given),
-            "folderless" => Ok(write_folderless(&mut self.answer, self.rt)?),
+            "folderless" => written(write_folderless(&mut self.answer, self.rt)),
             "plant" => self.read_plant(given),
-            "rows" => write_row_count(&mut self.answer, self.alloc, number(given)?),
+            "rows" => write_row_count(&mut self.answer, self.alloc, given),
             "ready" => self.tell_ready(given),
             "run" => self.run(given),
             "codes" => write_codes(&mut self.answer, self.alloc, self.setting.text),
@@ -223,13 +222,13 @@ impl<'a, R: Threads + Wait + Clock + Sync> Scene<'a, R> {
             "threads:" => self.run_in_threads(given),
             "mark" => write_loads(&mut self.answer, self.alloc, given),
             "bytes" => self.tell_bytes(given),
-            "length" => Ok(self.tell_length()?),
-            "same" => Ok(self.tell_same()?),
+            "length" => written(self.tell_length()),
+            "same" => written(self.tell_same()),
             "replay" => write_replay(&mut self.answer, self.alloc, self.setting, given),
             "ticks" => write_budget(&mut self.answer, self.alloc, given),
             "recovered" => write_recovered(&mut self.answer, self.alloc, &self.file),
-            "refusals" => Ok(write_refusals(&mut self.answer)?),
-            "faults" => Ok(write_start_faults(&mut self.answer)?),
+            "refusals" => written(write_refusals(&mut self.answer)),
+            "start_faults" => written(write_start_faults(&mut self.answer)),
             _ => write_real(&mut self.answer, self.rt, word, &self.file, given),
         }
     }
@@ -245,30 +244,33 @@ impl<'a, R: Threads + Wait + Clock + Sync> Scene<'a, R> {
         Ok(())
     }
 
+    /// A part that says something of the next one that is answered, or is answered itself.
+    fn read_other(&mut self, word: &str, given: &'a str) -> Result<(), RowError> {
+        match self.terms.with(word, given)? {
+            Some(terms) => {
+                self.terms = terms;
+                Ok(())
+            }
+            None => self.answer(word, given),
+        }
+    }
+
+    fn set_plan(&mut self, written: &'a str) {
+        let (globals, text) = split(written, ": ");
+        self.setting = Setting { text, globals };
+    }
+
     /// Reads a part, and adds what it is answered.
     pub fn read(&mut self, part: &'a str) -> Result<(), RowError> {
         let (word, given) = split(part, " ");
         match word {
-            "plan" => {
-                let (globals, text) = split(given, ": ");
-                self.setting = Setting { text, globals };
-            }
+            "plan" => self.set_plan(given),
             "globals" => self.configuration.set_globals(given),
-            "resource" => self.configuration.add_resource(given)?,
             "inputs" => self.inputs = given,
             "file" => self.file = file_of(self.alloc, given)?,
             "resaved" => self.file = resaved(self.alloc, &self.file)?,
-            "fails" => self.terms.mishap.fails = Some(number(given)?),
-            "stops" => self.terms.mishap.stops = Some(Cut::read(given)?),
-            "room" => self.terms.room = count(given)?,
-            "free" => self.terms.pace = Pace::Free,
-            "turns" => self.terms.turns = number(given)?,
-            "untold" => self.terms.telling = Telling::Nothing,
-            "numbers" => self.terms.telling = Telling::Numbers,
-            "whole" => self.terms.telling = Telling::Whole,
-            "trace" => self.terms.telling = Telling::Trace,
-            "short" => self.terms.telling = Telling::ShortTrace,
-            _ => self.answer(word, given)?,
+            "resource" => return self.configuration.add_resource(given),
+            _ => return self.read_other(word, given),
         }
         Ok(())
     }

@@ -28,11 +28,4 @@ mod trees;
 mod values;
 mod words;
 
-use crate::rows::answer;
-use scene_tables::read_table;
-use std::alloc::Global;
-use std::io;
-
-fn main(rt: HostRuntime) -> io::Result<()> {
-    read_table(&rt, |alloc: Global, given: &str| answer(alloc, given))
-}
+pub use rows::{answer_of, asks};

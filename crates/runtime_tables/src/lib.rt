@@ -33,14 +33,4 @@ mod trace_texts;
 mod watch;
 mod words;
 
-use crate::row::answer;
-use scene_tables::read_table;
-use std::alloc::Global;
-use std::io;
-
-fn main(rt: HostRuntime) -> io::Result<()> {
-    read_table(
-        &rt,
-        |alloc: Global, given: &str| answer(&rt, &rt, alloc, given),
-    )
-}
+pub use row::answer_of;
