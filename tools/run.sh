@@ -10,7 +10,7 @@ cd "$(dirname "$0")/.."
 plant=$PWD/out/plant
 work=$PWD/out/dosing
 # what tools/first_run stands on
-libraries='source_run plant_words'
+libraries='source_run plant_jobs'
 rm -rf "$work"
 mkdir -p "$work/cases"
 cp examples/dosing/* "$work"

@@ -1,10 +1,10 @@
 -- Jobs that the words may ask for.
 use Rattle.std.specs.Prelude.{◌≡◌, ℕ, List, Bool, true, false, not, ◌&&◌, Option, Some, None, bytes_eq}
 use denote.Bor.{Bor}
-use Rattle.plant_words.specs.declared.job.Job.{Job}
-use Rattle.plant_words.specs.declared.job.Job.TheVariants as jobs
-use Rattle.plant_words.specs.declared.job.RunJob.{RunJob}
-use Rattle.plant_words.specs.declared.job.PlotJob.{PlotJob}
+use Rattle.plant_jobs.specs.declared.job.Job.{Job}
+use Rattle.plant_jobs.specs.declared.job.Job.TheVariants as jobs
+use Rattle.plant_jobs.specs.declared.job.RunJob.{RunJob}
+use Rattle.plant_jobs.specs.declared.job.PlotJob.{PlotJob}
 
 abbrev pub is_named : Option (Bor (List ℕ)) → List ℕ → Bool
 is_named None name = false

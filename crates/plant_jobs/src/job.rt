@@ -2,6 +2,9 @@
 
 ghost use Rattle.std.specs.Prelude.{◌≡◌};
 
+/// The budget of an execution in ticks where none is given.
+pub const DEFAULT_BUDGET: u32 = 10_000;
+
 /// How a life starts.
 #[derive(Clone, Copy, Debug, PartialEq, Eq)]
 pub enum Start {
@@ -36,7 +39,7 @@ pub struct RunJob<'a> {
 }
 
 impl RunJob<'_> {
-    ghost use Rattle.plant_words.specs.Jobs.{has_own_store};
+    ghost use Rattle.plant_jobs.specs.Jobs.{has_own_store};
 
     /// Whether the retain file is, by its name, no other file of the run.
     pub fn has_own_store(&self) -> bool
@@ -101,7 +104,7 @@ impl Drop for PlotJob<'_> {
 }
 
 impl PlotJob<'_> {
-    ghost use Rattle.plant_words.specs.Jobs.{has_own_picture};
+    ghost use Rattle.plant_jobs.specs.Jobs.{has_own_picture};
 
     /// Whether the file for the picture is, by its name, none that is read.
     pub fn has_own_picture(&self) -> bool

@@ -3,8 +3,8 @@ use Rattle.std.proofs.Common.{ℕ, List}
 use Rattle.st_plans.specs.Rows.{Latch}
 use Rattle.config.specs.declared.plan.Plan.{Plan}
 use Rattle.image.specs.Plants.{AreRowsOf}
-use Rattle.plant_words.specs.declared.job.PlotJob.{PlotJob}
-use Rattle.plant_words.specs.declared.job.Job.TheVariants.{Plot}
+use Rattle.plant_jobs.specs.declared.job.PlotJob.{PlotJob}
+use Rattle.plant_jobs.specs.declared.job.Job.TheVariants.{Plot}
 use Rattle.plant_program.specs.declared.ending.Declined.TheVariants.{SharedStore, SharedPicture, NoPicture, NoVariable}
 use Rattle.plant_program.specs.declared.ending.Declined.TheVariants.{NoCode}
 use Rattle.plant_program.specs.declared.telling.End.{End}

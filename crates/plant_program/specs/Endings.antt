@@ -1,8 +1,8 @@
 -- How the program ends, and what is on its standard output then.
 use Rattle.std.specs.Prelude.{◌≡◌, ℕ, List, Option, Result, Ok, Err}
 use Rattle.std.specs.Io.KnownBytes.{Appends}
-use Rattle.plant_words.specs.declared.job.Job.{Job}
-use Rattle.plant_words.specs.Jobs.{IsSafe}
+use Rattle.plant_jobs.specs.declared.job.Job.{Job}
+use Rattle.plant_jobs.specs.Jobs.{IsSafe}
 use Rattle.source_run.specs.declared.fault.Fault as faults
 use Rattle.plant_program.specs.declared.ending.Ending.{Ending}
 use Rattle.plant_program.specs.declared.ending.Ending.TheVariants.{Done, Helped, Misworded, Declined, Fault, Untold}

@@ -3,7 +3,7 @@ use Rattle.std.specs.Prelude.{◌≡◌, ◌≤◌, ◌⊎◌, ◌++◌, ℕ, Li
 use Rattle.std.specs.List.{Contains}
 use denote.Bor.{Bor}
 use Rattle.st_words.specs.declared.limits.TheConstants.{MAX_BUDGET}
-use Rattle.plant_words.specs.declared.command.TheConstants.{DEFAULT_BUDGET}
+use Rattle.plant_jobs.specs.declared.job.TheConstants.{DEFAULT_BUDGET}
 use Rattle.st_plans.specs.Rows.{Latch}
 use Rattle.st_plans.specs.Restarts as restarts
 use Rattle.st_plans.specs.Logs.{Log}
@@ -18,9 +18,9 @@ use Rattle.plant_codes.specs.Spelling.{explanation_text}
 use Rattle.plant_codes.specs.declared.entry.Explanation.{Explanation}
 use Rattle.retain_areas.specs.Recovered.{recovered}
 use Rattle.retain_show.specs.Shown.{areas_shown, shown_text}
-use Rattle.plant_words.specs.declared.job.Job.{Job}
-use Rattle.plant_words.specs.declared.job.Job.TheVariants as jobs
-use Rattle.plant_words.specs.declared.job.Start.{Start}
+use Rattle.plant_jobs.specs.declared.job.Job.{Job}
+use Rattle.plant_jobs.specs.declared.job.Job.TheVariants as jobs
+use Rattle.plant_jobs.specs.declared.job.Start.{Start}
 use Rattle.trace_lines.specs.declared.trace_error.ReplayError.TheVariants as replays
 use Rattle.source_run.specs.declared.fault.Fault.{Fault}
 use Rattle.source_run.specs.declared.fault.Fault.TheVariants as faults

@@ -2,7 +2,7 @@
 
 use crate::source_faults::source_fault;
 use plant_codes::title;
-use plant_words::Job;
+use plant_jobs::Job;
 use source_run::{Fault, Files, read_source};
 use st_diagnose::{SourceFault, WholeFault};
 use st_reasons::write_reason;

@@ -7,7 +7,7 @@ use crate::open_gate::OpenGate;
 use commit_lock::{Core, Refusal, StartMode};
 use config::Plan;
 use disk::{Disk, SimDisk};
-use plant_words::DEFAULT_BUDGET;
+use plant_jobs::DEFAULT_BUDGET;
 use plc_threads::{Pace, Report, RunError, run_plant};
 use run_lock::RunFault;
 use serial_core::Refusal as SerialRefusal;

@@ -1,14 +1,14 @@
 //! Pictures of runs.
 
 ghost use Rattle.std.specs.Prelude.{◌≡◌, IfOk, IfNone};
-ghost use Rattle.plant_words.specs.declared.job.Job.{Job};
+ghost use Rattle.plant_jobs.specs.declared.job.Job.{Job};
 ghost use Rattle.plant_program.specs.Jobs.{EndsWell, IsDrawn, NamesNone, PlotsWell};
 
 use crate::ending::Declined;
 use crate::replaying::read_trace;
 use crate::telling::End;
 use config::Plan;
-use plant_words::PlotJob;
+use plant_jobs::PlotJob;
 use plots::{Plot, Shown, find, first_variables, gather, write_plot};
 use source_run::{Fault, Files, plan_of, read_rows};
 use st_plans::Row;

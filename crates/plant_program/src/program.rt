@@ -1,7 +1,7 @@
 //! The program, from its words to how it ends.
 
 ghost use Rattle.std.specs.Prelude.{◌≡◌, IfOk};
-ghost use Rattle.plant_words.specs.declared.job.Job.{Job};
+ghost use Rattle.plant_jobs.specs.declared.job.Job.{Job};
 ghost use Rattle.plant_program.specs.Endings.{Ends, Performs};
 ghost use Rattle.plant_program.specs.Jobs.{EndsWell};
 
@@ -14,7 +14,8 @@ use crate::replaying::replay;
 use crate::showing::show;
 use crate::sizes::sizes_of;
 use crate::telling::{End, tell, tell_words};
-use plant_words::{CheckJob, DEFAULT_BUDGET, Job, RunJob, is_out_of_memory, read_words};
+use plant_jobs::{CheckJob, DEFAULT_BUDGET, Job, RunJob};
+use plant_words::{is_out_of_memory, read_words};
 use source_run::{Fault, Files, plan_of, run_plan};
 use std::alloc::Global;
 use std::io::Write;

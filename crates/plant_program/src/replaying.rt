@@ -10,7 +10,7 @@ ghost use Rattle.plant_program.specs.Jobs.{IsNoTrace, IsReplay, IsReplayOf, IsTo
 ghost use Rattle.source_run.specs.Lives.{counts_of};
 
 use config::Plan;
-use plant_words::ReplayJob;
+use plant_jobs::ReplayJob;
 use source_run::{Counts, Fault, Files, plan_of, read_rows, report_with};
 use st_plans::Row;
 use std::alloc::Global;

@@ -4,7 +4,7 @@ ghost use Rattle.std.specs.Prelude.{◌≡◌, IfOk};
 ghost use Rattle.plant_program.specs.Jobs.{IsShowing, file_shown};
 
 use commit_lock::StartFault;
-use plant_words::ShowJob;
+use plant_jobs::ShowJob;
 use retain_show::{shown, shown_areas};
 use retain_store::{FILE_BYTES, StoreFault};
 use source_run::{Fault, Files};

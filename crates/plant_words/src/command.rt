@@ -3,10 +3,7 @@
 use clap::{Arg, ArgAction, Command, value_parser};
 use std::alloc::{AllocError, Global};
 
-/// The budget of an execution in ticks where none is given.
-pub const DEFAULT_BUDGET: u32 = 10_000;
-
-/// The same as clap takes it.
+/// `plant_jobs::DEFAULT_BUDGET` as clap takes it.
 const DEFAULT_BUDGET_TEXT: &str = "10000";
 
 static STARTS: [&str; 2] = ["warm", "cold"];

@@ -4,11 +4,8 @@
 #![tactic(auto)]
 
 mod command;
-mod job;
 mod number;
 mod reading;
 
-pub use command::DEFAULT_BUDGET;
-pub use job::{CheckJob, Job, Pace, PlotJob, ReplayJob, RunJob, ShowJob, Start};
 pub use number::plain_number;
 pub use reading::{WordsError, is_out_of_memory, read_words};

@@ -2,13 +2,13 @@
 
 ghost use Rattle.std.specs.Prelude.{◌≡◌, ◌↔◌, IsTrue, IfOk, IfNone};
 ghost use Rattle.clap.specs.Words.{kind_of};
-ghost use Rattle.plant_words.specs.Jobs.{IsSafe};
+ghost use Rattle.plant_jobs.specs.Jobs.{IsSafe};
 
 use crate::command::command;
-use crate::job::{CheckJob, Job, Pace, PlotJob, ReplayJob, RunJob, ShowJob, Start};
 use crate::number::plain_number;
 use clap::error::ErrorKind;
 use clap::{ArgMatches, Error};
+use plant_jobs::{CheckJob, Job, Pace, PlotJob, ReplayJob, RunJob, ShowJob, Start};
 use std::alloc::{AllocError, Global};
 
 /// Why no job was read. It shows as clap's text.

@@ -13,8 +13,8 @@ use Rattle.commit_lock.specs.declared.starting.StartMode.TheVariants as modes
 use Rattle.run_lock.specs.Lives.{life_of}
 use Rattle.retain_areas.specs.Recovered.{Recovered, TooLong, Refused, Nothing, Found}
 use Rattle.st_plans.specs.Restarts.{warm_start}
-use Rattle.plant_words.specs.declared.job.Start.{Start}
-use Rattle.plant_words.specs.declared.job.Start.TheVariants.{Warm, Cold}
+use Rattle.plant_jobs.specs.declared.job.Start.{Start}
+use Rattle.plant_jobs.specs.declared.job.Start.TheVariants.{Warm, Cold}
 use Rattle.source_run.specs.Progress.{GoesOn, BeginsAs, IsRunOf, mode_of}
 
 -- a life that is the same but for its log, and has these rows more

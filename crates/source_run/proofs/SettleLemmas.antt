@@ -10,7 +10,7 @@ use Rattle.source_run.specs.Lives.{IsReport, start_of}
 use Rattle.source_run.specs.Runs.{IsReportOf}
 use Rattle.st_plans.specs.Logs.{IsLegal}
 use Rattle.config.specs.PlanViews.{plan_view}
-use Rattle.plant_words.specs.declared.job.Start.{Start}
+use Rattle.plant_jobs.specs.declared.job.Start.{Start}
 use Rattle.source_run.specs.Progress.{BeginsAs, IsRunOf}
 use Rattle.run_lock.specs.Lives.{life_of}
 use Rattle.source_run.proofs.ProgressLemmas.{goes_by_run, run_of}

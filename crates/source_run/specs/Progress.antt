@@ -7,8 +7,8 @@ use Rattle.config.specs.declared.plan.Plan.{Plan}
 use Rattle.config.specs.PlanViews.{plan_view}
 use Rattle.commit_lock.specs.declared.starting.StartMode.{StartMode}
 use Rattle.commit_lock.specs.declared.starting.StartMode.TheVariants as modes
-use Rattle.plant_words.specs.declared.job.Start.{Start}
-use Rattle.plant_words.specs.declared.job.Start.TheVariants.{Warm, Cold}
+use Rattle.plant_jobs.specs.declared.job.Start.{Start}
+use Rattle.plant_jobs.specs.declared.job.Start.TheVariants.{Warm, Cold}
 use Rattle.serial_core.specs.Steps.{State, made}
 
 -- the start that the words ask for

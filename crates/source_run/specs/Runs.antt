@@ -4,7 +4,7 @@ use Rattle.st_plans.specs.Rows.{Latch}
 use Rattle.config.specs.declared.plan.Plan.{Plan}
 use Rattle.image.specs.Plants.{AreRowsOf}
 use Rattle.commit_lock.specs.Cores.{CoreView}
-use Rattle.plant_words.specs.declared.job.Start.{Start}
+use Rattle.plant_jobs.specs.declared.job.Start.{Start}
 use Rattle.source_run.specs.Lives.{IsReport, start_of}
 use Rattle.source_run.specs.Progress.{IsRunOf}
 use Rattle.source_run.specs.Settling.{IsSettled}

@@ -20,7 +20,7 @@ use crate::tracing::traced;
 use commit_lock::{Core, StartFault, StartMode};
 use config::Plan;
 use disk::Disk;
-use plant_words::{Pace, RunJob, Start};
+use plant_jobs::{Pace, RunJob, Start};
 use plc_threads::{Pace as RunPace, Report, RunError, run_plant};
 use retain_store::StoreFault;
 use st_plans::Row;

@@ -8,7 +8,7 @@ use crate::fault::Fault;
 use crate::files::Files;
 use commit_lock::Core;
 use disk::Disk;
-use plant_words::RunJob;
+use plant_jobs::RunJob;
 use std::alloc::Global;
 use std::io::{BufWriter, Write};
 use traces::{ReplayError, write_trace};

@@ -1,6 +1,6 @@
 use Rattle.std.proofs.Common.{rules}
 use Rattle.image.specs.Plants.{AreRowsOf}
-use Rattle.plant_words.specs.declared.job.Job.TheVariants.{Plot}
+use Rattle.plant_jobs.specs.declared.job.Job.TheVariants.{Plot}
 use Rattle.plant_program.specs.Jobs.{EndsWell, IsPlanFor, PlotsWell}
 use Rattle.plant_program.proofs.PlotLemmas.{ends_well}
 use Rattle.plant_program.proofs.ReplayLemmas.{mapped}

@@ -1,0 +1,6 @@
+//! What a command line of the program `plant` asks for. Nothing here reads words or opens a file.
+#![tactic(auto)]
+
+mod job;
+
+pub use job::{CheckJob, DEFAULT_BUDGET, Job, Pace, PlotJob, ReplayJob, RunJob, ShowJob, Start};
