@@ -124,6 +124,10 @@ scene "types and no configuration" 2 "" "fault G2" check types.st
 scene "no source" 2 "" "fault X1" check none.st
 scene "no ticks" 2 "" "fault G7" $(run word.st rows.csv made cold) --budget 0
 scene "one tick too many" 2 "" "fault G7" $(run s.st rows.csv made cold) --budget 1000001
+# a run that names no budget has 10,000 ticks, as its trace tells
+"$plant" $(run s.st rows.csv untold cold) --trace untold.txt > out 2> err || fail "no budget: status $?"
+[ "$(sed -n 2p untold.txt)" = "budget 10000" ] || fail "no budget: $(sed -n 2p untold.txt)"
+scenes=$((scenes + 1))
 scene "a refused source" 2 "" "fault L3 at 0" $(run word.st rows.csv made cold)
 scene "no plant" 3 "" "fault I5" $(run s.st nowhere.csv made cold)
 scene "a folder for a plant" 3 "" "fault I5" $(run s.st . made cold)
