@@ -1,14 +1,15 @@
 //! Code that is being made.
 
 ghost use Rattle.std.specs.Prelude.{◌≡◌, ◌≢◌, ◌<◌, ◌≤◌, ◌+◌, [], length, OnOk, IfErr};
+ghost use Rattle.machine_code.specs.declared.limits.TheConstants.{MAX_INSTRUCTIONS};
 ghost use Rattle.tree_code.specs.Growing.{◌◂◌, closed};
 
 use crate::compile_error::CompileError;
-use machine_code::Instr;
+use machine_code::{Instr, MAX_INSTRUCTIONS};
 use std::alloc::Global;
 use std::marker::Model;
 
-/// Code from its end on: what runs first is put last. It has at most 16,384 instructions.
+/// Code from its end on: what runs first is put last. It has at most `MAX_INSTRUCTIONS` instructions.
 pub struct Draft {
     code: Vec<Instr>,
 }
@@ -22,12 +23,13 @@ impl Drop for Draft {
 impl Model for Draft {
     ghost use Rattle.std.specs.Prelude.{List, length, ◌≤◌};
     ghost use Rattle.machine_code.specs.declared.instr.Instr as instr;
+    ghost use Rattle.machine_code.specs.declared.limits.TheConstants.{MAX_INSTRUCTIONS};
 
     ghost Value = { List instr.Instr };
 
     ghost view = { λ d. d.code.items };
 
-    ghost invariant = { λ d. length d.code.items ≤ 16384 };
+    ghost invariant = { λ d. length d.code.items ≤ MAX_INSTRUCTIONS };
 }
 
 impl Draft {
@@ -53,7 +55,7 @@ impl Draft {
         ensures longer { OnOk result (length self.new ≡ length self.old + 1) }
         ensures wrong { IfErr result (λ e. e ≢ CompileError.NotLinked) }
     {
-        if self.code.len() >= 16384 {
+        if self.code.len() >= MAX_INSTRUCTIONS {
             return Err(CompileError::TooManyInstructions);
         }
         match self.code.push(instr) {
@@ -74,7 +76,7 @@ impl Draft {
     /// The instructions.
     pub fn into_instructions(self) -> Vec<Instr>
         ensures same { result.items ≡ self }
-        ensures few { length result.items ≤ 16384 }
+        ensures few { length result.items ≤ MAX_INSTRUCTIONS }
     {
         let Self { code } = self;
         code

@@ -5,6 +5,9 @@ ghost use Rattle.std.specs.Prelude.{◌≡◌};
 /// The budget of an execution in ticks where none is given.
 pub const DEFAULT_BUDGET: u32 = 10_000;
 
+/// `DEFAULT_BUDGET` in decimal digits, as a command line has it.
+pub const DEFAULT_BUDGET_TEXT: &str = "10000";
+
 /// How a life starts.
 #[derive(Clone, Copy, Debug, PartialEq, Eq)]
 pub enum Start {

@@ -3,4 +3,7 @@
 
 mod job;
 
-pub use job::{CheckJob, DEFAULT_BUDGET, Job, Pace, PlotJob, ReplayJob, RunJob, ShowJob, Start};
+pub use job::{
+    CheckJob, DEFAULT_BUDGET, DEFAULT_BUDGET_TEXT, Job, Pace, PlotJob, ReplayJob, RunJob, ShowJob,
+    Start,
+};

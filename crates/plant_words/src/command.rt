@@ -1,10 +1,8 @@
 //! The words that `plant` takes.
 
 use clap::{Arg, ArgAction, Command, value_parser};
+use plant_jobs::DEFAULT_BUDGET_TEXT;
 use std::alloc::{AllocError, Global};
-
-/// `plant_jobs::DEFAULT_BUDGET` as clap takes it.
-const DEFAULT_BUDGET_TEXT: &str = "10000";
 
 static STARTS: [&str; 2] = ["warm", "cold"];
 

@@ -1,14 +1,16 @@
 //! The code of a program.
 
 ghost use Rattle.std.specs.Prelude.{◌≡◌, ◌≤◌, ◌+◌, ◌*◌, IfOk, IfErr, length, map};
+ghost use Rattle.machine_code.specs.declared.limits.TheConstants.{MAX_INSTRUCTIONS, MAX_MEMORY};
 ghost use Rattle.slot_trees.specs.SlotTrees as tree;
+ghost use Rattle.st_compile.specs.declared.compiler.TheConstants.{FUNCTION_PLACES};
 ghost use Rattle.slot_bodies.specs.LibraryViews.{IsKeptOf, slot_library_view};
 ghost use Rattle.slot_bodies.specs.StatementViews.{slot_stmts_view};
 ghost use Rattle.tree_code.specs.Programs.{program_code, ProgramFits};
 ghost use Rattle.code_drafts.specs.Linked.{ProgramLinked};
 
 use code_drafts::{CompileError, Draft, Scope};
-use machine_code::Instr;
+use machine_code::{Instr, MAX_MEMORY};
 use slot_bodies::{SlotLibrary, SlotStmt};
 use std::alloc::Global;
 use tree_code::Ways;
@@ -19,9 +21,6 @@ pub const CALL_DEPTH: u16 = 64;
 
 /// How many values of functions may stand behind the values of a program.
 pub const FUNCTION_PLACES: usize = 4096;
-
-/// The greatest number of slots of a memory.
-const MEMORY: usize = 65536;
 
 /// The code of a program, and the memory that it needs.
 #[derive(Drop)]
@@ -42,12 +41,12 @@ fn compile_within(
     body: &[SlotStmt],
 ) -> Result<Compiled, CompileError>
     requires room { size ≤ memory }
-    requires numbered { memory ≤ 65536 }
+    requires numbered { memory ≤ MAX_MEMORY }
     ensures code { IfOk result (λ x. (whole : tree.SlotLibrary) → IsKeptOf (slot_library_view library.now) whole
         → x.code.items ≡ program_code whole base size (slot_stmts_view body.now) 64) }
     ensures fits { IfOk result (λ x. (whole : tree.SlotLibrary) → IsKeptOf (slot_library_view library.now) whole
         → ProgramFits x.memory whole base size (slot_stmts_view body.now) 64) }
-    ensures few { IfOk result (λ x. length x.code.items ≤ 16384) }
+    ensures few { IfOk result (λ x. length x.code.items ≤ MAX_INSTRUCTIONS) }
     ensures memory { IfOk result (λ x. x.memory ≡ memory) }
     ensures wrong { IfErr result (λ e. e ≡ CompileError.NotLinked
         → ¬ (ProgramLinked (slot_library_view library.now) base size (slot_stmts_view body.now) 64)) }
@@ -74,9 +73,9 @@ fn compile_within(
 
 /// How many slots code needs. A call resets all values of its function, so the greatest slot that is reset tells.
 fn needed(size: usize, code: &[Instr]) -> usize
-    requires { size ≤ 65536 }
+    requires { size ≤ MAX_MEMORY }
     ensures room { size ≤ result }
-    ensures numbered { result ≤ 65536 }
+    ensures numbered { result ≤ MAX_MEMORY }
 {
     let mut memory = size;
     for instr in code {
@@ -102,14 +101,14 @@ pub fn compile(
         → x.code.items ≡ program_code whole base size (slot_stmts_view body.now) 64) }
     ensures fits { IfOk result (λ x. (whole : tree.SlotLibrary) → IsKeptOf (slot_library_view library.now) whole
         → ProgramFits x.memory whole base size (slot_stmts_view body.now) 64) }
-    ensures few { IfOk result (λ x. length x.code.items ≤ 16384) }
-    ensures near { IfOk result (λ x. x.memory ≤ size + 4096) }
+    ensures few { IfOk result (λ x. length x.code.items ≤ MAX_INSTRUCTIONS) }
+    ensures near { IfOk result (λ x. x.memory ≤ size + FUNCTION_PLACES) }
     ensures room { IfOk result (λ x. size ≤ x.memory) }
-    ensures numbered { IfOk result (λ x. x.memory ≤ 65536) }
+    ensures numbered { IfOk result (λ x. x.memory ≤ MAX_MEMORY) }
     ensures wrong { IfErr result (λ e. e ≡ CompileError.NotLinked
         → ¬ (ProgramLinked (slot_library_view library.now) base size (slot_stmts_view body.now) 64)) }
 {
-    if size > MEMORY - FUNCTION_PLACES {
+    if size > MAX_MEMORY - FUNCTION_PLACES {
         return Err(CompileError::TooManyPlaces);
     }
     let roomy = compile_within(alloc, library, base, size, size + FUNCTION_PLACES, body)?;
