@@ -2,7 +2,7 @@
 
 .PHONY: run build examples test strength
 
-# The prover's allocator (mimalloc) keeps what it has freed, and takes it again: a few parts of a hundred of the time of a proof.
+# The prover's allocator (mimalloc) keeps what it has freed, and takes it again: about a hundredth of the time of a proof.
 export MIMALLOC_PURGE_DELAY := -1
 
 # The dosing pump over a real retain file, cold and then warm, in about two minutes: proved where the program is built, else not.
