@@ -8,7 +8,7 @@ use Rattle.st_words.specs.Paths.{Path, same_path}
 use Rattle.st_types.specs.Stores.{Store}
 use Rattle.st_types.specs.Slots.{Slot, IsLayout, slot_of, variables_in, inputs_in}
 use Rattle.st_types.specs.Asked.{not_held, without_value}
-use Rattle.st_types.proofs.SlotLemmas.{same_path_is, same_path_itself}
+use Rattle.st_words.specs.Comparisons.{same_path_is, same_path_itself}
 
 -- the path is that of the slot of this number alone
 abbrev StandsAt : List Slot → Path → ℕ → Type 0

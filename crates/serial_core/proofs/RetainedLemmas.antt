@@ -17,7 +17,7 @@ use Rattle.st_plans.specs.Layouts.{Enumerations, layout_of, path_text}
 use Rattle.st_plans.specs.Restarts.{KeptLine, lines_with, restarted}
 use Rattle.st_plans.proofs.RestartLemmas.{restarts, taken, AreUnlike, all_unlike, unlike_next}
 use Rattle.st_types.specs.Scopes.{Name, contains_name}
-use Rattle.st_types.proofs.SlotLemmas.{same_path_is, same_path_itself}
+use Rattle.st_words.specs.Comparisons.{same_path_is, same_path_itself}
 use Rattle.config.specs.Sound.{are_different}
 use Rattle.core_parts.specs.Restored.{first_or, others, restored}
 use Rattle.serial_core.specs.Retained.{retained_paths, retained_kinds, retained_values, paired}

@@ -4,7 +4,7 @@ use Rattle.std.proofs.Common.{inl, inr, if◌then◌else◌, List, [], ◌∷◌
 use Rattle.std.proofs.Common.{option_map}
 use Rattle.std.specs.Prelude.{filter}
 use Rattle.st_words.specs.Paths.{Path, same_path}
-use Rattle.st_types.proofs.SlotLemmas.{same_path_is, same_path_itself}
+use Rattle.st_words.specs.Comparisons.{same_path_is, same_path_itself}
 use Rattle.st_types.specs.Slots.{Slot, slot_of, IsLayout}
 use Rattle.st_plans.specs.Layouts.{layout_of, variable_slot, input_slot}
 use Rattle.layout.specs.declared.slots.LayoutSlot.{LayoutSlot}

@@ -20,7 +20,7 @@ use Rattle.st_types.specs.NameTypes.{Declared}
 use Rattle.st_types.specs.Operators.{value_of_literal}
 use Rattle.st_types.specs.Slots.{Slot, slot_of, IsLayout}
 use Rattle.st_types.specs.Stores.{may_replace, shape_of, is_distinct, all_held, IsStore}
-use Rattle.st_types.proofs.SlotLemmas.{same_path_is, same_path_itself}
+use Rattle.st_words.specs.Comparisons.{same_path_is, same_path_itself}
 use Rattle.st_plans.specs.declared.plan.PlanVariable.{PlanVariable}
 use Rattle.st_plans.specs.declared.plan.PlanInput.{PlanInput}
 use Rattle.st_plans.specs.Layouts.{variable_slot, input_slot}

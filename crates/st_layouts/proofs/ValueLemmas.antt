@@ -10,7 +10,7 @@ use Rattle.st_words.specs.Paths.{Path, same_steps, same_path}
 use Rattle.st_types.specs.NameTypes.{Declared}
 use Rattle.st_types.specs.Scopes.{Name}
 use Rattle.st_types.specs.Stores.{get}
-use Rattle.st_types.proofs.SlotLemmas.{same_path_is, same_path_itself}
+use Rattle.st_words.specs.Comparisons.{same_path_is, same_path_itself}
 use Rattle.st_plans.specs.declared.plan.PlanVariable.{PlanVariable}
 use Rattle.st_layouts.specs.Shapes.{Leaf, Position, position_of, is_sound}
 use Rattle.st_layouts.specs.Sites.{initial_at, retained_at}

@@ -13,7 +13,7 @@ use Rattle.st_words.specs.Paths.{Path, same_owner, same_path, is_within}
 use Rattle.st_types.specs.NameTypes.{Declared}
 use Rattle.st_types.specs.Scopes.{Name}
 use Rattle.st_types.specs.Slots.{Slot, slot_of, IsLayout}
-use Rattle.st_types.proofs.SlotLemmas.{same_path_is, same_path_itself}
+use Rattle.st_words.specs.Comparisons.{same_path_is, same_path_itself}
 use Rattle.st_layouts.specs.Shapes.{size, Leaf, Position, position_of, leads_on, is_sound}
 use Rattle.st_layouts.specs.LayoutVariables.{Owned}
 use Rattle.st_layouts.specs.TextLayouts.{further, variable_path, variable_shape, leaves_of_variable, slot_of_leaf}

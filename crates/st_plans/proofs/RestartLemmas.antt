@@ -11,7 +11,7 @@ use Rattle.st_words.specs.Values.{Datum}
 use Rattle.st_words.specs.Paths.{Path, same_path}
 use Rattle.st_types.specs.Stores.{Store, get, shape_of, all_held}
 use Rattle.st_types.proofs.Shapes.{Same, same_refl}
-use Rattle.st_types.proofs.SlotLemmas.{same_path_is, same_path_itself}
+use Rattle.st_words.specs.Comparisons.{same_path_is, same_path_itself}
 use Rattle.st_types.proofs.RunLemmas.{store_after_same}
 use Rattle.st_plans.specs.declared.entry.Entry.{Entry}
 use Rattle.st_plans.specs.declared.entry.Entry.TheVariants.{Row, Done}

@@ -16,7 +16,7 @@ use Rattle.st_types.specs.Evaluation.{known}
 use Rattle.st_types.specs.Runs.{Program, ran_where}
 use Rattle.st_types.specs.Asked.{IsAsked, IsTypedRun, not_held, without_value}
 use Rattle.st_types.proofs.Shapes.{both}
-use Rattle.st_types.proofs.SlotLemmas.{same_path_is}
+use Rattle.st_words.specs.Comparisons.{same_path_is}
 
 -- a run that without the value ends the same way for two faults does not ask for it
 pub not_asked : (program : Program) (budget : ℕ) (s image : Store) (now : ℕ) (p : Path)

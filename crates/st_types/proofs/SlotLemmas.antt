@@ -1,89 +1,13 @@
 -- What is read and assigned by paths is what is read and written by slots.
 use Rattle.std.proofs.Common.{◌≡◌, ℕ, suc, Bool, true, false, ◌&&◌, if◌then◌else◌, List, [], ◌∷◌, length, slice_get}
 use Rattle.std.proofs.Common.{slice_set, Option, Some, None, option_map, Ok, Err, refl, sym, ap, ◌∙◌, ℤ, arith}
-use Rattle.std.specs.Prelude.{bytes_eq}
-use Rattle.std.specs.Ordering.{int_eq}
-use Rattle.std.proofs.lemmas.Slice.Eq.{bytes_eq-Decides}
-use Rattle.std.proofs.lemmas.Bool.Decides.{Decides-int_eq}
-use Rattle.st_words.specs.declared.path.Owner.{Owner}
-use Rattle.st_words.specs.declared.path.Step.{Step}
-use Rattle.st_words.specs.declared.path.Step.TheVariants.{Member, Element}
 use Rattle.st_words.specs.Values.{Datum}
-use Rattle.st_words.specs.Paths.{Path, same_owner, same_step, same_steps, same_path}
+use Rattle.st_words.specs.Comparisons.{same_path_is}
+use Rattle.st_words.specs.Paths.{Path, same_path}
 use Rattle.st_types.specs.Failures.{ill_typed}
 use Rattle.st_types.specs.Stores.{Store, get, may_replace, replaced, behind_first, assigned}
 use Rattle.st_types.specs.Scopes.{seen, or_datum}
 use Rattle.st_types.specs.Slots.{Slot, slot_of, IsLayout, variables_in, inputs_in, written_slot}
-
--- the tests of paths are right
-same_bytes : (x y : List ℕ) → bytes_eq x y ≡ true → x ≡ y
-same_bytes x y h = (bytes_eq-Decides x y).0 h
-
-same_number : (a b : ℤ) → int_eq a b ≡ true → a ≡ b
-same_number a b h = (Decides-int_eq a b).0 h
-
-both : (a b : Bool) → (a && b) ≡ true → (a ≡ true) × (b ≡ true)
-both true true h = (refl, refl)
-both true false h = absurd (cc)
-both false b h = absurd (cc)
-
-same_step_is : (x y : Step) → same_step x y ≡ true → x ≡ y
-same_step_is (Member x) (Member y) h = ap Member (same_bytes x y h)
-same_step_is (Element i) (Element j) h = ap Element (same_number i j h)
-same_step_is (Member x) (Element j) h = absurd (cc)
-same_step_is (Element i) (Member y) h = absurd (cc)
-
-same_steps_are : (xs ys : List Step) → same_steps xs ys ≡ true → xs ≡ ys
-same_steps_are [] [] h = refl
-same_steps_are [] (y ∷ ys) h = absurd (cc)
-same_steps_are (x ∷ xs) [] h = absurd (cc)
-same_steps_are (x ∷ xs) (y ∷ ys) h =
-    let b = both (same_step x y) (same_steps xs ys) h in
-    let e = same_step_is x y b.0 in
-    let f = same_steps_are xs ys b.1 in
-    cc
-
-abbrev owner_of : List ℕ → List ℕ → Owner
-owner_of r i = record { resource = r; instance = i }
-
-abbrev path_of : Option Owner → List ℕ → List Step → Path
-path_of o x steps = record { owner = o; name = x; steps = steps }
-
-same_owner_is : (a b : Option Owner) → same_owner a b ≡ true → a ≡ b
-same_owner_is None None h = refl
-same_owner_is None (Some b) h = absurd (cc)
-same_owner_is (Some a) None h = absurd (cc)
-same_owner_is (Some a) (Some b) h =
-    let t = both (bytes_eq a.resource b.resource) (bytes_eq a.instance b.instance) h in
-    ap (λ r. Some (owner_of r a.instance)) (same_bytes a.resource b.resource t.0)
-    ∙ ap (λ i. Some (owner_of b.resource i)) (same_bytes a.instance b.instance t.1)
-
-same_bytes_itself : (x : List ℕ) → bytes_eq x x ≡ true
-same_bytes_itself x = (bytes_eq-Decides x x).1 refl
-
-same_step_itself : (x : Step) → same_step x x ≡ true
-same_step_itself (Member x) = same_bytes_itself x
-same_step_itself (Element i) = (Decides-int_eq i i).1 refl
-
-same_steps_themselves : (xs : List Step) → same_steps xs xs ≡ true
-same_steps_themselves [] = refl
-same_steps_themselves (x ∷ xs) = let h = same_step_itself x in let t = same_steps_themselves xs in cc
-
-same_owner_itself : (o : Option Owner) → same_owner o o ≡ true
-same_owner_itself None = refl
-same_owner_itself (Some a) = let r = same_bytes_itself a.resource in let i = same_bytes_itself a.instance in cc
-
-pub same_path_itself : (p : Path) → same_path p p ≡ true
-same_path_itself p = let o = same_owner_itself p.owner in let n = same_bytes_itself p.name in
-    let s = same_steps_themselves p.steps in cc
-
-pub same_path_is : (p q : Path) → same_path p q ≡ true → p ≡ q
-same_path_is p q h =
-    let t = both (same_owner p.owner q.owner && bytes_eq p.name q.name) (same_steps p.steps q.steps) h in
-    let u = both (same_owner p.owner q.owner) (bytes_eq p.name q.name) t.0 in
-    ap (λ o. path_of o p.name p.steps) (same_owner_is p.owner q.owner u.0)
-    ∙ ap (λ x. path_of q.owner x p.steps) (same_bytes p.name q.name u.1)
-    ∙ ap (λ steps. path_of q.owner q.name steps) (same_steps_are p.steps q.steps t.1)
 
 -- a slot's value, by the number that its path has
 variable_cases : (l : Slot) (ls : List Slot) (v : Datum) (vs : List Datum) (p : Path) (i : ℕ) (m : Slot)

@@ -4,3 +4,4 @@ pub mod Values
 pub mod Words
 pub mod UpperNames
 pub mod Paths
+pub mod Comparisons

@@ -1,5 +1,7 @@
 -- Paths of variables.
-use Rattle.std.specs.Prelude.{ℕ, List, [], ◌∷◌, Option, Some, None, Bool, true, false, ◌&&◌, bytes_eq}
+use Rattle.std.specs.Prelude.{ℕ, List, [], ◌∷◌, Option, Bool, true, false, ◌&&◌, bytes_eq}
+use Rattle.std.specs.Cmp.Lexicographic.{pointwise}
+use Rattle.std.specs.Option.{option_eq}
 use Rattle.std.specs.Ordering.{int_eq}
 use Rattle.st_words.specs.declared.path.Owner.{Owner}
 use Rattle.st_words.specs.declared.path.Step.{Step}
@@ -11,11 +13,11 @@ pub record Path : Type 0 where
   pub name : List ℕ
   pub steps : List Step
 
+abbrev pub same_names : Owner → Owner → Bool
+same_names a b = bytes_eq a.resource b.resource && bytes_eq a.instance b.instance
+
 abbrev pub same_owner : Option Owner → Option Owner → Bool
-same_owner None None = true
-same_owner (Some a) (Some b) = bytes_eq a.resource b.resource && bytes_eq a.instance b.instance
-same_owner None (Some b) = false
-same_owner (Some a) None = false
+same_owner = option_eq same_names
 
 abbrev pub same_step : Step → Step → Bool
 same_step (Member x) (Member y) = bytes_eq x y
@@ -34,10 +36,7 @@ abbrev pub is_within : Path → Path → Bool
 is_within p q = same_owner p.owner q.owner && bytes_eq p.name q.name && begins_with q.steps p.steps
 
 abbrev pub same_steps : List Step → List Step → Bool
-same_steps [] [] = true
-same_steps (x ∷ xs) (y ∷ ys) = same_step x y && same_steps xs ys
-same_steps [] (y ∷ ys) = false
-same_steps (x ∷ xs) [] = false
+same_steps = pointwise same_step
 
 abbrev pub same_path : Path → Path → Bool
 same_path p q = same_owner p.owner q.owner && bytes_eq p.name q.name && same_steps p.steps q.steps

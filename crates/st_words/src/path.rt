@@ -1,10 +1,13 @@
 //! Paths of variables.
 
 ghost use Rattle.std.specs.Prelude.{◌≡◌, ◌↔◌, ◌++◌, ◌∷◌, [], IsTrue, IfOk, OnOk, OnErr, Some, None};
+ghost use Rattle.std.specs.Cmp.{partial_equiv_from_equiv};
+ghost use Rattle.std.specs.Hash.{same_Alike};
 ghost use Rattle.st_words.specs.Paths as paths;
 
 use crate::name::Name;
 use std::alloc::{AllocError, Global};
+use std::hash::{Hash, Hasher};
 use std::marker::Model;
 
 /// The instance of a program that a variable belongs to.
@@ -108,49 +111,6 @@ fn copied_steps(alloc: Global, steps: &[Step]) -> Result<Vec<Step>, AllocError>
     Ok(copied)
 }
 
-/// Whether the two are one instance of a program, or there is none both times.
-fn same_owners(this: &Option<Owner>, that: &Option<Owner>) -> bool
-    ensures { IsTrue result ↔ (this.now ≡ that.now) }
-{
-    match this {
-        Some(a) => match that {
-            Some(b) => a.resource.is(&b.resource) && a.instance.is(&b.instance),
-            None => false,
-        },
-        None => that.is_none(),
-    }
-}
-
-fn same_step(this: &Step, that: &Step) -> bool
-    ensures { IsTrue result ↔ (this.now ≡ that.now) }
-{
-    match this {
-        Step::Member(a) => match that {
-            Step::Member(b) => a.is(b),
-            Step::Element(_) => false,
-        },
-        Step::Element(a) => match that {
-            Step::Member(_) => false,
-            Step::Element(b) => a == b,
-        },
-    }
-}
-
-/// Whether two lists have the same steps in the same order.
-fn same_steps(these: &[Step], those: &[Step]) -> bool
-    ensures { IsTrue result ↔ (these.now ≡ those.now) }
-{
-    if these.len() != those.len() {
-        return false;
-    }
-    for i in 0..these.len() {
-        if !same_step(&these[i], &those[i]) {
-            return false;
-        }
-    }
-    true
-}
-
 impl Path {
     /// The path of a global, or of a variable of a function.
     pub fn global(alloc: Global, name: Name) -> Path
@@ -216,8 +176,118 @@ impl Path {
     pub fn is(&self, other: &Path) -> bool
         ensures { IsTrue result ↔ (self.now ≡ other.now) }
     {
-        same_owners(&self.owner, &other.owner)
-            && self.name.is(&other.name)
-            && same_steps(&self.steps, &other.steps)
+        self == other
+    }
+}
+
+// Two paths are equal where they lead to one part, and so for what paths are made of: `==` is equality of what contracts
+// see (`Comparisons`), so a map by paths has one entry a path.
+
+impl PartialEq for Owner {
+    ghost use Rattle.st_words.specs.Paths.{same_names};
+    ghost use Rattle.st_words.specs.Comparisons.{equality_equiv, owners_are_compared};
+
+    ghost eq = { same_names };
+
+    ghost laws = { partial_equiv_from_equiv (equality_equiv owners_are_compared) };
+
+    fn eq(&self, other: &Owner) -> bool {
+        self.resource == other.resource && self.instance == other.instance
+    }
+}
+
+impl Eq for Owner {
+    ghost use Rattle.st_words.specs.Comparisons.{equality_equiv, owners_are_compared};
+
+    ghost laws = { equality_equiv owners_are_compared };
+}
+
+impl Hash for Owner {
+    ghost use Rattle.st_words.specs.Comparisons.{owner_writes, owners_are_compared};
+
+    ghost hash_input = { owner_writes };
+
+    ghost respects_eq = { (same_Alike owner_writes owners_are_compared).fed };
+
+    fn hash<H: Hasher>(&self, state: &mut H) {
+        self.resource.hash(state);
+        self.instance.hash(state);
+    }
+}
+
+impl PartialEq for Step {
+    ghost use Rattle.st_words.specs.Paths.{same_step};
+    ghost use Rattle.st_words.specs.Comparisons.{equality_equiv, steps_are_compared};
+
+    ghost eq = { same_step };
+
+    ghost laws = { partial_equiv_from_equiv (equality_equiv steps_are_compared) };
+
+    fn eq(&self, other: &Step) -> bool {
+        match (self, other) {
+            (Step::Member(a), Step::Member(b)) => a == b,
+            (Step::Element(a), Step::Element(b)) => a == b,
+            _ => false,
+        }
+    }
+}
+
+impl Eq for Step {
+    ghost use Rattle.st_words.specs.Comparisons.{equality_equiv, steps_are_compared};
+
+    ghost laws = { equality_equiv steps_are_compared };
+}
+
+impl Hash for Step {
+    ghost use Rattle.st_words.specs.Comparisons.{step_writes, steps_are_compared};
+
+    ghost hash_input = { step_writes };
+
+    ghost respects_eq = { (same_Alike step_writes steps_are_compared).fed };
+
+    fn hash<H: Hasher>(&self, state: &mut H) {
+        match self {
+            Step::Member(name) => {
+                state.write_u8(0);
+                name.hash(state);
+            }
+            Step::Element(subscript) => {
+                state.write_u8(1);
+                subscript.hash(state);
+            }
+        }
+    }
+}
+
+impl PartialEq for Path {
+    ghost use Rattle.st_words.specs.Paths.{same_path};
+    ghost use Rattle.st_words.specs.Comparisons.{equality_equiv, paths_are_compared};
+
+    ghost eq = { same_path };
+
+    ghost laws = { partial_equiv_from_equiv (equality_equiv paths_are_compared) };
+
+    fn eq(&self, other: &Path) -> bool {
+        self.owner == other.owner && self.name == other.name && self.steps == other.steps
+    }
+}
+
+impl Eq for Path {
+    ghost use Rattle.st_words.specs.Comparisons.{equality_equiv, paths_are_compared};
+
+    ghost laws = { equality_equiv paths_are_compared };
+}
+
+impl Hash for Path {
+    ghost use Rattle.st_words.specs.Comparisons.{path_writes, paths_are_compared};
+
+    ghost hash_input = { path_writes };
+
+    ghost respects_eq = { (same_Alike path_writes paths_are_compared).fed };
+
+    fn hash<H: Hasher>(&self, state: &mut H) {
+        self.owner.hash(state);
+        self.name.hash(state);
+        self.steps.hash(state);
     }
 }

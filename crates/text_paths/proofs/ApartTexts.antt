@@ -6,7 +6,7 @@ use Rattle.std.specs.List.{list_all}
 use Rattle.st_words.specs.Paths.{same_path}
 use Rattle.st_types.specs.Scopes.{Name, contains_name}
 use Rattle.st_types.specs.Slots.{Slot, slot_of, IsLayout}
-use Rattle.st_types.proofs.SlotLemmas.{same_path_itself}
+use Rattle.st_words.specs.Comparisons.{same_path_itself}
 use Rattle.st_plans.specs.Layouts.{path_text}
 use Rattle.config.specs.Sound.{are_different}
 use Rattle.st_layouts.proofs.ListLemmas.{both, both_are, turned, turned_back, neither, same_name, map_some}

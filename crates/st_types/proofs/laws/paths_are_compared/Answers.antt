@@ -1,4 +1,4 @@
-use Rattle.st_types.proofs.SlotLemmas.{same_path_is, same_path_itself}
+use Rattle.st_words.specs.Comparisons.{same_path_is, same_path_itself}
 use Rattle.st_types.proofs.laws.paths_are_compared.Goals as goal
 
 pub returns-clause-only : goal.returns-clause-only
