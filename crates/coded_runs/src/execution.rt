@@ -6,7 +6,7 @@ ghost use Rattle.run_cells.specs.Cells.{cut};
 ghost use Rattle.coded_runs.specs.Effects.{IsTrueOf};
 
 use coded_programs::Code;
-use run_cells::Cell;
+use run_cells::{Cell, Cells};
 use st_plans::Activation;
 use st_types::Outcome;
 use std::marker::Model;
@@ -23,8 +23,8 @@ pub struct Execution {
     activation: Activation,
     moment: u64,
     budget: u32,
-    reads: Vec<Cell>,
-    writes: Vec<Cell>,
+    reads: Cells,
+    writes: Cells,
     outcome: Outcome,
 }
 
@@ -59,8 +59,8 @@ impl Execution {
         activation: Activation,
         moment: u64,
         budget: u32,
-        reads: Vec<Cell>,
-        writes: Vec<Cell>,
+        reads: Cells,
+        writes: Cells,
         outcome: Outcome,
     ) -> Execution
         requires { IsTrueOf (code_view code.value) moment budget (map cut reads.items) (map cut writes.items) outcome }
@@ -119,14 +119,14 @@ impl Execution {
     pub fn reads(&self) -> &[Cell]
         ensures { map cut result.now ≡ self.now.reads }
     {
-        &self.reads
+        self.reads.as_slice()
     }
 
     /// What it writes, by slots in ascending order.
     pub fn writes(&self) -> &[Cell]
         ensures { map cut result.now ≡ self.now.writes }
     {
-        &self.writes
+        self.writes.as_slice()
     }
 
     /// How it ended.

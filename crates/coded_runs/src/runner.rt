@@ -14,7 +14,7 @@ use crate::memory::{memory_over, take_front, unmarked};
 use crate::snapshot::Snapshot;
 use coded_programs::{Code, WordProgram};
 use machine_code::Mark;
-use run_cells::{Cell, reads_of, writes_left};
+use run_cells::{Cells, reads_of, writes_left};
 use slot_machine::Stop;
 use st_types::Outcome;
 use st_words::Value;
@@ -103,8 +103,8 @@ fn end_of(
 /// What a run read and wrote, and how it ended.
 #[derive(Drop)]
 pub struct Ran {
-    pub reads: Vec<Cell>,
-    pub writes: Vec<Cell>,
+    pub reads: Cells,
+    pub writes: Cells,
     pub outcome: Outcome,
 }
 

@@ -1,5 +1,6 @@
 //! Slots with values.
 
+use smallvec::SmallVec;
 use st_words::Value;
 use std::default::Default;
 
@@ -10,6 +11,10 @@ pub struct Cell {
     pub slot: usize,
     pub value: Value,
 }
+
+/// What a run read, or what it wrote. Up to eight of these stand in the value itself, so most runs take no memory for
+/// them.
+pub type Cells = SmallVec<Cell, 8>;
 
 impl Default for Cell {
     /// FALSE in the first slot, as a list that isn't full has it behind its cells.

@@ -4,5 +4,5 @@
 mod cell;
 mod gathering;
 
-pub use cell::Cell;
+pub use cell::{Cell, Cells};
 pub use gathering::{reads_of, writes_left};

@@ -17,7 +17,7 @@ loop-slot-preserved c =
     elim c.if-is_read.branch [
       | then-is_read+in_ok-push w ↦
           let v = w.index-values-slot.result in
-          let more = cut_more cells w.push.new.self.items k v w.in_ok-push.ensures.items in
+          let more = cut_more cells w.push.new.self.items k v w.in_ok-push.ensures.ok in
           rw w.cells-is (ap (λ xs. xs ++ picked (are_read (drop (k + 1) marks)) (k + 1) (drop (k + 1) vs)) more
           ∙ gathered_more (λ x. x.is_read) marks vs k (map cut cells) all so_far v
           (so ∙ search rules) (value_at vs k v (omega arith) w.index-values-slot.is))
