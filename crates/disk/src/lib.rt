@@ -11,4 +11,4 @@ mod sim_disk;
 
 pub use disk::{Disk, DiskError};
 pub use file_disk::FileDisk;
-pub use sim_disk::{SimDisk, Stop};
+pub use sim_disk::{SimDisk, Stop, room_of_a_simulated_disk};

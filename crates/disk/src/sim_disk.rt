@@ -14,6 +14,11 @@ use std::marker::Model;
 /// The room in bytes of a file that is shorter.
 pub(crate) const ROOM_BYTES: usize = 262_144;
 
+/// The room is this number. A law.
+pub fn room_of_a_simulated_disk()
+    ensures { ROOM_BYTES ≡ 262144 }
+{}
+
 /// A stop of the machine within a call, and what it leaves.
 #[derive(Debug)]
 pub struct Stop {

@@ -12,5 +12,5 @@ mod mark;
 
 pub use instr::Instr;
 pub use laws::{machine_goes_on, reads_suffice, what_is_read_is_asked_for};
-pub use limits::{MAX_INSTRUCTIONS, MAX_MEMORY};
+pub use limits::{MAX_INSTRUCTIONS, MAX_MEMORY, limits_of_code};
 pub use mark::Mark;

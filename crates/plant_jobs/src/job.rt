@@ -8,6 +8,11 @@ pub const DEFAULT_BUDGET: u32 = 10_000;
 /// `DEFAULT_BUDGET` in decimal digits, as a command line has it.
 pub const DEFAULT_BUDGET_TEXT: &str = "10000";
 
+/// The budget is this number. A law.
+pub fn default_of_a_budget()
+    ensures { DEFAULT_BUDGET ≡ 10000 }
+{}
+
 /// How a life starts.
 #[derive(Clone, Copy, Debug, PartialEq, Eq)]
 pub enum Start {

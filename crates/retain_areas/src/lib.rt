@@ -10,5 +10,5 @@ mod shape;
 mod surveying;
 
 pub use area::{Areas, Gate, Half, format, write_frame};
-pub use shape::{AREA_BYTES, FILE_BYTES, HEADER_BYTES};
+pub use shape::{AREA_BYTES, FILE_BYTES, HEADER_BYTES, sizes_of_areas};
 pub use surveying::survey;

@@ -1,5 +1,7 @@
 //! The bytes of a retain file: two areas, of which each has a gate, a header and a body.
 
+ghost use Rattle.std.specs.Prelude.{◌≡◌};
+
 use st_words::limits::MAX_RECORD_BODY;
 
 /// The length of an area in bytes.
@@ -19,3 +21,12 @@ pub const HEADER_BYTES: usize = 12;
 
 // The longest body fills its area after the gate and the header.
 const _: () = prove!(MAX_RECORD_BODY == AREA_BYTES - 1 - HEADER_BYTES);
+
+/// The sizes and the bytes of gates are these numbers. A law.
+pub fn sizes_of_areas()
+    ensures area { AREA_BYTES ≡ 131072 }
+    ensures file { FILE_BYTES ≡ 262144 }
+    ensures open { OPEN_GATE ≡ 165 }
+    ensures closed { CLOSED_GATE ≡ 0 }
+    ensures header { HEADER_BYTES ≡ 12 }
+{}

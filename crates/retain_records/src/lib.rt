@@ -17,4 +17,5 @@ mod value_bytes;
 pub use laws::{records_have_one_spelling, values_have_their_width};
 pub use paths::LineRoom;
 pub use record::Record;
+pub use sizes::sizes_of_records;
 pub use spelling::spell;

@@ -1,5 +1,7 @@
 //! The limits that several crates share, each in one place. Definitions and code take them from here.
 
+ghost use Rattle.std.specs.Prelude.{◌≡◌, ◌^◌};
+
 /// The longest source text in bytes.
 pub const MAX_SOURCE_BYTES: usize = 1_048_576;
 
@@ -44,3 +46,22 @@ pub const MAX_LOG_ROOM: usize = 65_536;
 
 /// The longest body of a record of a retain file in bytes.
 pub const MAX_RECORD_BODY: usize = 131_059;
+
+/// The limits are these numbers. A law.
+pub fn limits_of_texts_and_runs()
+    ensures source_bytes { MAX_SOURCE_BYTES ≡ 1048576 }
+    ensures name_length { MAX_NAME_LENGTH ≡ 64 }
+    ensures depth { MAX_DEPTH ≡ 64 }
+    ensures resources { MAX_RESOURCES ≡ 8 }
+    ensures tasks { MAX_TASKS ≡ 32 }
+    ensures priority { MAX_PRIORITY ≡ 65535 }
+    ensures bit_addresses { BIT_ADDRESSES ≡ 1024 }
+    ensures word_addresses { WORD_ADDRESSES ≡ 256 }
+    ensures programs { MAX_PROGRAMS ≡ 64 }
+    ensures paths { MAX_PATHS ≡ 4096 }
+    ensures budget { MAX_BUDGET ≡ 1000000 }
+    ensures moment { MOMENT_LIMIT ≡ 2 ^ 62 }
+    ensures rows { MAX_ROWS ≡ 10000 }
+    ensures log_room { MAX_LOG_ROOM ≡ 65536 }
+    ensures record_body { MAX_RECORD_BODY ≡ 131059 }
+{}
