@@ -1,8 +1,8 @@
 -- What a store keeps after a save.
-use Rattle.std.proofs.Common.{◌≡◌, inl, inr, ℕ, ◌+◌, ◌-◌, ◌<◌, ◌≤◌, List, get_or, refl, sym, ◌∙◌, ap, subst, arith}
+use Rattle.std.proofs.Common.{◌≡◌, inl, inr, ℕ, ◌+◌, ◌-◌, ◌<◌, ◌≤◌, List, get_or, length, refl, sym, ◌∙◌, ap, subst, arith}
 use Rattle.std.proofs.lemmas.Bool.{cases_eq}
 use Rattle.std.proofs.lemmas.Bool.Decides.{nat_tests}
-use Rattle.retain_areas.specs.declared.shape.TheConstants.{AREA_BYTES, HEADER_BYTES}
+use Rattle.retain_areas.specs.declared.shape.TheConstants.{AREA_BYTES, FILE_BYTES, HEADER_BYTES}
 use Rattle.disk.specs.Disk.{Only}
 use Rattle.retain_areas.specs.declared.area.Areas.{Areas}
 use Rattle.retain_areas.specs.declared.area.Gate.{Gate}
@@ -13,7 +13,7 @@ use Rattle.retain_store.specs.declared.store.Saves.{Saves}
 use Rattle.retain_store.specs.declared.store.Saves.TheVariants as saves
 use Rattle.retain_records.specs.Records.{Content}
 use Rattle.retain_areas.specs.Recovered.{Recovered, Open, TooLong, Refused, Nothing, Found, area, recovered}
-use Rattle.retain_areas.specs.Areas.{alone, at_of, other_of, IsOlder, IsOpen, GateIs, IsReady, IsEither, IsSaved}
+use Rattle.retain_areas.specs.Areas.{alone, at_of, other_of, IsEmpty, IsOlder, IsOpen, GateIs, IsReady, IsEither, IsSaved}
 use Rattle.retain_areas.specs.Areas.{IsSurveyed, areas_after_save}
 use Rattle.retain_areas.specs.Surveys.{held}
 use Rattle.retain_store.specs.Opening.{IsAtRest, KeepsRecord}
@@ -125,9 +125,19 @@ kept_used_up tells file files areas last tried size kept = record {
   greatest = kept.greatest;
 }
 
--- where the file is as it was, so is one with a record
-pub keeps_record : (found : Recovered) (old new : List ℕ) → new ≡ old → KeepsRecord found old new
-keeps_record TooLong old new same = tt
-keeps_record Refused old new same = tt
-keeps_record Nothing old new same = tt
-keeps_record (Found generation content) old new same = same
+-- a whole file that is as it was
+whole_kept : (old new : List ℕ) → length old ≡ FILE_BYTES → new ≡ old
+    → (length old ≡ FILE_BYTES → new ≡ old) × (length old < FILE_BYTES → IsEmpty new)
+whole_kept old new whole same = (λ _. same, λ short. absurd (omega (arith, whole, short)))
+
+pub keeps_record : (found : Recovered) (old new : List ℕ) → length old ≡ FILE_BYTES → new ≡ old
+    → KeepsRecord found old new
+keeps_record TooLong old new whole same = whole_kept old new whole same
+keeps_record Refused old new whole same = whole_kept old new whole same
+keeps_record Nothing old new whole same = whole_kept old new whole same
+keeps_record (Found generation content) old new whole same = same
+
+-- a shorter file that has two closed areas now has no record
+pub keeps_formatted : (content : Content) (old new : List ℕ) → length old < FILE_BYTES → IsEmpty new
+    → KeepsRecord (held 0 content) old new
+keeps_formatted content old new short empty = (λ whole. absurd (omega (arith, whole, short)), λ _. empty)

@@ -36,10 +36,10 @@ abbrev pub KeepsFile : StoreFault → List ℕ → List ℕ → Type 0
 KeepsFile faults.Device old new = Unit {0}
 KeepsFile other old new = new ≡ old
 
--- A file with a record is as it was. One without may have been formatted.
+-- A file with a record is as it was, and so is a whole one without. A shorter one has two closed areas now.
 abbrev pub KeepsRecord : Recovered → List ℕ → List ℕ → Type 0
 KeepsRecord (Found generation content) old new = new ≡ old
-KeepsRecord other old new = Unit {0}
+KeepsRecord other old new = (length old ≡ FILE_BYTES → new ≡ old) × (length old < FILE_BYTES → IsEmpty new)
 
 -- the file was too short and has two closed areas now, or it is whole, as it was, and these are its bytes
 abbrev pub IsLoaded : Loaded → List ℕ → List ℕ → List ℕ → Type 0

@@ -130,7 +130,8 @@ impl<D: Disk> Store<D> {
         ensures found { D.tells → IfOk result (λ store. store.last ≡ recovered (D.seen disk)) }
         ensures refused { D.tells → IfErr result (λ e. RefusesFor e.0 (recovered (D.seen disk))) }
 
-        // A file that is refused is as it was, and so is one with a record.
+        // A file that is refused is as it was, and so is one with a record, and a whole one without: what stands behind
+        // its closed gates stays. Only a shorter one is formatted.
         ensures unwritten { D.tells → IfErr result (λ e. KeepsFile e.0 (D.seen disk) (D.seen e.1)) }
         ensures kept { D.tells → IfOk result (λ store. KeepsRecord store.last (D.seen disk) (D.seen store.disk)) }
         ensures opened { IfOk result (λ store. IsLast store.generation store.last) }

@@ -8,7 +8,7 @@ use Rattle.retain_areas.specs.Surveys.{held}
 use Rattle.retain_areas.proofs.AreaLemmas.{shut_area}
 use Rattle.retain_areas.proofs.Formats.{short_nothing}
 use Rattle.retain_areas.proofs.Surveys.{surveyed_closed}
-use Rattle.retain_store.proofs.Keeps.{keeps_record}
+use Rattle.retain_store.proofs.Keeps.{keeps_record, keeps_formatted}
 use Rattle.retain_store.proofs.loading.recover.Goals as goal
 
 pub returns-in-Ok-Formatted-clause-found : goal.returns-in-Ok-Formatted-clause-found
@@ -26,6 +26,12 @@ returns-in-Ok-Formatted-clause-at_rest g c = λ tells.
       surveyed =
           surveyed_closed _ empty.size (shut_area 0 _ empty.first) (shut_area AREA_BYTES _ empty.second);
     })
+
+pub returns-in-Ok-Formatted-clause-kept : goal.returns-in-Ok-Formatted-clause-kept
+returns-in-Ok-Formatted-clause-kept g c = λ tells.
+    let loaded = subst (λ (l : Loaded). IsLoaded l c.load.new.file (g.D.Disk.seen c.args.disk.now)
+    (g.D.Disk.seen c.load.new.disk)) c.in-Ok-Formatted.field-0-is (c.in-Ok-Formatted.ensures.found tells) in
+    rw c.closed.ensures (keeps_formatted c.args.last.now _ _ loaded.0 loaded.1)
 
 pub returns-in-Some-clause-found : goal.returns-in-Some-clause-found
 returns-in-Some-clause-found g c = λ tells.
@@ -65,7 +71,7 @@ returns-in-Some-clause-kept g c = λ tells.
     let whole = subst
     (λ (l : Loaded). IsLoaded l c.load.new.file (g.D.Disk.seen c.args.disk.now) (g.D.Disk.seen c.load.new.disk))
     c.in-Ok-Whole.field-0-is (c.in-Ok-Whole.ensures.found tells) in
-    keeps_record _ _ _ whole.2
+    keeps_record _ _ _ whole.0 whole.2
 
 pub returns-in-None-clause-serves : goal.returns-in-None-clause-serves
 returns-in-None-clause-serves g c = λ tells serving.
