@@ -1,5 +1,5 @@
 -- What holds of lists holds of their elements.
-use Rattle.std.proofs.Common.{◌≡◌, ℕ, zero, suc, ◌+◌, ◌<◌, List, [], ◌∷◌, length, get_or, map, sym, subst, ap, ◌∙◌}
+use Rattle.std.proofs.Common.{◌≡◌, ℕ, zero, suc, ◌+◌, ◌<◌, ◌≤◌, List, [], ◌∷◌, length, get_or, map, sym, subst, ap, ◌∙◌}
 use Rattle.std.proofs.Common.{arith}
 use Rattle.st_trees.specs.declared.statement.Label.{Label}
 use Rattle.slot_bodies.specs.declared.expression.SlotExpr as code_expr
@@ -13,6 +13,7 @@ use Rattle.slot_bodies.specs.Chains.{exprs_of, subscripts_of, stmts_of, arms_of,
 use Rattle.slot_bodies.specs.ExpressionViews.{slot_expr_view, place_view, subscript_view}
 use Rattle.slot_bodies.specs.StatementViews.{slot_argument_view, slot_stmt_view, slot_stmts_view, slot_arm_view}
 use Rattle.slot_bodies.specs.StatementViews.{slot_case_arm_view}
+use Rattle.tree_code.specs.Codes.{given_members}
 use Rattle.tree_code.specs.Fitting.{UnitCall, AllBelow}
 use Rattle.tree_code.specs.Sites.{Site}
 use Rattle.code_drafts.specs.Emitting.{InputsLinked, OutputsLinked}
@@ -30,6 +31,23 @@ pub below_at : (n : ℕ) (os : List ℕ) (k d : ℕ) → k < length os → AllBe
 below_at n [] k d lt h = absurd (omega arith)
 below_at n (x ∷ xs) zero d lt h = h.0
 below_at n (x ∷ xs) (suc k) d lt h = below_at n xs k d (omega arith) h.1
+
+pub below_more : (m n : ℕ) (os : List ℕ) → m ≤ n → AllBelow m os → AllBelow n os
+below_more m n [] le h = tt
+below_more m n (x ∷ xs) le h = (omega (arith, h.0), below_more m n xs le h.1)
+
+pub member_below : (n : ℕ) (xs : List code_argument.SlotArgument) (k o : ℕ) (a : code_argument.SlotArgument)
+    (e : code_expr.SlotExpr) → k < length xs → a ≡ get_or xs k a → a ≡ Given o e
+    → AllBelow n (given_members (map slot_argument_view xs)) → o < n
+member_below n [] k o a e lt is of h = absurd (omega arith)
+member_below n (Given p f ∷ xs) zero o a e lt is of h =
+    let same : Given p f ≡ Given o e = sym is ∙ of in
+    let s : p ≡ o = cc in
+    let below = h.0 in omega arith
+member_below n (Copied p f ∷ xs) zero o a e lt is of h =
+    let same : Copied p f ≡ Given o e = sym is ∙ of in absurd (cc)
+member_below n (Given p f ∷ xs) (suc k) o a e lt is of h = member_below n xs k o a e (omega arith) is of h.1
+member_below n (Copied p f ∷ xs) (suc k) o a e lt is of h = member_below n xs k o a e (omega arith) is of h
 
 -- a subscript by its fields
 pub subscript_seen : (s : code_subscript.Subscript) → subscript_view s

@@ -5,6 +5,7 @@ use Rattle.std.specs.Prelude.{slice_get, OnOk, IfErr}
 use Rattle.machine_code.specs.declared.instr.Instr.{Instr}
 use Rattle.machine_code.specs.declared.instr.Instr.TheVariants.{Push, Fetch, Step, Turn, Compute}
 use Rattle.machine_code.specs.Machine.{slot_number}
+use Rattle.machine_code.specs.declared.limits.TheConstants.{MAX_INSTRUCTIONS}
 use Rattle.st_types.specs.StandardBlocks.{members_of}
 use Rattle.st_names.specs.Standard.{standard_view, block_view}
 use Rattle.st_names.specs.declared.standard_functions.Standard as code_function
@@ -31,7 +32,7 @@ use Rattle.tree_code.specs.Fitting.{CallFitsWithin}
 use Rattle.tree_code.specs.Growing.{Code, ◌◂◌}
 use Rattle.tree_code.specs.Sites.{Site, slot_in, site_at, site_from}
 use Rattle.code_drafts.specs.declared.compile_error.CompileError.{CompileError}
-use Rattle.code_drafts.specs.declared.compile_error.CompileError.TheVariants.{NotLinked}
+use Rattle.code_drafts.specs.declared.compile_error.CompileError.TheVariants.{TooManyInstructions}
 use Rattle.code_drafts.specs.declared.scope.Scope.{Scope}
 use Rattle.code_drafts.specs.Signatures.{HasSignature}
 use Rattle.code_drafts.specs.Emitting.{site_of, InputsFit, OutputsFit, InputsLinked, OutputsLinked}
@@ -40,21 +41,35 @@ use Rattle.code_drafts.proofs.Depths.{functions_below, blocks_below, function_fi
 use Rattle.code_drafts.proofs.Depths.{block_linked}
 use Rattle.code_drafts.proofs.Elements.{subscript_seen}
 
--- where a part is not linked, and so the whole is not
-pub not_linked : {T : Type 0} (r : Result T CompileError) (e : CompileError) (P Q : Type 0) → (e ≡ NotLinked → P → ⊥)
-    → (Q → P) → r ≡ Err e → IfErr r (λ y. y ≡ NotLinked → Q → ⊥)
-not_linked r e P Q h f is = subst (λ s. IfErr s (λ y. y ≡ NotLinked → Q → ⊥)) (sym is) (λ n q. h n (f q))
+-- where a part is refused for what it is, and so the whole is
+pub not_linked : {T : Type 0} {k : CompileError} (r : Result T CompileError) (e : CompileError) (P Q : Type 0)
+    → (e ≡ k → P → ⊥) → (Q → P) → r ≡ Err e → IfErr r (λ y. y ≡ k → Q → ⊥)
+not_linked {k = k} r e P Q h f is = subst (λ s. IfErr s (λ y. y ≡ k → Q → ⊥)) (sym is) (λ n q. h n (f q))
 
 -- where a unit is not there
-pub not_there : {T : Type 0} (r : Result T CompileError) (e : CompileError) (P Q : Type 0) → (e ≡ NotLinked → P)
-    → (P → Q → ⊥) → r ≡ Err e → IfErr r (λ y. y ≡ NotLinked → Q → ⊥)
-not_there r e P Q h f is = subst (λ s. IfErr s (λ y. y ≡ NotLinked → Q → ⊥)) (sym is) (λ n q. f (h n) q)
+pub not_there : {T : Type 0} {k : CompileError} (r : Result T CompileError) (e : CompileError) (P Q : Type 0)
+    → (e ≡ k → P) → (P → Q → ⊥) → r ≡ Err e → IfErr r (λ y. y ≡ k → Q → ⊥)
+not_there {k = k} r e P Q h f is = subst (λ s. IfErr s (λ y. y ≡ k → Q → ⊥)) (sym is) (λ n q. f (h n) q)
 
 -- the same of an answer that is passed on
-pub passed_on : {T : Type 0} (r : Result T CompileError) (P Q : Type 0) → IfErr r (λ y. y ≡ NotLinked → P → ⊥)
-    → (Q → P) → IfErr r (λ y. y ≡ NotLinked → Q → ⊥)
-passed_on (Ok x) P Q h f = h
-passed_on (Err e) P Q h f = λ n q. h n (f q)
+pub passed_on : {T : Type 0} (k : CompileError) (r : Result T CompileError) (P Q : Type 0)
+    → IfErr r (λ y. y ≡ k → P → ⊥) → (Q → P) → IfErr r (λ y. y ≡ k → Q → ⊥)
+passed_on k (Ok x) P Q h f = h
+passed_on k (Err e) P Q h f = λ n q. h n (f q)
+
+-- where a part has too many instructions, and so the whole has
+pub too_long : {T : Type 0} (r : Result T CompileError) (e : CompileError) (m n : ℕ)
+    → (e ≡ TooManyInstructions → MAX_INSTRUCTIONS < m) → m ≤ n → r ≡ Err e
+    → IfErr r (λ y. y ≡ TooManyInstructions → MAX_INSTRUCTIONS < n)
+too_long r e m n h le is =
+    subst (λ s. IfErr s (λ y. y ≡ TooManyInstructions → MAX_INSTRUCTIONS < n)) (sym is)
+    (λ k. let lt = h k in omega arith)
+
+pub too_long_on : {T : Type 0} (r : Result T CompileError) (m n : ℕ)
+    → IfErr r (λ y. y ≡ TooManyInstructions → MAX_INSTRUCTIONS < m) → m ≤ n
+    → IfErr r (λ y. y ≡ TooManyInstructions → MAX_INSTRUCTIONS < n)
+too_long_on (Ok x) m n h le = h
+too_long_on (Err e) m n h le = λ k. let lt = h k in omega arith
 
 pub on_ok : {T E : Type 0} (r : Result T E) (P Q : Type 0) → (P → Q) → OnOk r P → OnOk r Q
 on_ok (Ok x) P Q f h = f h
@@ -210,6 +225,13 @@ pub body_linked : (library : KeptLibrary) (n number start count : ℕ) (f : Slot
 body_linked library n number start count f z e known at base size h =
     rw (site_is z start (length f.fresh) at base size)
     (function_linked_so library n z.depth number start count (Some (Some f)) e known h).1
+
+pub body_fits_so : (library : SlotLibrary) (z : Scope) (memory d start : ℕ) (f : SlotFunction) → z.memory ≡ memory
+    → z.depth ≡ d → z.start ≡ start → z.base ≡ 0 → z.size ≡ length f.fresh
+    → StmtsFit (CallFitsWithin memory library d) (site_from start (length f.fresh)) f.body
+    → StmtsFit (CallFitsWithin z.memory library z.depth) (site_of z) f.body
+body_fits_so library z memory d start f mem deep at base size h =
+    rw (mem, deep, site_is z start (length f.fresh) at base size) h
 
 -- a call of a block, but for its tick
 pub invoke_put : (units : CodeUnits) (s : Site) (first at slot count : ℕ) (block : BlockCode) (xs : List SlotArgument)

@@ -14,6 +14,7 @@ use Rattle.tree_code.specs.Codes.{CodeUnits, loop_ways, stmts_code}
 use Rattle.tree_code.specs.Calls.{units_code}
 use Rattle.tree_code.specs.Fitting.{UnitCall, CallFitsWithin, ExprFits, PlaceFits}
 use Rattle.code_drafts.specs.declared.scope.Scope.{Scope}
+use Rattle.code_drafts.specs.Lengths.{UnitLengths, units_length}
 use Rattle.code_drafts.specs.Linked.{CallLinkedWithin, ExprLinked, PlaceLinked}
 
 abbrev pub site_of : Scope → Site
@@ -54,6 +55,10 @@ units_in library z = units_code (filled (slot_library_view library)) z.depth
 -- which of its calls fit
 abbrev pub FitsIn : code_library.SlotLibrary → Scope → UnitCall → Type 0
 FitsIn library z = CallFitsWithin z.memory (filled (slot_library_view library)) z.depth
+
+-- how many instructions these have
+abbrev pub lengths_in : code_library.SlotLibrary → Scope → UnitLengths
+lengths_in library z = units_length (slot_library_view library) z.depth
 
 -- which of its calls are linked
 abbrev pub LinkedIn : code_library.SlotLibrary → Scope → UnitCall → Type 0

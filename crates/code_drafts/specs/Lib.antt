@@ -1,4 +1,5 @@
 pub mod Accesses
 pub mod Linked
+pub mod Lengths
 pub mod Signatures
 pub mod Emitting

@@ -1,6 +1,6 @@
 -- What code is made of, room for the values of functions and for instructions aside: its literals are values, its
--- labels and lower bounds are numbers that instructions hold, its places lie among the values of their units, its
--- units are known, and calls are not too deep.
+-- labels, its lower bounds and how many arguments a standard function has are numbers that instructions hold, its places
+-- lie among the values of their units, its units are known, and calls are not too deep.
 use Rattle.std.specs.Prelude.{ℕ, zero, suc, ◌+◌, ◌<◌, ◌≤◌, ℤ, List, [], ◌∷◌, length, Option, Some, None}
 use Rattle.std.specs.Prelude.{slice_get}
 use Rattle.st_words.specs.Values.{IsHeld}
@@ -44,7 +44,7 @@ module _ (CallLinked : UnitCall → Type 0) (site : Site) where
     pub ExprLinked : SlotExpr → Type 0
     ExprLinked (constant l) = IsValue (value_of_literal l)
     ExprLinked (load p) = PlaceLinked p
-    ExprLinked (compute f es) = ExprsLinked es
+    ExprLinked (compute f es) = (count_of es < 65536) × ExprsLinked es
     ExprLinked (call f es) = ExprsLinked es × CallLinked (of_function f (end_of site) (count_of es))
     ExprLinked (unary op e) = ExprLinked e
     ExprLinked (binary op l r) = ExprLinked l × ExprLinked r

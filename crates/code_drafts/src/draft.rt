@@ -44,7 +44,8 @@ impl Draft {
 
     /// How many instructions there are.
     pub fn len(&self) -> u16
-        ensures { result ≡ length self.now }
+        ensures count { result ≡ length self.now }
+        ensures few { result ≤ MAX_INSTRUCTIONS }
     {
         self.code.len() as u16
     }
@@ -52,8 +53,11 @@ impl Draft {
     /// Puts an instruction before the others.
     pub fn put(&mut self, instr: Instr) -> Result<(), CompileError>
         ensures put { OnOk result (self.new ≡ self.old ◂ instr) }
-        ensures longer { OnOk result (length self.new ≡ length self.old + 1) }
+        ensures long { OnOk result (length self.new ≡ 1 + length self.old) }
         ensures wrong { IfErr result (λ e. e ≢ CompileError.NotLinked) }
+        ensures full { IfErr result (λ e. e ≡ CompileError.TooManyInstructions
+            → MAX_INSTRUCTIONS < 1 + length self.old) }
+        ensures room { IfErr result (λ e. e ≢ CompileError.TooManyPlaces) }
     {
         if self.code.len() >= MAX_INSTRUCTIONS {
             return Err(CompileError::TooManyInstructions);

@@ -1,12 +1,14 @@
 //! The code of constants and labels.
 
-ghost use Rattle.std.specs.Prelude.{◌≡◌, ◌≤◌, IfOk, IfErr, OnOk, length};
+ghost use Rattle.std.specs.Prelude.{◌≡◌, ◌≢◌, ◌≤◌, ◌<◌, ◌+◌, IfOk, IfErr, OnOk, length};
 ghost use Rattle.machine_code.specs.declared.instr.Instr.TheVariants as instrs;
+ghost use Rattle.machine_code.specs.declared.limits.TheConstants.{MAX_INSTRUCTIONS};
 ghost use Rattle.st_types.specs.Failures.{run_result};
 ghost use Rattle.st_types.specs.Operators.{value_of_literal, number_of};
 ghost use Rattle.tree_code.specs.Codes.{number_value, literal_code, label_code, labels_code};
 ghost use Rattle.tree_code.specs.Fitting.{IsValue};
 ghost use Rattle.tree_code.specs.Growing.{◌◂◌};
+ghost use Rattle.code_drafts.specs.Lengths.{literal_length, label_length, labels_length};
 ghost use Rattle.code_drafts.specs.Linked.{IsNumber, IsLabel, AreLabels};
 
 use crate::compile_error::CompileError;
@@ -32,8 +34,11 @@ fn literal_value(literal: &Literal) -> Result<Value, Fault>
 pub fn put_literal(code: &mut Draft, literal: &Literal) -> Result<(), CompileError>
     ensures code { OnOk result (code.new ≡ literal_code (value_of_literal literal.now) code.old) }
     ensures fits { OnOk result (IsValue (value_of_literal literal.now)) }
-    ensures longer { OnOk result (length code.old ≤ length code.new) }
+    ensures long { OnOk result (length code.new ≡ literal_length (value_of_literal literal.now) + length code.old) }
     ensures wrong { IfErr result (λ e. e ≡ CompileError.NotLinked → ¬ (IsValue (value_of_literal literal.now))) }
+    ensures full { IfErr result (λ e. e ≡ CompileError.TooManyInstructions
+        → MAX_INSTRUCTIONS < literal_length (value_of_literal literal.now) + length code.old) }
+    ensures room { IfErr result (λ e. e ≢ CompileError.TooManyPlaces) }
 {
     match literal_value(literal) {
         Ok(value) => code.put(Instr::Push(value)),
@@ -45,6 +50,7 @@ pub fn put_literal(code: &mut Draft, literal: &Literal) -> Result<(), CompileErr
 pub fn number_value(number: i128) -> Result<Value, CompileError>
     ensures value { IfOk result (λ v. v ≡ number_value number) }
     ensures wrong { IfErr result (λ e. e ≡ CompileError.NotLinked → ¬ (IsNumber number)) }
+    ensures only { IfErr result (λ e. e ≡ CompileError.NotLinked) }
 {
     if let Ok(value) = Value::new(Kind::Lint, number) {
         return Ok(value);
@@ -58,8 +64,11 @@ pub fn number_value(number: i128) -> Result<Value, CompileError>
 /// A number of a label comes on the stack.
 pub fn put_number(code: &mut Draft, number: i128) -> Result<(), CompileError>
     ensures code { OnOk result (code.new ≡ code.old ◂ instrs.Push (number_value number)) }
-    ensures longer { OnOk result (length code.old ≤ length code.new) }
+    ensures long { OnOk result (length code.new ≡ 1 + length code.old) }
     ensures wrong { IfErr result (λ e. e ≡ CompileError.NotLinked → ¬ (IsNumber number)) }
+    ensures full { IfErr result (λ e. e ≡ CompileError.TooManyInstructions
+        → MAX_INSTRUCTIONS < 1 + length code.old) }
+    ensures room { IfErr result (λ e. e ≢ CompileError.TooManyPlaces) }
 {
     let value = number_value(number)?;
     code.put(Instr::Push(value))
@@ -68,8 +77,11 @@ pub fn put_number(code: &mut Draft, number: i128) -> Result<(), CompileError>
 /// Where a label holds the selector, which is on the stack, the run goes on at a place.
 fn put_label(code: &mut Draft, label: &Label, to: u16) -> Result<(), CompileError>
     ensures code { OnOk result (code.new ≡ label_code label.now to code.old) }
-    ensures longer { OnOk result (length code.old ≤ length code.new) }
+    ensures long { OnOk result (length code.new ≡ label_length label.now + length code.old) }
     ensures wrong { IfErr result (λ e. e ≡ CompileError.NotLinked → ¬ (IsLabel label.now)) }
+    ensures full { IfErr result (λ e. e ≡ CompileError.TooManyInstructions
+        → MAX_INSTRUCTIONS < label_length label.now + length code.old) }
+    ensures room { IfErr result (λ e. e ≢ CompileError.TooManyPlaces) }
 {
     match label {
         Label::Single(number) => {
@@ -86,11 +98,14 @@ fn put_label(code: &mut Draft, label: &Label, to: u16) -> Result<(), CompileErro
 }
 
 /// The same of labels, of which any may hold it.
-#[tactic(auto, using(crate::proofs::Elements::label_at))]
+#[tactic(auto, using(crate::proofs::Elements::label_at, crate::proofs::Behind::labels_behind))]
 pub fn put_labels(code: &mut Draft, labels: &[Label], to: u16) -> Result<(), CompileError>
     ensures code { OnOk result (code.new ≡ labels_code labels.now to code.old) }
-    ensures longer { OnOk result (length code.old ≤ length code.new) }
+    ensures long { OnOk result (length code.new ≡ labels_length labels.now + length code.old) }
     ensures wrong { IfErr result (λ e. e ≡ CompileError.NotLinked → ¬ (AreLabels labels.now)) }
+    ensures full { IfErr result (λ e. e ≡ CompileError.TooManyInstructions
+        → MAX_INSTRUCTIONS < labels_length labels.now + length code.old) }
+    ensures room { IfErr result (λ e. e ≢ CompileError.TooManyPlaces) }
 {
     let mut left = labels.len();
     while left > 0 {

@@ -6,6 +6,7 @@ ghost use Rattle.slot_bodies.specs.Chains.{subscripts_of};
 ghost use Rattle.slot_bodies.specs.ExpressionViews.{anchor_view, subscript_view};
 ghost use Rattle.machine_code.specs.Machine.{slot_number};
 ghost use Rattle.machine_code.specs.declared.instr.Instr.TheVariants as instrs;
+ghost use Rattle.machine_code.specs.declared.limits.TheConstants.{MAX_INSTRUCTIONS, MAX_MEMORY};
 ghost use Rattle.tree_code.specs.Codes.{number_value};
 ghost use Rattle.tree_code.specs.Fitting.{reach};
 ghost use Rattle.tree_code.specs.Growing.{◌◂◌};
@@ -22,14 +23,11 @@ use slot_bodies::{Anchor, Subscript};
 use st_words::{Kind, Value};
 
 /// The number of a slot that lies so many behind a first one.
-pub fn slot_behind(first: usize, offset: usize) -> Result<u16, CompileError>
-    ensures slot { IfOk result (λ k. k ≡ first + offset) }
-    ensures wrong { IfErr result (λ e. e ≢ CompileError.NotLinked) }
+pub fn slot_behind(first: usize, offset: usize) -> u16
+    requires { first + offset < MAX_MEMORY }
+    ensures { result ≡ first + offset }
 {
-    match first.checked_add(offset) {
-        Some(slot) if slot < 65536 => Ok(slot as u16),
-        _ => Err(CompileError::TooManyPlaces),
-    }
+    (first + offset) as u16
 }
 
 /// A slot's number as it stands on the stack.
@@ -76,41 +74,50 @@ pub fn first_slot(
     anchor: Anchor,
     subscripts: &[Subscript],
 ) -> Result<u16, CompileError>
+    requires room { scope.start + scope.size ≤ scope.memory }
+    requires numbered { scope.memory ≤ MAX_MEMORY }
     ensures slot { IfOk result (λ k. k ≡ slot_in (site_of scope) (anchor_view anchor)) }
     ensures within { IfOk result (λ k. slot_at scope.base (anchor_view anchor)
         + reach (subscripts_of (map subscript_view subscripts.now)) < scope.size) }
     ensures wrong { IfErr result (λ e. e ≡ CompileError.NotLinked
         → ¬ (slot_at scope.base (anchor_view anchor)
         + reach (subscripts_of (map subscript_view subscripts.now)) < scope.size)) }
+    ensures only { IfErr result (λ e. e ≡ CompileError.NotLinked) }
 {
     let first = value_at(scope.base, anchor);
     if first.saturating_add(farthest(subscripts)) >= scope.size {
         return Err(CompileError::NotLinked);
     }
-    slot_behind(scope.start, first)
+    Ok(slot_behind(scope.start, first))
 }
 
 /// The slot of the control variable of a FOR.
 pub fn control_slot(scope: Scope, control: Anchor) -> Result<u16, CompileError>
+    requires room { scope.start + scope.size ≤ scope.memory }
+    requires numbered { scope.memory ≤ MAX_MEMORY }
     ensures slot { IfOk result (λ k. k ≡ slot_in (site_of scope) (anchor_view control)) }
     ensures within { IfOk result (λ k. slot_at scope.base (anchor_view control) < scope.size) }
     ensures wrong { IfErr result (λ e. e ≡ CompileError.NotLinked
         → ¬ (slot_at scope.base (anchor_view control) < scope.size)) }
+    ensures only { IfErr result (λ e. e ≡ CompileError.NotLinked) }
 {
     let slot = value_at(scope.base, control);
     if slot >= scope.size {
         return Err(CompileError::NotLinked);
     }
-    slot_behind(scope.start, slot)
+    Ok(slot_behind(scope.start, slot))
 }
 
 /// The instruction of a subscript.
 pub fn put_subscript(code: &mut Draft, subscript: &Subscript) -> Result<(), CompileError>
     ensures code { OnOk result (code.new
         ≡ code.old ◂ instrs.Subscript subscript.now.count subscript.now.stride (number_value subscript.now.lower)) }
-    ensures longer { OnOk result (length code.old ≤ length code.new) }
+    ensures long { OnOk result (length code.new ≡ 1 + length code.old) }
     ensures wrong { IfErr result (λ e. e ≡ CompileError.NotLinked
         → ¬ (IsSubscript subscript.now.lower subscript.now.count subscript.now.stride)) }
+    ensures full { IfErr result (λ e. e ≡ CompileError.TooManyInstructions
+        → MAX_INSTRUCTIONS < 1 + length code.old) }
+    ensures room { IfErr result (λ e. e ≢ CompileError.TooManyPlaces) }
 {
     let lower = number_value(subscript.lower)?;
     let Ok(count) = u16::try_from(subscript.count) else {

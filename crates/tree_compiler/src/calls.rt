@@ -1,14 +1,16 @@
 //! The code that stands in place of calls.
 
-ghost use Rattle.std.specs.Prelude.{◌≡◌, ◌≤◌, ◌+◌, OnOk, IfErr, length, map};
+ghost use Rattle.std.specs.Prelude.{◌≡◌, ◌≤◌, ◌<◌, ◌+◌, OnOk, IfErr, length, map};
+ghost use Rattle.machine_code.specs.declared.limits.TheConstants.{MAX_INSTRUCTIONS, MAX_MEMORY};
 ghost use Rattle.slot_trees.specs.SlotEvaluation.{slot_at};
 ghost use Rattle.slot_bodies.specs.ExpressionViews.{anchor_view};
 ghost use Rattle.slot_bodies.specs.StatementViews.{block_code_view, slot_argument_view};
 ghost use Rattle.tree_code.specs.Codes.{inputs_code, outputs_code, invoke_code};
 ghost use Rattle.tree_code.specs.Fitting.{of_function, of_block, ArgumentsFit};
 ghost use Rattle.tree_code.specs.Sites.{end_of, site_at};
-ghost use Rattle.code_drafts.specs.Emitting.{site_of, units_in, FitsIn, LinkedIn, InputsFit, OutputsFit, InputsLinked};
-ghost use Rattle.code_drafts.specs.Emitting.{OutputsLinked};
+ghost use Rattle.code_drafts.specs.Emitting.{site_of, units_in, lengths_in, FitsIn, LinkedIn, InputsFit};
+ghost use Rattle.code_drafts.specs.Emitting.{OutputsFit, InputsLinked, OutputsLinked};
+ghost use Rattle.code_drafts.specs.Lengths.{inputs_length, outputs_length, invoke_length};
 ghost use Rattle.code_drafts.specs.Linked.{ArgumentsLinked};
 
 use crate::expressions::{put_expr, put_place};
@@ -30,12 +32,19 @@ pub fn put_function(
     number: usize,
     count: usize,
 ) -> Result<(), CompileError>
+    requires room { scope.start + scope.size ≤ scope.memory }
+    requires numbered { scope.memory ≤ MAX_MEMORY }
     ensures code { OnOk result (code.new
         ≡ (units_in library.now scope).functions number (end_of (site_of scope)) code.old) }
     ensures fits { OnOk result (FitsIn library.now scope (of_function number (end_of (site_of scope)) count)) }
-    ensures longer { OnOk result (length code.old ≤ length code.new) }
+    ensures long { OnOk result (length code.new
+        ≡ (lengths_in library.now scope).functions number + length code.old) }
     ensures wrong { IfErr result (λ e. e ≡ CompileError.NotLinked
         → ¬ (LinkedIn library.now scope (of_function number (end_of (site_of scope)) count))) }
+    ensures full { IfErr result (λ e. e ≡ CompileError.TooManyInstructions → MAX_INSTRUCTIONS
+        < (lengths_in library.now scope).functions number + length code.old) }
+    ensures crowded { IfErr result (λ e. e ≡ CompileError.TooManyPlaces
+        → ¬ (FitsIn library.now scope (of_function number (end_of (site_of scope)) count))) }
 {
     let Some(depth) = scope.depth.checked_sub(1) else {
         return Err(CompileError::NotLinked);
@@ -48,7 +57,7 @@ pub fn put_function(
         return Err(CompileError::TooManyInstructions);
     };
     let inner = function_scope(scope, depth, function)?;
-    code.put(Instr::Fetch(slot_behind(inner.start, function.result)?))?;
+    code.put(Instr::Fetch(slot_behind(inner.start, function.result)))?;
     let end = code.len();
     let ways = Ways {
         exit: end,
@@ -69,12 +78,19 @@ fn put_block(
     code: &mut Draft,
     block: BlockCode,
 ) -> Result<(), CompileError>
+    requires room { scope.start + scope.size ≤ scope.memory }
+    requires numbered { scope.memory ≤ MAX_MEMORY }
     ensures code { OnOk result (code.new
         ≡ (units_in library.now scope).blocks (block_code_view block) (site_of scope) code.old) }
     ensures fits { OnOk result (FitsIn library.now scope (of_block (block_code_view block) (site_of scope))) }
-    ensures longer { OnOk result (length code.old ≤ length code.new) }
+    ensures long { OnOk result (length code.new
+        ≡ (lengths_in library.now scope).blocks (block_code_view block) + length code.old) }
     ensures wrong { IfErr result (λ e. e ≡ CompileError.NotLinked
         → ¬ (LinkedIn library.now scope (of_block (block_code_view block) (site_of scope)))) }
+    ensures full { IfErr result (λ e. e ≡ CompileError.TooManyInstructions → MAX_INSTRUCTIONS
+        < (lengths_in library.now scope).blocks (block_code_view block) + length code.old) }
+    ensures crowded { IfErr result (λ e. e ≡ CompileError.TooManyPlaces
+        → ¬ (FitsIn library.now scope (of_block (block_code_view block) (site_of scope)))) }
 {
     let Some(depth) = scope.depth.checked_sub(1) else {
         return Err(CompileError::NotLinked);
@@ -84,7 +100,7 @@ fn put_block(
             if scope.base > scope.size || member_count(block) > scope.size - scope.base {
                 return Err(CompileError::NotLinked);
             }
-            code.put(Instr::Step(block, slot_behind(scope.start, scope.base)?))
+            code.put(Instr::Step(block, slot_behind(scope.start, scope.base)))
         }
         BlockCode::Own(number) => {
             let body = block_at(library, number)?;
@@ -109,6 +125,8 @@ pub fn put_invocation(
     block: BlockCode,
     arguments: &[SlotArgument],
 ) -> Result<(), CompileError>
+    requires room { scope.start + scope.size ≤ scope.memory }
+    requires numbered { scope.memory ≤ MAX_MEMORY }
     ensures code { OnOk result (code.new ≡ invoke_code (units_in library.now scope) (site_of scope)
         (slot_at scope.base (anchor_view instance)) (block_code_view block) (map slot_argument_view arguments.now)
         code.old) }
@@ -116,11 +134,21 @@ pub fn put_invocation(
         (site_at (site_of scope) (slot_at scope.base (anchor_view instance))))) }
     ensures fits { OnOk result (ArgumentsFit (FitsIn library.now scope) (site_of scope)
         (slot_at scope.base (anchor_view instance)) (map slot_argument_view arguments.now)) }
-    ensures longer { OnOk result (length code.old ≤ length code.new) }
+    ensures long { OnOk result (length code.new
+        ≡ invoke_length (lengths_in library.now scope) (block_code_view block) (map slot_argument_view arguments.now)
+        + length code.old) }
     ensures wrong { IfErr result (λ e. e ≡ CompileError.NotLinked
         → let at = slot_at scope.base (anchor_view instance) in ¬ ((at ≤ scope.size)
         × LinkedIn library.now scope (of_block (block_code_view block) (site_at (site_of scope) at))
         × ArgumentsLinked (LinkedIn library.now scope) (site_of scope) at (map slot_argument_view arguments.now))) }
+    ensures full { IfErr result (λ e. e ≡ CompileError.TooManyInstructions → MAX_INSTRUCTIONS
+        < invoke_length (lengths_in library.now scope) (block_code_view block) (map slot_argument_view arguments.now)
+        + length code.old) }
+    ensures crowded { IfErr result (λ e. e ≡ CompileError.TooManyPlaces
+        → ¬ (FitsIn library.now scope (of_block (block_code_view block)
+        (site_at (site_of scope) (slot_at scope.base (anchor_view instance))))
+        × ArgumentsFit (FitsIn library.now scope) (site_of scope) (slot_at scope.base (anchor_view instance))
+        (map slot_argument_view arguments.now))) }
 {
     let first = value_at(scope.base, instance);
     if first > scope.size {
@@ -129,21 +157,20 @@ pub fn put_invocation(
     let Ok(count) = u16::try_from(given_count(arguments)) else {
         return Err(CompileError::TooManyInstructions);
     };
-    let slot = slot_behind(scope.start, first)?;
     put_outputs(library, scope, code, first, arguments)?;
     let inner = Scope {
         base: first,
         ..scope
     };
     put_block(library, inner, code, block)?;
-    put_members(code, usize::from(slot), arguments)?;
+    put_members(code, scope.start + first, arguments)?;
     code.put(Instr::Turn(count))?;
     put_inputs(library, scope, code, first, arguments)
 }
 
 /// The values of inputs come on the stack, for members of an instance from a slot on.
 #[cycle(unit)]
-#[tactic(auto, using(code_drafts::proofs::Elements::argument_smaller))]
+#[tactic(auto, using(code_drafts::proofs::Elements::argument_smaller, code_drafts::proofs::Behind::inputs_behind))]
 fn put_inputs(
     library: &SlotLibrary,
     scope: Scope,
@@ -151,14 +178,21 @@ fn put_inputs(
     first: usize,
     arguments: &[SlotArgument],
 ) -> Result<(), CompileError>
+    requires room { scope.start + scope.size ≤ scope.memory }
+    requires numbered { scope.memory ≤ MAX_MEMORY }
     ensures code { OnOk result (code.new ≡ inputs_code (units_in library.now scope) (site_of scope)
         (map slot_argument_view arguments.now) code.old) }
     ensures fits { OnOk result (InputsFit (FitsIn library.now scope) (site_of scope) first
         (map slot_argument_view arguments.now)) }
-    ensures longer { OnOk result (length code.old ≤ length code.new) }
+    ensures long { OnOk result (length code.new
+        ≡ inputs_length (lengths_in library.now scope) (map slot_argument_view arguments.now) + length code.old) }
     ensures wrong { IfErr result (λ e. e ≡ CompileError.NotLinked
         → ¬ (InputsLinked (LinkedIn library.now scope) (site_of scope) first
         (map slot_argument_view arguments.now))) }
+    ensures full { IfErr result (λ e. e ≡ CompileError.TooManyInstructions → MAX_INSTRUCTIONS
+        < inputs_length (lengths_in library.now scope) (map slot_argument_view arguments.now) + length code.old) }
+    ensures crowded { IfErr result (λ e. e ≡ CompileError.TooManyPlaces
+        → ¬ (InputsFit (FitsIn library.now scope) (site_of scope) first (map slot_argument_view arguments.now))) }
 {
     let mut left = arguments.len();
     while left > 0 {
@@ -175,7 +209,7 @@ fn put_inputs(
 
 /// Members of an instance from a slot on are copied to places.
 #[cycle(unit)]
-#[tactic(auto, using(code_drafts::proofs::Elements::argument_smaller))]
+#[tactic(auto, using(code_drafts::proofs::Elements::argument_smaller, code_drafts::proofs::Behind::outputs_behind))]
 fn put_outputs(
     library: &SlotLibrary,
     scope: Scope,
@@ -183,14 +217,21 @@ fn put_outputs(
     first: usize,
     arguments: &[SlotArgument],
 ) -> Result<(), CompileError>
+    requires room { scope.start + scope.size ≤ scope.memory }
+    requires numbered { scope.memory ≤ MAX_MEMORY }
     ensures code { OnOk result (code.new ≡ outputs_code (units_in library.now scope) (site_of scope) first
         (map slot_argument_view arguments.now) code.old) }
     ensures fits { OnOk result (OutputsFit (FitsIn library.now scope) (site_of scope) first
         (map slot_argument_view arguments.now)) }
-    ensures longer { OnOk result (length code.old ≤ length code.new) }
+    ensures long { OnOk result (length code.new
+        ≡ outputs_length (lengths_in library.now scope) (map slot_argument_view arguments.now) + length code.old) }
     ensures wrong { IfErr result (λ e. e ≡ CompileError.NotLinked
         → ¬ (OutputsLinked (LinkedIn library.now scope) (site_of scope) first
         (map slot_argument_view arguments.now))) }
+    ensures full { IfErr result (λ e. e ≡ CompileError.TooManyInstructions → MAX_INSTRUCTIONS
+        < outputs_length (lengths_in library.now scope) (map slot_argument_view arguments.now) + length code.old) }
+    ensures crowded { IfErr result (λ e. e ≡ CompileError.TooManyPlaces
+        → ¬ (OutputsFit (FitsIn library.now scope) (site_of scope) first (map slot_argument_view arguments.now))) }
 {
     let mut left = arguments.len();
     while left > 0 {
@@ -201,7 +242,7 @@ fn put_outputs(
                 return Err(CompileError::NotLinked);
             }
             put_place(library, scope, code, target, Access::Store)?;
-            code.put(Instr::Fetch(slot_behind(scope.start, slot)?))?;
+            code.put(Instr::Fetch(slot_behind(scope.start, slot)))?;
         }
     }
     Ok(())

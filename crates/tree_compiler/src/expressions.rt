@@ -1,12 +1,14 @@
 //! The code of expressions.
 
-ghost use Rattle.std.specs.Prelude.{◌≡◌, ◌≤◌, OnOk, IfErr, length, map};
+ghost use Rattle.std.specs.Prelude.{◌≡◌, ◌≤◌, ◌<◌, ◌+◌, OnOk, IfErr, length, map};
+ghost use Rattle.machine_code.specs.declared.limits.TheConstants.{MAX_INSTRUCTIONS, MAX_MEMORY};
 ghost use Rattle.slot_bodies.specs.Chains.{exprs_of, subscripts_of};
 ghost use Rattle.slot_bodies.specs.ExpressionViews.{slot_expr_view, place_view, subscript_view};
 ghost use Rattle.tree_code.specs.Codes.{expr_code, exprs_code, place_code, subscripts_code};
 ghost use Rattle.tree_code.specs.Fitting.{ExprFits, ExprsFit, PlaceFits, SubscriptsFit};
 ghost use Rattle.code_drafts.specs.Accesses.{known_instr, led_instr};
-ghost use Rattle.code_drafts.specs.Emitting.{site_of, units_in, FitsIn, LinkedIn};
+ghost use Rattle.code_drafts.specs.Emitting.{site_of, units_in, lengths_in, FitsIn, LinkedIn};
+ghost use Rattle.code_drafts.specs.Lengths.{expr_length, exprs_length, place_length, subscripts_length};
 ghost use Rattle.code_drafts.specs.Linked.{ExprLinked, ExprsLinked, PlaceLinked, SubscriptsLinked};
 
 use crate::calls::put_function;
@@ -24,12 +26,19 @@ pub fn put_expr(
     code: &mut Draft,
     expression: &SlotExpr,
 ) -> Result<(), CompileError>
+    requires room { scope.start + scope.size ≤ scope.memory }
+    requires numbered { scope.memory ≤ MAX_MEMORY }
     ensures code { OnOk result (code.new ≡ expr_code (units_in library.now scope) (site_of scope)
         (slot_expr_view expression.now) code.old) }
     ensures fits { OnOk result (ExprFits (FitsIn library.now scope) (site_of scope) (slot_expr_view expression.now)) }
-    ensures longer { OnOk result (length code.old ≤ length code.new) }
+    ensures long { OnOk result (length code.new
+        ≡ expr_length (lengths_in library.now scope) (slot_expr_view expression.now) + length code.old) }
     ensures wrong { IfErr result (λ e. e ≡ CompileError.NotLinked
         → ¬ (ExprLinked (LinkedIn library.now scope) (site_of scope) (slot_expr_view expression.now))) }
+    ensures full { IfErr result (λ e. e ≡ CompileError.TooManyInstructions → MAX_INSTRUCTIONS
+        < expr_length (lengths_in library.now scope) (slot_expr_view expression.now) + length code.old) }
+    ensures crowded { IfErr result (λ e. e ≡ CompileError.TooManyPlaces
+        → ¬ (ExprFits (FitsIn library.now scope) (site_of scope) (slot_expr_view expression.now))) }
 {
     match expression {
         SlotExpr::Constant(literal) => put_literal(code, literal),
@@ -45,7 +54,7 @@ pub fn put_expr(
         }
         SlotExpr::Compute(function, arguments) => {
             let Ok(count) = u16::try_from(arguments.len()) else {
-                return Err(CompileError::TooManyInstructions);
+                return Err(CompileError::NotLinked);
             };
             code.put(Instr::Compute(*function, count))?;
             put_exprs(library, scope, code, arguments)
@@ -59,20 +68,30 @@ pub fn put_expr(
 
 /// The same of expressions one after another.
 #[cycle(unit)]
-#[tactic(auto, using(code_drafts::proofs::Elements::expr_smaller))]
+#[tactic(auto, using(code_drafts::proofs::Elements::expr_smaller, code_drafts::proofs::Behind::exprs_behind))]
 pub fn put_exprs(
     library: &SlotLibrary,
     scope: Scope,
     code: &mut Draft,
     expressions: &[SlotExpr],
 ) -> Result<(), CompileError>
+    requires room { scope.start + scope.size ≤ scope.memory }
+    requires numbered { scope.memory ≤ MAX_MEMORY }
     ensures code { OnOk result (code.new ≡ exprs_code (units_in library.now scope) (site_of scope)
         (exprs_of (map slot_expr_view expressions.now)) code.old) }
     ensures fits { OnOk result (ExprsFit (FitsIn library.now scope) (site_of scope)
         (exprs_of (map slot_expr_view expressions.now))) }
-    ensures longer { OnOk result (length code.old ≤ length code.new) }
+    ensures long { OnOk result (length code.new
+        ≡ exprs_length (lengths_in library.now scope) (exprs_of (map slot_expr_view expressions.now))
+        + length code.old) }
     ensures wrong { IfErr result (λ e. e ≡ CompileError.NotLinked
         → ¬ (ExprsLinked (LinkedIn library.now scope) (site_of scope)
+        (exprs_of (map slot_expr_view expressions.now)))) }
+    ensures full { IfErr result (λ e. e ≡ CompileError.TooManyInstructions → MAX_INSTRUCTIONS
+        < exprs_length (lengths_in library.now scope) (exprs_of (map slot_expr_view expressions.now))
+        + length code.old) }
+    ensures crowded { IfErr result (λ e. e ≡ CompileError.TooManyPlaces
+        → ¬ (ExprsFit (FitsIn library.now scope) (site_of scope)
         (exprs_of (map slot_expr_view expressions.now)))) }
 {
     let mut left = expressions.len();
@@ -92,12 +111,19 @@ pub fn put_place(
     place: &Place,
     access: Access,
 ) -> Result<(), CompileError>
+    requires room { scope.start + scope.size ≤ scope.memory }
+    requires numbered { scope.memory ≤ MAX_MEMORY }
     ensures code { OnOk result (code.new ≡ place_code (units_in library.now scope) (site_of scope)
         (place_view place.now) (known_instr access) (led_instr access) code.old) }
     ensures fits { OnOk result (PlaceFits (FitsIn library.now scope) (site_of scope) (place_view place.now)) }
-    ensures longer { OnOk result (length code.old ≤ length code.new) }
+    ensures long { OnOk result (length code.new
+        ≡ place_length (lengths_in library.now scope) (place_view place.now) + length code.old) }
     ensures wrong { IfErr result (λ e. e ≡ CompileError.NotLinked
         → ¬ (PlaceLinked (LinkedIn library.now scope) (site_of scope) (place_view place.now))) }
+    ensures full { IfErr result (λ e. e ≡ CompileError.TooManyInstructions → MAX_INSTRUCTIONS
+        < place_length (lengths_in library.now scope) (place_view place.now) + length code.old) }
+    ensures crowded { IfErr result (λ e. e ≡ CompileError.TooManyPlaces
+        → ¬ (PlaceFits (FitsIn library.now scope) (site_of scope) (place_view place.now))) }
 {
     let slot = first_slot(scope, place.anchor, &place.subscripts)?;
     if place.subscripts.is_empty() {
@@ -110,20 +136,30 @@ pub fn put_place(
 
 /// The same of subscripts, which move the slot on the stack on.
 #[cycle(unit)]
-#[tactic(auto, using(code_drafts::proofs::Elements::index_smaller, code_drafts::proofs::Joints::subscripts_drop))]
+#[tactic(auto, using(code_drafts::proofs::Elements::index_smaller, code_drafts::proofs::Joints::subscripts_drop, code_drafts::proofs::Behind::subscripts_behind))]
 fn put_subscripts(
     library: &SlotLibrary,
     scope: Scope,
     code: &mut Draft,
     subscripts: &[Subscript],
 ) -> Result<(), CompileError>
+    requires room { scope.start + scope.size ≤ scope.memory }
+    requires numbered { scope.memory ≤ MAX_MEMORY }
     ensures code { OnOk result (code.new ≡ subscripts_code (units_in library.now scope) (site_of scope)
         (subscripts_of (map subscript_view subscripts.now)) code.old) }
     ensures fits { OnOk result (SubscriptsFit (FitsIn library.now scope) (site_of scope)
         (subscripts_of (map subscript_view subscripts.now))) }
-    ensures longer { OnOk result (length code.old ≤ length code.new) }
+    ensures long { OnOk result (length code.new
+        ≡ subscripts_length (lengths_in library.now scope) (subscripts_of (map subscript_view subscripts.now))
+        + length code.old) }
     ensures wrong { IfErr result (λ e. e ≡ CompileError.NotLinked
         → ¬ (SubscriptsLinked (LinkedIn library.now scope) (site_of scope)
+        (subscripts_of (map subscript_view subscripts.now)))) }
+    ensures full { IfErr result (λ e. e ≡ CompileError.TooManyInstructions → MAX_INSTRUCTIONS
+        < subscripts_length (lengths_in library.now scope) (subscripts_of (map subscript_view subscripts.now))
+        + length code.old) }
+    ensures crowded { IfErr result (λ e. e ≡ CompileError.TooManyPlaces
+        → ¬ (SubscriptsFit (FitsIn library.now scope) (site_of scope)
         (subscripts_of (map subscript_view subscripts.now)))) }
 {
     let mut left = subscripts.len();

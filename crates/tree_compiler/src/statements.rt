@@ -1,14 +1,17 @@
 //! The code of statements.
 
-ghost use Rattle.std.specs.Prelude.{◌≡◌, ◌≤◌, ◌<◌, OnOk, IfErr, length, map, option_map};
+ghost use Rattle.std.specs.Prelude.{◌≡◌, ◌≤◌, ◌<◌, ◌+◌, OnOk, IfErr, length, map, option_map};
 ghost use Rattle.machine_code.specs.declared.instr.Instr.TheVariants as instrs;
+ghost use Rattle.machine_code.specs.declared.limits.TheConstants.{MAX_INSTRUCTIONS, MAX_MEMORY};
 ghost use Rattle.slot_bodies.specs.Chains.{stmts_of, arms_of, case_arms_of};
 ghost use Rattle.slot_bodies.specs.ExpressionViews.{slot_expr_view};
 ghost use Rattle.slot_bodies.specs.StatementViews.{slot_stmt_view, slot_arm_view, slot_case_arm_view};
 ghost use Rattle.slot_trees.specs.SlotTrees as trees;
 ghost use Rattle.tree_code.specs.Codes.{stmt_code, stmts_code, arms_code, case_code, step_code};
 ghost use Rattle.tree_code.specs.Fitting.{StmtFits, StmtsFit, ArmsFit, CaseArmsFit, StepFits};
-ghost use Rattle.code_drafts.specs.Emitting.{site_of, units_in, FitsIn, LinkedIn, turns_code};
+ghost use Rattle.code_drafts.specs.Emitting.{site_of, units_in, lengths_in, FitsIn, LinkedIn, turns_code};
+ghost use Rattle.code_drafts.specs.Lengths.{stmt_length, stmts_length, turns_length, arms_length, case_length};
+ghost use Rattle.code_drafts.specs.Lengths.{step_length};
 ghost use Rattle.code_drafts.specs.Linked.{StmtLinked, StmtsLinked, ArmsLinked, CaseArmsLinked, StepLinked};
 
 use crate::calls::put_invocation;
@@ -28,12 +31,20 @@ fn put_statement(
     statement: &SlotStmt,
     ways: Ways,
 ) -> Result<(), CompileError>
+    requires room { scope.start + scope.size ≤ scope.memory }
+    requires numbered { scope.memory ≤ MAX_MEMORY }
+    requires held { ways.held ≤ length code.old }
     ensures code { OnOk result (code.new ≡ stmt_code (units_in library.now scope) (site_of scope)
         (slot_stmt_view statement.now) ways code.old) }
     ensures fits { OnOk result (StmtFits (FitsIn library.now scope) (site_of scope) (slot_stmt_view statement.now)) }
-    ensures longer { OnOk result (length code.old ≤ length code.new) }
+    ensures long { OnOk result (length code.new
+        ≡ stmt_length (lengths_in library.now scope) (slot_stmt_view statement.now) + length code.old) }
     ensures wrong { IfErr result (λ e. e ≡ CompileError.NotLinked
         → ¬ (StmtLinked (LinkedIn library.now scope) (site_of scope) (slot_stmt_view statement.now))) }
+    ensures full { IfErr result (λ e. e ≡ CompileError.TooManyInstructions → MAX_INSTRUCTIONS
+        < stmt_length (lengths_in library.now scope) (slot_stmt_view statement.now) + length code.old) }
+    ensures crowded { IfErr result (λ e. e ≡ CompileError.TooManyPlaces
+        → ¬ (StmtFits (FitsIn library.now scope) (site_of scope) (slot_stmt_view statement.now))) }
 {
     match statement {
         SlotStmt::Empty => code.put(Instr::Tick),
@@ -91,16 +102,27 @@ fn put_if(
     otherwise: &[SlotStmt],
     ways: Ways,
 ) -> Result<(), CompileError>
+    requires room { scope.start + scope.size ≤ scope.memory }
+    requires numbered { scope.memory ≤ MAX_MEMORY }
+    requires held { ways.held ≤ length code.old }
     ensures code { OnOk result (code.new ≡ stmt_code (units_in library.now scope) (site_of scope)
         (trees.IF (arms_of (map slot_arm_view arms.now))
         (stmts_of (map slot_stmt_view otherwise.now))) ways code.old) }
     ensures fits { OnOk result (StmtFits (FitsIn library.now scope) (site_of scope)
         (trees.IF (arms_of (map slot_arm_view arms.now))
         (stmts_of (map slot_stmt_view otherwise.now)))) }
-    ensures longer { OnOk result (length code.old ≤ length code.new) }
+    ensures long { OnOk result (length code.new
+        ≡ stmt_length (lengths_in library.now scope) (trees.IF (arms_of (map slot_arm_view arms.now))
+        (stmts_of (map slot_stmt_view otherwise.now))) + length code.old) }
     ensures wrong { IfErr result (λ e. e ≡ CompileError.NotLinked
         → ¬ (StmtLinked (LinkedIn library.now scope) (site_of scope)
         (trees.IF (arms_of (map slot_arm_view arms.now))
+        (stmts_of (map slot_stmt_view otherwise.now))))) }
+    ensures full { IfErr result (λ e. e ≡ CompileError.TooManyInstructions → MAX_INSTRUCTIONS
+        < stmt_length (lengths_in library.now scope) (trees.IF (arms_of (map slot_arm_view arms.now))
+        (stmts_of (map slot_stmt_view otherwise.now))) + length code.old) }
+    ensures crowded { IfErr result (λ e. e ≡ CompileError.TooManyPlaces
+        → ¬ (StmtFits (FitsIn library.now scope) (site_of scope) (trees.IF (arms_of (map slot_arm_view arms.now))
         (stmts_of (map slot_stmt_view otherwise.now))))) }
 {
     let end = code.len();
@@ -120,16 +142,30 @@ fn put_case(
     otherwise: &[SlotStmt],
     ways: Ways,
 ) -> Result<(), CompileError>
+    requires room { scope.start + scope.size ≤ scope.memory }
+    requires numbered { scope.memory ≤ MAX_MEMORY }
+    requires held { ways.held ≤ length code.old }
     ensures code { OnOk result (code.new ≡ stmt_code (units_in library.now scope) (site_of scope)
         (trees.CASE (slot_expr_view selector.now) (case_arms_of (map slot_case_arm_view arms.now))
         (stmts_of (map slot_stmt_view otherwise.now))) ways code.old) }
     ensures fits { OnOk result (StmtFits (FitsIn library.now scope) (site_of scope)
         (trees.CASE (slot_expr_view selector.now) (case_arms_of (map slot_case_arm_view arms.now))
         (stmts_of (map slot_stmt_view otherwise.now)))) }
-    ensures longer { OnOk result (length code.old ≤ length code.new) }
+    ensures long { OnOk result (length code.new
+        ≡ stmt_length (lengths_in library.now scope) (trees.CASE (slot_expr_view selector.now)
+        (case_arms_of (map slot_case_arm_view arms.now))
+        (stmts_of (map slot_stmt_view otherwise.now))) + length code.old) }
     ensures wrong { IfErr result (λ e. e ≡ CompileError.NotLinked
         → ¬ (StmtLinked (LinkedIn library.now scope) (site_of scope)
         (trees.CASE (slot_expr_view selector.now) (case_arms_of (map slot_case_arm_view arms.now))
+        (stmts_of (map slot_stmt_view otherwise.now))))) }
+    ensures full { IfErr result (λ e. e ≡ CompileError.TooManyInstructions → MAX_INSTRUCTIONS
+        < stmt_length (lengths_in library.now scope) (trees.CASE (slot_expr_view selector.now)
+        (case_arms_of (map slot_case_arm_view arms.now))
+        (stmts_of (map slot_stmt_view otherwise.now))) + length code.old) }
+    ensures crowded { IfErr result (λ e. e ≡ CompileError.TooManyPlaces
+        → ¬ (StmtFits (FitsIn library.now scope) (site_of scope) (trees.CASE (slot_expr_view selector.now)
+        (case_arms_of (map slot_case_arm_view arms.now))
         (stmts_of (map slot_stmt_view otherwise.now))))) }
 {
     let end = code.len();
@@ -150,17 +186,28 @@ fn put_while(
     body: &[SlotStmt],
     ways: Ways,
 ) -> Result<(), CompileError>
+    requires room { scope.start + scope.size ≤ scope.memory }
+    requires numbered { scope.memory ≤ MAX_MEMORY }
+    requires held { ways.held ≤ length code.old }
     ensures code { OnOk result (code.new ≡ stmt_code (units_in library.now scope) (site_of scope)
         (trees.WHILE (slot_expr_view condition.now)
         (stmts_of (map slot_stmt_view body.now))) ways code.old) }
     ensures fits { OnOk result (StmtFits (FitsIn library.now scope) (site_of scope)
         (trees.WHILE (slot_expr_view condition.now)
         (stmts_of (map slot_stmt_view body.now)))) }
-    ensures longer { OnOk result (length code.old ≤ length code.new) }
+    ensures long { OnOk result (length code.new
+        ≡ stmt_length (lengths_in library.now scope) (trees.WHILE (slot_expr_view condition.now) (stmts_of (map slot_stmt_view body.now)))
+        + length code.old) }
     ensures wrong { IfErr result (λ e. e ≡ CompileError.NotLinked
         → ¬ (StmtLinked (LinkedIn library.now scope) (site_of scope)
         (trees.WHILE (slot_expr_view condition.now)
         (stmts_of (map slot_stmt_view body.now))))) }
+    ensures full { IfErr result (λ e. e ≡ CompileError.TooManyInstructions → MAX_INSTRUCTIONS
+        < stmt_length (lengths_in library.now scope) (trees.WHILE (slot_expr_view condition.now) (stmts_of (map slot_stmt_view body.now)))
+        + length code.old) }
+    ensures crowded { IfErr result (λ e. e ≡ CompileError.TooManyPlaces
+        → ¬ (StmtFits (FitsIn library.now scope) (site_of scope)
+        (trees.WHILE (slot_expr_view condition.now) (stmts_of (map slot_stmt_view body.now))))) }
 {
     let end = code.len();
     code.put(Instr::Back(0))?;
@@ -181,17 +228,28 @@ fn put_repeat(
     condition: &SlotExpr,
     ways: Ways,
 ) -> Result<(), CompileError>
+    requires room { scope.start + scope.size ≤ scope.memory }
+    requires numbered { scope.memory ≤ MAX_MEMORY }
+    requires held { ways.held ≤ length code.old }
     ensures code { OnOk result (code.new ≡ stmt_code (units_in library.now scope) (site_of scope)
         (trees.REPEAT (stmts_of (map slot_stmt_view body.now))
         (slot_expr_view condition.now)) ways code.old) }
     ensures fits { OnOk result (StmtFits (FitsIn library.now scope) (site_of scope)
         (trees.REPEAT (stmts_of (map slot_stmt_view body.now))
         (slot_expr_view condition.now))) }
-    ensures longer { OnOk result (length code.old ≤ length code.new) }
+    ensures long { OnOk result (length code.new
+        ≡ stmt_length (lengths_in library.now scope) (trees.REPEAT (stmts_of (map slot_stmt_view body.now)) (slot_expr_view condition.now))
+        + length code.old) }
     ensures wrong { IfErr result (λ e. e ≡ CompileError.NotLinked
         → ¬ (StmtLinked (LinkedIn library.now scope) (site_of scope)
         (trees.REPEAT (stmts_of (map slot_stmt_view body.now))
         (slot_expr_view condition.now)))) }
+    ensures full { IfErr result (λ e. e ≡ CompileError.TooManyInstructions → MAX_INSTRUCTIONS
+        < stmt_length (lengths_in library.now scope) (trees.REPEAT (stmts_of (map slot_stmt_view body.now)) (slot_expr_view condition.now))
+        + length code.old) }
+    ensures crowded { IfErr result (λ e. e ≡ CompileError.TooManyPlaces
+        → ¬ (StmtFits (FitsIn library.now scope) (site_of scope)
+        (trees.REPEAT (stmts_of (map slot_stmt_view body.now)) (slot_expr_view condition.now)))) }
 {
     let end = code.len();
     code.put(Instr::Back(0))?;
@@ -204,7 +262,7 @@ fn put_repeat(
 
 /// The same of statements one after another.
 #[cycle(unit)]
-#[tactic(auto, using(code_drafts::proofs::Elements::stmt_smaller))]
+#[tactic(auto, using(code_drafts::proofs::Elements::stmt_smaller, code_drafts::proofs::Behind::stmts_behind))]
 pub fn put_statements(
     library: &SlotLibrary,
     scope: Scope,
@@ -212,14 +270,24 @@ pub fn put_statements(
     statements: &[SlotStmt],
     ways: Ways,
 ) -> Result<(), CompileError>
+    requires room { scope.start + scope.size ≤ scope.memory }
+    requires numbered { scope.memory ≤ MAX_MEMORY }
+    requires held { ways.held ≤ length code.old }
     ensures code { OnOk result (code.new ≡ stmts_code (units_in library.now scope) (site_of scope)
         (stmts_of (map slot_stmt_view statements.now)) ways code.old) }
     ensures fits { OnOk result (StmtsFit (FitsIn library.now scope) (site_of scope)
         (stmts_of (map slot_stmt_view statements.now))) }
-    ensures longer { OnOk result (length code.old ≤ length code.new) }
+    ensures long { OnOk result (length code.new
+        ≡ stmts_length (lengths_in library.now scope) (stmts_of (map slot_stmt_view statements.now))
+        + length code.old) }
     ensures wrong { IfErr result (λ e. e ≡ CompileError.NotLinked
         → ¬ (StmtsLinked (LinkedIn library.now scope) (site_of scope)
         (stmts_of (map slot_stmt_view statements.now)))) }
+    ensures full { IfErr result (λ e. e ≡ CompileError.TooManyInstructions → MAX_INSTRUCTIONS
+        < stmts_length (lengths_in library.now scope) (stmts_of (map slot_stmt_view statements.now))
+        + length code.old) }
+    ensures crowded { IfErr result (λ e. e ≡ CompileError.TooManyPlaces
+        → ¬ (StmtsFit (FitsIn library.now scope) (site_of scope) (stmts_of (map slot_stmt_view statements.now)))) }
 {
     let mut left = statements.len();
     while left > 0 {
@@ -231,7 +299,7 @@ pub fn put_statements(
 
 /// The same of the arms of an IF that ends at a place, before the statements that run where no condition holds.
 #[cycle(unit)]
-#[tactic(auto, using(code_drafts::proofs::Elements::condition_smaller, code_drafts::proofs::Elements::body_smaller))]
+#[tactic(auto, using(code_drafts::proofs::Elements::condition_smaller, code_drafts::proofs::Elements::body_smaller, code_drafts::proofs::Behind::arms_behind))]
 fn put_arms(
     library: &SlotLibrary,
     scope: Scope,
@@ -240,13 +308,21 @@ fn put_arms(
     ways: Ways,
     end: u16,
 ) -> Result<(), CompileError>
+    requires room { scope.start + scope.size ≤ scope.memory }
+    requires numbered { scope.memory ≤ MAX_MEMORY }
+    requires held { ways.held ≤ length code.old }
     ensures code { OnOk result (code.new ≡ arms_code (units_in library.now scope) (site_of scope)
         (arms_of (map slot_arm_view arms.now)) ways end code.old) }
     ensures fits { OnOk result (ArmsFit (FitsIn library.now scope) (site_of scope)
         (arms_of (map slot_arm_view arms.now))) }
-    ensures longer { OnOk result (length code.old ≤ length code.new) }
+    ensures long { OnOk result (length code.new
+        ≡ arms_length (lengths_in library.now scope) (arms_of (map slot_arm_view arms.now)) + length code.old) }
     ensures wrong { IfErr result (λ e. e ≡ CompileError.NotLinked
         → ¬ (ArmsLinked (LinkedIn library.now scope) (site_of scope) (arms_of (map slot_arm_view arms.now)))) }
+    ensures full { IfErr result (λ e. e ≡ CompileError.TooManyInstructions → MAX_INSTRUCTIONS
+        < arms_length (lengths_in library.now scope) (arms_of (map slot_arm_view arms.now)) + length code.old) }
+    ensures crowded { IfErr result (λ e. e ≡ CompileError.TooManyPlaces
+        → ¬ (ArmsFit (FitsIn library.now scope) (site_of scope) (arms_of (map slot_arm_view arms.now)))) }
 {
     let mut left = arms.len();
     while left > 0 {
@@ -262,7 +338,7 @@ fn put_arms(
 
 /// The same of those of a CASE, whose selector is on the stack until statements are chosen.
 #[cycle(unit)]
-#[tactic(auto, using(code_drafts::proofs::Elements::case_smaller))]
+#[tactic(auto, using(code_drafts::proofs::Elements::case_smaller, code_drafts::proofs::Behind::case_behind))]
 fn put_case_arms(
     library: &SlotLibrary,
     scope: Scope,
@@ -271,13 +347,24 @@ fn put_case_arms(
     ways: Ways,
     end: u16,
 ) -> Result<(), CompileError>
+    requires room { scope.start + scope.size ≤ scope.memory }
+    requires numbered { scope.memory ≤ MAX_MEMORY }
+    requires held { ways.held ≤ length code.old }
     ensures code { OnOk result (code.new ≡ case_code (units_in library.now scope) (site_of scope)
         (case_arms_of (map slot_case_arm_view arms.now)) ways end code.old) }
     ensures fits { OnOk result (CaseArmsFit (FitsIn library.now scope) (site_of scope)
         (case_arms_of (map slot_case_arm_view arms.now))) }
-    ensures longer { OnOk result (length code.old ≤ length code.new) }
+    ensures long { OnOk result (length code.new
+        ≡ case_length (lengths_in library.now scope) (case_arms_of (map slot_case_arm_view arms.now))
+        + length code.old) }
     ensures wrong { IfErr result (λ e. e ≡ CompileError.NotLinked
         → ¬ (CaseArmsLinked (LinkedIn library.now scope) (site_of scope)
+        (case_arms_of (map slot_case_arm_view arms.now)))) }
+    ensures full { IfErr result (λ e. e ≡ CompileError.TooManyInstructions → MAX_INSTRUCTIONS
+        < case_length (lengths_in library.now scope) (case_arms_of (map slot_case_arm_view arms.now))
+        + length code.old) }
+    ensures crowded { IfErr result (λ e. e ≡ CompileError.TooManyPlaces
+        → ¬ (CaseArmsFit (FitsIn library.now scope) (site_of scope)
         (case_arms_of (map slot_case_arm_view arms.now)))) }
 {
     let mut left = arms.len();
@@ -304,24 +391,29 @@ fn put_turns(
     body: &[SlotStmt],
     ways: Ways,
 ) -> Result<(), CompileError>
+    requires room { scope.start + scope.size ≤ scope.memory }
+    requires numbered { scope.memory ≤ MAX_MEMORY }
+    requires held { ways.held ≤ length code.old }
     ensures code { OnOk result (code.new ≡ turns_code (units_in library.now scope) (site_of scope) control
         (stmts_of (map slot_stmt_view body.now)) ways code.old) }
     ensures fits { OnOk result (StmtsFit (FitsIn library.now scope) (site_of scope)
         (stmts_of (map slot_stmt_view body.now))) }
-    ensures longer { OnOk result (length code.old ≤ length code.new) }
+    ensures long { OnOk result (length code.new
+        ≡ turns_length (lengths_in library.now scope) (stmts_of (map slot_stmt_view body.now)) + length code.old) }
     ensures wrong { IfErr result (λ e. e ≡ CompileError.NotLinked
         → ¬ (StmtsLinked (LinkedIn library.now scope) (site_of scope) (stmts_of (map slot_stmt_view body.now)))) }
+    ensures full { IfErr result (λ e. e ≡ CompileError.TooManyInstructions → MAX_INSTRUCTIONS
+        < turns_length (lengths_in library.now scope) (stmts_of (map slot_stmt_view body.now)) + length code.old) }
+    ensures crowded { IfErr result (λ e. e ≡ CompileError.TooManyPlaces
+        → ¬ (StmtsFit (FitsIn library.now scope) (site_of scope) (stmts_of (map slot_stmt_view body.now)))) }
 {
-    let Some(held) = ways.held.checked_add(2) else {
-        return Err(CompileError::TooManyInstructions);
-    };
     code.put(Instr::Leave(2))?;
     let end = code.len();
     code.put(Instr::Back(0))?;
     let inner = Ways {
         exit: end,
         back: ways.back,
-        held,
+        held: ways.held + 2,
     };
     put_statements(library, scope, code, body, inner)?;
     code.put(Instr::ForTest { control, end })?;
@@ -339,13 +431,20 @@ fn put_step(
     code: &mut Draft,
     step: &Option<SlotExpr>,
 ) -> Result<(), CompileError>
+    requires room { scope.start + scope.size ≤ scope.memory }
+    requires numbered { scope.memory ≤ MAX_MEMORY }
     ensures code { OnOk result (code.new ≡ step_code (units_in library.now scope) (site_of scope)
         (option_map slot_expr_view step.now) code.old) }
     ensures fits { OnOk result (StepFits (FitsIn library.now scope) (site_of scope)
         (option_map slot_expr_view step.now)) }
-    ensures longer { OnOk result (length code.old ≤ length code.new) }
+    ensures long { OnOk result (length code.new
+        ≡ step_length (lengths_in library.now scope) (option_map slot_expr_view step.now) + length code.old) }
     ensures wrong { IfErr result (λ e. e ≡ CompileError.NotLinked
         → ¬ (StepLinked (LinkedIn library.now scope) (site_of scope) (option_map slot_expr_view step.now))) }
+    ensures full { IfErr result (λ e. e ≡ CompileError.TooManyInstructions → MAX_INSTRUCTIONS
+        < step_length (lengths_in library.now scope) (option_map slot_expr_view step.now) + length code.old) }
+    ensures crowded { IfErr result (λ e. e ≡ CompileError.TooManyPlaces
+        → ¬ (StepFits (FitsIn library.now scope) (site_of scope) (option_map slot_expr_view step.now))) }
 {
     match step {
         Some(step) => put_expr(library, scope, code, step),

@@ -7,7 +7,9 @@ use Rattle.slot_bodies.specs.StatementViews.{slot_argument_view, slot_stmt_view,
 use Rattle.tree_code.specs.Codes.{exprs_code, subscripts_code, inputs_code, outputs_code, stmts_code, arms_code}
 use Rattle.tree_code.specs.Codes.{case_code}
 use Rattle.tree_code.specs.Fitting.{ExprsFit, SubscriptsFit, StmtsFit, ArmsFit, CaseArmsFit}
-use Rattle.code_drafts.specs.Emitting.{filled, site_of, units_in, FitsIn, InputsFit, OutputsFit}
+use Rattle.code_drafts.specs.Emitting.{filled, site_of, units_in, lengths_in, FitsIn, InputsFit, OutputsFit}
+use Rattle.code_drafts.specs.Lengths.{exprs_length, subscripts_length, inputs_length, outputs_length, stmts_length}
+use Rattle.code_drafts.specs.Lengths.{arms_length, case_length}
 use Rattle.code_drafts.proofs.Sizes.{weight, expr_size, exprs_size, place_size, subscripts_size, step_size}
 use Rattle.code_drafts.proofs.Sizes.{arguments_size, stmt_size, stmts_size, arms_size, case_size}
 use Rattle.tree_compiler.proofs.+unit.Given as goal
@@ -106,7 +108,8 @@ decreases-statements::put_turns l =
 abbrev pub invariant-calls::put_inputs-loop-left : goal.invariant-calls::put_inputs-loop-left
 invariant-calls::put_inputs-loop-left l = record {
   within : l.left ≤ length l.arguments;
-  longer : length l.fn.code ≤ length l.code;
+  long : length l.code ≡ inputs_length (lengths_in l.library l.scope) (map slot_argument_view (drop l.left l.arguments))
+      + length l.fn.code;
   code : l.code ≡ inputs_code (units_in l.library l.scope) (site_of l.scope) (map slot_argument_view (drop l.left
       l.arguments)) l.fn.code;
   fits : InputsFit (FitsIn l.library l.scope) (site_of l.scope) l.first (map slot_argument_view (drop l.left
@@ -119,7 +122,8 @@ decreases-calls::put_inputs-loop-left l = l.left
 abbrev pub invariant-calls::put_outputs-loop-left : goal.invariant-calls::put_outputs-loop-left
 invariant-calls::put_outputs-loop-left l = record {
   within : l.left ≤ length l.arguments;
-  longer : length l.fn.code ≤ length l.code;
+  long : length l.code ≡ outputs_length (lengths_in l.library l.scope) (map slot_argument_view (drop l.left l.arguments))
+      + length l.fn.code;
   code : l.code ≡ outputs_code (units_in l.library l.scope) (site_of l.scope) l.first (map slot_argument_view (drop
       l.left l.arguments)) l.fn.code;
   fits : OutputsFit (FitsIn l.library l.scope) (site_of l.scope) l.first (map slot_argument_view (drop l.left
@@ -132,7 +136,8 @@ decreases-calls::put_outputs-loop-left l = l.left
 abbrev pub invariant-expressions::put_exprs-loop-left : goal.invariant-expressions::put_exprs-loop-left
 invariant-expressions::put_exprs-loop-left l = record {
   within : l.left ≤ length l.expressions;
-  longer : length l.fn.code ≤ length l.code;
+  long : length l.code ≡ exprs_length (lengths_in l.library l.scope) (exprs_of (map slot_expr_view (drop l.left l.expressions)))
+      + length l.fn.code;
   code : l.code ≡ exprs_code (units_in l.library l.scope) (site_of l.scope) (exprs_of (map slot_expr_view (drop
       l.left l.expressions))) l.fn.code;
   fits : ExprsFit (FitsIn l.library l.scope) (site_of l.scope) (exprs_of (map slot_expr_view (drop l.left
@@ -145,7 +150,8 @@ decreases-expressions::put_exprs-loop-left l = l.left
 abbrev pub invariant-expressions::put_subscripts-loop-left : goal.invariant-expressions::put_subscripts-loop-left
 invariant-expressions::put_subscripts-loop-left l = record {
   within : l.left ≤ length l.subscripts;
-  longer : length l.fn.code ≤ length l.code;
+  long : length l.code ≡ subscripts_length (lengths_in l.library l.scope) (subscripts_of (map subscript_view (drop l.left l.subscripts)))
+      + length l.fn.code;
   code : l.code ≡ subscripts_code (units_in l.library l.scope) (site_of l.scope) (subscripts_of (map subscript_view
       (drop l.left l.subscripts))) l.fn.code;
   fits : SubscriptsFit (FitsIn l.library l.scope) (site_of l.scope) (subscripts_of (map subscript_view (drop l.left
@@ -158,7 +164,8 @@ decreases-expressions::put_subscripts-loop-left l = l.left
 abbrev pub invariant-statements::put_arms-loop-left : goal.invariant-statements::put_arms-loop-left
 invariant-statements::put_arms-loop-left l = record {
   within : l.left ≤ length l.arms;
-  longer : length l.fn.code ≤ length l.code;
+  long : length l.code ≡ arms_length (lengths_in l.library l.scope) (arms_of (map slot_arm_view (drop l.left l.arms)))
+      + length l.fn.code;
   code : l.code ≡ arms_code (units_in l.library l.scope) (site_of l.scope) (arms_of (map slot_arm_view (drop l.left
       l.arms))) l.ways l.end l.fn.code;
   fits : ArmsFit (FitsIn l.library l.scope) (site_of l.scope) (arms_of (map slot_arm_view (drop l.left l.arms)));
@@ -170,7 +177,8 @@ decreases-statements::put_arms-loop-left l = l.left
 abbrev pub invariant-statements::put_case_arms-loop-left : goal.invariant-statements::put_case_arms-loop-left
 invariant-statements::put_case_arms-loop-left l = record {
   within : l.left ≤ length l.arms;
-  longer : length l.fn.code ≤ length l.code;
+  long : length l.code ≡ case_length (lengths_in l.library l.scope) (case_arms_of (map slot_case_arm_view (drop l.left l.arms)))
+      + length l.fn.code;
   code : l.code ≡ case_code (units_in l.library l.scope) (site_of l.scope) (case_arms_of (map slot_case_arm_view
       (drop l.left l.arms))) l.ways l.end l.fn.code;
   fits : CaseArmsFit (FitsIn l.library l.scope) (site_of l.scope) (case_arms_of (map slot_case_arm_view (drop l.left
@@ -183,7 +191,8 @@ decreases-statements::put_case_arms-loop-left l = l.left
 abbrev pub invariant-statements::put_statements-loop-left : goal.invariant-statements::put_statements-loop-left
 invariant-statements::put_statements-loop-left l = record {
   within : l.left ≤ length l.statements;
-  longer : length l.fn.code ≤ length l.code;
+  long : length l.code ≡ stmts_length (lengths_in l.library l.scope) (stmts_of (map slot_stmt_view (drop l.left l.statements)))
+      + length l.fn.code;
   code : l.code ≡ stmts_code (units_in l.library l.scope) (site_of l.scope) (stmts_of (map slot_stmt_view (drop
       l.left l.statements))) l.ways l.fn.code;
   fits : StmtsFit (FitsIn l.library l.scope) (site_of l.scope) (stmts_of (map slot_stmt_view (drop l.left

@@ -1,12 +1,13 @@
-use Rattle.std.proofs.Common.{◌≡◌, ◌≤◌, drop, length}
+use Rattle.std.proofs.Common.{◌≡◌, ◌≤◌, ◌+◌, drop, length}
 use Rattle.tree_code.specs.Codes.{labels_code}
+use Rattle.code_drafts.specs.Lengths.{labels_length}
 use Rattle.code_drafts.proofs.labels.put_labels.Given as goal
 
 -- the code is that of the labels from here on
 abbrev pub invariant-loop-left : goal.invariant-loop-left
 invariant-loop-left l = record {
   within : l.left ≤ length l.labels;
-  longer : length l.fn.code ≤ length l.code;
+  long : length l.code ≡ labels_length (drop l.left l.labels) + length l.fn.code;
   code : l.code ≡ labels_code (drop l.left l.labels) l.to l.fn.code;
 }
 

@@ -1,4 +1,4 @@
-use Rattle.std.proofs.Common.{◌≡◌, ◌≤◌, drop, length, map}
+use Rattle.std.proofs.Common.{drop, length, map, ◌+◌, ◌≡◌, ◌≤◌}
 use Rattle.slot_bodies.specs.StatementViews.{slot_argument_view}
 use Rattle.tree_code.specs.Codes.{stores_code, given_members}
 use Rattle.code_drafts.proofs.units.put_members.Given as goal
@@ -7,7 +7,7 @@ use Rattle.code_drafts.proofs.units.put_members.Given as goal
 abbrev pub invariant-loop-left : goal.invariant-loop-left
 invariant-loop-left l = record {
   within : l.left ≤ length l.arguments;
-  longer : length l.fn.code ≤ length l.code;
+  long : length l.code ≡ length (given_members (map slot_argument_view (drop l.left l.arguments))) + length l.fn.code;
   code : l.code ≡ stores_code l.first (given_members (map slot_argument_view (drop l.left l.arguments))) l.fn.code;
 }
 

@@ -1,4 +1,4 @@
-use Rattle.std.proofs.Common.{◌≡◌, ◌≤◌, ◌+◌, drop, length}
+use Rattle.std.proofs.Common.{drop, length, ◌*◌, ◌+◌, ◌≡◌, ◌≤◌}
 use Rattle.tree_code.specs.Calls.{resets_code}
 use Rattle.code_drafts.proofs.units.put_resets.Given as goal
 
@@ -6,7 +6,7 @@ use Rattle.code_drafts.proofs.units.put_resets.Given as goal
 abbrev pub invariant-loop-left : goal.invariant-loop-left
 invariant-loop-left l = record {
   within : l.left ≤ length l.fresh;
-  longer : length l.fn.code ≤ length l.code;
+  long : length l.code ≡ 2 * length (drop l.left l.fresh) + length l.fn.code;
   code : l.code ≡ resets_code (l.first + l.left) (drop l.left l.fresh) l.fn.code;
 }
 

@@ -1,4 +1,4 @@
-use Rattle.std.proofs.Common.{◌≡◌, ◌≤◌, drop, length}
+use Rattle.std.proofs.Common.{drop, length, ◌+◌, ◌≡◌, ◌≤◌}
 use Rattle.tree_code.specs.Codes.{stores_code}
 use Rattle.code_drafts.proofs.units.put_stores.Given as goal
 
@@ -6,7 +6,7 @@ use Rattle.code_drafts.proofs.units.put_stores.Given as goal
 abbrev pub invariant-loop-left : goal.invariant-loop-left
 invariant-loop-left l = record {
   within : l.left ≤ length l.inputs;
-  longer : length l.fn.code ≤ length l.code;
+  long : length l.code ≡ length (drop l.left l.inputs) + length l.fn.code;
   code : l.code ≡ stores_code l.first (drop l.left l.inputs) l.fn.code;
 }
 
