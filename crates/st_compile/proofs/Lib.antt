@@ -1,3 +1,5 @@
 pub mod MoreFits
 pub mod SameCode
 pub mod Kept
+pub mod Lengths
+pub mod Resets

@@ -1,13 +1,15 @@
 //! The code of a program.
 
-ghost use Rattle.std.specs.Prelude.{◌≡◌, ◌≤◌, ◌+◌, ◌*◌, IfOk, IfErr, length, map};
+ghost use Rattle.std.specs.Prelude.{◌≡◌, ◌≤◌, ◌<◌, ◌+◌, ℕ, IfOk, IfErr, length, max};
 ghost use Rattle.machine_code.specs.declared.limits.TheConstants.{MAX_INSTRUCTIONS, MAX_MEMORY};
 ghost use Rattle.slot_trees.specs.SlotTrees as tree;
 ghost use Rattle.st_compile.specs.declared.compiler.TheConstants.{FUNCTION_PLACES};
 ghost use Rattle.slot_bodies.specs.LibraryViews.{IsKeptOf, slot_library_view};
 ghost use Rattle.slot_bodies.specs.StatementViews.{slot_stmts_view};
 ghost use Rattle.tree_code.specs.Programs.{program_code, ProgramFits};
+ghost use Rattle.code_drafts.specs.Emitting.{filled};
 ghost use Rattle.code_drafts.specs.Linked.{ProgramLinked};
+ghost use Rattle.st_compile.specs.Resets.{slot_behind_resets};
 
 use code_drafts::{CompileError, Draft, Scope};
 use machine_code::{Instr, MAX_MEMORY};
@@ -50,6 +52,12 @@ fn compile_within(
     ensures memory { IfOk result (λ x. x.memory ≡ memory) }
     ensures wrong { IfErr result (λ e. e ≡ CompileError.NotLinked
         → ¬ (ProgramLinked (slot_library_view library.now) base size (slot_stmts_view body.now) 64)) }
+    ensures long { IfErr result (λ e. e ≡ CompileError.TooManyInstructions
+        → (whole : tree.SlotLibrary) → IsKeptOf (slot_library_view library.now) whole
+        → MAX_INSTRUCTIONS < length (program_code whole base size (slot_stmts_view body.now) 64)) }
+    ensures crowded { IfErr result (λ e. e ≡ CompileError.TooManyPlaces
+        → ¬ (ProgramFits memory (filled (slot_library_view library.now)) base size (slot_stmts_view body.now)
+        64)) }
 {
     let scope = Scope {
         depth: CALL_DEPTH,
@@ -74,13 +82,15 @@ fn compile_within(
 /// How many slots code needs. A call resets all values of its function, so the greatest slot that is reset tells.
 fn needed(size: usize, code: &[Instr]) -> usize
     requires { size ≤ MAX_MEMORY }
-    ensures room { size ≤ result }
+    ensures memory { result ≡ max size (slot_behind_resets code.now) }
     ensures numbered { result ≤ MAX_MEMORY }
 {
     let mut memory = size;
-    for instr in code {
-        if let Instr::Reset(slot) = instr {
-            memory = memory.max(usize::from(*slot) + 1);
+    let mut left = code.len();
+    while left > 0 {
+        left -= 1;
+        if let Instr::Reset(slot) = code[left] {
+            memory = memory.max(usize::from(slot) + 1);
         }
     }
     memory
@@ -88,8 +98,8 @@ fn needed(size: usize, code: &[Instr]) -> usize
 
 /// The code of a program with its own variables from a slot on, over so many slots.
 ///
-/// It has at most 16,384 instructions, and at most 4,096 places for values of functions. The memory is told as small as
-/// the program's calls allow: the code is made again for it.
+/// It has at most 16,384 instructions, and at most 4,096 places for values of functions. The memory is the least that the
+/// program fits, for which the code is made again.
 pub fn compile(
     alloc: Global,
     library: &SlotLibrary,
@@ -102,21 +112,32 @@ pub fn compile(
     ensures fits { IfOk result (λ x. (whole : tree.SlotLibrary) → IsKeptOf (slot_library_view library.now) whole
         → ProgramFits x.memory whole base size (slot_stmts_view body.now) 64) }
     ensures few { IfOk result (λ x. length x.code.items ≤ MAX_INSTRUCTIONS) }
+    ensures least { IfOk result (λ x. (whole : tree.SlotLibrary) (memory : ℕ)
+        → IsKeptOf (slot_library_view library.now) whole
+        → ProgramFits memory whole base size (slot_stmts_view body.now) 64 → x.memory ≤ memory) }
     ensures near { IfOk result (λ x. x.memory ≤ size + FUNCTION_PLACES) }
     ensures room { IfOk result (λ x. size ≤ x.memory) }
     ensures numbered { IfOk result (λ x. x.memory ≤ MAX_MEMORY) }
     ensures wrong { IfErr result (λ e. e ≡ CompileError.NotLinked
         → ¬ (ProgramLinked (slot_library_view library.now) base size (slot_stmts_view body.now) 64)) }
+    ensures long { IfErr result (λ e. e ≡ CompileError.TooManyInstructions
+        → (whole : tree.SlotLibrary) → IsKeptOf (slot_library_view library.now) whole
+        → MAX_INSTRUCTIONS < length (program_code whole base size (slot_stmts_view body.now) 64)) }
+    ensures crowded { IfErr result (λ e. e ≡ CompileError.TooManyPlaces
+        → ¬ (ProgramFits (size + FUNCTION_PLACES) (filled (slot_library_view library.now)) base size (slot_stmts_view body.now)
+        64)) }
 {
     if size > MAX_MEMORY - FUNCTION_PLACES {
         return Err(CompileError::TooManyPlaces);
     }
     let roomy = compile_within(alloc, library, base, size, size + FUNCTION_PLACES, body)?;
     let memory = needed(size, &roomy.code);
-    if memory < roomy.memory {
-        if let Ok(tight) = compile_within(alloc, library, base, size, memory, body) {
-            return Ok(tight);
-        }
+    if memory >= roomy.memory {
+        return Ok(roomy);
     }
-    Ok(roomy)
+    // There is such code: only memory can be wanting.
+    match compile_within(alloc, library, base, size, memory, body) {
+        Ok(tight) => Ok(tight),
+        Err(_) => Err(CompileError::OutOfMemory),
+    }
 }

@@ -539,8 +539,14 @@ calls::put_function-returns-in_err-put_stores-clause-full t c =
     ∙ ap (λ (ys : List code_stmt.SlotStmt). stmts_length (units_length (slot_library_view c.args.library.now) c.in-Some.depth) (slot_stmts_view ys))
     c.deref.ensures.value in
     too_long _ c.in_err-put_stores.field-0.0 _ _ c.in_err-put_stores.ensures.full
-    (omega (arith, own, body, c.in_ok-put.ensures.long, c.in_ok-put_statements.ensures.long,
-    ap length c.deref-2.ensures.value)) (search rules)
+    (omega (
+      arith,
+      own,
+      body,
+      c.in_ok-put.ensures.long,
+      c.in_ok-put_statements.ensures.long,
+      ap length c.deref-2.ensures.value,
+    )) (search rules)
 
 pub calls::put_function-returns-in_err-put_resets-clause-full : goal.calls::put_function-returns-in_err-put_resets-clause-full
 calls::put_function-returns-in_err-put_resets-clause-full t c =
@@ -556,8 +562,16 @@ calls::put_function-returns-in_err-put_resets-clause-full t c =
     ∙ ap (λ (ys : List code_stmt.SlotStmt). stmts_length (units_length (slot_library_view c.args.library.now) c.in-Some.depth) (slot_stmts_view ys))
     c.deref.ensures.value in
     too_long _ c.in_err-put_resets.field-0.0 _ _ c.in_err-put_resets.ensures.full
-    (omega (arith, own, body, c.in_ok-put.ensures.long, c.in_ok-put_statements.ensures.long,
-    c.in_ok-put_stores.ensures.long, ap length c.deref-2.ensures.value, ap length c.deref-3.ensures.value))
+    (omega (
+      arith,
+      own,
+      body,
+      c.in_ok-put.ensures.long,
+      c.in_ok-put_statements.ensures.long,
+      c.in_ok-put_stores.ensures.long,
+      ap length c.deref-2.ensures.value,
+      ap length c.deref-3.ensures.value,
+    ))
     (search rules)
 
 pub calls::put_function-returns-clause-long : goal.calls::put_function-returns-clause-long
@@ -573,9 +587,18 @@ calls::put_function-returns-clause-long t c =
     ap (λ d. stmts_length (units_length (slot_library_view c.args.library.now) d) (slot_stmts_view c.deref.result.now)) e
     ∙ ap (λ (ys : List code_stmt.SlotStmt). stmts_length (units_length (slot_library_view c.args.library.now) c.in-Some.depth) (slot_stmts_view ys))
     c.deref.ensures.value in
-    on_ok c.put-2.result _ _ (λ e. omega (arith, own, body, c.in_ok-put.ensures.long, c.in_ok-put_statements.ensures.long,
-    c.in_ok-put_stores.ensures.long, c.in_ok-put_resets.ensures.long, ap length c.deref-2.ensures.value,
-    ap length c.deref-3.ensures.value, e)) c.put-2.ensures.long
+    on_ok c.put-2.result _ _ (λ e. omega (
+      arith,
+      own,
+      body,
+      c.in_ok-put.ensures.long,
+      c.in_ok-put_statements.ensures.long,
+      c.in_ok-put_stores.ensures.long,
+      c.in_ok-put_resets.ensures.long,
+      ap length c.deref-2.ensures.value,
+      ap length c.deref-3.ensures.value,
+      e,
+    )) c.put-2.ensures.long
 
 pub calls::put_function-returns-clause-full : goal.calls::put_function-returns-clause-full
 calls::put_function-returns-clause-full t c =
@@ -590,9 +613,17 @@ calls::put_function-returns-clause-full t c =
     ap (λ d. stmts_length (units_length (slot_library_view c.args.library.now) d) (slot_stmts_view c.deref.result.now)) e
     ∙ ap (λ (ys : List code_stmt.SlotStmt). stmts_length (units_length (slot_library_view c.args.library.now) c.in-Some.depth) (slot_stmts_view ys))
     c.deref.ensures.value in
-    too_long_on c.put-2.result _ _ c.put-2.ensures.full (omega (arith, own, body, c.in_ok-put.ensures.long, c.in_ok-put_statements.ensures.long,
-    c.in_ok-put_stores.ensures.long, c.in_ok-put_resets.ensures.long, ap length c.deref-2.ensures.value,
-    ap length c.deref-3.ensures.value))
+    too_long_on c.put-2.result _ _ c.put-2.ensures.full (omega (
+      arith,
+      own,
+      body,
+      c.in_ok-put.ensures.long,
+      c.in_ok-put_statements.ensures.long,
+      c.in_ok-put_stores.ensures.long,
+      c.in_ok-put_resets.ensures.long,
+      ap length c.deref-2.ensures.value,
+      ap length c.deref-3.ensures.value,
+    ))
 
 pub calls::put_inputs-returns-in_err-put_expr-clause-full : goal.calls::put_inputs-returns-in_err-put_expr-clause-full
 calls::put_inputs-returns-in_err-put_expr-clause-full t c =
@@ -732,8 +763,14 @@ expressions::put_place-returns-clause-long t c =
     ≡ subscripts_length (lengths_in c.args.library.now c.args.scope) (subscripts_of (map subscript_view p.subscripts.items)) =
     ap (λ (ss : List code_subscript.Subscript). subscripts_length (lengths_in c.args.library.now c.args.scope) (subscripts_of (map subscript_view ss)))
     c.deref-2.ensures.value in
-    on_ok c.put-3.result _ _ (λ e. omega (arith, whole, same, c.in_ok-put.ensures.long,
-    c.in_ok-put_subscripts.ensures.long, e)) c.put-3.ensures.long
+    on_ok c.put-3.result _ _ (λ e. omega (
+      arith,
+      whole,
+      same,
+      c.in_ok-put.ensures.long,
+      c.in_ok-put_subscripts.ensures.long,
+      e,
+    )) c.put-3.ensures.long
 
 pub expressions::put_place-returns-clause-full : goal.expressions::put_place-returns-clause-full
 expressions::put_place-returns-clause-full t c =
@@ -842,8 +879,15 @@ statements::put_case_arms-returns-in_err-put-3-clause-full t c =
     ∙ ap (λ (y : code_case_arm.SlotCaseArm). stmts_length (lengths_in c.args.library.now c.args.scope)
     (slot_stmts_view y.body.items)) (sym c.index-arms-left.is) in
     too_long _ c.in_err-put-3.field-0.0 _ _ c.in_err-put-3.ensures.full
-    (omega (arith, b, body, c.loop-left.invariant.long, c.in_ok-put.ensures.long, c.in_ok-put_statements.ensures.long,
-    c.in_ok-put-2.ensures.long)) (search rules)
+    (omega (
+      arith,
+      b,
+      body,
+      c.loop-left.invariant.long,
+      c.in_ok-put.ensures.long,
+      c.in_ok-put_statements.ensures.long,
+      c.in_ok-put-2.ensures.long,
+    )) (search rules)
 
 pub statements::put_statements-returns-in_err-put_statement-clause-crowded : goal.statements::put_statements-returns-in_err-put_statement-clause-crowded
 statements::put_statements-returns-in_err-put_statement-clause-crowded t c =
