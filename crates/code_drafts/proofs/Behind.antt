@@ -14,7 +14,8 @@ use Rattle.slot_bodies.specs.ExpressionViews.{slot_expr_view, place_view, subscr
 use Rattle.slot_bodies.specs.StatementViews.{slot_argument_view, slot_stmt_view, slot_stmts_view, slot_arm_view}
 use Rattle.slot_bodies.specs.StatementViews.{slot_case_arm_view}
 use Rattle.tree_code.specs.Codes.{given_members}
-use Rattle.code_drafts.specs.Lengths.{UnitLengths, label_length, labels_length, expr_length, exprs_length, place_length}
+use Rattle.code_drafts.specs.Lengths.{UnitLengths, label_length, labels_length, expr_length, exprs_length}
+use Rattle.code_drafts.specs.Lengths.{place_length}
 use Rattle.code_drafts.specs.Lengths.{subscripts_length, inputs_length, outputs_length, stmt_length, stmts_length}
 use Rattle.code_drafts.specs.Lengths.{arms_length, case_length, led_length}
 use Rattle.code_drafts.proofs.Elements.{subscript_seen}
@@ -68,7 +69,8 @@ module _ (units : UnitLengths) where
       let h = exprs_behind xs k (k + 1) e (omega arith) refl is in
       rw d (omega arith)
 
-  pub subscripts_behind : (ss : List code_subscript.Subscript) (k j : ℕ) (s : code_subscript.Subscript) → k < length ss
+  pub subscripts_behind : (ss : List code_subscript.Subscript) (k j : ℕ) (s : code_subscript.Subscript) → k < length
+      ss
       → j ≡ k + 1 → s ≡ get_or ss k s
       → 1 + expr_length units (slot_expr_view s.index)
       + subscripts_length units (subscripts_of (map subscript_view (drop j ss)))

@@ -1,5 +1,6 @@
 -- What fits of lists fits of their elements, and of what is left out nothing fits.
-use Rattle.std.proofs.Common.{◌≡◌, ℕ, zero, suc, ◌+◌, ◌-◌, ◌<◌, ◌≤◌, List, [], ◌∷◌, length, get_or, map, sym, subst, ap}
+use Rattle.std.proofs.Common.{◌≡◌, ℕ, zero, suc, ◌+◌, ◌-◌, ◌<◌, ◌≤◌, List, [], ◌∷◌, length, get_or, map, sym, subst}
+use Rattle.std.proofs.Common.{ap}
 use Rattle.std.proofs.Common.{◌∙◌, arith, Option, Some, None, option_map, refl}
 use Rattle.std.specs.Prelude.{slice_get}
 use Rattle.std.proofs.lemmas.Option.{slice_get-map}
@@ -15,7 +16,8 @@ use Rattle.slot_bodies.specs.ExpressionViews.{slot_expr_view, place_view, subscr
 use Rattle.slot_bodies.specs.LibraryViews.{KeptLibrary}
 use Rattle.slot_bodies.specs.StatementViews.{slot_argument_view, slot_stmt_view, slot_stmts_view, slot_arm_view}
 use Rattle.slot_bodies.specs.StatementViews.{slot_case_arm_view}
-use Rattle.slot_trees.specs.SlotTrees.{BlockCode, own_block, standard_block, SlotArgument, given, copied, SlotFunction, SlotLibrary}
+use Rattle.slot_trees.specs.SlotTrees.{BlockCode, own_block, standard_block, SlotArgument, given, copied}
+use Rattle.slot_trees.specs.SlotTrees.{SlotFunction, SlotLibrary}
 use Rattle.slot_trees.specs.SlotTrees.{SlotStmts}
 use Rattle.st_types.specs.StandardBlocks.{StandardBlock}
 use Rattle.tree_code.specs.Codes.{given_members}
@@ -80,7 +82,8 @@ functions_length kept n d f o e at =
 pub blocks_length : (kept : KeptLibrary) (n d : ℕ) (b : BlockCode) → suc d ≡ n
     → (units_length kept n).blocks b ≡ block_length (units_length kept d) kept b
 unfolding units_length
-blocks_length kept n d b e = subst (λ m. (units_length kept m).blocks b ≡ block_length (units_length kept d) kept b) e refl
+blocks_length kept n d b e = subst (λ m. (units_length kept m).blocks b ≡ block_length (units_length kept d) kept b)
+    e refl
 
 -- a standard block is one instruction, and a block of the text has those of its body
 pub standard_length : (kept : KeptLibrary) (n d : ℕ) (block : BlockCode) (b : StandardBlock) → suc d ≡ n
@@ -136,7 +139,8 @@ module _ (C : UnitCall → Type 0) (s : Site) where
   OutputFits at (Given o e) = Unit {0}
   OutputFits at (Copied o p) = (at + o < s.size) × PlaceFits C s (place_view p)
 
-  pub input_fits : (xs : List code_argument.SlotArgument) (k at : ℕ) (a b : code_argument.SlotArgument) → k < length xs
+  pub input_fits : (xs : List code_argument.SlotArgument) (k at : ℕ) (a b : code_argument.SlotArgument) → k < length
+      xs
       → a ≡ get_or xs k a → a ≡ b → InputsFit C s at (map slot_argument_view xs) → InputFits at b
   input_fits [] k at a b lt is of h = absurd (omega arith)
   input_fits (Given p f ∷ xs) zero at a b lt is of h = subst (λ y. InputFits at y) (sym is ∙ of) (h.0, h.1)
@@ -144,7 +148,8 @@ module _ (C : UnitCall → Type 0) (s : Site) where
   input_fits (Given p f ∷ xs) (suc k) at a b lt is of h = input_fits xs k at a b (omega arith) is of h.2
   input_fits (Copied p f ∷ xs) (suc k) at a b lt is of h = input_fits xs k at a b (omega arith) is of h
 
-  pub output_fits : (xs : List code_argument.SlotArgument) (k at : ℕ) (a b : code_argument.SlotArgument) → k < length xs
+  pub output_fits : (xs : List code_argument.SlotArgument) (k at : ℕ) (a b : code_argument.SlotArgument) → k < length
+      xs
       → a ≡ get_or xs k a → a ≡ b → OutputsFit C s at (map slot_argument_view xs) → OutputFits at b
   output_fits [] k at a b lt is of h = absurd (omega arith)
   output_fits (Given p f ∷ xs) zero at a b lt is of h = subst (λ y. OutputFits at y) (sym is ∙ of) tt

@@ -24,7 +24,8 @@ use Rattle.slot_bodies.specs.declared.expression.Subscript as code_subscript
 use Rattle.slot_bodies.specs.Chains.{exprs_of, subscripts_of, Subscript}
 use Rattle.slot_bodies.specs.ExpressionViews.{slot_expr_view, subscript_view}
 use Rattle.tree_code.specs.Calls.{units_code, resets_code}
-use Rattle.tree_code.specs.Codes.{CodeUnits, standard_code, block_code, count_of, led_code, subscripts_code, stmts_code}
+use Rattle.tree_code.specs.Codes.{CodeUnits, standard_code, block_code, count_of, led_code, subscripts_code}
+use Rattle.tree_code.specs.Codes.{stmts_code}
 use Rattle.tree_code.specs.Codes.{stores_code, body_ways, inputs_code, outputs_code, invoke_code, given_members}
 use Rattle.tree_code.specs.Codes.{expr_code, exprs_code, place_code}
 use Rattle.tree_code.specs.Fitting.{UnitCall, of_function, of_block, ArgumentsFit, StmtsFit, FunctionFits}
@@ -104,7 +105,8 @@ count_is [] = refl
 count_is (e ∷ es) = ap suc (count_is es)
 
 -- subscripts lead on from a slot that is put first
-pub led_is : (units : CodeUnits) (s : Site) (xs : List code_subscript.Subscript) (k : ℕ) (here : ℕ → Instr) (at : Instr)
+pub led_is : (units : CodeUnits) (s : Site) (xs : List code_subscript.Subscript) (k : ℕ) (here : ℕ → Instr) (at :
+    Instr)
     (c : Code) → 0 < length xs → led_code units s (subscripts_of (map subscript_view xs)) k here at c
     ≡ subscripts_code units s (subscripts_of (map subscript_view xs)) (c ◂ at) ◂ Push (slot_number k)
 led_is units s [] k here at c lt = absurd (omega arith)
@@ -112,7 +114,8 @@ led_is units s (x ∷ xs) k here at c lt = refl
 
 pub subscripts_drop : (ss : List code_subscript.Subscript) (k j : ℕ) (s : code_subscript.Subscript) → k < length ss
     → j ≡ k + 1 → s ≡ get_or ss k s → subscripts_of (map subscript_view (drop k ss))
-    ≡ subscript_then (slot_expr_view s.index) s.lower s.count s.stride (subscripts_of (map subscript_view (drop j ss)))
+    ≡ subscript_then (slot_expr_view s.index) s.lower s.count s.stride (subscripts_of (map subscript_view (drop j
+    ss)))
 subscripts_drop ss k j s lt e is =
     let d : drop k ss ≡ s ∷ drop (suc k) ss = drop-cons ss k s lt ∙ ap (λ y. y ∷ drop (suc k) ss) (sym is) in
     let f : j ≡ suc k = omega arith in
@@ -174,23 +177,28 @@ pub own_fits : (memory : ℕ) (library : SlotLibrary) (n d number : ℕ) (block 
 own_fits memory library n d number block body s e of known h =
     block_fits memory library n d block s e (rw (of, known) h)
 
-pub own_linked : (library : KeptLibrary) (n d number : ℕ) (block : BlockCode) (o : Option (Option SlotStmts)) (s : Site)
+pub own_linked : (library : KeptLibrary) (n d number : ℕ) (block : BlockCode) (o : Option (Option SlotStmts)) (s :
+    Site)
     → suc d ≡ n → block ≡ own_block number → slice_get library.blocks number ≡ o
     → CallLinkedWithin library n (of_block block s) → IfBodyLinked (CallLinkedWithin library d) o s
 own_linked library n d number block o s e of known h =
     rw known at (rw of at (block_linked library n d block s e h))
 
-site_is : (z : Scope) (start size : ℕ) → z.start ≡ start → z.base ≡ 0 → z.size ≡ size → site_of z ≡ site_from start size
+site_is : (z : Scope) (start size : ℕ) → z.start ≡ start → z.base ≡ 0 → z.size ≡ size → site_of z ≡ site_from start
+    size
 site_is z start size e f g = rw (e, f, g) refl
 
 -- a function in place of its call
-pub function_put : (library : SlotLibrary) (n number start : ℕ) (f : SlotFunction) (z : Scope) (c c1 c2 c3 c4 c5 : Code)
-    (slot end taken : ℕ) → suc z.depth ≡ n → slice_get library.functions number ≡ Some f → z.start ≡ start → z.base ≡ 0
+pub function_put : (library : SlotLibrary) (n number start : ℕ) (f : SlotFunction) (z : Scope) (c c1 c2 c3 c4 c5 :
+    Code)
+    (slot end taken : ℕ) → suc z.depth ≡ n → slice_get library.functions number ≡ Some f → z.start ≡ start → z.base ≡
+    0
     → z.size ≡ length f.fresh → slot ≡ z.start + f.result → c1 ≡ c ◂ Fetch slot → end ≡ length c1
     → c2 ≡ stmts_code (units_code library z.depth) (site_of z) f.body (body_ways end) c1
     → c3 ≡ stores_code z.start f.inputs c2 → c4 ≡ resets_code z.start f.fresh c3 → taken ≡ length f.inputs
     → c5 ≡ c4 ◂ Turn taken → c5 ≡ (units_code library n).functions number start c
-function_put library n number start f z c c1 c2 c3 c4 c5 slot end taken e known at base size at_result put1 is_end put2
+function_put library n number start f z c c1 c2 c3 c4 c5 slot end taken e known at base size at_result put1 is_end
+    put2
     put3 put4 is_taken put5 =
     let b = rw known at (functions_below library n z.depth number start c e) in
     rw (put5, put4, put3, put2, is_end, put1, at_result, is_taken, site_is z start (length f.fresh) at base size, at)

@@ -70,7 +70,8 @@ module _ (memory : ℕ) (library whole : SlotLibrary) (agree : Agree memory libr
         (program_site base size) body h.body_fits;
   }
 
-  function_same : (n i start count : ℕ) (c : Code) → SameUnits (CallFitsWithin memory library n) (units_code library n)
+  function_same : (n i start count : ℕ) (c : Code) → SameUnits (CallFitsWithin memory library n) (units_code library
+      n)
       (units_code whole n) → (o : Option SlotFunction) → slice_get library.functions i ≡ o
       → IfFunctionFits (CallFitsWithin memory library n) memory o start count
       → called_code (units_code library n) o start c ≡ called_code (units_code whole n) (slice_get whole.functions i)

@@ -22,7 +22,8 @@ use Rattle.slot_trees.specs.SlotEvaluation.{slot_at}
 use Rattle.tree_code.specs.declared.ways.Ways.{Ways}
 use Rattle.tree_code.specs.Growing.{Code, ◌◂◌, closed}
 use Rattle.tree_code.specs.Sites.{Site, slot_in, end_of, site_at, site_from}
-use Rattle.tree_code.specs.Codes.{CodeUnits, literal_code, label_code, labels_code, stores_code, expr_code, exprs_code}
+use Rattle.tree_code.specs.Codes.{CodeUnits, literal_code, label_code, labels_code, stores_code, expr_code}
+use Rattle.tree_code.specs.Codes.{exprs_code}
 use Rattle.tree_code.specs.Codes.{place_code, led_code, subscripts_code, step_code, inputs_code, outputs_code}
 use Rattle.tree_code.specs.Codes.{invoke_code, stmt_code, stmts_code, arms_code, case_code, given_members, body_ways}
 use Rattle.tree_code.specs.Codes.{loop_ways}
@@ -32,7 +33,8 @@ use Rattle.tree_code.proofs.Growth.{units_grow}
 use Rattle.code_drafts.specs.Lengths.{UnitLengths, literal_length, label_length, labels_length, expr_length}
 use Rattle.code_drafts.specs.Lengths.{exprs_length}
 use Rattle.code_drafts.specs.Lengths.{place_length, led_length, subscripts_length, step_length, inputs_length}
-use Rattle.code_drafts.specs.Lengths.{outputs_length, invoke_length, stmt_length, stmts_length, arms_length, case_length}
+use Rattle.code_drafts.specs.Lengths.{outputs_length, invoke_length, stmt_length, stmts_length, arms_length}
+use Rattle.code_drafts.specs.Lengths.{case_length}
 use Rattle.code_drafts.specs.Lengths.{function_length, if_function_length, if_body_length, block_length, units_length}
 
 -- the same number of instructions, counted in another order
@@ -152,7 +154,8 @@ module _ (u : UnitLengths) (units : CodeUnits) (least : AtLeast u units) (s : Si
         (more _ _ _ (stmts_long otherwise w n c h))))) (omega arith)
     stmt_long (FOR a start limit step body) w n c h =
         counted (more _ _ _ (expr_long start _ _ (expr_long limit _ _ (step_long step _ _ (more _ _ _ (more _ _ _
-        (closing _ _ _ (more _ _ _ (more _ _ _ (stmts_long body _ _ _ (more _ _ _ (more _ _ _ h)))))))))))) (omega arith)
+        (closing _ _ _ (more _ _ _ (more _ _ _ (stmts_long body _ _ _ (more _ _ _ (more _ _ _ h)))))))))))) (omega
+        arith)
     stmt_long (WHILE e body) w n c h =
         counted (more _ _ _ (closing _ _ _ (expr_long e _ _ (more _ _ _ (stmts_long body _ _ _ (more _ _ _ h))))))
         (omega arith)

@@ -47,7 +47,8 @@ module _ (m : ℕ) where
   put : (c : Code) (i : Instr) → Within c → Plain i → Within (c ◂ i)
   put c i h p = record { within = put_within c i h.within p }
 
-  set_within : (c : Code) (at n : ℕ) → slot_behind_resets c ≤ m → slot_behind_resets (slice_set c at (instrs.Back n)) ≤ m
+  set_within : (c : Code) (at n : ℕ) → slot_behind_resets c ≤ m → slot_behind_resets (slice_set c at (instrs.Back n))
+      ≤ m
   set_within [] at n h = h
   set_within (x ∷ xs) zero n h = omega arith
   set_within (x ∷ xs) (suc at) n h = let rest = set_within xs at n (omega arith) in omega arith
@@ -185,7 +186,8 @@ module _ (m : ℕ) where
           → Within (case_code units s arms w to c)
       case_within no_case_arms w to c f h = h
       case_within (case_arm_then labels body arms) w to c f h =
-          labels_within labels _ _ (put _ _ (put _ _ (stmts_within body w _ f.0 (put _ _ (case_within arms w to c f.1 h)
+          labels_within labels _ _ (put _ _ (put _ _ (stmts_within body w _ f.0 (put _ _ (case_within arms w to c f.1
+          h)
           (omega arith))) (omega arith)) (omega arith))
 
   module _ (library : SlotLibrary) where
@@ -194,7 +196,8 @@ module _ (m : ℕ) where
         → Within (called_code (units_code library d) o start c)
     called_within d start count c all (Some f) h within =
         put _ _ (resets_within start f.fresh _ h.room (stores_within start f.inputs _
-        (stmts_within (CallFitsWithin m library d) (units_code library d) all (site_from start (length f.fresh)) f.body
+        (stmts_within (CallFitsWithin m library d) (units_code library d) all (site_from start (length f.fresh))
+        f.body
         _ _ h.body (put c _ within (omega arith))))) (omega arith)
     called_within d start count c all None h within = absurd h
 
@@ -229,7 +232,8 @@ module _ (m : ℕ) where
     unfolding program_code
     program_within base size body d h =
         let none : Within [] = record { within = omega arith } in
-        (stmts_within (CallFitsWithin m library d) (units_code library d) (units_within d) (program_site base size) body
+        (stmts_within (CallFitsWithin m library d) (units_code library d) (units_within d) (program_site base size)
+        body
         (body_ways 0) [] h.body_fits none).within
 
 -- so no memory that the program fits is less than what its code needs

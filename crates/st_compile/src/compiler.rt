@@ -124,7 +124,8 @@ pub fn compile(
         → (whole : tree.SlotLibrary) → IsKeptOf (slot_library_view library.now) whole
         → MAX_INSTRUCTIONS < length (program_code whole base size (slot_stmts_view body.now) 64)) }
     ensures crowded { IfErr result (λ e. e ≡ CompileError.TooManyPlaces
-        → ¬ (ProgramFits (size + FUNCTION_PLACES) (filled (slot_library_view library.now)) base size (slot_stmts_view body.now)
+        → ¬ (ProgramFits (size + FUNCTION_PLACES) (filled (slot_library_view library.now)) base size (slot_stmts_view
+        body.now)
         64)) }
 {
     if size > MAX_MEMORY - FUNCTION_PLACES {

@@ -196,14 +196,16 @@ fn put_while(
         (trees.WHILE (slot_expr_view condition.now)
         (stmts_of (map slot_stmt_view body.now)))) }
     ensures long { OnOk result (length code.new
-        ≡ stmt_length (lengths_in library.now scope) (trees.WHILE (slot_expr_view condition.now) (stmts_of (map slot_stmt_view body.now)))
+        ≡ stmt_length (lengths_in library.now scope) (trees.WHILE (slot_expr_view condition.now) (stmts_of (map
+        slot_stmt_view body.now)))
         + length code.old) }
     ensures wrong { IfErr result (λ e. e ≡ CompileError.NotLinked
         → ¬ (StmtLinked (LinkedIn library.now scope) (site_of scope)
         (trees.WHILE (slot_expr_view condition.now)
         (stmts_of (map slot_stmt_view body.now))))) }
     ensures full { IfErr result (λ e. e ≡ CompileError.TooManyInstructions → MAX_INSTRUCTIONS
-        < stmt_length (lengths_in library.now scope) (trees.WHILE (slot_expr_view condition.now) (stmts_of (map slot_stmt_view body.now)))
+        < stmt_length (lengths_in library.now scope) (trees.WHILE (slot_expr_view condition.now) (stmts_of (map
+        slot_stmt_view body.now)))
         + length code.old) }
     ensures crowded { IfErr result (λ e. e ≡ CompileError.TooManyPlaces
         → ¬ (StmtFits (FitsIn library.now scope) (site_of scope)
@@ -238,14 +240,16 @@ fn put_repeat(
         (trees.REPEAT (stmts_of (map slot_stmt_view body.now))
         (slot_expr_view condition.now))) }
     ensures long { OnOk result (length code.new
-        ≡ stmt_length (lengths_in library.now scope) (trees.REPEAT (stmts_of (map slot_stmt_view body.now)) (slot_expr_view condition.now))
+        ≡ stmt_length (lengths_in library.now scope) (trees.REPEAT (stmts_of (map slot_stmt_view body.now))
+        (slot_expr_view condition.now))
         + length code.old) }
     ensures wrong { IfErr result (λ e. e ≡ CompileError.NotLinked
         → ¬ (StmtLinked (LinkedIn library.now scope) (site_of scope)
         (trees.REPEAT (stmts_of (map slot_stmt_view body.now))
         (slot_expr_view condition.now)))) }
     ensures full { IfErr result (λ e. e ≡ CompileError.TooManyInstructions → MAX_INSTRUCTIONS
-        < stmt_length (lengths_in library.now scope) (trees.REPEAT (stmts_of (map slot_stmt_view body.now)) (slot_expr_view condition.now))
+        < stmt_length (lengths_in library.now scope) (trees.REPEAT (stmts_of (map slot_stmt_view body.now))
+        (slot_expr_view condition.now))
         + length code.old) }
     ensures crowded { IfErr result (λ e. e ≡ CompileError.TooManyPlaces
         → ¬ (StmtFits (FitsIn library.now scope) (site_of scope)

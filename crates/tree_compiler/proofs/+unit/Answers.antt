@@ -1,4 +1,5 @@
-use Rattle.std.proofs.Common.{rules, ◌≡◌, ◌+◌, ◌-◌, ◌<◌, length, map, ℕ, suc, List, [], ◌∷◌, sym, subst, ap, ◌∙◌, arith}
+use Rattle.std.proofs.Common.{rules, ◌≡◌, ◌+◌, ◌-◌, ◌<◌, length, map, ℕ, suc, List, [], ◌∷◌, sym, subst, ap, ◌∙◌}
+use Rattle.std.proofs.Common.{arith}
 use Rattle.std.proofs.Common.{refl}
 use Rattle.slot_bodies.specs.declared.expression.Subscript as code_subscript
 use Rattle.slot_bodies.specs.declared.expression.Place as code_place
@@ -81,7 +82,8 @@ calls::put_inputs-returns-then-saturating_add-scope-clause-wrong t c = λ _ h.
     (Given c.in-Given.member c.in-Given.value) (omega arith) c.index-arguments-left.is c.in-Given.is h in
     omega (arith, w.0)
 
-pub calls::put_inputs-returns-in_err-put_expr-clause-wrong : goal.calls::put_inputs-returns-in_err-put_expr-clause-wrong
+pub calls::put_inputs-returns-in_err-put_expr-clause-wrong :
+    goal.calls::put_inputs-returns-in_err-put_expr-clause-wrong
 calls::put_inputs-returns-in_err-put_expr-clause-wrong t c =
     not_linked _ c.in_err-put_expr.field-0.0 _ _ c.in_err-put_expr.ensures.wrong
     (λ h. (input_at (LinkedIn c.args.library.now c.args.scope) (site_of c.args.scope)
@@ -195,7 +197,8 @@ calls::put_block-returns-else-member_count-scope-clause-fits t c =
     c.in-Some.depth _ c.in-Standard.block _ (omega (arith, c.in-Some.ensures))
     (ap block_code_view c.in-Standard.is) (omega (arith, c.member_count.ensures.count))) c.put.ensures.put
 
-pub calls::put_block-returns-in_ok-body-in-Own-clause-code : goal.calls::put_block-returns-in_ok-body-in-Own-clause-code
+pub calls::put_block-returns-in_ok-body-in-Own-clause-code :
+    goal.calls::put_block-returns-in_ok-body-in-Own-clause-code
 calls::put_block-returns-in_ok-body-in-Own-clause-code t c =
     on_ok c.put_statements.result _ _ (λ e. e ∙ own_put (filled (slot_library_view c.args.library.now))
     c.args.scope.depth c.in-Some.depth _ _ _ _ _ _ (omega (arith, c.in-Some.ensures))
@@ -203,7 +206,8 @@ calls::put_block-returns-in_ok-body-in-Own-clause-code t c =
     (filled_body (slot_library_view c.args.library.now) c.in-Own.number _ c.in_ok-body-in-Own.ensures.known)
     c.len-end.ensures.count) c.put_statements.ensures.code
 
-pub calls::put_block-returns-in_ok-body-in-Own-clause-fits : goal.calls::put_block-returns-in_ok-body-in-Own-clause-fits
+pub calls::put_block-returns-in_ok-body-in-Own-clause-fits :
+    goal.calls::put_block-returns-in_ok-body-in-Own-clause-fits
 calls::put_block-returns-in_ok-body-in-Own-clause-fits t c =
     on_ok c.put_statements.result _ _ (λ h. own_fits _ (filled (slot_library_view c.args.library.now))
     c.args.scope.depth c.in-Some.depth _ _ _ _ (omega (arith, c.in-Some.ensures))
@@ -246,7 +250,8 @@ expressions::put_expr-returns-in_ok-put-in-Compute-clause-code t c =
 pub calls::put_function-returns-then-not-has_signature-clause-wrong :
     goal.calls::put_function-returns-then-not-has_signature-clause-wrong
 calls::put_function-returns-then-not-has_signature-clause-wrong t c =
-    λ _ h. let w = function_linked_so (slot_library_view c.args.library.now) c.args.scope.depth c.in-Some.depth _ _ _ _
+    λ _ h. let w = function_linked_so (slot_library_view c.args.library.now) c.args.scope.depth c.in-Some.depth _ _ _
+    _
     (omega (arith, c.in-Some.ensures)) c.in_ok-function.ensures.known h in
     false≢true (c.if-not-has_signature.ensures.1 w.0)
 
@@ -287,7 +292,8 @@ calls::put_invocation-returns-clause-code t c =
     omega (arith, c.value_at-first.ensures, c.if-first-scope.false, c.requires.room, c.requires.numbered) in
     on_ok c.put_inputs.result _ _ (λ put5. invoke_put (units_in c.args.library.now c.args.scope) (site_of
     c.args.scope) c.value_at-first.result (slot_at c.args.scope.base (anchor_view c.args.instance))
-    (c.args.scope.start + c.value_at-first.result) c.in-Ok.count (block_code_view c.args.block) (map slot_argument_view c.args.arguments.now) _ _ _ _
+    (c.args.scope.start + c.value_at-first.result) c.in-Ok.count (block_code_view c.args.block) (map
+    slot_argument_view c.args.arguments.now) _ _ _ _
     _ _ e
     refl
     (omega (arith, c.in-Ok.ensures, c.given_count.ensures)) c.in_ok-put_outputs.ensures.code
@@ -366,7 +372,8 @@ calls::put_function-returns-clause-fits t c =
       c.in_ok-inner.ensures.depth,
     ) in
     let body : StmtsFit (FitsIn c.args.library.now z) (site_of z) (slot_stmts_view f.body.items)
-    = subst (λ (ys : List code_stmt.SlotStmt). StmtsFit (FitsIn c.args.library.now z) (site_of z) (slot_stmts_view ys))
+    = subst (λ (ys : List code_stmt.SlotStmt). StmtsFit (FitsIn c.args.library.now z) (site_of z) (slot_stmts_view
+    ys))
     c.deref.ensures.value c.in_ok-put_statements.ensures.fits in
     on_ok c.put-2.result _ _ (λ _. function_fits_so c.args.scope.memory (filled (slot_library_view
     c.args.library.now)) c.args.scope.depth c.args.number
@@ -424,98 +431,127 @@ calls::put_function-returns-in_err-function-clause-wrong t c =
     (omega (arith, c.in-Some.ensures)) none h)
     (search rules)
 
-pub calls::put_block-returns-in_err-body-in-Own-clause-crowded : goal.calls::put_block-returns-in_err-body-in-Own-clause-crowded
+pub calls::put_block-returns-in_err-body-in-Own-clause-crowded :
+    goal.calls::put_block-returns-in_err-body-in-Own-clause-crowded
 calls::put_block-returns-in_err-body-in-Own-clause-crowded t c =
     not_there _ c.in_err-body-in-Own.field-0.0 _ _ c.in_err-body-in-Own.ensures.room
-    (λ none h. no_body_fits c.args.scope.memory (slot_library_view c.args.library.now) c.args.scope.depth c.in-Some.depth _ _ _ (omega (arith, c.in-Some.ensures))
+    (λ none h. no_body_fits c.args.scope.memory (slot_library_view c.args.library.now) c.args.scope.depth
+    c.in-Some.depth _ _ _ (omega (arith, c.in-Some.ensures))
     (ap block_code_view c.in-Own.is) none h) (search rules)
 
-pub calls::put_block-returns-else-member_count-scope-clause-long : goal.calls::put_block-returns-else-member_count-scope-clause-long
+pub calls::put_block-returns-else-member_count-scope-clause-long :
+    goal.calls::put_block-returns-else-member_count-scope-clause-long
 calls::put_block-returns-else-member_count-scope-clause-long t c =
     let one = standard_length (slot_library_view c.args.library.now) c.args.scope.depth c.in-Some.depth _ _
     (omega (arith, c.in-Some.ensures)) (ap block_code_view c.in-Standard.is) in
     on_ok c.put.result _ _ (λ e. omega (arith, e, one)) c.put.ensures.long
 
-pub calls::put_block-returns-else-member_count-scope-clause-full : goal.calls::put_block-returns-else-member_count-scope-clause-full
+pub calls::put_block-returns-else-member_count-scope-clause-full :
+    goal.calls::put_block-returns-else-member_count-scope-clause-full
 calls::put_block-returns-else-member_count-scope-clause-full t c =
     let one = standard_length (slot_library_view c.args.library.now) c.args.scope.depth c.in-Some.depth _ _
     (omega (arith, c.in-Some.ensures)) (ap block_code_view c.in-Standard.is) in
     too_long_on c.put.result _ _ c.put.ensures.full (omega (arith, one))
 
-pub calls::put_block-returns-in_ok-body-in-Own-clause-long : goal.calls::put_block-returns-in_ok-body-in-Own-clause-long
+pub calls::put_block-returns-in_ok-body-in-Own-clause-long :
+    goal.calls::put_block-returns-in_ok-body-in-Own-clause-long
 calls::put_block-returns-in_ok-body-in-Own-clause-long t c =
     let own = own_length (slot_library_view c.args.library.now) c.args.scope.depth c.in-Some.depth c.in-Own.number _ _
     (omega (arith, c.in-Some.ensures)) (ap block_code_view c.in-Own.is) c.in_ok-body-in-Own.ensures.known in
     on_ok c.put_statements.result _ _ (λ e. omega (arith, e, own)) c.put_statements.ensures.long
 
-pub calls::put_block-returns-in_ok-body-in-Own-clause-full : goal.calls::put_block-returns-in_ok-body-in-Own-clause-full
+pub calls::put_block-returns-in_ok-body-in-Own-clause-full :
+    goal.calls::put_block-returns-in_ok-body-in-Own-clause-full
 calls::put_block-returns-in_ok-body-in-Own-clause-full t c =
     let own = own_length (slot_library_view c.args.library.now) c.args.scope.depth c.in-Some.depth c.in-Own.number _ _
     (omega (arith, c.in-Some.ensures)) (ap block_code_view c.in-Own.is) c.in_ok-body-in-Own.ensures.known in
     too_long_on c.put_statements.result _ _ c.put_statements.ensures.full (omega (arith, own))
 
-pub calls::put_block-returns-in_ok-body-in-Own-clause-crowded : goal.calls::put_block-returns-in_ok-body-in-Own-clause-crowded
+pub calls::put_block-returns-in_ok-body-in-Own-clause-crowded :
+    goal.calls::put_block-returns-in_ok-body-in-Own-clause-crowded
 calls::put_block-returns-in_ok-body-in-Own-clause-crowded t c =
     passed_on TooManyPlaces c.put_statements.result _ _ c.put_statements.ensures.crowded
-    (λ h. body_fits_below c.args.scope.memory (filled (slot_library_view c.args.library.now)) c.args.scope.depth c.in-Some.depth c.in-Own.number _ _ _
+    (λ h. body_fits_below c.args.scope.memory (filled (slot_library_view c.args.library.now)) c.args.scope.depth
+    c.in-Some.depth c.in-Own.number _ _ _
     (omega (arith, c.in-Some.ensures)) (ap block_code_view c.in-Own.is)
     (filled_body (slot_library_view c.args.library.now) c.in-Own.number _ c.in_ok-body-in-Own.ensures.known) h)
 
-pub calls::put_function-returns-in_err-function-clause-crowded : goal.calls::put_function-returns-in_err-function-clause-crowded
+pub calls::put_function-returns-in_err-function-clause-crowded :
+    goal.calls::put_function-returns-in_err-function-clause-crowded
 calls::put_function-returns-in_err-function-clause-crowded t c =
     not_there _ c.in_err-function.field-0.0 _ _ c.in_err-function.ensures.room
-    (λ none h. no_function_fits c.args.scope.memory (slot_library_view c.args.library.now) c.args.scope.depth c.in-Some.depth _ _ _ (omega (arith, c.in-Some.ensures)) none h)
+    (λ none h. no_function_fits c.args.scope.memory (slot_library_view c.args.library.now) c.args.scope.depth
+    c.in-Some.depth _ _ _ (omega (arith, c.in-Some.ensures)) none h)
     (search rules)
 
-pub calls::put_function-returns-in_default-try_from-clause-full : goal.calls::put_function-returns-in_default-try_from-clause-full
+pub calls::put_function-returns-in_default-try_from-clause-full :
+    goal.calls::put_function-returns-in_default-try_from-clause-full
 calls::put_function-returns-in_default-try_from-clause-full t c = λ _.
     let f = c.in_ok-function.function.now in
-    let own = functions_length (slot_library_view c.args.library.now) c.args.scope.depth c.in-Some.depth c.args.number _
+    let own = functions_length (slot_library_view c.args.library.now) c.args.scope.depth c.in-Some.depth
+    c.args.number _
     (omega (arith, c.in-Some.ensures)) c.in_ok-function.ensures.known in
     let has = c.if-not-has_signature.ensures.0 refl in
     omega (arith, own, has.0, c.in_default-try_from.ensures)
 
-pub calls::put_function-returns-in_err-inner-clause-crowded : goal.calls::put_function-returns-in_err-inner-clause-crowded
+pub calls::put_function-returns-in_err-inner-clause-crowded :
+    goal.calls::put_function-returns-in_err-inner-clause-crowded
 calls::put_function-returns-in_err-inner-clause-crowded t c =
-    not_linked _ c.in_err-inner.field-0.0 _ _ (λ _ le. let lt = c.in_err-inner.ensures.crowded in omega (arith, lt, le))
-    (λ h. (function_fits_below c.args.scope.memory (filled (slot_library_view c.args.library.now)) c.args.scope.depth c.in-Some.depth c.args.number _ _ _
-    (omega (arith, c.in-Some.ensures)) (filled_function (slot_library_view c.args.library.now) c.args.number _ c.in_ok-function.ensures.known) h).room) (search rules)
+    not_linked _ c.in_err-inner.field-0.0 _ _ (λ _ le. let lt = c.in_err-inner.ensures.crowded in omega (
+      arith,
+      lt,
+      le,
+    ))
+    (λ h. (function_fits_below c.args.scope.memory (filled (slot_library_view c.args.library.now)) c.args.scope.depth
+    c.in-Some.depth c.args.number _ _ _
+    (omega (arith, c.in-Some.ensures)) (filled_function (slot_library_view c.args.library.now) c.args.number _
+    c.in_ok-function.ensures.known) h).room) (search rules)
 
 pub calls::put_function-returns-in_err-put-clause-full : goal.calls::put_function-returns-in_err-put-clause-full
 calls::put_function-returns-in_err-put-clause-full t c =
     let f = c.in_ok-function.function.now in
-    let own = functions_length (slot_library_view c.args.library.now) c.args.scope.depth c.in-Some.depth c.args.number _
+    let own = functions_length (slot_library_view c.args.library.now) c.args.scope.depth c.in-Some.depth
+    c.args.number _
     (omega (arith, c.in-Some.ensures)) c.in_ok-function.ensures.known in
     let has = c.if-not-has_signature.ensures.0 refl in
     too_long _ c.in_err-put.field-0.0 _ _ c.in_err-put.ensures.full (omega (arith, own)) (search rules)
 
-pub calls::put_function-returns-in_err-put_statements-clause-full : goal.calls::put_function-returns-in_err-put_statements-clause-full
+pub calls::put_function-returns-in_err-put_statements-clause-full :
+    goal.calls::put_function-returns-in_err-put_statements-clause-full
 calls::put_function-returns-in_err-put_statements-clause-full t c =
     let f = c.in_ok-function.function.now in
-    let own = functions_length (slot_library_view c.args.library.now) c.args.scope.depth c.in-Some.depth c.args.number _
+    let own = functions_length (slot_library_view c.args.library.now) c.args.scope.depth c.in-Some.depth
+    c.args.number _
     (omega (arith, c.in-Some.ensures)) c.in_ok-function.ensures.known in
     let has = c.if-not-has_signature.ensures.0 refl in
     let z = c.in_ok-inner.inner in
     let e : z.depth ≡ c.in-Some.depth = c.in_ok-inner.ensures.depth in
     let body : stmts_length (lengths_in c.args.library.now z) (slot_stmts_view c.deref.result.now)
-    ≡ stmts_length (units_length (slot_library_view c.args.library.now) c.in-Some.depth) (slot_stmts_view f.body.items) =
-    ap (λ d. stmts_length (units_length (slot_library_view c.args.library.now) d) (slot_stmts_view c.deref.result.now)) e
-    ∙ ap (λ (ys : List code_stmt.SlotStmt). stmts_length (units_length (slot_library_view c.args.library.now) c.in-Some.depth) (slot_stmts_view ys))
+    ≡ stmts_length (units_length (slot_library_view c.args.library.now) c.in-Some.depth) (slot_stmts_view
+    f.body.items) =
+    ap (λ d. stmts_length (units_length (slot_library_view c.args.library.now) d) (slot_stmts_view
+    c.deref.result.now)) e
+    ∙ ap (λ (ys : List code_stmt.SlotStmt). stmts_length (units_length (slot_library_view c.args.library.now)
+    c.in-Some.depth) (slot_stmts_view ys))
     c.deref.ensures.value in
     too_long _ c.in_err-put_statements.field-0.0 _ _ c.in_err-put_statements.ensures.full
     (omega (arith, own, body, c.in_ok-put.ensures.long)) (search rules)
 
-pub calls::put_function-returns-in_err-put_statements-clause-crowded : goal.calls::put_function-returns-in_err-put_statements-clause-crowded
+pub calls::put_function-returns-in_err-put_statements-clause-crowded :
+    goal.calls::put_function-returns-in_err-put_statements-clause-crowded
 calls::put_function-returns-in_err-put_statements-clause-crowded t c =
     let z = c.in_ok-inner.inner in
     let f = c.in_ok-function.function.now in
     not_linked _ c.in_err-put_statements.field-0.0 _ _ c.in_err-put_statements.ensures.crowded
     (λ h. subst (λ (ys : List code_stmt.SlotStmt). StmtsFit (FitsIn c.args.library.now z) (site_of z)
     (slot_stmts_view ys)) (sym c.deref.ensures.value)
-    (body_fits_so (filled (slot_library_view c.args.library.now)) z c.args.scope.memory c.in-Some.depth (end_of (site_of c.args.scope)) (slot_function_view f)
+    (body_fits_so (filled (slot_library_view c.args.library.now)) z c.args.scope.memory c.in-Some.depth (end_of
+    (site_of c.args.scope)) (slot_function_view f)
     c.in_ok-inner.ensures.memory c.in_ok-inner.ensures.depth c.in_ok-inner.ensures.start c.in_ok-inner.ensures.base
-    c.in_ok-inner.ensures.size (function_fits_below c.args.scope.memory (filled (slot_library_view c.args.library.now)) c.args.scope.depth c.in-Some.depth c.args.number _ _ _
-    (omega (arith, c.in-Some.ensures)) (filled_function (slot_library_view c.args.library.now) c.args.number _ c.in_ok-function.ensures.known) h).body)) (search rules)
+    c.in_ok-inner.ensures.size (function_fits_below c.args.scope.memory (filled (slot_library_view
+    c.args.library.now)) c.args.scope.depth c.in-Some.depth c.args.number _ _ _
+    (omega (arith, c.in-Some.ensures)) (filled_function (slot_library_view c.args.library.now) c.args.number _
+    c.in_ok-function.ensures.known) h).body)) (search rules)
 
 pub calls::put_function-put_stores-requires : goal.calls::put_function-put_stores-requires
 calls::put_function-put_stores-requires t c =
@@ -525,18 +561,23 @@ calls::put_function-put_stores-requires t c =
     (below_more (length f.fresh.items) (65536 - c.in_ok-inner.inner.start) f.inputs.items
     (omega (arith, c.in_ok-inner.ensures.room, c.in_ok-inner.ensures.size, c.requires.numbered)) has.1)
 
-pub calls::put_function-returns-in_err-put_stores-clause-full : goal.calls::put_function-returns-in_err-put_stores-clause-full
+pub calls::put_function-returns-in_err-put_stores-clause-full :
+    goal.calls::put_function-returns-in_err-put_stores-clause-full
 calls::put_function-returns-in_err-put_stores-clause-full t c =
     let f = c.in_ok-function.function.now in
-    let own = functions_length (slot_library_view c.args.library.now) c.args.scope.depth c.in-Some.depth c.args.number _
+    let own = functions_length (slot_library_view c.args.library.now) c.args.scope.depth c.in-Some.depth
+    c.args.number _
     (omega (arith, c.in-Some.ensures)) c.in_ok-function.ensures.known in
     let has = c.if-not-has_signature.ensures.0 refl in
     let z = c.in_ok-inner.inner in
     let e : z.depth ≡ c.in-Some.depth = c.in_ok-inner.ensures.depth in
     let body : stmts_length (lengths_in c.args.library.now z) (slot_stmts_view c.deref.result.now)
-    ≡ stmts_length (units_length (slot_library_view c.args.library.now) c.in-Some.depth) (slot_stmts_view f.body.items) =
-    ap (λ d. stmts_length (units_length (slot_library_view c.args.library.now) d) (slot_stmts_view c.deref.result.now)) e
-    ∙ ap (λ (ys : List code_stmt.SlotStmt). stmts_length (units_length (slot_library_view c.args.library.now) c.in-Some.depth) (slot_stmts_view ys))
+    ≡ stmts_length (units_length (slot_library_view c.args.library.now) c.in-Some.depth) (slot_stmts_view
+    f.body.items) =
+    ap (λ d. stmts_length (units_length (slot_library_view c.args.library.now) d) (slot_stmts_view
+    c.deref.result.now)) e
+    ∙ ap (λ (ys : List code_stmt.SlotStmt). stmts_length (units_length (slot_library_view c.args.library.now)
+    c.in-Some.depth) (slot_stmts_view ys))
     c.deref.ensures.value in
     too_long _ c.in_err-put_stores.field-0.0 _ _ c.in_err-put_stores.ensures.full
     (omega (
@@ -548,18 +589,23 @@ calls::put_function-returns-in_err-put_stores-clause-full t c =
       ap length c.deref-2.ensures.value,
     )) (search rules)
 
-pub calls::put_function-returns-in_err-put_resets-clause-full : goal.calls::put_function-returns-in_err-put_resets-clause-full
+pub calls::put_function-returns-in_err-put_resets-clause-full :
+    goal.calls::put_function-returns-in_err-put_resets-clause-full
 calls::put_function-returns-in_err-put_resets-clause-full t c =
     let f = c.in_ok-function.function.now in
-    let own = functions_length (slot_library_view c.args.library.now) c.args.scope.depth c.in-Some.depth c.args.number _
+    let own = functions_length (slot_library_view c.args.library.now) c.args.scope.depth c.in-Some.depth
+    c.args.number _
     (omega (arith, c.in-Some.ensures)) c.in_ok-function.ensures.known in
     let has = c.if-not-has_signature.ensures.0 refl in
     let z = c.in_ok-inner.inner in
     let e : z.depth ≡ c.in-Some.depth = c.in_ok-inner.ensures.depth in
     let body : stmts_length (lengths_in c.args.library.now z) (slot_stmts_view c.deref.result.now)
-    ≡ stmts_length (units_length (slot_library_view c.args.library.now) c.in-Some.depth) (slot_stmts_view f.body.items) =
-    ap (λ d. stmts_length (units_length (slot_library_view c.args.library.now) d) (slot_stmts_view c.deref.result.now)) e
-    ∙ ap (λ (ys : List code_stmt.SlotStmt). stmts_length (units_length (slot_library_view c.args.library.now) c.in-Some.depth) (slot_stmts_view ys))
+    ≡ stmts_length (units_length (slot_library_view c.args.library.now) c.in-Some.depth) (slot_stmts_view
+    f.body.items) =
+    ap (λ d. stmts_length (units_length (slot_library_view c.args.library.now) d) (slot_stmts_view
+    c.deref.result.now)) e
+    ∙ ap (λ (ys : List code_stmt.SlotStmt). stmts_length (units_length (slot_library_view c.args.library.now)
+    c.in-Some.depth) (slot_stmts_view ys))
     c.deref.ensures.value in
     too_long _ c.in_err-put_resets.field-0.0 _ _ c.in_err-put_resets.ensures.full
     (omega (
@@ -577,15 +623,19 @@ calls::put_function-returns-in_err-put_resets-clause-full t c =
 pub calls::put_function-returns-clause-long : goal.calls::put_function-returns-clause-long
 calls::put_function-returns-clause-long t c =
     let f = c.in_ok-function.function.now in
-    let own = functions_length (slot_library_view c.args.library.now) c.args.scope.depth c.in-Some.depth c.args.number _
+    let own = functions_length (slot_library_view c.args.library.now) c.args.scope.depth c.in-Some.depth
+    c.args.number _
     (omega (arith, c.in-Some.ensures)) c.in_ok-function.ensures.known in
     let has = c.if-not-has_signature.ensures.0 refl in
     let z = c.in_ok-inner.inner in
     let e : z.depth ≡ c.in-Some.depth = c.in_ok-inner.ensures.depth in
     let body : stmts_length (lengths_in c.args.library.now z) (slot_stmts_view c.deref.result.now)
-    ≡ stmts_length (units_length (slot_library_view c.args.library.now) c.in-Some.depth) (slot_stmts_view f.body.items) =
-    ap (λ d. stmts_length (units_length (slot_library_view c.args.library.now) d) (slot_stmts_view c.deref.result.now)) e
-    ∙ ap (λ (ys : List code_stmt.SlotStmt). stmts_length (units_length (slot_library_view c.args.library.now) c.in-Some.depth) (slot_stmts_view ys))
+    ≡ stmts_length (units_length (slot_library_view c.args.library.now) c.in-Some.depth) (slot_stmts_view
+    f.body.items) =
+    ap (λ d. stmts_length (units_length (slot_library_view c.args.library.now) d) (slot_stmts_view
+    c.deref.result.now)) e
+    ∙ ap (λ (ys : List code_stmt.SlotStmt). stmts_length (units_length (slot_library_view c.args.library.now)
+    c.in-Some.depth) (slot_stmts_view ys))
     c.deref.ensures.value in
     on_ok c.put-2.result _ _ (λ e. omega (
       arith,
@@ -603,15 +653,19 @@ calls::put_function-returns-clause-long t c =
 pub calls::put_function-returns-clause-full : goal.calls::put_function-returns-clause-full
 calls::put_function-returns-clause-full t c =
     let f = c.in_ok-function.function.now in
-    let own = functions_length (slot_library_view c.args.library.now) c.args.scope.depth c.in-Some.depth c.args.number _
+    let own = functions_length (slot_library_view c.args.library.now) c.args.scope.depth c.in-Some.depth
+    c.args.number _
     (omega (arith, c.in-Some.ensures)) c.in_ok-function.ensures.known in
     let has = c.if-not-has_signature.ensures.0 refl in
     let z = c.in_ok-inner.inner in
     let e : z.depth ≡ c.in-Some.depth = c.in_ok-inner.ensures.depth in
     let body : stmts_length (lengths_in c.args.library.now z) (slot_stmts_view c.deref.result.now)
-    ≡ stmts_length (units_length (slot_library_view c.args.library.now) c.in-Some.depth) (slot_stmts_view f.body.items) =
-    ap (λ d. stmts_length (units_length (slot_library_view c.args.library.now) d) (slot_stmts_view c.deref.result.now)) e
-    ∙ ap (λ (ys : List code_stmt.SlotStmt). stmts_length (units_length (slot_library_view c.args.library.now) c.in-Some.depth) (slot_stmts_view ys))
+    ≡ stmts_length (units_length (slot_library_view c.args.library.now) c.in-Some.depth) (slot_stmts_view
+    f.body.items) =
+    ap (λ d. stmts_length (units_length (slot_library_view c.args.library.now) d) (slot_stmts_view
+    c.deref.result.now)) e
+    ∙ ap (λ (ys : List code_stmt.SlotStmt). stmts_length (units_length (slot_library_view c.args.library.now)
+    c.in-Some.depth) (slot_stmts_view ys))
     c.deref.ensures.value in
     too_long_on c.put-2.result _ _ c.put-2.ensures.full (omega (
       arith,
@@ -627,29 +681,37 @@ calls::put_function-returns-clause-full t c =
 
 pub calls::put_inputs-returns-in_err-put_expr-clause-full : goal.calls::put_inputs-returns-in_err-put_expr-clause-full
 calls::put_inputs-returns-in_err-put_expr-clause-full t c =
-    let b = inputs_behind (lengths_in c.args.library.now c.args.scope) c.args.arguments.now (c.loop-left.left - 1) c.loop-left.left
+    let b = inputs_behind (lengths_in c.args.library.now c.args.scope) c.args.arguments.now (c.loop-left.left - 1)
+    c.loop-left.left
     c.index-arguments-left.result (omega arith) (omega arith) c.index-arguments-left.is in
-    let one : inputs_length (lengths_in c.args.library.now c.args.scope) (slot_argument_view c.index-arguments-left.result ∷ [])
-    ≡ inputs_length (lengths_in c.args.library.now c.args.scope) (slot_argument_view (Given c.in-Given.member c.in-Given.value) ∷ []) =
+    let one : inputs_length (lengths_in c.args.library.now c.args.scope) (slot_argument_view
+    c.index-arguments-left.result ∷ [])
+    ≡ inputs_length (lengths_in c.args.library.now c.args.scope) (slot_argument_view (Given c.in-Given.member
+    c.in-Given.value) ∷ []) =
     ap (λ a. inputs_length (lengths_in c.args.library.now c.args.scope) (slot_argument_view a ∷ [])) c.in-Given.is in
     too_long _ c.in_err-put_expr.field-0.0 _ _ c.in_err-put_expr.ensures.full
     (omega (arith, b, one, c.loop-left.invariant.long)) (search rules)
 
-pub calls::put_inputs-returns-in_err-put_expr-clause-crowded : goal.calls::put_inputs-returns-in_err-put_expr-clause-crowded
+pub calls::put_inputs-returns-in_err-put_expr-clause-crowded :
+    goal.calls::put_inputs-returns-in_err-put_expr-clause-crowded
 calls::put_inputs-returns-in_err-put_expr-clause-crowded t c =
     not_linked _ c.in_err-put_expr.field-0.0 _ _ c.in_err-put_expr.ensures.crowded
-    (λ h. (input_fits (FitsIn c.args.library.now c.args.scope) (site_of c.args.scope) c.args.arguments.now (c.loop-left.left - 1) c.args.first c.index-arguments-left.result
+    (λ h. (input_fits (FitsIn c.args.library.now c.args.scope) (site_of c.args.scope) c.args.arguments.now
+    (c.loop-left.left - 1) c.args.first c.index-arguments-left.result
     (Given c.in-Given.member c.in-Given.value) (omega arith) c.index-arguments-left.is c.in-Given.is h).1)
     (search rules)
 
-pub calls::put_invocation-returns-in_err-put_outputs-clause-crowded : goal.calls::put_invocation-returns-in_err-put_outputs-clause-crowded
+pub calls::put_invocation-returns-in_err-put_outputs-clause-crowded :
+    goal.calls::put_invocation-returns-in_err-put_outputs-clause-crowded
 calls::put_invocation-returns-in_err-put_outputs-clause-crowded t c =
     let e : (slot_at c.args.scope.base (anchor_view c.args.instance)) ≡ c.value_at-first.result =
     omega (arith, c.value_at-first.ensures, c.if-first-scope.false, c.requires.room, c.requires.numbered) in
     not_linked _ c.in_err-put_outputs.field-0.0 _ _ c.in_err-put_outputs.ensures.crowded
-    (λ h. outputs_fit (FitsIn c.args.library.now c.args.scope) (site_of c.args.scope) _ _ (rw e at h.1)) (search rules)
+    (λ h. outputs_fit (FitsIn c.args.library.now c.args.scope) (site_of c.args.scope) _ _ (rw e at h.1)) (search
+    rules)
 
-pub calls::put_invocation-returns-in_err-put_members-clause-crowded : goal.calls::put_invocation-returns-in_err-put_members-clause-crowded
+pub calls::put_invocation-returns-in_err-put_members-clause-crowded :
+    goal.calls::put_invocation-returns-in_err-put_members-clause-crowded
 calls::put_invocation-returns-in_err-put_members-clause-crowded t c =
     let e : (slot_at c.args.scope.base (anchor_view c.args.instance)) ≡ c.value_at-first.result =
     omega (arith, c.value_at-first.ensures, c.if-first-scope.false, c.requires.room, c.requires.numbered) in
@@ -664,30 +726,41 @@ calls::put_invocation-returns-clause-crowded t c =
     passed_on TooManyPlaces c.put_inputs.result _ _ c.put_inputs.ensures.crowded
     (λ h. inputs_fit (FitsIn c.args.library.now c.args.scope) (site_of c.args.scope) _ _ (rw e at h.1))
 
-pub calls::put_outputs-returns-in_err-put_place-clause-full : goal.calls::put_outputs-returns-in_err-put_place-clause-full
+pub calls::put_outputs-returns-in_err-put_place-clause-full :
+    goal.calls::put_outputs-returns-in_err-put_place-clause-full
 calls::put_outputs-returns-in_err-put_place-clause-full t c =
-    let b = outputs_behind (lengths_in c.args.library.now c.args.scope) c.args.arguments.now (c.loop-left.left - 1) c.loop-left.left
+    let b = outputs_behind (lengths_in c.args.library.now c.args.scope) c.args.arguments.now (c.loop-left.left - 1)
+    c.loop-left.left
     c.index-arguments-left.result (omega arith) (omega arith) c.index-arguments-left.is in
-    let one : outputs_length (lengths_in c.args.library.now c.args.scope) (slot_argument_view c.index-arguments-left.result ∷ [])
-    ≡ outputs_length (lengths_in c.args.library.now c.args.scope) (slot_argument_view (Copied c.in-Copied.member c.in-Copied.target) ∷ []) =
-    ap (λ a. outputs_length (lengths_in c.args.library.now c.args.scope) (slot_argument_view a ∷ [])) c.in-Copied.is in
+    let one : outputs_length (lengths_in c.args.library.now c.args.scope) (slot_argument_view
+    c.index-arguments-left.result ∷ [])
+    ≡ outputs_length (lengths_in c.args.library.now c.args.scope) (slot_argument_view (Copied c.in-Copied.member
+    c.in-Copied.target) ∷ []) =
+    ap (λ a. outputs_length (lengths_in c.args.library.now c.args.scope) (slot_argument_view a ∷ [])) c.in-Copied.is
+    in
     too_long _ c.in_err-put_place.field-0.0 _ _ c.in_err-put_place.ensures.full
     (omega (arith, b, one, c.loop-left.invariant.long)) (search rules)
 
-pub calls::put_outputs-returns-in_err-put_place-clause-crowded : goal.calls::put_outputs-returns-in_err-put_place-clause-crowded
+pub calls::put_outputs-returns-in_err-put_place-clause-crowded :
+    goal.calls::put_outputs-returns-in_err-put_place-clause-crowded
 calls::put_outputs-returns-in_err-put_place-clause-crowded t c =
     not_linked _ c.in_err-put_place.field-0.0 _ _ c.in_err-put_place.ensures.crowded
-    (λ h. (output_fits (FitsIn c.args.library.now c.args.scope) (site_of c.args.scope) c.args.arguments.now (c.loop-left.left - 1) c.args.first c.index-arguments-left.result
+    (λ h. (output_fits (FitsIn c.args.library.now c.args.scope) (site_of c.args.scope) c.args.arguments.now
+    (c.loop-left.left - 1) c.args.first c.index-arguments-left.result
     (Copied c.in-Copied.member c.in-Copied.target) (omega arith) c.index-arguments-left.is c.in-Copied.is h).1)
     (search rules)
 
 pub calls::put_outputs-returns-in_err-put-clause-full : goal.calls::put_outputs-returns-in_err-put-clause-full
 calls::put_outputs-returns-in_err-put-clause-full t c =
-    let b = outputs_behind (lengths_in c.args.library.now c.args.scope) c.args.arguments.now (c.loop-left.left - 1) c.loop-left.left
+    let b = outputs_behind (lengths_in c.args.library.now c.args.scope) c.args.arguments.now (c.loop-left.left - 1)
+    c.loop-left.left
     c.index-arguments-left.result (omega arith) (omega arith) c.index-arguments-left.is in
-    let one : outputs_length (lengths_in c.args.library.now c.args.scope) (slot_argument_view c.index-arguments-left.result ∷ [])
-    ≡ outputs_length (lengths_in c.args.library.now c.args.scope) (slot_argument_view (Copied c.in-Copied.member c.in-Copied.target) ∷ []) =
-    ap (λ a. outputs_length (lengths_in c.args.library.now c.args.scope) (slot_argument_view a ∷ [])) c.in-Copied.is in
+    let one : outputs_length (lengths_in c.args.library.now c.args.scope) (slot_argument_view
+    c.index-arguments-left.result ∷ [])
+    ≡ outputs_length (lengths_in c.args.library.now c.args.scope) (slot_argument_view (Copied c.in-Copied.member
+    c.in-Copied.target) ∷ []) =
+    ap (λ a. outputs_length (lengths_in c.args.library.now c.args.scope) (slot_argument_view a ∷ [])) c.in-Copied.is
+    in
     too_long _ c.in_err-put.field-0.0 _ _ c.in_err-put.ensures.full
     (omega (arith, b, one, c.loop-left.invariant.long, c.in_ok-put_place.ensures.long)) (search rules)
 
@@ -697,10 +770,12 @@ expressions::put_expr-returns-in_default-clause-wrong t c = λ _ h.
     let es = c.in-Compute.arguments.items in
     let seen : slot_expr_view c.args.expression.now ≡ compute (standard_view f) (exprs_of (map slot_expr_view es)) =
     rw c.in-Compute.is (search (rules, code_expr.the_lemmas)) in
-    let few = (subst (λ x. ExprLinked (LinkedIn c.args.library.now c.args.scope) (site_of c.args.scope) x) seen h).0 in
+    let few = (subst (λ x. ExprLinked (LinkedIn c.args.library.now c.args.scope) (site_of c.args.scope) x) seen h).0
+    in
     omega (arith, few, count_is es, c.in_default.ensures, c.len.ensures, c.in-Compute.arguments.ok.0)
 
-pub expressions::put_expr-returns-in_err-put_function-in-Call-clause-crowded : goal.expressions::put_expr-returns-in_err-put_function-in-Call-clause-crowded
+pub expressions::put_expr-returns-in_err-put_function-in-Call-clause-crowded :
+    goal.expressions::put_expr-returns-in_err-put_function-in-Call-clause-crowded
 expressions::put_expr-returns-in_err-put_function-in-Call-clause-crowded t c =
     let f = c.in-Call.function in
     let es = c.in-Call.arguments.items in
@@ -709,12 +784,15 @@ expressions::put_expr-returns-in_err-put_function-in-Call-clause-crowded t c =
     let n : count_of (exprs_of (map slot_expr_view es)) ≡ c.len-in-Call.result =
     count_is es ∙ (omega (arith, c.len-in-Call.ensures, c.in-Call.arguments.ok.0)) in
     not_linked _ c.in_err-put_function-in-Call.field-0.0 _ _ c.in_err-put_function-in-Call.ensures.crowded
-    (λ h. rw n at (subst (λ x. ExprFits (FitsIn c.args.library.now c.args.scope) (site_of c.args.scope) x) seen h).1) (search rules)
+    (λ h. rw n at (subst (λ x. ExprFits (FitsIn c.args.library.now c.args.scope) (site_of c.args.scope) x) seen h).1)
+    (search rules)
 
-pub expressions::put_exprs-returns-in_err-put_expr-clause-crowded : goal.expressions::put_exprs-returns-in_err-put_expr-clause-crowded
+pub expressions::put_exprs-returns-in_err-put_expr-clause-crowded :
+    goal.expressions::put_exprs-returns-in_err-put_expr-clause-crowded
 expressions::put_exprs-returns-in_err-put_expr-clause-crowded t c =
     not_linked _ c.in_err-put_expr.field-0.0 _ _ c.in_err-put_expr.ensures.crowded
-    (λ h. expr_fits (FitsIn c.args.library.now c.args.scope) (site_of c.args.scope) c.args.expressions.now (c.loop-left.left - 1) c.index-expressions-left.result (omega arith)
+    (λ h. expr_fits (FitsIn c.args.library.now c.args.scope) (site_of c.args.scope) c.args.expressions.now
+    (c.loop-left.left - 1) c.index-expressions-left.result (omega arith)
     c.index-expressions-left.is h) (search rules)
 
 pub expressions::put_place-returns-in_err-put-clause-full : goal.expressions::put_place-returns-in_err-put-clause-full
@@ -726,11 +804,13 @@ expressions::put_place-returns-in_err-put-clause-full t c =
     = grind (arith, nat_tests, p.subscripts.ok.0, c.is_empty.ensures, c.if-is_empty.false) in
     let led = led_more (lengths_in c.args.library.now c.args.scope) p.subscripts.items lt in
     let whole : place_length (lengths_in c.args.library.now c.args.scope) (place_view c.args.place.now)
-    ≡ 2 + subscripts_length (lengths_in c.args.library.now c.args.scope) (subscripts_of (map subscript_view p.subscripts.items)) =
+    ≡ 2 + subscripts_length (lengths_in c.args.library.now c.args.scope) (subscripts_of (map subscript_view
+    p.subscripts.items)) =
     ap (place_length (lengths_in c.args.library.now c.args.scope)) seen ∙ led in
     too_long _ c.in_err-put.field-0.0 _ _ c.in_err-put.ensures.full (omega (arith, whole)) (search rules)
 
-pub expressions::put_place-returns-in_err-put_subscripts-clause-full : goal.expressions::put_place-returns-in_err-put_subscripts-clause-full
+pub expressions::put_place-returns-in_err-put_subscripts-clause-full :
+    goal.expressions::put_place-returns-in_err-put_subscripts-clause-full
 expressions::put_place-returns-in_err-put_subscripts-clause-full t c =
     let p = code_place.out-Place c.args.place.now in
     let seen : place_view c.args.place.now ≡ place (anchor_view p.anchor) (subscripts_of (map subscript_view
@@ -739,11 +819,15 @@ expressions::put_place-returns-in_err-put_subscripts-clause-full t c =
     = grind (arith, nat_tests, p.subscripts.ok.0, c.is_empty.ensures, c.if-is_empty.false) in
     let led = led_more (lengths_in c.args.library.now c.args.scope) p.subscripts.items lt in
     let whole : place_length (lengths_in c.args.library.now c.args.scope) (place_view c.args.place.now)
-    ≡ 2 + subscripts_length (lengths_in c.args.library.now c.args.scope) (subscripts_of (map subscript_view p.subscripts.items)) =
+    ≡ 2 + subscripts_length (lengths_in c.args.library.now c.args.scope) (subscripts_of (map subscript_view
+    p.subscripts.items)) =
     ap (place_length (lengths_in c.args.library.now c.args.scope)) seen ∙ led in
-    let same : subscripts_length (lengths_in c.args.library.now c.args.scope) (subscripts_of (map subscript_view c.deref-2.result.now))
-    ≡ subscripts_length (lengths_in c.args.library.now c.args.scope) (subscripts_of (map subscript_view p.subscripts.items)) =
-    ap (λ (ss : List code_subscript.Subscript). subscripts_length (lengths_in c.args.library.now c.args.scope) (subscripts_of (map subscript_view ss)))
+    let same : subscripts_length (lengths_in c.args.library.now c.args.scope) (subscripts_of (map subscript_view
+    c.deref-2.result.now))
+    ≡ subscripts_length (lengths_in c.args.library.now c.args.scope) (subscripts_of (map subscript_view
+    p.subscripts.items)) =
+    ap (λ (ss : List code_subscript.Subscript). subscripts_length (lengths_in c.args.library.now c.args.scope)
+    (subscripts_of (map subscript_view ss)))
     c.deref-2.ensures.value in
     too_long _ c.in_err-put_subscripts.field-0.0 _ _ c.in_err-put_subscripts.ensures.full
     (omega (arith, whole, same, c.in_ok-put.ensures.long)) (search rules)
@@ -757,11 +841,15 @@ expressions::put_place-returns-clause-long t c =
     = grind (arith, nat_tests, p.subscripts.ok.0, c.is_empty.ensures, c.if-is_empty.false) in
     let led = led_more (lengths_in c.args.library.now c.args.scope) p.subscripts.items lt in
     let whole : place_length (lengths_in c.args.library.now c.args.scope) (place_view c.args.place.now)
-    ≡ 2 + subscripts_length (lengths_in c.args.library.now c.args.scope) (subscripts_of (map subscript_view p.subscripts.items)) =
+    ≡ 2 + subscripts_length (lengths_in c.args.library.now c.args.scope) (subscripts_of (map subscript_view
+    p.subscripts.items)) =
     ap (place_length (lengths_in c.args.library.now c.args.scope)) seen ∙ led in
-    let same : subscripts_length (lengths_in c.args.library.now c.args.scope) (subscripts_of (map subscript_view c.deref-2.result.now))
-    ≡ subscripts_length (lengths_in c.args.library.now c.args.scope) (subscripts_of (map subscript_view p.subscripts.items)) =
-    ap (λ (ss : List code_subscript.Subscript). subscripts_length (lengths_in c.args.library.now c.args.scope) (subscripts_of (map subscript_view ss)))
+    let same : subscripts_length (lengths_in c.args.library.now c.args.scope) (subscripts_of (map subscript_view
+    c.deref-2.result.now))
+    ≡ subscripts_length (lengths_in c.args.library.now c.args.scope) (subscripts_of (map subscript_view
+    p.subscripts.items)) =
+    ap (λ (ss : List code_subscript.Subscript). subscripts_length (lengths_in c.args.library.now c.args.scope)
+    (subscripts_of (map subscript_view ss)))
     c.deref-2.ensures.value in
     on_ok c.put-3.result _ _ (λ e. omega (
       arith,
@@ -781,101 +869,140 @@ expressions::put_place-returns-clause-full t c =
     = grind (arith, nat_tests, p.subscripts.ok.0, c.is_empty.ensures, c.if-is_empty.false) in
     let led = led_more (lengths_in c.args.library.now c.args.scope) p.subscripts.items lt in
     let whole : place_length (lengths_in c.args.library.now c.args.scope) (place_view c.args.place.now)
-    ≡ 2 + subscripts_length (lengths_in c.args.library.now c.args.scope) (subscripts_of (map subscript_view p.subscripts.items)) =
+    ≡ 2 + subscripts_length (lengths_in c.args.library.now c.args.scope) (subscripts_of (map subscript_view
+    p.subscripts.items)) =
     ap (place_length (lengths_in c.args.library.now c.args.scope)) seen ∙ led in
-    let same : subscripts_length (lengths_in c.args.library.now c.args.scope) (subscripts_of (map subscript_view c.deref-2.result.now))
-    ≡ subscripts_length (lengths_in c.args.library.now c.args.scope) (subscripts_of (map subscript_view p.subscripts.items)) =
-    ap (λ (ss : List code_subscript.Subscript). subscripts_length (lengths_in c.args.library.now c.args.scope) (subscripts_of (map subscript_view ss)))
+    let same : subscripts_length (lengths_in c.args.library.now c.args.scope) (subscripts_of (map subscript_view
+    c.deref-2.result.now))
+    ≡ subscripts_length (lengths_in c.args.library.now c.args.scope) (subscripts_of (map subscript_view
+    p.subscripts.items)) =
+    ap (λ (ss : List code_subscript.Subscript). subscripts_length (lengths_in c.args.library.now c.args.scope)
+    (subscripts_of (map subscript_view ss)))
     c.deref-2.ensures.value in
     too_long_on c.put-3.result _ _ c.put-3.ensures.full
     (omega (arith, whole, same, c.in_ok-put.ensures.long, c.in_ok-put_subscripts.ensures.long))
 
-pub expressions::put_subscripts-returns-in_err-put_subscript-clause-full : goal.expressions::put_subscripts-returns-in_err-put_subscript-clause-full
+pub expressions::put_subscripts-returns-in_err-put_subscript-clause-full :
+    goal.expressions::put_subscripts-returns-in_err-put_subscript-clause-full
 expressions::put_subscripts-returns-in_err-put_subscript-clause-full t c =
-    let b = subscripts_behind (lengths_in c.args.library.now c.args.scope) c.args.subscripts.now (c.loop-left.left - 1) c.loop-left.left
+    let b = subscripts_behind (lengths_in c.args.library.now c.args.scope) c.args.subscripts.now (c.loop-left.left -
+    1) c.loop-left.left
     c.index-subscripts-left.result (omega arith) (omega arith) c.index-subscripts-left.is in
     too_long _ c.in_err-put_subscript.field-0.0 _ _ c.in_err-put_subscript.ensures.full
     (omega (arith, b, c.loop-left.invariant.long)) (search rules)
 
-pub expressions::put_subscripts-returns-in_err-put_expr-clause-crowded : goal.expressions::put_subscripts-returns-in_err-put_expr-clause-crowded
+pub expressions::put_subscripts-returns-in_err-put_expr-clause-crowded :
+    goal.expressions::put_subscripts-returns-in_err-put_expr-clause-crowded
 expressions::put_subscripts-returns-in_err-put_expr-clause-crowded t c =
     not_linked _ c.in_err-put_expr.field-0.0 _ _ c.in_err-put_expr.ensures.crowded
-    (λ h. subst (λ (y : code_subscript.Subscript). ExprFits (FitsIn c.args.library.now c.args.scope) (site_of c.args.scope)
+    (λ h. subst (λ (y : code_subscript.Subscript). ExprFits (FitsIn c.args.library.now c.args.scope) (site_of
+    c.args.scope)
     (slot_expr_view y.index)) c.index-subscripts-left-in-loop-left.is
-    (subscript_fits (FitsIn c.args.library.now c.args.scope) (site_of c.args.scope) c.args.subscripts.now (c.loop-left.left - 1) c.index-subscripts-left-in-loop-left.result
+    (subscript_fits (FitsIn c.args.library.now c.args.scope) (site_of c.args.scope) c.args.subscripts.now
+    (c.loop-left.left - 1) c.index-subscripts-left-in-loop-left.result
     (omega arith) c.index-subscripts-left-in-loop-left.is h)) (search rules)
 
 pub statements::put_arms-returns-in_err-put-clause-full : goal.statements::put_arms-returns-in_err-put-clause-full
 statements::put_arms-returns-in_err-put-clause-full t c =
-    let b = arms_left (lengths_in c.args.library.now c.args.scope) c.args.arms.now (c.loop-left.left - 1) c.loop-left.left (omega arith) (omega arith) in
+    let b = arms_left (lengths_in c.args.library.now c.args.scope) c.args.arms.now (c.loop-left.left - 1)
+    c.loop-left.left (omega arith) (omega arith) in
     too_long _ c.in_err-put.field-0.0 _ _ c.in_err-put.ensures.full
     (omega (arith, b, c.loop-left.invariant.long)) (search rules)
 
-pub statements::put_arms-returns-in_err-put_statements-clause-crowded : goal.statements::put_arms-returns-in_err-put_statements-clause-crowded
+pub statements::put_arms-returns-in_err-put_statements-clause-crowded :
+    goal.statements::put_arms-returns-in_err-put_statements-clause-crowded
 statements::put_arms-returns-in_err-put_statements-clause-crowded t c =
     not_linked _ c.in_err-put_statements.field-0.0 _ _ c.in_err-put_statements.ensures.crowded
-    (λ h. subst (λ (ys : List code_stmt.SlotStmt). StmtsFit (FitsIn c.args.library.now c.args.scope) (site_of c.args.scope)
+    (λ h. subst (λ (ys : List code_stmt.SlotStmt). StmtsFit (FitsIn c.args.library.now c.args.scope) (site_of
+    c.args.scope)
     (stmts_of (map slot_stmt_view ys))) (sym c.deref.ensures.value)
     (subst (λ (y : code_arm.SlotArm). StmtsFit (FitsIn c.args.library.now c.args.scope) (site_of c.args.scope)
     (stmts_of (map slot_stmt_view y.body.items))) c.index-arms-left.is
     (arm_fits (FitsIn c.args.library.now c.args.scope) (site_of c.args.scope) c.args.arms.now (c.loop-left.left - 1)
     c.index-arms-left.result (omega arith) c.index-arms-left.is h).1)) (search rules)
 
-pub statements::put_arms-returns-in_err-put_expr-clause-crowded : goal.statements::put_arms-returns-in_err-put_expr-clause-crowded
+pub statements::put_arms-returns-in_err-put_expr-clause-crowded :
+    goal.statements::put_arms-returns-in_err-put_expr-clause-crowded
 statements::put_arms-returns-in_err-put_expr-clause-crowded t c =
     not_linked _ c.in_err-put_expr.field-0.0 _ _ c.in_err-put_expr.ensures.crowded
-    (λ h. subst (λ (y : code_arm.SlotArm). ExprFits (FitsIn c.args.library.now c.args.scope) (site_of c.args.scope) (slot_expr_view y.condition)) c.index-arms-left-in-loop-left.is
-    (arm_fits (FitsIn c.args.library.now c.args.scope) (site_of c.args.scope) c.args.arms.now (c.loop-left.left - 1) c.index-arms-left-in-loop-left.result
+    (λ h. subst (λ (y : code_arm.SlotArm). ExprFits (FitsIn c.args.library.now c.args.scope) (site_of c.args.scope)
+    (slot_expr_view y.condition)) c.index-arms-left-in-loop-left.is
+    (arm_fits (FitsIn c.args.library.now c.args.scope) (site_of c.args.scope) c.args.arms.now (c.loop-left.left - 1)
+    c.index-arms-left-in-loop-left.result
     (omega arith) c.index-arms-left-in-loop-left.is h).0) (search rules)
 
-pub statements::put_case_arms-returns-in_err-put-clause-full : goal.statements::put_case_arms-returns-in_err-put-clause-full
+pub statements::put_case_arms-returns-in_err-put-clause-full :
+    goal.statements::put_case_arms-returns-in_err-put-clause-full
 statements::put_case_arms-returns-in_err-put-clause-full t c =
-    let b = case_left (lengths_in c.args.library.now c.args.scope) c.args.arms.now (c.loop-left.left - 1) c.loop-left.left (omega arith) (omega arith) in
+    let b = case_left (lengths_in c.args.library.now c.args.scope) c.args.arms.now (c.loop-left.left - 1)
+    c.loop-left.left (omega arith) (omega arith) in
     too_long _ c.in_err-put.field-0.0 _ _ c.in_err-put.ensures.full
     (omega (arith, b, c.loop-left.invariant.long)) (search rules)
 
-pub statements::put_case_arms-returns-in_err-put_statements-clause-full : goal.statements::put_case_arms-returns-in_err-put_statements-clause-full
+pub statements::put_case_arms-returns-in_err-put_statements-clause-full :
+    goal.statements::put_case_arms-returns-in_err-put_statements-clause-full
 statements::put_case_arms-returns-in_err-put_statements-clause-full t c =
-    let b = case_behind (lengths_in c.args.library.now c.args.scope) c.args.arms.now (c.loop-left.left - 1) c.loop-left.left
+    let b = case_behind (lengths_in c.args.library.now c.args.scope) c.args.arms.now (c.loop-left.left - 1)
+    c.loop-left.left
     c.index-arms-left.result (omega arith) (omega arith) c.index-arms-left.is in
     let body : stmts_length (lengths_in c.args.library.now c.args.scope) (slot_stmts_view c.deref.result.now)
-    ≡ stmts_length (lengths_in c.args.library.now c.args.scope) (slot_stmts_view c.index-arms-left.result.body.items) =
-    ap (λ (ys : List code_stmt.SlotStmt). stmts_length (lengths_in c.args.library.now c.args.scope) (slot_stmts_view ys)) c.deref.ensures.value
+    ≡ stmts_length (lengths_in c.args.library.now c.args.scope) (slot_stmts_view c.index-arms-left.result.body.items)
+    =
+    ap (λ (ys : List code_stmt.SlotStmt). stmts_length (lengths_in c.args.library.now c.args.scope) (slot_stmts_view
+    ys)) c.deref.ensures.value
     ∙ ap (λ (y : code_case_arm.SlotCaseArm). stmts_length (lengths_in c.args.library.now c.args.scope)
     (slot_stmts_view y.body.items)) (sym c.index-arms-left.is) in
     too_long _ c.in_err-put_statements.field-0.0 _ _ c.in_err-put_statements.ensures.full
     (omega (arith, b, body, c.loop-left.invariant.long, c.in_ok-put.ensures.long)) (search rules)
 
-pub statements::put_case_arms-returns-in_err-put_statements-clause-crowded : goal.statements::put_case_arms-returns-in_err-put_statements-clause-crowded
+pub statements::put_case_arms-returns-in_err-put_statements-clause-crowded :
+    goal.statements::put_case_arms-returns-in_err-put_statements-clause-crowded
 statements::put_case_arms-returns-in_err-put_statements-clause-crowded t c =
     not_linked _ c.in_err-put_statements.field-0.0 _ _ c.in_err-put_statements.ensures.crowded
-    (λ h. subst (λ (ys : List code_stmt.SlotStmt). StmtsFit (FitsIn c.args.library.now c.args.scope) (site_of c.args.scope)
+    (λ h. subst (λ (ys : List code_stmt.SlotStmt). StmtsFit (FitsIn c.args.library.now c.args.scope) (site_of
+    c.args.scope)
     (stmts_of (map slot_stmt_view ys))) (sym c.deref.ensures.value)
-    (subst (λ (y : code_case_arm.SlotCaseArm). StmtsFit (FitsIn c.args.library.now c.args.scope) (site_of c.args.scope)
+    (subst (λ (y : code_case_arm.SlotCaseArm). StmtsFit (FitsIn c.args.library.now c.args.scope) (site_of
+    c.args.scope)
     (stmts_of (map slot_stmt_view y.body.items))) c.index-arms-left.is
     (case_fits (FitsIn c.args.library.now c.args.scope) (site_of c.args.scope) c.args.arms.now (c.loop-left.left - 1)
     c.index-arms-left.result (omega arith) c.index-arms-left.is h))) (search rules)
 
-pub statements::put_case_arms-returns-in_err-put-2-clause-full : goal.statements::put_case_arms-returns-in_err-put-2-clause-full
+pub statements::put_case_arms-returns-in_err-put-2-clause-full :
+    goal.statements::put_case_arms-returns-in_err-put-2-clause-full
 statements::put_case_arms-returns-in_err-put-2-clause-full t c =
-    let b = case_behind (lengths_in c.args.library.now c.args.scope) c.args.arms.now (c.loop-left.left - 1) c.loop-left.left
+    let b = case_behind (lengths_in c.args.library.now c.args.scope) c.args.arms.now (c.loop-left.left - 1)
+    c.loop-left.left
     c.index-arms-left.result (omega arith) (omega arith) c.index-arms-left.is in
     let body : stmts_length (lengths_in c.args.library.now c.args.scope) (slot_stmts_view c.deref.result.now)
-    ≡ stmts_length (lengths_in c.args.library.now c.args.scope) (slot_stmts_view c.index-arms-left.result.body.items) =
-    ap (λ (ys : List code_stmt.SlotStmt). stmts_length (lengths_in c.args.library.now c.args.scope) (slot_stmts_view ys)) c.deref.ensures.value
+    ≡ stmts_length (lengths_in c.args.library.now c.args.scope) (slot_stmts_view c.index-arms-left.result.body.items)
+    =
+    ap (λ (ys : List code_stmt.SlotStmt). stmts_length (lengths_in c.args.library.now c.args.scope) (slot_stmts_view
+    ys)) c.deref.ensures.value
     ∙ ap (λ (y : code_case_arm.SlotCaseArm). stmts_length (lengths_in c.args.library.now c.args.scope)
     (slot_stmts_view y.body.items)) (sym c.index-arms-left.is) in
     too_long _ c.in_err-put-2.field-0.0 _ _ c.in_err-put-2.ensures.full
-    (omega (arith, b, body, c.loop-left.invariant.long, c.in_ok-put.ensures.long, c.in_ok-put_statements.ensures.long))
+    (omega (
+      arith,
+      b,
+      body,
+      c.loop-left.invariant.long,
+      c.in_ok-put.ensures.long,
+      c.in_ok-put_statements.ensures.long,
+    ))
     (search rules)
 
-pub statements::put_case_arms-returns-in_err-put-3-clause-full : goal.statements::put_case_arms-returns-in_err-put-3-clause-full
+pub statements::put_case_arms-returns-in_err-put-3-clause-full :
+    goal.statements::put_case_arms-returns-in_err-put-3-clause-full
 statements::put_case_arms-returns-in_err-put-3-clause-full t c =
-    let b = case_behind (lengths_in c.args.library.now c.args.scope) c.args.arms.now (c.loop-left.left - 1) c.loop-left.left
+    let b = case_behind (lengths_in c.args.library.now c.args.scope) c.args.arms.now (c.loop-left.left - 1)
+    c.loop-left.left
     c.index-arms-left.result (omega arith) (omega arith) c.index-arms-left.is in
     let body : stmts_length (lengths_in c.args.library.now c.args.scope) (slot_stmts_view c.deref.result.now)
-    ≡ stmts_length (lengths_in c.args.library.now c.args.scope) (slot_stmts_view c.index-arms-left.result.body.items) =
-    ap (λ (ys : List code_stmt.SlotStmt). stmts_length (lengths_in c.args.library.now c.args.scope) (slot_stmts_view ys)) c.deref.ensures.value
+    ≡ stmts_length (lengths_in c.args.library.now c.args.scope) (slot_stmts_view c.index-arms-left.result.body.items)
+    =
+    ap (λ (ys : List code_stmt.SlotStmt). stmts_length (lengths_in c.args.library.now c.args.scope) (slot_stmts_view
+    ys)) c.deref.ensures.value
     ∙ ap (λ (y : code_case_arm.SlotCaseArm). stmts_length (lengths_in c.args.library.now c.args.scope)
     (slot_stmts_view y.body.items)) (sym c.index-arms-left.is) in
     too_long _ c.in_err-put-3.field-0.0 _ _ c.in_err-put-3.ensures.full
@@ -889,8 +1016,10 @@ statements::put_case_arms-returns-in_err-put-3-clause-full t c =
       c.in_ok-put-2.ensures.long,
     )) (search rules)
 
-pub statements::put_statements-returns-in_err-put_statement-clause-crowded : goal.statements::put_statements-returns-in_err-put_statement-clause-crowded
+pub statements::put_statements-returns-in_err-put_statement-clause-crowded :
+    goal.statements::put_statements-returns-in_err-put_statement-clause-crowded
 statements::put_statements-returns-in_err-put_statement-clause-crowded t c =
     not_linked _ c.in_err-put_statement.field-0.0 _ _ c.in_err-put_statement.ensures.crowded
-    (λ h. stmt_fits (FitsIn c.args.library.now c.args.scope) (site_of c.args.scope) c.args.statements.now (c.loop-left.left - 1) c.index-statements-left.result (omega arith)
+    (λ h. stmt_fits (FitsIn c.args.library.now c.args.scope) (site_of c.args.scope) c.args.statements.now
+    (c.loop-left.left - 1) c.index-statements-left.result (omega arith)
     c.index-statements-left.is h) (search rules)

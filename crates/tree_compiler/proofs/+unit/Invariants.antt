@@ -58,7 +58,8 @@ decreases-expressions::put_subscripts l =
 
 abbrev pub decreases-statements::put_arms : goal.decreases-statements::put_arms
 decreases-statements::put_arms l =
-    weight (filled (slot_library_view l.library.now)) l.scope.depth + arms_size (arms_of (map slot_arm_view l.arms.now))
+    weight (filled (slot_library_view l.library.now)) l.scope.depth + arms_size (arms_of (map slot_arm_view
+    l.arms.now))
 
 abbrev pub decreases-statements::put_case_arms : goal.decreases-statements::put_case_arms
 decreases-statements::put_case_arms l =
@@ -108,7 +109,8 @@ decreases-statements::put_turns l =
 abbrev pub invariant-calls::put_inputs-loop-left : goal.invariant-calls::put_inputs-loop-left
 invariant-calls::put_inputs-loop-left l = record {
   within : l.left ≤ length l.arguments;
-  long : length l.code ≡ inputs_length (lengths_in l.library l.scope) (map slot_argument_view (drop l.left l.arguments))
+  long : length l.code ≡ inputs_length (lengths_in l.library l.scope) (map slot_argument_view (drop l.left
+      l.arguments))
       + length l.fn.code;
   code : l.code ≡ inputs_code (units_in l.library l.scope) (site_of l.scope) (map slot_argument_view (drop l.left
       l.arguments)) l.fn.code;
@@ -122,7 +124,8 @@ decreases-calls::put_inputs-loop-left l = l.left
 abbrev pub invariant-calls::put_outputs-loop-left : goal.invariant-calls::put_outputs-loop-left
 invariant-calls::put_outputs-loop-left l = record {
   within : l.left ≤ length l.arguments;
-  long : length l.code ≡ outputs_length (lengths_in l.library l.scope) (map slot_argument_view (drop l.left l.arguments))
+  long : length l.code ≡ outputs_length (lengths_in l.library l.scope) (map slot_argument_view (drop l.left
+      l.arguments))
       + length l.fn.code;
   code : l.code ≡ outputs_code (units_in l.library l.scope) (site_of l.scope) l.first (map slot_argument_view (drop
       l.left l.arguments)) l.fn.code;
@@ -136,7 +139,8 @@ decreases-calls::put_outputs-loop-left l = l.left
 abbrev pub invariant-expressions::put_exprs-loop-left : goal.invariant-expressions::put_exprs-loop-left
 invariant-expressions::put_exprs-loop-left l = record {
   within : l.left ≤ length l.expressions;
-  long : length l.code ≡ exprs_length (lengths_in l.library l.scope) (exprs_of (map slot_expr_view (drop l.left l.expressions)))
+  long : length l.code ≡ exprs_length (lengths_in l.library l.scope) (exprs_of (map slot_expr_view (drop l.left
+      l.expressions)))
       + length l.fn.code;
   code : l.code ≡ exprs_code (units_in l.library l.scope) (site_of l.scope) (exprs_of (map slot_expr_view (drop
       l.left l.expressions))) l.fn.code;
@@ -150,7 +154,8 @@ decreases-expressions::put_exprs-loop-left l = l.left
 abbrev pub invariant-expressions::put_subscripts-loop-left : goal.invariant-expressions::put_subscripts-loop-left
 invariant-expressions::put_subscripts-loop-left l = record {
   within : l.left ≤ length l.subscripts;
-  long : length l.code ≡ subscripts_length (lengths_in l.library l.scope) (subscripts_of (map subscript_view (drop l.left l.subscripts)))
+  long : length l.code ≡ subscripts_length (lengths_in l.library l.scope) (subscripts_of (map subscript_view (drop
+      l.left l.subscripts)))
       + length l.fn.code;
   code : l.code ≡ subscripts_code (units_in l.library l.scope) (site_of l.scope) (subscripts_of (map subscript_view
       (drop l.left l.subscripts))) l.fn.code;
@@ -177,7 +182,8 @@ decreases-statements::put_arms-loop-left l = l.left
 abbrev pub invariant-statements::put_case_arms-loop-left : goal.invariant-statements::put_case_arms-loop-left
 invariant-statements::put_case_arms-loop-left l = record {
   within : l.left ≤ length l.arms;
-  long : length l.code ≡ case_length (lengths_in l.library l.scope) (case_arms_of (map slot_case_arm_view (drop l.left l.arms)))
+  long : length l.code ≡ case_length (lengths_in l.library l.scope) (case_arms_of (map slot_case_arm_view (drop
+      l.left l.arms)))
       + length l.fn.code;
   code : l.code ≡ case_code (units_in l.library l.scope) (site_of l.scope) (case_arms_of (map slot_case_arm_view
       (drop l.left l.arms))) l.ways l.end l.fn.code;
@@ -191,7 +197,8 @@ decreases-statements::put_case_arms-loop-left l = l.left
 abbrev pub invariant-statements::put_statements-loop-left : goal.invariant-statements::put_statements-loop-left
 invariant-statements::put_statements-loop-left l = record {
   within : l.left ≤ length l.statements;
-  long : length l.code ≡ stmts_length (lengths_in l.library l.scope) (stmts_of (map slot_stmt_view (drop l.left l.statements)))
+  long : length l.code ≡ stmts_length (lengths_in l.library l.scope) (stmts_of (map slot_stmt_view (drop l.left
+      l.statements)))
       + length l.fn.code;
   code : l.code ≡ stmts_code (units_in l.library l.scope) (site_of l.scope) (stmts_of (map slot_stmt_view (drop
       l.left l.statements))) l.ways l.fn.code;
