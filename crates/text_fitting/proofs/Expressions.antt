@@ -1,5 +1,5 @@
 -- Expressions in which nothing is wrong are sound.
-use Rattle.std.proofs.Common.{◌≡◌, refl, sym, ap, subst, ◌∙◌, ℕ, suc, ◌+◌, ◌==◌, arith, true}
+use Rattle.std.proofs.Common.{◌≡◌, refl, sym, ap, subst, ◌∙◌, ℕ, suc, ◌+◌, ◌<◌, ◌==◌, arith, true}
 use Rattle.std.proofs.Common.{if◌then◌else◌, List, [], ◌∷◌, ◌++◌, length, Option, Some, None}
 use Rattle.std.specs.Prelude.{map, is_some}
 use Rattle.std.specs.List.{flat_map}
@@ -21,7 +21,8 @@ use Rattle.st_types.specs.NameTypes.{unit_named, input_kinds, result_kind}
 use Rattle.st_types.specs.Resolution.{own_kinds, common_kind, expected_kinds, inputs_of_unit, inputs_of_function}
 use Rattle.st_types.specs.Resolution.{resolved_expr, resolved_exprs, resolved_selectors}
 use Rattle.st_types.specs.Scopes.{Name}
-use Rattle.st_types.specs.StandardFunctions.{Standard, standard_of}
+use Rattle.st_types.specs.StandardFunctions.{Standard, standard_of, ABS, MIN, MAX, LIMIT, SEL, SHL, SHR, ROL, ROR}
+use Rattle.st_types.specs.StandardFunctions.{CONVERT}
 use Rattle.st_statics.specs.declared.demand.Sorts.TheVariants.{Any as any, Whole as whole}
 use Rattle.st_statics.specs.declared.demand.Demand.{Demand}
 use Rattle.st_statics.specs.declared.demand.Demand.TheVariants.{Asked as asked}
@@ -49,6 +50,19 @@ same_number m n h = grind (arith, nat_tests)
 
 one_counted : (m n : ℕ) → m ≡ n → suc m ≡ 1 + n
 one_counted m n h = omega (arith, h)
+
+-- no standard function asks for many arguments
+few_demands : (std : Standard) (k : Option Kind) → length (demands_of_standard std k) < 65536
+few_demands ABS k = omega arith
+few_demands MIN k = omega arith
+few_demands MAX k = omega arith
+few_demands LIMIT k = omega arith
+few_demands SEL k = omega arith
+few_demands SHL k = omega arith
+few_demands SHR k = omega arith
+few_demands ROL k = omega arith
+few_demands ROR k = omega arith
+few_demands (CONVERT a b) k = omega arith
 
 module _ (C : UnitCall → Type 0) (s : Site) (env : Environment) (t : Table) where
   abbrev Callable : Name → Type 0
@@ -96,7 +110,11 @@ module _ (C : UnitCall → Type 0) (s : Site) (env : Environment) (t : Table) wh
       ≡ resolved_exprs env.text env.unit (map expected_of ds) es =
       ap (λ q. resolved_exprs env.text env.unit (expected_kinds std q) es) (all_kinds_told env es)
       ∙ standard_expected env.text env.unit std ks es in
-      subst (λ (q : Exprs). CallIs f (Some std) q) (sym same) (all ds n h, tt)
+      let number : number_of_exprs (resolved_exprs env.text env.unit (map expected_of ds) es) ≡ length ds =
+      all_counted (map expected_of ds) es ∙ same_number (count_of es) (length ds) n in
+      let few : number_of_exprs (resolved_exprs env.text env.unit (map expected_of ds) es) < 65536 =
+      subst (λ k. k < 65536) (sym number) (few_demands std (common_kind std ks)) in
+      subst (λ (q : Exprs). CallIs f (Some std) q) (sym same) (all ds n h, few)
 
   own_sound : (f : Name) (inputs : List (Option Kind)) (result : Option Kind) (es : Exprs)
       → callee_of env f ≡ Some (own inputs result) → Callable f → AreSound es

@@ -46,7 +46,7 @@ module _ (C : UnitCall → Type 0) (s : Site) (t : Table) (small : s.size < 6553
       → count_of xs ≡ count → linked_call t f o xs ≡ Some x → CallSound C s t o f count → ExprLinked C s x
   call_linked (Some standard) f count xs x l n h g =
       let is : compute standard xs ≡ x = cc in
-      subst (λ y. ExprLinked C s y) is l
+      subst (λ y. ExprLinked C s y) is (subst (λ k. k < 65536) (sym n) g, l)
   call_linked None f count xs x l n h g =
       let m = map_some (λ i. call i xs) (named_in t.functions f) x h in
       subst (λ y. ExprLinked C s y) m.2 (l, subst (λ k. C (of_function m.0 (end_of s) k)) (sym n) (g m.0 m.1))

@@ -49,9 +49,10 @@ number_of_exprs named.no_exprs = 0
 number_of_exprs (named.expr_then e es) = suc (number_of_exprs es)
 
 module _ (CallLinked : UnitCall → Type 0) (site : Site) (t : Table) where
-  -- code is made of the function of the text that a name stands for, with so many arguments
+  -- a standard function has as few arguments as instructions hold, and code is made of the function of the text that
+  -- a name stands for, with so many arguments
   abbrev pub CallSound : Option Standard → Name → ℕ → Type 0
-  CallSound (Some standard) f count = Unit {0}
+  CallSound (Some standard) f count = count < 65536
   CallSound None f count = (i : ℕ) → named_in t.functions f ≡ Some i → CallLinked (of_function i (end_of site) count)
 
   abbrev mutual
