@@ -1,17 +1,21 @@
 # What one does with this repository. README.md says more of each.
 
-.PHONY: run build examples test strength
+.PHONY: run build try examples test strength
 
 # The prover's allocator (mimalloc) keeps what it has freed, and takes it again: about a hundredth of the time of a proof.
 export MIMALLOC_PURGE_DELAY := -1
 
-# The dosing pump over a real retain file, cold and then warm, in about two minutes: proved where the program is built, else not.
+# The dosing pump over a real retain file, cold and then warm, by out/plant where it is built; else it compiles out/plant-unproved.
 run:
 	@tools/run.sh
 
 # Proves the program and builds it as out/plant.
 build:
 	@tools/build.sh
+
+# For who changes something: the scripts of the gate over out/plant-unproved. Nothing is proved.
+try:
+	@tools/try.sh
 
 # Each example on the built program: what it shows, its report, and whether that is as it should be.
 examples:

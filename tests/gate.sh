@@ -11,22 +11,6 @@ tests/edits.py
 tests/drops.py
 echo "free disk: $(df -m --output=avail . | tail -n 1 | tr -d ' ') MB; the proofs of all crates take about 25,000"
 
-# program: the scripts over the built program, side by side, since each works in a folder of its own
-program() {
-    local told failed=0 at scripts=(program.sh language.py edges.py examples.sh replays.sh broken.py codes.py explanations.py explain.py shows.py plots.py pictures.py progress.py kill.sh two_runs.py hostile.py) running=()
-    told=$(mktemp -d)
-    for script in "${scripts[@]}"; do
-        "tests/$script" "$plant" > "$told/$script" 2>&1 &
-        running+=($!)
-    done
-    for at in "${!scripts[@]}"; do
-        wait "${running[at]}" || failed=1
-        cat "$told/${scripts[at]}"
-    done
-    rm -r "$told"
-    return $failed
-}
-
 rt ci | {
     last=
     while IFS= read -r line; do
@@ -35,7 +19,7 @@ rt ci | {
     done
     case $last in
         *" passed, 0 failed")
-            program || { echo "the built program has failed" >&2; exit 1; }
+            tests/scripts.sh "$plant" || { echo "the built program has failed" >&2; exit 1; }
             mkdir -p out
             cp "$plant" out/plant
             ;;

@@ -4,7 +4,7 @@
 Each is answered as it should be, and no check takes as long as one whose time grows faster than its text. The texts are those that
 bench/checks.py measures; they take less than a second each on a machine that does nothing else.
 
-usage: tests/hostile.py PLANT     PLANT is the built program
+usage: tests/hostile.py PLANT [SECONDS]     PLANT is the built program; SECONDS of the processor are for each text, 4 where none are named
 """
 import pathlib
 import resource
@@ -17,7 +17,7 @@ sys.path.insert(0, str(pathlib.Path(__file__).resolve().parent.parent / "bench")
 import checks  # noqa: E402
 
 # seconds of the processor; other work on the machine takes its part
-MOST = 4
+MOST = int(sys.argv[2]) if len(sys.argv) > 2 else 4
 
 
 def fail(what, told):

@@ -1,3 +1,4 @@
+# shellcheck shell=bash
 # What crates.txt says, for scripts that read this file.
 
 # below ROOT NAMES: these crates of the repository at ROOT, blanks between them, and all that they stand on, in the order of crates.txt
@@ -39,4 +40,12 @@ copy_parts() {
         line_of . "$crate"
     done > "$to/crates.txt"
     cp HANDLES "$to"
+}
+
+# is_new PROGRAM PARTS..: the program stands, and neither crates.txt nor one of these parts of a crate is newer
+is_new() {
+    local program=$1 part parts=(crates.txt)
+    shift
+    for part; do parts+=(crates/*/"$part"); done
+    [ -x "$program" ] && [ -z "$(find "${parts[@]}" -newer "$program" -print -quit)" ]
 }
