@@ -12,6 +12,7 @@ use Rattle.serial_core.specs.declared.refusal.Answer.TheVariants.{Committed, Sta
 use Rattle.serial_core.specs.declared.refusal.Refusal.{Refusal}
 use Rattle.serial_core.specs.declared.refusal.Refusal.TheVariants.{Full, NotWaiting, Foreign, NotLater, NoMemory}
 use Rattle.serial_core.specs.Steps.{State, grown, Latches, Commits, CommitsHere}
+use Rattle.commit_lock.specs.declared.starting.StartMode.{StartMode}
 use Rattle.commit_lock.specs.Kept.{CoreInvariant}
 use Rattle.commit_lock.specs.Cores.{IsLonger}
 use Rattle.commit_lock.proofs.SurvivalLemmas.{survives_longer}
@@ -41,11 +42,14 @@ here_longer old resource (Err NotWaiting) new h = absurd h
 here_longer old resource (Err Foreign) new h = absurd h
 here_longer old resource (Err NotLater) new h = absurd h
 
-kept_grown : {D : Type 0} (state : State) (acked : ℕ) (failed : Option StoreFault) (store : StoreView D)
-    (layout : List ℕ) (room : ℕ) (entry : Entry)
-    → CoreInvariant state acked failed store layout room
-    → CoreInvariant (grown state entry) acked failed store layout room
-kept_grown state acked failed store layout room entry k = record {
+kept_grown : {D : Type 0} (mode : StartMode) (state : State) (acked : ℕ) (failed : Option StoreFault)
+    (store : StoreView D) (layout : List ℕ) (room : ℕ) (entry : Entry)
+    → CoreInvariant mode state acked failed store layout room
+    → CoreInvariant mode (grown state entry) acked failed store layout room
+kept_grown mode state acked failed store layout room entry k = record {
+  started = k.started;
+  early = k.early;
+  log_room = k.log_room;
   last = survives_longer state.plan state.start state.before state.log acked store.last entry k.last;
   tried = survives_longer state.plan state.start state.before state.log acked store.tried entry k.tried;
   few = omega (arith, k.few, length-append state.log (entry ∷ []));
@@ -55,11 +59,11 @@ kept_grown state acked failed store layout room entry k = record {
   room_is = k.room_is;
 }
 
-pub kept_longer : {D : Type 0} (old new : State) (acked : ℕ) (failed : Option StoreFault) (store : StoreView D)
-    (layout : List ℕ) (room : ℕ) → IsLonger old new → CoreInvariant old acked failed store layout room
-    → CoreInvariant new acked failed store layout room
-kept_longer old new acked failed store layout room (inl same) k =
-    subst (λ (s : State). CoreInvariant s acked failed store layout room) (sym same) k
-kept_longer old new acked failed store layout room (inr more) k =
-    subst (λ (s : State). CoreInvariant s acked failed store layout room) (sym more.1)
-    (kept_grown old acked failed store layout room more.0 k)
+pub kept_longer : {D : Type 0} (mode : StartMode) (old new : State) (acked : ℕ) (failed : Option StoreFault)
+    (store : StoreView D) (layout : List ℕ) (room : ℕ) → IsLonger old new
+    → CoreInvariant mode old acked failed store layout room → CoreInvariant mode new acked failed store layout room
+kept_longer mode old new acked failed store layout room (inl same) k =
+    subst (λ (s : State). CoreInvariant mode s acked failed store layout room) (sym same) k
+kept_longer mode old new acked failed store layout room (inr more) k =
+    subst (λ (s : State). CoreInvariant mode s acked failed store layout room) (sym more.1)
+    (kept_grown mode old acked failed store layout room more.0 k)

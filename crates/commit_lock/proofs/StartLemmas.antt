@@ -18,12 +18,12 @@ use Rattle.commit_lock.proofs.RecordedLemmas.{typed}
 use Rattle.commit_lock.proofs.RecordLemmas.{known_kinds, told_in_order}
 use Rattle.commit_lock.specs.Restart.{Survives, begun, layout_text_of, record_now, warm}
 use Rattle.commit_lock.specs.Starting.{LeftByStart, StartKeeps, RefusesStart, HasOtherLayout, IsLastGeneration}
-use Rattle.commit_lock.specs.Starting.{IsWantOfMemory, next_generation, started}
+use Rattle.commit_lock.specs.Starting.{IsStart, IsWantOfMemory, next_generation, start_in, started}
 use Rattle.commit_lock.specs.declared.refusal.StartFault.{StartFault}
 use Rattle.commit_lock.specs.declared.refusal.StartFault.TheVariants as faults
 use Rattle.retain_store.specs.declared.fault.StoreFault.TheVariants as stores
 use Rattle.retain_store.specs.Opening.{KeepsRecord}
-use Rattle.commit_lock.specs.declared.starting.StartMode.TheVariants.{Cold}
+use Rattle.commit_lock.specs.declared.starting.StartMode.TheVariants.{Cold, Warm}
 use Rattle.retain_areas.specs.Areas.{IsEither}
 use Rattle.std.specs.Prelude.{MatchResult, IfOk, IfErr, Result, Ok, Err}
 
@@ -62,6 +62,19 @@ resumed_from plan room content (Found generation found) values moment at layout 
     ∙ ap (λ m. begins (told_by plan (typed (retained_kinds plan.variables.items) content.values) m)) timed
     ∙ ap begins (sym (told_in_order plan content layout kinds))
     ∙ ap (λ c. begins (told c)) (some_is content found at)
+
+-- what a warm start gives is what some record tells, or none
+warm_is : (plan : Plan) (last : Recovered) → (r : Option Kept) × (warm plan last ≡ warm_start (plan_view plan) r)
+warm_is plan TooLong = (None, refl)
+warm_is plan Refused = (None, refl)
+warm_is plan Nothing = (None, refl)
+warm_is plan (Found generation content) = (Some (told content), refl)
+
+-- so a core that goes on from a record was started warm
+pub started_warm : (plan : Plan) (room : ℕ) (last : Recovered) (state : State) → state ≡ started plan room (warm plan last)
+    → IsStart state.plan Warm (start_in state)
+started_warm plan room last state is =
+    subst (λ (s : State). IsStart s.plan Warm (start_in s)) (sym is) (warm_is plan last)
 
 -- the record that a life goes on from survives
 pub survives_found : (plan : Plan) (content : Content) (state : State) (last : Recovered)

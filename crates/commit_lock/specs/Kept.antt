@@ -1,19 +1,26 @@
 -- What a core over a disk keeps of its fields.
-use Rattle.std.specs.Prelude.{◌≡◌, ◌≤◌, ℕ, List, Bool, true, false, length, Option, Some, None}
+use Rattle.std.specs.Prelude.{◌≡◌, ◌≤◌, ◌<◌, ℕ, List, Bool, true, false, length, Option, Some, None, IfSome}
+use Rattle.st_words.specs.declared.limits.TheConstants.{MAX_LOG_ROOM, MOMENT_LIMIT}
 use Rattle.st_plans.specs.Layouts.{record_length}
 use Rattle.config.specs.PlanViews.{plan_view}
 use Rattle.retain_store.specs.declared.fault.StoreFault.{StoreFault}
 use Rattle.retain_store.specs.Kept.{StoreView}
 use Rattle.serial_core.specs.Steps.{State}
+use Rattle.commit_lock.specs.declared.starting.StartMode.{StartMode}
 use Rattle.commit_lock.specs.Restart.{Survives, layout_text_of}
+use Rattle.commit_lock.specs.Starting.{IsStart, start_in}
 
 abbrev pub is_failed : Option StoreFault → Bool
 is_failed None = false
 is_failed (Some fault) = true
 
--- The last record survives, and so does one that a failed save tried.
-pub record CoreInvariant {D : Type 0} (state : State) (acked : ℕ) (failed : Option StoreFault) (store : StoreView D)
-    (layout : List ℕ) (room : ℕ) : Type 0 where
+-- The life was started so, after a moment within its limit, with room for no more entries than a log may have. The last
+-- record survives, and so does one that a failed save tried.
+pub record CoreInvariant {D : Type 0} (mode : StartMode) (state : State) (acked : ℕ) (failed : Option StoreFault)
+    (store : StoreView D) (layout : List ℕ) (room : ℕ) : Type 0 where
+  pub started : IsStart state.plan mode (start_in state)
+  pub early : IfSome state.before (λ t. t < MOMENT_LIMIT)
+  pub log_room : state.room ≤ MAX_LOG_ROOM
   pub last : Survives state.plan state.start state.before state.log acked store.last
   pub tried : Survives state.plan state.start state.before state.log acked store.tried
   pub few : acked ≤ length state.log

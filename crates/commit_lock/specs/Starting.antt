@@ -1,6 +1,6 @@
 -- Starting a core.
-use Rattle.std.specs.Prelude.{◌≡◌, ◌≢◌, ◌⊎◌, ◌+◌, ◌-◌, ◌^◌, ℕ, List, []}
-use Rattle.st_plans.specs.Restarts.{Start, cold_start}
+use Rattle.std.specs.Prelude.{◌≡◌, ◌≢◌, ◌⊎◌, ◌+◌, ◌-◌, ◌^◌, ℕ, List, [], Option}
+use Rattle.st_plans.specs.Restarts.{Kept, Start, cold_start, warm_start}
 use Rattle.retain_store.specs.declared.fault.StoreFault.TheVariants as stores
 use Rattle.retain_areas.specs.Recovered.{Recovered, TooLong, Refused, Nothing, Found}
 use Rattle.retain_store.specs.Opening.{CountsFault, KeepsFile}
@@ -18,6 +18,15 @@ use Rattle.commit_lock.specs.Restart.{layout_text_of, warm, begun, record_now}
 abbrev pub start_of : StartMode → Plan → Recovered → Start
 start_of Warm plan file = warm plan file
 start_of Cold plan file = cold_start (plan_view plan)
+
+-- A cold start has the initial values and no moment. A warm one goes on from what some record tells, or from none.
+abbrev pub IsStart : Plan → StartMode → Start → Type 0
+IsStart plan Cold start = start ≡ cold_start (plan_view plan)
+IsStart plan Warm start = (told : Option Kept) × (start ≡ warm_start (plan_view plan) told)
+
+-- what a core has started with
+abbrev pub start_in : State → Start
+start_in state = record { store = state.start; moment = state.before }
 
 -- a core with this start, and an empty log
 abbrev pub started : Plan → ℕ → Start → State

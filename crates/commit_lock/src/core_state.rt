@@ -1,8 +1,12 @@
 //! The core over a disk.
 
-ghost use Rattle.std.specs.Prelude.{◌≡◌, ◌≤◌, List, ℕ, length};
+ghost use Rattle.std.specs.Prelude.{◌≡◌, ◌≤◌, ◌<◌, List, ℕ, IfSome, length};
+ghost use Rattle.st_words.specs.declared.limits.TheConstants.{MAX_LOG_ROOM, MOMENT_LIMIT};
+ghost use Rattle.st_plans.specs.Logs.{IsLegal};
+ghost use Rattle.config.specs.PlanViews.{plan_view};
 ghost use Rattle.retain_areas.specs.Recovered.{recovered};
 ghost use Rattle.commit_lock.specs.Cores.{survives};
+ghost use Rattle.commit_lock.specs.Starting.{IsStart, start_in};
 
 use crate::starting::StartMode;
 use disk::Disk;
@@ -11,11 +15,12 @@ use serial_core::SerialCore;
 use st_words::Value;
 use std::marker::Model;
 
-/// A core over a disk. Contracts see how it was started, its plan, start and log, how many entries are acknowledged, and its store.
+/// A core over a disk. Contracts see how it was started, its plan, start and log, how many entries are acknowledged, and
+/// its store.
 ///
-/// Its log is legal, its variables are what the executions of the log give, one after another, and on a disk that
-/// tells every file that a stop now may leave survives: a warm restart gives what a prefix of the log leaves, which
-/// holds all that is acknowledged.
+/// It was started as it says. Its log is legal, its variables are what the executions of the log give, one after
+/// another, and on a disk that tells every file that a stop now may leave survives: a warm restart gives what a prefix of
+/// the log leaves, which holds all that is acknowledged.
 pub struct Core<D: Disk> {
     /// How it was started.
     pub(crate) mode: StartMode,
@@ -66,17 +71,24 @@ impl<D: Disk> Model for Core<D> {
       store = x.store;
     } };
 
-    ghost invariant = { λ x. CoreInvariant x.serial x.acked x.failed x.store x.layout.items (vec_capacity x.kept) };
+    ghost invariant = { λ x. CoreInvariant x.mode x.serial x.acked x.failed x.store x.layout.items (vec_capacity x.kept) };
 }
 
 impl<D: Disk> Core<D> {
-    /// Tells what the type keeps: every file that a stop now may leave survives.
+    /// Tells what the type keeps: every file that a stop now may leave survives, it was started as it says, and its log
+    /// is legal and no longer than a log may be.
     pub fn kept(&self)
         ensures survives { D.tells → (file : List ℕ) → D.may_leave self.now.store.disk file
             → survives self.now (recovered file) }
         ensures few { self.now.acked ≤ length self.now.state.log }
+        ensures started { IsStart self.now.state.plan self.now.mode (start_in self.now.state) }
+        ensures early { IfSome self.now.state.before (λ t. t < MOMENT_LIMIT) }
+        ensures room { length self.now.state.log ≤ MAX_LOG_ROOM }
+        ensures legal { IsLegal (plan_view self.now.state.plan) self.now.state.start self.now.state.before
+            self.now.state.log }
     {
         self.store.kept();
+        let _length = self.serial.len();
     }
 
     /// Ends the life and gives the disk back, without a call of it.

@@ -1,8 +1,8 @@
 //! Starting a core.
 
 ghost use Rattle.std.specs.Prelude.{◌≡◌, ◌≢◌, ◌≤◌, ◌+◌, ◌-◌, ◌^◌, List, ℕ, [], None, IsTrue, true, false, length};
-ghost use Rattle.std.specs.Prelude.{vec_capacity, IfOk, IfErr, MatchResult};
-ghost use Rattle.st_words.specs.declared.limits.TheConstants.{MAX_LOG_ROOM};
+ghost use Rattle.std.specs.Prelude.{◌<◌, vec_capacity, IfOk, IfErr, IfSome, MatchResult};
+ghost use Rattle.st_words.specs.declared.limits.TheConstants.{MAX_LOG_ROOM, MOMENT_LIMIT};
 ghost use Rattle.disk.specs.Disk.{Only};
 ghost use Rattle.disk.specs.Runs.{LeavesOnly};
 ghost use Rattle.retain_areas.specs.declared.shape.TheConstants.{FILE_BYTES};
@@ -53,6 +53,7 @@ fn resume_from<D: Disk>(
 
     ensures resumed { IsTrue result
         → serial.new ≡ started serial.old.plan serial.old.room (warm serial.old.plan store.now.last) }
+    ensures early { IsTrue result → IfSome serial.new.before (λ t. t < MOMENT_LIMIT) }
     ensures survives { IsTrue result → Survives serial.new.plan serial.new.start serial.new.before [] 0 store.now.last }
     ensures other { result ≡ false → HasOtherLayout serial.old.plan store.now.last }
     ensures kept { vec_capacity kept.old ≤ vec_capacity kept.new }
@@ -74,6 +75,7 @@ fn warm<D: Disk>(parts: Parts, store: Store<D>) -> Result<Core<D>, (StartFault, 
     requires begun { parts.serial ≡ begun parts.serial.plan parts.serial.room }
     requires layout { parts.layout.items ≡ layout_text_of parts.serial.plan }
     requires kept { length parts.serial.plan.variables.items ≤ vec_capacity parts.kept }
+    requires log_room { parts.serial.room ≤ MAX_LOG_ROOM }
     requires last { IsLast store.generation store.last }
     requires tried { store.tried ≡ store.last }
     requires fresh { store.failed ≡ false }
@@ -116,6 +118,7 @@ fn cold<D: Disk>(parts: Parts, store: Store<D>) -> Result<Core<D>, (StartFault, 
     requires begun { parts.serial ≡ begun parts.serial.plan parts.serial.room }
     requires layout { parts.layout.items ≡ layout_text_of parts.serial.plan }
     requires kept { length parts.serial.plan.variables.items ≤ vec_capacity parts.kept }
+    requires log_room { parts.serial.room ≤ MAX_LOG_ROOM }
     requires last { IsLast store.generation store.last }
     requires fresh { store.failed ≡ false }
     requires room { store.room ≡ MAX_RECORD_BODY }

@@ -2,3 +2,5 @@ mod DriveLemmas
 mod LogLemmas
 mod AckedLemmas
 mod LifeLemmas
+mod FrontLemmas
+mod CauseLemmas

@@ -1,5 +1,5 @@
 -- What is said of each life.
-use Rattle.std.proofs.Common.{◌≡◌, ℕ, List, [], ◌∷◌, ◌++◌, length, append_assoc, append-nil, arith, sym, ap, ◌∙◌, subst}
+use Rattle.std.proofs.Common.{◌≡◌, ◌+◌, ◌-◌, ◌^◌, ℕ, List, [], ◌∷◌, ◌++◌, length, append_assoc, append-nil, arith, sym, ap, ◌∙◌, subst}
 use Rattle.std.proofs.Common.{Option, None, map, refl}
 use Rattle.std.specs.Prelude.{Result, Ok, Err, IfOk, IsOk, OnOk}
 use Rattle.disk.specs.Medium.{MayLeave}
@@ -7,21 +7,30 @@ use Rattle.disk.specs.Simulated.{SimView, IsReliable}
 use Rattle.st_types.specs.Stores.{Store}
 use Rattle.st_plans.specs.Logs.{IsLegal}
 use Rattle.retain_areas.specs.declared.shape.TheConstants.{FILE_BYTES}
-use Rattle.retain_areas.specs.Recovered.{recovered}
+use Rattle.retain_areas.specs.Recovered.{Recovered, TooLong, Refused as Damaged, Nothing, Found, recovered}
+use Rattle.retain_store.specs.declared.fault.StoreFault.{StoreFault}
+use Rattle.retain_store.specs.declared.fault.StoreFault.TheVariants as stores
+use Rattle.retain_store.specs.Kept.{StoreView, IsLast}
+use Rattle.commit_lock.specs.declared.refusal.Refusal.TheVariants.{StoreFailed}
+use Rattle.commit_lock.specs.declared.starting.StartMode.{StartMode}
+use Rattle.commit_lock.specs.declared.starting.StartMode.TheVariants.{Warm, Cold}
+use Rattle.lives.specs.declared.event.Reply.TheVariants.{Refused}
+use Rattle.std.specs.List.{AllByRecursion}
 use Rattle.config.specs.declared.plan.Plan.{Plan}
 use Rattle.config.specs.PlanViews.{plan_view}
 use Rattle.serial_core.specs.Steps.{State}
 use Rattle.lives.specs.declared.event.Event.{Event}
 use Rattle.lives.specs.declared.event.Reply.{Reply}
 use Rattle.commit_lock.specs.Restart.{Survives}
-use Rattle.commit_lock.specs.Starting.{start_of, started, CanStart}
+use Rattle.commit_lock.specs.Starting.{CanStart, IsSavedAnew, next_generation}
 use Rattle.commit_lock.specs.Cores.{CoreView, survives}
-use Rattle.lives.specs.Driving.{Held}
+use Rattle.lives.specs.Driving.{Held, IsWellAnswered, saves}
 use Rattle.lives.specs.declared.life.Life.{Life}
 use Rattle.lives.specs.declared.life.Course.{Course}
 use Rattle.lives.specs.declared.life.LifeEnd.{LifeEnd}
 use Rattle.lives.specs.LogsOfLives.{Logs}
-use Rattle.lives.specs.Lives.{EachLife, Calls, IsLived, IsLife, IsAllWell, beginning, most_flushed}
+use Rattle.lives.specs.Lives.{EachLife, Calls, IsFirst, IsLived, IsLeft, IsLife, IsAllWell, IsStoreBegun, beginning}
+use Rattle.lives.specs.Lives.{generation_begun, most_flushed}
 use Rattle.lives.proofs.LogLemmas.{drives_log}
 use Rattle.lives.proofs.AckedLemmas.{drives_most}
 
@@ -67,7 +76,7 @@ pub lived_is : (first last : CoreView SimView) (held : Held) (events : List Even
     → Calls first [] events course.replies.items last held → course.len ≡ length last.state.log
     → course.acked ≡ last.acked
     → IsLegal (plan_view last.state.plan) last.state.start last.state.before last.state.log
-    → survives last (recovered file) → IsLived first.state events course file
+    → survives last (recovered file) → IsLived first events course file
 lived_is first last held events course file fresh unfailed empty values calls long acked legal survives =
     let more = drives_log (λ disk. disk.failures) (Unit {0}) (λ old disk. MayLeave disk.medium)
     (λ disk. MayLeave disk.medium) first last [] held [] events course.replies.items calls tt in
@@ -75,16 +84,7 @@ lived_is first last held events course file fresh unfailed empty values calls lo
     (λ disk. MayLeave disk.medium) first last [] held events course.replies.items (omega (arith, fresh)) calls in
     record {
       values = values;
-      answered = record {
-        first = first;
-        last = last;
-        held = held;
-        begins = refl;
-        unfailed = unfailed;
-        fresh = fresh;
-        calls = calls;
-        ends = sym acked;
-      };
+      answered = record { last = last; held = held; calls = calls; ends = sym acked };
       acked = omega (arith, acked, most, fresh);
       left = record {
         log = last.state.log;
@@ -106,37 +106,65 @@ ok_of : {A B : Type 0} (r : Result A B) → IsOk r → (a : A) × (r ≡ Ok a)
 ok_of (Ok a) h = (a, refl)
 ok_of (Err b) h = absurd (cc)
 
+-- the generation of the last record after a start, by the file
+begins_at : {D : Type 0} (mode : StartMode) (plan : Plan) (room : ℕ) (file : Recovered) (store : StoreView D)
+    → IsStoreBegun mode plan room file store → store.generation ≡ generation_begun mode file
+begins_at Cold plan room file store is = is.0
+begins_at Warm plan room TooLong store is = absurd (subst (λ r. IsLast store.generation r) is.0 is.1)
+begins_at Warm plan room Damaged store is = absurd (subst (λ r. IsLast store.generation r) is.0 is.1)
+begins_at Warm plan room Nothing store is = subst (λ r. IsLast store.generation r) is.0 is.1
+begins_at Warm plan room (Found generation content) store is =
+    sym ((subst (λ r. IsLast store.generation r) is.0 is.1).0)
+
 -- a life that was started
-course_is : (plan : Plan) (file : List ℕ) (life : Life) (begin : State) (end : LifeEnd) (course : Course)
-    → end.course ≡ Ok course → begin ≡ beginning plan file life → CanStart life.mode plan (recovered file)
-    → IsLived begin life.events.items course end.file.items
-    → (life.stop ≡ None → life.fails ≡ None → IsAllWell course) → IsLife plan file life end
-course_is plan file life begin end course e is can lived well =
-    let l = subst (λ (b : State). IsLived b life.events.items course end.file.items) is lived in
+course_is : (plan : Plan) (file : List ℕ) (life : Life) (first : CoreView SimView) (end : LifeEnd) (course : Course)
+    → end.course ≡ Ok course → IsFirst plan file life first → CanStart life.mode plan (recovered file)
+    → IsLived first life.events.items course end.file.items
+    → (life.stop ≡ None → life.fails ≡ None → IsAllWell first.store.generation course) → IsLife plan file life end
+course_is plan file life first end course e begins can lived well =
+    let is = begins.state in
+    let at = begins_at life.mode plan life.log_room (recovered file) first.store begins.store in
     record {
-      begins = rw e (can, l.values);
-      answered = rw e l.answered;
-      acked = rw e l.acked;
-      survives = rw e l.left;
+      begins = rw e (can, lived.values ∙ ap (λ (b : State). map (λ v. v.1) b.start) is);
+      answered = rw e (record { first = first; begins = begins; answers = lived.answered });
+      acked = rw e lived.acked;
+      survives = rw e (subst (λ (b : State). IsLeft b life.events.items course.replies.items course.len course.acked
+          end.file.items) is lived.left);
       refused = rw e tt;
-      cause = λ stop fails. rw e (well stop fails);
+      cause = λ stop fails. rw e (subst (λ (n : ℕ). IsAllWell n course) at (well stop fails));
     }
 
-pub life_is : {E : Type 0} (plan : Plan) (file : List ℕ) (life : Life) (disk : SimView) (core : CoreView SimView)
-    (r : Result LifeEnd E) → disk.medium.file ≡ file
-    → (life.stop ≡ None → life.fails ≡ None → IsReliable disk FILE_BYTES)
-    → core.state ≡ started plan life.log_room (start_of life.mode plan (recovered disk.medium.file))
-    → CanStart life.mode plan (recovered disk.medium.file)
-    → (IsReliable disk FILE_BYTES → IsReliable core.store.disk FILE_BYTES)
+-- the store of a core that was started, by how it was started
+pub store_begun : (mode : StartMode) (plan : Plan) (room : ℕ) (file : Recovered) (core : CoreView SimView)
+    → (mode ≡ Warm → core.store.last ≡ file) → (mode ≡ Warm → IsLast core.store.generation core.store.last)
+    → (mode ≡ Cold → core.store.generation ≡ next_generation file) → (mode ≡ Cold → IsSavedAnew plan room core.store)
+    → IsStoreBegun mode plan room file core.store
+store_begun Warm plan room file core found last next saved = (found refl, last refl)
+store_begun Cold plan room file core found last next saved = (next refl, saved refl)
+
+pub life_is : {E : Type 0} (plan : Plan) (file : List ℕ) (life : Life) (core : CoreView SimView) (r : Result LifeEnd E)
+    → IsFirst plan file life core → CanStart life.mode plan (recovered file)
     → IfOk r (λ end. IsOk end.course)
-    → IfOk r (λ end. IfOk end.course (λ course. IsLived core.state life.events.items course end.file.items))
-    → (IsReliable core.store.disk FILE_BYTES → IfOk r (λ end. IfOk end.course IsAllWell))
+    → IfOk r (λ end. IfOk end.course (λ course. IsLived core life.events.items course end.file.items))
+    → (IsReliable core.store.disk FILE_BYTES → IfOk r (λ end. IfOk end.course (IsAllWell core.store.generation)))
     → IfOk r (IsLife plan file life)
-life_is plan file life disk core (Err error) of reliable is can serves ok lived well = tt
-life_is plan file life disk core (Ok end) of reliable is can serves ok lived well =
+life_is plan file life core (Err error) begins can ok lived well = tt
+life_is plan file life core (Ok end) begins can ok lived well =
     let c = ok_of end.course ok in
-    course_is plan file life core.state end c.0 c.1
-    (is ∙ ap (λ (f : List ℕ). started plan life.log_room (start_of life.mode plan (recovered f))) of)
-    (subst (λ (f : List ℕ). CanStart life.mode plan (recovered f)) of can)
-    (rw c.1 at lived)
-    (λ stop fails. rw c.1 at (well (serves (reliable stop fails))))
+    course_is plan file life core end c.0 c.1 begins can (rw c.1 at lived)
+    (λ stop fails. rw c.1 at (well (begins.reliable stop fails)))
+
+answered_well : (front rest : List Reply) (cause : StoreFault)
+    → AllByRecursion IsWellAnswered (front ++ Refused (StoreFailed cause) ∷ rest) → cause ≡ stores.Generations
+answered_well [] rest cause well = well.0 cause refl
+answered_well (reply ∷ front) rest cause well = answered_well front rest cause well.1
+
+-- replies are well where each is, and generations are counted
+pub all_well : (generation : ℕ) (replies : List Reply) → AllByRecursion IsWellAnswered replies
+    → ((front rest : List Reply) → replies ≡ front ++ Refused (StoreFailed stores.Generations) ∷ rest
+    → generation + saves 0 front ≡ 2 ^ 64 - 1) → (front rest : List Reply) (cause : StoreFault)
+    → replies ≡ front ++ Refused (StoreFailed cause) ∷ rest
+    → (cause ≡ stores.Generations) × (generation + saves 0 front ≡ 2 ^ 64 - 1)
+all_well generation replies well up = λ front rest cause is.
+    let last = answered_well front rest cause (subst (λ rs. AllByRecursion IsWellAnswered rs) is well) in
+    (last, up front rest (is ∙ ap (λ c. front ++ Refused (StoreFailed c) ∷ rest) last))

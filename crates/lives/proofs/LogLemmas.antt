@@ -240,7 +240,7 @@ module _ {D : Type 0} (failure_count : D → ℕ) where
       (commit_adds old new i h.0 s.activation h.1 takings kept h.2.activation (taken_at held takings i s are at) h.3
       now)
 
-  step_adds : (old new : CoreView D) (held kept : Held) (takings : Takings) (event : Event) (reply : Reply)
+  pub step_adds : (old new : CoreView D) (held kept : Held) (takings : Takings) (event : Event) (reply : Reply)
       → Step failure_count old held event reply new kept → AreTaken held takings
       → Continues old.state new.state takings event reply kept
   step_adds old new held kept takings (Latch row) reply h are =

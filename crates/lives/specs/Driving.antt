@@ -1,6 +1,6 @@
 -- A list of calls, one after another.
 use Rattle.std.specs.Prelude.{◌≡◌, ◌⊎◌, ℕ, true, false, List, [], ◌∷◌, ◌++◌, Option, Some, None, Result, Ok, Err}
-use Rattle.std.specs.Prelude.{slice_get, slice_set, option_and_then}
+use Rattle.std.specs.Prelude.{◌+◌, ◌==◌, cond, slice_get, slice_set, option_and_then}
 use Rattle.coded_runs.specs.Effects.{Effect}
 use Rattle.coded_runs.specs.Executions.{IsEffectOf}
 use Rattle.coded_runs.specs.declared.snapshot.Snapshot.{Snapshot}
@@ -10,7 +10,10 @@ use Rattle.serial_core.specs.Steps.{Latches, Takes, Commits, CommitsHere}
 use Rattle.retain_store.specs.declared.fault.StoreFault.{StoreFault}
 use Rattle.retain_store.specs.declared.fault.StoreFault.TheVariants as stores
 use Rattle.retain_areas.specs.declared.shape.TheConstants.{FILE_BYTES}
-use Rattle.retain_areas.specs.Recovered.{recovered}
+use Rattle.retain_areas.specs.Recovered.{Recovered, recovered}
+use Rattle.st_plans.specs.Logs.{Log}
+use Rattle.config.specs.PlanViews.{plan_view}
+use Rattle.serial_core.specs.Steps.{State}
 use Rattle.commit_lock.specs.declared.refusal.Refusal.{Refusal}
 use Rattle.commit_lock.specs.declared.refusal.Refusal.TheVariants.{StoreFailed, Serial}
 use Rattle.lives.specs.declared.event.Event.{Event}
@@ -20,6 +23,7 @@ use Rattle.lives.specs.declared.event.Reply.TheVariants.{Latched, Taken, Answere
 use Rattle.commit_lock.specs.Cores.{CoreView, Guards, Outlives}
 use Rattle.commit_lock.specs.Flushing.{Flushes, CountsFlush}
 use Rattle.commit_lock.specs.Restart.{Survives}
+use Rattle.lives.specs.LogsOfLives.{Takings, Logs}
 
 -- what each take gave so far: none where nothing waited or the take was refused, and none once it was used
 abbrev pub Held : Type 0
@@ -56,6 +60,16 @@ abbrev pub acked_by : ℕ → List Reply → ℕ
 acked_by acked [] = acked
 acked_by acked (reply ∷ replies) = acked_by (acked_after acked reply) replies
 
+-- how many records a reply tells of: one where a flush acknowledges more than was
+abbrev pub saved : ℕ → Reply → ℕ
+saved acked (Flushed n) = cond (n == acked) 0 1
+saved acked reply = 0
+
+-- how many records these replies tell of
+abbrev pub saves : ℕ → List Reply → ℕ
+saves acked [] = 0
+saves acked (reply ∷ replies) = saved acked reply + saves (acked_after acked reply) replies
+
 -- the disk serves a whole file, and where the store has failed its generations are used up
 abbrev pub IsWell : {D : Type 0} → (D → ℕ → Type 0) → CoreView D → Type 0
 IsWell serves core = serves core.store.disk FILE_BYTES
@@ -90,6 +104,20 @@ module _ {D : Type 0} (failure_count : D → ℕ) where
       (result : Result ℕ Refusal) × Flushes old result new
       × CountsFlush result (failure_count old.store.disk) (failure_count new.store.disk) old new
       × (reply ≡ reply_to Flushed result) × (kept ≡ held)
+
+-- The file survives for what some front of these calls, answered so, leaves of a life that has come so far: for the log that
+-- they tell, with all that they have acknowledged.
+pub record SurvivesSomeFront (life : State) (takings : Takings) (acked : ℕ) (events : List Event) (replies : List Reply)
+    (file : Recovered) : Type 0 where
+  pub front : List Event
+  pub rest : List Event
+  pub said : List Reply
+  pub answers : List Reply
+  pub log : Log
+  pub calls : events ≡ front ++ rest
+  pub replied : replies ≡ said ++ answers
+  pub logged : Logs (plan_view life.plan) life.start life.log takings front said log
+  pub survives : Survives life.plan life.start life.before log (acked_by acked said) file
 
 -- The events one after another, with their replies; each survives a stop, on a disk that tells its facts.
 module _ {D : Type 0} (failure_count : D → ℕ) (tells : Type 0) (left_since : D → D → List ℕ → Type 0)

@@ -1,23 +1,31 @@
 -- Lives over one file, one after another.
-use Rattle.std.specs.Prelude.{◌≡◌, ◌≢◌, ℕ, max, List, [], ◌∷◌, length, map, None, IfOk, IfErr, MatchResult}
-use Rattle.std.specs.List.{AllByRecursion}
+use Rattle.std.specs.Prelude.{◌≡◌, ◌≢◌, ◌+◌, ◌-◌, ◌^◌, ℕ, max, List, [], ◌∷◌, ◌++◌, length, map, None, IfOk, IfErr}
+use Rattle.std.specs.Prelude.{MatchResult}
 use Rattle.disk.specs.Medium.{MayLeave}
-use Rattle.disk.specs.Simulated.{SimView}
+use Rattle.disk.specs.Runs.{LeavesOnly}
+use Rattle.disk.specs.Simulated.{SimView, IsReliable, fresh}
 use Rattle.st_plans.specs.Restarts.{Start}
 use Rattle.st_plans.specs.Logs.{Log, IsLegal}
+use Rattle.retain_store.specs.declared.fault.StoreFault.{StoreFault}
 use Rattle.retain_store.specs.declared.fault.StoreFault.TheVariants as stores
-use Rattle.retain_areas.specs.Recovered.{recovered}
+use Rattle.retain_store.specs.Kept.{StoreView, IsLast}
+use Rattle.retain_areas.specs.declared.shape.TheConstants.{FILE_BYTES}
+use Rattle.retain_areas.specs.Recovered.{Recovered, Found, recovered}
 use Rattle.config.specs.declared.plan.Plan.{Plan}
 use Rattle.config.specs.PlanViews.{plan_view}
 use Rattle.serial_core.specs.Steps.{State}
 use Rattle.lives.specs.declared.event.Event.{Event}
 use Rattle.lives.specs.declared.event.Reply.{Reply}
-use Rattle.lives.specs.declared.event.Reply.TheVariants.{Flushed}
+use Rattle.lives.specs.declared.event.Reply.TheVariants.{Flushed, Refused}
+use Rattle.commit_lock.specs.declared.refusal.Refusal.TheVariants.{StoreFailed}
+use Rattle.commit_lock.specs.declared.starting.StartMode.{StartMode}
+use Rattle.commit_lock.specs.declared.starting.StartMode.TheVariants.{Warm, Cold}
 use Rattle.commit_lock.specs.declared.refusal.StartFault.TheVariants as faults
 use Rattle.commit_lock.specs.Restart.{Survives}
-use Rattle.commit_lock.specs.Starting.{start_of, started, CanStart, RefusesStart, LeftByStart}
+use Rattle.commit_lock.specs.Starting.{start_of, started, CanStart, RefusesStart, LeftByStart, IsSavedAnew}
+use Rattle.commit_lock.specs.Starting.{next_generation}
 use Rattle.commit_lock.specs.Cores.{CoreView}
-use Rattle.lives.specs.Driving.{Held, Drives, IsWellAnswered}
+use Rattle.lives.specs.Driving.{Held, Drives, saves}
 use Rattle.lives.specs.declared.life.Life.{Life}
 use Rattle.lives.specs.declared.life.Course.{Course}
 use Rattle.lives.specs.declared.life.LifeEnd.{LifeEnd}
@@ -35,6 +43,35 @@ EachLife P file (life ∷ lives) [] = ⊥
 abbrev pub beginning : Plan → List ℕ → Life → State
 beginning plan file life = started plan life.log_room (start_of life.mode plan (recovered file))
 
+-- its disk as it begins: the file is synced, and the step that fails and the stop are the life's
+abbrev pub disk_of : List ℕ → Life → SimView
+disk_of file life = record (fresh file) { failing = life.fails; stop = life.stop }
+
+-- The store after a start. A warm one goes on from what the file was recovered to; a cold one has saved the record of the
+-- initial values in the next generation.
+abbrev pub IsStoreBegun : {D : Type 0} → StartMode → Plan → ℕ → Recovered → StoreView D → Type 0
+IsStoreBegun Warm plan room file store = (store.last ≡ file) × IsLast store.generation store.last
+IsStoreBegun Cold plan room file store = (store.generation ≡ next_generation file) × IsSavedAnew plan room store
+
+-- the generation of the last record after a start
+abbrev pub generation_begun : StartMode → Recovered → ℕ
+generation_begun Warm (Found generation content) = generation
+generation_begun Warm other = 0
+generation_begun Cold file = next_generation file
+
+-- A core as a life has it after its start, over a disk with this file. What a stop might have left so far is what the
+-- file was, or for a cold start the record of the initial values.
+pub record IsFirst (plan : Plan) (file : List ℕ) (life : Life) (core : CoreView SimView) : Type 0 where
+  pub mode : core.mode ≡ life.mode
+  pub state : core.state ≡ beginning plan file life
+  pub fresh : core.acked ≡ 0
+  pub unfailed : core.failed ≡ None
+  pub store : IsStoreBegun life.mode plan life.log_room (recovered file) core.store
+  pub served : core.store.disk.failures ≡ 0
+  pub left : LeavesOnly (λ _ disk. MayLeave disk.medium) (λ disk. MayLeave disk.medium) (disk_of file life)
+      core.store.disk (λ left. LeftByStart life.mode plan life.log_room (recovered file) (recovered left))
+  pub reliable : life.stop ≡ None → life.fails ≡ None → IsReliable core.store.disk FILE_BYTES
+
 -- calls over a simulated disk, one after another, each of which survives a stop
 abbrev pub Calls : CoreView SimView → Held → List Event → List Reply → CoreView SimView → Held → Type 0
 Calls = Drives (λ disk. disk.failures) (Unit {0}) (λ old disk. MayLeave disk.medium) (λ disk. MayLeave disk.medium)
@@ -49,17 +86,19 @@ abbrev pub most_flushed : List Reply → ℕ
 most_flushed [] = 0
 most_flushed (reply ∷ replies) = max (flushed reply) (most_flushed replies)
 
--- These replies are those of one core that begins so, to these events one after another, with so much acknowledged
--- after them.
-pub record IsCourse (begin : State) (events : List Event) (replies : List Reply) (acked : ℕ) : Type 0 where
+-- These replies are those of this core, to these events one after another, with so much acknowledged after them.
+pub record IsAnsweredBy (first : CoreView SimView) (events : List Event) (replies : List Reply) (acked : ℕ) : Type 0
+  where
+    pub last : CoreView SimView
+    pub held : Held
+    pub calls : Calls first [] events replies last held
+    pub ends : last.acked ≡ acked
+
+-- the replies are those of a core that the life has after its start
+pub record IsCourse (plan : Plan) (file : List ℕ) (life : Life) (replies : List Reply) (acked : ℕ) : Type 0 where
   pub first : CoreView SimView
-  pub last : CoreView SimView
-  pub held : Held
-  pub begins : first.state ≡ begin
-  pub unfailed : first.failed ≡ None
-  pub fresh : first.acked ≡ 0
-  pub calls : Calls first [] events replies last held
-  pub ends : last.acked ≡ acked
+  pub begins : IsFirst plan file life first
+  pub answers : IsAnsweredBy first life.events.items replies acked
 
 -- The file survives for the log that the events and replies tell, which is legal and of this length, and for what is
 -- acknowledged.
@@ -71,16 +110,18 @@ pub record IsLeft (begin : State) (events : List Event) (replies : List Reply) (
     pub legal : IsLegal (plan_view begin.plan) begin.start begin.before log
     pub survives : Survives begin.plan begin.start begin.before log acked (recovered file)
 
--- no reply is K5 for another cause than used up generations
-abbrev pub IsAllWell : Course → Type 0
-IsAllWell course = AllByRecursion IsWellAnswered course.replies.items
+-- K5 comes only where the generations are used up: this one, and one more for each record until then.
+abbrev pub IsAllWell : ℕ → Course → Type 0
+IsAllWell generation course = (front rest : List Reply) (cause : StoreFault)
+    → course.replies.items ≡ front ++ Refused (StoreFailed cause) ∷ rest
+    → (cause ≡ stores.Generations) × (generation + saves 0 front ≡ 2 ^ 64 - 1)
 
--- a life that was started, with the file that it leaves
-pub record IsLived (begin : State) (events : List Event) (course : Course) (file : List ℕ) : Type 0 where
-  pub values : course.values.items ≡ map (λ e. e.1) begin.start
-  pub answered : IsCourse begin events course.replies.items course.acked
+-- a core that has lived these events, with the file that it leaves
+pub record IsLived (first : CoreView SimView) (events : List Event) (course : Course) (file : List ℕ) : Type 0 where
+  pub values : course.values.items ≡ map (λ e. e.1) first.state.start
+  pub answered : IsAnsweredBy first events course.replies.items course.acked
   pub acked : course.acked ≡ most_flushed course.replies.items
-  pub left : IsLeft begin events course.replies.items course.len course.acked file
+  pub left : IsLeft first.state events course.replies.items course.len course.acked file
 
 -- what holds of a life over a file, and its end
 
@@ -92,7 +133,7 @@ BeginsSo plan file life end = MatchResult end.course
 
 abbrev pub IsAnswered : Plan → List ℕ → Life → LifeEnd → Type 0
 IsAnswered plan file life end = IfOk end.course
-    (λ course. IsCourse (beginning plan file life) life.events.items course.replies.items course.acked)
+    (λ course. IsCourse plan file life course.replies.items course.acked)
 
 abbrev pub IsAcked : List ℕ → Life → LifeEnd → Type 0
 IsAcked file life end = IfOk end.course (λ course. course.acked ≡ most_flushed course.replies.items)
@@ -106,8 +147,9 @@ IsRefused plan file life end =
     IfErr end.course (λ fault. LeftByStart life.mode plan life.log_room (recovered file) (recovered end.file.items))
 
 abbrev pub HasCause : List ℕ → Life → LifeEnd → Type 0
-HasCause file life end = life.stop ≡ None → life.fails ≡ None
-    → MatchResult end.course IsAllWell (λ fault. fault ≢ faults.Store stores.Device)
+HasCause file life end = life.stop ≡ None → life.fails ≡ None → MatchResult end.course
+    (IsAllWell (generation_begun life.mode (recovered file)))
+    (λ fault. fault ≢ faults.Store stores.Device)
 
 -- all of it
 pub record IsLife (plan : Plan) (file : List ℕ) (life : Life) (end : LifeEnd) : Type 0 where

@@ -10,7 +10,9 @@ ghost use Rattle.lives.specs.declared.event.Event.{Event};
 ghost use Rattle.lives.specs.declared.event.Reply.{Reply};
 ghost use Rattle.commit_lock.specs.Cores.{Guards, Outlives};
 ghost use Rattle.lives.specs.Driving.{Held, Step, Drives, Endures, CommitsHeld, held_at, held_of};
-ghost use Rattle.lives.specs.Driving.{reply_to, taken_of, IsWell, IsWellAnswered};
+ghost use Rattle.lives.specs.Driving.{reply_to, taken_of, IsWell, IsWellAnswered, SurvivesSomeFront};
+ghost use Rattle.disk.specs.Runs.{LeavesOnly};
+ghost use Rattle.retain_areas.specs.Recovered.{recovered};
 
 use crate::event::{Event, Reply};
 use coded_runs::{Snapshot, run};
@@ -132,11 +134,18 @@ pub fn drive<D: Disk>(
         → Endures D.failure_count D.tells D.left_since D.may_leave core.old [] core.old.acked front said event reply
         rest answers core.new) }
 
+    // The same of the list as a whole, and of the disk that the core had and the one that it has: a stop at any moment
+    // since the first call leaves a file that survives for some front of the calls and their answers.
+    ensures any_moment { D.tells → IfOk result (λ replies. LeavesOnly D.left_since D.may_leave
+        core.old.store.disk core.new.store.disk (λ file. SurvivesSomeFront core.old.state [] core.old.acked events.items
+        replies.items (recovered file))) }
+
     // Over a disk that serves a whole file K5 comes by S4 alone, unless the device has failed before.
     ensures serves { IsWell D.serves core.old
         → IsWell D.serves core.new × IfOk result (λ replies. AllByRecursion IsWellAnswered replies.items) }
     ensures err { OnErr result (core.new ≡ core.old) }
 {
+    core.kept();
     let mut held = Vec::with_capacity(alloc, events.len())?;
     let mut replies = Vec::with_capacity(alloc, events.len())?;
     for event in events {

@@ -25,8 +25,9 @@ fn live_on(alloc: Global, core: Core<SimDisk>, events: Vec<Event>) -> Result<Lif
     requires unfailed { core.failed ≡ None }
     requires new { IsNew core.state core.state.plan core.state.room }
     ensures started { IfOk result (λ end. IsOk end.course) }
-    ensures lived { IfOk result (λ end. IfOk end.course (λ course. IsLived core.state events.items course end.file.items)) }
-    ensures well { IsReliable core.store.disk FILE_BYTES → IfOk result (λ end. IfOk end.course IsAllWell) }
+    ensures lived { IfOk result (λ end. IfOk end.course (λ course. IsLived core events.items course end.file.items)) }
+    ensures well { IsReliable core.store.disk FILE_BYTES
+        → IfOk result (λ end. IfOk end.course (IsAllWell core.store.generation)) }
 {
     let mut core = core;
     let values = Vec::from_slice(alloc, core.start_values())?;
@@ -91,7 +92,8 @@ pub fn lives(
     // record of the initial values.
     ensures refused { IfOk result (λ ends. EachLife (IsRefused plan.now.value) file.items lives.items ends.items) }
 
-    // S3, and K5 by S3, come only in a life with a stop or a failing step.
+    // S3 comes only in a life with a stop or a failing step, and so does K5, but where the generations are used up, from
+    // that of the file on.
     ensures cause { IfOk result (λ ends. EachLife HasCause file.items lives.items ends.items) }
 {
     let mut ends = Vec::with_capacity(alloc, lives.len())?;

@@ -1,4 +1,4 @@
-use Rattle.std.proofs.Common.{◌+◌, ◌∙◌, sym, subst, arith}
+use Rattle.std.proofs.Common.{◌+◌, ◌∙◌, sym, subst, arith, refl}
 use Rattle.retain_areas.specs.Recovered.{Recovered}
 use Rattle.commit_lock.specs.Restart.{Survives}
 use Rattle.commit_lock.proofs.SurvivalLemmas.{survives_now}
@@ -10,6 +10,9 @@ invariant_of-core g c =
     let now = survives_now state 0 (c.args.store.generation + 1) (omega arith) in
     let last = c.in-Ok.ensures.saved in
     record {
+      started = rw c.requires.begun refl;
+      early = rw c.requires.begun tt;
+      log_room = c.requires.log_room;
       last = subst (λ (r : Recovered). Survives state.plan state.start state.before state.log 0 r) (sym last.1) now;
       tried = subst (λ (r : Recovered). Survives state.plan state.start state.before state.log 0 r)
           (sym (last.2 ∙ last.1)) now;

@@ -4,6 +4,7 @@ use Rattle.lives.specs.Driving.{Drives, IsWellAnswered}
 use Rattle.lives.specs.declared.event.Reply.{Reply}
 use Rattle.lives.specs.declared.event.Event.{Event}
 use Rattle.lives.proofs.DriveLemmas.{drives_step, drives_end, endures, all_more}
+use Rattle.lives.proofs.FrontLemmas.{drives_leaves}
 use Rattle.lives.proofs.driving.drive.Goals as goal
 
 pub loop-event-preserved : goal.loop-event-preserved
@@ -71,3 +72,21 @@ returns-clause-survives g c = λ tells front rest said answers event reply is an
     c.loop-event.core [] c.loop-event.held.items front rest said answers event reply tells same
     (subst (λ rs. Drives g.D.Disk.failure_count g.D.Disk.tells g.D.Disk.left_since g.D.Disk.may_leave c.args.core.now []
     (front ++ event ∷ rest) rs c.loop-event.core c.loop-event.held.items) answered whole)
+
+pub returns-clause-any_moment : goal.returns-clause-any_moment
+returns-clause-any_moment g c = λ tells.
+    let none : length c.loop-event.event-iterator.rest.items ≡ 0 = search rules in
+    let all : c.into_iter-event-iterator.result.rest.items ≡ c.args.events.items = search rules in
+    drives_leaves g.D.Disk.failure_count g.D.Disk.tells g.D.Disk.left_since g.D.Disk.may_leave c.args.core.now
+    c.loop-event.core [] c.loop-event.held.items [] c.args.events.items c.loop-event.replies.items tells
+    (λ disk file left. g.met.D.Disk.only_now disk file tells left) (c.kept.ensures.survives tells)
+    (drives_end g.D.Disk.failure_count g.D.Disk.tells g.D.Disk.left_since g.D.Disk.may_leave c.args.core.now
+    c.loop-event.core
+    c.loop-event.held.items c.args.events.items c.loop-event.event-iterator.rest.items c.loop-event.replies.items
+    (subst (λ (es : List Event). (replies : _) (new : _) (kept : _)
+    → Drives g.D.Disk.failure_count g.D.Disk.tells g.D.Disk.left_since
+    g.D.Disk.may_leave c.loop-event.core c.loop-event.held.items c.loop-event.event-iterator.rest.items
+    replies new kept → Drives g.D.Disk.failure_count g.D.Disk.tells g.D.Disk.left_since g.D.Disk.may_leave
+    c.args.core.now [] es
+    (c.loop-event.replies.items ++ replies) new kept) all c.loop-event.invariant.0)
+    none) tt
