@@ -1,6 +1,7 @@
 //! Starting and joining the threads of a run.
 
-ghost use Rattle.std.specs.Prelude.{◌≡◌, ◌+◌, IfOk};
+ghost use Rattle.std.specs.Prelude.{◌≡◌, ◌+◌, IfOk, IfErr};
+ghost use Rattle.run_lock.specs.Phases.{IsOfNoCore};
 ghost use Rattle.plc_threads.specs.Reports.{AreJoined};
 
 use crate::driver::{Pace, drive};
@@ -46,8 +47,9 @@ fn run_crew<
 ) -> Result<Joined<J>, RunFault>
     requires mark { (mark.now ≡ J.mark) × (pass.mark ≡ mark.now) }
     requires share { (all.parts ≡ resources + 1) × (all.amount ≡ 0) }
-    ensures { IfOk result (λ joined.
+    ensures joined { IfOk result (λ joined.
         AreJoined resources joined.share.parts joined.share.amount joined.told.items) }
+    ensures refused { IfErr result IsOfNoCore }
 {
     let mut rest = all;
     let Ok(mut handles) = Vec::with_capacity(alloc, resources) else {
@@ -104,8 +106,9 @@ pub fn in_scope<
 ) -> Result<Joined<J>, RunFault>
     requires mark { (mark.now ≡ J.mark) × (pass.mark ≡ J.mark) }
     requires share { (all.parts ≡ resources + 1) × (all.amount ≡ 0) }
-    ensures { IfOk result (λ joined.
+    ensures joined { IfOk result (λ joined.
         AreJoined resources joined.share.parts joined.share.amount joined.told.items) }
+    ensures refused { IfErr result IsOfNoCore }
 {
     thread::scope(
         thread::scope_env(),
@@ -113,8 +116,9 @@ pub fn in_scope<
         |scope| -> Result<Joined<J>, RunFault>
             requires mark { (mark.now ≡ J.mark) × (pass.mark ≡ J.mark) }
             requires share { (all.parts ≡ resources + 1) × (all.amount ≡ 0) }
-            ensures { IfOk result (λ joined.
+            ensures joined { IfOk result (λ joined.
                 AreJoined resources joined.share.parts joined.share.amount joined.told.items) }
+            ensures refused { IfErr result IsOfNoCore }
         {
             run_crew(
                 scope, rt, alloc, shared, mark, gate, pass, all, resources, rows, pace,

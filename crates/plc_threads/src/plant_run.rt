@@ -1,10 +1,13 @@
 //! The run of a core in threads.
 
-ghost use Rattle.std.specs.Prelude.{◌≡◌, ◌+◌, ◌++◌, Some, IfOk, MatchResult, length};
+ghost use Rattle.std.specs.Prelude.{◌≡◌, ◌+◌, ◌++◌, Some, IfOk, IfErr, MatchResult, length};
 ghost use Rattle.st_plans.specs.Logs.{done_count};
 ghost use Rattle.serial_core.specs.Steps.{made};
 ghost use Rattle.commit_lock.specs.Flushing.{IsAcknowledged};
-ghost use Rattle.run_lock.specs.Lives.{life_of, NothingIsDue};
+ghost use Rattle.config.specs.PlanViews.{plan_view};
+ghost use Rattle.st_plans.specs.Logs.{IsLegal};
+ghost use Rattle.run_lock.specs.Lives.{IsGrownFrom, NothingIsDue};
+ghost use Rattle.run_lock.specs.Phases.{IsSo};
 ghost use Rattle.plc_threads.specs.Reports.{committed_in};
 
 use crate::crew::{Joined, in_scope};
@@ -13,7 +16,6 @@ use crate::gate::Gate;
 use crate::report::{Report, RunError};
 use crate::shared::Shared;
 use commit_lock::Core;
-use config::Plan;
 use crossbeam_utils::CachePadded;
 use disk::Disk;
 use run_lock::{Locked, Mark, Pass, Phase, RaisePass, Run, RunFault, is_settled};
@@ -34,7 +36,8 @@ fn locked<J: Run, D: Disk>(
 ) -> Locked<J, D>
     requires began { (done_count core.state.log ≡ J.dones) × (book.total ≡ 0) }
     requires mark { (raises.mark ≡ J.mark) × (raises.top ≡ 0) }
-    requires life { Some (life_of core.state) ≡ J.life }
+    requires life { (J.life ≡ Some core.state) × (J.entries ≡ length core.state.log) }
+    requires start { (J.mode ≡ core.mode) × (J.acked ≡ core.acked) }
     requires rows { (made core.state).rows ++ rows.items ≡ J.rows }
 {
     Locked {
@@ -44,6 +47,16 @@ fn locked<J: Run, D: Disk>(
         rest: VecDeque::from(rows),
         phase: Phase::Running,
     }
+}
+
+/// A run that was stopped, with its core.
+fn stopped<D: Disk>(core: Core<D>, fault: RunFault) -> RunError<D>
+    ensures core { result.core ≡ core }
+    ensures fault { result.fault ≡ fault }
+    ensures legal { IsLegal (plan_view core.state.plan) core.state.start core.state.before core.state.log }
+{
+    let _length = core.len();
+    RunError { core, fault }
 }
 
 /// A run that J names.
@@ -63,7 +76,8 @@ fn run_as<J: Run + Send + Sync, D: Disk + Drop + Send, G: Gate + Sync, R: Thread
     requires book { (blank.name ≡ J.name) × (blank.parts ≡ J.parts) × (blank.parts ≡ resources + 1) }
     requires dones { done_count core.state.log ≡ J.dones }
     requires mark { (mark.now ≡ J.mark) × (raises.mark ≡ J.mark) × (pass.mark ≡ J.mark) × (raises.top ≡ 0) }
-    requires life { Some (life_of core.state) ≡ J.life }
+    requires life { (J.life ≡ Some core.state) × (J.entries ≡ length core.state.log) }
+    requires start { (J.mode ≡ core.mode) × (J.acked ≡ core.acked) }
     requires rows { (made core.state).rows ++ rows.items ≡ J.rows }
     ensures counted { IfOk result
         (λ r. done_count r.core.state.log ≡ done_count core.state.log + committed_in r.told.items) }
@@ -71,8 +85,10 @@ fn run_as<J: Run + Send + Sync, D: Disk + Drop + Send, G: Gate + Sync, R: Thread
     ensures nothing_waits { IfOk result (λ r. NothingIsDue r.core.state resources) }
     ensures acknowledged { IfOk result (λ r. IsAcknowledged r.core) }
     ensures each { IfOk result (λ r. length r.told.items ≡ resources) }
-    ensures life { MatchResult result
-        (λ r. life_of r.core.state ≡ life_of core.state) (λ e. life_of e.core.state ≡ life_of core.state) }
+    ensures life { MatchResult result (λ r. IsGrownFrom core r.core) (λ e. IsGrownFrom core e.core) }
+    ensures why { IfErr result (λ e. IsSo e.fault e.core) }
+    ensures legal { IfErr result (λ e. IsLegal (plan_view e.core.state.plan) e.core.state.start e.core.state.before
+        e.core.state.log) }
 {
     let count = rows.len();
     let (book, all) = blank.open::<J>();
@@ -92,18 +108,15 @@ fn run_as<J: Run + Send + Sync, D: Disk + Drop + Send, G: Gate + Sync, R: Thread
         phase,
     } = locked.into_inner();
     if let Phase::Stopped(fault) = phase {
-        return Err(RunError { core, fault });
+        return Err(stopped(core, fault));
     }
     let Joined { mut share, told } = match joined {
         Ok(joined) => joined,
-        Err(fault) => return Err(RunError { core, fault }),
+        Err(fault) => return Err(stopped(core, fault)),
     };
     book.audit(&mut share);
     if !rest.is_empty() || !is_settled(&core, resources) {
-        return Err(RunError {
-            core,
-            fault: RunFault::NotSettled,
-        });
+        return Err(stopped(core, RunFault::NotSettled));
     }
     Ok(Report { core, told })
 }
@@ -111,18 +124,17 @@ fn run_as<J: Run + Send + Sync, D: Disk + Drop + Send, G: Gate + Sync, R: Thread
 /// Runs a core of the plan in threads: one for each resource, one that flushes, and the caller, which latches the rows.
 /// It ends when all rows are latched, nothing waits and all is acknowledged, or at the first refusal.
 ///
-/// K1 to K6 where a call of the core was refused or there was no memory, H1 where a thread could not be started, H2
-/// where all threads have ended well and yet something is left.
+/// K5 where the core has failed, for this cause, and K1 where its log is full; K3 and K4 where a row was refused, K6
+/// where there was no memory, H1 where a thread could not be started, H2 where all threads have ended well and yet
+/// something is left. The core comes back with each of them.
 pub fn run_plant<D: Disk + Drop + Send, G: Gate + Sync, R: Threads + Wait + Sync>(
     rt: &R,
     alloc: Global,
-    plan: &Plan,
     core: Core<D>,
     rows: Vec<Row>,
     pace: Pace,
     gate: &G,
 ) -> Result<Report<D>, RunError<D>>
-    requires own { plan.now ≡ core.state.plan }
 
     // What the workers were told Committed is what the log gained.
     ensures counted { IfOk result
@@ -130,22 +142,24 @@ pub fn run_plant<D: Disk + Drop + Send, G: Gate + Sync, R: Threads + Wait + Sync
 
     // The log gained these rows, in their order, and no others.
     ensures latched { IfOk result (λ r. (made r.core.state).rows ≡ (made core.state).rows ++ rows.items) }
-    ensures nothing_waits { IfOk result (λ r. NothingIsDue r.core.state plan.now.resources) }
+    ensures nothing_waits { IfOk result (λ r. NothingIsDue r.core.state core.state.plan.resources) }
     ensures acknowledged { IfOk result (λ r. IsAcknowledged r.core) }
-    ensures each { IfOk result (λ r. length r.told.items ≡ plan.now.resources) }
+    ensures each { IfOk result (λ r. length r.told.items ≡ core.state.plan.resources) }
 
-    // The core that comes back is of the life that was given.
-    ensures life { MatchResult result
-        (λ r. life_of r.core.state ≡ life_of core.state) (λ e. life_of e.core.state ≡ life_of core.state) }
+    // The core that comes back goes on from the one that was given: its log has that one's for a front, and no fewer
+    // entries are acknowledged.
+    ensures life { MatchResult result (λ r. IsGrownFrom core r.core) (λ e. IsGrownFrom core e.core) }
+
+    // A run that was stopped was so for what is so of its core, whose log is legal.
+    ensures why { IfErr result (λ e. IsSo e.fault e.core) }
+    ensures legal { IfErr result (λ e. IsLegal (plan_view e.core.state.plan) e.core.state.start e.core.state.before
+        e.core.state.log) }
 {
     let Ok((mark, raises, pass)) = Mark::new(alloc) else {
-        return Err(RunError {
-            core,
-            fault: RunFault::NO_MEMORY,
-        });
+        return Err(stopped(core, RunFault::NO_MEMORY));
     };
     let mark = CachePadded::new(mark);
-    let resources = plan.resources();
+    let resources = core.plan().resources();
     let blank = Blank::new(resources as u64 + 1);
     run_as::<Brand, D, G, R>(
         rt, alloc, blank, core, &mark, raises, pass, resources, rows, pace, gate,

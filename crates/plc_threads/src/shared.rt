@@ -2,11 +2,12 @@
 
 ghost use Rattle.std.specs.Prelude.{◌≡◌, ◌+◌, Ok, IfSome, IfNone};
 ghost use Rattle.run_lock.specs.Answers.{committed_by, committed_here, stale_after};
+ghost use Rattle.run_lock.specs.Phases.{MayEnd};
 
 use coded_runs::{Execution, Snapshot};
 use commit_lock::{Answer, Core};
 use disk::Disk;
-use run_lock::{Locked, Phase, Run, RunFault, Tally};
+use run_lock::{Locked, Phase, Run, Tally};
 use st_plans::{Activation, Entry};
 use std::alloc::Global;
 use std::sync::{Condvar, Mutex, Wait};
@@ -37,8 +38,10 @@ fn last_activation<D: Disk>(core: &Core<D>) -> Option<Activation> {
 }
 
 impl<J: Run, D: Disk + Drop> Shared<J, D> {
-    /// Ends the run, unless it has ended.
-    pub fn end<R: Wait>(&self, rt: &R, end: Phase) {
+    /// Ends the run, unless it has ended: it is stopped for what no core has told.
+    pub fn end<R: Wait>(&self, rt: &R, end: Phase)
+        requires { MayEnd end }
+    {
         self.locked.lock(rt).end(end);
         self.changed.notify_all();
     }
@@ -50,11 +53,10 @@ impl<J: Run, D: Disk + Drop> Shared<J, D> {
             if guard.phase != Phase::Running {
                 return None;
             }
-            match guard.core.take(alloc, resource) {
+            match guard.take(alloc, resource) {
                 Ok(Some(snapshot)) => return Some(snapshot),
                 Ok(None) => guard = self.changed.wait(rt, guard),
-                Err(refusal) => {
-                    guard.end(Phase::Stopped(RunFault::Refused(refusal)));
+                Err(_) => {
                     self.changed.notify_all();
                     return None;
                 }
@@ -77,13 +79,7 @@ impl<J: Run, D: Disk + Drop> Shared<J, D> {
         let mut guard = self.locked.lock(rt);
         let result = tally.commit(&mut *guard, execution);
         self.changed.notify_all();
-        match result {
-            Ok(answer) => Some(answer),
-            Err(refusal) => {
-                guard.end(Phase::Stopped(RunFault::Refused(refusal)));
-                None
-            }
-        }
+        result.ok()
     }
 
     /// Commits the best activation of a resource in one step; none where that was refused, which ends the run.
@@ -107,10 +103,7 @@ impl<J: Run, D: Disk + Drop> Shared<J, D> {
                 length,
                 last: last_activation(&guard.core),
             }),
-            Err(refusal) => {
-                guard.end(Phase::Stopped(RunFault::Refused(refusal)));
-                None
-            }
+            Err(_) => None,
         }
     }
 }

@@ -76,9 +76,7 @@ pub fn flush_all<J: Run, D: Disk + Drop, R: Wait>(rt: &R, shared: &Shared<J, D>,
         if guard.phase != Phase::Running {
             break;
         }
-        if let Err(refusal) = guard.flush(mark) {
-            guard.end(Phase::Stopped(RunFault::Refused(refusal)));
-        }
+        let _ended = guard.flush(mark);
         shared.changed.notify_all();
     }
 }

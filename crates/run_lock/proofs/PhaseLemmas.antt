@@ -1,11 +1,21 @@
 -- What a run has to do with its rows in each phase.
-use Rattle.std.proofs.Common.{◌≡◌, refl, List, Some}
+use Rattle.std.proofs.Common.{◌≡◌, ◌∙◌, ◌≤◌, ℕ, refl, ap, arith, length, List, [], ◌∷◌, Option, Some, None}
+use Rattle.std.specs.Prelude.{Result, Ok, Err, IfErr}
+use Rattle.retain_store.specs.declared.fault.StoreFault.{StoreFault}
+use Rattle.serial_core.specs.declared.refusal.Refusal.{Refusal as SerialRefusal}
+use Rattle.serial_core.specs.declared.refusal.Refusal.TheVariants.{Full, NotWaiting, Foreign, NotLater, NoMemory}
+use Rattle.serial_core.specs.Steps.{State, Latches}
+use Rattle.commit_lock.specs.Cores.{CoreView, Guards}
+use Rattle.commit_lock.specs.declared.refusal.Refusal.TheVariants.{StoreFailed, Serial}
 use Rattle.st_plans.specs.Rows.{Latch}
 use Rattle.commit_lock.specs.declared.refusal.Refusal.{Refusal}
 use Rattle.run_lock.specs.declared.phase.Phase.{Phase}
 use Rattle.run_lock.specs.declared.phase.RunFault.{RunFault}
 use Rattle.run_lock.specs.declared.phase.Phase.TheVariants.{Running, Ended, Stopped}
-use Rattle.run_lock.specs.Phases.{ended_by, phase_after, unless_stopped}
+use Rattle.run_lock.specs.declared.phase.RunFault.TheVariants.{Refused, NotStarted, NotSettled}
+use Rattle.run_lock.specs.Phases.{ended_by, phase_after, phase_after_answer, unless_stopped, IsSo, IsStoppedFor, IsOfNoCore}
+use Rattle.run_lock.specs.Phases.{MayEnd}
+use Rattle.run_lock.specs.Latching.{LatchesNext}
 
 pub same_ended : (now end : Phase) (xs ys : List Latch) → unless_stopped now xs ≡ unless_stopped now ys
     → unless_stopped (ended_by now end) xs ≡ unless_stopped (ended_by now end) ys
@@ -24,3 +34,98 @@ pub whole_unless_stopped : (now : Phase) (xs ys : List Latch) → ((fault : RunF
 whole_unless_stopped Running xs ys not e = e
 whole_unless_stopped Ended xs ys not e = e
 whole_unless_stopped (Stopped fault) xs ys not e = absurd (not fault refl)
+
+pub same_answered : {T : Type 0} (now : Phase) (r : Result T Refusal) (xs ys : List Latch)
+    → unless_stopped now xs ≡ unless_stopped now ys
+    → unless_stopped (phase_after_answer now r) xs ≡ unless_stopped (phase_after_answer now r) ys
+same_answered now (Ok a) xs ys e = e
+same_answered now (Err refusal) xs ys e = same_ended now (Stopped (Refused refusal)) xs ys e
+
+-- ---- what stopped a run stays so
+
+-- a core in which all stays so that may have stopped a run
+pub record StaysSo {D : Type 0} (old new : CoreView D) : Type 0 where
+  pub failed : (cause : StoreFault) → old.failed ≡ Some cause → new.failed ≡ Some cause
+  pub room : new.state.room ≡ old.state.room
+  pub longer : length old.state.log ≤ length new.state.log
+
+-- a full log stays full
+pub full_stays : (old new : State) → new ≡ old → old.room ≤ length old.log → new.room ≤ length new.log
+full_stays old new same full =
+    omega (arith, full, ap (λ (s : State). s.room) same, ap (λ (s : State). length s.log) same)
+
+module _ {D : Type 0} where
+  so_stays : (fault : RunFault) (old new : CoreView D) → StaysSo old new → IsSo fault old → IsSo fault new
+  so_stays (Refused (StoreFailed cause)) old new stays is = stays.failed cause is
+  so_stays (Refused (Serial Full)) old new stays is = omega (arith, stays.room, stays.longer, is)
+  so_stays (Refused (Serial NotWaiting)) old new stays is = tt
+  so_stays (Refused (Serial Foreign)) old new stays is = tt
+  so_stays (Refused (Serial NotLater)) old new stays is = tt
+  so_stays (Refused (Serial NoMemory)) old new stays is = tt
+  so_stays NotStarted old new stays is = tt
+  so_stays NotSettled old new stays is = tt
+
+  pub stopped_stays : (phase : Phase) (old new : CoreView D) → StaysSo old new → IsStoppedFor phase old
+      → IsStoppedFor phase new
+  stopped_stays Running old new stays is = tt
+  stopped_stays Ended old new stays is = tt
+  stopped_stays (Stopped fault) old new stays is = so_stays fault old new stays is
+
+  stopped_ended : (now : Phase) (fault : RunFault) (core : CoreView D) → IsStoppedFor now core → IsSo fault core
+      → IsStoppedFor (ended_by now (Stopped fault)) core
+  stopped_ended Running fault core was is = is
+  stopped_ended Ended fault core was is = tt
+  stopped_ended (Stopped first) fault core was is = was
+
+  pub stopped_answer : {T : Type 0} (now : Phase) (r : Result T Refusal) (core : CoreView D) → IsStoppedFor now core
+      → IfErr r (λ refusal. IsSo (Refused refusal) core) → IsStoppedFor (phase_after_answer now r) core
+  stopped_answer now (Ok a) core was is = was
+  stopped_answer now (Err refusal) core was is = stopped_ended now (Refused refusal) core was is
+
+  -- what a refused call tells is so of the core
+  pub refused_so : {T : Type 0} (old new : CoreView D) (r : Result T Refusal) (R : Result T SerialRefusal → Type 0)
+      → Guards old r new R → (R (Err Full) → new.state.room ≤ length new.state.log)
+      → IfErr r (λ refusal. IsSo (Refused refusal) new)
+  refused_so old new (Ok a) R g full = tt
+  refused_so old new (Err (StoreFailed cause)) R g full = ap (λ (c : CoreView D). c.failed) g.1 ∙ g.0
+  refused_so old new (Err (Serial Full)) R g full = full g.2
+  refused_so old new (Err (Serial NotWaiting)) R g full = tt
+  refused_so old new (Err (Serial Foreign)) R g full = tt
+  refused_so old new (Err (Serial NotLater)) R g full = tt
+  refused_so old new (Err (Serial NoMemory)) R g full = tt
+
+  -- so does what a refused row tells
+  pub refused_row : (old new : CoreView D) (row : Latch) (refusal : Refusal)
+      → Guards {A = ℕ} old (Err refusal) new (λ r. Latches old.state row r new.state) → IsSo (Refused refusal) new
+  refused_row old new row refusal g = refused_so old new (Err refusal) (λ r. Latches old.state row r new.state) g
+      (λ full. full_stays old.state new.state full.1 full.0)
+
+  pub may_end_so : (end : Phase) (core : CoreView D) → MayEnd end → IsStoppedFor end core
+  may_end_so Running core may = tt
+  may_end_so Ended core may = tt
+  may_end_so (Stopped (Refused (StoreFailed cause))) core may = absurd may
+  may_end_so (Stopped (Refused (Serial Full))) core may = absurd may
+  may_end_so (Stopped (Refused (Serial NotWaiting))) core may = absurd may
+  may_end_so (Stopped (Refused (Serial Foreign))) core may = absurd may
+  may_end_so (Stopped (Refused (Serial NotLater))) core may = absurd may
+  may_end_so (Stopped (Refused (Serial NoMemory))) core may = tt
+  may_end_so (Stopped NotStarted) core may = tt
+  may_end_so (Stopped NotSettled) core may = tt
+
+  pub stopped_by_end : (now end : Phase) (core : CoreView D) → IsStoppedFor now core → MayEnd end
+      → IsStoppedFor (ended_by now end) core
+  stopped_by_end Running end core was may = may_end_so end core may
+  stopped_by_end Ended end core was may = tt
+  stopped_by_end (Stopped fault) end core was may = was
+
+  -- a fault that no core has told is so of each
+  pub no_core_so : (fault : RunFault) (core : CoreView D) → IsOfNoCore fault → IsSo fault core
+  no_core_so fault core of = may_end_so (Stopped fault) core of
+
+  -- what stopped a run before or after a row is so of the core after it
+  pub latch_stopped : (now : Phase) (old new : CoreView D) (rest : List Latch) (refusal : Option Refusal)
+      → LatchesNext old rest refusal new → StaysSo old new → IsStoppedFor now old
+      → IsStoppedFor (phase_after now refusal) new
+  latch_stopped now old new rest None h stays was = stopped_stays now old new stays was
+  latch_stopped now old new [] (Some refusal) h stays was = absurd h
+  latch_stopped now old new (row ∷ rest) (Some refusal) h stays was = refused_row old new row refusal h

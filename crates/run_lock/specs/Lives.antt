@@ -1,13 +1,16 @@
 -- The life that a run is of.
-use Rattle.std.specs.Prelude.{◌≡◌, ℕ, ◌+◌, ◌<◌, List, [], ◌++◌, Option, Some}
+use Rattle.std.specs.Prelude.{◌≡◌, ℕ, ◌+◌, ◌<◌, ◌≤◌, List, [], ◌++◌, Option, Some, take}
 use Rattle.std.specs.Coded.{Coded-set, coded_list, coded_option}
 use Rattle.st_plans.specs.contracts.entry.Row as latch
+use Rattle.st_plans.specs.declared.entry.Entry.{Entry}
 use Rattle.serial_core.specs.contracts.serial.SerialCore as state
 use Rattle.atomic_table.specs.Seated.{TableId}
 use Rattle.st_plans.specs.Logs.{done_count}
 use Rattle.serial_core.specs.Steps.{State, made, none_waits}
 use Rattle.st_plans.specs.Rows.{Latch}
 use Rattle.commit_lock.specs.Cores.{CoreView}
+use Rattle.commit_lock.specs.contracts.starting.StartMode as mode
+use Rattle.commit_lock.specs.declared.starting.StartMode.{StartMode}
 use Rattle.run_lock.specs.declared.phase.Phase.{Phase}
 use Rattle.run_lock.specs.Phases.{unless_stopped}
 
@@ -15,12 +18,40 @@ use Rattle.run_lock.specs.Phases.{unless_stopped}
 abbrev pub life_of : State → State
 life_of state = record { plan = state.plan; start = state.start; before = state.before; log = []; room = state.room }
 
--- the life is this one
-abbrev pub IsOfLife : {D : Type 0} → CoreView D → Option State → Type 0
-IsOfLife core life = Some (life_of core.state) ≡ life
+-- the life as it was when its log had so many entries
+abbrev pub life_at : ℕ → State → State
+life_at entries state = record {
+  plan = state.plan;
+  start = state.start;
+  before = state.before;
+  log = take entries state.log;
+  room = state.room;
+}
 
-pub IsOfLife-prop : {D : Type 0} (core : CoreView D) (life : Option State) → IsProp (IsOfLife core life)
-IsOfLife-prop core life = Coded-set (coded_option state.the_row.coded) (Some (life_of core.state)) life
+-- the life is this one, as it was when its log had so many entries
+abbrev pub IsOfLife : {D : Type 0} → CoreView D → ℕ → Option State → Type 0
+IsOfLife core entries life = Some (life_at entries core.state) ≡ life
+
+pub IsOfLife-prop : {D : Type 0} (core : CoreView D) (entries : ℕ) (life : Option State)
+    → IsProp (IsOfLife core entries life)
+IsOfLife-prop core entries life =
+    Coded-set (coded_option state.the_row.coded) (Some (life_at entries core.state)) life
+
+-- how the core was started
+abbrev pub IsStartedSo : {D : Type 0} → CoreView D → StartMode → Type 0
+IsStartedSo core how = core.mode ≡ how
+
+pub IsStartedSo-prop : {D : Type 0} (core : CoreView D) (how : StartMode) → IsProp (IsStartedSo core how)
+IsStartedSo-prop core how = Coded-set mode.the_row.coded core.mode how
+
+-- The core goes on from this one: it was started so, its life is the same, the log that was is a front of its log, and
+-- what was acknowledged is so still.
+pub record IsGrownFrom {D : Type 0} (old new : CoreView D) : Type 0 where
+  pub mode : new.mode ≡ old.mode
+  pub life : life_of new.state ≡ life_of old.state
+  pub added : List Entry
+  pub log : new.state.log ≡ old.state.log ++ added
+  pub acked : old.acked ≤ new.acked
 
 -- The rows that were latched, and after them those that are left, are those of the run, until it is stopped.
 abbrev pub InOrder : {D : Type 0} → Phase → CoreView D → List Latch → List Latch → Type 0
@@ -38,6 +69,10 @@ NothingIsDue state resources = (resource : ℕ) → resource < resources → non
 
 -- The life goes on with so many executions more, and its acknowledgements stay.
 pub record Gains {D : Type 0} (old new : CoreView D) (executions : ℕ) : Type 0 where
+  pub mode_stays : new.mode ≡ old.mode
+  pub failed_stays : new.failed ≡ old.failed
+  pub added : List Entry
+  pub log_is : new.state.log ≡ old.state.log ++ added
   pub life_is : life_of new.state ≡ life_of old.state
   pub done : done_count new.state.log ≡ done_count old.state.log + executions
   pub rows_stay : (made new.state).rows ≡ (made old.state).rows

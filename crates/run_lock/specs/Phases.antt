@@ -1,10 +1,17 @@
 -- How far a run is.
-use Rattle.std.specs.Prelude.{List, [], Option, Some, None}
+use Rattle.std.specs.Prelude.{◌≡◌, ◌≤◌, refl, List, [], Result, Ok, Err, Option, Some, None, length}
+use Rattle.std.specs.Coded.{Coded-set, coded_option}
+use Rattle.std.proofs.Math.Bridge.{le_prop}
+use Rattle.retain_store.specs.contracts.fault.StoreFault as fault
+use Rattle.serial_core.specs.declared.refusal.Refusal.TheVariants.{Full, NotWaiting, Foreign, NotLater, NoMemory}
+use Rattle.commit_lock.specs.Cores.{CoreView}
 use Rattle.st_plans.specs.Rows.{Latch}
 use Rattle.commit_lock.specs.declared.refusal.Refusal.{Refusal}
+use Rattle.commit_lock.specs.declared.refusal.Refusal.TheVariants.{StoreFailed, Serial}
 use Rattle.run_lock.specs.declared.phase.Phase.{Phase}
 use Rattle.run_lock.specs.declared.phase.Phase.TheVariants.{Running, Ended, Stopped}
-use Rattle.run_lock.specs.declared.phase.RunFault.TheVariants.{Refused}
+use Rattle.run_lock.specs.declared.phase.RunFault.{RunFault}
+use Rattle.run_lock.specs.declared.phase.RunFault.TheVariants.{Refused, NotStarted, NotSettled}
 
 -- the first end stays
 abbrev pub ended_by : Phase → Phase → Phase
@@ -12,13 +19,64 @@ ended_by Running end = end
 ended_by Ended end = Ended
 ended_by (Stopped fault) end = Stopped fault
 
--- a refusal stops the run
+-- a row that is refused stops the run
 abbrev pub phase_after : Phase → Option Refusal → Phase
 phase_after now None = now
 phase_after now (Some refusal) = Stopped (Refused refusal)
+
+-- a call that is refused stops the run, unless it has ended
+abbrev pub phase_after_answer : {T : Type 0} → Phase → Result T Refusal → Phase
+phase_after_answer now (Ok answer) = now
+phase_after_answer now (Err refusal) = ended_by now (Stopped (Refused refusal))
 
 -- The rows that a run has to do with, until it is stopped: a row that was refused is lost.
 abbrev pub unless_stopped : Phase → List Latch → List Latch
 unless_stopped Running rows = rows
 unless_stopped Ended rows = rows
 unless_stopped (Stopped fault) rows = []
+
+-- What stopped a run is so of its core: K5 where the store has failed, for this cause, and K1 where the log is full.
+abbrev pub IsSo : {D : Type 0} → RunFault → CoreView D → Type 0
+IsSo (Refused (StoreFailed cause)) core = core.failed ≡ Some cause
+IsSo (Refused (Serial Full)) core = core.state.room ≤ length core.state.log
+IsSo (Refused (Serial NotWaiting)) core = Unit {0}
+IsSo (Refused (Serial Foreign)) core = Unit {0}
+IsSo (Refused (Serial NotLater)) core = Unit {0}
+IsSo (Refused (Serial NoMemory)) core = Unit {0}
+IsSo NotStarted core = Unit {0}
+IsSo NotSettled core = Unit {0}
+
+-- the same of a run that may go on, or that has come to its end
+abbrev pub IsStoppedFor : {D : Type 0} → Phase → CoreView D → Type 0
+IsStoppedFor Running core = Unit {0}
+IsStoppedFor Ended core = Unit {0}
+IsStoppedFor (Stopped fault) core = IsSo fault core
+
+unit_prop : IsProp (Unit {0})
+unit_prop a b = refl
+
+pub IsStoppedFor-prop : {D : Type 0} (phase : Phase) (core : CoreView D) → IsProp (IsStoppedFor phase core)
+IsStoppedFor-prop Running core = unit_prop
+IsStoppedFor-prop Ended core = unit_prop
+IsStoppedFor-prop (Stopped (Refused (StoreFailed cause))) core =
+    Coded-set (coded_option fault.the_row.coded) core.failed (Some cause)
+IsStoppedFor-prop (Stopped (Refused (Serial Full))) core = le_prop
+IsStoppedFor-prop (Stopped (Refused (Serial NotWaiting))) core = unit_prop
+IsStoppedFor-prop (Stopped (Refused (Serial Foreign))) core = unit_prop
+IsStoppedFor-prop (Stopped (Refused (Serial NotLater))) core = unit_prop
+IsStoppedFor-prop (Stopped (Refused (Serial NoMemory))) core = unit_prop
+IsStoppedFor-prop (Stopped NotStarted) core = unit_prop
+IsStoppedFor-prop (Stopped NotSettled) core = unit_prop
+
+-- a fault that no core has told
+abbrev pub IsOfNoCore : RunFault → Type 0
+IsOfNoCore (Refused (Serial NoMemory)) = Unit {0}
+IsOfNoCore (Refused refusal) = ⊥
+IsOfNoCore NotStarted = Unit {0}
+IsOfNoCore NotSettled = Unit {0}
+
+-- a run that comes to its end, or is stopped for what no core has told
+abbrev pub MayEnd : Phase → Type 0
+MayEnd Running = Unit {0}
+MayEnd Ended = Unit {0}
+MayEnd (Stopped fault) = IsOfNoCore fault

@@ -1,21 +1,22 @@
 //! What lies under the lock of a run.
 
-ghost use Rattle.std.specs.Prelude.{◌≡◌, ◌+◌, ◌^◌, ◌<◌, ◌≤◌, ◌++◌, Option, drop, max, IfOk, IfNone, OnErr, IsTrue};
+ghost use Rattle.std.specs.Prelude.{length, ◌≡◌, ◌↔◌, ◌+◌, ◌^◌, ◌<◌, ◌≤◌, ◌++◌, Option, drop, max, IfOk, IfNone, OnErr, IsTrue};
 ghost use Rattle.std.specs.Coded.{Coded-set};
 ghost use Rattle.atomic_table.specs.Seated.{table_id_coded};
 ghost use Rattle.st_plans.specs.Logs.{done_count};
-ghost use Rattle.serial_core.specs.Steps.{made, Commits, CommitsHere};
+ghost use Rattle.serial_core.specs.Steps.{made, Commits, CommitsHere, Takes};
 ghost use Rattle.commit_lock.specs.Cores.{Guards};
 ghost use Rattle.commit_lock.specs.Flushing.{Flushes, IsAcknowledged};
 ghost use Rattle.run_lock.specs.Answers.{committed_by, committed_here};
-ghost use Rattle.run_lock.specs.Lives.{life_of, IsOfLife, IsOfLife-prop, InOrder, InOrder-prop, NothingIsDue};
+ghost use Rattle.run_lock.specs.Lives.{life_of, IsOfLife, IsOfLife-prop, IsStartedSo, IsStartedSo-prop, NothingIsDue};
+ghost use Rattle.run_lock.specs.Lives.{InOrder, InOrder-prop};
 ghost use Rattle.run_lock.specs.Latching.{LatchesNext};
-ghost use Rattle.run_lock.specs.Phases.{ended_by, phase_after};
+ghost use Rattle.run_lock.specs.Phases.{ended_by, phase_after, phase_after_answer, IsStoppedFor, IsStoppedFor-prop, MayEnd};
 ghost use Rattle.commit_lock.specs.declared.refusal.Refusal.{Refusal};
 
 use crate::mark::{Mark, RaisePass};
-use crate::phase::{Phase, after_call, end_of};
-use coded_runs::Execution;
+use crate::phase::{Phase, after_answer, after_call, end_of};
+use coded_runs::{Execution, Snapshot};
 use commit_lock::{Answer, Core, Refusal};
 use disk::Disk;
 use st_plans::Row;
@@ -30,6 +31,7 @@ pub trait Run: Ledger {
     ghost use Rattle.atomic_table.specs.Seated.{TableId};
     ghost use Rattle.st_plans.specs.Rows.{Latch};
     ghost use Rattle.serial_core.specs.Steps.{State};
+    ghost use Rattle.commit_lock.specs.declared.starting.StartMode.{StartMode};
 
     /// How many executions the log has as the run begins.
     ghost dones: { ℕ };
@@ -37,8 +39,17 @@ pub trait Run: Ledger {
     /// The mark that the flusher raises.
     ghost mark: { TableId };
 
-    /// The life that goes on in it.
+    /// How many entries the log has as the run begins.
+    ghost entries: { ℕ };
+
+    /// The life that goes on in it, as the run begins.
     ghost life: { Option State };
+
+    /// How it was started.
+    ghost mode: { StartMode };
+
+    /// How many entries are acknowledged as the run begins.
+    ghost acked: { ℕ };
 
     /// The rows of its log when all are latched.
     ghost rows: { List Latch };
@@ -47,12 +58,19 @@ pub trait Run: Ledger {
 impl Run for Brand {
     ghost use Rattle.std.specs.Prelude.{[], None};
     ghost use Rattle.run_lock.specs.Lives.{no_mark};
+    ghost use Rattle.commit_lock.specs.declared.starting.StartMode.TheVariants.{Cold};
 
     ghost dones = { 0 };
 
     ghost mark = { no_mark };
 
+    ghost entries = { 0 };
+
     ghost life = { None };
+
+    ghost mode = { Cold };
+
+    ghost acked = { 0 };
 
     ghost rows = { [] };
 }
@@ -60,7 +78,8 @@ impl Run for Brand {
 /// The core with the book of its run, the one pass that raises its mark, and the rows that are not latched yet.
 ///
 /// The log has as many executions more than as the run began as the book says. What was raised is acknowledged. The
-/// core is that of the run, and until the run is stopped, what it has latched and what is left are the run's rows.
+/// core goes on from that of the run, with no fewer entries acknowledged, and until the run is stopped, what it has
+/// latched and what is left are the run's rows. What stopped the run is so.
 #[derive(Drop)]
 pub struct Locked<J: Run, D: Disk> {
     pub core: Core<D>,
@@ -71,7 +90,11 @@ pub struct Locked<J: Run, D: Disk> {
     pub ghost counted: { done_count core.state.log ≡ J.dones + book.total },
     pub ghost acknowledged: { raises.top ≤ core.acked },
     pub ghost of_run: { raises.mark ≡ J.mark } by { Coded-set table_id_coded raises.mark J.mark },
-    pub ghost one_life: { IsOfLife core J.life } by { IsOfLife-prop core J.life },
+    pub ghost one_life: { IsOfLife core J.entries J.life } by { IsOfLife-prop core J.entries J.life },
+    pub ghost started_so: { IsStartedSo core J.mode } by { IsStartedSo-prop core J.mode },
+    pub ghost longer: { J.entries ≤ length core.state.log },
+    pub ghost acked_stays: { J.acked ≤ core.acked },
+    pub ghost stopped_for: { IsStoppedFor phase core } by { IsStoppedFor-prop phase core },
     pub ghost in_order: { InOrder phase core rest.items J.rows } by { InOrder-prop phase core rest.items J.rows },
 }
 
@@ -117,17 +140,37 @@ fn latch_next<D: Disk>(core: &mut Core<D>, rest: &mut VecDeque<Row>) -> Option<R
 }
 
 impl<J: Run, D: Disk> Locked<J, D> {
-    /// Commits, and counts in the share what was appended.
+    /// A snapshot of the best activation that waits on the resource; none where nothing waits there. A refusal ends the
+    /// run.
+    pub fn take(&mut self, alloc: Global, resource: usize) -> Result<Option<Snapshot>, Refusal>
+        ensures core { self.new.core ≡ self.old.core }
+        ensures takes { Guards self.old.core result self.old.core (λ r. Takes self.old.core.state resource r) }
+        ensures phase { self.new.phase ≡ phase_after_answer self.old.phase result }
+    {
+        let Locked { core, phase, .. } = self;
+        let result = core.take(alloc, resource);
+        *phase = after_answer(*phase, &result);
+        result
+    }
+
+    /// Commits, and counts in the share what was appended. A refusal ends the run.
     pub fn commit(&mut self, execution: Execution, share: &mut Share<J>) -> Result<Answer, Refusal>
         requires { 0 < share.old.parts }
         ensures core { Guards self.old.core result self.new.core
             (λ r. Commits self.old.core.state execution r self.new.core.state) }
+        ensures phase { self.new.phase ≡ phase_after_answer self.old.phase result }
         ensures counted { share.new.amount ≡ share.old.amount + committed_by result }
         ensures parts { share.new.parts ≡ share.old.parts }
         ensures small { share.new.amount < 2 ^ 64 }
     {
-        let Locked { core, book, .. } = self;
+        let Locked {
+            core,
+            book,
+            phase,
+            ..
+        } = self;
         let result = core.commit(execution);
+        *phase = after_answer(*phase, &result);
         book.add(share, count_of(&result));
         book.audit(share);
         let _length = core.len();
@@ -144,28 +187,43 @@ impl<J: Run, D: Disk> Locked<J, D> {
         requires { 0 < share.old.parts }
         ensures core { Guards self.old.core result self.new.core
             (λ r. CommitsHere self.old.core.state resource r self.new.core.state) }
+        ensures phase { self.new.phase ≡ phase_after_answer self.old.phase result }
         ensures counted { share.new.amount ≡ share.old.amount + committed_here result }
         ensures parts { share.new.parts ≡ share.old.parts }
         ensures small { share.new.amount < 2 ^ 64 }
     {
-        let Locked { core, book, .. } = self;
+        let Locked {
+            core,
+            book,
+            phase,
+            ..
+        } = self;
         let result = core.commit_here(alloc, resource);
+        *phase = after_answer(*phase, &result);
         book.add(share, count_here(&result));
         book.audit(share);
         let _length = core.len();
         result
     }
 
-    /// Flushes, and raises the mark to what is acknowledged then.
+    /// Flushes, and raises the mark to what is acknowledged then. A refusal ends the run.
     pub fn flush(&mut self, mark: &Mark) -> Result<usize, Refusal>
         requires { mark.now ≡ J.mark }
         ensures core { Flushes self.old.core result self.new.core }
+        ensures phase { self.new.phase ≡ phase_after_answer self.old.phase result }
         ensures raised { IfOk result (λ n. self.new.raises.top ≡ max self.old.raises.top n) }
         ensures err { OnErr result (self.new.raises ≡ self.old.raises) }
     {
-        let Locked { core, raises, .. } = self;
+        let Locked {
+            core,
+            raises,
+            phase,
+            ..
+        } = self;
         let _acked = core.acked();
-        let length = core.flush()?;
+        let result = core.flush();
+        *phase = after_answer(*phase, &result);
+        let length = result?;
         mark.raise(raises, length as u64);
         Ok(length)
     }
@@ -187,8 +245,9 @@ impl<J: Run, D: Disk> Locked<J, D> {
         *phase = after_call(*phase, refusal);
     }
 
-    /// Ends the run, unless it has ended.
+    /// Ends the run, unless it has ended: it has come to its end, or is stopped for what no core has told.
     pub fn end(&mut self, end: Phase)
+        requires { MayEnd end }
         ensures core { self.new.core ≡ self.old.core }
         ensures phase { self.new.phase ≡ ended_by self.old.phase end }
     {
@@ -198,8 +257,7 @@ impl<J: Run, D: Disk> Locked<J, D> {
 
     /// Whether nothing waits, and all is acknowledged.
     pub fn is_settled(&self, resources: usize) -> bool
-        ensures { IsTrue result
-            → NothingIsDue self.now.core.state resources × IsAcknowledged self.now.core }
+        ensures { IsTrue result ↔ (NothingIsDue self.now.core.state resources × IsAcknowledged self.now.core) }
     {
         is_settled(&self.core, resources)
     }
@@ -207,7 +265,7 @@ impl<J: Run, D: Disk> Locked<J, D> {
 
 /// Whether nothing waits on one of so many resources, and all of the log is acknowledged.
 pub fn is_settled<D: Disk>(core: &Core<D>, resources: usize) -> bool
-    ensures { IsTrue result → NothingIsDue core.now.state resources × IsAcknowledged core.now }
+    ensures { IsTrue result ↔ (NothingIsDue core.now.state resources × IsAcknowledged core.now) }
 {
     for resource in 0..resources {
         if core.waits_on(resource) {

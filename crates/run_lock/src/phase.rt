@@ -1,7 +1,7 @@
 //! How far a run is.
 
 ghost use Rattle.std.specs.Prelude.{◌≡◌};
-ghost use Rattle.run_lock.specs.Phases.{ended_by, phase_after};
+ghost use Rattle.run_lock.specs.Phases.{ended_by, phase_after, phase_after_answer};
 
 use commit_lock::Refusal;
 use serial_core::Refusal as SerialRefusal;
@@ -44,12 +44,22 @@ pub fn end_of(now: Phase, end: Phase) -> Phase
     }
 }
 
-/// The phase after a call that was perhaps refused.
+/// The phase after a row that was perhaps refused.
 pub fn after_call(now: Phase, refusal: Option<Refusal>) -> Phase
     ensures { result ≡ phase_after now refusal }
 {
     match refusal {
         Some(refusal) => Phase::Stopped(RunFault::Refused(refusal)),
         None => now,
+    }
+}
+
+/// The phase after a call that was perhaps refused: the first end stays.
+pub fn after_answer<T>(now: Phase, answer: &Result<T, Refusal>) -> Phase
+    ensures { result ≡ phase_after_answer now answer.now }
+{
+    match answer {
+        Ok(_) => now,
+        Err(refusal) => end_of(now, Phase::Stopped(RunFault::Refused(*refusal))),
     }
 }

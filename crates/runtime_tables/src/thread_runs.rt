@@ -41,9 +41,8 @@ pub fn run<R: Threads + Wait + Clock + Sync>(
 ) -> Result<Result<Report<SimDisk>, RunError<SimDisk>>, RowError> {
     let disk = disk_with(alloc, &[], terms.mishap)?;
     let rows = rows_of(alloc, count)?;
-    let own = Arc::clone(&plan)?;
-    let core = started(alloc, own, disk, StartMode::Cold, terms.room)?;
-    Ok(run_plant(rt, alloc, &plan, core, rows, terms.pace, watch))
+    let core = started(alloc, plan, disk, StartMode::Cold, terms.room)?;
+    Ok(run_plant(rt, alloc, core, rows, terms.pace, watch))
 }
 
 /// The life that begins with the file that a core leaves when power goes.

@@ -7,29 +7,22 @@ use image::PlantError;
 use run_lock::RunFault;
 use st_build::BuildError;
 use std::alloc::{AllocError, AllocFailed};
-use thiserror::Error;
 use traces::ReplayError;
 
-/// Why a job ends early. It shows as its number, with the place in the source where there is one.
-#[derive(Clone, Copy, Debug, PartialEq, Eq, Error)]
+/// Why a job ends early. What is told of it goes by its code (`fault_codes`).
+#[derive(Clone, Copy, Debug, PartialEq, Eq)]
 pub enum Fault {
     /// The source can't be read.
-    #[error("X1")]
     Source,
     /// The source has no plan.
-    #[error("{0}")]
     Build(BuildError),
     /// The plant is refused.
-    #[error("{0}")]
     Plant(PlantError),
     /// The trace was not run again, or not written.
-    #[error("{0}")]
     Trace(ReplayError),
     /// No life was started.
-    #[error("{0}")]
     Start(StartFault),
     /// The run was stopped, or memory was wanted outside it.
-    #[error("{0}")]
     Run(RunFault),
 }
 

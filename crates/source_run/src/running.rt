@@ -72,14 +72,12 @@ fn run_pace(pace: Pace) -> RunPace {
 fn served<D: Disk + Drop + Send, R: Threads + Wait + Eprint + Sync>(
     rt: &R,
     alloc: Global,
-    plan: &Plan,
     core: Core<D>,
     pace: Pace,
     rows: Vec<Row>,
     progress: &Progress<'_, R>,
 ) -> (Core<D>, Result<Vec<u8>, Fault>)
-    requires own { plan.now ≡ core.state.plan }
-    ensures settled { OnOk result.1 (IsSettled result.0 plan.now.resources) }
+    ensures settled { OnOk result.1 (IsSettled result.0 core.state.plan.resources) }
     ensures life { OnOk result.1 (life_of result.0.state ≡ life_of core.state) }
     ensures latched { OnOk result.1 ((made result.0.state).rows ≡ (made core.state).rows ++ rows.items) }
     ensures report { IfOk result.1 (λ text. IsReport result.0.state.plan (start_of result.0.state) result.0.state.log
@@ -87,7 +85,7 @@ fn served<D: Disk + Drop + Send, R: Threads + Wait + Eprint + Sync>(
     ensures legal { IfOk result.1 (λ _.
         IsLegal (plan_view result.0.state.plan) result.0.state.start result.0.state.before result.0.state.log) }
 {
-    match run_plant(rt, alloc, plan, core, rows, run_pace(pace), progress) {
+    match run_plant(rt, alloc, core, rows, run_pace(pace), progress) {
         Ok(Report { core, told: _ }) => match report_of(alloc, &core) {
             Ok(report) => (core, Ok(report)),
             Err(_) => (core, Err(Fault::NO_MEMORY)),
@@ -113,9 +111,9 @@ pub fn run_plan<F: Files, R: Threads + Wait + Eprint + Sync>(
     let Ok(plan) = Arc::new(alloc, plan) else {
         return Err(Fault::Start(StartFault::NoMemory));
     };
-    let core = start(alloc, files, Arc::clone(&plan)?, job.store, job.start)?;
+    let core = start(alloc, files, plan, job.store, job.start)?;
     let progress = Progress::new(rt, rows.len(), files.is_terminal());
-    let (core, report) = served(rt, alloc, &plan, core, job.pace, rows, &progress);
+    let (core, report) = served(rt, alloc, core, job.pace, rows, &progress);
     progress.clear();
     let report = traced(alloc, files, job, &core, report);
     files.back(core.stop());

@@ -13,4 +13,10 @@ loop-resource-preserved g c = λ r less. elim (cases_lt r c.loop-resource.resour
 ]
 
 pub returns : goal.returns
-returns g c = λ yes. ((λ r less. c.loop-resource.invariant r (search rules)), search rules)
+returns g c = (λ yes. ((λ r less. c.loop-resource.invariant r (search rules)), search rules), search rules)
+
+pub returns-then-waits_on : goal.returns-then-waits_on
+returns-then-waits_on g c = (
+  λ no. absurd (cc),
+  λ settled. absurd (c.if-waits_on.ensures (settled.0 c.loop-resource.resource c.loop-resource-test.true)),
+)
