@@ -1,3 +1,4 @@
 pub mod FindingLemmas
 pub mod StartLemmas
 pub mod ReplayLemmas
+mod AcceptLemmas

@@ -1,6 +1,6 @@
 -- What a trace tells, and what is told of its replay.
 use Rattle.std.specs.Prelude.{◌≡◌, ◌<◌, ◌≤◌, ◌-◌, ◌^◌, ℕ, min, List, ◌++◌, Bool, true, false, length, map, sum}
-use Rattle.std.specs.Prelude.{count_by, slice_index, Option, Some, None, IfSome}
+use Rattle.std.specs.Prelude.{count_by, slice_index, Option, Some, None, IfSome, Result, MatchResult}
 use Rattle.st_words.specs.declared.limits.TheConstants.{MAX_LOG_ROOM, MOMENT_LIMIT}
 use Rattle.st_words.specs.Values.{Datum}
 use Rattle.st_types.specs.declared.outcome.Outcome.{Outcome}
@@ -8,21 +8,18 @@ use Rattle.st_types.specs.declared.outcome.Outcome.TheVariants.{Done as Ended, F
 use Rattle.st_plans.specs.Rows.{Latch}
 use Rattle.st_plans.specs.Due.{HasOverruns}
 use Rattle.st_plans.specs.Plans.{schedules_of}
-use Rattle.st_plans.specs.Restarts.{Kept, Start, cold_start, warm_start}
+use Rattle.st_plans.specs.Restarts.{Start}
 use Rattle.st_plans.specs.Logs.{Log, past_of, after, outcomes_of, row_count, done_count, IsLegal}
 use Rattle.config.specs.declared.plan.Plan.{Plan}
 use Rattle.config.specs.PlanViews.{plan_view}
 use Rattle.commit_lock.specs.declared.starting.StartMode.{StartMode}
-use Rattle.commit_lock.specs.declared.starting.StartMode.TheVariants.{Warm, Cold}
+use Rattle.commit_lock.specs.Starting.{IsStart}
+use Rattle.trace_lines.specs.declared.trace_error.ReplayError.{ReplayError}
 use Rattle.trace_lines.specs.NamedValues.{are_names_apart}
 use Rattle.trace_lines.specs.Texts.{trace_text}
 use Rattle.log_replay.specs.Rests.{rows_in}
 use Rattle.log_replay.specs.ToldApart.{AreToldApart}
-
--- A cold start has the initial values and no moment. A warm one goes on from what some record tells, or from none.
-abbrev pub IsStart : Plan → StartMode → Start → Type 0
-IsStart plan Cold start = start ≡ cold_start (plan_view plan)
-IsStart plan Warm start = (told : Option Kept) × (start ≡ warm_start (plan_view plan) told)
+use Rattle.traces.specs.declared.findings.Replayed.{Replayed}
 
 -- The text is the trace of a legal log, which a core has room for. The life was started so, and its rows are the first
 -- of these.
@@ -63,3 +60,11 @@ pub record AreFindings (plan : Plan) (start : Start) (log : Log) (rows done faul
   pub faults_are : faults ≡ count_by is_faulted (outcomes_of (plan_view plan) start.store log)
   pub overruns_are : HasOverrunsInAll plan start log overruns
   pub values_are : values ≡ map (λ e. e.1) (after (plan_view plan) start.store log)
+
+-- A replay accepts each life whose trace the text is: it tells the counts and values of that life, unless it may be
+-- refused so.
+abbrev pub Accepts : Plan → List Latch → List ℕ → (ReplayError → Type 0) → Result Replayed ReplayError → Type 0
+Accepts plan rows text May result = (mode : StartMode) (start : Start) (log : Log)
+    → IsTrace plan rows text mode start log → MatchResult result
+    (λ r. AreFindings plan start log r.rows r.done r.faults r.overruns r.values.items)
+    May

@@ -6,12 +6,11 @@ use Rattle.st_plans.specs.Restarts.{Start, kept}
 use Rattle.config.specs.declared.plan.Plan.{Plan}
 use Rattle.config.specs.PlanViews.{plan_view}
 use Rattle.serial_core.specs.Steps.{State, grown}
-use Rattle.commit_lock.specs.Starting.{started}
+use Rattle.commit_lock.specs.Starting.{IsStart, started}
 use Rattle.commit_lock.specs.declared.starting.StartMode.{StartMode}
 use Rattle.trace_lines.specs.Heads.{IsEarly}
 use Rattle.trace_lines.specs.Texts.{head_text, keep_text}
 use Rattle.log_replay.specs.Watching.{stages}
-use Rattle.traces.specs.Replays.{IsStart}
 
 -- a life of the plan with room for the longest log, which was started so and has done nothing yet
 abbrev pub IsBegun : Plan → StartMode → State → Type 0

@@ -5,7 +5,7 @@ ghost use Rattle.st_plans.specs.Restarts.{Start};
 ghost use Rattle.st_plans.specs.Logs.{Log};
 ghost use Rattle.commit_lock.specs.declared.starting.StartMode.{StartMode};
 ghost use Rattle.log_replay.specs.Watching.{HasSeen};
-ghost use Rattle.traces.specs.Replays.{AreFindings, IsToldApart, IsTrace};
+ghost use Rattle.traces.specs.Replays.{Accepts, AreFindings, IsToldApart, IsTrace};
 ghost use Rattle.traces.specs.Starts.{lives_of};
 
 use crate::findings::{Replayed, findings};
@@ -87,6 +87,9 @@ pub fn replay_text(
         → AreFindings plan.value start log r.rows r.done r.faults r.overruns r.values.items) }
     ensures refused { IsToldApart plan.value → IfErr result (λ e. e ≢ ReplayError.NoMemory
         → (mode : StartMode) (start : Start) (log : Log) → IsTrace plan.value rows.now text.now mode start log → ⊥) }
+    // Each life whose trace the text is comes out of it, unless memory is wanted.
+    ensures accepts { IsToldApart plan.value
+        → Accepts plan.value rows.now text.now (λ e. e ≡ ReplayError.NoMemory) result }
 {
     replay_watched(alloc, plan, rows, text, &mut Nobody)
 }
@@ -117,6 +120,9 @@ pub fn replay<R: Read + Drop>(
     ensures refused { IsToldApart plan.value → IfErr result (λ e. e ≢ ReplayError.NoMemory
         → e ≢ ReplayError.Device → IfSome (R.remaining reader) (λ text. (mode : StartMode) (start : Start) (log : Log)
         → IsTrace plan.value rows.now text mode start log → ⊥)) }
+    // Each life whose trace was read comes out of it, unless memory is wanted or the reader fails.
+    ensures accepts { IsToldApart plan.value → IfSome (R.remaining reader) (λ text. Accepts plan.value rows.now text
+        (λ e. (e ≡ ReplayError.NoMemory) ⊎ (e ≡ ReplayError.Device)) result) }
 {
     let mut reader = reader;
     let mut text = Vec::new(alloc);

@@ -5,6 +5,7 @@ use Rattle.commit_lock.specs.declared.starting.StartMode.{StartMode}
 use Rattle.trace_lines.specs.declared.trace_error.ReplayError.TheVariants.{NoMemory, Device}
 use Rattle.traces.specs.declared.findings.Replayed.{Replayed}
 use Rattle.traces.specs.Replays.{AreFindings, IsTrace}
+use Rattle.traces.proofs.AcceptLemmas.{read_accepts, unread_accepts}
 use Rattle.traces.proofs.ReplayLemmas.{read_refused, read_told}
 use Rattle.traces.proofs.replaying.replay.Goals as goal
 
@@ -24,3 +25,14 @@ returns-in-Ok-clause-only g c = λ apart.
     (g.R.Read.remaining c.args.reader) c.new-text.result.items c.read_to_end.new.buf.items c.deref.result.now
     c.replay_text.result c.new-text.ensures.items c.in-Ok.ensures.bytes c.deref.ensures.value
     (c.replay_text.ensures.only apart)
+
+pub returns-in-Ok-clause-accepts : goal.returns-in-Ok-clause-accepts
+returns-in-Ok-clause-accepts g c = λ apart.
+    read_accepts c.args.plan.value c.args.rows.now (g.R.Read.remaining c.args.reader) c.new-text.result.items
+    c.read_to_end.new.buf.items c.deref.result.now c.replay_text.result c.new-text.ensures.items c.in-Ok.ensures.bytes
+    c.deref.ensures.value (c.replay_text.ensures.accepts apart)
+
+pub returns-in-Err-clause-accepts : goal.returns-in-Err-clause-accepts
+returns-in-Err-clause-accepts g c = λ apart.
+    unread_accepts c.args.plan.value c.args.rows.now (g.R.Read.remaining c.args.reader) c.unread.result
+    c.unread.ensures

@@ -1,0 +1,7 @@
+use Rattle.traces.proofs.AcceptLemmas.{accepted}
+use Rattle.traces.proofs.replaying.replay_text.Goals as goal
+
+pub returns-clause-accepts : goal.returns-clause-accepts
+returns-clause-accepts c = λ apart.
+    accepted c.args.plan.value c.args.rows.now c.args.text.now c.replay_watched.result
+    (c.replay_watched.ensures.only apart) (c.replay_watched.ensures.refused apart)

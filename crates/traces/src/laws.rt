@@ -1,0 +1,20 @@
+//! The law of the traces of cores. The function only tells what a core's type keeps: its contract is the law.
+
+ghost use Rattle.std.specs.Prelude.{◌≡◌, ◌++◌, List};
+ghost use Rattle.st_plans.specs.Rows.{Latch};
+ghost use Rattle.commit_lock.specs.Starting.{start_in};
+ghost use Rattle.trace_lines.specs.Texts.{trace_of};
+ghost use Rattle.log_replay.specs.Rests.{rows_in};
+ghost use Rattle.traces.specs.Replays.{IsTrace};
+
+use commit_lock::Core;
+use disk::Disk;
+
+/// The trace of a core, whatever came to it so far, is one of its plan: of its own start and log, over the rows of this
+/// log and any that come behind them. So a replay of it accepts it.
+pub fn each_core_has_a_trace<D: Disk>(core: &Core<D>)
+    ensures { (behind : List Latch) → IsTrace core.now.state.plan (rows_in core.now.state.log ++ behind)
+        (trace_of core.now) core.now.mode (start_in core.now.state) core.now.state.log }
+{
+    core.kept();
+}
