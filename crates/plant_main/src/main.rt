@@ -1,6 +1,7 @@
 //! The program `plant`: its words, the real files and the standard outputs.
 #![tactic(auto)]
 
+use fault_codes::write_fault;
 use plant_program::plant;
 use source_run::{Fault, RealFiles};
 use std::alloc::{AllocError, Global};
@@ -22,7 +23,7 @@ fn texts_of<'a>(alloc: Global, words: &'a [String]) -> Result<Vec<&'a str>, Allo
 
 /// Tells that memory is wanted for the words, and gives the exit status.
 fn no_memory<E: Write>(err: &mut E) -> u8 {
-    let _ = writeln!(err, "fault {}", Fault::NO_MEMORY);
+    let _ = write_fault(err, Fault::NO_MEMORY);
     Fault::NO_MEMORY.status()
 }
 

@@ -1,12 +1,13 @@
 //! What a person is shown behind the line of a fault.
 
 use crate::source_faults::source_fault;
+use fault_codes::code_of;
 use plant_codes::title;
 use plant_jobs::Job;
 use source_run::{Fault, Files, read_source};
 use st_diagnose::{SourceFault, WholeFault};
 use st_reasons::write_reason;
-use std::alloc::{AllocError, Global};
+use std::alloc::Global;
 use std::io::Write;
 
 /// Whether the faults of a job are explained.
@@ -39,25 +40,9 @@ fn refused(fault: Fault) -> Option<SourceFault> {
     }
 }
 
-/// The code of a fault as its line tells it, and what stands behind it.
-fn line_of(alloc: Global, fault: Fault) -> Result<String, AllocError> {
-    format!(in alloc; "{fault}")
-}
-
-/// The code in front of a fault's line.
-fn code_in(line: &str) -> &str {
-    match line.split_once(' ') {
-        Some((code, _)) => code,
-        None => line,
-    }
-}
-
 /// Writes what the code of a fault means.
-fn tell_meaning<E: Write>(alloc: Global, fault: Fault, err: &mut E) {
-    let Ok(line) = line_of(alloc, fault) else {
-        return;
-    };
-    let code = code_in(&line);
+fn tell_meaning<E: Write>(fault: Fault, err: &mut E) {
+    let code = code_of(fault).text();
     if let Some(title) = title(code) {
         let _ = writeln!(err, "{code}: {title}");
         let _ = writeln!(err, " = help: `plant explain {code}` says more");
@@ -89,7 +74,7 @@ fn tell_place<F: Files, E: Write>(
         return false;
     };
     match text_of(alloc, files, name, fault) {
-        Ok(text) => write_reason(alloc, err, name, &text, refused).is_ok(),
+        Ok(text) => write_reason(alloc, err, name, &text, code_of(fault).text(), refused).is_ok(),
         Err(_) => false,
     }
 }
@@ -104,6 +89,6 @@ pub(crate) fn explain<F: Files, E: Write>(
     err: &mut E,
 ) {
     if is_explained(job) && !tell_place(alloc, files, job, fault, err) {
-        tell_meaning(alloc, fault, err);
+        tell_meaning(fault, err);
     }
 }

@@ -73,9 +73,8 @@ fn served<D: Disk + Drop + Send, R: Threads + Wait + Sync>(
     disk: D,
 ) -> Result<Vec<u8>, Fault> {
     let rows = built_in_rows(alloc)?;
-    let plan = Arc::new(alloc, plan)?;
-    let core = started(alloc, Arc::clone(&plan)?, disk)?;
-    match run_plant(rt, alloc, &plan, core, rows, Pace::Settle, &OpenGate) {
+    let core = started(alloc, Arc::new(alloc, plan)?, disk)?;
+    match run_plant(rt, alloc, core, rows, Pace::Settle, &OpenGate) {
         Ok(Report { core, told: _ }) => count_line(alloc, &core),
         Err(RunError { core: _, fault }) => Err(Fault::Run(fault)),
     }

@@ -5,6 +5,7 @@ ghost use Rattle.std.specs.Io.KnownBytes.{Appends};
 ghost use Rattle.plant_program.specs.Endings.{IsTold, IsAboutWords};
 
 use crate::ending::{Declined, Ending};
+use fault_codes::write_fault;
 use plant_words::WordsError;
 use source_run::Fault;
 use std::io;
@@ -42,7 +43,7 @@ pub(crate) fn tell<O: Write, E: Write>(end: Result<End, Fault>, out: &mut O, err
             Ending::Declined(why)
         }
         Err(fault) => {
-            let _ = writeln!(err, "fault {fault}");
+            let _ = write_fault(err, fault);
             Ending::Fault(fault)
         }
     }

@@ -1,8 +1,8 @@
 //! Why a source is refused.
 
-use st_lex::{LexError, LexFault};
+use st_lex::LexError;
 use st_statements::ParseError;
-use st_statics::{Broken, Rule};
+use st_statics::Broken;
 
 /// Why a source is refused, as the layer that refuses it tells.
 #[derive(Clone, Copy)]
@@ -48,71 +48,7 @@ pub enum WholeFault {
     PlanMemory,
 }
 
-fn code_of_words(error: LexError) -> &'static str {
-    match error {
-        LexError::Fault(LexFault::Byte, _) => "L1",
-        LexError::Fault(LexFault::Literal, _) => "L2",
-        LexError::Fault(LexFault::Identifier, _) => "L3",
-        LexError::Fault(LexFault::Comment, _) => "L4",
-        LexError::TooLong => "L5",
-        LexError::Memory => "L6",
-    }
-}
-
-fn code_of_grammar(error: ParseError) -> &'static str {
-    match error {
-        ParseError::Unexpected(_) => "P1",
-        ParseError::Deep => "P2",
-        ParseError::Memory => "P3",
-    }
-}
-
-fn code_of_rule(rule: Rule) -> &'static str {
-    match rule {
-        Rule::UnknownName => "C1",
-        Rule::DeclaredTwice => "C2",
-        Rule::WrongType => "C3",
-        Rule::OutOfRange => "C4",
-        Rule::NotAssignable => "C5",
-        Rule::TooDeep => "C6",
-        Rule::WrongLabel => "C7",
-        Rule::WrongBounds => "C8",
-        Rule::ExitOutsideLoop => "C9",
-        Rule::WrongArguments => "C10",
-        Rule::RetainedAddress => "C11",
-        Rule::TooManyNames => "C13",
-    }
-}
-
-fn code_of_whole(fault: WholeFault) -> &'static str {
-    match fault {
-        WholeFault::Unread => "X1",
-        WholeFault::Budget => "G7",
-        WholeFault::NotOne => "G2",
-        WholeFault::Unknown => "G3",
-        WholeFault::WrongAddress => "G4",
-        WholeFault::TooMany => "G5",
-        WholeFault::RecordTooLong => "G6",
-        WholeFault::WithoutTask => "G8",
-        WholeFault::TooManyPaths => "M1",
-        WholeFault::TooManyInstructions => "M2",
-        WholeFault::JudgingMemory => "C12",
-        WholeFault::LayoutMemory => "M3",
-        WholeFault::PlanMemory => "G9",
-    }
-}
-
 impl SourceFault {
-    /// Its code.
-    pub fn code(self) -> &'static str {
-        match self {
-            SourceFault::Words(error) => code_of_words(error),
-            SourceFault::Grammar(error) => code_of_grammar(error),
-            SourceFault::Rule(broken) => code_of_rule(broken.rule),
-            SourceFault::Whole(fault) => code_of_whole(fault),
-        }
-    }
-
     /// The offset of the byte at fault, where there is one. A text that is too long is at fault as a whole.
     pub fn place(self) -> Option<usize> {
         match self {

@@ -28,4 +28,4 @@ pub use part::{part as part_of, shown, word_in_front};
 pub use position::{Position, position_of};
 pub use rules::of_rule;
 pub use spot::{Spot, is_mark};
-pub use viewing::{view_of, write_view};
+pub use viewing::view_of;

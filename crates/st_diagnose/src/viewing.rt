@@ -1,19 +1,15 @@
 //! The view of a fault.
 
-ghost use Rattle.std.specs.Prelude.{◌≡◌, List, ℕ, true, IfOk, OnOk};
+ghost use Rattle.std.specs.Prelude.{◌≡◌, true, IfOk};
 ghost use Rattle.std.specs.List.{list_all};
-ghost use Rattle.std.specs.Io.KnownBytes.{Appends};
 ghost use Rattle.st_diagnose.specs.Pages.{is_shown};
 
 use crate::excerpt::put_excerpt;
-use crate::explaining::explained;
 use crate::fault::SourceFault;
 use crate::finding::Finding;
 use crate::page::Page;
 use crate::position::position_of;
 use std::alloc::{AllocError, Global};
-use std::io;
-use std::io::Write;
 
 /// Appends the line that says what is wrong.
 fn put_head(page: &mut Page, code: &str, sentence: &str) -> Result<(), AllocError> {
@@ -82,13 +78,14 @@ fn put_finding(
     }
 }
 
-/// What a person is shown of the fault of a text: its code with a sentence that says what is wrong, where that is, the
-/// line there with a caret under the place, and what may help where there is something. The source is called by a name.
-/// The only error is out of memory.
+/// What a person is shown of the fault of a text: this code of it with a sentence that says what is wrong, where that
+/// is, the line there with a caret under the place, and what may help where there is something. The source is called by
+/// a name. The only error is out of memory.
 pub fn view_of(
     alloc: Global,
     name: &str,
     text: &[u8],
+    code: &str,
     fault: SourceFault,
     finding: Finding,
 ) -> Result<Page, AllocError>
@@ -99,25 +96,7 @@ pub fn view_of(
         None => finding,
     };
     let mut page = Page::new(alloc);
-    put_head(&mut page, fault.code(), &finding.sentence)?;
+    put_head(&mut page, code, &finding.sentence)?;
     put_finding(alloc, &mut page, name, text, &finding)?;
     Ok(page)
-}
-
-/// Writes what a person is shown of the fault of a text, as `view_of` makes it, with what the tokens of the text tell.
-/// It is found out from the text once more, in a time that grows with its length.
-pub fn write_view<W: Write>(
-    alloc: Global,
-    out: &mut W,
-    name: &str,
-    text: &[u8],
-    fault: SourceFault,
-) -> io::Result<()>
-    // What is written has printable characters, TABs and LFs alone.
-    ensures { OnOk result ((shown : List ℕ) × (list_all is_shown shown ≡ true)
-        × Appends (W.contents out.old) (W.contents out.new) shown) }
-{
-    let finding = explained(alloc, text, fault)?;
-    let page = view_of(alloc, name, text, fault, finding)?;
-    out.write_all(page.as_slice())
 }

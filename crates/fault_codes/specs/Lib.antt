@@ -1,0 +1,3 @@
+pub mod Codes
+pub mod Causes
+pub mod Lines
