@@ -124,6 +124,8 @@ scene "types and no configuration" 2 "" "fault G2" check types.st
 scene "no source" 2 "" "fault X1" check none.st
 scene "no ticks" 2 "" "fault G7" $(run word.st rows.csv made cold) --budget 0
 scene "one tick too many" 2 "" "fault G7" $(run s.st rows.csv made cold) --budget 1000001
+scene "words that aren't UTF-8" 1 "" "error: the words are no UTF-8 text" check $'\xff.st'
+scene "a later word that isn't UTF-8" 1 "" "error: the words are no UTF-8 text" run s.st --plant $'\xc3'
 # a run that names no budget has 10,000 ticks, as its trace tells
 "$plant" $(run s.st rows.csv untold cold) --trace untold.txt > out 2> err || fail "no budget: status $?"
 [ "$(sed -n 2p untold.txt)" = "budget 10000" ] || fail "no budget: $(sed -n 2p untold.txt)"
@@ -606,8 +608,14 @@ array() {
 }
 array abcdefghijkl > array.st
 scene "an array with a name of 12 letters" 0 "$(printf '%s\n' 'resources 1' 'tasks 1' 'programs 1' 'slots 4096' 'retained 4096')" "" check array.st
+"$plant" run array.st --plant none.csv --store array.retain --start cold > out
+[ "$(od -An -tu4 --endian=big -j 9 -N 4 array.retain | tr -d ' ')" = 129977 ] || fail "an array with a name of 12 letters: another body"
+scenes=$((scenes + 1))
 array abcdefghijklm > array.st
 scene "an array with a name of 13 letters" 2 "" "fault G6" check array.st
+"$plant" check array.st --explain 2> err && fail "an array with a name of 13 letters: accepted"
+grep -q ' over 131059 bytes' err || fail "an array with a name of 13 letters: $(cat err)"
+scenes=$((scenes + 1))
 # Blocks each of two instances of the one before: over a million instances.
 {
     echo 'FUNCTION_BLOCK F0 END_FUNCTION_BLOCK'
