@@ -28,7 +28,8 @@ impl Parts {
         ensures layout { IfOk result (λ parts. parts.layout.items ≡ layout_text_of plan.value) }
         ensures kept { IfOk result (λ parts. length plan.value.variables.items ≤ vec_capacity parts.kept) }
     {
-        let layout = plan.layout_text(alloc)?;
+        let mut layout = Vec::new(alloc);
+        layout.extend_from_slice(plan.layout().text())?;
         let kept = Vec::with_capacity(alloc, plan.variables.len())?;
         let serial = SerialCore::start(alloc, plan, log_room)?;
         Ok(Parts {

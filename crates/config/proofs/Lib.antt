@@ -1,2 +1,2 @@
+pub mod PlaceLemmas
 pub mod SlotLemmas
-pub mod LayoutLemmas

@@ -1,3 +1,5 @@
+pub mod LaidOut
+pub mod NumberedSlots
 pub mod SlotPlaces
 pub mod Sources
 pub mod Sound

@@ -1,5 +1,7 @@
 -- The slots of a plan in the order of its text: variables with inputs of the plant among them.
-use Rattle.std.specs.Prelude.{ℕ, suc, ◌==◌, List, [], ◌∷◌, map, Bool, ◌&&◌, Option, Some, None, slice_get, slice_set}
+use Rattle.std.specs.Prelude.{ℕ, suc, ◌==◌, List, [], ◌∷◌, map, Bool, ◌&&◌, Option, Some, None}
+use Rattle.std.specs.Prelude.{position, slice_get, slice_set}
+use Rattle.st_words.specs.Paths.{Path, same_path}
 use Rattle.st_words.specs.Values.{Datum}
 use Rattle.st_types.specs.Slots.{Slot, Cell}
 use Rattle.st_plans.specs.declared.plan.PlanVariable.{PlanVariable}
@@ -25,6 +27,16 @@ merged (Input k ∷ ps) vs (x ∷ xs) = x ∷ merged ps vs xs
 -- the slots of variables and inputs
 abbrev pub slots_among : List SlotPlace → List PlanVariable → List PlanInput → List Slot
 slots_among places variables inputs = merged places (map variable_slot variables) (map input_slot inputs)
+
+-- where a path stands: among the inputs, or else among the variables
+abbrev pub place_among : Option ℕ → Option ℕ → Option SlotPlace
+place_among (Some input) variable = Some (Input input)
+place_among None (Some variable) = Some (Variable variable)
+place_among None None = None
+
+abbrev pub place_of : List PlanVariable → List PlanInput → Path → Option SlotPlace
+place_of variables inputs p =
+    place_among (position (λ i. same_path p i.path) inputs) (position (λ v. same_path p v.path) variables)
 
 -- the value in a place, of these variables and inputs
 abbrev pub value_in : List Datum → List Datum → Option SlotPlace → Option Datum

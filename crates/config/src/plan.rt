@@ -3,13 +3,16 @@
 ghost use Rattle.std.specs.Prelude.{◌≡◌, length, filter, map};
 ghost use Rattle.std.specs.Vec.{vec_items};
 ghost use Rattle.st_trees.specs.SourceViews.{source_view};
+ghost use Rattle.config.specs.LaidOut.{IsLaidOut};
+ghost use Rattle.config.specs.SlotPlaces.{place_of};
 ghost use Rattle.config.specs.Sound.{PlanInvariant};
 
-use crate::slots::SlotPlace;
+use crate::slots::{SlotPlace, place_numbered};
 use crate::task::{ProgramInstance, Task};
+use layout::Layout;
 use st_plans::{PlanInput, PlanVariable};
 use st_trees::Source;
-use st_words::Name;
+use st_words::{Name, Path};
 use std::sync::Arc;
 
 /// What the runtime needs of a text: its variables, inputs, tasks and programs. It keeps the limits of the language.
@@ -22,7 +25,9 @@ pub struct Plan {
     pub variables: Vec<PlanVariable>,
     /// The inputs of the plant in declaration order.
     pub inputs: Vec<PlanInput>,
-    /// The slots in the order of the text, inputs among them.
+    /// The slots of its variables and inputs by their paths, in the order of the text.
+    pub layout: Layout,
+    /// What stands in these slots.
     pub slots: Vec<SlotPlace>,
     pub resources: usize,
     pub tasks: Vec<Task>,
@@ -31,6 +36,7 @@ pub struct Plan {
     pub budget: u32,
     ghost sound: { PlanInvariant (source_view text.value) (map vec_items enumerations.items) variables.items inputs.items
         slots.items resources tasks.items programs.items budget },
+    ghost laid_out: { IsLaidOut (map vec_items enumerations.items) variables.items inputs.items slots.items layout },
 }
 
 // Written out, not derived: who drops a plan stands on this, and need not prove again how its trees are dropped.
@@ -41,6 +47,7 @@ impl Drop for Plan {
             enumerations: _,
             variables: _,
             inputs: _,
+            layout: _,
             slots: _,
             resources: _,
             tasks: _,
@@ -91,6 +98,23 @@ impl Plan {
         ensures { result.now ≡ self.now.inputs.items }
     {
         &self.inputs
+    }
+
+    /// Its layout: the slots of its variables and inputs by their paths, and the layout text of its records.
+    pub fn layout(&self) -> &Layout
+        ensures { result.now ≡ self.now.layout }
+    {
+        &self.layout
+    }
+
+    /// What stands in the slot of a path: a variable or an input, by its number from 0; none where there is no such path.
+    pub fn place(&self, path: &Path) -> Option<SlotPlace>
+        ensures { result ≡ place_of self.now.variables.items self.now.inputs.items path.now }
+    {
+        match self.layout.slot(path) {
+            Some(number) => place_numbered(&self.slots, number),
+            None => None,
+        }
     }
 
     /// How many ticks an execution may take.

@@ -1,6 +1,6 @@
 //! The slots of a plan.
 
-ghost use Rattle.std.specs.Prelude.{◌≡◌, length, true, IfOk};
+ghost use Rattle.std.specs.Prelude.{◌≡◌, length, slice_get, true, IfOk};
 ghost use Rattle.config.specs.SlotPlaces.{are_numbered, merged};
 
 use st_words::Value;
@@ -11,6 +11,16 @@ use std::alloc::{AllocError, Global};
 pub enum SlotPlace {
     Variable(usize),
     Input(usize),
+}
+
+/// What stands in a slot by its number; none where there is no such slot.
+pub(crate) fn place_numbered(places: &[SlotPlace], number: u16) -> Option<SlotPlace>
+    ensures { result ≡ slice_get places.now number }
+{
+    match places.get(usize::from(number)) {
+        Some(place) => Some(*place),
+        None => None,
+    }
 }
 
 /// The values of all slots, from those of the variables and those of the inputs.

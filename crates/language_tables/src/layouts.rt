@@ -1,12 +1,12 @@
 //! The layouts of texts.
 
 use crate::answer::Answer;
-use layout::{Layout, LayoutSlot, Sizes, Types};
+use layout::{Layout, Sizes, SlotFacts, Types};
 use st_check::check;
 use st_names::place_type;
 use st_print::{write_path, write_value};
 use st_trees::{Declaration, LibraryElement, Source, Unit};
-use st_words::Kind;
+use st_words::{Kind, Path};
 use std::alloc::Global;
 
 /// The type of a slot: its keyword, or the number of an enumerated type among those of the text.
@@ -21,10 +21,10 @@ fn shown_type(out: &mut Answer, kind: Kind) {
 }
 
 /// A slot: its path, its type, and that it is an input, or the value that it starts with and whether it is retained.
-fn shown_slot(out: &mut Answer, alloc: Global, slot: &LayoutSlot) -> Option<()> {
-    let mut path = Vec::new(alloc);
-    write_path(&mut path, &slot.path).ok()?;
-    out.name(&path);
+fn shown_slot(out: &mut Answer, alloc: Global, path: &Path, slot: &SlotFacts) -> Option<()> {
+    let mut name = Vec::new(alloc);
+    write_path(&mut name, path).ok()?;
+    out.name(&name);
     out.put(" ");
     shown_type(out, slot.initial.kind());
     if slot.is_input {
@@ -43,9 +43,9 @@ fn shown_slot(out: &mut Answer, alloc: Global, slot: &LayoutSlot) -> Option<()> 
 
 fn shown_slots(out: &mut Answer, alloc: Global, layout: &Layout) -> Option<()> {
     let mut between = "";
-    for slot in &layout.slots {
+    for (number, facts) in (0..).zip(layout.facts()) {
         out.put(between);
-        shown_slot(out, alloc, slot)?;
+        shown_slot(out, alloc, layout.path(number)?, facts)?;
         between = ", ";
     }
     Some(())
@@ -53,7 +53,7 @@ fn shown_slots(out: &mut Answer, alloc: Global, layout: &Layout) -> Option<()> {
 
 /// How many slots there are, and what a plan has of them: variables and inputs.
 fn counted(out: &mut Answer, alloc: Global, layout: &Layout) -> Option<()> {
-    out.show(&layout.slots.len());
+    out.show(&layout.len());
     out.put(" slots, ");
     out.show(&layout.plan_variables(alloc).ok()?.len());
     out.put(" variables, ");

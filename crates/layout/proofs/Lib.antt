@@ -2,10 +2,13 @@ pub mod CallLemmas
 pub mod CompositionLemmas
 pub mod ExpansionLemmas
 pub mod GrowthLemmas
+pub mod IndexLemmas
 pub mod InitialLemmas
 pub mod LayoutLemmas
 pub mod NameLaws
 pub mod PlanLemmas
+pub mod Positions
 pub mod PushLemmas
 pub mod SiteLemmas
 pub mod SizeLemmas
+pub mod TypeTextLemmas

@@ -1,5 +1,6 @@
 pub mod Compositions
 pub mod Growth
+pub mod Indexed
 pub mod Instances
 pub mod Layouts
 pub mod NamedSites
@@ -8,4 +9,5 @@ pub mod Sizes
 pub mod Slots
 pub mod StandardMembers
 pub mod TextLayouts
+pub mod TypeNames
 pub mod Variables

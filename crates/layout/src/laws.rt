@@ -2,10 +2,12 @@
 
 ghost use Rattle.std.specs.Prelude.{◌≡◌, true};
 ghost use Rattle.st_trees.specs.Sources.{Source};
+ghost use Rattle.st_types.specs.Slots.{IsLayout};
 ghost use Rattle.st_statics.specs.Rules.{IsWellTyped};
 ghost use Rattle.st_layouts.specs.LayoutVariables.{declared_of, layout_variables};
 ghost use Rattle.st_layouts.specs.Names.{has_different_names};
 ghost use Rattle.st_layouts.specs.Standing.{are_declared_once};
+ghost use Rattle.st_layouts.specs.TextLayouts.{slots_of_text};
 ghost use Rattle.layout.specs.Growth.{Exceeds};
 ghost use Rattle.layout.specs.declared.layout_error.LayoutError.TheVariants.{TooLarge};
 
@@ -17,6 +19,7 @@ pub fn accepted_texts_declare_names_once()
     ensures names { (source : Source) → IsWellTyped source → has_different_names source ≡ true }
     ensures once { (source : Source) → IsWellTyped source
         → are_declared_once (declared_of source) (layout_variables source) ≡ true }
+    ensures layout { (source : Source) → IsWellTyped source → IsLayout (slots_of_text source) }
 {
     layouts_of_texts();
 }

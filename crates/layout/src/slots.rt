@@ -30,6 +30,17 @@ impl Drop for LayoutSlot {
     }
 }
 
+/// What stands in a slot of a layout, beside its path.
+#[derive(Clone, Copy)]
+pub struct SlotFacts {
+    /// The value that it starts with, which has its type: 0, FALSE, T#0s or the first name for an input.
+    pub initial: Value,
+    /// Whether it is kept over a power failure (RETAIN). An input never is.
+    pub retained: bool,
+    /// Whether its value comes from the plant.
+    pub is_input: bool,
+}
+
 /// An instance of a program, by the names of its resource and of itself.
 #[derive(Clone, Copy)]
 pub struct OwnerNames<'a> {

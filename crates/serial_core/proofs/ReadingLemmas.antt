@@ -1,10 +1,7 @@
 -- What a core tells of its variables and inputs.
 use Rattle.std.proofs.Common.{◌≡◌, ℕ, zero, suc, ◌+◌, ◌<◌, Bool, true, false, if◌then◌else◌, List, [], ◌∷◌, length}
-use Rattle.std.proofs.Common.{get_or, Option, Some, None, option_map, slice_get, slice_index, refl, sym, ap, ◌∙◌, arith}
+use Rattle.std.proofs.Common.{get_or, Option, Some, None, option_map, slice_get, slice_index, refl, sym, ap, subst, ◌∙◌, arith}
 use Rattle.std.specs.Prelude.{position}
-use Rattle.std.specs.List.{position_or_len}
-use Rattle.std.proofs.Common.{cond, not, nat_lt}
-use Rattle.std.proofs.lemmas.Bool.Decides.{nat_tests}
 use Rattle.std.proofs.lemmas.List.{length-map}
 use Rattle.std.proofs.lemmas.Option.{slice_get_read, slice_get-map}
 use Rattle.st_words.specs.Values.{Datum}
@@ -21,6 +18,10 @@ use Rattle.st_types.specs.Slots.{variables_in}
 use Rattle.st_plans.specs.Layouts.{layout_of}
 use Rattle.st_plans.specs.Plans.{image_of, initial_value}
 use Rattle.st_plans.specs.Logs.{past_of, row_at}
+use Rattle.layout.proofs.Positions.{position_step}
+use Rattle.config.specs.SlotPlaces.{place_among}
+use Rattle.config.specs.declared.slots.SlotPlace.{SlotPlace}
+use Rattle.config.specs.declared.slots.SlotPlace.TheVariants.{Input, Variable}
 use Rattle.config.specs.declared.plan.Plan.{Plan}
 use Rattle.config.specs.PlanViews.{plan_view}
 use Rattle.ready_list.specs.Ready.{Ready}
@@ -41,22 +42,6 @@ last_image_is im (r ∷ q ∷ rows) (suc n) e = last_image_is r.image (q ∷ row
 first_when_none : (im : List Datum) (rows : List Latch) → length rows ≡ 0 → last_image im rows ≡ im
 first_when_none im [] e = refl
 first_when_none im (r ∷ rows) e = absurd (omega arith)
-
--- the place of the first that passes, one after another
-behind_by : (b : Bool) (n l : ℕ) → nat_lt n l ≡ b
-    → cond (nat_lt (1 + n) (suc l)) (Some (1 + n)) None ≡ option_map suc (cond b (Some n) None)
-behind_by true n l e = let f : nat_lt (1 + n) (suc l) ≡ true = grind (arith, nat_tests) in
-    let g : 1 + n ≡ suc n = omega arith in rw f (ap (λ m. Some m) g)
-behind_by false n l e = let f : nat_lt (1 + n) (suc l) ≡ false = grind (arith, nat_tests) in rw f refl
-
-place_by : (t : Bool) (n l : ℕ) → cond (nat_lt (cond (not t) (1 + n) 0) (suc l)) (Some (cond (not t) (1 + n) 0)) None
-    ≡ (if t then Some 0 else option_map suc (cond (nat_lt n l) (Some n) None))
-place_by true n l = let f : nat_lt 0 (suc l) ≡ true = grind (arith, nat_tests) in rw f refl
-place_by false n l = behind_by (nat_lt n l) n l refl
-
-position_step : {X : Type 0} (p : X → Bool) (x : X) (xs : List X)
-    → position p (x ∷ xs) ≡ (if p x then Some 0 else option_map suc (position p xs))
-position_step p x xs = place_by (p x) (position_or_len p xs) (length xs)
 
 -- the value at a number that was found
 abbrev pub found : List Datum → Option ℕ → Option Datum
@@ -95,6 +80,17 @@ input_seen image s p v e = rw e refl
 pub variable_seen : (image s : Store) (p : Path) (o : Option Datum) → get image p ≡ None → get s p ≡ o
     → seen image s p ≡ o
 variable_seen image s p o e f = rw (e, f) refl
+
+-- where a path stands: among the inputs, among the variables alone, or nowhere
+abbrev pub IsPlaced : Option ℕ → Option ℕ → Option SlotPlace → Type 0
+IsPlaced i v (Some (Input k)) = i ≡ Some k
+IsPlaced i v (Some (Variable k)) = (i ≡ None) × (v ≡ Some k)
+IsPlaced i v None = (i ≡ None) × (v ≡ None)
+
+pub is_placed : (i v : Option ℕ) (o : Option SlotPlace) → o ≡ place_among i v → IsPlaced i v o
+is_placed (Some k) v o e = subst (IsPlaced (Some k) v) (sym e) refl
+is_placed None (Some k) o e = subst (IsPlaced None (Some k)) (sym e) (refl, refl)
+is_placed None None o e = subst (IsPlaced None None) (sym e) (refl, refl)
 
 last_long : (im : List Datum) (rows : List Latch) (n : ℕ) → length im ≡ n
     → ((k : ℕ) → k < length rows → length (row_at rows k).image ≡ n) → length (last_image im rows) ≡ n

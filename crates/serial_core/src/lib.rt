@@ -8,7 +8,6 @@ mod committing;
 mod committing_here;
 mod keeping;
 mod latching;
-mod lookup;
 mod reading;
 mod refusal;
 mod resuming;

@@ -6,12 +6,11 @@ ghost use Rattle.st_plans.specs.Due.{HasOverruns};
 ghost use Rattle.st_plans.specs.Logs.{IsLegal, outcomes_of};
 ghost use Rattle.st_plans.specs.Plans.{schedules_of, initial_value};
 ghost use Rattle.st_types.specs.Scopes.{seen};
-ghost use Rattle.st_types.specs.Stores.{get};
 ghost use Rattle.config.specs.PlanViews.{plan_view};
 ghost use Rattle.serial_core.specs.Steps.{made, none_waits, first_image, last_image, inputs_now, store_in, IsWaiting};
 
-use crate::lookup::{input_at, variable_at};
 use crate::serial::SerialCore;
+use config::SlotPlace;
 use core_parts::row_of;
 use st_plans::Entry;
 use st_types::Outcome;
@@ -113,18 +112,9 @@ impl SerialCore {
     pub fn value(&self, path: &Path) -> Option<Value>
         ensures { result ≡ seen (inputs_now self.now) (made self.now).store path.now }
     {
-        match input_at(&self.plan.inputs, path) {
-            Some(number) => Some(self.input(number)),
-            None => self.variable(path),
-        }
-    }
-
-    /// The value of a variable now.
-    fn variable(&self, path: &Path) -> Option<Value>
-        ensures { result ≡ get (made self.now).store path.now }
-    {
-        match variable_at(&self.plan.variables, path) {
-            Some(slot) => value_at(&self.values, slot),
+        match self.plan.place(path) {
+            Some(SlotPlace::Input(number)) => Some(self.input(number)),
+            Some(SlotPlace::Variable(number)) => value_at(&self.values, number),
             None => None,
         }
     }

@@ -16,7 +16,7 @@ use Rattle.st_sound.proofs.WellTypedTexts.{parts_right}
 use Rattle.st_layouts.specs.TextLayouts.{enumerations_of_text}
 use Rattle.text_paths.proofs.ResolvedNames.{names_taken}
 use Rattle.config.specs.Sound.{are_different}
-use Rattle.st_build.specs.TypeNames.{names_of_type, names_of_types, names_of_element, names_in_text}
+use Rattle.layout.specs.TypeNames.{names_of_type, names_of_types, names_of_element, names_in_text}
 use Rattle.st_build.proofs.EnumerationLemmas.{names_are}
 use Rattle.st_build.proofs.ListLemmas.{both_are, all_append}
 

@@ -8,7 +8,7 @@ use Rattle.st_types.specs.Enumerations.{Enumeration, enumerated_names, enumerati
 use Rattle.st_types.specs.NameTypes.{types_in}
 use Rattle.st_types.specs.Scopes.{Name}
 use Rattle.st_layouts.specs.TextLayouts.{enumeration_names}
-use Rattle.st_build.specs.TypeNames.{names_of_type, names_of_types, names_in_text}
+use Rattle.layout.specs.TypeNames.{names_of_type, names_of_types, names_in_text}
 
 abbrev names_in : List Enumeration → List (List Name)
 names_in es = map (λ (e : Enumeration). map (λ x. x.name) e.names) es

@@ -1,5 +1,5 @@
 -- Slots by the numbers of their variables and inputs.
-use Rattle.std.proofs.Common.{◌≡◌, ◌+◌, ℕ, zero, suc, refl, sym, ap, ◌∙◌, subst, arith, Bool, true, false, not, ◌&&◌}
+use Rattle.std.proofs.Common.{◌≡◌, ◌+◌, ℕ, zero, suc, refl, sym, ap, ap₂, ◌∙◌, subst, arith, Bool, true, false, not, ◌&&◌}
 use Rattle.std.proofs.Common.{if◌then◌else◌, List, [], ◌∷◌, map, length}
 use Rattle.std.specs.Prelude.{◌==◌, filter}
 use Rattle.std.proofs.lemmas.Bool.Decides.{nat_tests}
@@ -7,12 +7,14 @@ use Rattle.st_types.specs.Slots.{Slot}
 use Rattle.st_plans.specs.declared.plan.PlanInput.{PlanInput}
 use Rattle.st_plans.specs.declared.plan.PlanVariable.{PlanVariable}
 use Rattle.st_plans.specs.Layouts.{variable_slot, input_slot}
+use Rattle.layout.specs.Indexed.{facts_of}
 use Rattle.layout.specs.declared.slots.LayoutSlot.{LayoutSlot}
+use Rattle.layout.specs.declared.slots.SlotFacts.{SlotFacts}
 use Rattle.layout.specs.TextLayouts.{slot_view, variable_of, input_of, variables_among, inputs_among}
 use Rattle.config.specs.declared.slots.SlotPlace.{SlotPlace}
 use Rattle.config.specs.declared.slots.SlotPlace.TheVariants.{Input, Variable}
 use Rattle.config.specs.SlotPlaces.{are_numbered, merged, slots_among}
-use Rattle.st_build.specs.NumberedSlots.{numbered_from}
+use Rattle.config.specs.NumberedSlots.{numbered_from}
 
 same_number : (n : ℕ) → (n == n) ≡ true
 same_number n = grind (arith, nat_tests)
@@ -72,3 +74,15 @@ pub slots_are : (ss : List LayoutSlot) (v i : ℕ)
     → slots_among (numbered_from v i ss) (variables_among ss) (inputs_among ss) ≡ map slot_view ss
 slots_are [] v i = refl
 slots_are (s ∷ ss) v i = slots_then s ss v i s.is_input refl (slots_are ss (suc v) i) (slots_are ss v (suc i))
+
+-- what stands in slots is told by their facts
+abbrev pub numbered_facts : ℕ → ℕ → List SlotFacts → List SlotPlace
+numbered_facts v i [] = []
+numbered_facts v i (f ∷ fs) =
+    if f.is_input then Input i ∷ numbered_facts v (suc i) fs else Variable v ∷ numbered_facts (suc v) i fs
+
+pub facts_numbered : (ss : List LayoutSlot) (v i : ℕ) → numbered_facts v i (map facts_of ss) ≡ numbered_from v i ss
+facts_numbered [] v i = refl
+facts_numbered (s ∷ ss) v i =
+    ap₂ (λ xs ys. if s.is_input then Input i ∷ xs else Variable v ∷ ys) (facts_numbered ss v (suc i))
+    (facts_numbered ss (suc v) i)

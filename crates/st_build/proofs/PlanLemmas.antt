@@ -45,12 +45,12 @@ use Rattle.config.specs.Sound.{has_line, are_different, is_of_resource, is_sound
 use Rattle.config.specs.Sound.{PlanInvariant, tasks_of}
 use Rattle.config.specs.Sources.{no_program, program_numbered, programs_of_tree}
 use Rattle.st_build.specs.declared.places.Place.{Place}
-use Rattle.st_build.specs.NumberedSlots.{numbered_from}
+use Rattle.config.specs.NumberedSlots.{numbered_from}
 use Rattle.st_build.specs.Places.{places_from}
 use Rattle.st_build.specs.Programs.{CodedInstance, instance_view, instances_from}
 use Rattle.st_build.specs.Readiness.{IsJudged, IsReady}
 use Rattle.st_build.specs.Tasks.{tasks_from}
-use Rattle.st_build.specs.TypeNames.{names_in_text}
+use Rattle.layout.specs.TypeNames.{names_in_text}
 use Rattle.st_build.specs.TextPlans.{instance_at, instances_at, plan_of_text, resources_in, resources_of, task_of}
 use Rattle.st_build.specs.TextPlans.{IsPlanOf}
 use Rattle.st_build.proofs.ConfiguredLemmas.{configured, few, instances, known, only, owners_of_text, resources, tasked, tasks_known}

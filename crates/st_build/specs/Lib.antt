@@ -1,8 +1,6 @@
 pub mod Places
 pub mod Tasks
 pub mod Programs
-pub mod TypeNames
-pub mod NumberedSlots
 pub mod TextPlans
 pub mod Refusals
 pub mod Readiness

@@ -4,7 +4,6 @@
 #![tactic(auto)]
 
 mod build_error;
-mod enumerations;
 mod laws;
 mod numbered_slots;
 mod places;

@@ -1,15 +1,12 @@
 //! How long a record of the variables is.
 
-ghost use Rattle.std.specs.Prelude.{◌≡◌, ◌≤◌, IfOk, length, map};
-ghost use Rattle.std.specs.Vec.{vec_items};
+ghost use Rattle.std.specs.Prelude.{◌≡◌, ◌≤◌, length};
 ghost use Rattle.st_words.specs.declared.limits.TheConstants.{MAX_PATHS};
 ghost use Rattle.st_words.specs.Kinds.{width_of};
-ghost use Rattle.st_plans.specs.Layouts.{record_length, values_length};
+ghost use Rattle.st_plans.specs.Layouts.{Enumerations, layout_text, record_length, values_length};
 
-use config::layout_text;
 use st_plans::PlanVariable;
-use st_words::{Kind, Name};
-use std::alloc::{AllocError, Global};
+use st_words::Kind;
 
 /// How many bytes a value of the type takes.
 #[tactic(auto, using(crate::proofs::RecordLemmas::width_small))]
@@ -35,15 +32,11 @@ fn values_length(variables: &[PlanVariable]) -> usize
     total
 }
 
-/// The length in bytes of a record's body.
-pub fn record_length(
-    alloc: Global,
-    types: &[Vec<Name>],
-    variables: &[PlanVariable],
-) -> Result<usize, AllocError>
+/// The length in bytes of the body of a record of these variables, with this layout text.
+pub fn record_length(text: &[u8], variables: &[PlanVariable]) -> usize
     requires few { length variables.now ≤ MAX_PATHS }
-    ensures { IfOk result (λ bytes. bytes ≡ record_length (map vec_items types.now) variables.now) }
+    ensures { (types : Enumerations) → text.now ≡ layout_text types variables.now
+        → result ≡ record_length types variables.now }
 {
-    let text = layout_text(alloc, types, variables)?;
-    Ok(12 + text.len() + values_length(variables))
+    12 + text.len() + values_length(variables)
 }

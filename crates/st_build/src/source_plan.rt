@@ -40,7 +40,7 @@ fn plan_of_tree(alloc: Global, tree: Source, budget: u32) -> Result<Plan, BuildE
 {
     let layout = Layout::build(alloc, &tree)?;
     let codes = codes_of_text(alloc, &tree, &layout)?;
-    plan_from(alloc, tree, &layout, codes, budget)
+    plan_from(alloc, tree, layout, codes, budget)
 }
 
 /// The plan of a parsed text, which the configuration's rules may refuse only where no rule of the language does.

@@ -5,20 +5,22 @@ ghost use Rattle.st_trees.specs.SourceViews.{source_view};
 ghost use Rattle.st_trees.specs.Sources as trees;
 ghost use Rattle.coded_programs.specs.Codes.{code_view};
 ghost use Rattle.config.specs.PlanViews.{plan_view};
+ghost use Rattle.st_plans.specs.Layouts.{layout_text};
+ghost use Rattle.layout.specs.TextLayouts.{variables_among};
+ghost use Rattle.layout.specs.TypeNames.{names_in_text};
 ghost use Rattle.st_build.specs.Readiness.{IsReady};
 ghost use Rattle.st_build.specs.Reads.{ReadsWhatItAsksFor};
 ghost use Rattle.st_build.specs.Refusals.{LacksPlan};
 ghost use Rattle.st_build.specs.TextPlans.{IsPlanOf};
 
 use crate::build_error::BuildError;
-use crate::enumerations::enumerations_in;
 use crate::numbered_slots::numbered_slots;
 use crate::programs::programs_at;
 use crate::record_length::record_length;
 use crate::schedules::{Schedule, schedule_of};
 use coded_programs::Code;
 use config::Plan;
-use layout::{Layout, only_configuration};
+use layout::{Layout, enumerations_in, only_configuration};
 use st_trees::Source;
 use st_words::limits::MAX_RECORD_BODY;
 use std::alloc::Global;
@@ -29,18 +31,20 @@ use std::sync::Arc;
 pub fn plan_from(
     alloc: Global,
     tree: Source,
-    layout: &Layout,
+    layout: Layout,
     codes: Vec<Code>,
     budget: u32,
 ) -> Result<Plan, BuildError>
     requires ready { (text : trees.Source)
-        × IsReady text (source_view tree) layout.now.slots.items (map code_view codes.items) budget }
+        × IsReady text (source_view tree) layout.slots (map code_view codes.items) budget }
+    requires layout_text { layout.text
+        ≡ layout_text (names_in_text (source_view tree)) (variables_among layout.slots) }
     ensures plan { IfOk result (λ plan. (text : trees.Source)
-        → IsReady text (source_view tree) layout.now.slots.items (map code_view codes.items) budget
+        → IsReady text (source_view tree) layout.slots (map code_view codes.items) budget
         → IsPlanOf text budget (plan_view plan)) }
     ensures reads { IfOk result (λ plan. ReadsWhatItAsksFor plan) }
     ensures refused { IfErr result (λ e. (text : trees.Source)
-        → IsReady text (source_view tree) layout.now.slots.items (map code_view codes.items) budget
+        → IsReady text (source_view tree) layout.slots (map code_view codes.items) budget
         → LacksPlan text e) }
 {
     let Some(configuration) = only_configuration(&tree) else {
@@ -49,7 +53,7 @@ pub fn plan_from(
     let variables = layout.plan_variables(alloc)?;
     let inputs = layout.plan_inputs(alloc)?;
     let enumerations = enumerations_in(alloc, &tree)?;
-    if record_length(alloc, &enumerations, &variables)? > MAX_RECORD_BODY {
+    if record_length(layout.text(), &variables) > MAX_RECORD_BODY {
         return Err(BuildError::RecordTooLong);
     }
     let resources = configuration.resources.len();
@@ -60,12 +64,13 @@ pub fn plan_from(
         &configuration.resources,
     )?;
     let programs = programs_at(alloc, &places, codes)?;
-    let slots = numbered_slots(alloc, &layout.slots)?;
+    let slots = numbered_slots(alloc, &layout)?;
     Ok(Plan {
         text: Arc::new(alloc, tree)?,
         enumerations,
         variables,
         inputs,
+        layout,
         slots,
         resources,
         tasks,

@@ -3,7 +3,7 @@
 ghost use Rattle.std.specs.Prelude.{◌≡◌, ◌≤◌, ◌<◌, ◌+◌, ℕ, IfOk, IfErr, length, max};
 ghost use Rattle.machine_code.specs.declared.limits.TheConstants.{MAX_INSTRUCTIONS, MAX_MEMORY};
 ghost use Rattle.slot_trees.specs.SlotTrees as tree;
-ghost use Rattle.st_compile.specs.declared.compiler.TheConstants.{FUNCTION_PLACES};
+ghost use Rattle.st_compile.specs.declared.limits.TheConstants.{FUNCTION_PLACES};
 ghost use Rattle.slot_bodies.specs.LibraryViews.{IsKeptOf, slot_library_view};
 ghost use Rattle.slot_bodies.specs.StatementViews.{slot_stmts_view};
 ghost use Rattle.tree_code.specs.Programs.{program_code, ProgramFits};
@@ -11,18 +11,13 @@ ghost use Rattle.code_drafts.specs.Emitting.{filled};
 ghost use Rattle.code_drafts.specs.Linked.{ProgramLinked};
 ghost use Rattle.st_compile.specs.Resets.{slot_behind_resets};
 
+use crate::limits::{CALL_DEPTH, FUNCTION_PLACES};
 use code_drafts::{CompileError, Draft, Scope};
 use machine_code::{Instr, MAX_MEMORY};
 use slot_bodies::{SlotLibrary, SlotStmt};
 use std::alloc::Global;
 use tree_code::Ways;
 use tree_compiler::put_statements;
-
-/// How deep calls may be.
-pub const CALL_DEPTH: u16 = 64;
-
-/// How many values of functions may stand behind the values of a program.
-pub const FUNCTION_PLACES: usize = 4096;
 
 /// The code of a program, and the memory that it needs.
 #[derive(Drop)]
@@ -98,8 +93,8 @@ fn needed(size: usize, code: &[Instr]) -> usize
 
 /// The code of a program with its own variables from a slot on, over so many slots.
 ///
-/// It has at most 16,384 instructions, and at most 4,096 places for values of functions. The memory is the least that the
-/// program fits, for which the code is made again.
+/// It has at most 16,384 instructions, and at most 4,096 places for values of functions. The memory is the least that
+/// the program fits, for which the code is made again.
 pub fn compile(
     alloc: Global,
     library: &SlotLibrary,

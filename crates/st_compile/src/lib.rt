@@ -2,6 +2,8 @@
 #![tactic(auto)]
 
 mod compiler;
+mod limits;
 
 pub use code_drafts::CompileError;
-pub use compiler::{CALL_DEPTH, Compiled, FUNCTION_PLACES, compile};
+pub use compiler::{Compiled, compile};
+pub use limits::{CALL_DEPTH, FUNCTION_PLACES, limits_of_calls};

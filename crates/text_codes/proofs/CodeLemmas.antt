@@ -12,6 +12,7 @@ use Rattle.st_types.specs.Slots.{Slot}
 use Rattle.st_layouts.specs.Libraries.{programs_of_text}
 use Rattle.st_layouts.specs.TextLayouts.{slots_of_text}
 use Rattle.layout.specs.TextLayouts.{slot_view}
+use Rattle.layout.specs.Indexed.{facts_of}
 use Rattle.layout.specs.declared.slots.LayoutSlot.{LayoutSlot}
 use Rattle.slot_trees.specs.SlotTrees.{SlotLibrary, SlotStmts}
 use Rattle.slot_trees.specs.TextLinks.{LinkedText, linked_source}
@@ -116,6 +117,11 @@ kinds_are ss slots is = seen ss ∙ ap (map (λ l. l.kind)) is
     seen : (xs : List LayoutSlot) → map (λ s. s.initial.kind) xs ≡ map (λ l. l.kind) (map slot_view xs)
     seen [] = refl
     seen (x ∷ xs) = ap (λ ks. x.initial.kind ∷ ks) (seen xs)
+
+pub kinds_shown : (ss : List LayoutSlot)
+    → map (λ f. f.initial.kind) (map facts_of ss) ≡ map (λ s. s.initial.kind) ss
+kinds_shown [] = refl
+kinds_shown (s ∷ ss) = ap (λ ks. s.initial.kind ∷ ks) (kinds_shown ss)
 
 -- of programs that are compiled, those in front are, and the last one
 compiled_front : {A : Type 0} (f : A → SlotStmts) (library : KeptLibrary) (size n : ℕ) (xs : List A)

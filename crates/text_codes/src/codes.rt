@@ -119,12 +119,12 @@ pub fn codes_of_text(
     layout: &Layout,
 ) -> Result<Vec<Code>, CompileError>
     ensures codes { IfOk result (λ codes. (text : trees.Source) → source_view source.now ≡ resolved_source text
-        → IsAccepted text → IsLayoutOf text layout.now.slots.items → AreCodesOf text (map code_view codes.items)) }
+        → IsAccepted text → IsLayoutOf text layout.now.slots → AreCodesOf text (map code_view codes.items)) }
     ensures count { IfOk result (λ codes. (text : trees.Source) → source_view source.now ≡ resolved_source text
-        → IsAccepted text → IsLayoutOf text layout.now.slots.items
+        → IsAccepted text → IsLayoutOf text layout.now.slots
         → length codes.items ≡ length (programs_of_text text)) }
     ensures linked { IfErr result (λ e. (text : trees.Source) → source_view source.now ≡ resolved_source text
-        → IsAccepted text → IsSpelled text → IsLayoutOf text layout.now.slots.items → e ≢ CompileError.NotLinked) }
+        → IsAccepted text → IsSpelled text → IsLayoutOf text layout.now.slots → e ≢ CompileError.NotLinked) }
 {
     accepted_texts_are_compiled();
     code_of_accepted_texts_does_what_their_programs_do();
@@ -137,6 +137,6 @@ pub fn codes_of_text(
         return Err(CompileError::TooManyInstructions);
     }
     let linked = linked_text(alloc, source, &called)?;
-    let kinds = Arc::new(alloc, kinds_of(alloc, &layout.slots)?)?;
+    let kinds = Arc::new(alloc, kinds_of(alloc, layout.facts())?)?;
     codes_of_programs(alloc, &linked.library, &kinds, &linked.programs)
 }

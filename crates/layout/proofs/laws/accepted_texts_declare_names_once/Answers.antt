@@ -6,3 +6,6 @@ returns-clause-names c = accepted_names_differ
 
 pub returns-clause-once : goal.returns-clause-once
 returns-clause-once c = λ source h. c.layouts_of_texts.ensures.once source (accepted_names_differ source h)
+
+pub returns-clause-layout : goal.returns-clause-layout
+returns-clause-layout c = λ source h. c.layouts_of_texts.ensures.slots source (accepted_names_differ source h)

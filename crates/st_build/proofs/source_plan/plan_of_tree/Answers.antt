@@ -20,16 +20,17 @@ plan_from-requires c =
     record {
       ready = (
         text,
-        ready_for text (source_view c.args.tree) c.in_ok-layout.layout.slots.items
+        ready_for text (source_view c.args.tree) c.in_ok-layout.layout.slots
             (map code_view c.in_ok-codes.codes.items) c.args.budget judged resolved layout coded c.requires.some_ticks
             c.requires.ticks,
       );
+      layout_text = c.in_ok-layout.ensures.text;
     }
 
 pub returns-clause-plan : goal.returns-clause-plan
 returns-clause-plan c =
     let tree = source_view c.args.tree in
-    let slots = c.in_ok-layout.layout.slots.items in
+    let slots = c.in_ok-layout.layout.slots in
     let codes = map code_view c.in_ok-codes.codes.items in
     on_ok (λ plan. (text : trees.Source) → IsReady text tree slots codes c.args.budget
     → IsPlanOf text c.args.budget (plan_view plan))
@@ -43,7 +44,7 @@ returns-clause-plan c =
 pub returns-clause-refused : goal.returns-clause-refused
 returns-clause-refused c =
     let tree = source_view c.args.tree in
-    let slots = c.in_ok-layout.layout.slots.items in
+    let slots = c.in_ok-layout.layout.slots in
     let codes = map code_view c.in_ok-codes.codes.items in
     on_err (λ e. (text : trees.Source) → IsReady text tree slots codes c.args.budget → LacksPlan text e)
     (λ e. (text : trees.Source) → IsJudged text → tree ≡ resolved_source text → LacksPlan text e) c.plan_from.result

@@ -15,11 +15,11 @@ use Rattle.text_codes.specs.Codes.{ReadsAsAsked}
 use Rattle.st_layouts.specs.LayoutVariables.{configurations_in, configuration_of, only_configuration}
 use Rattle.st_plans.specs.Layouts.{record_length}
 use Rattle.layout.specs.TextLayouts.{variables_among, inputs_among}
-use Rattle.st_build.specs.NumberedSlots.{numbered_from}
+use Rattle.config.specs.NumberedSlots.{numbered_from}
 use Rattle.st_build.specs.Programs.{instance_view, instances_from}
 use Rattle.st_build.specs.Places.{places_from}
 use Rattle.st_build.specs.Tasks.{tasks_from}
-use Rattle.st_build.specs.TypeNames.{names_in_text}
+use Rattle.layout.specs.TypeNames.{names_in_text}
 use Rattle.st_build.proofs.ListLemmas.{length_map}
 use Rattle.st_build.proofs.PlanLemmas.{configuration_there, few_variables, long_record, IsFrom, own_slots}
 use Rattle.st_build.proofs.PlanLemmas.{reading_plan, slots_once}
@@ -31,7 +31,7 @@ pub unreachable-requires : goal.unreachable-requires
 unreachable-requires c =
     let (text, ready) = c.requires.ready in
     let none : only_configuration (configurations_in (source_view c.args.tree)) ≡ None = search rules in
-    let there = configuration_there text (source_view c.args.tree) c.args.layout.now.slots.items
+    let there = configuration_there text (source_view c.args.tree) c.args.layout.slots
     (map code_view c.args.codes.items) c.args.budget ready in
     absurd (cc (none, there.1))
 
@@ -41,9 +41,9 @@ record_length-requires c =
     let (text, ready) = c.requires.ready in
     let there : only_configuration (configurations_in (source_view c.args.tree))
     ≡ Some (configuration_view c.in-Some.configuration.now) = search rules in
-    let vs : c.deref-2.result.now ≡ variables_among c.args.layout.now.slots.items = search rules in
+    let vs : c.deref-2.result.now ≡ variables_among c.args.layout.slots = search rules in
     record {
-      few = few_variables text (source_view c.args.tree) c.args.layout.now.slots.items
+      few = few_variables text (source_view c.args.tree) c.args.layout.slots
           (map code_view c.args.codes.items) c.args.budget ready (configuration_view c.in-Some.configuration.now) there
           c.deref-2.result.now vs;
     }
@@ -53,7 +53,7 @@ pub returns-then-branch-gt-MAX_RECORD_BODY-clause-refused :
     goal.returns-then-branch-gt-MAX_RECORD_BODY-clause-refused
 returns-then-branch-gt-MAX_RECORD_BODY-clause-refused c = λ text ready.
     let tree = source_view c.args.tree in
-    let slots = c.args.layout.now.slots.items in
+    let slots = c.args.layout.slots in
     let types = map vec_items c.in_ok-enumerations.enumerations.items in
     let vs = c.in_ok-variables.variables.items in
     let there : only_configuration (configurations_in tree) ≡ Some (configuration_view c.in-Some.configuration.now) =
@@ -70,7 +70,7 @@ pub invariant_of-result : goal.invariant_of-result
 invariant_of-result c =
     let (text, ready) = c.requires.ready in
     let tree = source_view c.args.tree in
-    let slots = c.args.layout.now.slots.items in
+    let slots = c.args.layout.slots in
     let codes = map code_view c.args.codes.items in
     let conf = configuration_view c.in-Some.configuration.now in
     let types = map vec_items c.in_ok-enumerations.enumerations.items in
@@ -110,7 +110,7 @@ invariant_of-result c =
 pub returns-clause-plan : goal.returns-clause-plan
 returns-clause-plan c = λ text ready.
     let tree = source_view c.args.tree in
-    let slots = c.args.layout.now.slots.items in
+    let slots = c.args.layout.slots in
     let codes = map code_view c.args.codes.items in
     let conf = configuration_view c.in-Some.configuration.now in
     let types = map vec_items c.in_ok-enumerations.enumerations.items in
@@ -146,7 +146,7 @@ pub returns-clause-reads : goal.returns-clause-reads
 returns-clause-reads c =
     let (text, ready) = c.requires.ready in
     let tree = source_view c.args.tree in
-    let slots = c.args.layout.now.slots.items in
+    let slots = c.args.layout.slots in
     let codes = map code_view c.args.codes.items in
     let conf = configuration_view c.in-Some.configuration.now in
     let types = map vec_items c.in_ok-enumerations.enumerations.items in

@@ -6,6 +6,7 @@ use Rattle.st_trees.specs.Sources.{Source}
 use Rattle.st_trees.specs.SourceViews.{source_view}
 use Rattle.st_types.specs.ResolvedUnits.{resolved_source}
 use Rattle.st_layouts.specs.TextLayouts.{slots_of_text}
+use Rattle.layout.specs.Indexed.{facts_of}
 use Rattle.layout.specs.TextLayouts.{IsLayoutOf}
 use Rattle.code_drafts.specs.declared.compile_error.CompileError.TheVariants.{NotLinked}
 use Rattle.text_links.specs.Accepted.{IsAccepted}
@@ -16,7 +17,7 @@ use Rattle.slot_bodies.specs.StatementViews.{slot_stmts_view}
 use Rattle.text_links.specs.Linked.{linked_text_view}
 use Rattle.coded_programs.specs.Codes.{code_view}
 use Rattle.text_codes.specs.Codes.{AreCodesOver}
-use Rattle.text_codes.proofs.CodeLemmas.{codes_mean, kinds_are, ok_weaker}
+use Rattle.text_codes.proofs.CodeLemmas.{codes_mean, kinds_are, kinds_shown, ok_weaker}
 use Rattle.text_codes.proofs.Counts.{codes_counted, linked_counted}
 use Rattle.text_codes.proofs.codes.codes_of_text.Goals as goal
 
@@ -24,8 +25,9 @@ pub returns-clause-codes : goal.returns-clause-codes
 returns-clause-codes c =
     let linked = linked_text_view c.in_ok-linked.linked in
     let kinds = c.in_ok-kinds.kinds.value.items in
-    let slots = c.args.layout.now.slots.items in
-    let told : kinds ≡ map (λ s. s.initial.kind) slots = search rules in
+    let slots = c.args.layout.now.slots in
+    let shown : kinds ≡ map (λ f. f.initial.kind) (map facts_of slots) = search rules in
+    let told = shown ∙ kinds_shown slots in
     ok_weaker c.codes_of_programs.result _ _
     (λ codes over text is accepted layout.
     let link = c.in_ok-linked.ensures.linked text is accepted layout.room in
@@ -50,18 +52,19 @@ pub returns-in_err-linked-clause-linked : goal.returns-in_err-linked-clause-link
 returns-in_err-linked-clause-linked c =
     let same : c.from_residual-in_err-linked.result ≡ Err c.in_err-linked.field-0.0 = search rules in
     subst (λ r. IfErr r (λ e. (text : Source) → source_view c.args.source.now ≡ resolved_source text
-    → IsAccepted text → IsSpelled text → IsLayoutOf text c.args.layout.now.slots.items → e ≡ NotLinked → ⊥)) (sym same)
+    → IsAccepted text → IsSpelled text → IsLayoutOf text c.args.layout.now.slots → e ≡ NotLinked → ⊥)) (sym same)
     (λ text seen accepted spelled layout. c.in_err-linked.ensures.there text seen accepted layout.room)
 
 pub returns-clause-linked : goal.returns-clause-linked
 returns-clause-linked c =
     let linked = linked_text_view c.in_ok-linked.linked in
     let kinds = c.in_ok-kinds.kinds.value.items in
-    let slots = c.args.layout.now.slots.items in
-    let told : kinds ≡ map (λ s. s.initial.kind) slots = search rules in
+    let slots = c.args.layout.now.slots in
+    let shown : kinds ≡ map (λ f. f.initial.kind) (map facts_of slots) = search rules in
+    let told = shown ∙ kinds_shown slots in
     IfErr-weaker c.codes_of_programs.result _ (λ e. (text : Source)
     → source_view c.args.source.now ≡ resolved_source text
-    → IsAccepted text → IsSpelled text → IsLayoutOf text c.args.layout.now.slots.items → e ≡ NotLinked → ⊥)
+    → IsAccepted text → IsSpelled text → IsLayoutOf text c.args.layout.now.slots → e ≡ NotLinked → ⊥)
     (λ e wrong text seen accepted spelled layout not_linked.
     let link = c.in_ok-linked.ensures.linked text seen accepted layout.room in
     let long : length kinds ≡ length (slots_of_text text) =

@@ -1,0 +1,10 @@
+use Rattle.std.proofs.Common.{◌≡◌, ◌++◌, drop, map}
+use Rattle.layout.specs.Indexed.{slot_of_entry}
+use Rattle.layout.specs.TextLayouts.{inputs_among}
+use Rattle.layout.proofs.slot_index.plan_inputs.Given as goal
+
+-- what is there and what is still to come
+abbrev pub invariant-loop-number : goal.invariant-loop-number
+invariant-loop-number l =
+    l.inputs.items ++ inputs_among (drop l.number (map slot_of_entry l.slots.entries))
+    ≡ inputs_among (map slot_of_entry l.slots.entries)
