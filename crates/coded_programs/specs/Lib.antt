@@ -1,3 +1,4 @@
 pub mod TypedInstrs
 pub mod Codes
 pub mod Meanings
+pub mod Reads

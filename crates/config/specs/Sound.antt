@@ -18,7 +18,9 @@ use Rattle.st_types.specs.Slots.{Slot}
 use Rattle.st_trees.specs.Sources.{Source}
 use Rattle.coded_programs.specs.Codes.{code_view}
 use Rattle.coded_programs.specs.Meanings.{Means}
+use Rattle.coded_programs.specs.Reads.{ReadsAsAsked}
 use Rattle.config.specs.declared.slots.SlotPlace.{SlotPlace}
+use Rattle.config.specs.Owners.{AreToldApart}
 use Rattle.config.specs.SlotPlaces.{are_numbered, slots_among}
 use Rattle.config.specs.Sources.{program_numbered}
 use Rattle.config.specs.declared.task.Trigger.{Trigger}
@@ -83,14 +85,17 @@ pub record IsWithinLimits (types : Enumerations) (variables : List PlanVariable)
   pub ticks : budget ≤ MAX_BUDGET
   pub record_is : record_length types variables ≤ MAX_RECORD_BODY
 
--- The code of an instance does over the slots what its program does, and the instance has its program's names.
+-- The code of an instance does over the slots what its program does, the instance has its program's names, and what the
+-- code reads of globals and inputs, the program asks for.
 pub record IsCodeOf (source : Source) (layout : List Slot) (p : ProgramInstance) : Type 0 where
   pub means : Means layout (code_view p.code.value) (program_numbered source p.number)
   pub owner : (program_numbered source p.number).owner ≡ p.owner
+  pub reads : ReadsAsAsked layout (code_view p.code.value) (program_numbered source p.number)
 
 -- Each path has one slot; variables and inputs are numbered in the order of the slots; the code of each instance does
--- what its program does; each program runs in a task of its resource; each variable can have a line in a record, and no
--- two paths are spelled alike.
+-- what its program does, and reads what this asks for; each program runs in a task of its resource; each variable can
+-- have a line in a record, and no two paths are spelled alike; the names of instances tell them apart, and so do those
+-- of the values of each enumerated type.
 pub record PlanInvariant (source : Source) (types : Enumerations) (variables : List PlanVariable)
     (inputs : List PlanInput) (slots : List SlotPlace) (resources : ℕ) (tasks : List Task) (programs : List ProgramInstance)
     (budget : ℕ) : Type 0 where
@@ -105,3 +110,6 @@ pub record PlanInvariant (source : Source) (types : Enumerations) (variables : L
   pub spelled : list_all (has_line types) variables ≡ true
   pub different : are_different (map (λ v. path_text v.path) variables) ≡ true
   pub limits : IsWithinLimits types variables inputs resources tasks (length programs) budget
+  pub once : IsLayout (slots_among slots variables inputs)
+  pub instances : AreToldApart (map (λ p. p.owner) programs)
+  pub values : list_all are_different types ≡ true

@@ -28,13 +28,13 @@ use Rattle.serial_core.specs.declared.refusal.Refusal.{Refusal}
 use Rattle.serial_core.specs.declared.refusal.Refusal.TheVariants as refusals
 use Rattle.serial_core.proofs.OutcomeLemmas.{outcomes_of-add}
 use Rattle.log_replay.specs.Rests.{Grows, IsRest, outcome_in, rows_in}
-use Rattle.log_replay.specs.ToldApart.{AreToldApart}
 use Rattle.trace_lines.specs.Texts.{told_text}
 use Rattle.trace_lines.specs.Texts.{done_line, instance_text, line, outcome_text}
 use Rattle.trace_lines.specs.Reads.{Follows}
 use Rattle.trace_lines.proofs.ReadLemmas.{both_are, none_some}
 use Rattle.trace_lines.proofs.TraceLemmas.{outcomes_long}
-use Rattle.log_replay.proofs.RestLemmas.{done_parts, first_line, head_is, program_there, rest_text, waited}
+use Rattle.log_replay.proofs.RestLemmas.{done_parts, first_line, head_is, program_there, rest_text}
+use Rattle.log_replay.proofs.RestLemmas.{same_program, waited}
 
 -- ---- a row
 
@@ -153,14 +153,14 @@ is_done life rows text (Done a ∷ more) left =
     }
 
 pub first_done : (life : State) (rows : List Latch) (field : List ℕ) (program : ℕ) (q : ProgramInstance) (more : Log)
-    → AreToldApart life.plan.programs.items → slice_get life.plan.programs.items program ≡ Some q
+    → slice_get life.plan.programs.items program ≡ Some q
     → IsRest life rows (codes "done " ++ ((instance_text (Some q) ++ codes " ") ++ field)) more
     → FirstDone life field program
-first_done life rows field program q more apart at left =
+first_done life rows field program q more at left =
     let d = is_done life rows ((instance_text (Some q) ++ codes " ") ++ field) more left in
     let a = d.activation in
-    let same : program ≡ a.program = apart program a.program q d.program field (told_text (a.row, d.outcome) ++ d.rest) at
-    d.at d.told in
+    let same : program ≡ a.program = same_program life.plan program a.program q d.program field
+    (told_text (a.row, d.outcome) ++ d.rest) at d.at d.told in
     let one : Some q ≡ Some d.program = sym at ∙ ap (slice_get life.plan.programs.items) same ∙ d.at in
     let is : q ≡ d.program = cc in
     let act : ◌≡◌ {A = Activation} a record { program = program; row = a.row } =
@@ -290,11 +290,11 @@ same_row old rows text i row f at small is =
     some_latch a b e = cc
 
 pub first_told : (life : State) (rows : List Latch) (text field : List ℕ) (program : ℕ) (q : ProgramInstance) (more : Log)
-    → AreToldApart life.plan.programs.items → slice_get life.plan.programs.items program ≡ Some q
+    → slice_get life.plan.programs.items program ≡ Some q
     → text ≡ (instance_text (Some q) ++ codes " ") ++ field → IsRest life rows (codes "done " ++ text) more
     → FirstDone life field program
-first_told life rows text field program q more apart at told left =
-    first_done life rows field program q more apart at
+first_told life rows text field program q more at told left =
+    first_done life rows field program q more at
     (subst (λ t. IsRest life rows (codes "done " ++ t) more) told left)
 
 -- the row and the end that were read are those of the rest

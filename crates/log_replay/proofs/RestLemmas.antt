@@ -1,11 +1,11 @@
 -- What is left of a trace.
 use Rattle.std.proofs.Common.{◌≡◌, ◌∙◌, ap, sym, refl, subst, ℕ, suc, ◌+◌, ◌<◌, ◌≤◌, List, [], ◌∷◌, ◌++◌, length, Option, Some}
-use Rattle.std.proofs.Common.{inl, inr, append_assoc, arith, slice_get, length-append, append-nil}
+use Rattle.std.proofs.Common.{inl, inr, append_assoc, arith, slice_get, length-append, append-nil, map, option_map}
 use Rattle.std.specs.Prelude.{codes}
 use Rattle.std.specs.List.{fold}
 use Rattle.std.specs.Fmt.{decimal}
 use Rattle.std.proofs.lemmas.List.{append_cancel_left, length-map}
-use Rattle.std.proofs.lemmas.Option.{slice_get_cases}
+use Rattle.std.proofs.lemmas.Option.{slice_get_cases, slice_get-map}
 use Rattle.st_words.specs.declared.limits.TheConstants.{MAX_LOG_ROOM}
 use Rattle.st_types.specs.declared.outcome.Outcome.{Outcome}
 use Rattle.st_types.specs.Stores.{Store}
@@ -27,7 +27,6 @@ use Rattle.serial_core.specs.Steps.{State, grown, made}
 use Rattle.serial_core.proofs.OutcomeLemmas.{outcomes_of-add}
 use Rattle.trace_lines.proofs.TraceLemmas.{outcomes_long}
 use Rattle.log_replay.specs.Rests.{Grows, IsNoRest, IsRest, outcome_in, rows_in, with_log}
-use Rattle.log_replay.specs.ToldApart.{AreToldApart}
 use Rattle.trace_lines.specs.Texts.{done_line, end_line, entry_line, instance_text, line, log_text, outcome_text}
 
 -- ---- heads of lists
@@ -154,19 +153,32 @@ program_there plan past a w =
       | inr (behind, none) ↦ absurd (omega (arith, simp length-map at there))
     ]
 
+owner_at : (plan : Plan) (k : ℕ) (p : ProgramInstance) → slice_get plan.programs.items k ≡ Some p
+    → slice_get (map (λ (x : ProgramInstance). x.owner) plan.programs.items) k ≡ Some p.owner
+owner_at plan k p at =
+    slice_get-map (λ (x : ProgramInstance). x.owner) plan.programs.items k
+    ∙ ap (option_map (λ (x : ProgramInstance). x.owner)) at
+
+-- a line `done RES/INST ..` tells its program
+pub same_program : (plan : Plan) (i j : ℕ) (p q : ProgramInstance) (more rest : List ℕ)
+    → slice_get plan.programs.items i ≡ Some p → slice_get plan.programs.items j ≡ Some q
+    → (instance_text (Some p) ++ codes " ") ++ more ≡ (instance_text (Some q) ++ codes " ") ++ rest → i ≡ j
+same_program plan i j p q more rest a b e =
+    plan.sound.instances i j p.owner q.owner more rest (owner_at plan i p a) (owner_at plan j q b) e
+
 -- two executions that are told alike
 same_activation : (plan : Plan) (past : Past) (a b : Activation) (o u : Option Outcome) (rest more : List ℕ)
-    → AreToldApart plan.programs.items → Waits (schedules_of (plan_view plan)) past.history a
+    → Waits (schedules_of (plan_view plan)) past.history a
     → Waits (schedules_of (plan_view plan)) past.history b
     → entry_line plan (Done a) o ++ rest ≡ entry_line plan (Done b) u ++ more → a ≡ b
-same_activation plan past a b o u rest more apart wa wb h =
+same_activation plan past a b o u rest more wa wb h =
     let (p, pa) = program_there plan past a wa in
     let (q, qb) = program_there plan past b wb in
     let at : done_line (Some p) a.row o ++ rest ≡ done_line (Some q) b.row u ++ more =
     ap (λ x. done_line x a.row o ++ rest) (sym pa) ∙ h ∙ ap (λ x. done_line x b.row u ++ more) qb in
     let told = append_cancel_left (codes "done ") _ _ (sym (done_parts (Some p) a.row o rest) ∙ at
     ∙ done_parts (Some q) b.row u more) in
-    let program : a.program ≡ b.program = apart a.program b.program p q _ _ pa qb told in
+    let program : a.program ≡ b.program = same_program plan a.program b.program p q _ _ pa qb told in
     let row : a.row ≡ b.row = Waits-same (schedules_of (plan_view plan)) past.history b.program a.row b.row
     (subst (λ (n : ℕ). Waits (schedules_of (plan_view plan)) past.history record { program = n; row = a.row }) program wa)
     wb in
@@ -189,28 +201,28 @@ first_line old rows text e more left = left.spelled ∙ append_assoc (entry_line
     (end_line (length old.log + suc (length more)))
 
 next_of : (old : State) (rows : List Latch) (text rest : List ℕ) (e : Entry) (behind : List Latch)
-    → AreToldApart old.plan.programs.items → MayFollow (plan_view old.plan) old.before (made old) e
+    → MayFollow (plan_view old.plan) old.before (made old) e
     → rows ≡ (made old).rows ++ (rows_in (e ∷ []) ++ behind)
     → text ≡ entry_line old.plan e (outcome_in old e) ++ rest → (more : Log) → IsRest old rows text more
     → (left : Log) × (more ≡ e ∷ left) × IsRest (grown old e) rows rest left
-next_of old rows text rest e behind apart may rows_are spelled [] left =
+next_of old rows text rest e behind may rows_are spelled [] left =
     absurd (no_end old.plan e (outcome_in old e) rest (length old.log + 0) (sym spelled ∙ left.spelled))
-next_of old rows text rest (Row row) behind apart may rows_are spelled (Row r ∷ more) left =
+next_of old rows text rest (Row row) behind may rows_are spelled (Row r ∷ more) left =
     let next = latch_is r row _ _ (append_cancel_left (made old).rows _ _ (sym left.rows_are ∙ rows_are)) in (
       more,
       ap (λ (x : Latch). Row x ∷ more) next.0,
       same_entry old rows rest (Row r) (Row row) more (ap Row next.0)
           (subst (λ (t : List ℕ). IsRest old rows t (Row r ∷ more)) spelled left),
     )
-next_of old rows text rest (Row row) behind apart may rows_are spelled (Done a ∷ more) left =
+next_of old rows text rest (Row row) behind may rows_are spelled (Done a ∷ more) left =
     absurd (no_row old.plan a row (outcome_in old (Done a)) (outcome_in old (Row row)) (rest_text old (Done a) more)
     rest (sym (first_line old rows text (Done a) more left) ∙ spelled))
-next_of old rows text rest (Done a) behind apart may rows_are spelled (Row r ∷ more) left =
+next_of old rows text rest (Done a) behind may rows_are spelled (Row r ∷ more) left =
     absurd (no_row old.plan a r (outcome_in old (Done a)) (outcome_in old (Row r)) rest
     (rest_text old (Row r) more) (sym spelled ∙ first_line old rows text (Row r) more left))
-next_of old rows text rest (Done a) behind apart may rows_are spelled (Done b ∷ more) left =
+next_of old rows text rest (Done a) behind may rows_are spelled (Done b ∷ more) left =
     let same = same_activation old.plan (made old) b a (outcome_in old (Done b)) (outcome_in old (Done a))
-    (rest_text old (Done b) more) rest apart
+    (rest_text old (Done b) more) rest
     (waited (plan_view old.plan) old.before (made old) b left.legal.0)
     (waited (plan_view old.plan) old.before (made old) a may)
     (sym (first_line old rows text (Done b) more left) ∙ spelled) in (
@@ -221,10 +233,10 @@ next_of old rows text rest (Done a) behind apart may rows_are spelled (Done b �
     )
 
 -- what a trace goes on with behind an entry that was read
-pub next_rest : (old new : State) (rows : List Latch) (text rest : List ℕ) → AreToldApart old.plan.programs.items
+pub next_rest : (old new : State) (rows : List Latch) (text rest : List ℕ)
     → Grows old rows text rest new → (more : Log) → IsRest old rows text more → (left : Log) × IsRest new rows rest left
-next_rest old new rows text rest apart g more left =
-    let next = next_of old rows text rest g.entry g.behind apart g.legal.0 g.rows_are g.spelled more left in
+next_rest old new rows text rest g more left =
+    let next = next_of old rows text rest g.entry g.behind g.legal.0 g.rows_are g.spelled more left in
     (next.0, subst (λ (s : State). IsRest s rows rest next.0) (sym g.grown_by) next.2)
 
 -- ---- a text is the rest of one trace
@@ -237,24 +249,24 @@ first_rows (Done a) more behind = refl
 tail_is : (e f : Entry) (xs ys : Log) → e ∷ xs ≡ f ∷ ys → xs ≡ ys
 tail_is e f xs ys is = cc
 
-pub one_rest : (life : State) (rows : List Latch) (text : List ℕ) → AreToldApart life.plan.programs.items
+pub one_rest : (life : State) (rows : List Latch) (text : List ℕ)
     → (xs ys : Log) → IsRest life rows text xs → IsRest life rows text ys → xs ≡ ys
-one_rest life rows text apart [] [] one other = refl
-one_rest life rows text apart [] (e ∷ ys) one other =
+one_rest life rows text [] [] one other = refl
+one_rest life rows text [] (e ∷ ys) one other =
     absurd (no_end life.plan e (outcome_in life e) (rest_text life e ys) (length life.log + 0)
     (sym (first_line life rows text e ys other) ∙ one.spelled))
-one_rest life rows text apart (e ∷ xs) ys one other =
+one_rest life rows text (e ∷ xs) ys one other =
     let rest = rest_text life e xs in
     let behind = rows_in xs ++ one.behind in
     let rows_are : rows ≡ (made life).rows ++ (rows_in (e ∷ []) ++ behind) =
     one.rows_are ∙ ap (λ rs. (made life).rows ++ rs) (first_rows e xs one.behind) in
     let spelled = first_line life rows text e xs one in
-    let (here, same, left) = next_of life rows text rest e behind apart one.legal.0 rows_are spelled (e ∷ xs) one in
-    let (there, is, right) = next_of life rows text rest e behind apart one.legal.0 rows_are spelled ys other in
+    let (here, same, left) = next_of life rows text rest e behind one.legal.0 rows_are spelled (e ∷ xs) one in
+    let (there, is, right) = next_of life rows text rest e behind one.legal.0 rows_are spelled ys other in
     let xs_are : xs ≡ here = tail_is e e xs here same in
     let left_is : IsRest (grown life e) rows rest xs =
     subst (λ (l : Log). IsRest (grown life e) rows rest l) (sym xs_are) left in
-    ap (λ (l : Log). e ∷ l) (one_rest (grown life e) rows rest apart xs there left_is right) ∙ sym is
+    ap (λ (l : Log). e ∷ l) (one_rest (grown life e) rows rest xs there left_is right) ∙ sym is
 
 -- ---- how far a trace was run again
 
@@ -263,7 +275,7 @@ pub record IsFar (old now : State) (rows : List Latch) (text rest : List ℕ) : 
   pub left : List Latch
   pub rows_are : rows ≡ (made now).rows ++ left
   pub spelled : text ≡ log_text old.plan now.log (outcomes_of (plan_view old.plan) old.start now.log) ++ rest
-  pub only : AreToldApart old.plan.programs.items → (more : Log) → IsRest old rows text more
+  pub only : (more : Log) → IsRest old rows text more
       → (after : Log) × IsRest now rows rest after
 
 -- ---- the whole log
@@ -275,7 +287,7 @@ far_begun life rows text empty = record {
   left = rows;
   rows_are = ap (λ (l : Log). (past_of (plan_view life.plan) life.start l).rows ++ rows) (sym empty);
   spelled = ap (λ (l : Log). log_text life.plan l (outcomes_of (plan_view life.plan) life.start l) ++ text) (sym empty);
-  only = λ apart more rest. (more, rest);
+  only = λ more rest. (more, rest);
 }
 
 -- one entry more was read
@@ -312,10 +324,9 @@ far_more old now new rows text mid rest far g =
       left = g.behind;
       rows_are = g.rows_are ∙ rows_new;
       spelled = far.spelled ∙ text_is;
-      only = λ apart all left.
-          let (after, mid_rest) = far.only apart all left in
-          next_rest now new rows mid rest
-          (subst (λ (p : Plan). AreToldApart p.programs.items) (sym plan_is) apart) g after mid_rest;
+      only = λ all left.
+          let (after, mid_rest) = far.only all left in
+          next_rest now new rows mid rest g after mid_rest;
     }
 
 -- the last line was read
@@ -348,23 +359,22 @@ far_end old now rows text rest empty room few legal far is =
     )
 
 -- what is left is no last line
-pub far_no_end : (old now : State) (rows : List Latch) (text rest : List ℕ) → AreToldApart old.plan.programs.items
+pub far_no_end : (old now : State) (rows : List Latch) (text rest : List ℕ)
     → IsFar old now rows text rest → ((more : Log) → IsRest now rows rest more → more ≡ [])
     → (rest ≡ end_line (length now.log) → ⊥) → IsNoRest old rows text
-far_no_end old now rows text rest apart far ends differs more left =
-    let (after, mid) = far.only apart more left in
+far_no_end old now rows text rest far ends differs more left =
+    let (after, mid) = far.only more left in
     let none = ends after mid in
     let last = subst (λ (l : Log). IsRest now rows rest l) none mid in
     let count : length now.log + 0 ≡ length now.log = omega arith in
     differs (last.spelled ∙ ap end_line count)
 
-pub far_refused : (old now : State) (rows : List Latch) (text rest : List ℕ) → AreToldApart old.plan.programs.items
-    → IsFar old now rows text rest → (AreToldApart now.plan.programs.items → IsNoRest now rows rest)
+pub far_refused : (old now : State) (rows : List Latch) (text rest : List ℕ)
+    → IsFar old now rows text rest → IsNoRest now rows rest
     → IsNoRest old rows text
-far_refused old now rows text rest apart far none more left =
-    let (after, mid) = far.only apart more left in
-    let plan_is : now.plan ≡ old.plan = ap (λ (s : State). s.plan) far.same in
-    none (subst (λ (p : Plan). AreToldApart p.programs.items) (sym plan_is) apart) after mid
+far_refused old now rows text rest far none more left =
+    let (after, mid) = far.only more left in
+    none after mid
 
 -- the line of an entry has at least a byte
 pub entry_shortens : (plan : Plan) (e : Entry) (o : Option Outcome) (text rest : List ℕ)

@@ -1,3 +1,2 @@
-pub mod ToldApart
 pub mod Rests
 pub mod Watching

@@ -8,7 +8,6 @@ ghost use Rattle.config.specs.PlanViews.{plan_view};
 ghost use Rattle.serial_core.specs.Steps.{grown, made, waits_in};
 ghost use Rattle.trace_lines.specs.Texts.{end_line, outcome_text};
 ghost use Rattle.log_replay.specs.Rests.{Goes, Grows, IsNoRest, IsRest, with_log};
-ghost use Rattle.log_replay.specs.ToldApart.{AreToldApart};
 ghost use Rattle.log_replay.specs.Watching.{HasSeen, stages};
 
 use crate::watcher::Watcher;
@@ -94,7 +93,7 @@ fn replay_done<'a>(
     requires room { core.old.room ≡ MAX_LOG_ROOM }
     ensures grows { (rows left : List Latch) → rows ≡ (made core.old).rows ++ left
         → IfOk result (λ rest. Grows core.old rows (codes "done " ++ text.now) rest.now core.new) }
-    ensures refused { AreToldApart core.old.plan.programs.items → IfErr result (λ e. e ≢ ReplayError.NoMemory
+    ensures refused { IfErr result (λ e. e ≢ ReplayError.NoMemory
         → (rows : List Latch) → IsNoRest core.old rows (codes "done " ++ text.now)) }
 {
     let (program, field) = match program_of(&core.plan().programs, text) {
@@ -133,7 +132,7 @@ fn replay_entry<'a>(
     requires rows { (left : List Latch) × (rows.now ≡ (made core.old).rows ++ left) }
     ensures goes { IfOk result
         (λ told. Goes core.old rows.now text.now (option_map (λ rest. rest.now) told) core.new) }
-    ensures refused { AreToldApart core.old.plan.programs.items → IfErr result (λ e. e ≢ ReplayError.NoMemory
+    ensures refused { IfErr result (λ e. e ≢ ReplayError.NoMemory
         → IsNoRest core.old rows.now text.now) }
 {
     match behind(text, b"row ") {
@@ -177,7 +176,7 @@ pub fn replay_log<W: Watcher>(
         × IsRest core.old rows.now text.now core.new.log) }
     ensures watched { OnOk result
         (HasSeen W.sees watcher.old (stages grown core.old core.new.log) watcher.new) }
-    ensures refused { AreToldApart core.old.plan.programs.items → IfErr result (λ e. e ≢ ReplayError.NoMemory
+    ensures refused { IfErr result (λ e. e ≢ ReplayError.NoMemory
         → IsNoRest core.old rows.now text.now) }
 {
     let mut rest = text;

@@ -1,4 +1,4 @@
-//! That what an execution of a text's plan reads of globals and inputs is what its program asks for: a law.
+//! That what an execution of a plan reads of globals and inputs is what its program asks for: a law.
 #![tactic(auto)]
 
 mod asking;

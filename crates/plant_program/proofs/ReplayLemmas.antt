@@ -2,17 +2,7 @@
 use Rattle.std.proofs.Common.{◌≡◌, ◌≢◌, ◌∙◌, refl, subst, ap, List, ℕ, None, Some, Result, Ok, Err, IfOk, IfErr, map}
 use Rattle.std.proofs.Common.{option_map, slice_get}
 use Rattle.std.specs.Vec.{vec_items}
-use Rattle.st_trees.specs.SourceViews.{source_view}
-use Rattle.st_plans.specs.Plans as plans
 use Rattle.config.specs.declared.plan.Plan.{Plan}
-use Rattle.config.specs.declared.task.ProgramInstance.{ProgramInstance}
-use Rattle.config.specs.PlanViews.{plan_view, program_view}
-use Rattle.config.specs.Sound.{are_different}
-use Rattle.std.specs.List.{list_all}
-use Rattle.text_paths.proofs.PlainGrammar.{plain_text}
-use Rattle.st_layouts.proofs.ListLemmas.{get_map}
-use Rattle.st_build.proofs.ApartNames.{names_apart}
-use Rattle.st_build.proofs.OwnerLemmas.{plan_told_apart}
 use Rattle.st_plans.specs.Rows.{Latch}
 use Rattle.st_plans.specs.Restarts.{Start}
 use Rattle.st_plans.specs.Logs.{Log}
@@ -21,38 +11,13 @@ use Rattle.commit_lock.specs.declared.starting.StartMode.{StartMode}
 use Rattle.traces.specs.declared.findings.Replayed.{Replayed}
 use Rattle.trace_lines.specs.declared.trace_error.ReplayError.{ReplayError}
 use Rattle.trace_lines.specs.declared.trace_error.ReplayError.TheVariants as replays
-use Rattle.log_replay.specs.ToldApart.{AreToldApart}
-use Rattle.traces.specs.Replays.{AreFindings, IsToldApart, IsTrace}
+use Rattle.traces.specs.Replays.{AreFindings, IsTrace}
 use Rattle.source_run.specs.declared.fault.Fault.{Fault}
 use Rattle.source_run.specs.declared.fault.Fault.TheVariants as faults
 use Rattle.source_run.specs.Reports.{report_text}
 use Rattle.source_run.specs.Lives.{IsReport, counts_of}
-use Rattle.source_run.specs.Sources.{IsPlanIn, RefusesSource}
+use Rattle.source_run.specs.Sources.{RefusesSource}
 use Rattle.plant_program.specs.Jobs.{IsToldBy, IsTraceFault}
-
--- the owner of an instance is that of its program
-owner_at : (plan : Plan) (k : ℕ) (p : ProgramInstance) → slice_get plan.programs.items k ≡ Some p
-    → slice_get (map (λ (x : plans.ProgramInstance). x.code.owner) (plan_view plan).programs) k ≡ Some p.owner
-owner_at plan k p at =
-    get_map (λ (x : plans.ProgramInstance). x.code.owner) (plan_view plan).programs k
-    ∙ ap (option_map (λ (x : plans.ProgramInstance). x.code.owner))
-    (get_map (program_view (source_view plan.text.value)) plan.programs.items k)
-    ∙ ap (λ o. option_map (λ (x : plans.ProgramInstance). x.code.owner)
-    (option_map (program_view (source_view plan.text.value)) o)) at
-    ∙ ap Some (plan.sound.codes k p at).owner
-
-programs_apart : (text : List ℕ) (budget : ℕ) (plan : Plan) → IsPlanIn text budget plan
-    → AreToldApart plan.programs.items
-programs_apart text budget plan is i j p q more rest a b e =
-    plan_told_apart is.source budget (plan_view plan) (plain_text text is.source is.spelled) is.is i j p.owner q.owner
-    more rest (owner_at plan i p a) (owner_at plan j q b) e
-
--- the programs of the plan of a text are told apart, and so are the values of its enumerated types
-pub apart_of : (text : List ℕ) (budget : ℕ) (plan : Plan) → IsPlanIn text budget plan → IsToldApart plan
-apart_of text budget plan is = (
-  programs_apart text budget plan is,
-  ap (λ (p : plans.Plan). list_all are_different p.enumerations) is.is.is ∙ names_apart is.source is.is.well_typed,
-)
 
 -- V1 to V4 are no want of memory
 pub no_memory : (e : ReplayError) → IsTraceFault (faults.Trace e) → e ≢ replays.NoMemory

@@ -4,7 +4,6 @@ ghost use Rattle.std.specs.Prelude.{◌≡◌, ◌≢◌, ◌⊎◌, List, ℕ, 
 ghost use Rattle.std.specs.Vec.{vec_items};
 ghost use Rattle.st_plans.specs.Rows.{Latch};
 ghost use Rattle.image.specs.Plants.{AreRowsOf};
-ghost use Rattle.traces.specs.Replays.{IsToldApart};
 ghost use Rattle.source_run.specs.Reports.{report_text};
 ghost use Rattle.plant_program.specs.Jobs.{IsNoTrace, IsReplay, IsReplayOf, IsToldBy, IsTraceFault, RefusesTrace};
 ghost use Rattle.source_run.specs.Lives.{counts_of};
@@ -79,7 +78,6 @@ fn report_of(alloc: Global, plan: &Plan, found: &Replayed) -> Result<Vec<u8>, Fa
 
 /// Runs the trace again by one thread over these rows, and gives the report.
 fn run_again(alloc: Global, plan: &Arc<Plan>, rows: &[Row], trace: &[u8]) -> Result<Vec<u8>, Fault>
-    requires apart { IsToldApart plan.now.value }
     ensures report { IfOk result (λ text. IsToldBy plan.now.value rows.now trace.now text.items) }
     ensures refused { IfErr result (λ fault. IsTraceFault fault → IsNoTrace plan.now.value rows.now trace.now) }
 {
@@ -100,7 +98,6 @@ fn replay_plan<F: Files>(
     plant: &str,
     trace: &[u8],
 ) -> Result<Vec<u8>, Fault>
-    requires apart { IsToldApart plan }
     ensures report { IfOk result (λ text. IsReplayOf plan trace.now text.items) }
     ensures refused { IfErr result (λ fault. IsTraceFault fault
         → (rows : List Latch) × AreRowsOf plan.inputs.items rows × IsNoTrace plan rows trace.now) }

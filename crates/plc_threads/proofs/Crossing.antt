@@ -75,6 +75,9 @@ use Rattle.st_plans.specs.contracts.plan.PlanVariable as PlanVariable
 use Rattle.st_plans.specs.contracts.plan.PlanInput as PlanInput
 use Rattle.config.specs.contracts.task.Task as Task
 use Rattle.config.specs.contracts.slots.SlotPlace as SlotPlace
+use Rattle.layout.specs.contracts.slots.SlotFacts as SlotFacts
+use Rattle.layout.specs.contracts.layout.Layout.TheInside as LayoutInside
+use Rattle.layout.specs.contracts.layout.Layout as Layout
 use Rattle.config.specs.contracts.plan.Plan as Plan
 use Rattle.st_plans.specs.contracts.entry.Row.TheInside as RowInside
 use Rattle.st_plans.specs.contracts.entry.Row as Row
@@ -1836,6 +1839,30 @@ task-send = search plain depth 20
 pub task-sync : IsSync Task.the_row
 task-sync = search plain depth 20
 
+pub facts-send : IsSend SlotFacts.the_row
+facts-send = declared_send SlotFacts.the_type (value-send, (search plain depth 20, (search plain depth 20, tt)))
+
+pub facts-sync : IsSync SlotFacts.the_row
+facts-sync = declared_sync SlotFacts.the_type (value-sync, (search plain depth 20, (search plain depth 20, tt)))
+
+pub layout_inside-send : IsSend LayoutInside.the_row
+layout_inside-send = declared_send LayoutInside.the_type (
+  search (plain, path-send, facts-send) depth 60,
+  (search plain depth 20, tt),
+)
+
+pub layout_inside-sync : IsSync LayoutInside.the_row
+layout_inside-sync = declared_sync LayoutInside.the_type (
+  search (plain, path-sync, facts-sync) depth 60,
+  (search plain depth 20, tt),
+)
+
+pub layout-send : IsSend Layout.the_row
+layout-send = search (plain, layout_inside-send) depth 20
+
+pub layout-sync : IsSync Layout.the_row
+layout-sync = search (plain, layout_inside-sync) depth 20
+
 pub plan-send : IsSend Plan.the_row
 plan-send = declared_send Plan.the_type (
   Arc-send _ source-send source-sync,
@@ -1846,10 +1873,13 @@ plan-send = declared_send Plan.the_type (
       (
         Vec-send _ plan_input-send,
         (
-          Vec-send _ place-send,
+          layout-send,
           (
-            search plain depth 20,
-            (Vec-send _ task-send, (Vec-send _ instance-send, (search plain depth 20, tt))),
+            Vec-send _ place-send,
+            (
+              search plain depth 20,
+              (Vec-send _ task-send, (Vec-send _ instance-send, (search plain depth 20, tt))),
+            ),
           ),
         ),
       ),
@@ -1867,10 +1897,13 @@ plan-sync = declared_sync Plan.the_type (
       (
         Vec-sync _ plan_input-sync,
         (
-          Vec-sync _ place-sync,
+          layout-sync,
           (
-            search plain depth 20,
-            (Vec-sync _ task-sync, (Vec-sync _ instance-sync, (search plain depth 20, tt))),
+            Vec-sync _ place-sync,
+            (
+              search plain depth 20,
+              (Vec-sync _ task-sync, (Vec-sync _ instance-sync, (search plain depth 20, tt))),
+            ),
           ),
         ),
       ),

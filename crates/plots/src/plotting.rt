@@ -5,7 +5,7 @@ ghost use Rattle.st_plans.specs.Restarts.{Start};
 ghost use Rattle.st_plans.specs.Logs.{Log};
 ghost use Rattle.commit_lock.specs.declared.starting.StartMode.{StartMode};
 ghost use Rattle.trace_lines.specs.declared.trace_error.ReplayError.{ReplayError};
-ghost use Rattle.traces.specs.Replays.{AreFindings, IsToldApart, IsTrace};
+ghost use Rattle.traces.specs.Replays.{AreFindings, IsTrace};
 
 use crate::lanes::lanes;
 use crate::lines::line;
@@ -47,7 +47,7 @@ pub fn gather(
         × IsTrace plan.value rows.now text.now mode start log
         × AreFindings plan.value start log p.found.rows p.found.done p.found.faults p.found.overruns
         p.found.values.items) }
-    ensures refused { IsToldApart plan.value → IfErr result (λ e. e ≢ ReplayError.NoMemory
+    ensures refused { IfErr result (λ e. e ≢ ReplayError.NoMemory
         → (mode : StartMode) (start : Start) (log : Log) → IsTrace plan.value rows.now text.now mode start log → ⊥) }
 {
     let mut notes = match Notes::new(alloc, &plan, shown) {

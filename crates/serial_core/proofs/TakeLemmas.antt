@@ -23,6 +23,8 @@ use Rattle.config.specs.declared.slots.SlotPlace.{SlotPlace}
 use Rattle.config.specs.SlotPlaces.{are_numbered, merged, slots_among}
 use Rattle.config.proofs.SlotLemmas.{typed_merged}
 use Rattle.config.specs.PlanViews.{plan_view}
+use Rattle.plan_reads.specs.Reading.{ReadsAreAskedFor}
+use Rattle.plan_reads.proofs.PlanReads.{asks_for_reads}
 use Rattle.ready_list.specs.Ready.{Ready, IsReadyOf}
 use Rattle.serial_core.specs.Steps.{State, store_in, code_at, none_waits, IsSnapshotOf, IsSnapshotIn, IsWaiting}
 use Rattle.serial_core.specs.Kept.{SerialInvariant}
@@ -157,6 +159,16 @@ module _ {plan : Plan} {start values : List Datum} {before : Option ℕ} {sample
       (row_at (past_of (plan_view plan) (store_in plan start) log).rows a.row).image)) (sym values_are)
       ∙ slots_typed a (waits-row a w) ∙ kinds_at plan a.program code coded
 
+-- what is read of a snapshot with the code of its activation's program is asked for
+asked_for : (plan : Plan) (s : Snapshot) → code_at plan s.activation.program ≡ Some s.code.value
+    → ReadsAreAskedFor plan s
+asked_for plan s coded p at =
+    asks_for_reads plan s.activation.program p s at
+    (one (sym coded ∙ ap (option_map (λ (q : ProgramInstance). q.code.value)) at))
+  where
+    one : Some s.code.value ≡ Some p.code.value → s.code.value ≡ p.code.value
+    one e = cc
+
 -- the best activation's snapshot
 pub best_snapshot : (st : State) (resource : ℕ) (a : Activation) (s : Snapshot)
     → IsBest (schedules_of (plan_view st.plan)) (past_of (plan_view st.plan) st.start st.log).history resource a
@@ -168,6 +180,7 @@ best_snapshot st resource a s best is parts = record {
   moment = parts.moment;
   budget = parts.budget;
   slots = parts.slots;
+  asked = asked_for st.plan s parts.code;
 }
 
 -- where an activation is best, something waits

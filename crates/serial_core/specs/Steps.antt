@@ -20,6 +20,7 @@ use Rattle.coded_runs.specs.declared.snapshot.Snapshot.{Snapshot}
 use Rattle.config.specs.declared.plan.Plan.{Plan}
 use Rattle.config.specs.PlanViews.{plan_view}
 use Rattle.config.specs.SlotPlaces.{merged}
+use Rattle.plan_reads.specs.Reading.{ReadsAreAskedFor}
 use Rattle.serial_core.specs.declared.refusal.Answer.{Answer}
 use Rattle.serial_core.specs.declared.refusal.Answer.TheVariants.{Committed, Stale}
 use Rattle.serial_core.specs.declared.refusal.Refusal.{Refusal}
@@ -77,13 +78,14 @@ abbrev pub code_at : Plan → ℕ → Option Code
 code_at plan p = option_map (λ q. q.code.value) (slice_get plan.programs.items p)
 
 -- what is taken for a resource: the best activation with its program's code, its row's moment and the values of all
--- slots
+-- slots; what an execution of it reads of globals and inputs, its program asks for
 pub record IsSnapshotOf (state : State) (resource : ℕ) (snapshot : Snapshot) : Type 0 where
   pub best : IsBest (schedules_of (plan_view state.plan)) (made state).history resource snapshot.activation
   pub code : code_at state.plan snapshot.activation.program ≡ Some snapshot.code.value
   pub moment : snapshot.moment ≡ (row_at (made state).rows snapshot.activation.row).moment
   pub budget : snapshot.budget ≡ state.plan.budget
   pub slots : snapshot.slots.items ≡ slots_for state snapshot.activation
+  pub asked : ReadsAreAskedFor state.plan snapshot
 
 -- a snapshot with its activation's code, the moment of its row and the values of all slots
 pub record IsSnapshotIn (state : State) (snapshot : Snapshot) : Type 0 where

@@ -23,8 +23,8 @@ use Rattle.st_plans.specs.Plans as plans
 use Rattle.text_paths.specs.PlainDeclarations.{is_plain, is_plain_configuration, is_plain_element, is_plain_globals}
 use Rattle.text_paths.specs.PlainDeclarations.{is_plain_instance, is_plain_resource, is_word}
 use Rattle.text_paths.proofs.OnePath.{word_bytes}
+use Rattle.config.specs.Owners.{name_of, AreToldApart}
 use Rattle.st_build.specs.declared.places.Place.{Place}
-use Rattle.st_build.specs.Owners.{name_of, AreToldApart}
 use Rattle.st_build.specs.Places.{places_from}
 use Rattle.st_build.specs.TextPlans.{instances_at, instance_at, resources_of, IsPlanOf}
 use Rattle.st_build.proofs.ConfiguredLemmas.{only, owners_of_text, resources}

@@ -16,7 +16,7 @@ use Rattle.st_trees.specs.Sources.{Source}
 use Rattle.st_types.specs.NameTypes.{Declared, declared_in, types_in}
 use Rattle.st_types.specs.ResolvedUnits.{resolved_source}
 use Rattle.st_types.specs.Runs.{Program}
-use Rattle.st_types.specs.Slots.{Slot, IsLayout}
+use Rattle.st_types.specs.Slots.{IsLayout}
 use Rattle.st_statics.specs.ConfigurationRules as rules_of
 use Rattle.st_statics.specs.ConfigurationRules.{are_known, has_known_externals, is_known_instance, is_known_resource}
 use Rattle.st_statics.specs.ConfigurationRules.{is_known_single, is_known_task, is_program_unit}
@@ -35,10 +35,12 @@ use Rattle.layout.specs.declared.slots.LayoutSlot.{LayoutSlot}
 use Rattle.layout.specs.TextLayouts.{IsLayoutOf, slot_view, variables_among, inputs_among}
 use Rattle.coded_programs.specs.Codes.{CodeView, code_view}
 use Rattle.coded_programs.specs.Meanings.{Means}
-use Rattle.text_codes.specs.Codes.{AreCodesOf, IsMeant, ReadsAsAsked}
+use Rattle.coded_programs.specs.Reads.{ReadsAsAsked}
+use Rattle.text_codes.specs.Codes.{AreCodesOf, IsMeant}
 use Rattle.config.specs.declared.slots.SlotPlace.{SlotPlace}
 use Rattle.config.specs.declared.task.ProgramInstance.{ProgramInstance}
 use Rattle.config.specs.declared.task.Task.{Task}
+use Rattle.config.specs.Owners.{AreToldApart}
 use Rattle.config.specs.PlanViews.{task_view, program_view}
 use Rattle.config.specs.SlotPlaces.{are_numbered, slots_among}
 use Rattle.config.specs.Sound.{has_line, are_different, is_of_resource, is_sound_trigger, IsCodeOf, IsWithinLimits}
@@ -53,12 +55,14 @@ use Rattle.st_build.specs.Tasks.{tasks_from}
 use Rattle.layout.specs.TypeNames.{names_in_text}
 use Rattle.st_build.specs.TextPlans.{instance_at, instances_at, plan_of_text, resources_in, resources_of, task_of}
 use Rattle.st_build.specs.TextPlans.{IsPlanOf}
+use Rattle.st_build.proofs.ApartNames.{names_apart}
 use Rattle.st_build.proofs.ConfiguredLemmas.{configured, few, instances, known, only, owners_of_text, resources, tasked, tasks_known}
 use Rattle.st_build.proofs.EnumerationLemmas.{names_are}
 use Rattle.st_build.proofs.LayoutLemmas.{in_one_part, parts_are_layout}
 use Rattle.st_build.proofs.ListLemmas.{some_is, both, both_are, all_append, all_get, get_map, mapped, length_map}
 use Rattle.st_build.proofs.NumberedLemmas.{numbered, slots_are}
-use Rattle.st_build.proofs.PlaceLemmas.{owners_of_places, places_counted, places_run, runs_in}
+use Rattle.st_build.proofs.OwnerLemmas.{told_apart}
+use Rattle.st_build.proofs.PlaceLemmas.{owners_in, owners_of_places, places_counted, places_run, runs_in}
 use Rattle.st_build.proofs.SingleLemmas.{boolean_global}
 use Rattle.st_build.proofs.TaskLemmas.{resources_there, tasks_are_few}
 use Rattle.st_build.proofs.TriggerLemmas.{AllSingles, AreBoolean, AreSingles, singles_sound, tasks_viewed}
@@ -225,7 +229,6 @@ module _ (source tree : Source) (slots : List LayoutSlot) (codes : List CodeView
 
   pub record IsMade (made : List ProgramInstance) (k : ℕ) (p : ProgramInstance) : Type 0 where
     pub code : IsCodeOf tree (slots_among (numbered_from 0 0 slots) vs is) p
-    pub reads : ReadsAsAsked (slots_of_text source) (code_view p.code.value) (program_numbered tree p.number)
     pub place : slice_get (places_from 0 0 rs) k
         ≡ Some (record { owner = p.owner; resource = p.resource; task = p.task })
 
@@ -249,9 +252,10 @@ module _ (source tree : Source) (slots : List LayoutSlot) (codes : List CodeView
               (subst (λ x. Means (slots_of_text source) (code_view p.code.value) x) (sym program)
               (subst (λ x. Means (slots_of_text source) x q.0) same m.means));
           owner = ap (λ (x : Program). x.owner) program ∙ q.2;
+          reads = subst (λ ls. ReadsAsAsked ls (code_view p.code.value) (program_numbered tree p.number)) (sym among)
+              (subst (λ x. ReadsAsAsked (slots_of_text source) (code_view p.code.value) x) (sym program)
+              (subst (λ x. ReadsAsAsked (slots_of_text source) x q.0) same m.reads));
         };
-        reads = subst (λ x. ReadsAsAsked (slots_of_text source) (code_view p.code.value) x) (sym program)
-            (subst (λ x. ReadsAsAsked (slots_of_text source) x q.0) same m.reads);
         place = i.place;
       }
 
@@ -299,14 +303,26 @@ module _ (source tree : Source) (slots : List LayoutSlot) (codes : List CodeView
       short n (p ∷ ps) (x ∷ cs) = let r = short (suc n) ps cs in omega arith
 
   -- each path of the text has one slot
-  pub slots_once : IsLayout (slots_of_text source)
-  slots_once = text_layout source (parts_right source judged.well_typed).names.all
+  slots_once : IsLayout (slots_among (numbered_from 0 0 slots) vs is)
+  slots_once = subst IsLayout (sym among) (text_layout source (parts_right source judged.well_typed).names.all)
 
-  -- its codes read what their programs ask for
-  pub plan_reads : (made : List ProgramInstance) → map instance_view made ≡ instances_from 0 (places_from 0 0 rs) codes
-      → (k : ℕ) (p : ProgramInstance) → slice_get made k ≡ Some p
-      → ReadsAsAsked (slots_of_text source) (code_view p.code.value) (program_numbered tree p.number)
-  plan_reads made h k p g = (made_at made h k p g).reads
+  -- its instances are told apart
+  instances_apart : (made : List ProgramInstance)
+      → map instance_view made ≡ instances_from 0 (places_from 0 0 rs) codes
+      → AreToldApart (map (λ (p : ProgramInstance). p.owner) made)
+  instances_apart made h i j o p more rest a b e =
+      told_apart source c judged.well_typed judged.plain (only source judged.configured) i j o p more rest (there i o a)
+      (there j p b) e
+    where
+      there : (k : ℕ) (x : Owner) → slice_get (map (λ (p : ProgramInstance). p.owner) made) k ≡ Some x
+          → slice_get (owners_in c.resources) k ≡ Some x
+      there k x g =
+          let q = mapped (λ (p : ProgramInstance). p.owner) (slice_get made k) x
+          (sym (get_map (λ (p : ProgramInstance). p.owner) made k) ∙ g) in
+          ap (λ (ys : List Resource). slice_get (owners_in ys) k) (sym (resources source judged.configured))
+          ∙ ap (λ xs. slice_get xs k) (sym (owners_of_places 0 0 rs))
+          ∙ get_map (λ (y : Place). y.owner) (places_from 0 0 rs) k
+          ∙ ap (option_map (λ (y : Place). y.owner)) (made_at made h k q.0 q.1).place ∙ ap Some q.2
 
   -- the plan is sound
   pub plan_is_sound : (made : List ProgramInstance) → map instance_view made ≡ instances_from 0 (places_from 0 0 rs) codes
@@ -336,6 +352,9 @@ module _ (source tree : Source) (slots : List LayoutSlot) (codes : List CodeView
           ticks = ready.ticks;
           record_is = short;
         };
+        once = slots_once;
+        instances = instances_apart made h;
+        values = names_apart source judged.well_typed;
       }
 
   -- the tree has its configuration
@@ -467,19 +486,6 @@ module _ (source tree : Source) (slots : List LayoutSlot) (codes : List CodeView
         (subst (λ t. PlanInvariant tree (enumerations_of_text source) (variables_among slots) (inputs_among slots)
         (numbered_from 0 0 slots) (length (resources_of source)) t made budget) (sym tasks_from_slots)
         (plan_is_sound source tree slots codes budget ready made made_is short_is))))))
-
-    -- what is so of the text's slots is so of the plan's
-    pub own_slots : (P : List Slot → Type 0) → P (slots_of_text source) → (ps : List SlotPlace)
-        → ps ≡ numbered_from 0 0 slots → P (slots_among ps vs is)
-    own_slots P h ps e =
-        subst (λ ws. P (slots_among ps ws is)) (sym from.variables_are)
-        (subst (λ js. P (slots_among ps (variables_among slots) js)) (sym from.inputs_are)
-        (subst (λ qs. P (slots_among qs (variables_among slots) (inputs_among slots))) (sym e)
-        (subst P (sym (among source tree slots codes budget ready)) h)))
-
-    pub reading_plan : (k : ℕ) (p : ProgramInstance) → slice_get made k ≡ Some p
-        → ReadsAsAsked (slots_of_text source) (code_view p.code.value) (program_numbered tree p.number)
-    reading_plan k p g = plan_reads source tree slots codes budget ready made made_is k p g
 
     pub text_plan : (plan : plans.Plan) → plan.enumerations ≡ types → plan.variables ≡ vs → plan.inputs ≡ is
         → plan.resources ≡ many → plan.tasks ≡ map (task_view vs) tasks

@@ -10,6 +10,7 @@ use Rattle.st_configured.specs.Configured.{IsConfigured}
 use Rattle.st_layouts.specs.TextLayouts.{enumerations_of_text, plan_variables_of_text}
 use Rattle.st_sound.proofs.GrammarFunctions.{functions_clean}
 use Rattle.text_paths.specs.Texts.{IsTextOf}
+use Rattle.text_paths.proofs.PlainGrammar.{plain_text}
 use Rattle.config.specs.Sound.{are_different, has_line}
 use Rattle.layout.specs.declared.slots.LayoutSlot.{LayoutSlot}
 use Rattle.layout.specs.TextLayouts.{IsLayoutOf}
@@ -37,6 +38,7 @@ judged_from text source of well sound lines apart spelled = record {
   spelled = spelled;
   lines = lines;
   different = apart;
+  plain = plain_text text source of;
 }
 
 -- what it lacks is why it has no plan

@@ -4,5 +4,3 @@ pub mod Programs
 pub mod TextPlans
 pub mod Refusals
 pub mod Readiness
-pub mod Owners
-pub mod Reads

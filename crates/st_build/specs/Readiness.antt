@@ -14,10 +14,11 @@ use Rattle.layout.specs.TextLayouts.{IsLayoutOf}
 use Rattle.coded_programs.specs.Codes.{CodeView}
 use Rattle.text_codes.specs.Codes.{AreCodesOf}
 use Rattle.text_fitting.specs.Spelled.{IsSpelled}
+use Rattle.text_paths.specs.PlainDeclarations.{is_plain}
 use Rattle.config.specs.Sound.{are_different, has_line}
 
--- A text of the grammar that breaks no rule, with a sound configuration. Its literals are as the grammar gives them, and
--- its variables have lines in a record, each another.
+-- A text of the grammar that breaks no rule, with a sound configuration. Its literals are as the grammar gives them,
+-- its variables have lines in a record, each another, and the names that it declares are words.
 pub record IsJudged (source : Source) : Type 0 where
   pub well_typed : IsWellTyped source
   pub functions : HaveFunctionsNoExternals source
@@ -25,6 +26,7 @@ pub record IsJudged (source : Source) : Type 0 where
   pub spelled : IsSpelled source
   pub lines : list_all (has_line (enumerations_of_text source)) (plan_variables_of_text source) ≡ true
   pub different : are_different (map (λ v. path_text v.path) (plan_variables_of_text source)) ≡ true
+  pub plain : is_plain source ≡ true
 
 -- its resolved tree, its layout and the codes of its programs, and a budget that there may be
 pub record IsReady (source tree : Source) (slots : List LayoutSlot) (codes : List CodeView) (budget : ℕ) : Type 0 where

@@ -6,9 +6,9 @@ ghost use Rattle.st_plans.specs.declared.plan.PlanInput.{PlanInput};
 ghost use Rattle.st_plans.specs.Plans as plans;
 ghost use Rattle.st_trees.specs.declared.configuration.Task as declared_task;
 ghost use Rattle.st_trees.specs.Sources.{Source};
+ghost use Rattle.config.specs.Owners.{AreToldApart};
 ghost use Rattle.config.specs.Sound.{are_different};
 ghost use Rattle.text_paths.specs.Texts.{IsTextOf};
-ghost use Rattle.st_build.specs.Owners.{AreToldApart};
 ghost use Rattle.st_build.specs.TextPlans.{IsPlanOf, task_of};
 
 use text_paths::declarations_of_texts_are_plain;

@@ -9,7 +9,6 @@ ghost use Rattle.st_plans.specs.Plans as plans;
 ghost use Rattle.config.specs.PlanViews.{plan_view};
 ghost use Rattle.st_build.specs.Readiness.{IsJudged};
 ghost use Rattle.text_paths.specs.Texts.{IsTextOf};
-ghost use Rattle.st_build.specs.Reads.{ReadsWhatItAsksFor};
 ghost use Rattle.st_build.specs.Refusals.{GivesPlan, LacksPlan, SourceLacksPlan, TextLacksPlan};
 ghost use Rattle.st_build.specs.TextPlans.{IsPlanOf};
 
@@ -34,7 +33,6 @@ fn plan_of_tree(alloc: Global, tree: Source, budget: u32) -> Result<Plan, BuildE
     requires ticks { budget ≤ MAX_BUDGET }
     ensures plan { IfOk result (λ plan. (text : trees.Source) → IsJudged text → source_view tree ≡ resolved_source text
         → IsPlanOf text budget (plan_view plan)) }
-    ensures reads { IfOk result (λ plan. ReadsWhatItAsksFor plan) }
     ensures refused { IfErr result (λ e. (text : trees.Source) → IsJudged text
         → source_view tree ≡ resolved_source text → LacksPlan text e) }
 {
@@ -49,7 +47,6 @@ fn plan_of(alloc: Global, source: Source, budget: u32) -> Result<Plan, BuildErro
     requires some_ticks { 1 ≤ budget }
     requires ticks { budget ≤ MAX_BUDGET }
     ensures plan { IfOk result (λ plan. IsPlanOf (source_view source) budget (plan_view plan)) }
-    ensures reads { IfOk result (λ plan. ReadsWhatItAsksFor plan) }
     ensures refused { IfErr result (λ e. SourceLacksPlan (source_view source) e) }
 {
     paths_of_texts_are_written_apart();
@@ -72,8 +69,6 @@ pub fn build(alloc: Global, text: &[u8], budget: u32) -> Result<Plan, BuildError
     // The plan is that of a tree that the bytes spell.
     ensures plan { IfOk result
         (λ plan. (source : trees.Source) × IsTextOf text.now source × IsPlanOf source budget (plan_view plan)) }
-    // What its codes read of globals and inputs, their programs ask for.
-    ensures reads { IfOk result (λ plan. ReadsWhatItAsksFor plan) }
     // A text of which there is such a plan is given it, unless something is wanting.
     ensures only { (source : trees.Source) (plan : plans.Plan) → IsTextOf text.now source → IsPlanOf source budget plan
         → GivesPlan result plan }

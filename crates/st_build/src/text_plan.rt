@@ -9,7 +9,6 @@ ghost use Rattle.st_plans.specs.Layouts.{layout_text};
 ghost use Rattle.layout.specs.TextLayouts.{variables_among};
 ghost use Rattle.layout.specs.TypeNames.{names_in_text};
 ghost use Rattle.st_build.specs.Readiness.{IsReady};
-ghost use Rattle.st_build.specs.Reads.{ReadsWhatItAsksFor};
 ghost use Rattle.st_build.specs.Refusals.{LacksPlan};
 ghost use Rattle.st_build.specs.TextPlans.{IsPlanOf};
 
@@ -42,7 +41,6 @@ pub fn plan_from(
     ensures plan { IfOk result (λ plan. (text : trees.Source)
         → IsReady text (source_view tree) layout.slots (map code_view codes.items) budget
         → IsPlanOf text budget (plan_view plan)) }
-    ensures reads { IfOk result (λ plan. ReadsWhatItAsksFor plan) }
     ensures refused { IfErr result (λ e. (text : trees.Source)
         → IsReady text (source_view tree) layout.slots (map code_view codes.items) budget
         → LacksPlan text e) }

@@ -25,8 +25,9 @@ use Rattle.code_drafts.specs.Linked.{ProgramLinked}
 use Rattle.text_fitting.specs.Compiled.{AreCompiled}
 use Rattle.coded_programs.specs.Codes.{CodeView}
 use Rattle.coded_programs.specs.Meanings.{Means}
+use Rattle.coded_programs.specs.Reads.{ReadsAsAsked}
 use Rattle.text_codes.specs.ProgramCodes.{IsCodeOf}
-use Rattle.text_codes.specs.Codes.{AreCodesOf, AreCodesOver, IsCodeOver, ReadsAsAsked}
+use Rattle.text_codes.specs.Codes.{AreCodesOf, AreCodesOver, IsCodeOver}
 
 -- one more
 pub one_more : (library : SlotLibrary) (kinds : List Kind) (bodies : List SlotStmts) (codes : List CodeView)

@@ -7,10 +7,10 @@ use Rattle.st_types.specs.Slots.{Slot}
 use Rattle.st_layouts.specs.Libraries.{programs_of_text}
 use Rattle.st_layouts.specs.TextLayouts.{slots_of_text}
 use Rattle.slot_trees.specs.SlotTrees.{SlotLibrary, SlotStmts}
-use Rattle.machine_code.specs.Asking.{IsOnlyLookedUp}
 use Rattle.tree_code.specs.Programs.{program_code, ProgramFits}
 use Rattle.coded_programs.specs.Codes.{CodeView}
-use Rattle.coded_programs.specs.Meanings.{FailsAlike, Means}
+use Rattle.coded_programs.specs.Meanings.{Means}
+use Rattle.coded_programs.specs.Reads.{ReadsAsAsked}
 
 -- The code is that of a linked body over slots of these types, with calls at most 64 deep, and the program fits its
 -- memory.
@@ -26,13 +26,6 @@ AreCodesOver library kinds (body ∷ bodies) (code ∷ codes) =
     IsCodeOver library kinds body code × AreCodesOver library kinds bodies codes
 AreCodesOver library kinds [] (code ∷ codes) = ⊥
 AreCodesOver library kinds (body ∷ bodies) [] = ⊥
-
--- What a run of the code reads of globals and inputs, its program asks for: no instruction takes their values as they
--- are, and the machine fails on the code as the program does.
-pub record ReadsAsAsked (layout : List Slot) (code : CodeView) (p : Program) : Type 0 where
-  pub looked_up : (k : ℕ) (l : Slot) → slice_get layout k ≡ Some l → l.path.owner ≡ None
-      → IsOnlyLookedUp code.instrs k
-  pub fails : FailsAlike layout code p
 
 -- This is code, it means the program over the layout, and it reads what the program asks for.
 pub record IsMeant (layout : List Slot) (p : Program) (o : Option CodeView) : Type 0 where

@@ -1,12 +1,11 @@
 -- Values that are spelled by their names, read back.
 use Rattle.std.proofs.Common.{◌≡◌, ◌∙◌, ap, sym, refl, subst, arith, ℕ, zero, suc, ◌+◌, ◌-◌, ◌<◌, ◌≤◌, ◌^◌, ◌++◌, true, false, not}
-use Rattle.std.proofs.Common.{List, [], ◌∷◌, length, map, get_or, cond, Vec, Global, Option, Some, None, IfSome, slice_get, inl, inr}
+use Rattle.std.proofs.Common.{List, [], ◌∷◌, length, get_or, cond, Option, Some, None, IfSome, slice_get, inl, inr}
 use Rattle.std.specs.Prelude.{◌==◌, ◌&&◌, ℤ, pos, negsuc, nat_le, int_le, bytes_eq, position, option_and_then}
 use Rattle.std.specs.List.{list_all, position_from}
-use Rattle.std.specs.Vec.{vec_items}
 use Rattle.std.proofs.lemmas.Bool.{and_from, and_parts, cases_Bool, eqb-true, le-leb, leb-true, not-true}
 use Rattle.std.proofs.lemmas.Iterator.Adapters.{position_from-zero}
-use Rattle.std.proofs.lemmas.List.Folds.{list_all-append, list_all-map, list_any_at}
+use Rattle.std.proofs.lemmas.List.Folds.{list_all-append, list_any_at}
 use Rattle.std.proofs.lemmas.Option.{get_or_from_slice_get, slice_get_within}
 use Rattle.std.proofs.lemmas.Slice.Eq.{bytes_eq-Decides}
 use Rattle.st_words.specs.declared.kind.Kind.{Kind}
@@ -334,7 +333,3 @@ spelled_at types (u ∷ vs) zero v all small is =
     ap (λ (x : PlanVariable). has_spelling types x.initial.kind) is ∙ q.1
 spelled_at types (u ∷ vs) (suc i) v all small is =
     spelled_at types vs i v (and_parts (has_line types u) (list_all (has_line types) vs) all).1 (omega (arith, small)) is
-
-pub all_named : (types : List (Vec Name Global))
-    → list_all (λ names. are_different names.items) types ≡ are_names_apart (map vec_items types)
-all_named types = sym (list_all-map are_different vec_items types)

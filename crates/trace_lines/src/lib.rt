@@ -1,7 +1,6 @@
 //! Traces as texts: how the life of a core is written, and what the lines of such a text tell.
 #![tactic(auto)]
 
-mod apart;
 mod budget;
 mod head;
 mod keeping;
@@ -13,7 +12,6 @@ mod trace_error;
 mod values;
 mod writing;
 
-pub use apart::are_names_apart;
 pub use budget::trace_budget;
 pub use head::begin;
 pub use keeping::kept_values;

@@ -10,7 +10,6 @@ use Rattle.config.specs.PlanViews.{plan_view}
 use Rattle.serial_core.specs.Steps.{State}
 use Rattle.commit_lock.specs.declared.starting.StartMode.{StartMode}
 use Rattle.trace_lines.specs.Reads.{Begins}
-use Rattle.log_replay.specs.ToldApart.{AreToldApart}
 use Rattle.traces.specs.Replays.{AreFindings, IsTrace}
 use Rattle.log_replay.specs.Rests.{IsRest, with_log}
 use Rattle.traces.specs.Starts.{IsBegunSo, head_of}
@@ -90,19 +89,17 @@ rest_trace plan rows text rest mode life log may whole left =
 
 -- What was found of the log that was run again was found of each life whose trace the text is.
 pub found_only : (plan : Plan) (rows : List Latch) (text rest : List ℕ) (m : StartMode) (life : State) (log : Log)
-    (n done faults overruns : ℕ) (values : List Datum) → AreToldApart plan.programs.items
+    (n done faults overruns : ℕ) (values : List Datum)
     → Begins (IsBegunSo plan) head_of text (Some ((m, life), rest)) → IsRest life rows rest log
     → AreFindings plan (start_of life) log n done faults overruns values
     → (mode : StartMode) (start : Start) (other : Log) → IsTrace plan rows text mode start other
     → AreFindings plan start other n done faults overruns values
-found_only plan rows text rest m life log n done faults overruns values apart begins left findings mode start other t =
+found_only plan rows text rest m life log n done faults overruns values begins left findings mode start other t =
     let parts = both_are (m, life) (mode, life_of plan start) rest (lines_of plan start other)
     (begins.1 (mode, life_of plan start) (lines_of plan start other) (refl, t.started, t.early)
     (split plan rows text mode start other t)) in
     let life_is : life ≡ life_of plan start = ap (λ (p : StartMode × State). p.1) parts.0 in
-    let plan_is : life.plan ≡ plan = ap (λ (s : State). s.plan) life_is in
-    let apart_there = subst (λ (p : Plan). AreToldApart p.programs.items) (sym plan_is) apart in
-    let same : log ≡ other = one_rest life rows rest apart_there log other left
+    let same : log ≡ other = one_rest life rows rest log other left
     (trace_rest plan rows text rest m life begins mode start other t) in
     subst (λ (l : Log). AreFindings plan start l n done faults overruns values) same
     (subst (λ (s : State). AreFindings plan (start_of s) log n done faults overruns values) life_is findings)

@@ -15,10 +15,8 @@ use Rattle.config.specs.PlanViews.{plan_view}
 use Rattle.commit_lock.specs.declared.starting.StartMode.{StartMode}
 use Rattle.commit_lock.specs.Starting.{IsStart}
 use Rattle.trace_lines.specs.declared.trace_error.ReplayError.{ReplayError}
-use Rattle.trace_lines.specs.NamedValues.{are_names_apart}
 use Rattle.trace_lines.specs.Texts.{trace_text}
 use Rattle.log_replay.specs.Rests.{rows_in}
-use Rattle.log_replay.specs.ToldApart.{AreToldApart}
 use Rattle.traces.specs.declared.findings.Replayed.{Replayed}
 
 -- The text is the trace of a legal log, which a core has room for. The life was started so, and its rows are the first
@@ -32,11 +30,6 @@ pub record IsTrace (plan : Plan) (rows : List Latch) (text : List ℕ) (mode : S
   pub behind : List Latch
   pub rows_are : rows ≡ rows_in log ++ behind
   pub spelled : text ≡ trace_text plan mode start log
-
--- lines tell their programs, and names tell their values
-abbrev pub IsToldApart : Plan → Type 0
-IsToldApart plan =
-    AreToldApart plan.programs.items × (are_names_apart (plan_view plan).enumerations ≡ true)
 
 abbrev pub is_faulted : Option Outcome → Bool
 is_faulted None = false

@@ -5,7 +5,7 @@ ghost use Rattle.st_plans.specs.Restarts.{Start};
 ghost use Rattle.st_plans.specs.Logs.{Log};
 ghost use Rattle.commit_lock.specs.declared.starting.StartMode.{StartMode};
 ghost use Rattle.log_replay.specs.Watching.{HasSeen};
-ghost use Rattle.traces.specs.Replays.{Accepts, AreFindings, IsToldApart, IsTrace};
+ghost use Rattle.traces.specs.Replays.{Accepts, AreFindings, IsTrace};
 ghost use Rattle.traces.specs.Starts.{lives_of};
 
 use crate::findings::{Replayed, findings};
@@ -18,14 +18,14 @@ use std::alloc::Global;
 use std::io;
 use std::io::Read;
 use std::sync::Arc;
-use trace_lines::{ReplayError, are_names_apart};
+use trace_lines::ReplayError;
 
 /// Runs a trace again, line by line, over the first of these rows, and tells what it found. The watcher sees the core as
 /// the life was begun, and then after each entry.
 ///
 /// V2 where a row is not the plant's next one, or not later than the one before; V3 where an execution was not waiting;
-/// V4 where it ends in another way; V1 where the text is no trace of the plan for another cause, or where an enumerated
-/// type of the plan has a name twice; V5 out of memory, the watcher's too.
+/// V4 where it ends in another way; V1 where the text is no trace of the plan for another cause; V5 out of memory, the
+/// watcher's too.
 pub fn replay_watched<W: Watcher>(
     alloc: Global,
     plan: Arc<Plan>,
@@ -37,19 +37,16 @@ pub fn replay_watched<W: Watcher>(
         × IsTrace plan.value rows.now text.now mode start log
         × AreFindings plan.value start log r.rows r.done r.faults r.overruns r.values.items) }
     // The text is the trace of no other life: what is told is told of each life whose trace it is.
-    ensures only { IsToldApart plan.value → IfOk result (λ r. (mode : StartMode) (start : Start)
+    ensures only { IfOk result (λ r. (mode : StartMode) (start : Start)
         (log : Log) → IsTrace plan.value rows.now text.now mode start log
         → AreFindings plan.value start log r.rows r.done r.faults r.overruns r.values.items) }
     // The watcher has seen the life as it was begun, and after each entry of its log.
     ensures watched { OnOk result ((mode : StartMode) × (start : Start) × (log : Log)
         × IsTrace plan.value rows.now text.now mode start log
         × HasSeen W.sees watcher.old (lives_of plan.value start log) watcher.new) }
-    ensures refused { IsToldApart plan.value → IfErr result (λ e. e ≢ ReplayError.NoMemory
+    ensures refused { IfErr result (λ e. e ≢ ReplayError.NoMemory
         → (mode : StartMode) (start : Start) (log : Log) → IsTrace plan.value rows.now text.now mode start log → ⊥) }
 {
-    if !are_names_apart(&plan.enumerations) {
-        return Err(ReplayError::Form);
-    }
     let started = match start(alloc, plan, text) {
         Ok(started) => started,
         Err(_) => return Err(ReplayError::NoMemory),
@@ -70,8 +67,7 @@ pub fn replay_watched<W: Watcher>(
 /// Runs a trace again, line by line, over the first of these rows, and tells what it found.
 ///
 /// V2 where a row is not the plant's next one, or not later than the one before; V3 where an execution was not waiting;
-/// V4 where it ends in another way; V1 where the text is no trace of the plan for another cause, or where an enumerated
-/// type of the plan has a name twice; V5 out of memory.
+/// V4 where it ends in another way; V1 where the text is no trace of the plan for another cause; V5 out of memory.
 pub fn replay_text(
     alloc: Global,
     plan: Arc<Plan>,
@@ -82,14 +78,13 @@ pub fn replay_text(
         × IsTrace plan.value rows.now text.now mode start log
         × AreFindings plan.value start log r.rows r.done r.faults r.overruns r.values.items) }
     // The text is the trace of no other life: what is told is told of each life whose trace it is.
-    ensures only { IsToldApart plan.value → IfOk result (λ r. (mode : StartMode) (start : Start)
+    ensures only { IfOk result (λ r. (mode : StartMode) (start : Start)
         (log : Log) → IsTrace plan.value rows.now text.now mode start log
         → AreFindings plan.value start log r.rows r.done r.faults r.overruns r.values.items) }
-    ensures refused { IsToldApart plan.value → IfErr result (λ e. e ≢ ReplayError.NoMemory
+    ensures refused { IfErr result (λ e. e ≢ ReplayError.NoMemory
         → (mode : StartMode) (start : Start) (log : Log) → IsTrace plan.value rows.now text.now mode start log → ⊥) }
     // Each life whose trace the text is comes out of it, unless memory is wanted.
-    ensures accepts { IsToldApart plan.value
-        → Accepts plan.value rows.now text.now (λ e. e ≡ ReplayError.NoMemory) result }
+    ensures accepts { Accepts plan.value rows.now text.now (λ e. e ≡ ReplayError.NoMemory) result }
 {
     replay_watched(alloc, plan, rows, text, &mut Nobody)
 }
@@ -114,14 +109,14 @@ pub fn replay<R: Read + Drop>(
     ensures told { IfOk result (λ r. IfSome (R.remaining reader) (λ text. (mode : StartMode) × (start : Start)
         × (log : Log) × IsTrace plan.value rows.now text mode start log
         × AreFindings plan.value start log r.rows r.done r.faults r.overruns r.values.items)) }
-    ensures only { IsToldApart plan.value → IfOk result (λ r. IfSome (R.remaining reader) (λ text.
+    ensures only { IfOk result (λ r. IfSome (R.remaining reader) (λ text.
         (mode : StartMode) (start : Start) (log : Log) → IsTrace plan.value rows.now text mode start log
         → AreFindings plan.value start log r.rows r.done r.faults r.overruns r.values.items)) }
-    ensures refused { IsToldApart plan.value → IfErr result (λ e. e ≢ ReplayError.NoMemory
+    ensures refused { IfErr result (λ e. e ≢ ReplayError.NoMemory
         → e ≢ ReplayError.Device → IfSome (R.remaining reader) (λ text. (mode : StartMode) (start : Start) (log : Log)
         → IsTrace plan.value rows.now text mode start log → ⊥)) }
     // Each life whose trace was read comes out of it, unless memory is wanted or the reader fails.
-    ensures accepts { IsToldApart plan.value → IfSome (R.remaining reader) (λ text. Accepts plan.value rows.now text
+    ensures accepts { IfSome (R.remaining reader) (λ text. Accepts plan.value rows.now text
         (λ e. (e ≡ ReplayError.NoMemory) ⊎ (e ≡ ReplayError.Device)) result) }
 {
     let mut reader = reader;

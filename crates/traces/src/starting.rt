@@ -1,11 +1,10 @@
 //! A core that is started as a trace tells.
 
-ghost use Rattle.std.specs.Prelude.{◌≡◌, IfOk, None, map, option_map, true};
+ghost use Rattle.std.specs.Prelude.{◌≡◌, IfOk, None, map, option_map};
 ghost use Rattle.std.specs.Vec.{vec_items};
 ghost use Rattle.std.specs.List.{All};
 ghost use Rattle.st_words.specs.Values.{IsHeld};
 ghost use Rattle.trace_lines.specs.Reads.{Begins};
-ghost use Rattle.trace_lines.specs.NamedValues.{are_names_apart};
 ghost use Rattle.trace_lines.specs.Heads.{AreKept, IsEarly, kept_lines};
 ghost use Rattle.traces.specs.Starts.{IsBegunAt, IsBegunSo, head_of, kept_of};
 
@@ -87,7 +86,6 @@ fn told_values<'a>(
     plan: &Plan,
     text: &'a [u8],
 ) -> Result<Option<(Vec<Value>, &'a [u8])>, AllocError>
-    requires { are_names_apart (map vec_items plan.now.enumerations.items) ≡ true }
     ensures { IfOk result (λ told. Begins (AreKept plan.now.variables.items)
         (kept_lines (map vec_items plan.now.enumerations.items) plan.now.variables.items) text.now
         (option_map (λ p. (p.0.items, p.1.now)) told)) }
@@ -103,7 +101,6 @@ fn warm(
     text: &[u8],
 ) -> Result<Option<(SerialCore, &[u8])>, AllocError>
     requires early { IsEarly moment }
-    requires apart { are_names_apart (map vec_items plan.value.enumerations.items) ≡ true }
     ensures { IfOk result (λ told. Begins (IsBegunAt plan.value StartMode.Warm moment) kept_of text.now
         (option_map (λ p. (p.0, p.1.now)) told)) }
 {
@@ -126,7 +123,6 @@ fn begun(
     text: &[u8],
 ) -> Result<Option<(SerialCore, &[u8])>, AllocError>
     requires early { IsEarly moment }
-    requires apart { are_names_apart (map vec_items plan.value.enumerations.items) ≡ true }
     ensures { IfOk result (λ told. Begins (IsBegunAt plan.value mode moment) kept_of text.now
         (option_map (λ p. (p.0, p.1.now)) told)) }
 {
@@ -142,7 +138,6 @@ pub(crate) fn start(
     plan: Arc<Plan>,
     text: &[u8],
 ) -> Result<Option<(StartMode, SerialCore, &[u8])>, AllocError>
-    requires { are_names_apart (map vec_items plan.value.enumerations.items) ≡ true }
     ensures { IfOk result (λ told. Begins (IsBegunSo plan.value) head_of text.now
         (option_map (λ p. ((p.0, p.1), p.2.now)) told)) }
 {

@@ -4,7 +4,7 @@ use Rattle.log_replay.proofs.FirstLemmas.{no_entry}
 use Rattle.log_replay.proofs.entries.replay_entry.Goals as goal
 
 pub returns-in-Err-clause-refused : goal.returns-in-Err-clause-refused
-returns-in-Err-clause-refused c = λ apart other more left. c.in-Err.ensures.refused other more
+returns-in-Err-clause-refused c = λ other more left. c.in-Err.ensures.refused other more
     (subst (λ (t : List ℕ). IsRest c.args.core.now c.args.rows.now t more) c.in-Some.ensures.0 left)
 
 pub returns-in-Ok-replay_done-clause-goes : goal.returns-in-Ok-replay_done-clause-goes
@@ -14,8 +14,8 @@ returns-in-Ok-replay_done-clause-goes c =
     (sym c.in-Some-behind.ensures.0) (c.in-Ok-replay_done.ensures.grows c.args.rows.now left rows_are)
 
 pub returns-in-Err-replay_done-clause-refused : goal.returns-in-Err-replay_done-clause-refused
-returns-in-Err-replay_done-clause-refused c = λ apart other more left.
-    c.in-Err-replay_done.ensures.refused apart other c.args.rows.now more
+returns-in-Err-replay_done-clause-refused c = λ other more left.
+    c.in-Err-replay_done.ensures.refused other c.args.rows.now more
     (subst (λ (t : List ℕ). IsRest c.args.core.now c.args.rows.now t more) c.in-Some-behind.ensures.0 left)
 
 pub returns-in-None-behind-clause-goes : goal.returns-in-None-behind-clause-goes

@@ -44,14 +44,14 @@ returns-then-is_end-clause-watched g c =
     c.lines.invariant.seen (told _ c.seen.result (sym c.is_err.ensures.value ∙ c.if-is_err.false) c.seen.ensures))
 
 pub returns-else-is_end-clause-refused : goal.returns-else-is_end-clause-refused
-returns-else-is_end-clause-refused g c = λ apart other.
+returns-else-is_end-clause-refused g c = λ other.
     let goes = (rw c.in-Ok-None.field-0-is at c.in-Ok-None.ensures).goes in
-    far_no_end c.args.core.now c.lines.core c.args.rows.now c.args.text.now c.lines.rest.now apart c.lines.invariant.far
+    far_no_end c.args.core.now c.lines.core c.args.rows.now c.args.text.now c.lines.rest.now c.lines.invariant.far
     goes.1 (λ is. let yes : c.is_end.result ≡ true = c.is_end.ensures.end.1
     (is ∙ ap (λ (s : State). end_line (length s.log)) (sym goes.0)) in
     let bad : false ≡ true = sym c.if-is_end.false ∙ yes in absurd (cc))
 
 pub returns-in-Err-clause-refused : goal.returns-in-Err-clause-refused
-returns-in-Err-clause-refused g c = λ apart other.
-    far_refused c.args.core.now c.lines.core c.args.rows.now c.args.text.now c.lines.rest.now apart c.lines.invariant.far
-    (λ near. c.in-Err.ensures.refused near other)
+returns-in-Err-clause-refused g c = λ other.
+    far_refused c.args.core.now c.lines.core c.args.rows.now c.args.text.now c.lines.rest.now c.lines.invariant.far
+    (c.in-Err.ensures.refused other)

@@ -1,16 +1,10 @@
-use Rattle.std.proofs.Common.{List, ◌≡◌, rules, subst, sym}
+use Rattle.std.proofs.Common.{List, ◌≡◌, rules, subst}
 use Rattle.config.specs.declared.plan.Plan.{Plan}
 use Rattle.st_plans.specs.Rows.{Latch}
 use Rattle.image.specs.Plants.{AreRowsOf}
-use Rattle.traces.specs.Replays.{IsToldApart}
 use Rattle.plant_program.specs.Jobs.{IsNoTrace, IsTraceFault}
 use Rattle.plant_program.proofs.ReplayLemmas.{mapped_fault}
 use Rattle.plant_program.proofs.replaying.replay_plan.Goals as goal
-
-pub run_again-requires : goal.run_again-requires
-run_again-requires g c =
-    let plan_is : c.in-Ok-new.plan.value ≡ c.args.plan = search rules in
-    record { apart = subst (λ (p : Plan). IsToldApart p) (sym plan_is) c.requires.apart }
 
 pub returns-in-Ok-new-clause-refused : goal.returns-in-Ok-new-clause-refused
 returns-in-Ok-new-clause-refused g c =

@@ -2,13 +2,8 @@ use Rattle.std.proofs.Common.{List, inr}
 use Rattle.st_plans.specs.Rows.{Latch}
 use Rattle.image.specs.Plants.{AreRowsOf}
 use Rattle.plant_program.specs.Jobs.{IsNoTrace, IsPlanFor, IsReplay, IsReplayOf, IsTraceFault, RefusesTrace}
-use Rattle.plant_program.proofs.ReplayLemmas.{apart_of, mapped, mapped_fault}
+use Rattle.plant_program.proofs.ReplayLemmas.{mapped, mapped_fault}
 use Rattle.plant_program.proofs.replaying.replay_trace.Goals as goal
-
-pub replay_plan-requires-clause-apart : goal.replay_plan-requires-clause-apart
-replay_plan-requires-clause-apart g c = λ lifetimes within.
-    let planned = c.in-Ok-plan_of.ensures.plan in
-    apart_of planned.0 c.in-Ok.budget c.in-Ok-plan_of.plan planned.1
 
 pub returns-in-Ok-plan_of-clause-report : goal.returns-in-Ok-plan_of-clause-report
 returns-in-Ok-plan_of-clause-report g c =

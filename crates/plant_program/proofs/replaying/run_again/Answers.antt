@@ -1,7 +1,6 @@
 use Rattle.std.proofs.Common.{◌≡◌, rules, subst, sym, map}
 use Rattle.std.specs.Vec.{vec_items}
 use Rattle.config.specs.declared.plan.Plan.{Plan}
-use Rattle.traces.specs.Replays.{IsToldApart}
 use Rattle.plant_program.specs.Jobs.{IsNoTrace, IsToldBy}
 use Rattle.source_run.specs.Lives.{counts_of}
 use Rattle.source_run.specs.Reports.{report_text}
@@ -13,8 +12,6 @@ returns-in-Ok-replay_text-clause-report c =
     let shared = c.in-Ok.shared.value in
     let plan_is : shared ≡ c.args.plan.now.value = search rules in
     let here_is : c.deref.result.now ≡ c.args.plan.now.value = search rules in
-    let apart : IsToldApart shared =
-    subst (λ (p : Plan). IsToldApart p) (sym plan_is) c.requires.apart in
     let r = c.in-Ok-replay_text.found in
     let (mode, start, log, is, found) = c.in-Ok-replay_text.ensures.told in
     mapped (λ text. text.items ≡ report_text (counts_of r) (map vec_items c.deref.result.now.enumerations.items)
@@ -26,13 +23,11 @@ returns-in-Ok-replay_text-clause-report c =
     p.variables.items r.values.items) (sym plan_is)
     (subst (λ (p : Plan). text.items ≡ report_text (counts_of r) (map vec_items p.enumerations.items)
     p.variables.items r.values.items) here_is spelled))
-    mode start log is found (c.in-Ok-replay_text.ensures.only apart))) c.report_of.ensures.told
+    mode start log is found c.in-Ok-replay_text.ensures.only)) c.report_of.ensures.told
 
 pub returns-in-Err-clause-refused : goal.returns-in-Err-clause-refused
 returns-in-Err-clause-refused c = λ is.
     let shared = c.in-Ok.shared.value in
     let plan_is : shared ≡ c.args.plan.now.value = search rules in
-    let apart : IsToldApart shared =
-    subst (λ (p : Plan). IsToldApart p) (sym plan_is) c.requires.apart in
     subst (λ (p : Plan). IsNoTrace p c.args.rows.now c.args.trace.now) plan_is
-    (c.in-Err.ensures.refused apart (no_memory c.in-Err.error is))
+    (c.in-Err.ensures.refused (no_memory c.in-Err.error is))

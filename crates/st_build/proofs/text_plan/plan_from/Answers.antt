@@ -1,19 +1,15 @@
-use Rattle.std.proofs.Common.{rules, ◌≡◌, ◌∙◌, ◌<◌, ◌≤◌, ap, sym, subst, refl, arith, map, length, Some, None}
+use Rattle.std.proofs.Common.{rules, ◌≡◌, ◌∙◌, ◌<◌, ◌≤◌, ap, ap₂, sym, subst, refl, arith, map, length, Some, None}
 use Rattle.std.specs.Vec.{vec_items}
 use Rattle.st_words.specs.declared.limits.TheConstants.{MAX_RECORD_BODY}
 use Rattle.st_trees.specs.Configurations.{Configuration}
 use Rattle.st_trees.specs.ConfigurationViews.{configuration_view, resource_view}
 use Rattle.st_trees.specs.declared.source.Source as code
 use Rattle.st_trees.specs.SourceViews.{source_view}
-use Rattle.st_types.specs.Slots.{IsLayout}
 use Rattle.coded_programs.specs.Codes.{code_view}
 use Rattle.config.specs.PlanViews.{plan_view, program_view}
-use Rattle.config.specs.SlotPlaces.{slots_among}
 use Rattle.config.specs.Sound.{PlanInvariant}
-use Rattle.config.specs.Sources.{program_numbered}
-use Rattle.text_codes.specs.Codes.{ReadsAsAsked}
 use Rattle.st_layouts.specs.LayoutVariables.{configurations_in, configuration_of, only_configuration}
-use Rattle.st_plans.specs.Layouts.{record_length}
+use Rattle.st_plans.specs.Layouts.{layout_text, record_length}
 use Rattle.layout.specs.TextLayouts.{variables_among, inputs_among}
 use Rattle.config.specs.NumberedSlots.{numbered_from}
 use Rattle.st_build.specs.Programs.{instance_view, instances_from}
@@ -21,9 +17,7 @@ use Rattle.st_build.specs.Places.{places_from}
 use Rattle.st_build.specs.Tasks.{tasks_from}
 use Rattle.layout.specs.TypeNames.{names_in_text}
 use Rattle.st_build.proofs.ListLemmas.{length_map}
-use Rattle.st_build.proofs.PlanLemmas.{configuration_there, few_variables, long_record, IsFrom, own_slots}
-use Rattle.st_build.proofs.PlanLemmas.{reading_plan, slots_once}
-use Rattle.st_build.proofs.PlanLemmas.{sound_plan, text_plan}
+use Rattle.st_build.proofs.PlanLemmas.{configuration_there, few_variables, long_record, sound_plan, text_plan}
 use Rattle.st_build.proofs.text_plan.plan_from.Goals as goal
 
 -- src/text_plan.rt:45:9
@@ -41,28 +35,32 @@ record_length-requires c =
     let (text, ready) = c.requires.ready in
     let there : only_configuration (configurations_in (source_view c.args.tree))
     ≡ Some (configuration_view c.in-Some.configuration.now) = search rules in
-    let vs : c.deref-2.result.now ≡ variables_among c.args.layout.slots = search rules in
+    let vs : c.deref.result.now ≡ variables_among c.args.layout.slots = search rules in
     record {
       few = few_variables text (source_view c.args.tree) c.args.layout.slots
           (map code_view c.args.codes.items) c.args.budget ready (configuration_view c.in-Some.configuration.now) there
-          c.deref-2.result.now vs;
+          c.deref.result.now vs;
     }
 
 -- src/text_plan.rt:51:9
-pub returns-then-branch-gt-MAX_RECORD_BODY-clause-refused :
-    goal.returns-then-branch-gt-MAX_RECORD_BODY-clause-refused
-returns-then-branch-gt-MAX_RECORD_BODY-clause-refused c = λ text ready.
+pub returns-then-record_length-gt-MAX_RECORD_BODY-clause-refused :
+    goal.returns-then-record_length-gt-MAX_RECORD_BODY-clause-refused
+returns-then-record_length-gt-MAX_RECORD_BODY-clause-refused c = λ text ready.
     let tree = source_view c.args.tree in
     let slots = c.args.layout.slots in
     let types = map vec_items c.in_ok-enumerations.enumerations.items in
-    let vs = c.in_ok-variables.variables.items in
+    let vs = c.deref.result.now in
     let there : only_configuration (configurations_in tree) ≡ Some (configuration_view c.in-Some.configuration.now) =
     search rules in
     let types_are : types ≡ names_in_text tree = search rules in
     let variables_are : vs ≡ variables_among slots = search rules in
-    let long : MAX_RECORD_BODY < record_length types vs = search rules in
+    let told : c.text.result.now ≡ c.args.layout.text = search rules in
+    let measured : c.record_length.result ≡ record_length types vs =
+    c.record_length.ensures types
+    (told ∙ c.requires.layout_text ∙ ap₂ layout_text (sym types_are) (sym variables_are)) in
+    let long : MAX_RECORD_BODY < c.record_length.result = search rules in
     long_record text tree slots (map code_view c.args.codes.items) c.args.budget ready
-    (configuration_view c.in-Some.configuration.now) there types vs (record_length types vs) types_are variables_are refl
+    (configuration_view c.in-Some.configuration.now) there types vs c.record_length.result types_are variables_are measured
     long
 
 -- src/text_plan.rt:58:5
@@ -88,7 +86,15 @@ invariant_of-result c =
     counted ∙ sym (length_map resource_view c.in-Some.configuration.now.resources.items) in
     let tasks_are : tasks ≡ tasks_from vs is 0 conf.resources = search rules in
     let programs_are : map instance_view made ≡ instances_from 0 (places_from 0 0 conf.resources) codes = search rules in
-    let short : record_length types vs ≤ MAX_RECORD_BODY = search rules in
+    let told : c.text.result.now ≡ c.args.layout.text = search rules in
+    let listed : c.deref.result.now ≡ vs = search rules in
+    let spelled : layout_text (names_in_text tree) (variables_among slots) ≡ layout_text types vs =
+    ap₂ layout_text (sym types_are) (sym variables_are) in
+    let measured : c.record_length.result ≡ record_length types vs =
+    c.record_length.ensures types
+    (told ∙ c.requires.layout_text ∙ spelled ∙ ap (layout_text types) (sym listed)) ∙ ap (record_length types) listed in
+    let under : c.record_length.result ≤ MAX_RECORD_BODY = search rules in
+    let short : record_length types vs ≤ MAX_RECORD_BODY = subst (λ n. n ≤ MAX_RECORD_BODY) measured under in
     let numbers : c.in_ok-slots.slots.items ≡ numbered_from 0 0 slots = search rules in
     let shared : c.in_ok-new.field-0.value ≡ c.args.tree = search rules in
     record {
@@ -104,6 +110,12 @@ invariant_of-result c =
             programs_are = programs_are;
             short = short;
           }) c.in_ok-slots.slots.items numbers);
+      laid_out = record {
+        variables_are = variables_are;
+        inputs_are = inputs_are;
+        places_are = numbers;
+        text = c.requires.layout_text ∙ spelled;
+      };
     }
 
 -- src/text_plan.rt:28:1
@@ -128,7 +140,15 @@ returns-clause-plan c = λ text ready.
     counted ∙ sym (length_map resource_view c.in-Some.configuration.now.resources.items) in
     let tasks_are : tasks ≡ tasks_from vs is 0 conf.resources = search rules in
     let programs_are : map instance_view made ≡ instances_from 0 (places_from 0 0 conf.resources) codes = search rules in
-    let short : record_length types vs ≤ MAX_RECORD_BODY = search rules in
+    let told : c.text.result.now ≡ c.args.layout.text = search rules in
+    let listed : c.deref.result.now ≡ vs = search rules in
+    let spelled : layout_text (names_in_text tree) (variables_among slots) ≡ layout_text types vs =
+    ap₂ layout_text (sym types_are) (sym variables_are) in
+    let measured : c.record_length.result ≡ record_length types vs =
+    c.record_length.ensures types
+    (told ∙ c.requires.layout_text ∙ spelled ∙ ap (layout_text types) (sym listed)) ∙ ap (record_length types) listed in
+    let under : c.record_length.result ≤ MAX_RECORD_BODY = search rules in
+    let short : record_length types vs ≤ MAX_RECORD_BODY = subst (λ n. n ≤ MAX_RECORD_BODY) measured under in
     let shared : c.in_ok-new.field-0.value ≡ c.args.tree = search rules in
     text_plan text tree slots codes c.args.budget ready conf there types vs is many tasks made
     (record {
@@ -141,49 +161,3 @@ returns-clause-plan c = λ text ready.
       short = short;
     }) _ refl refl refl refl refl
     (ap (λ (t : code.Source). map (program_view (source_view t)) made) shared) refl
-
-pub returns-clause-reads : goal.returns-clause-reads
-returns-clause-reads c =
-    let (text, ready) = c.requires.ready in
-    let tree = source_view c.args.tree in
-    let slots = c.args.layout.slots in
-    let codes = map code_view c.args.codes.items in
-    let conf = configuration_view c.in-Some.configuration.now in
-    let types = map vec_items c.in_ok-enumerations.enumerations.items in
-    let vs = c.in_ok-variables.variables.items in
-    let is = c.in_ok-inputs.inputs.items in
-    let many = c.len-resources.result in
-    let tasks = c.in_ok-tasks.field-0.tasks.items in
-    let made = c.in_ok-programs.programs.items in
-    let there : only_configuration (configurations_in tree) ≡ Some conf = search rules in
-    let types_are : types ≡ names_in_text tree = search rules in
-    let variables_are : vs ≡ variables_among slots = search rules in
-    let inputs_are : is ≡ inputs_among slots = search rules in
-    let counted : many ≡ length c.in-Some.configuration.now.resources.items = search rules in
-    let resources_are : many ≡ length conf.resources =
-    counted ∙ sym (length_map resource_view c.in-Some.configuration.now.resources.items) in
-    let tasks_are : tasks ≡ tasks_from vs is 0 conf.resources = search rules in
-    let programs_are : map instance_view made ≡ instances_from 0 (places_from 0 0 conf.resources) codes = search rules in
-    let short : record_length types vs ≤ MAX_RECORD_BODY = search rules in
-    let numbers : c.in_ok-slots.slots.items ≡ numbered_from 0 0 slots = search rules in
-    let shared : c.in_ok-new.field-0.value ≡ c.args.tree = search rules in
-    let from : IsFrom text tree slots codes c.args.budget ready conf there types vs is many tasks made = record {
-      types_are = types_are;
-      variables_are = variables_are;
-      inputs_are = inputs_are;
-      resources_are = resources_are;
-      tasks_are = tasks_are;
-      programs_are = programs_are;
-      short = short;
-    } in
-    record {
-      distinct = own_slots text tree slots codes c.args.budget ready conf there types vs is many tasks made from IsLayout
-          (slots_once text tree slots codes c.args.budget ready) c.in_ok-slots.slots.items numbers;
-      codes = λ k p there_p.
-          subst (λ (t : code.Source). ReadsAsAsked (slots_among c.in_ok-slots.slots.items vs is)
-          (code_view p.code.value) (program_numbered (source_view t) p.number)) (sym shared)
-          (own_slots text tree slots codes c.args.budget ready conf there types vs is many tasks made from
-          (λ ls. ReadsAsAsked ls (code_view p.code.value) (program_numbered tree p.number))
-          (reading_plan text tree slots codes c.args.budget ready conf there types vs is many tasks made from k p there_p)
-          c.in_ok-slots.slots.items numbers);
-    }

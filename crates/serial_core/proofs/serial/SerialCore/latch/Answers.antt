@@ -1,4 +1,4 @@
-use Rattle.std.proofs.Common.{◌≡◌, ◌<◌, ◌∙◌, ◌∷◌, [], List, true, ap, sym, subst, arith, length, length-append, map}
+use Rattle.std.proofs.Common.{◌≡◌, ◌<◌, ◌∙◌, ◌∷◌, [], List, false, true, ap, sym, subst, arith, length, length-append, map}
 use Rattle.st_plans.specs.declared.entry.Entry.{Entry}
 use Rattle.st_plans.specs.declared.entry.Entry.TheVariants.{Row}
 use Rattle.st_plans.specs.Plans.{fits}
@@ -43,6 +43,19 @@ invariant_of-self c =
       omega arith,
       omega arith,
       omega arith,
+    )
+
+pub returns-then-not-is_later : goal.returns-then-not-is_later
+returns-then-not-is_later c =
+    let k = c.self.invariant.0 in
+    subst (λ (st : State). (length st.log < st.room) × (fits (plan_view st.plan) c.args.row ≡ true)
+    × (comes_later st c.args.row ≡ false) × (st ≡ c.args.self.now)) c.self.view_is (
+      omega (arith, c.self.inside.log.ok.0),
+      ap (λ p. fits (plan_view p) c.args.row) (sym c.deref-plan.ensures) ∙ sym c.fits.ensures ∙ c.if-not-fits.false,
+      ap (λ o. is_later o c.args.row.moment) (sym k.of_past.last_is)
+          ∙ ap (is_later c.self.inside.last) (sym c.moment-moment.ensures) ∙ sym c.is_later.ensures
+          ∙ c.if-not-is_later.true,
+      c.self.view_is,
     )
 
 pub returns : goal.returns

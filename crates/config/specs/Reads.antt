@@ -3,11 +3,11 @@ use Rattle.std.specs.Prelude.{◌≡◌, ℕ, List, Some, slice_get}
 use Rattle.st_trees.specs.SourceViews.{source_view}
 use Rattle.st_types.specs.Slots.{IsLayout, Slot}
 use Rattle.coded_programs.specs.Codes.{code_view}
+use Rattle.coded_programs.specs.Reads.{ReadsAsAsked}
 use Rattle.config.specs.declared.plan.Plan.{Plan}
 use Rattle.config.specs.declared.task.ProgramInstance.{ProgramInstance}
 use Rattle.config.specs.SlotPlaces.{slots_among}
 use Rattle.config.specs.Sources.{program_numbered}
-use Rattle.text_codes.specs.Codes.{ReadsAsAsked}
 
 -- its variables and inputs in the order of the text
 abbrev pub slots_of_plan : Plan → List Slot

@@ -1,5 +1,0 @@
-use Rattle.std.proofs.Common.{length}
-use Rattle.trace_lines.proofs.apart.+are_different.Given as goal
-
-abbrev pub decreases-are_different : goal.decreases-are_different
-decreases-are_different l = length l.names.now
