@@ -43,9 +43,10 @@ fn shown_slot(out: &mut Answer, alloc: Global, path: &Path, slot: &SlotFacts) ->
 
 fn shown_slots(out: &mut Answer, alloc: Global, layout: &Layout) -> Option<()> {
     let mut between = "";
-    for (number, facts) in (0..).zip(layout.facts()) {
+    for number in 0..layout.len() {
         out.put(between);
-        shown_slot(out, alloc, layout.path(number)?, facts)?;
+        let path = layout.path(number as u16)?;
+        shown_slot(out, alloc, path, layout.facts().get(number)?)?;
         between = ", ";
     }
     Some(())

@@ -1,11 +1,12 @@
 -- What a run has to do with its rows in each phase.
-use Rattle.std.proofs.Common.{◌≡◌, ◌∙◌, ◌≤◌, ℕ, refl, ap, arith, length, List, [], ◌∷◌, Option, Some, None}
+use Rattle.std.proofs.Common.{◌≡◌, ◌∙◌, ◌≤◌, ℕ, refl, ap, arith, length, List, [], ◌∷◌, Option, Some, None, inl, inr}
 use Rattle.std.specs.Prelude.{Result, Ok, Err, IfErr}
 use Rattle.retain_store.specs.declared.fault.StoreFault.{StoreFault}
 use Rattle.serial_core.specs.declared.refusal.Refusal.{Refusal as SerialRefusal}
 use Rattle.serial_core.specs.declared.refusal.Refusal.TheVariants.{Full, NotWaiting, Foreign, NotLater, NoMemory}
 use Rattle.serial_core.specs.Steps.{State, Latches}
 use Rattle.commit_lock.specs.Cores.{CoreView, Guards}
+use Rattle.commit_lock.specs.Flushing.{Flushes}
 use Rattle.commit_lock.specs.declared.refusal.Refusal.TheVariants.{StoreFailed, Serial}
 use Rattle.st_plans.specs.Rows.{Latch}
 use Rattle.commit_lock.specs.declared.refusal.Refusal.{Refusal}
@@ -129,3 +130,49 @@ module _ {D : Type 0} where
   latch_stopped now old new rest None h stays was = stopped_stays now old new stays was
   latch_stopped now old new [] (Some refusal) h stays was = absurd h
   latch_stopped now old new (row ∷ rest) (Some refusal) h stays was = refused_row old new row refusal h
+
+  -- ---- a flush
+
+  -- what a flush leaves as it was, and that no acknowledgement is taken back
+  pub record Keeps (old new : CoreView D) : Type 0 where
+    pub state_stays : new.state ≡ old.state
+    pub mode_stays : new.mode ≡ old.mode
+    pub acked_grows : old.acked ≤ new.acked
+    pub failed_stays : (cause : StoreFault) → old.failed ≡ Some cause → new.failed ≡ Some cause
+
+  pub flush_keeps : (old : CoreView D) (r : Result ℕ Refusal) (new : CoreView D) → Flushes old r new
+      → old.acked ≤ length old.state.log → Keeps old new
+  flush_keeps old (Ok n) new h few = record {
+    state_stays = h.2;
+    mode_stays = h.7;
+    acked_grows = omega (arith, few, h.1, h.3);
+    failed_stays = λ cause is. absurd (let e = h.0 in cc);
+  }
+  flush_keeps old (Err (StoreFailed cause)) new (inl h) few = record {
+    state_stays = ap (λ (c : CoreView D). c.state) h.1;
+    mode_stays = ap (λ (c : CoreView D). c.mode) h.1;
+    acked_grows = omega (arith, ap (λ (c : CoreView D). c.acked) h.1);
+    failed_stays = λ first is. ap (λ (c : CoreView D). c.failed) h.1 ∙ is;
+  }
+  flush_keeps old (Err (StoreFailed cause)) new (inr h) few = record {
+    state_stays = h.2;
+    mode_stays = h.5;
+    acked_grows = omega (arith, h.3);
+    failed_stays = λ first is. absurd (let e = h.0 in cc);
+  }
+  flush_keeps old (Err (Serial refusal)) new h few = absurd h
+
+  -- what a refused flush tells is so of the core
+  pub flush_so : (old : CoreView D) (r : Result ℕ Refusal) (new : CoreView D) → Flushes old r new
+      → IfErr r (λ refusal. IsSo (Refused refusal) new)
+  flush_so old (Ok n) new h = tt
+  flush_so old (Err (StoreFailed cause)) new (inl h) = ap (λ (c : CoreView D). c.failed) h.1 ∙ h.0
+  flush_so old (Err (StoreFailed cause)) new (inr h) = h.4
+  flush_so old (Err (Serial refusal)) new h = absurd h
+
+  pub keeps_so : (old new : CoreView D) → Keeps old new → StaysSo old new
+  keeps_so old new k = record {
+    failed = k.failed_stays;
+    room = ap (λ (s : State). s.room) k.state_stays;
+    longer = omega (arith, ap (λ (s : State). length s.log) k.state_stays);
+  }

@@ -1,5 +1,5 @@
 -- No enumerated type of a text has a name twice.
-use Rattle.std.proofs.Common.{◌≡◌, ◌∙◌, refl, sym, ap, ap₂, Bool, true, false, ◌&&◌, ◌||◌, not, if◌then◌else◌, List, []}
+use Rattle.std.proofs.Common.{◌≡◌, ◌∙◌, refl, sym, ap, ap₂, Bool, true, false, ◌||◌, not, if◌then◌else◌, List, []}
 use Rattle.std.proofs.Common.{◌∷◌, ◌++◌, map}
 use Rattle.std.specs.Prelude.{filter}
 use Rattle.std.specs.List.{flat_map, list_all}
@@ -7,7 +7,7 @@ use Rattle.st_words.specs.declared.identifier.Identifier.{Identifier}
 use Rattle.st_trees.specs.Declarations.{TypeDeclaration, TypeDefinition, array, structure, enumeration}
 use Rattle.st_trees.specs.Sources as sources
 use Rattle.st_trees.specs.Sources.{Source}
-use Rattle.st_types.specs.NameTypes.{is_named, types_in}
+use Rattle.st_types.specs.NameTypes.{is_named}
 use Rattle.st_types.specs.Scopes.{Name, contains_name}
 use Rattle.st_statics.specs.NameScopes.{scopes_of_element, scopes_of_type}
 use Rattle.st_statics.specs.Places.{places_where, repeats}
@@ -16,7 +16,7 @@ use Rattle.st_sound.proofs.WellTypedTexts.{parts_right}
 use Rattle.st_layouts.specs.TextLayouts.{enumerations_of_text}
 use Rattle.text_paths.proofs.ResolvedNames.{names_taken}
 use Rattle.config.specs.Sound.{are_different}
-use Rattle.layout.specs.TypeNames.{names_of_type, names_of_types, names_of_element, names_in_text}
+use Rattle.layout.specs.TypeNames.{names_of_type, names_of_types, names_in_text}
 use Rattle.st_build.proofs.EnumerationLemmas.{names_are}
 use Rattle.st_build.proofs.ListLemmas.{both_are, all_append}
 

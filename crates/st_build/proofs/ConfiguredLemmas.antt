@@ -1,9 +1,8 @@
 -- What a sound configuration gives: its resources, their programs and tasks.
-use Rattle.std.proofs.Common.{◌≡◌, refl, sym, ap, ◌∙◌, subst, Bool, true, false, ◌&&◌, ◌||◌, List, [], ◌∷◌, map, length}
-use Rattle.std.proofs.Common.{Option, Some, option_map}
+use Rattle.std.proofs.Common.{◌≡◌, refl, sym, ap, ◌∙◌, subst, Bool, true, false, ◌||◌, List, [], ◌∷◌, map, length}
+use Rattle.std.proofs.Common.{Some, option_map}
 use Rattle.std.specs.Prelude.{nat_lt, is_some}
 use Rattle.std.specs.List.{flat_map, list_all, list_any}
-use Rattle.st_words.specs.declared.path.Owner.{Owner}
 use Rattle.st_words.specs.declared.limits.TheConstants.{MAX_PROGRAMS, MAX_RESOURCES, MAX_TASKS}
 use Rattle.st_trees.specs.declared.configuration.Instance.{Instance}
 use Rattle.st_trees.specs.declared.configuration.Task as declared_task

@@ -1,6 +1,5 @@
 -- Names of enumerated types.
 use Rattle.std.proofs.Common.{◌≡◌, ◌+◌, ℕ, refl, sym, ap, ◌∙◌, List, [], ◌∷◌, ◌++◌, map, append_assoc, Some, None}
-use Rattle.std.specs.List.{flat_map}
 use Rattle.st_trees.specs.Declarations.{TypeDeclaration, TypeDefinition, array, structure, enumeration}
 use Rattle.st_trees.specs.Sources as sources
 use Rattle.st_trees.specs.Sources.{Source}

@@ -1,23 +1,21 @@
 -- A text that has a plan is given it.
-use Rattle.std.proofs.Common.{◌≡◌, ◌∙◌, ◌<◌, ◌≤◌, ◌⊎◌, ℕ, refl, sym, ap, subst, arith, Bool, true, false, ◌||◌, List, [], ◌∷◌}
+use Rattle.std.proofs.Common.{◌≡◌, ◌∙◌, ℕ, sym, ap, subst, arith, Bool, true, false, ◌||◌, List, [], ◌∷◌}
 use Rattle.std.proofs.Common.{length, Result, Ok, Err, IfOk, IfErr}
 use Rattle.std.specs.Prelude.{◌==◌, nat_lt}
 use Rattle.std.specs.List.{Contains}
 use Rattle.std.proofs.lemmas.Bool.Decides.{nat_tests}
-use Rattle.st_words.specs.declared.limits.TheConstants.{MAX_PATHS, MAX_RECORD_BODY}
+use Rattle.st_words.specs.declared.limits.TheConstants.{MAX_PATHS}
 use Rattle.st_trees.specs.Configurations.{Configuration}
 use Rattle.st_trees.specs.Sources.{Source}
 use Rattle.st_types.specs.NameTypes.{declared_in}
-use Rattle.st_statics.specs.ConfigurationRules.{are_known, configurations_in, has_one_configuration, has_sound_addresses}
+use Rattle.st_statics.specs.ConfigurationRules.{are_known, configurations_in, has_sound_addresses}
 use Rattle.st_statics.specs.ConfigurationRules.{has_too_many, have_tasks}
-use Rattle.st_decl.specs.declared.judging.CheckError.{CheckError}
 use Rattle.st_decl.specs.declared.judging.CheckError.TheVariants as checking
 use Rattle.st_configured.specs.declared.configuration_error.ConfigurationError.{ConfigurationError}
 use Rattle.st_configured.specs.declared.configuration_error.ConfigurationError.TheVariants as configurations
 use Rattle.st_configured.specs.Configured.{BreaksRule, IsConfigured, IsMisconfigured}
 use Rattle.st_plans.specs.Plans as plans
 use Rattle.st_layouts.specs.TextLayouts.{instances_of_text, slots_of_text}
-use Rattle.layout.specs.declared.layout_error.LayoutError.{LayoutError}
 use Rattle.layout.specs.declared.layout_error.LayoutError.TheVariants as layouts
 use Rattle.layout.specs.declared.limits.TheConstants.{MAX_INSTANCES}
 use Rattle.code_drafts.specs.declared.compile_error.CompileError.TheVariants as coding
@@ -40,7 +38,7 @@ same_one c d h = ap (head_or c) h
 
 -- its configuration is sound
 broken_none : (source : Source) (c : Configuration) (e : ConfigurationError) → IsConfigured source
-    → configurations_in source ≡ c ∷ [] → BreaksRule source c e → IsWant (errors.Configuration e)
+    → configurations_in source ≡ c ∷ [] → BreaksRule source c e → IsWant source (errors.Configuration e)
 broken_none source c configurations.NotOne of one h =
     let f = subst (λ cs. (length cs == 1) ≡ false) one h in absurd (cc)
 broken_none source c configurations.Unknown of one h =
@@ -58,7 +56,7 @@ broken_none source c configurations.WithoutTask of one h =
 broken_none source c configurations.OutOfMemory of one h = h
 
 misconfigured : (source : Source) (e : ConfigurationError) → IsConfigured source → IsMisconfigured source e
-    → IsWant (errors.Configuration e)
+    → IsWant source (errors.Configuration e)
 misconfigured source configurations.NotOne of h =
     let f = subst (λ cs. (length cs == 1) ≡ false) of.one h in absurd (cc)
 misconfigured source configurations.Unknown of h = broken_none source h.0 configurations.Unknown of h.1 h.2
@@ -72,7 +70,7 @@ not_large a b h k e = let f : (a || b) ≡ false = ap (λ x. x || b) h ∙ k in 
 
 -- so it is refused only where something is wanting
 refused : (source : Source) (budget : ℕ) (plan : plans.Plan) (e : BuildError) → IsPlanOf source budget plan
-    → SourceLacksPlan source e → IsWant e
+    → SourceLacksPlan source e → IsWant source e
 refused source budget plan errors.Budget of h = absurd h.1
 refused source budget plan (errors.Words x) of h = absurd h.1
 refused source budget plan (errors.Grammar x) of h = absurd h.1
@@ -89,14 +87,14 @@ refused source budget plan (errors.Layout layouts.TooLarge) of h =
     (nat_lt MAX_INSTANCES (instances_of_text source)) a b h.1)
 refused source budget plan (errors.Layout layouts.OutOfMemory) of h = h.1
 refused source budget plan (errors.Code coding.NotLinked) of h = absurd h.1
-refused source budget plan (errors.Code coding.TooManyPlaces) of h = tt
-refused source budget plan (errors.Code coding.TooManyInstructions) of h = tt
+refused source budget plan (errors.Code coding.TooManyPlaces) of h = h.1
+refused source budget plan (errors.Code coding.TooManyInstructions) of h = h.1
 refused source budget plan (errors.Code coding.OutOfMemory) of h = tt
 refused source budget plan errors.RecordTooLong of h = let a = of.record_is in let b = h.1 in absurd (omega arith)
 refused source budget plan errors.Memory of h = h
 
 pub plan_given : (source : Source) (budget : ℕ) (plan : plans.Plan) (r : Result Plan BuildError)
     → IsPlanOf source budget plan → IfOk r (λ found. IsPlanOf source budget (plan_view found))
-    → IfErr r (λ e. SourceLacksPlan source e) → GivesPlan r plan
+    → IfErr r (λ e. SourceLacksPlan source e) → GivesPlan source r plan
 plan_given source budget plan (Ok found) of given lacks = given.is ∙ sym of.is
 plan_given source budget plan (Err e) of given lacks = refused source budget plan e of lacks

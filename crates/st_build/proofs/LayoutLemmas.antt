@@ -1,8 +1,7 @@
 -- Variables one behind another, and the inputs behind them, are a layout where the slots in their order are one.
-use Rattle.std.proofs.Common.{◌≡◌, ◌+◌, ◌<◌, ℕ, zero, suc, refl, sym, ap, ◌∙◌, subst, arith, Bool, true, false, not, ◌⊎◌}
-use Rattle.std.proofs.Common.{inl, inr, if◌then◌else◌, List, [], ◌∷◌, ◌++◌, map, length, slice_get, Option, Some, None}
+use Rattle.std.proofs.Common.{◌≡◌, ℕ, zero, suc, refl, sym, ap, ◌∙◌, arith, Bool, true, false}
+use Rattle.std.proofs.Common.{if◌then◌else◌, List, [], ◌∷◌, ◌++◌, map, slice_get, Option, Some, None}
 use Rattle.std.proofs.Common.{option_map}
-use Rattle.std.specs.Prelude.{filter}
 use Rattle.st_words.specs.Paths.{Path, same_path}
 use Rattle.st_words.specs.Comparisons.{same_path_is, same_path_itself}
 use Rattle.st_types.specs.Slots.{Slot, slot_of, IsLayout}

@@ -1,5 +1,5 @@
 -- Lists.
-use Rattle.std.proofs.Common.{◌≡◌, ◌+◌, ℕ, zero, suc, refl, sym, ap, ◌∙◌, subst, arith, Bool, true, false, ◌&&◌, ◌||◌}
+use Rattle.std.proofs.Common.{◌≡◌, ◌+◌, ℕ, zero, suc, refl, sym, ap, ◌∙◌, arith, Bool, true, false, ◌&&◌, ◌||◌}
 use Rattle.std.proofs.Common.{if◌then◌else◌, List, [], ◌∷◌, ◌++◌, map, length, slice_get, Option, Some, None, option_map}
 use Rattle.std.specs.Prelude.{nat_lt, position}
 use Rattle.std.specs.List.{list_all, list_any, position_or_len}

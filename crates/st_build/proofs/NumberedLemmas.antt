@@ -1,11 +1,8 @@
 -- Slots by the numbers of their variables and inputs.
-use Rattle.std.proofs.Common.{◌≡◌, ◌+◌, ℕ, zero, suc, refl, sym, ap, ap₂, ◌∙◌, subst, arith, Bool, true, false, not, ◌&&◌}
+use Rattle.std.proofs.Common.{◌≡◌, ◌+◌, ℕ, suc, refl, ap, ap₂, ◌∙◌, subst, arith, Bool, true, false, ◌&&◌}
 use Rattle.std.proofs.Common.{if◌then◌else◌, List, [], ◌∷◌, map, length}
-use Rattle.std.specs.Prelude.{◌==◌, filter}
+use Rattle.std.specs.Prelude.{◌==◌}
 use Rattle.std.proofs.lemmas.Bool.Decides.{nat_tests}
-use Rattle.st_types.specs.Slots.{Slot}
-use Rattle.st_plans.specs.declared.plan.PlanInput.{PlanInput}
-use Rattle.st_plans.specs.declared.plan.PlanVariable.{PlanVariable}
 use Rattle.st_plans.specs.Layouts.{variable_slot, input_slot}
 use Rattle.layout.specs.Indexed.{facts_of}
 use Rattle.layout.specs.declared.slots.LayoutSlot.{LayoutSlot}
@@ -13,7 +10,7 @@ use Rattle.layout.specs.declared.slots.SlotFacts.{SlotFacts}
 use Rattle.layout.specs.TextLayouts.{slot_view, variable_of, input_of, variables_among, inputs_among}
 use Rattle.config.specs.declared.slots.SlotPlace.{SlotPlace}
 use Rattle.config.specs.declared.slots.SlotPlace.TheVariants.{Input, Variable}
-use Rattle.config.specs.SlotPlaces.{are_numbered, merged, slots_among}
+use Rattle.config.specs.SlotPlaces.{are_numbered, slots_among}
 use Rattle.config.specs.NumberedSlots.{numbered_from}
 
 same_number : (n : ℕ) → (n == n) ≡ true

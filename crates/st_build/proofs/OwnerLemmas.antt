@@ -1,13 +1,13 @@
 -- Instances are told apart by their names.
-use Rattle.std.proofs.Common.{◌≡◌, ◌⊎◌, inl, inr, ◌+◌, ℕ, zero, suc, refl, sym, ap, ap₂, ◌∙◌, subst, arith, Bool, true, false}
-use Rattle.std.proofs.Common.{◌&&◌, ◌||◌, not, if◌then◌else◌, List, [], ◌∷◌, ◌++◌, map, length, slice_get, Option, Some, None}
+use Rattle.std.proofs.Common.{◌≡◌, ◌⊎◌, inl, inr, ◌+◌, ℕ, zero, suc, refl, sym, ap, ap₂, ◌∙◌, subst, Bool, true, false}
+use Rattle.std.proofs.Common.{◌&&◌, ◌||◌, not, List, [], ◌∷◌, ◌++◌, map, length, slice_get, Some}
 use Rattle.std.proofs.Common.{option_map, append_assoc}
 use Rattle.std.specs.Prelude.{codes, bytes_eq}
-use Rattle.std.specs.List.{flat_map, list_all, list_any}
+use Rattle.std.specs.List.{list_all}
 use Rattle.st_words.specs.declared.path.Owner.{Owner}
 use Rattle.st_words.specs.UpperNames.{is_letter_or_digit, is_upper_name}
 use Rattle.st_trees.specs.declared.configuration.Instance.{Instance}
-use Rattle.st_trees.specs.Configurations.{Configuration, GlobalBlock, Resource}
+use Rattle.st_trees.specs.Configurations.{Configuration, Resource}
 use Rattle.st_trees.specs.Sources as sources
 use Rattle.st_trees.specs.Sources.{Source}
 use Rattle.st_types.specs.Runs.{Program}
@@ -17,7 +17,7 @@ use Rattle.st_sound.proofs.WellTypedTexts.{parts_right}
 use Rattle.st_layouts.specs.LayoutVariables.{configurations_in, only_configuration, owner_in, variables_of_globals}
 use Rattle.st_layouts.specs.Libraries.{programs_of_text}
 use Rattle.st_layouts.specs.Names.{are_different, has_different_instances, is_configuration_different}
-use Rattle.st_layouts.proofs.ListLemmas.{get_split, name_itself, same_name}
+use Rattle.st_layouts.proofs.ListLemmas.{get_split, name_itself}
 use Rattle.st_sound.proofs.DifferentNames.{scopes_differ}
 use Rattle.st_plans.specs.Plans as plans
 use Rattle.text_paths.specs.PlainDeclarations.{is_plain, is_plain_configuration, is_plain_element, is_plain_globals}
@@ -26,7 +26,7 @@ use Rattle.text_paths.proofs.OnePath.{word_bytes}
 use Rattle.config.specs.Owners.{name_of, AreToldApart}
 use Rattle.st_build.specs.declared.places.Place.{Place}
 use Rattle.st_build.specs.Places.{places_from}
-use Rattle.st_build.specs.TextPlans.{instances_at, instance_at, resources_of, IsPlanOf}
+use Rattle.st_build.specs.TextPlans.{instances_at, resources_of, IsPlanOf}
 use Rattle.st_build.proofs.ConfiguredLemmas.{only, owners_of_text, resources}
 use Rattle.st_build.proofs.ListLemmas.{some_is, both, both_are, all_append, all_get, get_map, mapped}
 use Rattle.st_build.proofs.PlaceLemmas.{owners_in, owners_on}

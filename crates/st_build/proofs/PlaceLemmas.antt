@@ -1,9 +1,9 @@
 -- Where the instances of known programs run.
-use Rattle.std.proofs.Common.{◌≡◌, ◌+◌, ◌<◌, ℕ, zero, suc, refl, sym, ap, ap₂, ◌∙◌, subst, arith, Bool, true, false, ◌&&◌}
-use Rattle.std.proofs.Common.{if◌then◌else◌, List, [], ◌∷◌, ◌++◌, map, length, slice_get, Option, Some, None, option_map}
+use Rattle.std.proofs.Common.{◌≡◌, ◌+◌, ℕ, suc, refl, sym, ap, ap₂, ◌∙◌, subst, arith, Bool, true, false}
+use Rattle.std.proofs.Common.{List, [], ◌∷◌, ◌++◌, map, length, slice_get, Option, Some, None, option_map}
 use Rattle.std.proofs.Common.{append_assoc}
-use Rattle.std.specs.Prelude.{◌==◌, is_some, position}
-use Rattle.std.specs.List.{flat_map, list_all, list_any}
+use Rattle.std.specs.Prelude.{◌==◌, is_some}
+use Rattle.std.specs.List.{flat_map, list_all}
 use Rattle.std.specs.Option.{unwrap_or}
 use Rattle.std.proofs.lemmas.Bool.Decides.{nat_tests}
 use Rattle.st_words.specs.declared.identifier.Identifier.{Identifier}
@@ -24,15 +24,14 @@ use Rattle.st_plans.specs.declared.plan.PlanInput.{PlanInput}
 use Rattle.st_plans.specs.declared.plan.PlanVariable.{PlanVariable}
 use Rattle.st_layouts.specs.LayoutVariables.{owner_in, declared_of}
 use Rattle.st_layouts.specs.Libraries.{program_by_sort, program_if_there, programs_of_instances, programs_of_resources}
-use Rattle.st_sound.specs.WellTypedRuns.{program_given}
 use Rattle.st_sound.proofs.TakenBodies.{unit_taken}
 use Rattle.config.specs.declared.task.Task.{Task}
 use Rattle.config.specs.Sound.{is_of_resource}
 use Rattle.st_build.specs.declared.places.Place.{Place}
 use Rattle.st_build.specs.Places.{task_number, place_of, places_from}
 use Rattle.st_build.specs.Tasks.{task_at, tasks_from}
-use Rattle.st_build.proofs.ListLemmas.{some_is, both, both_are, all_append, map_append, map_map, length_map, length_both}
-use Rattle.st_build.proofs.ListLemmas.{get_map, get_left, get_right, First, first_there}
+use Rattle.st_build.proofs.ListLemmas.{both, both_are, all_append, map_append, map_map, length_map, length_both}
+use Rattle.st_build.proofs.ListLemmas.{get_map, get_left, get_right, first_there}
 
 -- ---- each instance has a program
 

@@ -1,50 +1,45 @@
 -- The plan that is made of a text is its plan, and a sound one.
 use Rattle.std.proofs.Common.{◌≡◌, ◌+◌, ◌<◌, ◌≤◌, ℕ, zero, suc, refl, sym, ap, ap₂, ◌∙◌, subst, arith, Bool, true, false}
-use Rattle.std.proofs.Common.{◌&&◌, ◌||◌, not, if◌then◌else◌, List, [], ◌∷◌, ◌++◌, map, length, slice_get, Option, Some, None}
+use Rattle.std.proofs.Common.{List, [], ◌∷◌, map, length, slice_get, Option, Some, None}
 use Rattle.std.proofs.Common.{option_map, slice_index_or}
-use Rattle.std.specs.Prelude.{nat_lt, nat_le, is_some, filter}
-use Rattle.std.specs.List.{flat_map, list_all, list_any}
+use Rattle.std.specs.Prelude.{nat_lt}
+use Rattle.std.specs.List.{flat_map, list_all}
 use Rattle.std.proofs.lemmas.Bool.Decides.{nat_tests}
 use Rattle.st_words.specs.declared.identifier.Identifier.{Identifier}
 use Rattle.st_words.specs.declared.path.Owner.{Owner}
-use Rattle.st_words.specs.declared.limits.TheConstants.{MAX_PATHS, MAX_PROGRAMS, MAX_RECORD_BODY, MAX_RESOURCES, MAX_TASKS}
-use Rattle.st_trees.specs.declared.configuration.Instance.{Instance}
+use Rattle.st_words.specs.declared.limits.TheConstants.{MAX_PATHS, MAX_PROGRAMS, MAX_RECORD_BODY, MAX_RESOURCES}
 use Rattle.st_trees.specs.declared.configuration.Task as declared_task
-use Rattle.st_trees.specs.Configurations.{Configuration, GlobalBlock, Resource}
-use Rattle.st_trees.specs.Sources as sources
+use Rattle.st_trees.specs.Configurations.{Configuration, Resource}
 use Rattle.st_trees.specs.Sources.{Source}
 use Rattle.st_types.specs.NameTypes.{Declared, declared_in, types_in}
-use Rattle.st_types.specs.ResolvedUnits.{resolved_source}
 use Rattle.st_types.specs.Runs.{Program}
 use Rattle.st_types.specs.Slots.{IsLayout}
-use Rattle.st_statics.specs.ConfigurationRules as rules_of
-use Rattle.st_statics.specs.ConfigurationRules.{are_known, has_known_externals, is_known_instance, is_known_resource}
-use Rattle.st_statics.specs.ConfigurationRules.{is_known_single, is_known_task, is_program_unit}
+use Rattle.st_statics.specs.ConfigurationRules.{is_known_instance, is_known_resource}
+use Rattle.st_statics.specs.ConfigurationRules.{is_known_single}
 use Rattle.st_sound.proofs.WellTypedTexts.{parts_right}
 use Rattle.st_plans.specs.declared.plan.PlanInput.{PlanInput}
 use Rattle.st_plans.specs.declared.plan.PlanVariable.{PlanVariable}
 use Rattle.st_plans.specs.Layouts.{Enumerations, layout_of, path_text, record_length}
 use Rattle.st_plans.specs.Plans as plans
-use Rattle.st_layouts.specs.LayoutVariables.{configurations_in, configuration_of, only_configuration}
-use Rattle.st_layouts.specs.Libraries.{programs_of_configuration, programs_of_text, programs_of_resources}
+use Rattle.st_layouts.specs.LayoutVariables.{configurations_in, only_configuration}
+use Rattle.st_layouts.specs.Libraries.{programs_of_text}
 use Rattle.st_layouts.specs.TextLayouts.{enumeration_names, enumerations_of_text, plan_inputs_of_text, plan_variables_of_text}
 use Rattle.st_layouts.specs.TextLayouts.{slots_of_text}
-use Rattle.st_layouts.proofs.ResolvedLemmas.{configuration_taken, taken_configuration}
+use Rattle.st_layouts.proofs.ResolvedLemmas.{taken_configuration}
 use Rattle.st_sound.proofs.DifferentNames.{text_layout}
 use Rattle.layout.specs.declared.slots.LayoutSlot.{LayoutSlot}
-use Rattle.layout.specs.TextLayouts.{IsLayoutOf, slot_view, variables_among, inputs_among}
+use Rattle.layout.specs.TextLayouts.{slot_view, variables_among, inputs_among}
 use Rattle.coded_programs.specs.Codes.{CodeView, code_view}
 use Rattle.coded_programs.specs.Meanings.{Means}
 use Rattle.coded_programs.specs.Reads.{ReadsAsAsked}
-use Rattle.text_codes.specs.Codes.{AreCodesOf, IsMeant}
 use Rattle.config.specs.declared.slots.SlotPlace.{SlotPlace}
 use Rattle.config.specs.declared.task.ProgramInstance.{ProgramInstance}
 use Rattle.config.specs.declared.task.Task.{Task}
 use Rattle.config.specs.Owners.{AreToldApart}
 use Rattle.config.specs.PlanViews.{task_view, program_view}
-use Rattle.config.specs.SlotPlaces.{are_numbered, slots_among}
-use Rattle.config.specs.Sound.{has_line, are_different, is_of_resource, is_sound_trigger, IsCodeOf, IsWithinLimits}
-use Rattle.config.specs.Sound.{PlanInvariant, tasks_of}
+use Rattle.config.specs.SlotPlaces.{slots_among}
+use Rattle.config.specs.Sound.{has_line, are_different, is_of_resource, IsCodeOf}
+use Rattle.config.specs.Sound.{PlanInvariant}
 use Rattle.config.specs.Sources.{no_program, program_numbered, programs_of_tree}
 use Rattle.st_build.specs.declared.places.Place.{Place}
 use Rattle.config.specs.NumberedSlots.{numbered_from}
@@ -53,13 +48,13 @@ use Rattle.st_build.specs.Programs.{CodedInstance, instance_view, instances_from
 use Rattle.st_build.specs.Readiness.{IsJudged, IsReady}
 use Rattle.st_build.specs.Tasks.{tasks_from}
 use Rattle.layout.specs.TypeNames.{names_in_text}
-use Rattle.st_build.specs.TextPlans.{instance_at, instances_at, plan_of_text, resources_in, resources_of, task_of}
+use Rattle.st_build.specs.TextPlans.{instance_at, instances_at, resources_in, resources_of, task_of}
 use Rattle.st_build.specs.TextPlans.{IsPlanOf}
 use Rattle.st_build.proofs.ApartNames.{names_apart}
 use Rattle.st_build.proofs.ConfiguredLemmas.{configured, few, instances, known, only, owners_of_text, resources, tasked, tasks_known}
 use Rattle.st_build.proofs.EnumerationLemmas.{names_are}
 use Rattle.st_build.proofs.LayoutLemmas.{in_one_part, parts_are_layout}
-use Rattle.st_build.proofs.ListLemmas.{some_is, both, both_are, all_append, all_get, get_map, mapped, length_map}
+use Rattle.st_build.proofs.ListLemmas.{some_is, both, all_get, get_map, mapped, length_map}
 use Rattle.st_build.proofs.NumberedLemmas.{numbered, slots_are}
 use Rattle.st_build.proofs.OwnerLemmas.{told_apart}
 use Rattle.st_build.proofs.PlaceLemmas.{owners_in, owners_of_places, places_counted, places_run, runs_in}

@@ -23,6 +23,7 @@ use Rattle.text_links.specs.Accepted.{IsAccepted}
 use Rattle.st_build.specs.declared.build_error.BuildError.{BuildError}
 use Rattle.st_build.specs.declared.build_error.BuildError.TheVariants as errors
 use Rattle.st_build.specs.Readiness.{IsJudged, IsReady}
+use Rattle.text_codes.specs.Rooms.{LacksRoom}
 use Rattle.st_build.specs.Refusals.{LacksPlan, SourceLacksPlan}
 use Rattle.st_build.proofs.ConfiguredLemmas.{only}
 
@@ -54,13 +55,14 @@ source_lacks source (errors.Code x) well h = (well, h)
 source_lacks source errors.RecordTooLong well h = (well, h)
 source_lacks source errors.Memory well h = h
 
--- of a code that is not made, only its size or want of memory is told
+-- of a code that is not made, only its size is told, where it has no room, or want of memory
 pub code_lacks : (source : Source) (e : CompileError) → (e ≡ coding.NotLinked → ⊥)
+    → (e ≡ coding.TooManyInstructions → LacksRoom source e) → (e ≡ coding.TooManyPlaces → LacksRoom source e)
     → LacksPlan source (errors.Code e)
-code_lacks source coding.NotLinked h = h refl
-code_lacks source coding.TooManyPlaces h = tt
-code_lacks source coding.TooManyInstructions h = tt
-code_lacks source coding.OutOfMemory h = tt
+code_lacks source coding.NotLinked h long crowded = h refl
+code_lacks source coding.TooManyPlaces h long crowded = crowded refl
+code_lacks source coding.TooManyInstructions h long crowded = long refl
+code_lacks source coding.OutOfMemory h long crowded = tt
 
 -- it is accepted
 pub accepted : (source : Source) → IsJudged source → IsAccepted source

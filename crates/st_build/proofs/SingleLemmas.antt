@@ -1,20 +1,18 @@
 -- SINGLE of a known task is a BOOL of the layout.
-use Rattle.std.proofs.Common.{◌≡◌, ◌+◌, ℕ, suc, refl, sym, ap, ap₂, ◌∙◌, subst, arith, Bool, true, false, ◌&&◌}
-use Rattle.std.proofs.Common.{List, [], ◌∷◌, ◌++◌, map, slice_get, Option, Some, None, option_map}
-use Rattle.std.specs.List.{list_all, list_any}
+use Rattle.std.proofs.Common.{◌≡◌, ◌+◌, ℕ, suc, refl, sym, ap, ◌∙◌, subst, arith, true}
+use Rattle.std.proofs.Common.{List, [], map, slice_get, Option, Some, None}
+use Rattle.std.specs.List.{list_any}
 use Rattle.st_words.specs.declared.identifier.Identifier.{Identifier}
 use Rattle.st_words.specs.declared.kind.Kind.{Kind}
 use Rattle.st_words.specs.declared.kind.Kind.TheVariants.{Bool as Boolean}
-use Rattle.st_words.specs.Kinds.{same_kind}
 use Rattle.st_words.proofs.KindLemmas.{same_kind_is}
-use Rattle.st_trees.specs.declared.configuration.Task as declared_task
 use Rattle.st_trees.specs.declared.data_type.VariableType.{VariableType}
-use Rattle.st_trees.specs.Configurations.{GlobalBlock, GlobalDeclaration, Resource, Configuration}
+use Rattle.st_trees.specs.Configurations.{GlobalBlock, Configuration}
 use Rattle.st_trees.specs.Sources.{Source}
 use Rattle.st_types.specs.NameTypes.{Declared, declared_in, definition_of, is_named, kind_among}
 use Rattle.st_types.specs.Scopes.{Name, unowned}
-use Rattle.st_types.specs.Slots.{Slot, IsLayout}
-use Rattle.st_statics.specs.ConfigurationRules.{is_boolean_global, is_known_single, is_of_kind, is_plant_input}
+use Rattle.st_types.specs.Slots.{Slot}
+use Rattle.st_statics.specs.ConfigurationRules.{is_boolean_global, is_known_single, is_of_kind}
 use Rattle.st_statics.specs.NameScopes.{listed_names}
 use Rattle.st_statics.specs.Rules.{IsWellTyped}
 use Rattle.st_sound.proofs.WellTypedTexts.{parts_right}
@@ -25,7 +23,7 @@ use Rattle.st_layouts.specs.Names.{are_different, are_types_and_units_different,
 use Rattle.st_layouts.specs.Shapes.{plain, position_of}
 use Rattle.st_layouts.specs.Standing.{are_declared_once, variable_at, slot, path_to}
 use Rattle.st_layouts.specs.TextLayouts.{further, slots_of, slots_of_text, variable_shape}
-use Rattle.st_layouts.specs.Types.{Site, composed_shape, defined_composition, of_kind, shape_of_type, shape_within}
+use Rattle.st_layouts.specs.Types.{Site, composed_shape, defined_composition, of_kind, shape_within}
 use Rattle.st_layouts.proofs.ListLemmas.{same_name}
 use Rattle.st_layouts.proofs.NameLemmas.{configuration_once}
 use Rattle.st_layouts.proofs.ResolvedLemmas.{slots_taken}
@@ -34,7 +32,7 @@ use Rattle.st_sound.proofs.DifferentNames.{names_differ, scopes_differ}
 use Rattle.st_sound.proofs.GlobalVariables.{listed_variable, in_declarations, in_globals}
 use Rattle.st_sound.proofs.HomeLemmas.{among_left, found_at}
 use Rattle.st_sound.proofs.ListTests.{any_at}
-use Rattle.st_build.proofs.ListLemmas.{both, some_is}
+use Rattle.st_build.proofs.ListLemmas.{both}
 
 -- a BOOL is one slot
 plain_within : (text : Declared) (n : ℕ) (t : VariableType) (k : Kind) → kind_among text.types t ≡ Some k

@@ -1,8 +1,8 @@
 -- The tasks of resources: how many each has, and whose they are.
-use Rattle.std.proofs.Common.{◌≡◌, ◌+◌, ◌<◌, ◌≤◌, ℕ, zero, suc, refl, sym, ap, ◌∙◌, subst, arith, Bool, true, false, ◌||◌}
-use Rattle.std.proofs.Common.{if◌then◌else◌, List, [], ◌∷◌, ◌++◌, map, length, Option, Some, None}
+use Rattle.std.proofs.Common.{◌≡◌, ◌+◌, ◌<◌, ◌≤◌, ℕ, suc, refl, sym, arith, Bool, true, false, ◌||◌}
+use Rattle.std.proofs.Common.{if◌then◌else◌, List, [], ◌∷◌, ◌++◌, map, length}
 use Rattle.std.specs.Prelude.{◌==◌, nat_lt, nat_le, filter}
-use Rattle.std.specs.List.{flat_map, list_all, list_any}
+use Rattle.std.specs.List.{list_all, list_any}
 use Rattle.std.proofs.lemmas.Bool.Decides.{nat_tests}
 use Rattle.st_words.specs.declared.limits.TheConstants.{MAX_TASKS}
 use Rattle.st_trees.specs.declared.configuration.Task as declared_task
@@ -12,7 +12,7 @@ use Rattle.st_plans.specs.declared.plan.PlanVariable.{PlanVariable}
 use Rattle.config.specs.declared.task.Task.{Task}
 use Rattle.config.specs.Sound.{tasks_of}
 use Rattle.st_build.specs.Tasks.{task_at, tasks_from}
-use Rattle.st_build.proofs.ListLemmas.{both, both_are, all_append}
+use Rattle.st_build.proofs.ListLemmas.{both_are, all_append}
 
 count_both : (q : ℕ) (xs ys : List Task) → tasks_of q (xs ++ ys) ≡ tasks_of q xs + tasks_of q ys
 count_both q [] ys = let e : 0 + tasks_of q ys ≡ tasks_of q ys = omega arith in sym e

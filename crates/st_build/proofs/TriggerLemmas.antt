@@ -1,10 +1,9 @@
 -- What makes tasks due, where SINGLE is known.
-use Rattle.std.proofs.Common.{◌≡◌, ◌+◌, ◌<◌, ℕ, zero, suc, refl, sym, ap, ap₂, ◌∙◌, subst, arith, Bool, true, false, ◌&&◌}
+use Rattle.std.proofs.Common.{◌≡◌, ◌+◌, ◌<◌, ℕ, zero, suc, refl, sym, ap, ap₂, ◌∙◌, arith, Bool, true, false}
 use Rattle.std.proofs.Common.{if◌then◌else◌, List, [], ◌∷◌, ◌++◌, map, length, slice_get, Option, Some, None, option_map}
 use Rattle.std.specs.Prelude.{position}
-use Rattle.std.specs.List.{flat_map, list_all, list_any}
+use Rattle.std.specs.List.{flat_map, list_all}
 use Rattle.st_words.specs.declared.identifier.Identifier.{Identifier}
-use Rattle.st_words.specs.declared.kind.Kind.{Kind}
 use Rattle.st_words.specs.declared.kind.Kind.TheVariants.{Bool as Boolean}
 use Rattle.st_words.specs.Kinds.{same_kind}
 use Rattle.st_words.specs.Paths.{Path, same_path}
@@ -17,16 +16,13 @@ use Rattle.st_plans.specs.declared.plan.PlanVariable.{PlanVariable}
 use Rattle.st_plans.specs.Layouts.{layout_of, variable_slot, input_slot}
 use Rattle.st_plans.specs.Plans as plans
 use Rattle.st_plans.specs.Plans.{single_global, single_input}
-use Rattle.config.specs.declared.task.Task.{Task}
-use Rattle.config.specs.declared.task.Trigger.{Trigger}
-use Rattle.config.specs.declared.task.Trigger.TheVariants.{Absent, Input, Variable}
 use Rattle.config.specs.PlanViews.{single_of as single_view, trigger_view, task_view}
 use Rattle.config.specs.Sound.{is_boolean_input, is_boolean_variable, is_sound_trigger}
 use Rattle.st_build.specs.Tasks.{input_number, variable_number, trigger_by, trigger_at, task_at, tasks_from}
 use Rattle.st_build.specs.TextPlans.{single_named, single_of, task_of}
-use Rattle.st_build.proofs.ListLemmas.{some_is, both, both_are, all_append, map_append, map_map, length_map, get_map}
+use Rattle.st_build.proofs.ListLemmas.{some_is, both_are, all_append, map_append, get_map}
 use Rattle.st_build.proofs.ListLemmas.{get_left, get_right, mapped, position_step}
-use Rattle.st_build.proofs.LayoutLemmas.{Found, found}
+use Rattle.st_build.proofs.LayoutLemmas.{found}
 
 -- ---- positions are slots
 

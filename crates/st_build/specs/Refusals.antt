@@ -18,19 +18,20 @@ use Rattle.st_layouts.specs.TextLayouts.{enumerations_of_text, instances_of_text
 use Rattle.layout.specs.declared.layout_error.LayoutError.TheVariants as layouts
 use Rattle.layout.specs.Growth.{Exceeds}
 use Rattle.code_drafts.specs.declared.compile_error.CompileError.TheVariants as coding
+use Rattle.text_codes.specs.Rooms.{LacksRoom}
 use Rattle.text_paths.specs.Texts.{IsTextOf}
 use Rattle.config.specs.declared.plan.Plan.{Plan}
 use Rattle.config.specs.PlanViews.{plan_view}
 use Rattle.st_build.specs.declared.build_error.BuildError.{BuildError}
 use Rattle.st_build.specs.declared.build_error.BuildError.TheVariants as errors
 
--- Why a well-typed text has no plan: its configuration is not sound, or it is too large. Of code that has no room
--- nothing is said, nor of want of memory; code is made of each such text but for its size.
+-- Why a well-typed text has no plan: its configuration is not sound, it is too large, or the code of its programs has
+-- no room. Of want of memory nothing is said.
 abbrev pub LacksPlan : Source → BuildError → Type 0
 LacksPlan source (errors.Configuration e) = IsMisconfigured source e
 LacksPlan source (errors.Layout e) = Exceeds (length (slots_of_text source)) (instances_of_text source) e
 LacksPlan source (errors.Code coding.NotLinked) = ⊥
-LacksPlan source (errors.Code e) = Unit {0}
+LacksPlan source (errors.Code e) = LacksRoom source e
 LacksPlan source errors.RecordTooLong =
     MAX_RECORD_BODY < record_length (enumerations_of_text source) (plan_variables_of_text source)
 LacksPlan source errors.Memory = Unit {0}
@@ -50,19 +51,20 @@ TextLacksPlan text budget (errors.Grammar e) = (tokens : List Token) × IsSpelle
 TextLacksPlan text budget errors.Memory = Unit {0}
 TextLacksPlan text budget e = (source : Source) × IsTextOf text source × SourceLacksPlan source e
 
--- what may refuse a text that has a plan: want of memory, by whomever it is told, or of room for its code
-abbrev pub IsWant : BuildError → Type 0
-IsWant errors.Memory = Unit {0}
-IsWant (errors.Words lexing.Memory) = Unit {0}
-IsWant (errors.Grammar grammar.Memory) = Unit {0}
-IsWant (errors.Rule checking.OutOfMemory) = Unit {0}
-IsWant (errors.Configuration configurations.OutOfMemory) = Unit {0}
-IsWant (errors.Layout layouts.OutOfMemory) = Unit {0}
-IsWant (errors.Code coding.NotLinked) = ⊥
-IsWant (errors.Code e) = Unit {0}
-IsWant _ = ⊥
+-- what may refuse a text that has a plan: want of memory, by whomever it is told, or of room for its code where there
+-- is none
+abbrev pub IsWant : Source → BuildError → Type 0
+IsWant source errors.Memory = Unit {0}
+IsWant source (errors.Words lexing.Memory) = Unit {0}
+IsWant source (errors.Grammar grammar.Memory) = Unit {0}
+IsWant source (errors.Rule checking.OutOfMemory) = Unit {0}
+IsWant source (errors.Configuration configurations.OutOfMemory) = Unit {0}
+IsWant source (errors.Layout layouts.OutOfMemory) = Unit {0}
+IsWant source (errors.Code coding.NotLinked) = ⊥
+IsWant source (errors.Code e) = LacksRoom source e
+IsWant source _ = ⊥
 
 -- this plan, unless something is wanting
-abbrev pub GivesPlan : Result Plan BuildError → plans.Plan → Type 0
-GivesPlan (Ok found) plan = plan_view found ≡ plan
-GivesPlan (Err e) plan = IsWant e
+abbrev pub GivesPlan : Source → Result Plan BuildError → plans.Plan → Type 0
+GivesPlan source (Ok found) plan = plan_view found ≡ plan
+GivesPlan source (Err e) plan = IsWant source e

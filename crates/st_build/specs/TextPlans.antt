@@ -1,13 +1,12 @@
 -- The plan of a text.
-use Rattle.std.specs.Prelude.{◌≡◌, ◌≤◌, ◌<◌, ℕ, List, [], ◌∷◌, map, length, Option, Some, None, true}
+use Rattle.std.specs.Prelude.{◌≡◌, ◌≤◌, ℕ, List, [], ◌∷◌, map, length, Option, Some, None}
 use Rattle.std.specs.Option.{unwrap_or}
-use Rattle.std.specs.List.{flat_map, list_all}
+use Rattle.std.specs.List.{flat_map}
 use Rattle.st_words.specs.declared.identifier.Identifier.{Identifier}
 use Rattle.st_words.specs.declared.limits.TheConstants.{MAX_BUDGET, MAX_PATHS, MAX_RECORD_BODY}
 use Rattle.st_trees.specs.declared.configuration.Task as declared_task
 use Rattle.st_trees.specs.Configurations.{Configuration, Resource}
 use Rattle.st_trees.specs.Sources.{Source}
-use Rattle.st_types.specs.ResolvedUnits.{resolved_source}
 use Rattle.st_types.specs.Runs as runs
 use Rattle.st_types.specs.Scopes.{Name, unowned}
 use Rattle.st_statics.specs.Rules.{IsWellTyped}

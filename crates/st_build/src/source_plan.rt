@@ -71,7 +71,7 @@ pub fn build(alloc: Global, text: &[u8], budget: u32) -> Result<Plan, BuildError
         (λ plan. (source : trees.Source) × IsTextOf text.now source × IsPlanOf source budget (plan_view plan)) }
     // A text of which there is such a plan is given it, unless something is wanting.
     ensures only { (source : trees.Source) (plan : plans.Plan) → IsTextOf text.now source → IsPlanOf source budget plan
-        → GivesPlan result plan }
+        → GivesPlan source result plan }
     // A refusal applies.
     ensures refused { IfErr result (λ e. TextLacksPlan text.now budget e) }
 {

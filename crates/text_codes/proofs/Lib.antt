@@ -7,3 +7,4 @@ mod OwnNames
 pub mod TextCodes
 pub mod CodeLemmas
 mod Counts
+pub mod RoomLemmas

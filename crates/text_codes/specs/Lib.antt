@@ -1,3 +1,4 @@
 pub mod ProgramCodes
 pub mod CodedSources
 pub mod Codes
+pub mod Rooms

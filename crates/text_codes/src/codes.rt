@@ -1,6 +1,7 @@
 //! The codes of a text's programs.
 
-ghost use Rattle.std.specs.Prelude.{◌≡◌, ◌≢◌, ◌≤◌, ◌+◌, IfErr, IfOk, length, map};
+ghost use Rattle.std.specs.Prelude.{◌≡◌, ◌≢◌, ◌≤◌, ◌<◌, ◌+◌, ◌*◌, ◌/◌, IfErr, IfOk, false, length, map};
+ghost use Rattle.machine_code.specs.declared.limits.TheConstants.{MAX_INSTRUCTIONS};
 ghost use Rattle.st_words.specs.declared.limits.TheConstants.{MAX_PATHS};
 ghost use Rattle.st_trees.specs.SourceViews.{source_view};
 ghost use Rattle.st_trees.specs.Sources as trees;
@@ -12,13 +13,14 @@ ghost use Rattle.slot_trees.specs.SlotTrees as tree;
 ghost use Rattle.slot_bodies.specs.LibraryViews.{IsKeptOf, slot_library_view};
 ghost use Rattle.slot_bodies.specs.StatementViews.{slot_stmts_view};
 ghost use Rattle.text_links.specs.Accepted.{IsAccepted, IsLinked};
-ghost use Rattle.text_links.specs.CalledFunctions.{is_called};
+ghost use Rattle.text_links.specs.CalledFunctions.{is_called, program_count, value_count};
 ghost use Rattle.text_links.specs.Linked.{linked_text_view};
 ghost use Rattle.coded_programs.specs.Codes.{code_view};
 ghost use Rattle.code_drafts.specs.Linked.{ProgramLinked};
 ghost use Rattle.text_fitting.specs.Compiled.{AreCompiled};
 ghost use Rattle.text_fitting.specs.Spelled.{IsSpelled};
 ghost use Rattle.text_codes.specs.Codes.{AreCodesOf, AreCodesOver, IsCodeOver};
+ghost use Rattle.text_codes.specs.Rooms.{HasOne, IsCrowded, IsLong, LacksRoom};
 
 use crate::look_ups::codes_of_accepted_texts_look_globals_up;
 use crate::meaning::{code_of_texts_fails_as_their_programs, code_of_texts_means_their_programs};
@@ -36,11 +38,13 @@ use st_words::Kind;
 use std::alloc::Global;
 use std::sync::Arc;
 use text_fitting::accepted_texts_are_compiled;
-use text_links::{CalledFunctions, LinkedText, link};
+use text_links::{CalledFunctions, LinkedText, accepted_texts_are_orderly, link};
 
 /// Whether there may be room for the values that calls of these functions begin with: each takes two instructions of a
 /// program.
-fn may_have_room(called: &CalledFunctions<'_>) -> bool {
+fn may_have_room(called: &CalledFunctions<'_>) -> bool
+    ensures { result ≡ false → program_count called.now * (MAX_INSTRUCTIONS / 2) < value_count called.now }
+{
     called.values() <= called.programs().saturating_mul(MAX_INSTRUCTIONS / 2)
 }
 
@@ -55,6 +59,8 @@ fn linked_text(
         → IsLinked text (is_called called.now) (linked_text_view linked)) }
     ensures there { IfErr result (λ e. (text : trees.Source) → source_view source.now ≡ resolved_source text
         → IsAccepted text → length (slots_of_text text) ≤ MAX_PATHS → e ≢ CompileError.NotLinked) }
+    ensures places { IfErr result (λ e. e ≢ CompileError.TooManyPlaces) }
+    ensures instructions { IfErr result (λ e. e ≢ CompileError.TooManyInstructions) }
 {
     match link(alloc, source, called) {
         Ok(linked) => Ok(linked),
@@ -75,6 +81,11 @@ fn code_of(
     ensures there { IfErr result (λ e. e ≡ CompileError.NotLinked
         → ¬ (ProgramLinked (slot_library_view library.now) 0 (length kinds.now.value.items) (slot_stmts_view body.now)
         64)) }
+    ensures long { IfErr result (λ e. e ≡ CompileError.TooManyInstructions
+        → (whole : tree.SlotLibrary) → IsKeptOf (slot_library_view library.now) whole
+        → IsLong whole (length kinds.now.value.items) (slot_stmts_view body.now)) }
+    ensures crowded { IfErr result (λ e. e ≡ CompileError.TooManyPlaces
+        → IsCrowded (slot_library_view library.now) (length kinds.now.value.items) (slot_stmts_view body.now)) }
 {
     let size = kinds.len();
     let compiled = compile(alloc, library, 0, size, body)?;
@@ -95,6 +106,12 @@ fn codes_of_programs(
     ensures there { IfErr result (λ e. e ≡ CompileError.NotLinked
         → ¬ (AreCompiled (slot_library_view library.now) (length kinds.now.value.items)
         (map (λ b. slot_stmts_view b.items) programs.now))) }
+    ensures long { IfErr result (λ e. e ≡ CompileError.TooManyInstructions
+        → (whole : tree.SlotLibrary) → IsKeptOf (slot_library_view library.now) whole
+        → HasOne (IsLong whole (length kinds.now.value.items)) (map (λ b. slot_stmts_view b.items) programs.now)) }
+    ensures crowded { IfErr result (λ e. e ≡ CompileError.TooManyPlaces
+        → HasOne (IsCrowded (slot_library_view library.now) (length kinds.now.value.items))
+        (map (λ b. slot_stmts_view b.items) programs.now)) }
 {
     let mut codes = Vec::new(alloc);
     for body in programs {
@@ -111,8 +128,10 @@ fn codes_of_programs(
 /// same outcome, and leaves the same variables. What its runs read of globals and inputs the program asks for. There are
 /// as many codes as the text has programs.
 ///
-/// M1 where calls of functions take more than 4,096 places in one program, M2 beyond 16,384 instructions, M3 out of
-/// memory. Of an accepted text over its layout, with its literals as the grammar gives them, no other error comes.
+/// M1 where calls of functions take more than 4,096 places in one program. M2 where the code of a program has more than
+/// 16,384 instructions, and already where single calls of all functions that are called begin with more than 8,192
+/// values for each program. M3 out of memory. Of an accepted text over its layout, with its literals as the grammar
+/// gives them, no other error comes.
 pub fn codes_of_text(
     alloc: Global,
     source: &Source,
@@ -125,7 +144,14 @@ pub fn codes_of_text(
         → length codes.items ≡ length (programs_of_text text)) }
     ensures linked { IfErr result (λ e. (text : trees.Source) → source_view source.now ≡ resolved_source text
         → IsAccepted text → IsSpelled text → IsLayoutOf text layout.now.slots → e ≢ CompileError.NotLinked) }
+    ensures instructions { IfErr result (λ e. (text : trees.Source) → source_view source.now ≡ resolved_source text
+        → IsAccepted text → IsLayoutOf text layout.now.slots → e ≡ CompileError.TooManyInstructions
+        → LacksRoom text e) }
+    ensures places { IfErr result (λ e. (text : trees.Source) → source_view source.now ≡ resolved_source text
+        → IsAccepted text → IsLayoutOf text layout.now.slots → e ≡ CompileError.TooManyPlaces
+        → LacksRoom text e) }
 {
+    accepted_texts_are_orderly();
     accepted_texts_are_compiled();
     code_of_accepted_texts_does_what_their_programs_do();
     code_of_texts_means_their_programs();

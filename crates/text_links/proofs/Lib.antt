@@ -17,3 +17,6 @@ pub mod UnitSymbols
 pub mod UnitLinks
 pub mod OwnerLemmas
 pub mod ProgramPlaces
+pub mod ReachingLemmas
+pub mod TypeLemmas
+pub mod ValueLemmas

@@ -1,5 +1,6 @@
 pub mod LinkVariables
 pub mod CalledFunctions
+pub mod Reaching
 pub mod FirstSlots
 pub mod Tables
 pub mod Gathered

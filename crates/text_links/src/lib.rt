@@ -20,4 +20,4 @@ mod whole_texts;
 
 pub use called_functions::CalledFunctions;
 pub use linked_text::LinkedText;
-pub use whole_texts::link;
+pub use whole_texts::{accepted_texts_are_orderly, link};

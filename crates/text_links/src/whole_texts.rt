@@ -75,6 +75,15 @@ fn link_source(
     Ok(LinkedText { library, programs })
 }
 
+/// An accepted text whose layout has room is one of which tables are made.
+pub fn accepted_texts_are_orderly()
+    ensures { (text : trees.Source) → IsAccepted text → length (slots_of_text text) ≤ MAX_PATHS
+        → IsOrderlySource (resolved_source text) }
+{
+    leaves_of_shapes();
+    texts_that_break_no_rule_are_linked();
+}
+
 /// An accepted text linked, from its tree in which each literal has its type.
 ///
 /// What is linked are the functions and the blocks of the text in its order, and the programs of the configuration's

@@ -1,5 +1,4 @@
 use Rattle.std.proofs.Common.{◌≡◌, ◌+◌, ◌≤◌, ◌++◌, drop}
-use Rattle.config.specs.NumberedSlots.{numbered_from}
 use Rattle.st_build.proofs.NumberedLemmas.{numbered_facts}
 use Rattle.st_build.proofs.numbered_slots.numbered_slots.Given as goal
 

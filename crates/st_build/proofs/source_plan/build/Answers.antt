@@ -1,6 +1,7 @@
-use Rattle.std.proofs.Common.{◌≡◌, rules}
+use Rattle.std.proofs.Common.{◌≡◌, subst}
 use Rattle.st_trees.specs.SourceViews.{source_view}
 use Rattle.st_parse.specs.Sources.{IsSource}
+use Rattle.st_build.specs.Refusals.{GivesPlan}
 use Rattle.st_build.specs.TextPlans.{IsPlanOf}
 use Rattle.st_build.proofs.GivenLemmas.{plan_given}
 use Rattle.st_build.proofs.source_plan.build.Goals as goal
@@ -11,5 +12,6 @@ returns-clause-only c = λ source plan text is.
     let parsed : IsSource c.deref.result.now source = rw (c.deref.ensures.value, same) text.parsed in
     let one : source_view c.in_ok-source.source ≡ source = c.in_ok-source.ensures.only source parsed text.within in
     let of : IsPlanOf (source_view c.in_ok-source.source) c.args.budget plan = rw one is in
-    plan_given (source_view c.in_ok-source.source) c.args.budget plan c.plan_of.result of c.plan_of.ensures.plan
-    c.plan_of.ensures.refused
+    subst (λ s. GivesPlan s c.plan_of.result plan) one
+    (plan_given (source_view c.in_ok-source.source) c.args.budget plan c.plan_of.result of c.plan_of.ensures.plan
+    c.plan_of.ensures.refused)

@@ -62,4 +62,6 @@ returns-in_err-codes-clause-refused c =
     → LacksPlan text e)) (sym same)
     (λ text judged resolved.
     let layout = c.in_ok-layout.ensures.ok text resolved judged.well_typed in
-    code_lacks text fault (c.in_err-codes.ensures.linked text resolved (accepted text judged) judged.spelled layout))
+    code_lacks text fault (c.in_err-codes.ensures.linked text resolved (accepted text judged) judged.spelled layout)
+    (c.in_err-codes.ensures.instructions text resolved (accepted text judged) layout)
+    (c.in_err-codes.ensures.places text resolved (accepted text judged) layout))

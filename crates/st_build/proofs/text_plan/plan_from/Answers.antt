@@ -1,14 +1,13 @@
-use Rattle.std.proofs.Common.{rules, ◌≡◌, ◌∙◌, ◌<◌, ◌≤◌, ap, ap₂, sym, subst, refl, arith, map, length, Some, None}
+use Rattle.std.proofs.Common.{rules, ◌≡◌, ◌∙◌, ◌<◌, ◌≤◌, ap, ap₂, sym, subst, refl, map, length, Some, None}
 use Rattle.std.specs.Vec.{vec_items}
 use Rattle.st_words.specs.declared.limits.TheConstants.{MAX_RECORD_BODY}
-use Rattle.st_trees.specs.Configurations.{Configuration}
 use Rattle.st_trees.specs.ConfigurationViews.{configuration_view, resource_view}
 use Rattle.st_trees.specs.declared.source.Source as code
 use Rattle.st_trees.specs.SourceViews.{source_view}
 use Rattle.coded_programs.specs.Codes.{code_view}
-use Rattle.config.specs.PlanViews.{plan_view, program_view}
+use Rattle.config.specs.PlanViews.{program_view}
 use Rattle.config.specs.Sound.{PlanInvariant}
-use Rattle.st_layouts.specs.LayoutVariables.{configurations_in, configuration_of, only_configuration}
+use Rattle.st_layouts.specs.LayoutVariables.{configurations_in, only_configuration}
 use Rattle.st_plans.specs.Layouts.{layout_text, record_length}
 use Rattle.layout.specs.TextLayouts.{variables_among, inputs_among}
 use Rattle.config.specs.NumberedSlots.{numbered_from}

@@ -1,15 +1,19 @@
 use Rattle.std.proofs.Common.{rules, ◌≡◌, [], ◌∷◌, ◌++◌, length, map, take, ap, sym, subst, ◌∙◌, Err}
 use Rattle.std.specs.Prelude.{IfErr}
 use Rattle.std.proofs.lemmas.List.{map-append}
-use Rattle.slot_bodies.specs.LibraryViews.{slot_library_view}
+use Rattle.slot_trees.specs.SlotTrees.{SlotLibrary}
+use Rattle.slot_bodies.specs.LibraryViews.{IsKeptOf, slot_library_view}
 use Rattle.slot_bodies.specs.StatementViews.{slot_stmts_view}
-use Rattle.code_drafts.specs.declared.compile_error.CompileError.TheVariants.{NotLinked}
+use Rattle.code_drafts.specs.declared.compile_error.CompileError.TheVariants.{NotLinked, TooManyInstructions}
+use Rattle.code_drafts.specs.declared.compile_error.CompileError.TheVariants.{TooManyPlaces}
 use Rattle.code_drafts.specs.Linked.{ProgramLinked}
 use Rattle.text_fitting.specs.Compiled.{AreCompiled}
 use Rattle.text_links.proofs.SymbolLemmas.{more_taken}
 use Rattle.coded_programs.specs.Codes.{code_view}
 use Rattle.text_codes.specs.Codes.{AreCodesOver, IsCodeOver}
+use Rattle.text_codes.specs.Rooms.{HasOne, IsCrowded, IsLong}
 use Rattle.text_codes.proofs.CodeLemmas.{compiled_at, one_more}
+use Rattle.text_codes.proofs.RoomLemmas.{at_hand}
 use Rattle.text_codes.proofs.codes.codes_of_programs.Goals as goal
 
 pub loop-body-preserved : goal.loop-body-preserved
@@ -46,3 +50,35 @@ returns-in_err-code-clause-there c =
     (subst (λ b. ProgramLinked library 0 size (slot_stmts_view b) 64) (sym c.deref.ensures.value)
     (compiled_at (λ b. slot_stmts_view b.items) library size i xs x
     (more_taken xs i x c.loop-body-test.true c.body-item.is) compiled)))
+
+pub returns-in_err-code-clause-long : goal.returns-in_err-code-clause-long
+returns-in_err-code-clause-long c =
+    let x = c.body-item.result in
+    let library = slot_library_view c.args.library.now in
+    let size = length c.args.kinds.now.value.items in
+    let same : c.from_residual.result ≡ Err c.in_err-code.field-0.0 = search rules in
+    subst (λ r. IfErr r (λ e. e ≡ TooManyInstructions → (whole : SlotLibrary) → IsKeptOf library whole
+    → HasOne (IsLong whole size) (map (λ b. slot_stmts_view b.items) c.args.programs.now))) (sym same)
+    (λ long whole kept. record {
+      body = slot_stmts_view x.items;
+      among = at_hand (λ b. slot_stmts_view b.items) c.args.programs.now c.loop-body.body-index x
+          (more_taken c.args.programs.now c.loop-body.body-index x c.loop-body-test.true c.body-item.is);
+      holds = subst (λ b. IsLong whole size (slot_stmts_view b)) c.deref.ensures.value
+          (c.in_err-code.ensures.long long whole kept);
+    })
+
+pub returns-in_err-code-clause-crowded : goal.returns-in_err-code-clause-crowded
+returns-in_err-code-clause-crowded c =
+    let x = c.body-item.result in
+    let library = slot_library_view c.args.library.now in
+    let size = length c.args.kinds.now.value.items in
+    let same : c.from_residual.result ≡ Err c.in_err-code.field-0.0 = search rules in
+    subst (λ r. IfErr r (λ e. e ≡ TooManyPlaces
+    → HasOne (IsCrowded library size) (map (λ b. slot_stmts_view b.items) c.args.programs.now))) (sym same)
+    (λ crowded. record {
+      body = slot_stmts_view x.items;
+      among = at_hand (λ b. slot_stmts_view b.items) c.args.programs.now c.loop-body.body-index x
+          (more_taken c.args.programs.now c.loop-body.body-index x c.loop-body-test.true c.body-item.is);
+      holds = subst (λ b. IsCrowded library size (slot_stmts_view b)) c.deref.ensures.value
+          (c.in_err-code.ensures.crowded crowded);
+    })
