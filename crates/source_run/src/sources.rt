@@ -51,5 +51,8 @@ pub fn plan_of<F: Files>(
     ensures refused { IfErr result (λ fault. RefusesSource budget fault) }
 {
     let text = read_source(alloc, files, name)?;
-    build(alloc, &text, budget).map_err(Fault::Build)
+    match build(alloc, &text, budget) {
+        Ok(plan) => Ok(plan),
+        Err(refusal) => Err(Fault::Build(refusal)),
+    }
 }

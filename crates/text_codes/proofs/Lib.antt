@@ -8,3 +8,13 @@ pub mod TextCodes
 pub mod CodeLemmas
 mod Counts
 pub mod RoomLemmas
+mod CallSums
+mod CallLengths
+mod LinkedCalls
+mod TakenCalls
+mod InstanceNames
+mod NumberedUnits
+mod ReachedCalls
+mod ProgramRoots
+mod ValueSums
+pub mod ManyValues

@@ -10,10 +10,17 @@ use Rattle.st_types.specs.Scopes.{Name}
 use Rattle.st_statics.specs.Containment.{is_function}
 use Rattle.text_links.specs.CalledFunctions.{IsCalled, values_called}
 use Rattle.text_links.specs.Orderly.{configuration_in, instances_of}
-use Rattle.text_codes.specs.Rooms.{AreCalled, HasManyValues}
-use Rattle.std.proofs.lemmas.List.{map-append, take-append-drop}
+use Rattle.text_codes.specs.Rooms.{AreCalled}
+use Rattle.std.proofs.lemmas.List.{take-append-drop}
 use Rattle.st_sound.specs.Homes.{IsAmong, here}
 use Rattle.st_sound.proofs.HomeLemmas.{among_left, among_map, among_right}
+
+-- Single calls of all functions that the text's programs call begin with more values than there are for each program.
+pub record HasManyValues (source : Source) : Type 0 where
+  pub called : Name → Bool
+  pub are_called : AreCalled source called
+  pub many : length (instances_of (configuration_in (resolved_source source))) * (MAX_INSTRUCTIONS / 2)
+      < values_called called (resolved_source source)
 
 -- the element at hand is one of the list
 pub at_hand : {A B : Type 0} (f : A → B) (xs : List A) (i : ℕ) (x : A) → take (i + 1) xs ≡ take i xs ++ x ∷ []

@@ -1,5 +1,5 @@
 -- Texts of whose programs there is no code, since it has no room.
-use Rattle.std.specs.Prelude.{◌≡◌, ℕ, ◌+◌, ◌*◌, ◌/◌, ◌<◌, ◌⊎◌, List, length, Bool, Some, true}
+use Rattle.std.specs.Prelude.{◌≡◌, ℕ, ◌+◌, ◌<◌, List, length, Bool, Some, true}
 use Rattle.machine_code.specs.declared.limits.TheConstants.{MAX_INSTRUCTIONS}
 use Rattle.st_trees.specs.Sources.{Source}
 use Rattle.st_types.specs.NameTypes.{declared_in}
@@ -17,9 +17,8 @@ use Rattle.code_drafts.specs.declared.compile_error.CompileError.{CompileError}
 use Rattle.code_drafts.specs.declared.compile_error.CompileError.TheVariants as errors
 use Rattle.st_compile.specs.declared.limits.TheConstants.{FUNCTION_PLACES}
 use Rattle.text_links.specs.Accepted.{IsLinked}
-use Rattle.text_links.specs.CalledFunctions.{IsCalled, values_called}
+use Rattle.text_links.specs.CalledFunctions.{IsCalled}
 use Rattle.text_links.specs.KeptTexts.{KeptText}
-use Rattle.text_links.specs.Orderly.{configuration_in, instances_of}
 
 -- a program's code over so many slots has more instructions than there may be
 abbrev pub IsLong : SlotLibrary → ℕ → SlotStmts → Type 0
@@ -47,13 +46,6 @@ pub record HasLongCode (source : Source) : Type 0 where
   pub is : linked_source source ≡ Some linked
   pub long : HasOne (IsLong linked.library (length (slots_of_text source))) linked.programs
 
--- Single calls of all functions that the text's programs call begin with more values than there are for each program.
-pub record HasManyValues (source : Source) : Type 0 where
-  pub called : Name → Bool
-  pub are_called : AreCalled source called
-  pub many : length (instances_of (configuration_in (resolved_source source))) * (MAX_INSTRUCTIONS / 2)
-      < values_called called (resolved_source source)
-
 -- One of the text's programs, linked with just the functions that are called, wants too many places for their values.
 pub record WantsPlaces (source : Source) : Type 0 where
   pub called : Name → Bool
@@ -64,7 +56,7 @@ pub record WantsPlaces (source : Source) : Type 0 where
 
 -- Why there is no code, where the error says that it has no room; of other errors nothing is said.
 abbrev pub LacksRoom : Source → CompileError → Type 0
-LacksRoom source errors.TooManyInstructions = HasLongCode source ⊎ HasManyValues source
+LacksRoom source errors.TooManyInstructions = HasLongCode source
 LacksRoom source errors.TooManyPlaces = WantsPlaces source
 LacksRoom source errors.OutOfMemory = Unit {0}
 LacksRoom source errors.NotLinked = Unit {0}

@@ -128,10 +128,10 @@ fn codes_of_programs(
 /// same outcome, and leaves the same variables. What its runs read of globals and inputs the program asks for. There are
 /// as many codes as the text has programs.
 ///
-/// M1 where calls of functions take more than 4,096 places in one program. M2 where the code of a program has more than
-/// 16,384 instructions, and already where single calls of all functions that are called begin with more than 8,192
-/// values for each program. M3 out of memory. Of an accepted text over its layout, with its literals as the grammar
-/// gives them, no other error comes.
+/// M1 where calls of functions take more than 4,096 places in one program. M2 where the code of a program has more
+/// than 16,384 instructions; that is known before it is made where single calls of all functions that are called begin
+/// with more than 8,192 values for each program. M3 out of memory. Of an accepted text over its layout, with its
+/// literals as the grammar gives them, no other error comes.
 pub fn codes_of_text(
     alloc: Global,
     source: &Source,

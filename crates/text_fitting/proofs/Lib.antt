@@ -8,7 +8,7 @@ mod Expressions
 mod Statements
 mod Calls
 mod Kept
-mod Shallow
+pub mod Shallow
 mod Signatures
 mod Instances
 mod Units

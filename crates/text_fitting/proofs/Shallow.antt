@@ -46,7 +46,7 @@ use Rattle.st_sound.proofs.WellTypedTexts.{PartsRight, parts_right}
 use Rattle.st_sound.proofs.RunHomes.{no_type_by}
 
 -- none of a list passes
-none_at : {A : Type 0} (p : A → Bool) {a : A} {xs : List A} → Among a xs → list_any p xs ≡ false → p a ≡ false
+pub none_at : {A : Type 0} (p : A → Bool) {a : A} {xs : List A} → Among a xs → list_any p xs ≡ false → p a ≡ false
 none_at p (here {a = a} {rest = rest}) h = (neither (p a) (list_any p rest) h).0
 none_at p (later {b = x} {rest = rest} k) h = none_at p k (neither (p x) (list_any p rest) h).1
 
@@ -90,7 +90,7 @@ first_false : (a b : Bool) → (a || b) ≡ false → a ≡ false
 first_false true b h = absurd (cc)
 first_false false b h = refl
 
-none_there : {A : Type 0} (o : Option A) → is_some o ≡ false → o ≡ None
+pub none_there : {A : Type 0} (o : Option A) → is_some o ≡ false → o ≡ None
 none_there None h = refl
 none_there (Some a) h = absurd (cc)
 
@@ -161,11 +161,11 @@ module _ (source : Source) (h : IsWellTyped source) where
       (subst (λ (y : Name). bytes_eq y u.name.name ≡ true) (same_name x type.declaration.name.name type.named)
       unit.named))
 
-  is_function_there : (f : Name) (g : OrganisationUnit) (r : SimpleType) → unit_named text.units f ≡ Some g
+  pub is_function_there : (f : Name) (g : OrganisationUnit) (r : SimpleType) → unit_named text.units f ≡ Some g
       → g.sort ≡ sorts.Function r → is_function text f ≡ true
   is_function_there f g r is sort = ap is_own_function is ∙ ap is_function_sort sort
 
-  parts_are : (x : Name) (u : OrganisationUnit) → unit_named text.units x ≡ Some u
+  pub parts_are : (x : Name) (u : OrganisationUnit) → unit_named text.units x ≡ Some u
       → parts_named text x ≡ parts_of_unit text u
   parts_are x u is =
       ap (λ (d : Option TypeDefinition). elim d [
@@ -175,7 +175,7 @@ module _ (source : Source) (h : IsWellTyped source) where
       ∙ ap (λ (o : Option OrganisationUnit). elim o [ Some u ↦ parts_of_unit text u | None ↦ parts_of_standard x ]) is
 
   -- a function that is called, and a block of an instance, are parts
-  function_part : (u : OrganisationUnit) (f : Name) → Among f (calls_of u) → is_function text f ≡ true
+  pub function_part : (u : OrganisationUnit) (f : Name) → Among f (calls_of u) → is_function text f ≡ true
       → Among (named f) (parts_of_unit text u)
   function_part u f among is =
       in_back (flat_map parts_of_block u.blocks ++ part_of_result u.sort)
@@ -217,7 +217,7 @@ module _ (source : Source) (h : IsWellTyped source) where
       (front_empty (too_deep_types text ++ too_deep_units text)
       (flat_map (too_deep_array text) (unnamed_arrays_in source)) right.deep)
 
-  own_shallow : (x : Name) (u : OrganisationUnit) → unit_named text.units x ≡ Some u → (s : UnitSort) → u.sort ≡ s
+  pub own_shallow : (x : Name) (u : OrganisationUnit) → unit_named text.units x ≡ Some u → (s : UnitSort) → u.sort ≡ s
       → is_wrong_unit text s u.name.name ≡ is_too_deep text (named u.name.name)
       → has_chain text (MAX_TYPE_DEPTH + 1) (named x) ≡ false
   own_shallow x u is s sort same =
@@ -229,7 +229,7 @@ module _ (source : Source) (h : IsWellTyped source) where
       (sym (same_name x u.name.name found.named))
       (sym same ∙ ap (λ (s : UnitSort). is_wrong_unit text s u.name.name) (sym sort) ∙ wrong)
 
-  unit_not_standard : (x : Name) (o : Option OrganisationUnit) → unit_named text.units x ≡ o → is_some o ≡ true
+  pub unit_not_standard : (x : Name) (o : Option OrganisationUnit) → unit_named text.units x ≡ o → is_some o ≡ true
       → block_of x ≡ None
   unit_not_standard x None is h = absurd (cc)
   unit_not_standard x (Some u) is h =
@@ -257,7 +257,7 @@ module _ (source : Source) (h : IsWellTyped source) where
       (unit_absent x k is (unit_named text.units x) refl)
       ∙ ap (λ (o : Option StandardBlock). if is_some o then elementary ∷ [] else []) is)
 
-  block_shallow : (x : Name) → is_block text x ≡ true → (o : Option StandardBlock) → block_of x ≡ o
+  pub block_shallow : (x : Name) → is_block text x ≡ true → (o : Option StandardBlock) → block_of x ≡ o
       → has_chain text 65 (named x) ≡ false
   block_shallow x is (Some k) e =
       standard_shallow x k

@@ -1,4 +1,4 @@
-use Rattle.std.proofs.Common.{rules, ◌≡◌, length, map, ap, sym, subst, ◌∙◌, Err, inl, inr, false}
+use Rattle.std.proofs.Common.{rules, ◌≡◌, length, map, ap, sym, subst, ◌∙◌, Err, false}
 use Rattle.std.proofs.lemmas.List.{length-map}
 use Rattle.std.proofs.lemmas.Result.{IfErr-weaker}
 use Rattle.std.specs.Prelude.{IfErr}
@@ -20,6 +20,7 @@ use Rattle.text_links.specs.Orderly.{IsOrderlySource}
 use Rattle.coded_programs.specs.Codes.{code_view}
 use Rattle.text_codes.specs.Codes.{AreCodesOver}
 use Rattle.text_codes.specs.Rooms.{HasOne, IsCrowded, IsLong, LacksRoom}
+use Rattle.text_codes.proofs.ManyValues.{many_values_are_long}
 use Rattle.text_codes.proofs.RoomLemmas.{are_called, has_many_values}
 use Rattle.text_codes.proofs.CodeLemmas.{codes_mean, kinds_are, kinds_shown, ok_weaker}
 use Rattle.text_codes.proofs.Counts.{codes_counted, linked_counted}
@@ -110,13 +111,13 @@ returns-clause-instructions c =
     let long : length kinds ≡ length (slots_of_text text) =
     ap length (told ∙ kinds_are slots _ layout.slots) ∙ length-map _ _ in
     let kept = ap (map (λ b. slot_stmts_view b.items)) c.deref.ensures.value ∙ link.part.programs in
-    subst (LacksRoom text) (sym is) (inl (record {
+    subst (LacksRoom text) (sym is) (record {
       linked = link.whole;
       is = link.linked;
       long = subst (λ n. HasOne (IsLong link.whole.library n) link.whole.programs) long
           (subst (HasOne (IsLong link.whole.library (length kinds))) kept
           (no_room is link.whole.library link.part.library));
-    })))
+    }))
     c.codes_of_programs.ensures.long
 
 pub returns-clause-places : goal.returns-clause-places
@@ -168,6 +169,7 @@ returns-then-not-may_have_room-clause-instructions c text seen accepted layout i
     let none : c.may_have_room.result ≡ false = search rules in
     let orderly : IsOrderlySource tree =
     subst IsOrderlySource (sym seen) (c.accepted_texts_are_orderly.ensures text accepted layout.room) in
-    inr (has_many_values text tree (is_called called) (program_count called) (value_count called) seen
+    many_values_are_long text accepted
+    (has_many_values text tree (is_called called) (program_count called) (value_count called) seen
     (are_called text tree (is_called called) seen c.in_ok-called.ensures.only c.in_ok-called.ensures.each)
     (c.in_ok-called.ensures.values orderly) c.in_ok-called.ensures.programs (c.may_have_room.ensures none))
