@@ -3,7 +3,7 @@
 
 Each is accepted, or refused with one fault line and the status of its kind; a place lies inside the text, and a retain file that was
 there stays as it was. Nothing crashes. With `--explain` a view follows that line: of printable characters alone, with the line and the column
-of the place, and a caret under its byte. `plant show` refuses just the retain files that a start refuses so, and leaves them as they are.
+of the place, and a caret under its byte. `plant show` refuses just the retain files that a start refuses, and leaves them as they are.
 
 Of the texts most are of the whole language; none takes more than a second of the processor.
 
@@ -172,8 +172,8 @@ def stores(plant, pick, count):
         shown = plant.run("show", "broken")
         if store.read_bytes() != broken:
             fail(broken[:64], "a look changed the retain file")
-        fault = plant.look(broken[:64], plant.run(*words), 4, "SN")
-        refused = fault[0] if fault and fault[1] == "S" else None
+        fault = plant.look(broken[:64], plant.run(*words), 4, "S")
+        refused = fault[0] if fault else None
         if (shown[2].splitlines(keepends=True) or [None])[0] != refused or (shown[0] == 0) != (refused is None):
             fail(broken[:64], (shown, fault))
         if fault is None:

@@ -80,7 +80,6 @@ STORES = {
     "`head -c 262145 /dev/zero > f`": (bytes(FILE_BYTES + 1), "warm"),
     "262,144 zero bytes, but 0xA5 at 0": (whole(b"\xa5"), "warm"),
     "a record of the generation 18,446,744,073,709,551,615": (record(LAST_GENERATION, b"N INT\n", bytes(2)), "cold"),
-    "`INT` made `DINT` in the text": (record(1, b"N DINT\n", bytes(4)), "warm"),
 }
 
 

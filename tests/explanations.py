@@ -139,9 +139,11 @@ def main():
         if example.title != title:
             fail(f"{code}: it is titled {example.title!r}, and in docs/CODES.md {title!r}")
         try_example(program, example)
-    unknown = program.told("explain", "Z9")
-    if (unknown.returncode, unknown.stdout, unknown.stderr) != (1, "", "error: there is no such code\n"):
-        fail(f"Z9: explain ended with {unknown.returncode}, {unknown.stdout}{unknown.stderr}")
+    # N1 was a code once, and is none again.
+    for code in ("Z9", "N1"):
+        unknown = program.told("explain", code)
+        if (unknown.returncode, unknown.stdout, unknown.stderr) != (1, "", "error: there is no such code\n"):
+            fail(f"{code}: explain ended with {unknown.returncode}, {unknown.stdout}{unknown.stderr}")
     print(f"explanations.py: {len(wanted)} codes and {program.tried} examples as they should be")
 
 

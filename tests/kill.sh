@@ -4,11 +4,13 @@
 # This is a killed process and not a power cut: what it wrote before is still in the system's hands. Power cuts are the simulated
 # disk's, in the crates' tests.
 #
-# usage: tests/kill.sh PLANT [KILLS]     PLANT is the built program; so many kills, half of them at each pace
+# usage: tests/kill.sh PLANT [KILLS]     PLANT is the built program; so many kills in runs, half of them at each pace, and as many in warm
+#                                        starts of another layout
 set -euo pipefail
 
 plant=$(realpath "$1")
-kills=$(((${2:-100} + 1) / 2))
+start_kills=${2:-100}
+kills=$(((start_kills + 1) / 2))
 # After so many seconds the script gives up.
 limit=900
 
@@ -47,6 +49,8 @@ CONFIGURATION Killed
 END_CONFIGURATION
 END
 steps=(FILL HEAT DRAIN)
+# The same with a variable more, before those that are kept.
+sed 's/RETAIN a : DINT;/RETAIN k : INT := 7; a : DINT;/' counters.st > more.st
 echo t > none.csv
 
 fail() {
@@ -94,9 +98,9 @@ check() {
     known=$a
 }
 
-# Restarts warm without a row, and checks what is there.
+# look TEXT STORE: restarts warm without a row, and checks what is there
 look() {
-    "$plant" run counters.st --plant none.csv --store store --start warm > report 2> fault || fail "a warm start was refused: $(cat fault)"
+    "$plant" run "$1" --plant none.csv --store "$2" --start warm > report 2> fault || fail "a warm start was refused: $(cat fault)"
     whole
     [ "$a" -ge "$known" ] || fail "A = $a, but an earlier life had acknowledged $known"
     known=$a
@@ -127,7 +131,7 @@ strike() {
         wait $pid 2> killing || ended=$?
         [ ! -s fault ] || fail "a life ended with $(cat fault)"
         if [ $ended -ne 0 ] && [ ! -s report ]; then
-            look
+            look counters.st store
             [ "$known" -eq "$before" ] || counted=$((counted + 1))
             whole=$((whole + whole / 100 + 1))
         elif [ $ended -eq 0 ] || grep -q '^B = [0-9]*$' report; then
@@ -135,13 +139,55 @@ strike() {
             whole=$((whole * 9 / 10 + 1))
             check
             whole_life=$known
-            look
+            look counters.st store
             [ "$known" -eq "$whole_life" ] || fail "a whole life told A = $whole_life, but A = $known"
         else
             # It was killed in its report, which comes when all is saved.
-            look
+            look counters.st store
         fi
         life=$((life + 1))
+    done
+}
+
+# look_alike STORE: a warm start of each text over a copy of the file left finds what was kept
+look_alike() {
+    local text kept=$known
+    for text in counters.st more.st; do
+        cp "$1" copy
+        look $text copy
+        [ "$known" -eq "$kept" ] || fail "a killed start of another layout left A = $known of $kept by $text"
+    done
+    [ "$(value K)" -eq 7 ] || fail "a killed start of another layout left K = $(value K)"
+}
+
+# strike_starts: kills warm starts of another layout, each over a copy of the file. A kill counts where the start had written to the file
+# and had not answered. The delay, in microseconds, follows: it grows where a kill came before that, and shrinks where one came after it.
+strike_starts() {
+    local counted=0 middle=50000 after delay pid
+    # Nobody writes to it, so a read from it only waits: for less time than a process takes to begin.
+    mkfifo silence
+    exec 9<> silence
+    while [ "$counted" -lt "$start_kills" ]; do
+        [ $((SECONDS - started)) -lt $limit ] || fail "only $counted of $start_kills kills in a start in $limit seconds"
+        cp store moved
+        : > report
+        after=$((middle * (96 + RANDOM % 64) / 128))
+        printf -v delay '%d.%06d' $((after / 1000000)) $((after % 1000000))
+        "$plant" run more.st --plant none.csv --store moved --start warm > report 2> fault &
+        pid=$!
+        read -r -t "$delay" -u 9 || true
+        kill -9 $pid 2> killing || true
+        wait $pid 2> killing || true
+        starts=$((starts + 1))
+        [ ! -s fault ] || fail "a start of another layout ended with $(cat fault)"
+        if [ -s report ]; then
+            middle=$((middle - middle / 20))
+        elif cmp -s store moved; then
+            middle=$((middle + middle / 20 + 1))
+        else
+            counted=$((counted + 1))
+            look_alike moved
+        fi
     done
 }
 
@@ -170,4 +216,9 @@ settled=$life
 took free warm 10000
 strike free 10000 "$milliseconds"
 
-echo "kill.sh: $kills kills within a run at each pace, in $((settled - 1)) and $((life - settled)) lives; A = $known, B = $((3 * known))"
+# Starts that save what goes on in another layout.
+starts=0
+strike_starts
+
+echo "kill.sh: $kills kills within a run at each pace, in $((settled - 1)) and $((life - settled)) lives; A = $known, B = $((3 * known));" \
+    "$start_kills within the save of a start of another layout, in $starts starts"

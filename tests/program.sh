@@ -49,9 +49,12 @@ bytes() {
     printf '%b' "$(sed 's/../\\x&/g' <<< "$1")" > "$2"
 }
 
-# holds NAME FILE HEX: the file begins with these bytes, and zero bytes follow up to 262,144
+# holds NAME FILE HEX [HEX]: the file begins with these bytes, its second area with those, and else it has zero bytes up to 262,144
 holds() {
     bytes "$3" wanted
+    truncate -s 131072 wanted
+    bytes "${4:-}" second
+    cat second >> wanted
     truncate -s 262144 wanted
     cmp -s "$2" wanted || fail "$1: the retain file is another"
     scenes=$((scenes + 1))
@@ -82,7 +85,7 @@ scene "sizes of two globals" 0 "$(printf '%s\n' 'resources 1' 'tasks 1' 'program
 scene "a warm restart" 0 "$(report 0 0 0 0 0 'N = 3' 'K = 7')" "" $(run both.st none.csv both warm)
 scene "a row at the record's moment" 5 "" "fault K4" $(run both.st last.csv both warm)
 scene "a later row" 0 "$(report 1 1 0 0 2 'N = 4' 'K = 8')" "" $(run both.st next.csv both warm)
-scene "another layout" 4 "" "fault N1" $(run dint.st none.csv s warm)
+cp s life
 scene "a cold restart" 0 "$(report 0 0 0 0 0 'N = 0')" "" $(run s.st none.csv s cold)
 scene "the built-in configuration" 0 "N = 200" "" first
 
@@ -109,6 +112,54 @@ scene "an open gate over nothing" 4 "" "fault S2" $(run s.st none.csv gate warm)
 scene "a cold start over it" 4 "" "fault S2" $(run s.st none.csv gate cold)
 cmp -s gate before || fail "a damaged file was changed"
 scene "a folder that isn't there" 4 "" "fault S3" $(run s.st none.csv folder/store cold)
+
+# A warm start of another layout over the file of the three rows: a variable whose path and type the record has too goes on from there, any
+# other one begins anew, and what is dropped does not come back.
+cp life other
+scene "another type" 0 "$(report 0 0 0 0 0 'N = 0')" "" $(run dint.st none.csv other warm)
+scene "a row at the record's moment by another type" 5 "" "fault K4" $(run dint.st last.csv other warm)
+scene "the first type after another one" 0 "$(report 0 0 0 0 0 'N = 0')" "" $(run s.st none.csv other warm)
+sed 's/RETAIN n : INT;/RETAIN k : INT := 7; n : INT;/' s.st > before.st
+cp life other
+scene "a variable more, before the one that is kept" 0 "$(report 0 0 0 0 0 'K = 7' 'N = 3')" "" $(run before.st none.csv other warm)
+scene "that variable dropped again" 0 "$(report 0 0 0 0 0 'N = 3')" "" $(run s.st none.csv other warm)
+scene "a row at the record's moment after two other layouts" 5 "" "fault K4" $(run s.st last.csv other warm)
+sed 's/RETAIN n/n/' s.st > fleeting.st
+cp life other
+scene "a variable that is retained no more" 0 "$(report 0 0 0 0 0 'N = 0')" "" $(run fleeting.st none.csv other warm)
+scene "that variable retained again" 0 "$(report 0 0 0 0 0 'N = 0')" "" $(run s.st none.csv other warm)
+cat > mode.st <<'END'
+TYPE Mode : (Stopped, Running, Fault); END_TYPE
+PROGRAM Step VAR_EXTERNAL m : Mode; END_VAR CASE m OF Stopped : m := Running; Running : m := Mode#Fault; END_CASE; END_PROGRAM
+CONFIGURATION C
+VAR_GLOBAL RETAIN m : Mode; END_VAR
+RESOURCE R ON CPU TASK T (INTERVAL := T#10ms, PRIORITY := 0); PROGRAM P WITH T : Step; END_RESOURCE
+END_CONFIGURATION
+END
+sed 's/Fault);/Fault, Open);/' mode.st > names.st
+scene "three rows of an enumerated type" 0 "$(report 3 3 0 0 6 'M = FAULT')" "" $(run mode.st rows.csv mode cold)
+scene "its restart" 0 "$(report 0 0 0 0 0 'M = FAULT')" "" $(run mode.st none.csv mode warm)
+scene "a fourth name of its type" 0 "$(report 0 0 0 0 0 'M = STOPPED')" "" $(run names.st none.csv mode warm)
+scene "the three names again" 0 "$(report 0 0 0 0 0 'M = STOPPED')" "" $(run mode.st none.csv mode warm)
+
+# Such a start saves its values in the new layout, with the record's moment and the next generation. Over the same layout nothing is saved.
+three=000000140000000000000015000000064E20494E540A0003
+bytes A50000000000000002$three other
+truncate -s 262144 other
+scene "a record of another layout" 0 "$(report 0 0 0 0 0 'N = 0')" "" $(run fleeting.st none.csv other warm)
+holds "a record without a variable" other A50000000000000002$three A500000000000000030000000C000000000000001500000000
+scene "a record without a variable" 0 "$(report 0 0 0 0 0 'N = 0')" "" $(run s.st none.csv other warm)
+holds "a record of the first layout again" other A50000000000000004000000140000000000000015000000064E20494E540A0000 \
+    A500000000000000030000000C000000000000001500000000
+cp life other
+scene "the same layout" 0 "$(report 0 0 0 0 0 'N = 3')" "" $(run s.st none.csv other warm)
+cmp -s life other || fail "a warm start of the same layout has saved"
+bytes A5FFFFFFFFFFFFFFFF$three last
+truncate -s 262144 last
+scene "another layout over the last generation" 4 "" "fault S4" $(run dint.st none.csv last warm)
+holds "another layout over the last generation" last A5FFFFFFFFFFFFFFFF$three
+scene "the last generation by its own layout" 0 "$(report 0 0 0 0 0 'N = 3')" "" $(run s.st none.csv last warm)
+holds "the last generation by its own layout" last A5FFFFFFFFFFFFFFFF$three
 
 # Sources that are refused. Their retain file isn't even made.
 printf 'a__b' > word.st
@@ -716,21 +767,28 @@ scene "a block of 4,096 slots" 0 "$(sizes 1 1 4096 0)" "" check block.st
 program "a block of 4,097 slots without an instance" 0 "$(sizes 1 1 1 0)" "" \
     'FUNCTION_BLOCK B VAR a : ARRAY [1..4096] OF INT; c : INT; END_VAR c := 1; END_FUNCTION_BLOCK' ';'
 
-# A retain file of 4,095 counters, beside a variable that isn't retained.
-counters=$(several 4095 'V@ = 0')
+# A retain file of 4,095 counters, beside a variable that isn't retained. They begin at 5 in one text, and at 0 in another of that layout.
+counters=$(several 4095 'V@ = 5')
 limit "4,095 counters" 0 "$(sizes 1 1 4096 4095)" "" "VAR_GLOBAL RETAIN $(several 4095 'v@ : INT;') END_VAR" "$one"
-scene "4,095 counters, cold" 0 "$(report 1 1 0 0 2 'N = 1' "$counters")" "" $(run limit.st first.csv many cold)
+sed 's/v[0-9]* : INT/& := 5/' limit.st > fives.st
+scene "4,095 counters, cold" 0 "$(report 1 1 0 0 2 'N = 1' "$counters")" "" $(run fives.st first.csv many cold)
 scene "4,095 counters, warm" 0 "$(report 0 0 0 0 0 'N = 0' "$counters")" "" $(run limit.st none.csv many warm)
-# named NAME STATUS ERROR: the last counter of the file has this name of five letters instead, which is refused so, and the file is left
+# named NAME: a file in which the last counter has this name of five letters instead
 named() {
     LC_ALL=C sed "s/^V4095 INT$/$1 INT/" many > renamed
+}
+named V4096
+scene "4,095 counters, the last one named V4096 in the file" 0 "$(report 0 0 0 0 0 'N = 0' "${counters%5}0")" "" \
+    $(run limit.st none.csv renamed warm)
+# twice NAME: two counters of the file have this name, which is refused, and the file is left
+twice() {
+    named "$1"
     cp renamed before
-    scene "a counter named $1" "$2" "" "$3" $(run limit.st none.csv renamed warm)
+    scene "a counter named $1 twice" 4 "" "fault S2" $(run limit.st none.csv renamed warm)
     cmp -s renamed before || fail "a refused file was changed"
 }
-named V4096 4 "fault N1"
-named V4094 4 "fault S2"
-named V1000 4 "fault S2"
+twice V4094
+twice V1000
 
 # Each beginning of the first text that ends before the last letter of its last word is refused: within a literal, within a name, as no
 # beginning of a sentence of the grammar, or for want of a configuration.

@@ -43,10 +43,10 @@ here_longer old resource (Err Foreign) new h = absurd h
 here_longer old resource (Err NotLater) new h = absurd h
 
 kept_grown : {D : Type 0} (mode : StartMode) (state : State) (acked : ℕ) (failed : Option StoreFault)
-    (store : StoreView D) (layout : List ℕ) (room : ℕ) (entry : Entry)
-    → CoreInvariant mode state acked failed store layout room
-    → CoreInvariant mode (grown state entry) acked failed store layout room
-kept_grown mode state acked failed store layout room entry k = record {
+    (store : StoreView D) (room : ℕ) (entry : Entry)
+    → CoreInvariant mode state acked failed store room
+    → CoreInvariant mode (grown state entry) acked failed store room
+kept_grown mode state acked failed store room entry k = record {
   started = k.started;
   early = k.early;
   log_room = k.log_room;
@@ -54,16 +54,15 @@ kept_grown mode state acked failed store layout room entry k = record {
   tried = survives_longer state.plan state.start state.before state.log acked store.tried entry k.tried;
   few = omega (arith, k.few, length-append state.log (entry ∷ []));
   met = k.met;
-  layout_is = k.layout_is;
   saves = k.saves;
   room_is = k.room_is;
 }
 
 pub kept_longer : {D : Type 0} (mode : StartMode) (old new : State) (acked : ℕ) (failed : Option StoreFault)
-    (store : StoreView D) (layout : List ℕ) (room : ℕ) → IsLonger old new
-    → CoreInvariant mode old acked failed store layout room → CoreInvariant mode new acked failed store layout room
-kept_longer mode old new acked failed store layout room (inl same) k =
-    subst (λ (s : State). CoreInvariant mode s acked failed store layout room) (sym same) k
-kept_longer mode old new acked failed store layout room (inr more) k =
-    subst (λ (s : State). CoreInvariant mode s acked failed store layout room) (sym more.1)
-    (kept_grown mode old acked failed store layout room more.0 k)
+    (store : StoreView D) (room : ℕ) → IsLonger old new
+    → CoreInvariant mode old acked failed store room → CoreInvariant mode new acked failed store room
+kept_longer mode old new acked failed store room (inl same) k =
+    subst (λ (s : State). CoreInvariant mode s acked failed store room) (sym same) k
+kept_longer mode old new acked failed store room (inr more) k =
+    subst (λ (s : State). CoreInvariant mode s acked failed store room) (sym more.1)
+    (kept_grown mode old acked failed store room more.0 k)

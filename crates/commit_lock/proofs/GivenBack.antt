@@ -24,7 +24,7 @@ use Rattle.config.specs.PlanViews.{plan_view}
 use Rattle.config.specs.Sound.{are_different}
 use Rattle.serial_core.specs.Retained.{retained_paths, retained_kinds, paired}
 use Rattle.commit_lock.specs.Recorded.{recorded}
-use Rattle.commit_lock.specs.Told.{told}
+use Rattle.kept_lines.specs.Told.{told}
 use Rattle.commit_lock.specs.Restart.{record_of, Holds, Survives, warm}
 use Rattle.commit_lock.proofs.RecordedLemmas.{recorded_kinds, typed_recorded}
 use Rattle.commit_lock.proofs.RecordLemmas.{lines_told}
@@ -42,7 +42,7 @@ apart_is (x ∷ xs) d =
     let p = and_parts (not (contains_name xs x)) (are_different xs) d in
     (none_is x xs (not-true (contains_name xs x) p.0), apart_is xs p.1)
 
-apart : (plan : Plan) → IsDistinct bytes_eq (map (λ v. path_text v.path) plan.variables.items)
+pub apart : (plan : Plan) → IsDistinct bytes_eq (map (λ v. path_text v.path) plan.variables.items)
 apart plan = apart_is (map (λ v. path_text v.path) plan.variables.items) plan.sound.different
 
 -- ---- what is kept, by the order of the retained variables

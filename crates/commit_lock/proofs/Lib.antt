@@ -4,3 +4,5 @@ pub mod StartLemmas
 pub mod SurvivalLemmas
 pub mod CallLemmas
 pub mod GivenBack
+pub mod MigratingLemmas
+pub mod GivenToOthers

@@ -25,13 +25,14 @@ use Rattle.retain_records.specs.Records.{Content, Line, line_text, text_of, is_p
 use Rattle.retain_records.specs.Records.{by_names, IsLine, IsLayoutText, Spells, is_byte_place, IsRecordable}
 use Rattle.retain_records.specs.Records.{value_bytes, record_bytes}
 use Rattle.retain_records.specs.Reading.{line_at}
-use Rattle.cut_bytes.specs.CutLaws.{some_is, cut_again}
-use Rattle.retain_records.specs.LineLaws.{line_again, value_length, line_parts, path_has_no_space, spelling_in_line}
+use Rattle.cut_bytes.specs.CutLaws.{some_is}
+use Rattle.retain_records.specs.LineLaws.{line_again, value_length}
 use Rattle.retain_records.specs.RecordLaws.{body_length}
 use Rattle.serial_core.specs.Retained.{retained_kinds, retained_paths, paired, told_by}
 use Rattle.commit_lock.specs.Recorded.{all_renumbered, recorded, recorded_kind}
 use Rattle.commit_lock.specs.Restart.{layout_text_of}
-use Rattle.commit_lock.specs.Told.{words_at, line_then, lines_in, told}
+use Rattle.kept_lines.proofs.LayoutLemmas.{words_again}
+use Rattle.kept_lines.specs.Told.{line_then, lines_in, told}
 use Rattle.commit_lock.proofs.RecordedLemmas.{head_is, numbered, tail_is, place_recorded, typed, typed_back}
 use Rattle.commit_lock.proofs.RecordedLemmas.{typed_held, typed_kinds, width_recorded}
 
@@ -40,7 +41,7 @@ abbrev pub known_kinds : List PlanVariable → List Kind
 known_kinds vs = map recorded_kind (retained_kinds vs)
 
 -- the line of a variable
-abbrev line_for : Enumerations → PlanVariable → Line
+abbrev pub line_for : Enumerations → PlanVariable → Line
 line_for types v = record {
   path = path_text v.path;
   spelling = type_text types v.initial.kind;
@@ -105,7 +106,7 @@ names_spell (Some names) n e =
     })
 
 -- a type with a spelling is spelled as a record spells it
-type_spells : (types : Enumerations) (k : Kind) → has_spelling types k ≡ true
+pub type_spells : (types : Enumerations) (k : Kind) → has_spelling types k ≡ true
     → Spells (type_text types k) (recorded_kind k)
 type_spells types (Enumerated n number) e = names_spell (slice_get types number) n e
 type_spells types Sint e = by_keyword refl refl
@@ -123,7 +124,7 @@ type_spells types Lword e = by_keyword refl refl
 type_spells types Time e = by_keyword refl refl
 type_spells types Boolean e = by_keyword refl refl
 
-line_spelled : (types : Enumerations) (v : PlanVariable) → has_line types v ≡ true → IsLine (line_for types v)
+pub line_spelled : (types : Enumerations) (v : PlanVariable) → has_line types v ≡ true → IsLine (line_for types v)
 line_spelled types v e =
     let p = and_parts (is_spelled (path_text v.path)) (has_spelling types v.initial.kind) e in
     record { path = path_spelled (path_text v.path) p.0; spells = type_spells types v.initial.kind p.1 }
@@ -224,14 +225,6 @@ kinds_told types vs text ks spelled is layout =
     (sym layout.spelled ∙ is ∙ sym (text_is types vs)) ∙ kinds_are types vs
 
 -- ---- what a record tells
-
-words_again : (l : Line) (rest : List ℕ) → IsLine l → words_at (line_text l ++ rest)
-    ≡ Some (record { path = l.path; spelling = l.spelling; behind = rest })
-words_again l rest sound = ap words_at (line_parts l rest)
-    ∙ rw (
-      cut_again 32 l.path (l.spelling ++ 10 ∷ rest) (path_has_no_space l.path sound.path),
-      cut_again 10 l.spelling rest (spelling_in_line l.spelling l.kind sound.spells),
-    ) refl
 
 told_first : (types : Enumerations) (v : PlanVariable) (r : Bool) (vs : List PlanVariable) (ws : List Datum)
     → IsLine (line_for types v)

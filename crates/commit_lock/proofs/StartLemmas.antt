@@ -13,17 +13,18 @@ use Rattle.serial_core.specs.Steps.{State}
 use Rattle.serial_core.specs.Retained.{retained_kinds, told_by}
 use Rattle.commit_lock.specs.Recorded.{recorded}
 use Rattle.st_words.specs.Values.{Datum}
-use Rattle.commit_lock.specs.Told.{told}
+use Rattle.kept_lines.specs.Told.{told}
 use Rattle.commit_lock.proofs.RecordedLemmas.{typed}
 use Rattle.commit_lock.proofs.RecordLemmas.{known_kinds, told_in_order}
-use Rattle.commit_lock.specs.Restart.{Survives, begun, layout_text_of, record_now, warm}
-use Rattle.commit_lock.specs.Starting.{LeftByStart, StartKeeps, RefusesStart, HasOtherLayout, IsLastGeneration}
-use Rattle.commit_lock.specs.Starting.{IsStart, IsWantOfMemory, next_generation, start_in, started}
+use Rattle.commit_lock.specs.Restart.{IsOfPlan, Survives, begun, layout_text_of, record_now, warm}
+use Rattle.commit_lock.specs.Starting.{CanStart, HasOtherLayout, LeftByStart, StartKeeps, RefusesStart, Saves, IsLastGeneration}
+use Rattle.commit_lock.specs.Starting.{IsStart, IsWantOfMemory, next_generation, start_in, start_of, start_record, started}
 use Rattle.commit_lock.specs.declared.refusal.StartFault.{StartFault}
 use Rattle.commit_lock.specs.declared.refusal.StartFault.TheVariants as faults
 use Rattle.retain_store.specs.declared.fault.StoreFault.TheVariants as stores
 use Rattle.retain_store.specs.Opening.{KeepsRecord}
-use Rattle.commit_lock.specs.declared.starting.StartMode.TheVariants.{Cold, Warm}
+use Rattle.commit_lock.specs.declared.starting.StartMode.{StartMode}
+use Rattle.commit_lock.specs.declared.starting.StartMode.TheVariants.{Warm}
 use Rattle.retain_areas.specs.Areas.{IsEither}
 use Rattle.std.specs.Prelude.{MatchResult, IfOk, IfErr, Result, Ok, Err}
 
@@ -113,13 +114,48 @@ pub match_both : {A E : Type 0} (r : Result A E) (P P' : A → Type 0) (Q Q' : E
 match_both (Ok a) P P' Q Q' p q h = p a h
 match_both (Err e) P P' Q Q' p q h = q e h
 
--- what a save during a cold start leaves
-pub left_cold : (plan : Plan) (room : ℕ) (state : State) (before last file : Recovered) (generation : ℕ)
-    → state ≡ begun plan room → last ≡ before → IsEither last (Found generation (record_now state)) file
-    → LeftByStart Cold plan room before file
-left_cold plan room state before last file generation is same (inl e) = inl (e ∙ same)
-left_cold plan room state before last file generation is same (inr e) =
-    inr (generation, e ∙ ap (λ (s : State). Found generation (record_now s)) is)
+-- the generation after the last record's
+pub next_is : (last : Recovered) (generation : ℕ) → IsLast generation last → generation + 1 ≡ next_generation last
+next_is TooLong generation is = absurd is
+next_is Refused generation is = absurd is
+next_is Nothing generation is = ap (λ n. n + 1) is
+next_is (Found g content) generation is = ap (λ n. n + 1) (sym is.0)
+
+-- what a save during a start leaves
+pub left_saved : (mode : StartMode) (plan : Plan) (content : Content) (before last file : Recovered) (generation : ℕ)
+    → Saves mode plan before → IsLast generation last → last ≡ before → content ≡ start_record mode plan before
+    → IsEither last (Found (generation + 1) content) file → LeftByStart mode plan before file
+left_saved mode plan content before last file generation saves is same kept (inl e) = inl (e ∙ same)
+left_saved mode plan content before last file generation saves is same kept (inr e) = inr (
+  saves,
+  e ∙ ap (λ n. Found n content) (next_is last generation is ∙ ap next_generation same)
+      ∙ ap (Found (next_generation before)) kept,
+)
+
+-- the same plan over the same file
+pub saves_same : (mode : StartMode) (plan own : Plan) (before last : Recovered) → own ≡ plan → last ≡ before
+    → Saves mode own last → Saves mode plan before
+saves_same mode plan own before last one same saves =
+    subst (λ (q : Plan). Saves mode q before) one (subst (λ (f : Recovered). Saves mode own f) same saves)
+
+pub left_same : (mode : StartMode) (plan own : Plan) (before last file : Recovered) → own ≡ plan → last ≡ before
+    → LeftByStart mode own last file → LeftByStart mode plan before file
+left_same mode plan own before last file one same left =
+    subst (λ (q : Plan). LeftByStart mode q before file) one
+    (subst (λ (f : Recovered). LeftByStart mode own f file) same left)
+
+-- the record of a life that has begun so
+pub record_started : (mode : StartMode) (plan : Plan) (room : ℕ) (state : State) (before : Recovered)
+    → state ≡ started plan room (start_of mode plan before) → record_now state ≡ start_record mode plan before
+record_started mode plan room state before is = ap record_now is
+
+-- the record that was saved
+pub saved_next : (mode : StartMode) (plan : Plan) (content : Content) (before last new : Recovered) (generation now : ℕ)
+    → IsLast generation last → last ≡ before → content ≡ start_record mode plan before → now ≡ generation + 1
+    → new ≡ Found now content → new ≡ Found (next_generation before) (start_record mode plan before)
+saved_next mode plan content before last new generation now is same kept more e =
+    e ∙ ap (λ n. Found n content) (more ∙ next_is last generation is ∙ ap next_generation same)
+    ∙ ap (Found (next_generation before)) kept
 
 -- ---- what a refused start leaves
 
@@ -130,53 +166,53 @@ last_kept Refused first old h kept = absurd h
 last_kept Nothing first old h kept = absurd h
 last_kept (Found generation content) first old h kept = kept
 
-cold_keeps : (plan : Plan) (last : Recovered) (generation : ℕ) (fault : StartFault) (first old new : List ℕ)
-    → IsLast generation last → KeepsRecord last first old → RefusesStart Cold plan last fault
+saved_keeps : (mode : StartMode) (plan : Plan) (last : Recovered) (generation : ℕ) (fault : StartFault) (first old new : List ℕ)
+    → IsLast generation last → KeepsRecord last first old → RefusesStart mode plan last fault
     → (IsWantOfMemory fault → ⊥) → StartKeeps fault old new → StartKeeps fault first new
-cold_keeps plan last generation (faults.Store stores.TooLong) first old new is kept h full same =
+saved_keeps mode plan last generation (faults.Store stores.TooLong) first old new is kept h full same =
     absurd (subst (λ (r : Recovered). IsLast generation r) h is)
-cold_keeps plan last generation (faults.Store stores.Damaged) first old new is kept h full same =
+saved_keeps mode plan last generation (faults.Store stores.Damaged) first old new is kept h full same =
     absurd (subst (λ (r : Recovered). IsLast generation r) h is)
-cold_keeps plan last generation (faults.Store stores.Device) first old new is kept h full same = tt
-cold_keeps plan last generation (faults.Store stores.Generations) first old new is kept h full same =
+saved_keeps mode plan last generation (faults.Store stores.Device) first old new is kept h full same = tt
+saved_keeps mode plan last generation (faults.Store stores.Generations) first old new is kept h full same =
     same ∙ last_kept last first old h.1 kept
-cold_keeps plan last generation (faults.Store stores.NoMemory) first old new is kept h full same =
+saved_keeps mode plan last generation (faults.Store stores.NoMemory) first old new is kept h full same =
     absurd (full (inr refl))
-cold_keeps plan last generation (faults.Store stores.Failed) first old new is kept h full same = absurd h
-cold_keeps plan last generation faults.OtherLayout first old new is kept h full same = absurd (let w = h.0 in cc)
-cold_keeps plan last generation faults.NoMemory first old new is kept h full same = absurd (full (inl refl))
+saved_keeps mode plan last generation (faults.Store stores.Failed) first old new is kept h full same = absurd h
+saved_keeps mode plan last generation faults.NoMemory first old new is kept h full same = absurd (full (inl refl))
 
-pub cold_unwritten : {C D : Type 0} (r : Result C (StartFault × D)) (seen : D → List ℕ) (P : C → Type 0) (plan : Plan)
+pub saved_unwritten : {C D : Type 0} (r : Result C (StartFault × D)) (seen : D → List ℕ) (P : C → Type 0) (mode : StartMode) (plan : Plan)
     (last : Recovered) (generation : ℕ) (first old : List ℕ) → IsLast generation last → KeepsRecord last first old
-    → MatchResult r P (λ e. RefusesStart Cold plan last e.0) → IfErr r (λ e. IsWantOfMemory e.0 → ⊥)
+    → MatchResult r P (λ e. RefusesStart mode plan last e.0) → IfErr r (λ e. IsWantOfMemory e.0 → ⊥)
     → IfErr r (λ e. StartKeeps e.0 old (seen e.1)) → IfErr r (λ e. StartKeeps e.0 first (seen e.1))
-cold_unwritten (Ok x) seen P plan last generation first old is kept h full same = tt
-cold_unwritten (Err e) seen P plan last generation first old is kept h full same =
-    cold_keeps plan last generation e.0 first old (seen e.1) is kept h full same
+saved_unwritten (Ok x) seen P mode plan last generation first old is kept h full same = tt
+saved_unwritten (Err e) seen P mode plan last generation first old is kept h full same =
+    saved_keeps mode plan last generation e.0 first old (seen e.1) is kept h full same
 
-warm_keeps : (plan : Plan) (last : Recovered) (first old new : List ℕ) → HasOtherLayout plan last
-    → KeepsRecord last first old → new ≡ old → new ≡ first
-warm_keeps plan TooLong first old new h kept same = absurd h
-warm_keeps plan Refused first old new h kept same = absurd h
-warm_keeps plan Nothing first old new h kept same = absurd h
-warm_keeps plan (Found generation content) first old new h kept same = same ∙ kept
-
-pub warm_unwritten : {C D : Type 0} (r : Result C (StartFault × D)) (seen : D → List ℕ) (plan : Plan)
-    (last : Recovered) (disk : D) (first : List ℕ) → KeepsRecord last first (seen disk)
-    → IfErr r (λ e. (e.0 ≡ faults.OtherLayout) × HasOtherLayout plan last × (e.1 ≡ disk))
-    → IfErr r (λ e. StartKeeps e.0 first (seen e.1))
-warm_unwritten (Ok x) seen plan last disk first kept h = tt
-warm_unwritten (Err e) seen plan last disk first kept h =
-    subst (λ (f : StartFault). StartKeeps f first (seen e.1)) (sym h.0)
-    (warm_keeps plan last first (seen disk) (seen e.1) h.1 kept (ap seen h.2))
-
--- the generation after the last record's
-pub next_is : (last : Recovered) (generation : ℕ) → IsLast generation last → generation + 1 ≡ next_generation last
-next_is TooLong generation is = absurd is
-next_is Refused generation is = absurd is
-next_is Nothing generation is = ap (λ n. n + 1) is
-next_is (Found g content) generation is = ap (λ n. n + 1) (sym is.0)
+pub ok_both : {C E : Type 0} (r : Result C E) (P Q R : C → Type 0) → ((x : C) → P x → Q x → R x) → IfOk r P → IfOk r Q
+    → IfOk r R
+ok_both (Ok x) P Q R both p q = both x p q
+ok_both (Err e) P Q R both p q = tt
 
 pub ok_weaker : {C E : Type 0} (r : Result C E) (P Q : C → Type 0) → ((x : C) → P x → Q x) → IfOk r P → IfOk r Q
 ok_weaker (Ok x) P Q weaker h = weaker x h
 ok_weaker (Err e) P Q weaker h = tt
+
+-- ---- a warm start over a record of the plan's own layout text
+
+pub of_plan_not_other : (plan : Plan) (last : Recovered) → IsOfPlan plan last → HasOtherLayout plan last → ⊥
+of_plan_not_other plan TooLong same other = other
+of_plan_not_other plan Refused same other = other
+of_plan_not_other plan Nothing same other = other
+of_plan_not_other plan (Found generation content) same other = other same
+
+pub can_go_on : (plan : Plan) (last : Recovered) → IsOfPlan plan last → CanStart Warm plan last
+can_go_on plan TooLong same = same
+can_go_on plan Refused same = same
+can_go_on plan Nothing same = tt
+can_go_on plan (Found generation content) same = λ other. absurd (other same)
+
+-- what was tried is the last record
+pub either_is : (last tried file : Recovered) → tried ≡ last → IsEither last tried file → file ≡ last
+either_is last tried file same (inl e) = e
+either_is last tried file same (inr e) = e ∙ same

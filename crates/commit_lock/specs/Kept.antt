@@ -7,7 +7,7 @@ use Rattle.retain_store.specs.declared.fault.StoreFault.{StoreFault}
 use Rattle.retain_store.specs.Kept.{StoreView}
 use Rattle.serial_core.specs.Steps.{State}
 use Rattle.commit_lock.specs.declared.starting.StartMode.{StartMode}
-use Rattle.commit_lock.specs.Restart.{Survives, layout_text_of}
+use Rattle.commit_lock.specs.Restart.{Survives}
 use Rattle.commit_lock.specs.Starting.{IsStart, start_in}
 
 abbrev pub is_failed : Option StoreFault → Bool
@@ -17,7 +17,7 @@ is_failed (Some fault) = true
 -- The life was started so, after a moment within its limit, with room for no more entries than a log may have. The last
 -- record survives, and so does one that a failed save tried.
 pub record CoreInvariant {D : Type 0} (mode : StartMode) (state : State) (acked : ℕ) (failed : Option StoreFault)
-    (store : StoreView D) (layout : List ℕ) (room : ℕ) : Type 0 where
+    (store : StoreView D) (room : ℕ) : Type 0 where
   pub started : IsStart state.plan mode (start_in state)
   pub early : IfSome state.before (λ t. t < MOMENT_LIMIT)
   pub log_room : state.room ≤ MAX_LOG_ROOM
@@ -25,6 +25,5 @@ pub record CoreInvariant {D : Type 0} (mode : StartMode) (state : State) (acked 
   pub tried : Survives state.plan state.start state.before state.log acked store.tried
   pub few : acked ≤ length state.log
   pub met : is_failed failed ≡ store.failed
-  pub layout_is : layout ≡ layout_text_of state.plan
   pub saves : record_length (plan_view state.plan).enumerations state.plan.variables.items ≤ store.room
   pub room_is : length state.plan.variables.items ≤ room

@@ -1,5 +1,4 @@
 pub mod Recorded
-pub mod Told
 pub mod Restart
 pub mod Cores
 pub mod Kept

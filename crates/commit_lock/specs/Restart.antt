@@ -12,7 +12,7 @@ use Rattle.config.specs.declared.plan.Plan.{Plan}
 use Rattle.config.specs.PlanViews.{plan_view}
 use Rattle.serial_core.specs.Steps.{State, made}
 use Rattle.commit_lock.specs.Recorded.{recorded}
-use Rattle.commit_lock.specs.Told.{told}
+use Rattle.kept_lines.specs.Told.{told}
 
 -- the layout text of a plan's records
 abbrev pub layout_text_of : Plan → List ℕ

@@ -5,6 +5,7 @@ ghost use Rattle.st_words.specs.declared.limits.TheConstants.{MAX_LOG_ROOM, MOME
 ghost use Rattle.st_plans.specs.Logs.{IsLegal};
 ghost use Rattle.config.specs.PlanViews.{plan_view};
 ghost use Rattle.retain_areas.specs.Recovered.{recovered};
+ghost use Rattle.retain_store.specs.Kept.{IsLast};
 ghost use Rattle.commit_lock.specs.Cores.{survives};
 ghost use Rattle.commit_lock.specs.Starting.{IsStart, start_in};
 
@@ -26,8 +27,6 @@ pub struct Core<D: Disk> {
     pub(crate) mode: StartMode,
     pub(crate) serial: SerialCore,
     pub(crate) store: Store<D>,
-    /// The layout text of the plan's records.
-    pub(crate) layout: Vec<u8>,
     /// Room for the values of a record.
     pub(crate) kept: Vec<Value>,
     /// How many entries of the log are acknowledged.
@@ -42,7 +41,6 @@ impl<D: Disk + Drop> Drop for Core<D> {
             mode: _,
             serial: _,
             store: _,
-            layout: _,
             kept: _,
             acked: _,
             failed: _,
@@ -71,7 +69,7 @@ impl<D: Disk> Model for Core<D> {
       store = x.store;
     } };
 
-    ghost invariant = { λ x. CoreInvariant x.mode x.serial x.acked x.failed x.store x.layout.items (vec_capacity x.kept) };
+    ghost invariant = { λ x. CoreInvariant x.mode x.serial x.acked x.failed x.store (vec_capacity x.kept) };
 }
 
 impl<D: Disk> Core<D> {
@@ -81,6 +79,7 @@ impl<D: Disk> Core<D> {
         ensures survives { D.tells → (file : List ℕ) → D.may_leave self.now.store.disk file
             → survives self.now (recovered file) }
         ensures few { self.now.acked ≤ length self.now.state.log }
+        ensures last { IsLast self.now.store.generation self.now.store.last }
         ensures started { IsStart self.now.state.plan self.now.mode (start_in self.now.state) }
         ensures early { IfSome self.now.state.before (λ t. t < MOMENT_LIMIT) }
         ensures room { length self.now.state.log ≤ MAX_LOG_ROOM }
@@ -101,7 +100,6 @@ impl<D: Disk> Core<D> {
             mode: _,
             serial: _,
             store,
-            layout: _,
             kept: _,
             acked: _,
             failed: _,

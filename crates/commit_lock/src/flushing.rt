@@ -44,7 +44,7 @@ impl<D: Disk> Core<D> {
         if self.acked == length {
             return Ok(length);
         }
-        let saved = save_record(&self.serial, &mut self.store, &self.layout, &mut self.kept);
+        let saved = save_record(&self.serial, &mut self.store, &mut self.kept);
         match saved {
             Ok(()) => {
                 self.acked = length;

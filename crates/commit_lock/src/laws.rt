@@ -10,12 +10,13 @@ ghost use Rattle.st_plans.specs.declared.entry.Entry.{Entry};
 ghost use Rattle.st_plans.specs.Plans.{initial_store, is_retained};
 ghost use Rattle.st_plans.specs.Logs.{past_of, after, last_moment};
 ghost use Rattle.st_plans.specs.Restarts.{kept_of};
-ghost use Rattle.retain_records.specs.Records.{has_keyword, record_bytes};
-ghost use Rattle.retain_areas.specs.Recovered.{Recovered};
+ghost use Rattle.retain_records.specs.Records.{Content, has_keyword, record_bytes};
+ghost use Rattle.retain_areas.specs.Recovered.{Recovered, Found};
 ghost use Rattle.config.specs.declared.plan.Plan.{Plan};
 ghost use Rattle.config.specs.PlanViews.{plan_view};
 ghost use Rattle.commit_lock.specs.Recorded.{recorded};
-ghost use Rattle.commit_lock.specs.Told.{told};
+ghost use Rattle.kept_lines.specs.OtherPlans.{all_carried};
+ghost use Rattle.kept_lines.specs.Told.{told};
 ghost use Rattle.commit_lock.specs.Restart.{record_of, warm, Survives};
 
 /// A record tells by its bytes alone what was kept: the paths of the retained variables, their types and their values,
@@ -39,6 +40,20 @@ pub fn what_survives_is_given_back()
     ensures moment { (plan : Plan) (start : Store) (before : Option ℕ) (log : List Entry) (acked : ℕ)
         (file : Recovered) (s : Survives plan start before log acked file)
         → (warm plan file).moment ≡ last_moment before (past_of (plan_view plan) start s.front).rows }
+{}
+
+/// Where a file survives and holds a record, a warm restart of any other plan from it gives each variable that both
+/// plans retain, with its path and its type written alike, the value that it had after a prefix of the log, and each
+/// other its initial value. The prefix holds all that is acknowledged.
+pub fn what_survives_is_given_to_other_plans()
+    ensures store { (plan other : Plan) (start : Store) (before : Option ℕ) (log : List Entry) (acked generation : ℕ)
+        (content : Content) → shape_of start ≡ shape_of (initial_store (plan_view plan))
+        → all_held start ≡ true → (s : Survives plan start before log acked (Found generation content))
+        → (warm other (Found generation content)).store
+        ≡ all_carried (plan_view plan) (plan_view other) (after (plan_view plan) start s.front) }
+    ensures moment { (plan other : Plan) (start : Store) (before : Option ℕ) (log : List Entry) (acked generation : ℕ)
+        (content : Content) (s : Survives plan start before log acked (Found generation content))
+        → (warm other (Found generation content)).moment ≡ last_moment before (past_of (plan_view plan) start s.front).rows }
 {}
 
 /// A record knows no more of an enumerated type than its names, so that the types of two texts with the same names are

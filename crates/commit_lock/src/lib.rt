@@ -9,6 +9,7 @@ mod calling;
 mod core_state;
 mod flushing;
 mod laws;
+mod migrating;
 mod parts;
 mod reading;
 mod recording;
@@ -19,6 +20,7 @@ mod starting;
 pub use core_state::Core;
 pub use laws::{
     records_know_types_by_their_names, records_tell_what_was_kept, what_survives_is_given_back,
+    what_survives_is_given_to_other_plans,
 };
 pub use refusal::{Refusal, StartFault};
 pub use serial_core::Answer;

@@ -2,9 +2,11 @@
 
 ghost use Rattle.std.specs.Prelude.{◌≡◌, ◌≤◌, [], None, length, map, vec_capacity, IfOk};
 ghost use Rattle.st_words.specs.declared.limits.TheConstants.{MAX_LOG_ROOM};
+ghost use Rattle.kept_lines.specs.Lines.{lines_of};
 ghost use Rattle.commit_lock.specs.Restart.{begun, layout_text_of};
 
 use config::Plan;
+use kept_lines::LineIndex;
 use serial_core::SerialCore;
 use st_words::Value;
 use std::alloc::{AllocError, Global};
@@ -14,10 +16,10 @@ use std::sync::Arc;
 #[derive(Drop)]
 pub(crate) struct Parts {
     pub serial: SerialCore,
-    /// The layout text of the plan's records.
-    pub layout: Vec<u8>,
     /// Room for the values of a record.
     pub kept: Vec<Value>,
+    /// The lines of the plan's layout text, which lines of a record are found among.
+    pub lines: LineIndex,
 }
 
 impl Parts {
@@ -25,17 +27,23 @@ impl Parts {
     pub fn new(alloc: Global, plan: Arc<Plan>, log_room: usize) -> Result<Parts, AllocError>
         requires room { log_room ≤ MAX_LOG_ROOM }
         ensures serial { IfOk result (λ parts. parts.serial ≡ begun plan.value log_room) }
-        ensures layout { IfOk result (λ parts. parts.layout.items ≡ layout_text_of plan.value) }
+        ensures lines { IfOk result (λ parts. parts.lines ≡ lines_of (layout_text_of plan.value)) }
         ensures kept { IfOk result (λ parts. length plan.value.variables.items ≤ vec_capacity parts.kept) }
     {
-        let mut layout = Vec::new(alloc);
-        layout.extend_from_slice(plan.layout().text())?;
         let kept = Vec::with_capacity(alloc, plan.variables.len())?;
+        let lines = LineIndex::new(alloc, plan.layout().text())?;
         let serial = SerialCore::start(alloc, plan, log_room)?;
         Ok(Parts {
             serial,
-            layout,
             kept,
+            lines,
         })
     }
+}
+
+/// The layout text of the records of the core's plan.
+pub(crate) fn layout_text(serial: &SerialCore) -> &[u8]
+    ensures { result.now ≡ layout_text_of serial.now.plan }
+{
+    serial.plan().layout().text()
 }

@@ -10,8 +10,9 @@ ghost use Rattle.retain_areas.specs.Recovered.{recovered, Found};
 ghost use Rattle.retain_areas.specs.Areas.{IsEither};
 ghost use Rattle.retain_store.specs.Opening.{CountsFault, KeepsFile};
 ghost use Rattle.retain_store.specs.Kept.{IsTriedAfter};
-ghost use Rattle.commit_lock.specs.Restart.{layout_text_of, record_now};
+ghost use Rattle.commit_lock.specs.Restart.{record_now};
 
+use crate::parts::layout_text;
 use crate::recording::record_all;
 use disk::Disk;
 use retain_store::{Store, StoreFault};
@@ -23,10 +24,8 @@ use st_words::Value;
 pub(crate) fn save_record<D: Disk>(
     serial: &SerialCore,
     store: &mut Store<D>,
-    layout: &[u8],
     kept: &mut Vec<Value>,
 ) -> Result<(), StoreFault>
-    requires layout { layout.now ≡ layout_text_of serial.now.plan }
     requires room { record_length (plan_view serial.now.plan).enumerations serial.now.plan.variables.items
         ≤ store.old.room }
     requires kept { length serial.now.plan.variables.items ≤ vec_capacity kept.old }
@@ -57,6 +56,6 @@ pub(crate) fn save_record<D: Disk>(
 {
     serial.retain(kept);
     record_all(kept);
-    store.save(serial.last_moment(), layout, kept)?;
+    store.save(serial.last_moment(), layout_text(serial), kept)?;
     Ok(())
 }

@@ -1,6 +1,6 @@
 //! Starting a core.
 
-ghost use Rattle.std.specs.Prelude.{◌≡◌, ◌≢◌, ◌≤◌, ◌+◌, ◌-◌, ◌^◌, List, ℕ, [], None, IsTrue, true, false, length};
+ghost use Rattle.std.specs.Prelude.{◌≡◌, ◌≢◌, ◌≤◌, ◌+◌, List, ℕ, [], None, IsTrue, false, length};
 ghost use Rattle.std.specs.Prelude.{◌<◌, vec_capacity, IfOk, IfErr, IfSome, MatchResult};
 ghost use Rattle.st_words.specs.declared.limits.TheConstants.{MAX_LOG_ROOM, MOMENT_LIMIT};
 ghost use Rattle.disk.specs.Disk.{Only};
@@ -9,19 +9,23 @@ ghost use Rattle.retain_areas.specs.declared.shape.TheConstants.{FILE_BYTES};
 ghost use Rattle.retain_areas.specs.Recovered.{recovered, Found};
 ghost use Rattle.retain_areas.specs.Areas.{IsEither};
 ghost use Rattle.retain_store.specs.Kept.{IsLast};
+ghost use Rattle.retain_store.specs.Opening.{KeepsRecord};
+ghost use Rattle.kept_lines.specs.Lines.{lines_of};
 ghost use Rattle.commit_lock.specs.Restart.{Survives, IsOfPlan, begun, layout_text_of, record_now, warm};
 ghost use Rattle.commit_lock.specs.Cores.{survives};
-ghost use Rattle.commit_lock.specs.Starting.{start_of, started, HasOtherLayout, IsNew, CanStart, RefusesStart};
-ghost use Rattle.commit_lock.specs.Starting.{CountsStart, LeftByStart, IsSavedAnew, IsWantOfMemory};
-ghost use Rattle.commit_lock.specs.Starting.{StartKeeps, next_generation};
+ghost use Rattle.commit_lock.specs.Starting.{IsStart, start_in, start_of, started, HasOtherLayout, IsNew, Saves};
+ghost use Rattle.commit_lock.specs.Starting.{CanStart, RefusesStart, CountsStart, LeftByStart, IsWantOfMemory};
+ghost use Rattle.commit_lock.specs.Starting.{StartKeeps, next_generation, start_record};
 
 use crate::core_state::Core;
-use crate::parts::Parts;
+use crate::migrating::migrate;
+use crate::parts::{Parts, layout_text};
 use crate::recording::take_numbers;
 use crate::refusal::StartFault;
 use crate::saving::save_record;
 use config::Plan;
 use disk::Disk;
+use kept_lines::LineIndex;
 use retain_store::{Store, StoreFault};
 use serial_core::SerialCore;
 use st_words::Value;
@@ -38,30 +42,33 @@ pub enum StartMode {
     Cold,
 }
 
-/// Goes on from the last record, if there is one; false where it is of another layout. Between the two stand the values
-/// of the retained variables, in the room that is given.
+/// Goes on from the last record, if there is one; false where it is of another layout text. Between the two stand the
+/// values of the retained variables, in the room that is given.
 fn resume_from<D: Disk>(
     serial: &mut SerialCore,
-    layout: &[u8],
     kept: &mut Vec<Value>,
+    lines: &mut LineIndex,
     store: &Store<D>,
 ) -> bool
     requires begun { serial.old ≡ begun serial.old.plan serial.old.room }
-    requires layout { layout.now ≡ layout_text_of serial.old.plan }
     requires kept { length serial.old.plan.variables.items ≤ vec_capacity kept.old }
+    requires lines { lines.old ≡ lines_of (layout_text_of serial.old.plan) }
     requires last { IsLast store.now.generation store.now.last }
 
-    ensures resumed { IsTrue result
-        → serial.new ≡ started serial.old.plan serial.old.room (warm serial.old.plan store.now.last) }
-    ensures early { IsTrue result → IfSome serial.new.before (λ t. t < MOMENT_LIMIT) }
+    ensures resumed { serial.new ≡ started serial.old.plan serial.old.room (warm serial.old.plan store.now.last) }
+    ensures early { IfSome serial.new.before (λ t. t < MOMENT_LIMIT) }
     ensures survives { IsTrue result → Survives serial.new.plan serial.new.start serial.new.before [] 0 store.now.last }
+    ensures same { IsTrue result → IsOfPlan serial.old.plan store.now.last }
     ensures other { result ≡ false → HasOtherLayout serial.old.plan store.now.last }
+    ensures again { result ≡ false → (generation : ℕ) → serial.new
+        ≡ started serial.old.plan serial.old.room (warm serial.old.plan (Found generation (record_now serial.new))) }
     ensures kept { vec_capacity kept.old ≤ vec_capacity kept.new }
 {
     let Some(record) = store.last() else {
         return true;
     };
-    if record.layout() != layout {
+    if record.layout() != layout_text(serial) {
+        migrate(serial, kept, lines, record);
         return false;
     }
     serial.retain(kept);
@@ -70,62 +77,26 @@ fn resume_from<D: Disk>(
     true
 }
 
-/// A core that goes on from the last record of the store.
-fn warm<D: Disk>(parts: Parts, store: Store<D>) -> Result<Core<D>, (StartFault, D)>
-    requires begun { parts.serial ≡ begun parts.serial.plan parts.serial.room }
-    requires layout { parts.layout.items ≡ layout_text_of parts.serial.plan }
-    requires kept { length parts.serial.plan.variables.items ≤ vec_capacity parts.kept }
-    requires log_room { parts.serial.room ≤ MAX_LOG_ROOM }
-    requires last { IsLast store.generation store.last }
-    requires tried { store.tried ≡ store.last }
-    requires fresh { store.failed ≡ false }
-    requires room { store.room ≡ MAX_RECORD_BODY }
-
-    ensures state { IfOk result
-        (λ core. core.state ≡ started parts.serial.plan parts.serial.room (warm parts.serial.plan store.last)) }
-    ensures mode { IfOk result (λ core. core.mode ≡ StartMode.Warm) }
-    ensures fresh { IfOk result (λ core. (core.acked ≡ 0) × (core.failed ≡ None)) }
-    ensures store { IfOk result (λ core. core.store ≡ store) }
-    ensures layout { IfOk result (λ core. IsOfPlan parts.serial.plan store.last) }
-    ensures survives { D.tells
-        → IfOk result (λ core. (file : List ℕ) → D.may_leave core.store.disk file → survives core (recovered file)) }
-    ensures refused { IfErr result
-        (λ e. (e.0 ≡ StartFault.OtherLayout) × HasOtherLayout parts.serial.plan store.last × (e.1 ≡ store.disk)) }
-{
-    let Parts {
-        mut serial,
-        layout,
-        mut kept,
-    } = parts;
-    if !resume_from(&mut serial, &layout, &mut kept, &store) {
-        return Err((StartFault::OtherLayout, store.into_disk()));
-    }
-    let core = Core {
-        mode: StartMode::Warm,
-        serial,
-        store,
-        layout,
-        kept,
-        acked: 0,
-        failed: None,
-    };
-    core.kept();
-    Ok(core)
-}
-
-/// A core that starts anew. The record of the initial values, without a moment, is saved before.
-fn cold<D: Disk>(parts: Parts, store: Store<D>) -> Result<Core<D>, (StartFault, D)>
-    requires begun { parts.serial ≡ begun parts.serial.plan parts.serial.room }
-    requires layout { parts.layout.items ≡ layout_text_of parts.serial.plan }
+/// A core that starts as it stands. The record of what it starts with is saved before.
+fn saved_first<D: Disk>(
+    mode: StartMode,
+    parts: Parts,
+    store: Store<D>,
+) -> Result<Core<D>, (StartFault, D)>
+    requires start { IsStart parts.serial.plan mode (start_in parts.serial) }
+    requires empty { parts.serial.log ≡ [] }
+    requires early { IfSome parts.serial.before (λ t. t < MOMENT_LIMIT) }
     requires kept { length parts.serial.plan.variables.items ≤ vec_capacity parts.kept }
     requires log_room { parts.serial.room ≤ MAX_LOG_ROOM }
     requires last { IsLast store.generation store.last }
     requires fresh { store.failed ≡ false }
     requires room { store.room ≡ MAX_RECORD_BODY }
+    requires saves { Saves mode parts.serial.plan store.last }
 
-    ensures state { IfOk result (λ core. core.state ≡ begun parts.serial.plan parts.serial.room) }
-    ensures mode { IfOk result (λ core. core.mode ≡ StartMode.Cold) }
+    ensures state { IfOk result (λ core. core.state ≡ parts.serial) }
+    ensures mode { IfOk result (λ core. core.mode ≡ mode) }
     ensures fresh { IfOk result (λ core. (core.acked ≡ 0) × (core.failed ≡ None)) }
+    ensures last { IfOk result (λ core. IsLast core.store.generation core.store.last) }
     ensures saved { IfOk result (λ core. core.store.last ≡ Found core.store.generation (record_now parts.serial)) }
     ensures next { IfOk result (λ core. core.store.generation ≡ store.generation + 1) }
     ensures unwritten { D.tells → IfErr result (λ e. StartKeeps e.0 (D.seen store.disk) (D.seen e.1)) }
@@ -135,9 +106,9 @@ fn cold<D: Disk>(parts: Parts, store: Store<D>) -> Result<Core<D>, (StartFault, 
     ensures memory { IfErr result (λ e. IsWantOfMemory e.0 → ⊥) }
     ensures survives { D.tells
         → IfOk result (λ core. (file : List ℕ) → D.may_leave core.store.disk file → survives core (recovered file)) }
-    ensures answers { D.tells → MatchResult result
-        (λ core. CanStart StartMode.Cold parts.serial.plan store.last)
-        (λ e. RefusesStart StartMode.Cold parts.serial.plan store.last e.0) }
+    ensures answers { MatchResult result
+        (λ core. CanStart mode parts.serial.plan store.last)
+        (λ e. RefusesStart mode parts.serial.plan store.last e.0) }
     ensures any_moment { D.tells → MatchResult result
         (λ core. LeavesOnly D.left_since D.may_leave store.disk core.store.disk
         (λ file. IsEither store.last (Found (store.generation + 1) (record_now parts.serial)) (recovered file)))
@@ -149,19 +120,18 @@ fn cold<D: Disk>(parts: Parts, store: Store<D>) -> Result<Core<D>, (StartFault, 
 {
     let Parts {
         serial,
-        layout,
         mut kept,
+        lines: _,
     } = parts;
     let mut store = store;
-    match save_record(&serial, &mut store, &layout, &mut kept) {
+    match save_record(&serial, &mut store, &mut kept) {
         Ok(()) => {}
         Err(fault) => return Err((StartFault::Store(fault), store.into_disk())),
     }
     let core = Core {
-        mode: StartMode::Cold,
+        mode,
         serial,
         store,
-        layout,
         kept,
         acked: 0,
         failed: None,
@@ -170,12 +140,117 @@ fn cold<D: Disk>(parts: Parts, store: Store<D>) -> Result<Core<D>, (StartFault, 
     Ok(core)
 }
 
+/// A core that goes on from the last record of the store, which is of the plan's layout text.
+fn gone_on<D: Disk>(parts: Parts, store: Store<D>) -> Core<D>
+    requires start { IsStart parts.serial.plan StartMode.Warm (start_in parts.serial) }
+    requires empty { parts.serial.log ≡ [] }
+    requires early { IfSome parts.serial.before (λ t. t < MOMENT_LIMIT) }
+    requires kept { length parts.serial.plan.variables.items ≤ vec_capacity parts.kept }
+    requires log_room { parts.serial.room ≤ MAX_LOG_ROOM }
+    requires survives { Survives parts.serial.plan parts.serial.start parts.serial.before [] 0 store.last }
+    requires tried { store.tried ≡ store.last }
+    requires fresh { store.failed ≡ false }
+    requires room { store.room ≡ MAX_RECORD_BODY }
+
+    ensures core { result ≡ record {
+      mode = StartMode.Warm;
+      state = parts.serial;
+      acked = 0;
+      failed = None;
+      store = store;
+    } }
+    ensures survives { D.tells → (file : List ℕ) → D.may_leave result.store.disk file → survives result (recovered file) }
+{
+    let Parts {
+        serial,
+        kept,
+        lines: _,
+    } = parts;
+    let core = Core {
+        mode: StartMode::Warm,
+        serial,
+        store,
+        kept,
+        acked: 0,
+        failed: None,
+    };
+    core.kept();
+    core
+}
+
+/// A core that goes on from the last record of the store. Where that is of another layout text, the record of what the
+/// life starts with is saved before.
+fn warm<D: Disk>(parts: Parts, store: Store<D>) -> Result<Core<D>, (StartFault, D)>
+    requires begun { parts.serial ≡ begun parts.serial.plan parts.serial.room }
+    requires kept { length parts.serial.plan.variables.items ≤ vec_capacity parts.kept }
+    requires lines { parts.lines ≡ lines_of (layout_text_of parts.serial.plan) }
+    requires log_room { parts.serial.room ≤ MAX_LOG_ROOM }
+    requires last { IsLast store.generation store.last }
+    requires tried { store.tried ≡ store.last }
+    requires fresh { store.failed ≡ false }
+    requires room { store.room ≡ MAX_RECORD_BODY }
+
+    ensures state { IfOk result
+        (λ core. core.state ≡ started parts.serial.plan parts.serial.room (warm parts.serial.plan store.last)) }
+    ensures again { IfOk result
+        (λ core. core.state ≡ started parts.serial.plan parts.serial.room (warm parts.serial.plan core.store.last)) }
+    ensures mode { IfOk result (λ core. core.mode ≡ StartMode.Warm) }
+    ensures fresh { IfOk result (λ core. (core.acked ≡ 0) × (core.failed ≡ None)) }
+    ensures last { IfOk result (λ core. IsLast core.store.generation core.store.last) }
+
+    // Where the layout text is the same, nothing is saved, and no call of the disk made.
+    ensures unsaved { (Saves StartMode.Warm parts.serial.plan store.last → ⊥) → IfOk result (λ core. core.store ≡ store) }
+    ensures saved { Saves StartMode.Warm parts.serial.plan store.last
+        → IfOk result (λ core. core.store.last ≡ Found core.store.generation (record_now core.state)) }
+    ensures next { Saves StartMode.Warm parts.serial.plan store.last
+        → IfOk result (λ core. core.store.generation ≡ store.generation + 1) }
+    ensures unwritten { D.tells → IfErr result (λ e. StartKeeps e.0 (D.seen store.disk) (D.seen e.1)) }
+    ensures serves { D.serves store.disk FILE_BYTES → MatchResult result
+        (λ core. D.serves core.store.disk FILE_BYTES)
+        (λ e. (e.0 ≢ StartFault.Store StoreFault.Device) × D.serves e.1 FILE_BYTES) }
+    ensures memory { IfErr result (λ e. IsWantOfMemory e.0 → ⊥) }
+    ensures survives { D.tells
+        → IfOk result (λ core. (file : List ℕ) → D.may_leave core.store.disk file → survives core (recovered file)) }
+    ensures answers { MatchResult result
+        (λ core. CanStart StartMode.Warm parts.serial.plan store.last)
+        (λ e. RefusesStart StartMode.Warm parts.serial.plan store.last e.0) }
+    ensures any_moment { D.tells → MatchResult result
+        (λ core. LeavesOnly D.left_since D.may_leave store.disk core.store.disk
+        (λ file. LeftByStart StartMode.Warm parts.serial.plan store.last (recovered file)))
+        (λ e. LeavesOnly D.left_since D.may_leave store.disk e.1
+        (λ file. LeftByStart StartMode.Warm parts.serial.plan store.last (recovered file))) }
+    ensures device { MatchResult result
+        (λ core. D.failure_count core.store.disk ≡ D.failure_count store.disk)
+        (λ e. CountsStart e.0 (D.failure_count store.disk) (D.failure_count e.1)) }
+{
+    let Parts {
+        mut serial,
+        mut kept,
+        mut lines,
+    } = parts;
+    store.kept();
+    let is_same = resume_from(&mut serial, &mut kept, &mut lines, &store);
+    let parts = Parts {
+        serial,
+        kept,
+        lines,
+    };
+    if is_same {
+        Ok(gone_on(parts, store))
+    } else {
+        saved_first(StartMode::Warm, parts, store)
+    }
+}
+
 impl<D: Disk> Core<D> {
     /// Starts a life of the plan over this disk, with room for so many entries of its log, 1 to 65,536. Its memory is
-    /// taken before the first device call. A cold start saves the record of the initial values before it answers.
+    /// taken before the first device call. A cold start, and a warm one over a record of another layout text, saves the
+    /// record of what the life starts with before it answers.
     ///
-    /// S1 to S5, N1 where a warm start meets a record of another layout, N2 out of memory. An error gives the disk
-    /// back.
+    /// A warm start gives each retained variable the value in the line of the record that has its path and its type, as
+    /// they are written, and each other variable its initial value.
+    ///
+    /// S1 to S5, N2 out of memory. An error gives the disk back.
     pub fn start(
         alloc: Global,
         plan: Arc<Plan>,
@@ -193,17 +268,21 @@ impl<D: Disk> Core<D> {
         ensures fresh { IfOk result (λ core. (core.acked ≡ 0) × (core.failed ≡ None)) }
         ensures begun { IfOk result (λ core. IsNew core.state plan.value log_room) }
 
-        // A warm start goes on from the last record of the store, which is what a read gives.
+        // A warm start goes on from the last record of the store. Where nothing was saved, that is what a read gives,
+        // and the file stands as it was.
         ensures resumed { mode ≡ StartMode.Warm → IfOk result
             (λ core. core.state ≡ started plan.value log_room (warm plan.value core.store.last)) }
-        ensures last { mode ≡ StartMode.Warm → IfOk result (λ core. IsLast core.store.generation core.store.last) }
-        ensures found { D.tells → mode ≡ StartMode.Warm → IfOk result
+        ensures last { IfOk result (λ core. IsLast core.store.generation core.store.last) }
+        ensures found { D.tells → (Saves mode plan.value (recovered (D.seen disk)) → ⊥) → IfOk result
             (λ core. core.store.last ≡ recovered (D.seen disk)) }
+        ensures unsaved { D.tells → (Saves mode plan.value (recovered (D.seen disk)) → ⊥) → IfOk result
+            (λ core. KeepsRecord (recovered (D.seen disk)) (D.seen disk) (D.seen core.store.disk)) }
 
-        // A cold start has saved the record of the initial values, of the next generation.
-        ensures saved { mode ≡ StartMode.Cold → IfOk result (λ core. IsSavedAnew plan.value log_room core.store) }
-        ensures next { D.tells → mode ≡ StartMode.Cold → IfOk result
-            (λ core. core.store.generation ≡ next_generation (recovered (D.seen disk))) }
+        // A cold start, and a warm one over a record of another layout text, has saved the record of what the life
+        // starts with, of the next generation.
+        ensures saved { D.tells → Saves mode plan.value (recovered (D.seen disk)) → IfOk result
+            (λ core. core.store.last ≡ Found (next_generation (recovered (D.seen disk)))
+            (start_record mode plan.value (recovered (D.seen disk)))) }
 
         // A start that is refused has written nothing.
         ensures unwritten { D.tells → IfErr result (λ e. StartKeeps e.0 (D.seen disk) (D.seen e.1)) }
@@ -231,13 +310,13 @@ impl<D: Disk> Core<D> {
         ensures survives { D.tells → IfOk result
             (λ core. (file : List ℕ) → D.may_leave core.store.disk file → survives core (recovered file)) }
 
-        // On a disk with nothing unsynced, a stop at any moment leaves what was recovered before, or for a cold start
-        // the record of the initial values.
+        // On a disk with nothing unsynced, a stop at any moment leaves what was recovered before, or, where the start
+        // saves it, the record of what the life starts with.
         ensures any_moment { D.tells → Only (D.seen disk) (D.may_leave disk) → MatchResult result
             (λ core. LeavesOnly D.left_since D.may_leave disk core.store.disk
-            (λ file. LeftByStart mode plan.value log_room (recovered (D.seen disk)) (recovered file)))
+            (λ file. LeftByStart mode plan.value (recovered (D.seen disk)) (recovered file)))
             (λ e. LeavesOnly D.left_since D.may_leave disk e.1
-            (λ file. LeftByStart mode plan.value log_room (recovered (D.seen disk)) (recovered file))) }
+            (λ file. LeftByStart mode plan.value (recovered (D.seen disk)) (recovered file))) }
     {
         let Ok(parts) = Parts::new(alloc, plan, log_room) else {
             return Err((StartFault::NoMemory, disk));
@@ -248,7 +327,7 @@ impl<D: Disk> Core<D> {
         };
         match mode {
             StartMode::Warm => warm(parts, store),
-            StartMode::Cold => cold(parts, store),
+            StartMode::Cold => saved_first(StartMode::Cold, parts, store),
         }
     }
 }

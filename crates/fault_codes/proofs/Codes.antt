@@ -11,7 +11,7 @@ all =
     told.C12 ∷ told.C13 ∷ told.G2 ∷ told.G3 ∷ told.G4 ∷ told.G5 ∷ told.G6 ∷ told.G7 ∷ told.G8 ∷ told.G9 ∷
     told.M1 ∷ told.M2 ∷ told.M3 ∷ told.X1 ∷ told.I1 ∷ told.I2 ∷ told.I3 ∷ told.I4 ∷ told.I5 ∷ told.I6 ∷
     told.V1 ∷ told.V2 ∷ told.V3 ∷ told.V4 ∷ told.V5 ∷ told.V6 ∷ told.S1 ∷ told.S2 ∷ told.S3 ∷ told.S4 ∷
-    told.S5 ∷ told.S6 ∷ told.N1 ∷ told.N2 ∷ told.K1 ∷ told.K2 ∷ told.K3 ∷ told.K4 ∷ told.K5 ∷ told.K6 ∷
+    told.S5 ∷ told.S6 ∷ told.N2 ∷ told.K1 ∷ told.K2 ∷ told.K3 ∷ told.K4 ∷ told.K5 ∷ told.K6 ∷
     told.H1 ∷ told.H2 ∷ []
 
 abbrev found : List ℕ → Option Code
@@ -70,7 +70,6 @@ found_own told.S3 = refl
 found_own told.S4 = refl
 found_own told.S5 = refl
 found_own told.S6 = refl
-found_own told.N1 = refl
 found_own told.N2 = refl
 found_own told.K1 = refl
 found_own told.K2 = refl

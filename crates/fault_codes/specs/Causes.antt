@@ -38,7 +38,7 @@ use Rattle.fault_codes.specs.declared.code.Code.{Code}
 use Rattle.fault_codes.specs.declared.code.Code.TheVariants.{L1, L2, L3, L4, L5, L6, P1, P2, P3, C1, C2, C3, C4, C5, C6}
 use Rattle.fault_codes.specs.declared.code.Code.TheVariants.{C7, C8, C9, C10, C11, C12, C13, G2, G3, G4, G5, G6, G7, G8}
 use Rattle.fault_codes.specs.declared.code.Code.TheVariants.{G9, M1, M2, M3, X1, I1, I2, I3, I4, I5, I6, V1, V2, V3, V4}
-use Rattle.fault_codes.specs.declared.code.Code.TheVariants.{V5, V6, S1, S2, S3, S4, S5, S6, N1, N2, K1, K2, K3, K4, K5}
+use Rattle.fault_codes.specs.declared.code.Code.TheVariants.{V5, V6, S1, S2, S3, S4, S5, S6, N2, K1, K2, K3, K4, K5}
 use Rattle.fault_codes.specs.declared.code.Code.TheVariants.{K6, H1, H2}
 
 abbrev pub code_of_word : LexFault → Code
@@ -131,7 +131,6 @@ code_of_store stores.Failed = S6
 
 abbrev pub code_of_start : StartFault → Code
 code_of_start (starts.Store fault) = code_of_store fault
-code_of_start starts.OtherLayout = N1
 code_of_start starts.NoMemory = N2
 
 abbrev pub code_of_step : SerialRefusal → Code

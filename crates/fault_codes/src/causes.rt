@@ -171,7 +171,6 @@ fn code_of_start(fault: StartFault) -> Code
 {
     match fault {
         StartFault::Store(fault) => code_of_store(fault),
-        StartFault::OtherLayout => Code::N1,
         StartFault::NoMemory => Code::N2,
     }
 }

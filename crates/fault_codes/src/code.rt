@@ -69,7 +69,6 @@ pub enum Code {
     S5,
     S6,
     // A start.
-    N1,
     N2,
     // A call of the core.
     K1,
@@ -141,7 +140,6 @@ impl Code {
             Code::S4 => "S4",
             Code::S5 => "S5",
             Code::S6 => "S6",
-            Code::N1 => "N1",
             Code::N2 => "N2",
             Code::K1 => "K1",
             Code::K2 => "K2",

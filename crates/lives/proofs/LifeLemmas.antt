@@ -1,7 +1,9 @@
 -- What is said of each life.
 use Rattle.std.proofs.Common.{◌≡◌, ◌+◌, ◌-◌, ◌^◌, ℕ, List, [], ◌∷◌, ◌++◌, length, append_assoc, append-nil, arith, sym, ap, ◌∙◌, subst}
 use Rattle.std.proofs.Common.{Option, None, map, refl}
-use Rattle.std.specs.Prelude.{Result, Ok, Err, IfOk, IsOk, OnOk}
+use Rattle.std.specs.Prelude.{Result, Ok, Err, IfOk, IsOk, OnOk, bytes_eq, Bool, true, false, if◌then◌else◌}
+use Rattle.std.proofs.lemmas.Slice.Eq.{bytes_eq-Decides}
+use Rattle.retain_records.specs.Records.{Content}
 use Rattle.disk.specs.Medium.{MayLeave}
 use Rattle.disk.specs.Simulated.{SimView, IsReliable}
 use Rattle.st_types.specs.Stores.{Store}
@@ -21,8 +23,8 @@ use Rattle.config.specs.PlanViews.{plan_view}
 use Rattle.serial_core.specs.Steps.{State}
 use Rattle.lives.specs.declared.event.Event.{Event}
 use Rattle.lives.specs.declared.event.Reply.{Reply}
-use Rattle.commit_lock.specs.Restart.{Survives}
-use Rattle.commit_lock.specs.Starting.{CanStart, IsSavedAnew, next_generation}
+use Rattle.commit_lock.specs.Restart.{Survives, layout_text_of}
+use Rattle.commit_lock.specs.Starting.{CanStart, next_generation, start_record}
 use Rattle.commit_lock.specs.Cores.{CoreView, survives}
 use Rattle.lives.specs.Driving.{Held, IsWellAnswered, saves}
 use Rattle.lives.specs.declared.life.Life.{Life}
@@ -107,14 +109,29 @@ ok_of (Ok a) h = (a, refl)
 ok_of (Err b) h = absurd (cc)
 
 -- the generation of the last record after a start, by the file
-begins_at : {D : Type 0} (mode : StartMode) (plan : Plan) (room : ℕ) (file : Recovered) (store : StoreView D)
-    → IsStoreBegun mode plan room file store → store.generation ≡ generation_begun mode file
-begins_at Cold plan room file store is = is.0
-begins_at Warm plan room TooLong store is = absurd (subst (λ r. IsLast store.generation r) is.0 is.1)
-begins_at Warm plan room Damaged store is = absurd (subst (λ r. IsLast store.generation r) is.0 is.1)
-begins_at Warm plan room Nothing store is = subst (λ r. IsLast store.generation r) is.0 is.1
-begins_at Warm plan room (Found generation content) store is =
-    sym ((subst (λ r. IsLast store.generation r) is.0 is.1).0)
+of_last : (generation g : ℕ) (content : Content) (last : Recovered) → IsLast generation last → last ≡ Found g content
+    → generation ≡ g
+of_last generation g content last is at = sym ((subst (λ r. IsLast generation r) at is).0)
+
+begins_warm : {D : Type 0} (plan : Plan) (g : ℕ) (content : Content) (store : StoreView D) (b : Bool)
+    → bytes_eq content.layout (layout_text_of plan) ≡ b → IsStoreBegun Warm plan (Found g content) store
+    → store.generation ≡ (if b then g else g + 1)
+begins_warm plan g content store true same is =
+    of_last store.generation g content store.last is.last
+    (is.found (λ other. other ((bytes_eq-Decides content.layout (layout_text_of plan)).0 same)))
+begins_warm plan g content store false other is =
+    of_last store.generation (g + 1) (start_record Warm plan (Found g content)) store.last is.last
+    (is.saved (λ e. let yes = (bytes_eq-Decides content.layout (layout_text_of plan)).1 e in cc))
+
+begins_at : {D : Type 0} (mode : StartMode) (plan : Plan) (file : Recovered) (store : StoreView D)
+    → IsStoreBegun mode plan file store → store.generation ≡ generation_begun mode plan file
+begins_at Cold plan file store is =
+    of_last store.generation (next_generation file) (start_record Cold plan file) store.last is.last (is.saved tt)
+begins_at Warm plan TooLong store is = absurd (subst (λ r. IsLast store.generation r) (is.found (λ x. x)) is.last)
+begins_at Warm plan Damaged store is = absurd (subst (λ r. IsLast store.generation r) (is.found (λ x. x)) is.last)
+begins_at Warm plan Nothing store is = subst (λ r. IsLast store.generation r) (is.found (λ x. x)) is.last
+begins_at Warm plan (Found generation content) store is =
+    begins_warm plan generation content store (bytes_eq content.layout (layout_text_of plan)) refl is
 
 -- a life that was started
 course_is : (plan : Plan) (file : List ℕ) (life : Life) (first : CoreView SimView) (end : LifeEnd) (course : Course)
@@ -123,7 +140,7 @@ course_is : (plan : Plan) (file : List ℕ) (life : Life) (first : CoreView SimV
     → (life.stop ≡ None → life.fails ≡ None → IsAllWell first.store.generation course) → IsLife plan file life end
 course_is plan file life first end course e begins can lived well =
     let is = begins.state in
-    let at = begins_at life.mode plan life.log_room (recovered file) first.store begins.store in
+    let at = begins_at life.mode plan (recovered file) first.store begins.store in
     record {
       begins = rw e (can, lived.values ∙ ap (λ (b : State). map (λ v. v.1) b.start) is);
       answered = rw e (record { first = first; begins = begins; answers = lived.answered });
@@ -133,14 +150,6 @@ course_is plan file life first end course e begins can lived well =
       refused = rw e tt;
       cause = λ stop fails. rw e (subst (λ (n : ℕ). IsAllWell n course) at (well stop fails));
     }
-
--- the store of a core that was started, by how it was started
-pub store_begun : (mode : StartMode) (plan : Plan) (room : ℕ) (file : Recovered) (core : CoreView SimView)
-    → (mode ≡ Warm → core.store.last ≡ file) → (mode ≡ Warm → IsLast core.store.generation core.store.last)
-    → (mode ≡ Cold → core.store.generation ≡ next_generation file) → (mode ≡ Cold → IsSavedAnew plan room core.store)
-    → IsStoreBegun mode plan room file core.store
-store_begun Warm plan room file core found last next saved = (found refl, last refl)
-store_begun Cold plan room file core found last next saved = (next refl, saved refl)
 
 pub life_is : {E : Type 0} (plan : Plan) (file : List ℕ) (life : Life) (core : CoreView SimView) (r : Result LifeEnd E)
     → IsFirst plan file life core → CanStart life.mode plan (recovered file)

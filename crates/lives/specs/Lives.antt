@@ -1,6 +1,6 @@
 -- Lives over one file, one after another.
 use Rattle.std.specs.Prelude.{◌≡◌, ◌≢◌, ◌+◌, ◌-◌, ◌^◌, ℕ, max, List, [], ◌∷◌, ◌++◌, length, map, None, IfOk, IfErr}
-use Rattle.std.specs.Prelude.{MatchResult}
+use Rattle.std.specs.Prelude.{MatchResult, bytes_eq, if◌then◌else◌}
 use Rattle.disk.specs.Medium.{MayLeave}
 use Rattle.disk.specs.Runs.{LeavesOnly}
 use Rattle.disk.specs.Simulated.{SimView, IsReliable, fresh}
@@ -21,9 +21,9 @@ use Rattle.commit_lock.specs.declared.refusal.Refusal.TheVariants.{StoreFailed}
 use Rattle.commit_lock.specs.declared.starting.StartMode.{StartMode}
 use Rattle.commit_lock.specs.declared.starting.StartMode.TheVariants.{Warm, Cold}
 use Rattle.commit_lock.specs.declared.refusal.StartFault.TheVariants as faults
-use Rattle.commit_lock.specs.Restart.{Survives}
-use Rattle.commit_lock.specs.Starting.{start_of, started, CanStart, RefusesStart, LeftByStart, IsSavedAnew}
-use Rattle.commit_lock.specs.Starting.{next_generation}
+use Rattle.commit_lock.specs.Restart.{Survives, layout_text_of}
+use Rattle.commit_lock.specs.Starting.{start_of, started, Saves, CanStart, RefusesStart, LeftByStart}
+use Rattle.commit_lock.specs.Starting.{next_generation, start_record}
 use Rattle.commit_lock.specs.Cores.{CoreView}
 use Rattle.lives.specs.Driving.{Held, Drives, saves}
 use Rattle.lives.specs.declared.life.Life.{Life}
@@ -47,29 +47,32 @@ beginning plan file life = started plan life.log_room (start_of life.mode plan (
 abbrev pub disk_of : List ℕ → Life → SimView
 disk_of file life = record (fresh file) { failing = life.fails; stop = life.stop }
 
--- The store after a start. A warm one goes on from what the file was recovered to; a cold one has saved the record of the
--- initial values in the next generation.
-abbrev pub IsStoreBegun : {D : Type 0} → StartMode → Plan → ℕ → Recovered → StoreView D → Type 0
-IsStoreBegun Warm plan room file store = (store.last ≡ file) × IsLast store.generation store.last
-IsStoreBegun Cold plan room file store = (store.generation ≡ next_generation file) × IsSavedAnew plan room store
+-- The store after a start: it has the record of what the life starts with, of the next generation, where the start saves
+-- it, else what the file was recovered to.
+pub record IsStoreBegun {D : Type 0} (mode : StartMode) (plan : Plan) (file : Recovered) (store : StoreView D) : Type 0
+  where
+    pub saved : Saves mode plan file → store.last ≡ Found (next_generation file) (start_record mode plan file)
+    pub found : (Saves mode plan file → ⊥) → store.last ≡ file
+    pub last : IsLast store.generation store.last
 
 -- the generation of the last record after a start
-abbrev pub generation_begun : StartMode → Recovered → ℕ
-generation_begun Warm (Found generation content) = generation
-generation_begun Warm other = 0
-generation_begun Cold file = next_generation file
+abbrev pub generation_begun : StartMode → Plan → Recovered → ℕ
+generation_begun Cold plan file = next_generation file
+generation_begun Warm plan (Found generation content) =
+    if bytes_eq content.layout (layout_text_of plan) then generation else generation + 1
+generation_begun Warm plan other = 0
 
 -- A core as a life has it after its start, over a disk with this file. What a stop might have left so far is what the
--- file was, or for a cold start the record of the initial values.
+-- file was, or, where the start saves it, the record of what the life starts with.
 pub record IsFirst (plan : Plan) (file : List ℕ) (life : Life) (core : CoreView SimView) : Type 0 where
   pub mode : core.mode ≡ life.mode
   pub state : core.state ≡ beginning plan file life
   pub fresh : core.acked ≡ 0
   pub unfailed : core.failed ≡ None
-  pub store : IsStoreBegun life.mode plan life.log_room (recovered file) core.store
+  pub store : IsStoreBegun life.mode plan (recovered file) core.store
   pub served : core.store.disk.failures ≡ 0
   pub left : LeavesOnly (λ _ disk. MayLeave disk.medium) (λ disk. MayLeave disk.medium) (disk_of file life)
-      core.store.disk (λ left. LeftByStart life.mode plan life.log_room (recovered file) (recovered left))
+      core.store.disk (λ left. LeftByStart life.mode plan (recovered file) (recovered left))
   pub reliable : life.stop ≡ None → life.fails ≡ None → IsReliable core.store.disk FILE_BYTES
 
 -- calls over a simulated disk, one after another, each of which survives a stop
@@ -144,11 +147,11 @@ LeavesLog plan file life end = IfOk end.course (λ course.
 
 abbrev pub IsRefused : Plan → List ℕ → Life → LifeEnd → Type 0
 IsRefused plan file life end =
-    IfErr end.course (λ fault. LeftByStart life.mode plan life.log_room (recovered file) (recovered end.file.items))
+    IfErr end.course (λ fault. LeftByStart life.mode plan (recovered file) (recovered end.file.items))
 
-abbrev pub HasCause : List ℕ → Life → LifeEnd → Type 0
-HasCause file life end = life.stop ≡ None → life.fails ≡ None → MatchResult end.course
-    (IsAllWell (generation_begun life.mode (recovered file)))
+abbrev pub HasCause : Plan → List ℕ → Life → LifeEnd → Type 0
+HasCause plan file life end = life.stop ≡ None → life.fails ≡ None → MatchResult end.course
+    (IsAllWell (generation_begun life.mode plan (recovered file)))
     (λ fault. fault ≢ faults.Store stores.Device)
 
 -- all of it
@@ -158,4 +161,4 @@ pub record IsLife (plan : Plan) (file : List ℕ) (life : Life) (end : LifeEnd) 
   pub acked : IsAcked file life end
   pub survives : LeavesLog plan file life end
   pub refused : IsRefused plan file life end
-  pub cause : HasCause file life end
+  pub cause : HasCause plan file life end

@@ -88,13 +88,13 @@ pub fn lives(
     // The file that it leaves survives for the log that its events and replies tell.
     ensures survives { IfOk result (λ ends. EachLife (LeavesLog plan.now.value) file.items lives.items ends.items) }
 
-    // A life that was refused leaves a file that is recovered to what the file before was, or if it was cold to the
-    // record of the initial values.
+    // A life that was refused leaves a file that is recovered to what the file before was, or, where its start saves it,
+    // to the record of what it would have started with.
     ensures refused { IfOk result (λ ends. EachLife (IsRefused plan.now.value) file.items lives.items ends.items) }
 
     // S3 comes only in a life with a stop or a failing step, and so does K5, but where the generations are used up, from
     // that of the file on.
-    ensures cause { IfOk result (λ ends. EachLife HasCause file.items lives.items ends.items) }
+    ensures cause { IfOk result (λ ends. EachLife (HasCause plan.now.value) file.items lives.items ends.items) }
 {
     let mut ends = Vec::with_capacity(alloc, lives.len())?;
     let mut file = file;

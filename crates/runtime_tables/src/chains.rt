@@ -1,5 +1,6 @@
 //! Chains of lives, each whole or stopped within each device step that it has. Two chains that come to one file go on
-//! alike, so a life is lived once over each file that the lives before it may leave.
+//! alike, so a life is lived once over each file that the lives before it may leave. A life may run another text than
+//! the one before it, and a warm start of either text goes on alike from each file.
 //!
 //! They are thousands of lives: a few seconds as they are built, and many minutes under `rt try`, whose code is slow.
 
@@ -7,19 +8,35 @@ use crate::calls::events_of;
 use crate::disks::Cut;
 use crate::lives_in_turn::life_with;
 use crate::living::{Setting, plan_of};
-use crate::records::opened;
 use crate::row_error::RowError;
+use crate::telling::number_of;
+use crate::thread_runs::restarted;
 use crate::words::{number, split, write_number};
 use commit_lock::{Refusal, StartFault, StartMode};
+use config::SlotPlace;
 use lives::{Course, LifeEnd, Reply, lives};
 use retain_store::{FILE_BYTES, StoreFault};
+use st_build::Plan;
+use st_words::{Name, Path};
 use std::alloc::{AllocError, Global};
+use std::sync::Arc;
 
 /// No life of two rows has so many device steps.
 const STEPS: u64 = 30;
 
 /// The greatest number that is looked for.
 const MOST: u64 = 9;
+
+/// The text of a life that is written `by k`: it retains K too, before N, and never writes it.
+const WITH_K: Setting<'static> = Setting {
+    text: "PROGRAM Unit0 VAR_EXTERNAL N : INT; END_VAR N := N + 1; END_PROGRAM CONFIGURATION C \
+        VAR_GLOBAL RETAIN K : INT := 7; N : INT; END_VAR RESOURCE R0 ON CPU \
+        TASK T0 (INTERVAL := T#10ms, PRIORITY := 0); PROGRAM P0 WITH T0 : Unit0; END_RESOURCE END_CONFIGURATION",
+    globals: "N K",
+};
+
+/// The initial value of K.
+const INITIAL_K: i128 = 7;
 
 /// What is left where bytes were written since the last sync: the mark of an open gate in each, zeros, or what was
 /// written.
@@ -35,37 +52,51 @@ struct Point {
 /// Where a cold life begins, and a warm one over a file without a record.
 const INITIAL: Point = Point { n: 0, moment: None };
 
-/// Where a warm start over the file goes on from.
-fn recovered(alloc: Global, file: &[u8]) -> Result<Point, RowError> {
-    let store = opened(alloc, file)?;
-    let point = match store.last() {
-        Some(record) => Point {
-            n: match record.values().first() {
-                Some(value) => value.number(),
-                None => -1,
-            },
-            moment: record.moment(),
-        },
-        None => INITIAL,
-    };
-    let _ = store.into_disk();
+/// Where a warm start of the text over the file goes on from, and its K; -1 where it has none.
+fn restarted_at(
+    alloc: Global,
+    setting: Setting<'_>,
+    file: &[u8],
+) -> Result<(Point, i128), RowError> {
+    let core = restarted(alloc, setting, file.to_vec(alloc)?)?;
+    let n = number_of(alloc, &core, "N");
+    let k = number_of(alloc, &core, "K");
+    let moment = core.start_moment();
+    let _ = core.stop();
+    Ok((Point { n: n?, moment }, k?))
+}
+
+/// Where a warm start over the file goes on from, by the row's text and by that with K.
+fn recovered(alloc: Global, setting: Setting<'_>, file: &[u8]) -> Result<Point, RowError> {
+    let (point, _) = restarted_at(alloc, setting, file)?;
+    let (other, k) = restarted_at(alloc, WITH_K, file)?;
+    if other != point || k != INITIAL_K {
+        return Err(RowError::Apart);
+    }
     Ok(point)
 }
 
 /// A life of two rows of these moments, each served and acknowledged.
 #[derive(Clone, Copy)]
-struct Chapter {
+struct Chapter<'a> {
+    setting: Setting<'a>,
     mode: StartMode,
     first: u64,
     second: u64,
 }
 
-impl Chapter {
-    /// A life that is written `warm 20 30`.
-    fn read(written: &str) -> Result<Chapter, RowError> {
-        let (mode, moments) = split(written, " ");
+impl<'a> Chapter<'a> {
+    /// A life that is written `warm 20 30`, of the row's text, or `warm 20 30 by k`.
+    fn read(written: &str, setting: Setting<'a>) -> Result<Chapter<'a>, RowError> {
+        let (life, name) = split(written, " by ");
+        let (mode, moments) = split(life, " ");
         let (first, second) = split(moments, " ");
         Ok(Chapter {
+            setting: match name {
+                "" => setting,
+                "k" => WITH_K,
+                _ => return Err(RowError::Form),
+            },
             mode: match mode {
                 "warm" => StartMode::Warm,
                 "cold" => StartMode::Cold,
@@ -119,22 +150,31 @@ impl Chapter {
     }
 
     /// Whether a warm start goes on from a prefix of the life's log that holds all that it acknowledged. A life that
-    /// was not started leaves what was there before, or where it begins.
-    fn is_kept(self, before: Point, end: &LifeEnd, after: Point) -> bool {
+    /// was not started leaves what was there before, or where it begins. N has this place among the variables.
+    fn is_kept(self, before: Point, end: &LifeEnd, place: usize, after: Point) -> bool {
         let start = self.start(before);
         match &end.course {
             Err(StartFault::Store(StoreFault::Device)) => after == before || after == start,
             Err(_) => false,
-            Ok(course) => began(course) == start.n && self.has_front(start, course, after),
+            Ok(course) => began(course, place) == start.n && self.has_front(start, course, after),
         }
     }
 }
 
-/// The value of N at a life's start.
-fn began(course: &Course) -> i128 {
-    match course.values.first() {
+/// The value at a life's start of the variable in this place.
+fn began(course: &Course, place: usize) -> i128 {
+    match course.values.get(place) {
         Some(value) => value.number(),
         None => -1,
+    }
+}
+
+/// The place of N among the variables of the plan.
+fn place_of_n(alloc: Global, plan: &Plan) -> Result<usize, RowError> {
+    let name = Name::from_slice(alloc, b"N")?;
+    match plan.place(&Path::global(alloc, name)) {
+        Some(SlotPlace::Variable(place)) => Ok(place),
+        _ => Err(RowError::Form),
     }
 }
 
@@ -177,12 +217,17 @@ fn known_point(known: &[Left], file: &[u8], sum: u64) -> Option<Point> {
 }
 
 /// Where a warm start over the file goes on from. The file is added to those that are known unless it is one of them.
-fn point_of(alloc: Global, known: &mut Vec<Left>, file: Vec<u8>) -> Result<Point, RowError> {
+fn point_of(
+    alloc: Global,
+    setting: Setting<'_>,
+    known: &mut Vec<Left>,
+    file: Vec<u8>,
+) -> Result<Point, RowError> {
     let sum = sum_of(&file);
     if let Some(point) = known_point(known, &file, sum) {
         return Ok(point);
     }
-    let point = recovered(alloc, &file)?;
+    let point = recovered(alloc, setting, &file)?;
     known.push(Left { file, sum, point })?;
     Ok(point)
 }
@@ -190,19 +235,23 @@ fn point_of(alloc: Global, known: &mut Vec<Left>, file: Vec<u8>) -> Result<Point
 /// A life of a chain, over each of the files that are there.
 #[derive(Clone, Copy)]
 struct Link<'a> {
+    /// The row's text.
     setting: Setting<'a>,
-    chapter: Chapter,
+    chapter: Chapter<'a>,
+    /// The plan of the chapter's text.
+    plan: &'a Arc<Plan>,
+    /// The place of N among its variables.
+    place: usize,
     calls: &'a str,
 }
 
 impl Link<'_> {
     /// Lives the life over a copy of the file, and stops it so.
     fn live(self, alloc: Global, file: &[u8], cut: Cut<'_>) -> Result<Vec<LifeEnd>, RowError> {
-        let plan = plan_of(alloc, self.setting.text)?;
         let events = events_of(alloc, self.calls)?;
         let stop = Some(cut.stop(alloc)?);
         let life = life_with(self.chapter.mode, events, stop, None);
-        Ok(lives(alloc, &plan, file.to_vec(alloc)?, vec![in alloc; life]?)?)
+        Ok(lives(alloc, self.plan, file.to_vec(alloc)?, vec![in alloc; life]?)?)
     }
 
     /// Lives the life over the file, stopped so, and adds the file that it leaves. It says whether power went in it.
@@ -215,8 +264,8 @@ impl Link<'_> {
     ) -> Result<bool, RowError> {
         let mut went = false;
         for end in self.live(alloc, &from.file, cut)? {
-            let after = point_of(alloc, left, end.file.to_vec(alloc)?)?;
-            if !self.chapter.is_kept(from.point, &end, after) {
+            let after = point_of(alloc, self.setting, left, end.file.to_vec(alloc)?)?;
+            if !self.chapter.is_kept(from.point, &end, self.place, after) {
                 return Err(RowError::Lost(cut.step));
             }
             went = is_cut(&end);
@@ -288,18 +337,21 @@ fn next_files(
     files: &[Left],
     written: &str,
 ) -> Result<Vec<Left>, RowError> {
-    let chapter = Chapter::read(written)?;
+    let chapter = Chapter::read(written, setting)?;
     let calls = chapter.calls(alloc)?;
+    let plan = plan_of(alloc, chapter.setting.text)?;
     let link = Link {
         setting,
         chapter,
+        plan: &plan,
+        place: place_of_n(alloc, &plan)?,
         calls: calls.as_str(),
     };
     link.left_over(alloc, files)
 }
 
-/// Lives a chain that is written `cold 0 10, warm 20 30`, the first life over an empty file, and writes after each the
-/// numbers from which a warm start over one of its files goes on.
+/// Lives a chain that is written `cold 0 10, warm 20 30 by k`, the first life over an empty file, and writes after each
+/// the numbers from which a warm start over one of its files goes on.
 pub fn write_chain(
     text: &mut String,
     alloc: Global,

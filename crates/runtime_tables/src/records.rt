@@ -15,7 +15,7 @@ use std::alloc::{AllocError, Global};
 const VALUES: usize = 10_000;
 
 /// A store over a copy of the file.
-pub fn opened(alloc: Global, file: &[u8]) -> Result<Store<SimDisk>, RowError> {
+fn opened(alloc: Global, file: &[u8]) -> Result<Store<SimDisk>, RowError> {
     let disk = SimDisk::new(alloc, file.to_vec(alloc)?)?;
     match Store::open(alloc, disk, 0) {
         Ok(store) => Ok(store),

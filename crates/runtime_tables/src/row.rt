@@ -49,7 +49,8 @@
 //! - `recovered`: the moment and the values that a store alone recovers of the file
 //! - `lives cold, stops 3 \A5 0: row 0, here 0 / warm, fails 2`: lives over a copy of the file in turn, by one call; of
 //!   each the values at its start, its replies, and how much of its log is acknowledged
-//! - `chain cold 0 10, warm 20 30`: two lives, with a stop within any step of each; the values of N that come of it
+//! - `chain cold 0 10, warm 20 30 by k`: two lives, with a stop within any step of each, the second of the text with
+//!   `K : INT := 7` before N, which is retained too; the values of N that come of it
 //! - `run`, `run moment 51`: the execution of what a core of the plan gives at a row of moment 50, as it is or changed
 //! - `commit`: what a new core of the plan at such a row answers to that execution
 //! - `codes`: by what the runs of each program of the plan go, in order: its word code, or the machine on values

@@ -24,6 +24,8 @@ pub enum RowError {
     Refused(Refusal),
     /// A chain of lives lost something within this step.
     Lost(u64),
+    /// Warm starts of two texts over one file go on from different values.
+    Apart,
 }
 
 impl From<AllocError> for RowError {
@@ -70,5 +72,6 @@ pub fn write_error(text: &mut String, error: RowError) -> Result<(), AllocError>
         RowError::Start(fault) => write_fault(text, fault),
         RowError::Refused(refusal) => write!(text, "refused: {refusal}"),
         RowError::Lost(step) => write_number(text, "lost within step ", i128::from(step)),
+        RowError::Apart => text.push_str("two texts go on from different values"),
     }
 }

@@ -54,7 +54,7 @@ static EXPLANATIONS: [Explanation; 6] = [
     },
     Explanation {
         code: "S4",
-        title: "a cold start has to save, and the generations are used up",
+        title: "a start has to save, and the generations are used up",
         meaning: &[
             "Each save has a generation of its own, and the last is 18,446,744,073,709,551,615: no run comes so far.",
             "The example makes a record of it by hand, for a text that retains n : INT alone.",

@@ -12,8 +12,8 @@ save-requires-clause-sound g c =
     let plan = c.args.serial.now.plan in
     let types = (plan_view plan).enumerations in
     let values = c.deref.ensures.value ∙ c.record_all.ensures.items in
-    record_sound types plan.variables.items c.deref.result.now c.last_moment.result c.args.layout.now plan.sound.spelled
-    plan.sound.different c.requires.layout c.last_moment.ensures.early
+    record_sound types plan.variables.items c.deref.result.now c.last_moment.result c.layout_text.result.now plan.sound.spelled
+    plan.sound.different c.layout_text.ensures c.last_moment.ensures.early
     (ap (λ (ws : List Datum). map (λ d. d.kind) ws) values
     ∙ recorded_kinds (retained_kinds plan.variables.items) c.retain.new.values.items c.retain.ensures.kinds)
     (subst (λ (ws : List Datum). AllByRecursion IsHeld ws) (sym values)
@@ -24,8 +24,8 @@ save-requires-clause-room g c =
     let plan = c.args.serial.now.plan in
     let types = (plan_view plan).enumerations in
     let values = c.deref.ensures.value ∙ c.record_all.ensures.items in
-    let long = record_long types plan.variables.items c.deref.result.now c.last_moment.result c.args.layout.now
-    c.requires.layout
+    let long = record_long types plan.variables.items c.deref.result.now c.last_moment.result c.layout_text.result.now
+    c.layout_text.ensures
     (ap (λ (ws : List Datum). map (λ d. d.kind) ws) values
     ∙ recorded_kinds (retained_kinds plan.variables.items) c.retain.new.values.items c.retain.ensures.kinds) in
     subst (λ n. n ≤ c.args.store.now.room) (sym long) c.requires.room

@@ -4,9 +4,9 @@ use Rattle.disk.specs.Medium.{MayLeave}
 use Rattle.disk.specs.Runs.{LeavesOnly}
 use Rattle.disk.specs.Simulated.{SimView}
 use Rattle.retain_areas.specs.Recovered.{recovered}
-use Rattle.commit_lock.specs.Starting.{CanStart, LeftByStart, next_generation, start_of, started}
-use Rattle.lives.specs.Lives.{IsFirst}
-use Rattle.lives.proofs.LifeLemmas.{life_is, store_begun}
+use Rattle.commit_lock.specs.Starting.{CanStart, LeftByStart, start_of, started}
+use Rattle.lives.specs.Lives.{IsFirst, IsStoreBegun}
+use Rattle.lives.proofs.LifeLemmas.{life_is}
 use Rattle.lives.proofs.living.live.Goals as goal
 
 pub returns-in-Ok : goal.returns-in-Ok
@@ -28,15 +28,16 @@ returns-in-Ok c =
           ∙ ap (λ (f : List ℕ). started plan life.log_room (start_of life.mode plan (recovered f))) of;
       fresh = c.in-Ok.ensures.fresh.0;
       unfailed = c.in-Ok.ensures.fresh.1;
-      store = store_begun life.mode plan life.log_room (recovered file) core
-          (λ warm. c.in-Ok.ensures.found tt warm ∙ ap recovered of) c.in-Ok.ensures.last
-          (λ cold. c.in-Ok.ensures.next tt cold ∙ ap (λ (f : List ℕ). next_generation (recovered f)) of)
-          (rw same at c.in-Ok.ensures.saved);
+      store = subst (λ (f : List ℕ). IsStoreBegun life.mode plan (recovered f) core.store) of (record {
+        saved = rw same at (c.in-Ok.ensures.saved tt);
+        found = rw same at (c.in-Ok.ensures.found tt);
+        last = c.in-Ok.ensures.last;
+      });
       served = c.in-Ok.ensures.device ∙ ap (λ (d : SimView). d.failures) begun;
       left = subst (λ (d : SimView). LeavesOnly (λ _ x. MayLeave x.medium) (λ x. MayLeave x.medium) d core.store.disk
-          (λ f. LeftByStart life.mode plan life.log_room (recovered file) (recovered f))) begun
+          (λ f. LeftByStart life.mode plan (recovered file) (recovered f))) begun
           (subst (λ (g : List ℕ). LeavesOnly (λ _ x. MayLeave x.medium) (λ x. MayLeave x.medium) disk core.store.disk
-          (λ f. LeftByStart life.mode plan life.log_room (recovered g) (recovered f))) of left);
+          (λ f. LeftByStart life.mode plan (recovered g) (recovered f))) of left);
       reliable = λ stop fails. c.in-Ok.ensures.serves tt (c.in_ok-disk.ensures.reliable stop fails);
     } in
     life_is plan file life core c.live_on.result first

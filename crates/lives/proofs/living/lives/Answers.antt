@@ -64,7 +64,7 @@ pub returns-clause-cause : goal.returns-clause-cause
 returns-clause-cause c =
     let none : length c.loop-life.life-iterator.rest.items ≡ 0 = search rules in
     let all : c.into_iter-life-iterator.result.rest.items ≡ c.args.lives.items = search rules in
-    each_weaker (IsLife c.args.plan.now.value) HasCause (λ file life end is. is.cause)
+    each_weaker (IsLife c.args.plan.now.value) (HasCause c.args.plan.now.value) (λ file life end is. is.cause)
     c.args.file.items c.args.lives.items c.loop-life.ends.items
     (subst (λ (ls : List Life). EachLife (IsLife c.args.plan.now.value) c.args.file.items ls c.loop-life.ends.items) all
     (each_end (IsLife c.args.plan.now.value) c.args.file.items c.loop-life.file.items

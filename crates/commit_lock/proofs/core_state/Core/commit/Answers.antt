@@ -8,7 +8,7 @@ use Rattle.commit_lock.proofs.core_state.Core.commit.Goals as goal
 
 pub invariant_of-self : goal.invariant_of-self
 invariant_of-self g c = kept_longer c.self.inside.mode c.self.inside.serial c.commit-result.new.self c.self.inside.acked
-    c.self.inside.failed c.self.inside.store _ _ (commits_longer c.self.inside.serial c.args.execution
+    c.self.inside.failed c.self.inside.store _ (commits_longer c.self.inside.serial c.args.execution
     c.commit-result.result c.commit-result.new.self c.commit-result.ensures) c.self.invariant
 
 pub returns-in-Err-clause-commits : goal.returns-in-Err-clause-commits
