@@ -1,5 +1,5 @@
 #!/usr/bin/env python3
-"""Tries `plant show` on retain files that are made byte by byte, as docs/RETAIN-FILE.md has them.
+"""Tries `plant show` on retain files that are made byte by byte, as docs/RETAIN-FILE.md has them, alone and against texts.
 
 usage: tests/shows.py PLANT     PLANT is the built program
 """
@@ -92,6 +92,106 @@ def scenes():
     yield "a name out of its type", area(1, 0, [("M", "(A,B)", bytes([2]))]) + CLOSED, "S2", "area 0\ndamaged\narea 1\nclosed\n"
 
 
+def text(retained, types=""):
+    """A text with these RETAIN globals and these types."""
+    block = f"  VAR_GLOBAL RETAIN {retained} END_VAR\n" if retained else ""
+    return f"""{types}PROGRAM Count
+  VAR x : INT; END_VAR
+  x := 1;
+END_PROGRAM
+CONFIGURATION Plant
+{block}  RESOURCE R ON CPU
+    TASK T (INTERVAL := T#10ms, PRIORITY := 0);
+    PROGRAM P WITH T : Count;
+  END_RESOURCE
+END_CONFIGURATION
+"""
+
+
+def against(head, lines, counts, saved):
+    """What a start would make of a file, as it is shown: how many are carried, new, retyped and dropped."""
+    told = "{} carried, {} new, {} retyped, {} dropped".format(*counts)
+    return head + "".join(f"{line}\n" for line in [*lines, told, saved])
+
+
+MODES = "TYPE Gate : (SHUT, OPEN); Mode : (STOPPED, RUNNING, FAULT); END_TYPE\n"
+FOUR = "TYPE Mode : (STOPPED, RUNNING, FAULT, OPEN); END_TYPE\n"
+HEAD = "generation 13\nmoment 1000ms\n"
+LAST = 2**64 - 1
+
+
+def migrations():
+    """Each scene: what it is, the variables of the record or none, its generation, the text, and what is told."""
+    dint = [(path, "DINT", number(value, 4)) for path, value in [("TOTAL_ML", 275), ("STROKES", 11), ("OLD_SUM", 4)]]
+    mode = [("M", "(STOPPED,RUNNING,FAULT)", b"\2"), ("LIT", "BOOL", b"\1")]
+    array = [(f"A[{i}]", "WORD", number(255 + i, 2)) for i in (1, 2)]
+    yield ("one of each", dint, 13, text("total_ml : DINT; preset : INT := 7; strokes : LINT;"), against(
+        HEAD, ["carried TOTAL_ML DINT = 275", "new PRESET INT = 7", "retyped STROKES LINT = 0, was DINT = 11", "dropped OLD_SUM DINT = 4"],
+        (1, 1, 1, 1), "saves generation 14"))
+    yield ("the same variables", N1, 13, text("n : INT := 5;"), against(HEAD, ["carried N INT = 7"], (1, 0, 0, 0), "saves nothing"))
+    yield ("the same variables in another order", dint, 13, text("old_sum, strokes, total_ml : DINT := 1;"), against(
+        HEAD, ["carried OLD_SUM DINT = 4", "carried STROKES DINT = 11", "carried TOTAL_ML DINT = 275"], (3, 0, 0, 0), "saves generation 14"))
+    yield ("no variable", dint[:2], 13, text(""), against(
+        HEAD, ["dropped TOTAL_ML DINT = 275", "dropped STROKES DINT = 11"], (0, 0, 0, 2), "saves generation 14"))
+    yield ("a record without variables", [], 13, text("n : INT := -5;"), against(HEAD, ["new N INT = -5"], (0, 1, 0, 0), "saves generation 14"))
+    yield ("no variable on either side", [], 13, text(""), against(HEAD, [], (0, 0, 0, 0), "saves nothing"))
+    yield ("no record", None, 0, text("n : INT := 5; lit : BOOL;"), against(
+        "no record\n", ["new N INT = 5", "new LIT BOOL = FALSE"], (0, 2, 0, 0), "saves nothing"))
+    yield ("the last generation, and the same variables", N1, LAST, text("n : INT;"), against(
+        f"generation {LAST}\nmoment 1000ms\n", ["carried N INT = 7"], (1, 0, 0, 0), "saves nothing"))
+    yield ("the last generation", N1, LAST, text("n : DINT;"), against(
+        f"generation {LAST}\nmoment 1000ms\n", ["retyped N DINT = 0, was INT = 7"], (0, 0, 1, 0), "fault S4"))
+    yield ("the generation before the last", N1, LAST - 1, text("n : DINT;"), against(
+        f"generation {LAST - 1}\nmoment 1000ms\n", ["retyped N DINT = 0, was INT = 7"], (0, 0, 1, 0), f"saves generation {LAST}"))
+    yield ("the names of a type", mode, 13, text("lit : BOOL; m : Mode; g : Gate := OPEN;", MODES), against(
+        HEAD, ["carried LIT BOOL = TRUE", "carried M (STOPPED,RUNNING,FAULT) = FAULT", "new G (SHUT,OPEN) = OPEN"], (2, 1, 0, 0), "saves generation 14"))
+    yield ("a fourth name", mode, 13, text("m : Mode := RUNNING;", FOUR), against(
+        HEAD, ["retyped M (STOPPED,RUNNING,FAULT,OPEN) = RUNNING, was (STOPPED,RUNNING,FAULT) = FAULT", "dropped LIT BOOL = TRUE"],
+        (0, 0, 1, 1), "saves generation 14"))
+    yield ("names that are dropped", mode, 13, text("lit : BOOL;"), against(
+        HEAD, ["carried LIT BOOL = TRUE", "dropped M (STOPPED,RUNNING,FAULT) = FAULT"], (1, 0, 0, 1), "saves generation 14"))
+    yield ("an element more", array, 13, text("a : ARRAY [1..3] OF WORD;"), against(
+        HEAD, ["carried A[1] WORD = 16#0100", "carried A[2] WORD = 16#0101", "new A[3] WORD = 16#0000"], (2, 1, 0, 0), "saves generation 14"))
+    yield ("an element less", array, 13, text("a : ARRAY [2..2] OF WORD;"), against(
+        HEAD, ["carried A[2] WORD = 16#0101", "dropped A[1] WORD = 16#0100"], (1, 0, 0, 1), "saves generation 14"))
+
+
+def migrated(plant, folder):
+    """Looks at files against texts: each is left as it was."""
+    path, source = folder / "old.retain", folder / "next.st"
+    words = [str(path), "--against", str(source)]
+    for scene, variables, generation, next_text, told in migrations():
+        content = CLOSED + CLOSED if variables is None else area(generation, 1000, variables) + CLOSED
+        path.write_bytes(content)
+        source.write_text(next_text)
+        shown(plant, words, told, scene)
+        if path.read_bytes() != content:
+            fail(f"{scene}: the file was written")
+    path.write_bytes(b"")
+    shown(plant, words, against("no record\n", ["new A[2] WORD = 16#0000"], (0, 1, 0, 0), "saves nothing"), "a file without bytes, against a text")
+    if path.read_bytes() != b"":
+        fail("a file without bytes, against a text: it was written")
+    for scene, content, code in [("damaged", DAMAGED + CLOSED, "S2"), ("too long", bytes(WHOLE + 1), "S1")]:
+        path.write_bytes(content)
+        shown(plant, words, code, f"{scene}, against a text")
+    path.unlink()
+    shown(plant, words, "S3", "no file, against a text")
+    source.write_text(text("n : Nothing;"))
+    refused(plant, words, (2, "fault C1"), "a text that is refused")
+    source.unlink()
+    refused(plant, words, (2, "fault X1"), "no text")
+    refused(plant, [*words, "--both"], (1, "error:"), "both and against")
+
+
+def refused(plant, words, status_and_start, scene):
+    global COUNT
+    done = subprocess.run([plant, "show", *words], capture_output=True, text=True)
+    status, start = status_and_start
+    if (done.returncode, done.stdout) != (status, "") or not done.stderr.startswith(start):
+        fail(f"{scene}: {done}")
+    COUNT += 1
+
+
 def shown(plant, words, code_or_text, scene):
     global COUNT
     done = subprocess.run([plant, "show", *words], capture_output=True, text=True)
@@ -130,6 +230,7 @@ def main():
         with open(path, "rb") as held:
             fcntl.flock(held, fcntl.LOCK_EX)
             shown(plant, [str(path)], SHOWN1, "a file that a run holds")
+        migrated(plant, pathlib.Path(folder))
     print(f"shows.py: {COUNT} looks as they should be")
 
 

@@ -79,12 +79,22 @@ pub struct CheckJob<'a> {
     pub explain: bool,
 }
 
-/// What a retain file holds.
+/// What is shown of a retain file.
+#[derive(Clone, Copy, Debug, PartialEq, Eq)]
+pub enum View<'a> {
+    /// The last record.
+    Last,
+    /// Both areas, one after the other.
+    Both,
+    /// What a warm start of this source would make of it.
+    Against(&'a str),
+}
+
+/// A look into a retain file.
 #[derive(Clone, Copy, Debug, PartialEq, Eq)]
 pub struct ShowJob<'a> {
     pub store: &'a str,
-    /// Both areas, one after the other, and not the last record alone.
-    pub both: bool,
+    pub view: View<'a>,
 }
 
 /// A picture of a run, from its trace.

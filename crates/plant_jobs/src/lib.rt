@@ -5,5 +5,5 @@ mod job;
 
 pub use job::{
     CheckJob, DEFAULT_BUDGET, DEFAULT_BUDGET_TEXT, Job, Pace, PlotJob, ReplayJob, RunJob, ShowJob,
-    Start, default_of_a_budget,
+    Start, View, default_of_a_budget,
 };

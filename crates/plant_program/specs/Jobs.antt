@@ -1,5 +1,5 @@
 -- What jobs tell where they end well, and why a trace is refused.
-use Rattle.std.specs.Prelude.{◌≡◌, ◌≤◌, ◌⊎◌, ◌++◌, ℕ, List, Some, None, Bool, true, false, find}
+use Rattle.std.specs.Prelude.{◌≡◌, ◌≤◌, ◌⊎◌, ◌++◌, ℕ, List, Some, None, find}
 use Rattle.std.specs.List.{Contains}
 use denote.Bor.{Bor}
 use Rattle.st_words.specs.declared.limits.TheConstants.{MAX_BUDGET}
@@ -18,9 +18,12 @@ use Rattle.plant_codes.specs.Spelling.{explanation_text}
 use Rattle.plant_codes.specs.declared.entry.Explanation.{Explanation}
 use Rattle.retain_areas.specs.Recovered.{recovered}
 use Rattle.retain_show.specs.Shown.{areas_shown, shown_text}
+use Rattle.retain_show.specs.Against.{against_shown}
 use Rattle.plant_jobs.specs.declared.job.Job.{Job}
 use Rattle.plant_jobs.specs.declared.job.Job.TheVariants as jobs
 use Rattle.plant_jobs.specs.declared.job.Start.{Start}
+use Rattle.plant_jobs.specs.declared.job.View.{View}
+use Rattle.plant_jobs.specs.declared.job.View.TheVariants as views
 use Rattle.trace_lines.specs.declared.trace_error.ReplayError.TheVariants as replays
 use Rattle.source_run.specs.declared.fault.Fault.{Fault}
 use Rattle.source_run.specs.declared.fault.Fault.TheVariants as faults
@@ -32,6 +35,8 @@ use Rattle.plant_program.specs.declared.ending.Declined.{Declined}
 use Rattle.plant_program.specs.declared.ending.Declined.TheVariants.{SharedStore, SharedPicture, NoPicture}
 use Rattle.plant_program.specs.declared.ending.Declined.TheVariants.{NoVariable, NoCode}
 use Rattle.plant_program.specs.declared.telling.End.TheVariants as ends
+use Rattle.plant_program.specs.declared.showing.Sight.{Sight}
+use Rattle.plant_program.specs.declared.showing.Sight.TheVariants as sights
 use Rattle.plant_program.specs.Sizes.{sizes_text}
 
 -- the sizes of the plan of a text
@@ -82,14 +87,26 @@ pub record IsReplay (told : List ℕ) : Type 0 where
   pub plan_is : IsPlanFor trace plan
   pub report : IsReplayOf plan trace told
 
--- what these bytes of a retain file hold: both areas, or the last record
-abbrev pub file_shown : Bool → List ℕ → List ℕ
-file_shown true file = areas_shown file
-file_shown false file = shown_text (recovered file)
+-- what these bytes of a retain file hold: the last record, or both areas; or what a warm start of a plan would make of
+-- them
+abbrev pub file_shown : Sight → List ℕ → List ℕ
+file_shown sights.Last file = shown_text (recovered file)
+file_shown sights.Both file = areas_shown file
+file_shown (sights.Against plan) file = against_shown plan (recovered file)
 
 -- the same of the bytes of some file
-abbrev pub IsShowing : Bool → List ℕ → Type 0
-IsShowing both told = (file : List ℕ) × (told ≡ file_shown both file)
+abbrev pub IsSeen : Sight → List ℕ → Type 0
+IsSeen sight told = (file : List ℕ) × (told ≡ file_shown sight file)
+
+-- what a view asks for, with the plan of a text where it names a source
+abbrev pub IsSightOf : View → Sight → Type 0
+IsSightOf views.Last sights.Last = Unit {0}
+IsSightOf views.Both sights.Both = Unit {0}
+IsSightOf (views.Against source) (sights.Against plan) = (text : List ℕ) × IsPlanIn text DEFAULT_BUDGET plan
+IsSightOf view sight = ⊥
+
+abbrev pub IsShowing : View → List ℕ → Type 0
+IsShowing view told = (sight : Sight) × IsSightOf view sight × IsSeen sight told
 
 -- the explanation of a code that there is
 abbrev pub IsExplained : List ℕ → List ℕ → Type 0
@@ -124,13 +141,14 @@ pub record NamesNothing (paths : List (Bor (List ℕ))) : Type 0 where
   pub names : NamesNone plan paths
 
 -- what a job tells where it is done: the built-in run something, check the sizes, a run and a replay their report, a
--- look what a retain file holds, a plot some picture of a life that a trace tells, and the explanation of a code
+-- look what a retain file holds or what a warm start would make of it, a plot some picture of a life that a trace tells,
+-- and the explanation of a code
 abbrev pub Tells : Type 0 → Job → List ℕ → Type 0
 Tells D jobs.First text = Unit {0}
 Tells D (jobs.Check job) text = IsCheck DEFAULT_BUDGET text
 Tells D (jobs.Run job) text = IsRun D job.budget job.start text
 Tells D (jobs.Replay job) text = IsReplay text
-Tells D (jobs.Show job) text = IsShowing job.both text
+Tells D (jobs.Show job) text = IsShowing job.view text
 Tells D (jobs.Plot job) text = IsPlotted
 Tells D (jobs.Explain code) text = IsExplained code.now text
 

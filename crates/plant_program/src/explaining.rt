@@ -3,7 +3,7 @@
 use crate::source_faults::source_fault;
 use fault_codes::code_of;
 use plant_codes::title;
-use plant_jobs::Job;
+use plant_jobs::{Job, ShowJob, View};
 use source_run::{Fault, Files, read_source};
 use st_diagnose::{SourceFault, WholeFault};
 use st_reasons::write_reason;
@@ -27,6 +27,12 @@ fn source_of<'a>(job: &Job<'a>) -> Option<&'a str> {
         Job::Check(job) => Some(job.source),
         Job::Run(job) => Some(job.source),
         Job::Replay(job) => Some(job.source),
+        Job::Show(
+            ShowJob {
+                view: View::Against(source),
+                ..
+            },
+        ) => Some(source),
         _ => None,
     }
 }

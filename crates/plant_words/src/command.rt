@@ -103,7 +103,12 @@ fn show<'a>(alloc: Global) -> Result<Command<'a>, AllocError> {
         .value_name("FILE")
         .help("The retain file")
         .required(true);
-    let args = vec![in alloc; store, flag(alloc, "both", "Show both areas of the file")]?;
+    let both = flag(alloc, "both", "Show both areas of the file").conflicts_with("against")?;
+    let against = Arg::new(alloc, "against")
+        .long("against")
+        .value_name("SRC")
+        .help("Show what a warm start of this source would keep, change and drop");
+    let args = vec![in alloc; store, both, against]?;
     Command::new(alloc, "show")
         .about("Prints what a retain file holds, and never writes")
         .args(args)

@@ -8,7 +8,7 @@ use crate::command::command;
 use crate::number::plain_number;
 use clap::error::ErrorKind;
 use clap::{ArgMatches, Error};
-use plant_jobs::{CheckJob, Job, Pace, PlotJob, ReplayJob, RunJob, ShowJob, Start};
+use plant_jobs::{CheckJob, Job, Pace, PlotJob, ReplayJob, RunJob, ShowJob, Start, View};
 use std::alloc::{AllocError, Global};
 
 /// Why no job was read. It shows as clap's text.
@@ -59,10 +59,19 @@ fn check<'a>(given: &ArgMatches<'a>) -> Option<CheckJob<'a>> {
     })
 }
 
+/// What is shown of a retain file: clap refuses `--both` beside `--against`.
+fn view<'a>(given: &ArgMatches<'a>) -> View<'a> {
+    match given.get_str("against") {
+        Some(source) => View::Against(source),
+        None if given.get_flag("both") => View::Both,
+        None => View::Last,
+    }
+}
+
 fn show<'a>(given: &ArgMatches<'a>) -> Option<ShowJob<'a>> {
     Some(ShowJob {
         store: given.get_str("store")?,
-        both: given.get_flag("both"),
+        view: view(given),
     })
 }
 

@@ -1,2 +1,4 @@
+mod AgainstLemmas
 mod AreaLemmas
+mod StartLemmas
 mod TextLemmas

@@ -1,1 +1,3 @@
 pub mod Shown
+pub mod Against
+pub mod Wanted

@@ -2,6 +2,7 @@
 
 ghost use Rattle.std.specs.Prelude.{◌≡◌, ◌≢◌, IfOk, IfErr};
 ghost use Rattle.retain_store.specs.Opening.{RefusesFor};
+ghost use Rattle.retain_store.specs.Kept.{IsLast};
 ghost use Rattle.retain_areas.specs.Recovered.{recovered};
 ghost use Rattle.retain_show.specs.Shown.{shown_text};
 
@@ -13,6 +14,7 @@ use std::alloc::Global;
 /// Opens a copy of the file in memory.
 pub(crate) fn opened(alloc: Global, file: Vec<u8>) -> Result<Store<SimDisk>, StoreFault>
     ensures found { IfOk result (λ store. store.last ≡ recovered file.items) }
+    ensures last { IfOk result (λ store. IsLast store.generation store.last) }
     ensures refused { IfErr result (λ fault. RefusesFor fault (recovered file.items)) }
     ensures read { IfErr result (λ fault. fault ≢ StoreFault.Device) }
 {

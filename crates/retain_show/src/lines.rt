@@ -4,7 +4,7 @@ ghost use Rattle.std.specs.Prelude.{◌≡◌, ◌∷◌, [], IfOk, OnOk, map};
 ghost use Rattle.std.specs.Vec.{vec_items};
 ghost use Rattle.std.specs.Io.KnownBytes.{Appends};
 ghost use Rattle.cut_bytes.specs.Cuts.{parted};
-ghost use Rattle.retain_show.specs.Shown.{inner, line_shown, lines_shown, names_in, spelling_of};
+ghost use Rattle.retain_show.specs.Shown.{inner, line_shown, lines_shown, spelling_of};
 
 use cut_bytes::cut;
 use st_print::write_value;
@@ -47,12 +47,12 @@ fn parts(alloc: Global, text: &[u8]) -> Result<Vec<Name>, AllocError>
     Ok(names)
 }
 
-/// The names of the enumerated type of a line, where it has one.
-fn names_in(alloc: Global, line: &[u8]) -> Result<Vec<Vec<Name>>, AllocError>
-    ensures { IfOk result (λ types. map vec_items types.items ≡ names_in line.now ∷ []) }
+/// The names of an enumerated type that is spelled so.
+pub(crate) fn names_of_type(alloc: Global, spelling: &[u8]) -> Result<Vec<Vec<Name>>, AllocError>
+    ensures { IfOk result (λ types. map vec_items types.items ≡ parted 44 (inner spelling.now) ∷ []) }
 {
     let mut types = Vec::new(alloc);
-    types.push(parts(alloc, inner(spelling_of(line)))?)?;
+    types.push(parts(alloc, inner(spelling))?)?;
     Ok(types)
 }
 
@@ -60,7 +60,7 @@ fn names_in(alloc: Global, line: &[u8]) -> Result<Vec<Vec<Name>>, AllocError>
 fn write_line<W: Write>(alloc: Global, out: &mut W, line: &[u8], value: Value) -> io::Result<()>
     ensures { OnOk result (Appends (W.contents out.old) (W.contents out.new) (line_shown line.now value)) }
 {
-    let types = names_in(alloc, line)?;
+    let types = names_of_type(alloc, spelling_of(line))?;
     out.write_all(line)?;
     out.write_all(b" = ")?;
     write_value(out, value, &types)?;

@@ -10,14 +10,15 @@ use std::alloc::Global;
 use std::io;
 use std::io::Write;
 
-fn write_generation<W: Write>(out: &mut W, generation: u64) -> io::Result<()>
+/// Writes the number of a record.
+pub(crate) fn write_generation<W: Write>(out: &mut W, generation: u64) -> io::Result<()>
     ensures { OnOk result (Appends (W.contents out.old) (W.contents out.new) (generation_shown generation)) }
 {
     write!(out, "generation {generation}\n")
 }
 
 /// Writes the moment of the last row.
-fn write_moment<W: Write>(out: &mut W, moment: Option<u64>) -> io::Result<()>
+pub(crate) fn write_moment<W: Write>(out: &mut W, moment: Option<u64>) -> io::Result<()>
     ensures { OnOk result (Appends (W.contents out.old) (W.contents out.new) (moment_shown moment)) }
 {
     match moment {

@@ -1,0 +1,150 @@
+//! What a warm start of a text would make of a retain file.
+
+ghost use Rattle.std.specs.Prelude.{◌≡◌, IfOk, IfErr, OnOk, map};
+ghost use Rattle.std.specs.Vec.{vec_items};
+ghost use Rattle.std.specs.Io.KnownBytes.{Appends};
+ghost use Rattle.st_plans.specs.Layouts.{layout_text};
+ghost use Rattle.retain_store.specs.Opening.{RefusesFor};
+ghost use Rattle.retain_areas.specs.Recovered.{Found, Nothing, recovered};
+ghost use Rattle.retain_show.specs.Against.{against, against_shown, saved_shown};
+
+use crate::changes::{Sides, write_changes};
+use crate::contents::opened;
+use crate::record::{write_generation, write_moment};
+use crate::wanted::retained;
+use crate::written_lines::lines_of;
+use config::Plan;
+use retain_store::{Record, StoreFault};
+use st_plans::PlanVariable;
+use st_words::Name;
+use std::alloc::Global;
+use std::io;
+use std::io::Write;
+
+/// What a text says of its variables.
+#[derive(Clone, Copy)]
+struct Text<'a> {
+    /// The names of each enumerated type, in the order of the types' numbers.
+    types: &'a [Vec<Name>],
+    /// The variables in layout order.
+    variables: &'a [PlanVariable],
+    /// The layout text of its records.
+    layout: &'a [u8],
+}
+
+/// Writes what a start saves over a record of that generation.
+fn write_saved<W: Write>(out: &mut W, is_same: bool, generation: u64) -> io::Result<()>
+    ensures { OnOk result (Appends (W.contents out.old) (W.contents out.new) (saved_shown is_same generation)) }
+{
+    if is_same {
+        return out.write_all(b"saves nothing\n");
+    }
+    if generation == u64::MAX {
+        return out.write_all(b"fault S4\n");
+    }
+    let next = generation + 1;
+    write!(out, "saves generation {next}\n")
+}
+
+/// Writes what a start makes of a file without a record.
+fn write_first<W: Write>(alloc: Global, out: &mut W, text: &Text<'_>) -> io::Result<()>
+    ensures { OnOk result (Appends (W.contents out.old) (W.contents out.new)
+        (against (map vec_items text.now.types.now) text.now.variables.now Nothing)) }
+{
+    let sides = Sides {
+        types: text.types,
+        wanted: retained(alloc, text.types, text.variables)?,
+        lines: Vec::new(alloc),
+    };
+    out.write_all(b"no record\n")?;
+    write_changes(alloc, out, &sides)?;
+    write_saved(out, true, 0)
+}
+
+/// Writes what a start makes of a file with this record.
+fn write_next<W: Write>(
+    alloc: Global,
+    out: &mut W,
+    text: &Text<'_>,
+    generation: u64,
+    last: &Record,
+) -> io::Result<()>
+    requires layout { text.now.layout.now ≡ layout_text (map vec_items text.now.types.now) text.now.variables.now }
+    ensures { OnOk result (Appends (W.contents out.old) (W.contents out.new)
+        (against (map vec_items text.now.types.now) text.now.variables.now (Found generation last.now))) }
+{
+    let sides = Sides {
+        types: text.types,
+        wanted: retained(alloc, text.types, text.variables)?,
+        lines: lines_of(alloc, last.layout(), last.values())?,
+    };
+    write_generation(out, generation)?;
+    write_moment(out, last.moment())?;
+    write_changes(alloc, out, &sides)?;
+    let is_same = last.layout() == text.layout;
+    write_saved(out, is_same, generation)
+}
+
+/// What a start makes of a file without a record, as a text; S5 out of memory.
+fn first_text(alloc: Global, text: &Text<'_>) -> Result<Vec<u8>, StoreFault>
+    ensures told { IfOk result (λ shown. shown.items
+        ≡ against (map vec_items text.now.types.now) text.now.variables.now Nothing) }
+    ensures memory { IfErr result (λ fault. fault ≡ StoreFault.NoMemory) }
+{
+    let mut shown = Vec::new(alloc);
+    match write_first(alloc, &mut shown, text) {
+        Ok(()) => Ok(shown),
+        Err(_) => Err(StoreFault::NoMemory),
+    }
+}
+
+/// What a start makes of a file with this record, as a text; S5 out of memory.
+fn next_text(
+    alloc: Global,
+    text: &Text<'_>,
+    generation: u64,
+    last: &Record,
+) -> Result<Vec<u8>, StoreFault>
+    requires layout { text.now.layout.now ≡ layout_text (map vec_items text.now.types.now) text.now.variables.now }
+    ensures told { IfOk result (λ shown. shown.items
+        ≡ against (map vec_items text.now.types.now) text.now.variables.now (Found generation last.now)) }
+    ensures memory { IfErr result (λ fault. fault ≡ StoreFault.NoMemory) }
+{
+    let mut shown = Vec::new(alloc);
+    match write_next(alloc, &mut shown, text, generation, last) {
+        Ok(()) => Ok(shown),
+        Err(_) => Err(StoreFault::NoMemory),
+    }
+}
+
+/// What a warm start of the text makes of the bytes of a file.
+fn text_against(alloc: Global, text: &Text<'_>, file: Vec<u8>) -> Result<Vec<u8>, StoreFault>
+    requires layout { text.now.layout.now ≡ layout_text (map vec_items text.now.types.now) text.now.variables.now }
+    ensures told { IfOk result (λ shown. shown.items
+        ≡ against (map vec_items text.now.types.now) text.now.variables.now (recovered file.items)) }
+    ensures refused { IfErr result (λ fault. RefusesFor fault (recovered file.items)) }
+{
+    let store = opened(alloc, file)?;
+    match store.last() {
+        Some(last) => next_text(alloc, text, store.generation(), last),
+        None => first_text(alloc, text),
+    }
+}
+
+/// What a warm start of the plan would make of a file, as a text: the generation of the last record and its moment, or
+/// `no record`; a line `carried PATH TYPE = VALUE`, `new PATH TYPE = VALUE` or `retyped PATH TYPE = VALUE, was TYPE = VALUE`
+/// for each RETAIN variable of the plan, in order; a line `dropped PATH TYPE = VALUE` for each line of the record whose
+/// path none of them has; how many there are of each; and `saves generation N`, `saves nothing` or `fault S4`.
+///
+/// S1 where the file is too long, S2 where it is damaged, S5 out of memory.
+pub fn shown_against(alloc: Global, plan: &Plan, file: Vec<u8>) -> Result<Vec<u8>, StoreFault>
+    ensures told { IfOk result (λ text. text.items ≡ against_shown plan.now (recovered file.items)) }
+    ensures refused { IfErr result (λ fault. RefusesFor fault (recovered file.items)) }
+{
+    let text = Text {
+        types: &plan.enumerations,
+        variables: &plan.variables,
+        layout: plan.layout().text(),
+    };
+    text_against(alloc, &text, file)
+}
