@@ -4,7 +4,7 @@ use Rattle.disk.specs.Medium.{MayLeave}
 use Rattle.disk.specs.Runs.{LeavesOnly}
 use Rattle.disk.specs.Simulated.{SimView}
 use Rattle.retain_areas.specs.Recovered.{recovered}
-use Rattle.commit_lock.specs.Starting.{CanStart, LeftByStart, start_of, started}
+use Rattle.commit_lock.specs.Starting.{CanStart, LeftByStart, RefusesStart, start_of, started}
 use Rattle.lives.specs.Lives.{IsFirst, IsStoreBegun}
 use Rattle.lives.proofs.LifeLemmas.{life_is}
 use Rattle.lives.proofs.living.live.Goals as goal
@@ -43,3 +43,25 @@ returns-in-Ok c =
     life_is plan file life core c.live_on.result first
     (subst (λ (f : List ℕ). CanStart life.mode plan (recovered f)) of (rw same at (c.in-Ok.ensures.answers tt)))
     c.live_on.ensures.started c.live_on.ensures.lived c.live_on.ensures.well
+
+pub returns-in-Err : goal.returns-in-Err
+returns-in-Err c =
+    let same : c.in_ok-clone.field-0.value ≡ c.args.plan.now.value = search rules in
+    let plan = c.args.plan.now.value in
+    let life = c.args.life in
+    let file = c.args.file.items in
+    let disk = c.in_ok-disk.disk in
+    let of : disk.medium.file ≡ file = ap (λ (d : SimView). d.medium.file) c.in_ok-disk.ensures.disk in
+    let only : Only disk.medium.file (MayLeave disk.medium) =
+    subst (λ (f : List ℕ). Only f (MayLeave disk.medium)) (sym of) c.in_ok-disk.ensures.synced in
+    let answers = rw same at (c.in-Err.ensures.answers tt) in
+    let left = rw same at (c.in-Err.ensures.any_moment tt only) in
+    record {
+      begins = subst (λ (f : List ℕ). RefusesStart life.mode plan (recovered f) c.in-Err.fault) of answers;
+      answered = tt;
+      acked = tt;
+      survives = tt;
+      refused = subst (λ (f : List ℕ). LeftByStart life.mode plan (recovered f) (recovered c.left.result.items)) of
+          (left.now c.left.result.items c.left.ensures.may_be_left);
+      cause = λ stop fails. (c.in-Err.ensures.serves tt (c.in_ok-disk.ensures.reliable stop fails)).0;
+    }
