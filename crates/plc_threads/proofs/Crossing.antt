@@ -2004,10 +2004,7 @@ module _ (D : RattleType) (disk : Disk.Ghosts D.Denot) where
       serial-send,
       (
         store-send s,
-        (
-          search plain depth 20,
-          (Vec-send _ value-send, (search plain depth 20, (search plain depth 20, tt))),
-        ),
+        (Vec-send _ value-send, (search plain depth 20, (search plain depth 20, tt))),
       ),
     ),
   )
