@@ -8,7 +8,7 @@ use Rattle.serial_core.specs.Steps.{State, made}
 use Rattle.commit_lock.specs.Starting.{IsNew}
 use Rattle.commit_lock.specs.Starting.{started}
 use Rattle.commit_lock.specs.Restart.{begun, warm}
-use Rattle.commit_lock.specs.Told.{told}
+use Rattle.kept_lines.specs.Told.{told}
 use Rattle.commit_lock.specs.declared.starting.StartMode.TheVariants as modes
 use Rattle.run_lock.specs.Lives.{life_of}
 use Rattle.retain_areas.specs.Recovered.{Recovered, TooLong, Refused, Nothing, Found}
