@@ -124,6 +124,11 @@ cp life other
 scene "a variable more, before the one that is kept" 0 "$(report 0 0 0 0 0 'K = 7' 'N = 3')" "" $(run before.st none.csv other warm)
 scene "that variable dropped again" 0 "$(report 0 0 0 0 0 'N = 3')" "" $(run s.st none.csv other warm)
 scene "a row at the record's moment after two other layouts" 5 "" "fault K4" $(run s.st last.csv other warm)
+cp life other
+scene "a row over another layout, with a trace" 0 "$(report 1 1 0 0 2 'K = 7' 'N = 4')" "" $(run before.st next.csv other warm) --trace moved.txt
+scene "its trace run again" 0 "$(printf '%s\n' 'rows 1' 'done 1' 'faults 0' 'overruns 0' 'K = 7' 'N = 4')" "" \
+    replay before.st --plant next.csv --trace moved.txt
+scene "its trace by the text before" 3 "" "fault V1" replay s.st --plant next.csv --trace moved.txt
 sed 's/RETAIN n/n/' s.st > fleeting.st
 cp life other
 scene "a variable that is retained no more" 0 "$(report 0 0 0 0 0 'N = 0')" "" $(run fleeting.st none.csv other warm)

@@ -141,8 +141,8 @@ pub record NamesNothing (paths : List (Bor (List ℕ))) : Type 0 where
   pub names : NamesNone plan paths
 
 -- what a job tells where it is done: the built-in run something, check the sizes, a run and a replay their report, a
--- look what a retain file holds or what a warm start would make of it, a plot some picture of a life that a trace tells,
--- and the explanation of a code
+-- look what a retain file holds or what a warm start would make of it, a plot some picture of a life that a trace
+-- tells, and the explanation of a code
 abbrev pub Tells : Type 0 → Job → List ℕ → Type 0
 Tells D jobs.First text = Unit {0}
 Tells D (jobs.Check job) text = IsCheck DEFAULT_BUDGET text

@@ -1,5 +1,6 @@
 -- The retained variables of a text as they are written, against the lines of a record.
-use Rattle.std.specs.Prelude.{ℕ, Bool, List, [], ◌∷◌, ◌++◌, if◌then◌else◌, Option, Some, None, option_map, unwrap_or, is_some, is_none, length, map, filter}
+use Rattle.std.specs.Prelude.{ℕ, Bool, List, [], ◌∷◌, ◌++◌, if◌then◌else◌, Option}
+use Rattle.std.specs.Prelude.{Some, None, option_map, unwrap_or, is_some, is_none, length, map, filter}
 use Rattle.std.specs.List.{find, flat_map}
 use Rattle.std.specs.Vec.{vec_items}
 use Rattle.st_words.specs.Values.{Datum}

@@ -1,6 +1,6 @@
 //! What a warm start of a text would make of a retain file.
 
-ghost use Rattle.std.specs.Prelude.{◌≡◌, IfOk, IfErr, OnOk, map};
+ghost use Rattle.std.specs.Prelude.{◌≡◌, ◌≢◌, IfOk, IfErr, OnOk, map};
 ghost use Rattle.std.specs.Vec.{vec_items};
 ghost use Rattle.std.specs.Io.KnownBytes.{Appends};
 ghost use Rattle.st_plans.specs.Layouts.{layout_text};
@@ -123,6 +123,7 @@ fn text_against(alloc: Global, text: &Text<'_>, file: Vec<u8>) -> Result<Vec<u8>
     ensures told { IfOk result (λ shown. shown.items
         ≡ against (map vec_items text.now.types.now) text.now.variables.now (recovered file.items)) }
     ensures refused { IfErr result (λ fault. RefusesFor fault (recovered file.items)) }
+    ensures read { IfErr result (λ fault. fault ≢ StoreFault.Device) }
 {
     let store = opened(alloc, file)?;
     match store.last() {
@@ -132,14 +133,16 @@ fn text_against(alloc: Global, text: &Text<'_>, file: Vec<u8>) -> Result<Vec<u8>
 }
 
 /// What a warm start of the plan would make of a file, as a text: the generation of the last record and its moment, or
-/// `no record`; a line `carried PATH TYPE = VALUE`, `new PATH TYPE = VALUE` or `retyped PATH TYPE = VALUE, was TYPE = VALUE`
-/// for each RETAIN variable of the plan, in order; a line `dropped PATH TYPE = VALUE` for each line of the record whose
-/// path none of them has; how many there are of each; and `saves generation N`, `saves nothing` or `fault S4`.
+/// `no record`; a line for each RETAIN variable of the plan, in order, `carried PATH TYPE = VALUE`,
+/// `new PATH TYPE = VALUE` or `retyped PATH TYPE = VALUE, was TYPE = VALUE`; a line `dropped PATH TYPE = VALUE` for each
+/// line of the record whose path none of them has; how many there are of each; and `saves generation N`,
+/// `saves nothing` or `fault S4`.
 ///
 /// S1 where the file is too long, S2 where it is damaged, S5 out of memory.
 pub fn shown_against(alloc: Global, plan: &Plan, file: Vec<u8>) -> Result<Vec<u8>, StoreFault>
     ensures told { IfOk result (λ text. text.items ≡ against_shown plan.now (recovered file.items)) }
     ensures refused { IfErr result (λ fault. RefusesFor fault (recovered file.items)) }
+    ensures read { IfErr result (λ fault. fault ≢ StoreFault.Device) }
 {
     let text = Text {
         types: &plan.enumerations,

@@ -1,6 +1,6 @@
 //! Both areas of a file.
 
-ghost use Rattle.std.specs.Prelude.{◌≡◌, ◌<◌, ◌++◌, length, IfOk, IfErr, OnOk, slice_set};
+ghost use Rattle.std.specs.Prelude.{◌≡◌, ◌≢◌, ◌<◌, ◌++◌, length, IfOk, IfErr, OnOk, slice_set};
 ghost use Rattle.std.specs.Io.KnownBytes.{Appends};
 ghost use Rattle.retain_areas.specs.declared.shape.TheConstants.{FILE_BYTES};
 ghost use Rattle.retain_store.specs.Opening.{RefusesFor};
@@ -63,6 +63,7 @@ fn write_both<W: Write>(out: &mut W, first: &[u8], second: &[u8]) -> io::Result<
 pub fn shown_areas(alloc: Global, file: &[u8]) -> Result<Vec<u8>, StoreFault>
     ensures told { IfOk result (λ text. text.items ≡ areas_shown file.now) }
     ensures refused { IfErr result (λ fault. RefusesFor fault (recovered file.now)) }
+    ensures read { IfErr result (λ fault. fault ≢ StoreFault.Device) }
 {
     if file.len() > FILE_BYTES {
         return Err(StoreFault::TooLong);

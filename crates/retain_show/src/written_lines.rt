@@ -42,7 +42,8 @@ fn words_at(text: &[u8]) -> Option<Words<'_>>
 /// A line of these words with this value.
 fn line_with(alloc: Global, words: &Words<'_>, value: Value) -> Result<Line, AllocError>
     ensures { IfOk result
-        (λ line. line_view line ≡ record { path = words.now.path.now; spelling = words.now.spelling.now; value = value }) }
+        (λ line. line_view line
+        ≡ record { path = words.now.path.now; spelling = words.now.spelling.now; value = value }) }
 {
     Ok(Line {
         path: Vec::from_slice(alloc, words.path)?,
