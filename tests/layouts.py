@@ -174,6 +174,24 @@ def started(slots, lines):
     return {path: lines.get((path, slot.spelling), slot.first) if slot.is_retained else slot.first for path, slot in slots.items()}
 
 
+def retained(slots):
+    return {path: slot.spelling for path, slot in slots.items() if slot.is_retained}
+
+
+def changes(old, new):
+    """What a warm start tells of a record with the layout of one text, by another text; nothing where their layouts are the same."""
+    old, new = retained(old), retained(new)
+    if list(old.items()) == list(new.items()):
+        return ""
+    both = old.keys() & new.keys()
+    carried = sum(old[path] == new[path] for path in both)
+    return told_changes(carried, len(new) - len(both), len(both) - carried, len(old) - len(both))
+
+
+def told_changes(carried, added, retyped, dropped):
+    return f"the retain file has another layout: {carried} carried, {added} new, {retyped} retyped, {dropped} dropped\n"
+
+
 # Texts by chance.
 
 
@@ -304,15 +322,16 @@ class Pair:
     def __init__(self, plant, number, folder):
         self.plant, self.name, self.folder = plant, f"pair {number} of seed {SEED}", folder
 
-    def told(self, *words):
+    def told(self, *words, aside=""):
+        """What these words tell; beside it they tell this on the standard error."""
         ended = subprocess.run([self.plant, *words], capture_output=True, text=True, timeout=60, cwd=self.folder)
-        if ended.returncode or ended.stderr:
+        if ended.returncode or ended.stderr != aside:
             fail(self.name, f"{' '.join(words)}: status {ended.returncode}, {ended.stderr}")
         return ended.stdout.splitlines()
 
-    def starts(self, source, rows, mode, slots, values):
-        """The text tells these values once its run is over."""
-        lines = self.told("run", source, "--plant", rows, "--store", "store", "--start", mode)
+    def starts(self, source, rows, mode, slots, values, aside=""):
+        """The text tells these values once its run is over, and this on the standard error."""
+        lines = self.told("run", source, "--plant", rows, "--store", "store", "--start", mode, aside=aside)
         found = dict(line.split(" = ") for line in lines if " = " in line)
         wanted = {path: slot.tell(values[path]) for path, slot in slots.items()}
         if found != wanted:
@@ -333,10 +352,10 @@ class Pair:
         ran = {path: slot.ran for path, slot in ours.items()}
         self.starts("first.st", "rows.csv", "cold", ours, ran)
         over = started(theirs, kept(ours, ran))
-        self.starts("second.st", "none.csv", "warm", theirs, over)
+        self.starts("second.st", "none.csv", "warm", theirs, over, changes(ours, theirs))
         self.shows(theirs, over)
         back = started(ours, kept(theirs, over))
-        self.starts("first.st", "none.csv", "warm", ours, back)
+        self.starts("first.st", "none.csv", "warm", ours, back, changes(theirs, ours))
         return len(theirs) + len(ours)
 
 
@@ -390,13 +409,14 @@ def try_limits(plant):
     with tempfile.TemporaryDirectory() as folder:
         folder = pathlib.Path(folder)
         (folder / "none.csv").write_text("t\n")
-        for source, listed, first, mode in ("first.st", names, 1, "cold"), ("second.st", others, 2, "warm"):
+        moved = told_changes(PATHS - 1, 1, 0, 1)
+        for source, listed, first, mode, aside in ("first.st", names, 1, "cold", ""), ("second.st", others, 2, "warm", moved):
             (folder / source).write_text(counters(listed, first))
             words = [plant, "run", source, "--plant", "none.csv", "--store", "store", "--start", mode]
             before = resource.getrusage(resource.RUSAGE_CHILDREN)
             ended = subprocess.run(words, capture_output=True, text=True, cwd=folder, preexec_fn=limit)
             after = resource.getrusage(resource.RUSAGE_CHILDREN)
-            if ended.returncode:
+            if ended.returncode or ended.stderr != aside:
                 fail("the limits", f"{source}: status {ended.returncode}, {ended.stderr}")
         if int.from_bytes((folder / "store").read_bytes()[9:13], "big") != BODY:
             fail("the limits", "the record is not the greatest")

@@ -113,26 +113,31 @@ scene "a cold start over it" 4 "" "fault S2" $(run s.st none.csv gate cold)
 cmp -s gate before || fail "a damaged file was changed"
 scene "a folder that isn't there" 4 "" "fault S3" $(run s.st none.csv folder/store cold)
 
+# over_another CARRIED NEW RETYPED DROPPED: what a warm start over a record of another layout tells on the standard error
+over_another() {
+    echo "the retain file has another layout: $1 carried, $2 new, $3 retyped, $4 dropped"
+}
+
 # A warm start of another layout over the file of the three rows: a variable whose path and type the record has too goes on from there, any
 # other one begins anew, and what is dropped does not come back.
 cp life other
-scene "another type" 0 "$(report 0 0 0 0 0 'N = 0')" "" $(run dint.st none.csv other warm)
+scene "another type" 0 "$(report 0 0 0 0 0 'N = 0')" "$(over_another 0 0 1 0)" $(run dint.st none.csv other warm)
 scene "a row at the record's moment by another type" 5 "" "fault K4" $(run dint.st last.csv other warm)
-scene "the first type after another one" 0 "$(report 0 0 0 0 0 'N = 0')" "" $(run s.st none.csv other warm)
+scene "the first type after another one" 0 "$(report 0 0 0 0 0 'N = 0')" "$(over_another 0 0 1 0)" $(run s.st none.csv other warm)
 sed 's/RETAIN n : INT;/RETAIN k : INT := 7; n : INT;/' s.st > before.st
 cp life other
-scene "a variable more, before the one that is kept" 0 "$(report 0 0 0 0 0 'K = 7' 'N = 3')" "" $(run before.st none.csv other warm)
-scene "that variable dropped again" 0 "$(report 0 0 0 0 0 'N = 3')" "" $(run s.st none.csv other warm)
+scene "a variable more, before the one that is kept" 0 "$(report 0 0 0 0 0 'K = 7' 'N = 3')" "$(over_another 1 1 0 0)" $(run before.st none.csv other warm)
+scene "that variable dropped again" 0 "$(report 0 0 0 0 0 'N = 3')" "$(over_another 1 0 0 1)" $(run s.st none.csv other warm)
 scene "a row at the record's moment after two other layouts" 5 "" "fault K4" $(run s.st last.csv other warm)
 cp life other
-scene "a row over another layout, with a trace" 0 "$(report 1 1 0 0 2 'K = 7' 'N = 4')" "" $(run before.st next.csv other warm) --trace moved.txt
+scene "a row over another layout, with a trace" 0 "$(report 1 1 0 0 2 'K = 7' 'N = 4')" "$(over_another 1 1 0 0)" $(run before.st next.csv other warm) --trace moved.txt
 scene "its trace run again" 0 "$(printf '%s\n' 'rows 1' 'done 1' 'faults 0' 'overruns 0' 'K = 7' 'N = 4')" "" \
     replay before.st --plant next.csv --trace moved.txt
 scene "its trace by the text before" 3 "" "fault V1" replay s.st --plant next.csv --trace moved.txt
 sed 's/RETAIN n/n/' s.st > fleeting.st
 cp life other
-scene "a variable that is retained no more" 0 "$(report 0 0 0 0 0 'N = 0')" "" $(run fleeting.st none.csv other warm)
-scene "that variable retained again" 0 "$(report 0 0 0 0 0 'N = 0')" "" $(run s.st none.csv other warm)
+scene "a variable that is retained no more" 0 "$(report 0 0 0 0 0 'N = 0')" "$(over_another 0 0 0 1)" $(run fleeting.st none.csv other warm)
+scene "that variable retained again" 0 "$(report 0 0 0 0 0 'N = 0')" "$(over_another 0 1 0 0)" $(run s.st none.csv other warm)
 cat > mode.st <<'END'
 TYPE Mode : (Stopped, Running, Fault); END_TYPE
 PROGRAM Step VAR_EXTERNAL m : Mode; END_VAR CASE m OF Stopped : m := Running; Running : m := Mode#Fault; END_CASE; END_PROGRAM
@@ -144,16 +149,16 @@ END
 sed 's/Fault);/Fault, Open);/' mode.st > names.st
 scene "three rows of an enumerated type" 0 "$(report 3 3 0 0 6 'M = FAULT')" "" $(run mode.st rows.csv mode cold)
 scene "its restart" 0 "$(report 0 0 0 0 0 'M = FAULT')" "" $(run mode.st none.csv mode warm)
-scene "a fourth name of its type" 0 "$(report 0 0 0 0 0 'M = STOPPED')" "" $(run names.st none.csv mode warm)
-scene "the three names again" 0 "$(report 0 0 0 0 0 'M = STOPPED')" "" $(run mode.st none.csv mode warm)
+scene "a fourth name of its type" 0 "$(report 0 0 0 0 0 'M = STOPPED')" "$(over_another 0 0 1 0)" $(run names.st none.csv mode warm)
+scene "the three names again" 0 "$(report 0 0 0 0 0 'M = STOPPED')" "$(over_another 0 0 1 0)" $(run mode.st none.csv mode warm)
 
 # Such a start saves its values in the new layout, with the record's moment and the next generation. Over the same layout nothing is saved.
 three=000000140000000000000015000000064E20494E540A0003
 bytes A50000000000000002$three other
 truncate -s 262144 other
-scene "a record of another layout" 0 "$(report 0 0 0 0 0 'N = 0')" "" $(run fleeting.st none.csv other warm)
+scene "a record of another layout" 0 "$(report 0 0 0 0 0 'N = 0')" "$(over_another 0 0 0 1)" $(run fleeting.st none.csv other warm)
 holds "a record without a variable" other A50000000000000002$three A500000000000000030000000C000000000000001500000000
-scene "a record without a variable" 0 "$(report 0 0 0 0 0 'N = 0')" "" $(run s.st none.csv other warm)
+scene "a record without a variable" 0 "$(report 0 0 0 0 0 'N = 0')" "$(over_another 0 1 0 0)" $(run s.st none.csv other warm)
 holds "a record of the first layout again" other A50000000000000004000000140000000000000015000000064E20494E540A0000 \
     A500000000000000030000000C000000000000001500000000
 cp life other

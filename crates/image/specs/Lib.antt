@@ -1,3 +1,4 @@
 pub mod Plants
 pub mod Faults
 pub mod Records
+pub mod ReadFaults

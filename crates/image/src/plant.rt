@@ -1,12 +1,13 @@
 //! Plants, row by row.
 
-ghost use Rattle.std.specs.Prelude.{◌≡◌, ◌≤◌, ◌<◌, ◌++◌, ◌∷◌, [], ◌⊎◌, true, if◌then◌else◌, length, List, MatchBool};
+ghost use Rattle.std.specs.Prelude.{◌≡◌, ◌≤◌, ◌<◌, ◌++◌, ◌∷◌, [], ◌⊎◌, true, length, List, MatchBool};
 ghost use Rattle.std.specs.Prelude.{OnOk, OnErr, IfOk, IfErr, IsErrOf, IfSome};
 ghost use Rattle.csv.specs.Records.{fields_of};
 ghost use Rattle.st_plans.specs.Rows.{Latch};
 ghost use Rattle.image.specs.Plants.{AreRowsOf, IsLater, IsNotLater, IsPlant, IsRowOf, spelled};
-ghost use Rattle.csv.specs.Reading.{error_kind, is_io, stops_reader};
+ghost use Rattle.csv.specs.Reading.{error_kind, stops_reader};
 ghost use Rattle.image.specs.Faults.{HasNoHeader, HasNoRise, HasTooManyRows, HasWrongField, IsNoRow};
+ghost use Rattle.image.specs.ReadFaults.{fault_of};
 ghost use Rattle.image.specs.Records.{OfRecords};
 
 use crate::header::is_header;
@@ -17,6 +18,7 @@ use csv::{ByteRecord, ReaderBuilder};
 use st_plans::{PlanInput, Row};
 use st_words::limits::MAX_ROWS;
 use std::alloc::Global;
+use std::io;
 use std::io::Read;
 
 /// Whether the moment is later than that of the last row, if there is one.
@@ -57,13 +59,16 @@ fn add_row(
     Ok(())
 }
 
-/// Why a read failed. Only the reader and memory fail it.
+/// Why a read failed: I6 out of memory, the reader's own want too, else I5. Only the reader and memory fail it.
 fn refusal(error: csv::Error) -> PlantError
     requires { stops_reader (error_kind error) ≡ true }
-    ensures { result ≡ (if is_io (error_kind error) then PlantError.Reading else PlantError.NoMemory) }
+    ensures { result ≡ fault_of (error_kind error) }
 {
     match error.kind() {
-        csv::ErrorKind::Io(_) => PlantError::Reading,
+        csv::ErrorKind::Io(error) => match error.kind() {
+            io::ErrorKind::OutOfMemory => PlantError::NoMemory,
+            _ => PlantError::Reading,
+        },
         _ => PlantError::NoMemory,
     }
 }
@@ -72,7 +77,7 @@ fn refusal(error: csv::Error) -> PlantError
 /// the plan, in declaration order. At most 10,000 rows.
 ///
 /// I1 to I4 come only where they apply; which of several comes is not promised. I5 is a reader that fails, I6 out of
-/// memory.
+/// memory, the reader's too.
 pub fn read_plant<R: Read + Drop>(
     alloc: Global,
     reader: R,

@@ -10,11 +10,9 @@ use crate::telling::End;
 use config::Plan;
 use plant_jobs::PlotJob;
 use plots::{Plot, Shown, find, first_variables, gather, write_plot};
-use source_run::{Fault, Files, plan_of, read_rows};
+use source_run::{Fault, Files, plan_of, put_text, read_rows};
 use st_plans::Row;
 use std::alloc::{AllocError, Global};
-use std::io;
-use std::io::{BufWriter, Write};
 use std::sync::Arc;
 use traces::{ReplayError, trace_budget};
 
@@ -50,19 +48,6 @@ fn shown(alloc: Global, plan: &Plan, paths: &[&str]) -> Result<Option<Vec<Shown>
     Ok(Some(shown))
 }
 
-/// Writes the picture, and hands all of it on.
-fn put_picture<W: Write + Drop>(
-    alloc: Global,
-    plan: &Plan,
-    plot: &Plot,
-    title: &str,
-    file: W,
-) -> io::Result<()> {
-    let mut out = BufWriter::new(alloc, file)?;
-    write_plot(alloc, plan, plot, title, &mut out)?;
-    out.flush()
-}
-
 /// The picture as a text.
 fn picture_of(alloc: Global, plan: &Plan, plot: &Plot, title: &str) -> Result<Vec<u8>, Fault> {
     let mut picture = Vec::new(alloc);
@@ -72,7 +57,8 @@ fn picture_of(alloc: Global, plan: &Plan, plot: &Plot, title: &str) -> Result<Ve
     }
 }
 
-/// Writes the picture into its file, or gives it for the standard output.
+/// Writes the picture into its file, or gives it for the standard output. The file is made when the picture is there, so
+/// where memory is wanted it stays as it was.
 fn draw<F: Files>(
     alloc: Global,
     files: &mut F,
@@ -82,13 +68,14 @@ fn draw<F: Files>(
 ) -> Result<End, Fault>
     ensures { IfOk result IsDrawn }
 {
+    let picture = picture_of(alloc, plan, plot, job.source)?;
     let Some(name) = job.picture else {
-        return Ok(End::Report(picture_of(alloc, plan, plot, job.source)?));
+        return Ok(End::Report(picture));
     };
-    let Some(file) = files.create(name) else {
+    let Some(mut file) = files.create(name) else {
         return Ok(End::Declined(Declined::NoPicture));
     };
-    match put_picture(alloc, plan, plot, job.source, file) {
+    match put_text(&mut file, &picture) {
         Ok(()) => Ok(End::Report(Vec::new(alloc))),
         Err(_) => Ok(End::Declined(Declined::NoPicture)),
     }

@@ -1,13 +1,12 @@
 //! What the program tells.
 
-ghost use Rattle.std.specs.Prelude.{◌≡◌, OnOk};
-ghost use Rattle.std.specs.Io.KnownBytes.{Appends};
+ghost use Rattle.std.specs.Prelude.{◌≡◌};
 ghost use Rattle.plant_program.specs.Endings.{IsTold, IsAboutWords};
 
 use crate::ending::{Declined, Ending};
 use fault_codes::write_fault;
 use plant_words::WordsError;
-use source_run::Fault;
+use source_run::{Fault, put_text};
 use std::io;
 use std::io::Write;
 
@@ -20,21 +19,13 @@ pub(crate) enum End {
     Declined(Declined),
 }
 
-/// Puts a text on the standard output.
-fn print<O: Write>(out: &mut O, text: &[u8]) -> io::Result<()>
-    ensures { OnOk result (Appends (O.contents out.old) (O.contents out.new) text.now) }
-{
-    out.write_all(text)?;
-    out.flush()
-}
-
 /// Tells how a job ended: its text on the standard output, or one line on the standard error. An ending stands even
 /// where its line can't be written.
 pub(crate) fn tell<O: Write, E: Write>(end: Result<End, Fault>, out: &mut O, err: &mut E) -> Ending
     ensures { IsTold O.contents end result out.old out.new }
 {
     match end {
-        Ok(End::Report(report)) => match print(out, &report) {
+        Ok(End::Report(report)) => match put_text(out, &report) {
             Ok(()) => Ending::Done,
             Err(_) => Ending::Untold,
         },

@@ -10,8 +10,9 @@ use Rattle.kept_lines.specs.Matching.{is_line_for, numbered_by}
 use Rattle.retain_show.specs.declared.written_lines.Line as lines
 use Rattle.st_plans.specs.Layouts.{Enumerations}
 use Rattle.retain_show.specs.declared.fate.Fate.{Fate}
-use Rattle.retain_show.specs.Against.{Line, counts_of, counts_shown, dropped_shown, was_shown, with_value, word_of}
-use Rattle.retain_show.specs.Wanted.{Matched, all_shown, dropped_in, fate_in, kept_line, line_view, match_shown, matched, told_in}
+use Rattle.retain_show.specs.declared.fate.Changes.{Changes}
+use Rattle.retain_show.specs.Against.{Line, changes_shown, dropped_shown, was_shown, with_value, word_of}
+use Rattle.retain_show.specs.Wanted.{Matched, all_changes, all_shown, dropped_in, fate_in, kept_line, line_view, match_shown, matched, told_in}
 use Rattle.retain_show.specs.Wanted.{own_line}
 
 first_here : (b : Bool) (d x : Datum) (l : KeptLine) (o : Option KeptLine)
@@ -78,14 +79,11 @@ match_written types m fate value e f =
     ++ was_shown (fate_in m) m.other ++ 10 ∷ []) f
 
 -- all lines, by their parts
-pub all_written : (types : Enumerations) (lines ws : List Line) (fates : List Fate) (dropped : List Line) (n : ℕ)
-    → fates ≡ map fate_in (map (matched lines) ws) → dropped ≡ dropped_in lines ws → n ≡ length dropped
-    → flat_map (match_shown types) (map (matched lines) ws) ++ flat_map dropped_shown dropped
-    ++ counts_shown (counts_of fates n)
+pub all_written : (types : Enumerations) (lines ws dropped : List Line) (changes : Changes)
+    → dropped ≡ dropped_in lines ws → changes ≡ all_changes lines ws
+    → flat_map (match_shown types) (map (matched lines) ws) ++ flat_map dropped_shown dropped ++ changes_shown changes
     ≡ all_shown types lines ws
-all_written types lines ws fates dropped n e f g =
+all_written types lines ws dropped changes e f =
     let first = flat_map (match_shown types) (map (matched lines) ws) in
-    ap (λ k. first ++ flat_map dropped_shown dropped ++ counts_shown (counts_of fates k)) g
-    ∙ ap (λ d. first ++ flat_map dropped_shown d ++ counts_shown (counts_of fates (length d))) f
-    ∙ ap (λ x. first ++ flat_map dropped_shown (dropped_in lines ws)
-    ++ counts_shown (counts_of x (length (dropped_in lines ws)))) e
+    ap (λ c. first ++ flat_map dropped_shown dropped ++ changes_shown c) f
+    ∙ ap (λ d. first ++ flat_map dropped_shown d ++ changes_shown (all_changes lines ws)) e

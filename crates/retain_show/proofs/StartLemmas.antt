@@ -13,12 +13,13 @@ use Rattle.retain_areas.specs.Recovered.{Recovered, TooLong, Refused, Found, Not
 use Rattle.retain_store.specs.Kept.{IsLast, record_in}
 use Rattle.kept_lines.specs.Told.{Words, words_at, line_then, lines_in, told}
 use Rattle.kept_lines.specs.Matching.{numbered_by}
+use Rattle.retain_show.specs.declared.fate.Changes.{Changes}
 use Rattle.retain_show.specs.Shown.{generation_shown, moment_shown, shown_text}
 use Rattle.retain_show.specs.Against as against
-use Rattle.retain_show.specs.Against.{Line, changes_shown, counts_of, counts_shown, dropped_lines, dropped_shown}
+use Rattle.retain_show.specs.Against.{Line, changes_in, changes_of, changes_shown, dropped_lines, dropped_shown, fates_shown}
 use Rattle.retain_show.specs.Against.{fate_by, fate_of, line_with_path, lines_of, retained, saved_shown, variable_shown}
 use Rattle.retain_show.specs.Against.{was_shown, with_value, word_of}
-use Rattle.retain_show.specs.Wanted.{all_shown, fate_in, is_dropped, kept_line, match_shown, matched, own_line, wanted}
+use Rattle.retain_show.specs.Wanted.{all_changes, all_shown, fate_in, is_dropped, kept_line, match_shown, matched, own_line, wanted}
 
 -- the lines of a record are those that a start is told
 lines_next : (o : Option Words) (d : Datum) (others : List ℕ → List Line) (more : List ℕ → List KeptLine)
@@ -114,20 +115,50 @@ module _ (types : Enumerations) (lines : List Line) where
       ∙ ap (λ rest. if is_none (find (λ v. bytes_eq l.path (path_text v.path)) vs) then l ∷ rest else rest)
       (filter_same vs ls)
 
-  pub changes_same : (vs : List PlanVariable)
+  pub counted_same : (vs : List PlanVariable)
+      → all_changes lines (map (wanted types) (retained vs))
+      ≡ changes_in types (map kept_line lines) lines (retained vs)
+  counted_same vs =
+      let rs = retained vs in
+      let ws = map (wanted types) rs in
+      ap (λ fs. changes_of fs (length (filter (is_dropped ws) lines))) (fates_same rs)
+      ∙ ap (λ ls. changes_of (map (fate_of types (map kept_line lines) lines) rs) (length ls)) (filter_same rs lines)
+
+  pub shown_same : (vs : List PlanVariable)
       → all_shown types lines (map (wanted types) (retained vs))
-      ≡ changes_shown types (map kept_line lines) lines (retained vs)
-  changes_same vs =
+      ≡ fates_shown types (map kept_line lines) lines (retained vs)
+  shown_same vs =
       let rs = retained vs in
       let ws = map (wanted types) rs in
       let kept = map kept_line lines in
-      ap (λ t. t ++ flat_map dropped_shown (filter (is_dropped ws) lines)
-      ++ counts_shown (counts_of (map fate_in (map (matched lines) ws)) (length (filter (is_dropped ws) lines)))) (variables_same vs)
+      ap (λ t. t ++ flat_map dropped_shown (filter (is_dropped ws) lines) ++ changes_shown (all_changes lines ws))
+      (variables_same vs)
       ∙ ap (λ ls. flat_map (variable_shown types kept lines) rs ++ flat_map dropped_shown ls
-      ++ counts_shown (counts_of (map fate_in (map (matched lines) ws)) (length ls))) (filter_same rs lines)
-      ∙ ap (λ fs. flat_map (variable_shown types kept lines) rs
-      ++ flat_map dropped_shown (dropped_lines types kept lines rs)
-      ++ counts_shown (counts_of fs (length (dropped_lines types kept lines rs)))) (fates_same rs)
+      ++ changes_shown (all_changes lines ws)) (filter_same rs lines)
+      ∙ ap (λ c. flat_map (variable_shown types kept lines) rs
+      ++ flat_map dropped_shown (dropped_lines types kept lines rs) ++ changes_shown c) (counted_same vs)
+
+-- how many there are of each in a record of another layout text
+pub changes_found : (types : Enumerations) (vs : List PlanVariable) (generation : ℕ) (c : Content) (ws lines : List Line)
+    (layout : List ℕ) (told_changes : Changes) → ws ≡ map (wanted types) (retained vs)
+    → lines ≡ lines_of c.layout c.values → false ≡ bytes_eq c.layout layout → layout ≡ layout_text types vs
+    → told_changes ≡ all_changes lines ws
+    → ◌≡◌ {A = Option Changes} (Some told_changes) (against.changes types vs (Found generation c))
+changes_found types vs generation c ws lines layout told_changes e f g h i =
+    let told_lines = lines_of c.layout c.values in
+    let all = changes_in types (told c).lines told_lines (retained vs) in
+    ap Some (i ∙ ap (λ x. all_changes lines x) e ∙ ap (λ x. all_changes x (map (wanted types) (retained vs))) f
+    ∙ counted_same types told_lines vs
+    ∙ ap (λ k. changes_in types k told_lines (retained vs)) (lines_told c.layout c.values))
+    ∙ ap (λ (b : Bool). if b then None else Some all) (g ∙ ap (bytes_eq c.layout) h)
+
+-- none where the layout text is the same
+pub changes_same : (types : Enumerations) (vs : List PlanVariable) (generation : ℕ) (c : Content) (layout : List ℕ)
+    → true ≡ bytes_eq c.layout layout → layout ≡ layout_text types vs
+    → ◌≡◌ {A = Option Changes} None (against.changes types vs (Found generation c))
+changes_same types vs generation c layout g h =
+    let all = changes_in types (told c).lines (lines_of c.layout c.values) (retained vs) in
+    ap (λ (b : Bool). if b then None else Some all) (g ∙ ap (bytes_eq c.layout) h)
 
 -- what is written of a file without a record
 pub first_written : (types : Enumerations) (vs : List PlanVariable) (ws lines : List Line)
@@ -136,7 +167,7 @@ pub first_written : (types : Enumerations) (vs : List PlanVariable) (ws lines : 
 first_written types vs ws lines e f =
     ap (λ x. shown_text Nothing ++ all_shown types lines x ++ saved_shown true 0) e
     ∙ ap (λ x. shown_text Nothing ++ all_shown types x (map (wanted types) (retained vs)) ++ saved_shown true 0) f
-    ∙ ap (λ t. shown_text Nothing ++ t ++ saved_shown true 0) (changes_same types [] vs)
+    ∙ ap (λ t. shown_text Nothing ++ t ++ saved_shown true 0) (shown_same types [] vs)
 
 -- what is written of a file with a record
 pub next_written : (types : Enumerations) (vs : List PlanVariable) (generation : ℕ) (c : Content) (ws lines : List Line)
@@ -150,10 +181,10 @@ next_written types vs generation c ws lines same layout e f g h =
     let rs = retained vs in
     ap (λ x. head ++ all_shown types lines x ++ saved_shown same generation) e
     ∙ ap (λ x. head ++ all_shown types x (map (wanted types) rs) ++ saved_shown same generation) f
-    ∙ ap (λ t. head ++ t ++ saved_shown same generation) (changes_same types told_lines vs)
-    ∙ ap (λ k. head ++ changes_shown types k told_lines rs ++ saved_shown same generation)
+    ∙ ap (λ t. head ++ t ++ saved_shown same generation) (shown_same types told_lines vs)
+    ∙ ap (λ k. head ++ fates_shown types k told_lines rs ++ saved_shown same generation)
     (lines_told c.layout c.values)
-    ∙ ap (λ b. head ++ changes_shown types (told c).lines told_lines rs ++ saved_shown b generation)
+    ∙ ap (λ b. head ++ fates_shown types (told c).lines told_lines rs ++ saved_shown b generation)
     (g ∙ ap (bytes_eq c.layout) h)
 
 -- the last record of a store, with its generation

@@ -13,7 +13,7 @@ use Rattle.cut_bytes.specs.Cuts.{parted}
 use Rattle.config.specs.declared.plan.Plan.{Plan}
 use Rattle.config.specs.PlanViews.{plan_view}
 use Rattle.kept_lines.specs.Told.{Words, words_at, told}
-use Rattle.retain_show.specs.declared.fate.Counts.{Counts}
+use Rattle.retain_show.specs.declared.fate.Changes.{Changes}
 use Rattle.retain_show.specs.declared.fate.Fate.{Fate}
 use Rattle.retain_show.specs.declared.fate.Fate.TheVariants.{Carried, New, Retyped}
 use Rattle.retain_show.specs.Shown.{inner, generation_shown, moment_shown, shown_text}
@@ -70,8 +70,8 @@ is_fate a b = false
 abbrev pub count_of : Fate → List Fate → ℕ
 count_of fate fates = length (filter (is_fate fate) fates)
 
-abbrev pub counts_of : List Fate → ℕ → Counts
-counts_of fates dropped = record {
+abbrev pub changes_of : List Fate → ℕ → Changes
+changes_of fates dropped = record {
   carried = count_of Carried fates;
   new = count_of New fates;
   retyped = count_of Retyped fates;
@@ -81,8 +81,8 @@ counts_of fates dropped = record {
 abbrev pub count_shown : ℕ → List ℕ → List ℕ
 count_shown n word = decimal n ++ word
 
-abbrev pub counts_shown : Counts → List ℕ
-counts_shown c = count_shown c.carried (codes " carried, ") ++ count_shown c.new (codes " new, ")
+abbrev pub changes_shown : Changes → List ℕ
+changes_shown c = count_shown c.carried (codes " carried, ") ++ count_shown c.new (codes " new, ")
     ++ count_shown c.retyped (codes " retyped, ") ++ count_shown c.dropped (codes " dropped\n")
 
 abbrev pub dropped_shown : Line → List ℕ
@@ -104,10 +104,14 @@ module _ (types : Enumerations) (kept : List KeptLine) (lines : List Line) where
   abbrev pub dropped_lines : List PlanVariable → List Line
   dropped_lines vs = filter (λ l. is_none (find (λ v. bytes_eq l.path (path_text v.path)) vs)) lines
 
+  -- how many there are of each
+  abbrev pub changes_in : List PlanVariable → Changes
+  changes_in vs = changes_of (map fate_of vs) (length (dropped_lines vs))
+
   -- the variables, the lines that are dropped, and how many there are of each
-  abbrev pub changes_shown : List PlanVariable → List ℕ
-  changes_shown vs = flat_map variable_shown vs ++ flat_map dropped_shown (dropped_lines vs)
-      ++ counts_shown (counts_of (map fate_of vs) (length (dropped_lines vs)))
+  abbrev pub fates_shown : List PlanVariable → List ℕ
+  fates_shown vs =
+      flat_map variable_shown vs ++ flat_map dropped_shown (dropped_lines vs) ++ changes_shown (changes_in vs)
 
 -- what the start saves: nothing where the layout text is the same; S4 where no generation is left
 abbrev pub saved_shown : Bool → ℕ → List ℕ
@@ -123,9 +127,9 @@ retained vs = filter (λ v. v.retained) vs
 -- the same of all variables, by what a file is recovered to; nothing is shown of a file that is refused
 abbrev pub against : Enumerations → List PlanVariable → Recovered → List ℕ
 against types vs Nothing =
-    shown_text Nothing ++ changes_shown types [] [] (retained vs) ++ saved_shown true 0
+    shown_text Nothing ++ fates_shown types [] [] (retained vs) ++ saved_shown true 0
 against types vs (Found generation c) = generation_shown generation ++ moment_shown c.moment
-    ++ changes_shown types (told c).lines (lines_of c.layout c.values) (retained vs)
+    ++ fates_shown types (told c).lines (lines_of c.layout c.values) (retained vs)
     ++ saved_shown (bytes_eq c.layout (layout_text types vs)) generation
 against types vs TooLong = []
 against types vs Refused = []
@@ -133,3 +137,14 @@ against types vs Refused = []
 -- What a warm start of a plan would make of a file. The value of each variable is the one that `start` takes.
 abbrev pub against_shown : Plan → Recovered → List ℕ
 against_shown plan file = against (plan_view plan).enumerations plan.variables.items file
+
+-- how many there are of each where a record of another layout text is found
+abbrev pub changes : Enumerations → List PlanVariable → Recovered → Option Changes
+changes types vs (Found generation c) =
+    if bytes_eq c.layout (layout_text types vs) then None
+    else Some (changes_in types (told c).lines (lines_of c.layout c.values) (retained vs))
+changes types vs file = None
+
+-- What a warm start of a plan over another layout would make of a file.
+abbrev pub changes_against : Plan → Recovered → Option Changes
+changes_against plan file = changes (plan_view plan).enumerations plan.variables.items file

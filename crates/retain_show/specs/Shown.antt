@@ -56,6 +56,12 @@ shown_text (Found generation c) = record_shown generation c
 shown_text TooLong = []
 shown_text Refused = []
 
+-- the file is not refused
+abbrev pub IsAccepted : Recovered → Type 0
+IsAccepted TooLong = ⊥
+IsAccepted Refused = ⊥
+IsAccepted other = Unit {0}
+
 -- an area: closed, damaged, or its record
 abbrev pub area_shown : Area → List ℕ
 area_shown Closed = codes "closed" ++ 10 ∷ []

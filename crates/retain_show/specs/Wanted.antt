@@ -8,11 +8,12 @@ use Rattle.st_plans.specs.declared.plan.PlanVariable.{PlanVariable}
 use Rattle.st_plans.specs.Layouts.{Enumerations, path_text, type_text}
 use Rattle.st_plans.specs.Restarts.{KeptLine}
 use Rattle.kept_lines.specs.Matching.{is_line_for, numbered_by}
+use Rattle.retain_show.specs.declared.fate.Changes.{Changes}
 use Rattle.retain_show.specs.declared.fate.Fate.{Fate}
 use Rattle.retain_show.specs.declared.written_lines.Line as lines
 use Rattle.retain_show.specs.declared.matching.Match.{Match}
 use Rattle.retain_show.specs.declared.changes.Sides.{Sides}
-use Rattle.retain_show.specs.Against.{Line, counts_of, counts_shown, dropped_shown, fate_by, line_with_path, was_shown}
+use Rattle.retain_show.specs.Against.{Line, changes_of, changes_shown, dropped_shown, fate_by, line_with_path, was_shown}
 use Rattle.retain_show.specs.Against.{with_value, word_of}
 
 -- a line of the code
@@ -77,7 +78,10 @@ is_dropped ws l = is_none (line_with_path l.path ws)
 abbrev pub dropped_in : List Line → List Line → List Line
 dropped_in lines ws = filter (is_dropped ws) lines
 
+abbrev pub all_changes : List Line → List Line → Changes
+all_changes lines ws = changes_of (map fate_in (map (matched lines) ws)) (length (dropped_in lines ws))
+
 abbrev pub all_shown : Enumerations → List Line → List Line → List ℕ
 all_shown types lines ws =
     flat_map (match_shown types) (map (matched lines) ws) ++ flat_map dropped_shown (dropped_in lines ws)
-    ++ counts_shown (counts_of (map fate_in (map (matched lines) ws)) (length (dropped_in lines ws)))
+    ++ changes_shown (all_changes lines ws)

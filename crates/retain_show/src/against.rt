@@ -1,15 +1,19 @@
 //! What a warm start of a text would make of a retain file.
 
-ghost use Rattle.std.specs.Prelude.{◌≡◌, ◌≢◌, IfOk, IfErr, OnOk, map};
+ghost use Rattle.std.specs.Prelude.{◌≡◌, ◌≢◌, ℕ, IfOk, IfErr, OnOk, map};
 ghost use Rattle.std.specs.Vec.{vec_items};
 ghost use Rattle.std.specs.Io.KnownBytes.{Appends};
 ghost use Rattle.st_plans.specs.Layouts.{layout_text};
+ghost use Rattle.config.specs.PlanViews.{plan_view};
 ghost use Rattle.retain_store.specs.Opening.{RefusesFor};
 ghost use Rattle.retain_areas.specs.Recovered.{Found, Nothing, recovered};
-ghost use Rattle.retain_show.specs.Against.{against, against_shown, saved_shown};
+ghost use Rattle.retain_show.specs.Shown.{IsAccepted};
+ghost use Rattle.retain_show.specs.Against.{against, against_shown, changes, changes_against, lines_of, retained, saved_shown};
+ghost use Rattle.retain_show.specs.Wanted.{record_lines, text_lines, types_of, wanted};
 
-use crate::changes::{Sides, write_changes};
+use crate::changes::{Sides, changes, write_changes};
 use crate::contents::opened;
+use crate::fate::Changes;
 use crate::record::{write_generation, write_moment};
 use crate::wanted::retained;
 use crate::written_lines::lines_of;
@@ -30,6 +34,19 @@ struct Text<'a> {
     variables: &'a [PlanVariable],
     /// The layout text of its records.
     layout: &'a [u8],
+}
+
+/// What the text of a plan says of its variables.
+fn text_of(plan: &Plan) -> Text<'_>
+    ensures types { map vec_items result.types.now ≡ (plan_view plan.now).enumerations }
+    ensures variables { result.variables.now ≡ plan.now.variables.items }
+    ensures layout { result.layout.now ≡ layout_text (map vec_items result.types.now) result.variables.now }
+{
+    Text {
+        types: &plan.enumerations,
+        variables: &plan.variables,
+        layout: plan.layout().text(),
+    }
 }
 
 /// Writes what a start saves over a record of that generation.
@@ -61,6 +78,20 @@ fn write_first<W: Write>(alloc: Global, out: &mut W, text: &Text<'_>) -> io::Res
     write_saved(out, true, 0)
 }
 
+/// The retained variables of a text, and the lines of this record.
+fn sides_with<'a>(alloc: Global, text: &Text<'a>, last: &Record) -> io::Result<Sides<'a>>
+    ensures types { IfOk result (λ sides. types_of sides ≡ map vec_items text.now.types.now) }
+    ensures wanted { IfOk result (λ sides. text_lines sides
+        ≡ map (wanted (map vec_items text.now.types.now)) (retained text.now.variables.now)) }
+    ensures lines { IfOk result (λ sides. record_lines sides ≡ lines_of last.now.layout last.now.values) }
+{
+    Ok(Sides {
+        types: text.types,
+        wanted: retained(alloc, text.types, text.variables)?,
+        lines: lines_of(alloc, last.layout(), last.values())?,
+    })
+}
+
 /// Writes what a start makes of a file with this record.
 fn write_next<W: Write>(
     alloc: Global,
@@ -73,11 +104,7 @@ fn write_next<W: Write>(
     ensures { OnOk result (Appends (W.contents out.old) (W.contents out.new)
         (against (map vec_items text.now.types.now) text.now.variables.now (Found generation last.now))) }
 {
-    let sides = Sides {
-        types: text.types,
-        wanted: retained(alloc, text.types, text.variables)?,
-        lines: lines_of(alloc, last.layout(), last.values())?,
-    };
+    let sides = sides_with(alloc, text, last)?;
     write_generation(out, generation)?;
     write_moment(out, last.moment())?;
     write_changes(alloc, out, &sides)?;
@@ -122,6 +149,7 @@ fn text_against(alloc: Global, text: &Text<'_>, file: Vec<u8>) -> Result<Vec<u8>
     requires layout { text.now.layout.now ≡ layout_text (map vec_items text.now.types.now) text.now.variables.now }
     ensures told { IfOk result (λ shown. shown.items
         ≡ against (map vec_items text.now.types.now) text.now.variables.now (recovered file.items)) }
+    ensures accepted { IfOk result (λ _. IsAccepted (recovered file.items)) }
     ensures refused { IfErr result (λ fault. RefusesFor fault (recovered file.items)) }
     ensures read { IfErr result (λ fault. fault ≢ StoreFault.Device) }
 {
@@ -141,13 +169,63 @@ fn text_against(alloc: Global, text: &Text<'_>, file: Vec<u8>) -> Result<Vec<u8>
 /// S1 where the file is too long, S2 where it is damaged, S5 out of memory.
 pub fn shown_against(alloc: Global, plan: &Plan, file: Vec<u8>) -> Result<Vec<u8>, StoreFault>
     ensures told { IfOk result (λ text. text.items ≡ against_shown plan.now (recovered file.items)) }
+    ensures accepted { IfOk result (λ _. IsAccepted (recovered file.items)) }
     ensures refused { IfErr result (λ fault. RefusesFor fault (recovered file.items)) }
     ensures read { IfErr result (λ fault. fault ≢ StoreFault.Device) }
 {
-    let text = Text {
-        types: &plan.enumerations,
-        variables: &plan.variables,
-        layout: plan.layout().text(),
+    text_against(alloc, &text_of(plan), file)
+}
+
+/// How many variables and lines there are of each sort where this record is of another layout text than the text.
+fn changes_over(alloc: Global, text: &Text<'_>, last: &Record) -> io::Result<Option<Changes>>
+    requires layout { text.now.layout.now ≡ layout_text (map vec_items text.now.types.now) text.now.variables.now }
+    ensures { IfOk result (λ found. (generation : ℕ) → found
+        ≡ changes (map vec_items text.now.types.now) text.now.variables.now (Found generation last.now)) }
+{
+    if last.layout() == text.layout {
+        return Ok(None);
+    }
+    let sides = sides_with(alloc, text, last)?;
+    let changes = changes(alloc, &sides)?;
+    Ok(Some(changes))
+}
+
+/// The same of the bytes of a file.
+fn text_changes(
+    alloc: Global,
+    text: &Text<'_>,
+    file: Vec<u8>,
+) -> Result<Option<Changes>, StoreFault>
+    requires layout { text.now.layout.now ≡ layout_text (map vec_items text.now.types.now) text.now.variables.now }
+    ensures told { IfOk result (λ found. found
+        ≡ changes (map vec_items text.now.types.now) text.now.variables.now (recovered file.items)) }
+    ensures accepted { IfOk result (λ _. IsAccepted (recovered file.items)) }
+    ensures refused { IfErr result (λ fault. RefusesFor fault (recovered file.items)) }
+    ensures read { IfErr result (λ fault. fault ≢ StoreFault.Device) }
+{
+    let store = opened(alloc, file)?;
+    let Some(last) = store.last() else {
+        return Ok(None);
     };
-    text_against(alloc, &text, file)
+    match changes_over(alloc, text, last) {
+        Ok(changes) => Ok(changes),
+        Err(_) => Err(StoreFault::NoMemory),
+    }
+}
+
+/// How many variables a warm start of the plan would carry over from a file and how many not, and how many lines of its
+/// record it would drop; none where the file has no record, or one of the plan's own layout text.
+///
+/// S1 where the file is too long, S2 where it is damaged, S5 out of memory.
+pub fn changes_against(
+    alloc: Global,
+    plan: &Plan,
+    file: Vec<u8>,
+) -> Result<Option<Changes>, StoreFault>
+    ensures told { IfOk result (λ found. found ≡ changes_against plan.now (recovered file.items)) }
+    ensures accepted { IfOk result (λ _. IsAccepted (recovered file.items)) }
+    ensures refused { IfErr result (λ fault. RefusesFor fault (recovered file.items)) }
+    ensures read { IfErr result (λ fault. fault ≢ StoreFault.Device) }
+{
+    text_changes(alloc, &text_of(plan), file)
 }

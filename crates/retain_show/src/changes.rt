@@ -5,16 +5,16 @@ ghost use Rattle.std.specs.List.{flat_map};
 ghost use Rattle.std.specs.Vec.{vec_items};
 ghost use Rattle.std.specs.Io.KnownBytes.{Appends};
 ghost use Rattle.retain_show.specs.Against.{dropped_shown, typed_shown, was_shown, with_value};
-ghost use Rattle.retain_show.specs.Wanted.{all_shown, fate_in, line_view, match_shown, match_view, matched};
+ghost use Rattle.retain_show.specs.Wanted.{all_changes, all_shown, fate_in, line_view, match_shown, match_view, matched};
 ghost use Rattle.retain_show.specs.Wanted.{record_lines, text_lines, types_of};
 
-use crate::fate::{Counts, Fate};
+use crate::fate::{Changes, Fate};
 use crate::lines::names_of_type;
 use crate::matching::{Match, dropped_in, matched};
 use crate::written_lines::Line;
 use st_print::write_value;
 use st_words::{Name, Value};
-use std::alloc::Global;
+use std::alloc::{AllocError, Global};
 use std::io;
 use std::io::Write;
 
@@ -102,24 +102,36 @@ fn write_match<W: Write>(
     out.write_all(b"\n")
 }
 
-/// Writes a line for each variable, and gives what becomes of them.
-fn write_all_matches<W: Write>(
-    alloc: Global,
-    out: &mut W,
-    sides: &Sides<'_>,
-) -> io::Result<Vec<Fate>>
-    ensures written { OnOk result (Appends (W.contents out.old) (W.contents out.new)
+/// Writes a line for each variable.
+fn write_all_matches<W: Write>(alloc: Global, out: &mut W, sides: &Sides<'_>) -> io::Result<()>
+    ensures { OnOk result (Appends (W.contents out.old) (W.contents out.new)
         (flat_map (match_shown (types_of sides.now)) (map (matched (record_lines sides.now)) (text_lines sides.now)))) }
-    ensures fates { IfOk result
+{
+    for wanted in &sides.wanted {
+        write_match(alloc, out, sides.types, &matched(wanted, &sides.lines))?;
+    }
+    Ok(())
+}
+
+/// What becomes of each variable.
+fn fates(alloc: Global, sides: &Sides<'_>) -> Result<Vec<Fate>, AllocError>
+    ensures { IfOk result
         (λ fates. fates.items ≡ map fate_in (map (matched (record_lines sides.now)) (text_lines sides.now))) }
 {
     let mut fates = Vec::new(alloc);
     for wanted in &sides.wanted {
-        let variable = matched(wanted, &sides.lines);
-        write_match(alloc, out, sides.types, &variable)?;
-        fates.push(variable.fate())?;
+        fates.push(matched(wanted, &sides.lines).fate())?;
     }
     Ok(fates)
+}
+
+/// How many variables and lines of the record there are of each sort.
+pub(crate) fn changes(alloc: Global, sides: &Sides<'_>) -> Result<Changes, AllocError>
+    ensures { IfOk result (λ changes. changes ≡ all_changes (record_lines sides.now) (text_lines sides.now)) }
+{
+    let fates = fates(alloc, sides)?;
+    let dropped = dropped_in(alloc, &sides.wanted, &sides.lines)?;
+    Ok(Changes::of(&fates, dropped.len()))
 }
 
 /// Writes a line of the record that is dropped.
@@ -154,7 +166,8 @@ pub(crate) fn write_changes<W: Write>(
         (all_shown (types_of sides.now) (record_lines sides.now) (text_lines sides.now))) }
 {
     let dropped = dropped_in(alloc, &sides.wanted, &sides.lines)?;
-    let fates = write_all_matches(alloc, out, sides)?;
+    write_all_matches(alloc, out, sides)?;
     write_all_dropped(alloc, out, &dropped)?;
-    Counts::of(&fates, dropped.len()).write(out)
+    let changes = changes(alloc, sides)?;
+    changes.write(out)
 }

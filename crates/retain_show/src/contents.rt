@@ -4,7 +4,7 @@ ghost use Rattle.std.specs.Prelude.{◌≡◌, ◌≢◌, IfOk, IfErr};
 ghost use Rattle.retain_store.specs.Opening.{RefusesFor};
 ghost use Rattle.retain_store.specs.Kept.{IsLast};
 ghost use Rattle.retain_areas.specs.Recovered.{recovered};
-ghost use Rattle.retain_show.specs.Shown.{shown_text};
+ghost use Rattle.retain_show.specs.Shown.{IsAccepted, shown_text};
 
 use crate::record::{record_text, text_of};
 use disk::SimDisk;
@@ -15,6 +15,7 @@ use std::alloc::Global;
 pub(crate) fn opened(alloc: Global, file: Vec<u8>) -> Result<Store<SimDisk>, StoreFault>
     ensures found { IfOk result (λ store. store.last ≡ recovered file.items) }
     ensures last { IfOk result (λ store. IsLast store.generation store.last) }
+    ensures accepted { IfOk result (λ _. IsAccepted (recovered file.items)) }
     ensures refused { IfErr result (λ fault. RefusesFor fault (recovered file.items)) }
     ensures read { IfErr result (λ fault. fault ≢ StoreFault.Device) }
 {
@@ -33,6 +34,7 @@ pub(crate) fn opened(alloc: Global, file: Vec<u8>) -> Result<Store<SimDisk>, Sto
 /// S1 where the file is too long, S2 where it is damaged, S5 out of memory.
 pub fn shown(alloc: Global, file: Vec<u8>) -> Result<Vec<u8>, StoreFault>
     ensures told { IfOk result (λ text. text.items ≡ shown_text (recovered file.items)) }
+    ensures accepted { IfOk result (λ _. IsAccepted (recovered file.items)) }
     ensures refused { IfErr result (λ fault. RefusesFor fault (recovered file.items)) }
     ensures read { IfErr result (λ fault. fault ≢ StoreFault.Device) }
 {

@@ -2,7 +2,7 @@
 
 ghost use Rattle.std.specs.Prelude.{◌≡◌, OnOk};
 ghost use Rattle.std.specs.Io.KnownBytes.{Appends};
-ghost use Rattle.retain_show.specs.Against.{count_of, count_shown, counts_of, counts_shown, fate_by, is_fate, word_of};
+ghost use Rattle.retain_show.specs.Against.{changes_of, changes_shown, count_of, count_shown, fate_by, is_fate, word_of};
 
 use std::io;
 use std::io::Write;
@@ -55,14 +55,17 @@ impl Fate {
     }
 }
 
-/// How many variables and lines there are of each sort.
+/// How many of the retained variables of a text a warm start carries over and how many not, and how many lines of the
+/// record it drops.
 #[derive(Clone, Copy, Debug, PartialEq, Eq)]
-pub(crate) struct Counts {
-    /// The variables that are carried, that are new and that are retyped.
+pub struct Changes {
+    /// Variables that take the value of their line.
     pub carried: usize,
+    /// Variables whose path the record doesn't have: they take their initial value.
     pub new: usize,
+    /// Variables whose path the record has with another type: they take their initial value.
     pub retyped: usize,
-    /// The lines that are dropped.
+    /// Lines of the record whose path none of the variables has.
     pub dropped: usize,
 }
 
@@ -80,12 +83,12 @@ fn write_count<W: Write>(out: &mut W, count: usize, word: &str) -> io::Result<()
     write!(out, "{count}{word}")
 }
 
-impl Counts {
-    /// The counts of these variables, and of so many lines that are dropped.
-    pub fn of(fates: &[Fate], dropped: usize) -> Counts
-        ensures { result ≡ counts_of fates.now dropped }
+impl Changes {
+    /// How many there are of each among these variables, with so many lines that are dropped.
+    pub(crate) fn of(fates: &[Fate], dropped: usize) -> Changes
+        ensures { result ≡ changes_of fates.now dropped }
     {
-        Counts {
+        Changes {
             carried: count_of(Fate::Carried, fates),
             new: count_of(Fate::New, fates),
             retyped: count_of(Fate::Retyped, fates),
@@ -94,8 +97,8 @@ impl Counts {
     }
 
     /// Writes them as one line.
-    pub fn write<W: Write>(&self, out: &mut W) -> io::Result<()>
-        ensures { OnOk result (Appends (W.contents out.old) (W.contents out.new) (counts_shown self.now)) }
+    pub(crate) fn write<W: Write>(&self, out: &mut W) -> io::Result<()>
+        ensures { OnOk result (Appends (W.contents out.old) (W.contents out.new) (changes_shown self.now)) }
     {
         write_count(out, self.carried, " carried, ")?;
         write_count(out, self.new, " new, ")?;

@@ -15,6 +15,7 @@ mod spelling;
 mod wanted;
 mod written_lines;
 
-pub use against::shown_against;
+pub use against::{changes_against, shown_against};
 pub use areas::shown_areas;
 pub use contents::shown;
+pub use fate::Changes;

@@ -5,6 +5,7 @@
 
 mod fault;
 mod files;
+mod layouts;
 mod life;
 mod plants;
 mod progress;
@@ -13,6 +14,7 @@ mod report;
 mod running;
 mod sources;
 mod tracing;
+mod writing;
 
 pub use fault::Fault;
 pub use files::Files;
@@ -22,3 +24,4 @@ pub use real_files::RealFiles;
 pub use report::{Counts, report_with, write_variable};
 pub use running::run_plan;
 pub use sources::{plan_of, read_source};
+pub use writing::put_text;

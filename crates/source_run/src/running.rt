@@ -13,6 +13,7 @@ ghost use Rattle.source_run.specs.Settling.{IsSettled};
 
 use crate::fault::Fault;
 use crate::files::Files;
+use crate::layouts::{changes_by, tell};
 use crate::life::report_of;
 use crate::plants::read_rows;
 use crate::progress::Progress;
@@ -38,21 +39,44 @@ fn mode(start: Start) -> StartMode
     }
 }
 
-/// A life over the retain file of that name; S3 where it can't be opened.
-fn start<F: Files>(
+/// A life over this disk, as it is asked for. What a warm start takes over from a record of another layout is told.
+fn started<D: Disk + Drop, R: Eprint>(
+    rt: &R,
+    alloc: Global,
+    plan: Arc<Plan>,
+    asked: Start,
+    disk: D,
+) -> Result<Core<D>, (StartFault, D)>
+    ensures new { IfOk result (λ core. IsNew core.state plan.value MAX_LOG_ROOM) }
+    ensures begins { IfOk result (λ core. BeginsAs asked core.state) }
+{
+    let mut disk = disk;
+    let changes = match changes_by(alloc, &plan, asked, &mut disk) {
+        Ok(changes) => changes,
+        Err(fault) => return Err((StartFault::Store(fault), disk)),
+    };
+    let core = Core::start(alloc, plan, disk, mode(asked), MAX_LOG_ROOM)?;
+    if let Some(changes) = changes {
+        tell(rt, &changes);
+    }
+    Ok(core)
+}
+
+/// A life over the retain file of a job; S3 where it can't be opened.
+fn start<F: Files, R: Eprint>(
+    rt: &R,
     alloc: Global,
     files: &mut F,
     plan: Arc<Plan>,
-    store: &str,
-    start: Start,
+    job: &RunJob<'_>,
 ) -> Result<Core<F::Disk>, Fault>
     ensures new { IfOk result (λ core. IsNew core.state plan.value MAX_LOG_ROOM) }
-    ensures begins { IfOk result (λ core. BeginsAs start core.state) }
+    ensures begins { IfOk result (λ core. BeginsAs job.now.start core.state) }
 {
-    let Some(disk) = files.store(store) else {
+    let Some(disk) = files.store(job.store) else {
         return Err(Fault::Start(StartFault::Store(StoreFault::Device)));
     };
-    match Core::start(alloc, plan, disk, mode(start), MAX_LOG_ROOM) {
+    match started(rt, alloc, plan, job.start, disk) {
         Ok(core) => Ok(core),
         Err((fault, disk)) => {
             files.back(disk);
@@ -111,7 +135,7 @@ pub fn run_plan<F: Files, R: Threads + Wait + Eprint + Sync>(
     let Ok(plan) = Arc::new(alloc, plan) else {
         return Err(Fault::Start(StartFault::NoMemory));
     };
-    let core = start(alloc, files, plan, job.store, job.start)?;
+    let core = start(rt, alloc, files, plan, job)?;
     let progress = Progress::new(rt, rows.len(), files.is_terminal());
     let (core, report) = served(rt, alloc, core, job.pace, rows, &progress);
     progress.clear();

@@ -1,44 +1,32 @@
 //! The trace of a run.
 
-ghost use Rattle.std.specs.Prelude.{◌≡◌, OnOk, IfOk, IfErr, Ok};
-ghost use Rattle.std.specs.Io.KnownBytes.{Appends};
+ghost use Rattle.std.specs.Prelude.{◌≡◌, IfOk, IfErr, Ok};
 ghost use Rattle.trace_lines.specs.Texts.{trace_of};
 
 use crate::fault::Fault;
 use crate::files::Files;
+use crate::writing::put_text;
 use commit_lock::Core;
 use disk::Disk;
 use plant_jobs::RunJob;
 use std::alloc::Global;
-use std::io::{BufWriter, Write};
 use traces::{ReplayError, write_trace};
 
-/// Writes the trace of a core, and hands all of it on; V6 where the writer fails.
-fn put_trace<D: Disk, W: Write>(core: &Core<D>, out: &mut W) -> Result<(), ReplayError>
-    ensures whole { OnOk result (Appends (W.contents out.old) (W.contents out.new) (trace_of core.now)) }
-    ensures device { IfErr result (λ error. error ≡ ReplayError.Device) }
+/// The trace of a core as a text; the only error is out of memory.
+fn trace_text<D: Disk>(alloc: Global, core: &Core<D>) -> Result<Vec<u8>, ReplayError>
+    ensures whole { IfOk result (λ text. text.items ≡ trace_of core.now) }
+    ensures memory { IfErr result (λ error. error ≡ ReplayError.NoMemory) }
 {
-    write_trace(core, out)?;
-    match out.flush() {
-        Ok(()) => Ok(()),
-        Err(_) => Err(ReplayError::Device),
-    }
-}
-
-/// Writes the trace of a core into a file.
-fn put_file<D: Disk, W: Write + Drop>(
-    alloc: Global,
-    core: &Core<D>,
-    file: W,
-) -> Result<(), ReplayError> {
-    match BufWriter::new(alloc, file) {
-        Ok(mut out) => put_trace(core, &mut out),
+    let mut text = Vec::new(alloc);
+    match write_trace(core, &mut text) {
+        Ok(()) => Ok(text),
         Err(_) => Err(ReplayError::NoMemory),
     }
 }
 
 /// Writes the trace of a run into the file of that name, in place of what was there; V6 where the file can't be made,
-/// takes no more, or is the retain file by another name, V5 out of memory.
+/// takes no more, or is the retain file by another name, V5 out of memory. The file is made when all of the trace is
+/// there, so where memory is wanted it stays as it was.
 fn save_trace<F: Files>(
     alloc: Global,
     files: &mut F,
@@ -49,9 +37,13 @@ fn save_trace<F: Files>(
     if files.is_one_file(job.store, trace) {
         return Err(ReplayError::Device);
     }
-    match files.create(trace) {
-        Some(file) => put_file(alloc, core, file),
-        None => Err(ReplayError::Device),
+    let text = trace_text(alloc, core)?;
+    let Some(mut file) = files.create(trace) else {
+        return Err(ReplayError::Device);
+    };
+    match put_text(&mut file, &text) {
+        Ok(()) => Ok(()),
+        Err(_) => Err(ReplayError::Device),
     }
 }
 

@@ -4,7 +4,7 @@ use Rattle.std.specs.Io.KnownBytes.{Appends}
 use Rattle.st_print.proofs.AppendLemmas.{appends_both}
 use Rattle.retain_show.specs.Shown.{generation_shown, moment_shown}
 use Rattle.retain_show.specs.Against.{saved_shown}
-use Rattle.retain_show.specs.Wanted.{all_shown, line_view}
+use Rattle.retain_show.specs.Wanted.{all_shown, record_lines, text_lines}
 use Rattle.retain_show.proofs.StartLemmas.{next_written}
 use Rattle.retain_show.proofs.TextLemmas.{behind_part}
 use Rattle.retain_show.proofs.against.write_next.Goals as goal
@@ -13,8 +13,8 @@ pub returns : goal.returns
 returns g c =
     let types = map vec_items c.args.text.now.types.now in
     let vs = c.args.text.now.variables.now in
-    let ws = map line_view c.in_ok-retained.field-0.items in
-    let lines = map line_view c.in_ok-lines_of.field-0.items in
+    let ws = text_lines c.in_ok-sides.sides in
+    let lines = record_lines c.in_ok-sides.sides in
     let n = c.args.generation in
     let last = c.args.last.now in
     let same = c.eq-is_same.result in

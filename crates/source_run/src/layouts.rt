@@ -1,0 +1,65 @@
+//! What a warm start over a record of another layout takes over.
+
+ghost use Rattle.std.specs.Prelude.{◌≡◌, IfOk, None};
+ghost use Rattle.retain_areas.specs.Recovered.{recovered};
+ghost use Rattle.retain_show.specs.Against.{changes_against};
+
+use config::Plan;
+use disk::Disk;
+use plant_jobs::Start;
+use retain_show::{Changes, changes_against};
+use retain_store::{FILE_BYTES, StoreFault};
+use std::alloc::Global;
+
+/// The bytes of a retain file; S1 where it is too long, S3 where it can't be read, S5 out of memory.
+fn bytes_of<D: Disk>(alloc: Global, disk: &mut D) -> Result<Vec<u8>, StoreFault>
+    ensures bytes { D.tells → IfOk result (λ file. file.items ≡ D.seen disk.old) }
+    ensures seen { D.tells → D.seen disk.new ≡ D.seen disk.old }
+{
+    let length = disk.len()?;
+    if length > FILE_BYTES as u64 {
+        return Err(StoreFault::TooLong);
+    }
+    let Ok(mut file) = vec![in alloc; 0u8; length as usize] else {
+        return Err(StoreFault::NoMemory);
+    };
+    disk.read(0, &mut file)?;
+    Ok(file)
+}
+
+/// How many variables a start of the plan carries over from a retain file and how many not; none where the start is
+/// cold, or the file has no record of another layout text. The file stays as it is.
+///
+/// S1 where it is too long, S2 where it is damaged, S3 where it can't be read, S5 out of memory.
+pub(crate) fn changes_by<D: Disk>(
+    alloc: Global,
+    plan: &Plan,
+    start: Start,
+    disk: &mut D,
+) -> Result<Option<Changes>, StoreFault>
+    ensures cold { start ≡ Start.Cold → IfOk result (λ found. found ≡ None) }
+    ensures told { D.tells → start ≡ Start.Warm
+        → IfOk result (λ found. found ≡ changes_against plan.now (recovered (D.seen disk.old))) }
+    ensures seen { D.tells → D.seen disk.new ≡ D.seen disk.old }
+{
+    match start {
+        Start::Cold => Ok(None),
+        Start::Warm => {
+            let file = bytes_of(alloc, disk)?;
+            changes_against(alloc, plan, file)
+        }
+    }
+}
+
+/// Tells them in one line on the standard error.
+pub(crate) fn tell<R: Eprint>(rt: &R, changes: &Changes) {
+    let Changes {
+        carried,
+        new,
+        retyped,
+        dropped,
+    } = *changes;
+    let _ = eprintln!(rt;
+        "the retain file has another layout: {carried} carried, {new} new, {retyped} retyped, {dropped} dropped"
+    );
+}
