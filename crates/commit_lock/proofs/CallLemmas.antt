@@ -1,5 +1,5 @@
 -- What a core over a disk keeps when its log grows.
-use Rattle.std.proofs.Common.{ℕ, List, [], ◌∷◌, Option, Some, None, inl, inr, sym, subst, arith, length-append}
+use Rattle.std.proofs.Common.{ℕ, [], ◌∷◌, Option, Some, None, inl, inr, sym, subst, arith, length-append}
 use Rattle.std.specs.Prelude.{Result, Ok, Err}
 use Rattle.st_plans.specs.declared.entry.Entry.{Entry}
 use Rattle.st_plans.specs.declared.entry.Entry.TheVariants.{Row, Done}

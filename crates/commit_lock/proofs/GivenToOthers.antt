@@ -1,8 +1,8 @@
 -- What survives is given to other plans.
-use Rattle.std.proofs.Common.{◌≡◌, ◌∙◌, ap, sym, refl, subst, ℕ, Bool, true, false, ◌&&◌, if◌then◌else◌, List, [], ◌∷◌, map}
-use Rattle.std.proofs.Common.{Option, Some, None}
+use Rattle.std.proofs.Common.{◌≡◌, ◌∙◌, ap, sym, subst, ℕ, Bool, true, false, if◌then◌else◌, List, [], ◌∷◌}
+use Rattle.std.proofs.Common.{Option, Some}
 use Rattle.std.specs.Prelude.{filter, bytes_eq}
-use Rattle.std.specs.List.{find, list_all, AllByRecursion}
+use Rattle.std.specs.List.{list_all, AllByRecursion}
 use Rattle.std.proofs.lemmas.Bool.{and_parts}
 use Rattle.std.proofs.lemmas.Slice.Eq.{bytes_eq-Decides}
 use Rattle.st_words.specs.declared.kind.Kind.{Kind}
@@ -15,9 +15,9 @@ use Rattle.st_plans.specs.declared.entry.Entry.{Entry}
 use Rattle.st_plans.specs.Layouts.{Enumerations, path_text, type_text}
 use Rattle.st_plans.specs.Plans.{Plan, initial_store, is_retained}
 use Rattle.st_plans.specs.Logs.{past_of, after, last_moment}
-use Rattle.st_plans.specs.Restarts.{KeptLine, kept, kept_of, is_line_of, value_in, line_with, lines_with, warm_start}
-use Rattle.st_plans.proofs.RestartLemmas.{initials, restarts, after_same}
-use Rattle.kept_lines.specs.OtherPlans.{is_alike, taken_from, carried, all_carried, HoldAlike, started_after}
+use Rattle.st_plans.specs.Restarts.{kept, warm_start}
+use Rattle.st_plans.proofs.RestartLemmas.{initials, after_same}
+use Rattle.kept_lines.specs.OtherPlans.{is_alike, all_carried, HoldAlike}
 use Rattle.kept_lines.proofs.OtherPlanLemmas.{carried_over}
 use Rattle.retain_records.specs.Records.{Content, Spells}
 use Rattle.retain_records.specs.LineLaws.{type_told_again}
@@ -28,7 +28,7 @@ use Rattle.config.specs.declared.plan.Plan.{Plan as ConfigPlan}
 use Rattle.config.specs.PlanViews.{plan_view}
 use Rattle.commit_lock.specs.Recorded.{recorded_kind}
 use Rattle.kept_lines.specs.Told.{told}
-use Rattle.commit_lock.specs.Restart.{Survives, record_after, warm}
+use Rattle.commit_lock.specs.Restart.{Survives, warm}
 use Rattle.commit_lock.proofs.RecordedLemmas.{holds_recorded}
 use Rattle.commit_lock.proofs.RecordLemmas.{type_spells}
 use Rattle.commit_lock.proofs.GivenBack.{told_again}

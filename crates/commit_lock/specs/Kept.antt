@@ -1,5 +1,5 @@
 -- What a core over a disk keeps of its fields.
-use Rattle.std.specs.Prelude.{◌≡◌, ◌≤◌, ◌<◌, ℕ, List, Bool, true, false, length, Option, Some, None, IfSome}
+use Rattle.std.specs.Prelude.{◌≡◌, ◌≤◌, ◌<◌, ℕ, Bool, true, false, length, Option, Some, None, IfSome}
 use Rattle.st_words.specs.declared.limits.TheConstants.{MAX_LOG_ROOM, MOMENT_LIMIT}
 use Rattle.st_plans.specs.Layouts.{record_length}
 use Rattle.config.specs.PlanViews.{plan_view}

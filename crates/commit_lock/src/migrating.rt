@@ -11,34 +11,33 @@ ghost use Rattle.kept_lines.specs.Told.{told};
 ghost use Rattle.commit_lock.specs.Restart.{begun, layout_text_of, record_now, warm};
 ghost use Rattle.commit_lock.specs.Starting.{started};
 
-use kept_lines::{LineIndex, take_told};
+use crate::parts::Parts;
+use kept_lines::take_told;
 use retain_store::Record;
-use serial_core::SerialCore;
-use st_words::Value;
 
 /// Goes on from a record of any layout text: each retained variable takes the value in the line of its path and type,
 /// where the record has one. It takes no memory.
 ///
 /// The record of what the core starts with then makes the same start.
-pub(crate) fn migrate(
-    serial: &mut SerialCore,
-    kept: &mut Vec<Value>,
-    lines: &mut LineIndex,
-    last: &Record,
-)
-    requires begun { serial.old ≡ begun serial.old.plan serial.old.room }
-    requires kept { length serial.old.plan.variables.items ≤ vec_capacity kept.old }
-    requires lines { lines.old ≡ lines_of (layout_text_of serial.old.plan) }
+pub(crate) fn migrate(parts: &mut Parts, last: &Record)
+    requires begun { parts.old.serial ≡ begun parts.old.serial.plan parts.old.serial.room }
+    requires kept { length parts.old.serial.plan.variables.items ≤ vec_capacity parts.old.kept }
+    requires lines { parts.old.lines ≡ lines_of (layout_text_of parts.old.serial.plan) }
     requires sound { IsRecordable last.now }
 
-    ensures resumed { serial.new ≡ started serial.old.plan serial.old.room
-        (warm_start (plan_view serial.old.plan) (Some (told last.now))) }
-    ensures again { (generation : ℕ) → serial.new
-        ≡ started serial.old.plan serial.old.room (warm serial.old.plan (Found generation (record_now serial.new))) }
-    ensures early { IfSome serial.new.before (λ t. t < MOMENT_LIMIT) }
-    ensures kept { vec_capacity kept.old ≤ vec_capacity kept.new }
+    ensures resumed { parts.new.serial ≡ started parts.old.serial.plan parts.old.serial.room
+        (warm_start (plan_view parts.old.serial.plan) (Some (told last.now))) }
+    ensures again { (generation : ℕ) → parts.new.serial ≡ started parts.old.serial.plan parts.old.serial.room
+        (warm parts.old.serial.plan (Found generation (record_now parts.new.serial))) }
+    ensures early { IfSome parts.new.serial.before (λ t. t < MOMENT_LIMIT) }
+    ensures kept { vec_capacity parts.old.kept ≤ vec_capacity parts.new.kept }
 {
-    serial.retain(kept);
-    take_told(kept, lines, last.layout(), last.values());
-    serial.resume(kept, last.moment());
+    parts.serial.retain(&mut parts.kept);
+    take_told(
+        &mut parts.kept,
+        &mut parts.lines,
+        last.layout(),
+        last.values(),
+    );
+    parts.serial.resume(&parts.kept, last.moment());
 }

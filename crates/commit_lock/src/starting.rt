@@ -25,10 +25,7 @@ use crate::refusal::StartFault;
 use crate::saving::save_record;
 use config::Plan;
 use disk::Disk;
-use kept_lines::LineIndex;
 use retain_store::{Store, StoreFault};
-use serial_core::SerialCore;
-use st_words::Value;
 use st_words::limits::MAX_RECORD_BODY;
 use std::alloc::Global;
 use std::sync::Arc;
@@ -42,38 +39,35 @@ pub enum StartMode {
     Cold,
 }
 
-/// Goes on from the last record, if there is one; false where it is of another layout text. Between the two stand the
-/// values of the retained variables, in the room that is given.
-fn resume_from<D: Disk>(
-    serial: &mut SerialCore,
-    kept: &mut Vec<Value>,
-    lines: &mut LineIndex,
-    store: &Store<D>,
-) -> bool
-    requires begun { serial.old ≡ begun serial.old.plan serial.old.room }
-    requires kept { length serial.old.plan.variables.items ≤ vec_capacity kept.old }
-    requires lines { lines.old ≡ lines_of (layout_text_of serial.old.plan) }
+/// Goes on from the last record, if there is one; false where it is of another layout text.
+fn resume_from<D: Disk>(parts: &mut Parts, store: &Store<D>) -> bool
+    requires begun { parts.old.serial ≡ begun parts.old.serial.plan parts.old.serial.room }
+    requires kept { length parts.old.serial.plan.variables.items ≤ vec_capacity parts.old.kept }
+    requires lines { parts.old.lines ≡ lines_of (layout_text_of parts.old.serial.plan) }
     requires last { IsLast store.now.generation store.now.last }
 
-    ensures resumed { serial.new ≡ started serial.old.plan serial.old.room (warm serial.old.plan store.now.last) }
-    ensures early { IfSome serial.new.before (λ t. t < MOMENT_LIMIT) }
-    ensures survives { IsTrue result → Survives serial.new.plan serial.new.start serial.new.before [] 0 store.now.last }
-    ensures same { IsTrue result → IsOfPlan serial.old.plan store.now.last }
-    ensures other { result ≡ false → HasOtherLayout serial.old.plan store.now.last }
-    ensures again { result ≡ false → (generation : ℕ) → serial.new
-        ≡ started serial.old.plan serial.old.room (warm serial.old.plan (Found generation (record_now serial.new))) }
-    ensures kept { vec_capacity kept.old ≤ vec_capacity kept.new }
+    ensures resumed { parts.new.serial ≡ started parts.old.serial.plan parts.old.serial.room
+        (warm parts.old.serial.plan store.now.last) }
+    ensures early { IfSome parts.new.serial.before (λ t. t < MOMENT_LIMIT) }
+    ensures survives { IsTrue result → Survives parts.new.serial.plan parts.new.serial.start parts.new.serial.before
+        [] 0 store.now.last }
+    ensures same { IsTrue result → IsOfPlan parts.old.serial.plan store.now.last }
+    ensures other { result ≡ false → HasOtherLayout parts.old.serial.plan store.now.last }
+    ensures again { result ≡ false → (generation : ℕ)
+        → parts.new.serial ≡ started parts.old.serial.plan parts.old.serial.room
+        (warm parts.old.serial.plan (Found generation (record_now parts.new.serial))) }
+    ensures kept { vec_capacity parts.old.kept ≤ vec_capacity parts.new.kept }
 {
     let Some(record) = store.last() else {
         return true;
     };
-    if record.layout() != layout_text(serial) {
-        migrate(serial, kept, lines, record);
+    if record.layout() != layout_text(&parts.serial) {
+        migrate(parts, record);
         return false;
     }
-    serial.retain(kept);
-    take_numbers(kept, record.values());
-    serial.resume(kept, record.moment());
+    parts.serial.retain(&mut parts.kept);
+    take_numbers(&mut parts.kept, record.values());
+    parts.serial.resume(&parts.kept, record.moment());
     true
 }
 
@@ -223,18 +217,9 @@ fn warm<D: Disk>(parts: Parts, store: Store<D>) -> Result<Core<D>, (StartFault, 
         (λ core. D.failure_count core.store.disk ≡ D.failure_count store.disk)
         (λ e. CountsStart e.0 (D.failure_count store.disk) (D.failure_count e.1)) }
 {
-    let Parts {
-        mut serial,
-        mut kept,
-        mut lines,
-    } = parts;
+    let mut parts = parts;
     store.kept();
-    let is_same = resume_from(&mut serial, &mut kept, &mut lines, &store);
-    let parts = Parts {
-        serial,
-        kept,
-        lines,
-    };
+    let is_same = resume_from(&mut parts, &store);
     if is_same {
         Ok(gone_on(parts, store))
     } else {
@@ -269,7 +254,7 @@ impl<D: Disk> Core<D> {
         ensures begun { IfOk result (λ core. IsNew core.state plan.value log_room) }
 
         // A warm start goes on from the last record of the store. Where nothing was saved, that is what a read gives,
-        // and the file stands as it was.
+        // and the file stands as it was, but that one which was too short has two closed areas now.
         ensures resumed { mode ≡ StartMode.Warm → IfOk result
             (λ core. core.state ≡ started plan.value log_room (warm plan.value core.store.last)) }
         ensures last { IfOk result (λ core. IsLast core.store.generation core.store.last) }

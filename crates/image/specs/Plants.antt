@@ -1,5 +1,5 @@
 -- Recorded plants: which records spell which rows.
-use Rattle.std.specs.Prelude.{[], ◌++◌, ◌≡◌, ℕ, ◌^◌, ◌<◌, ◌≤◌, List, ◌∷◌, length, map, All, true, codes}
+use Rattle.std.specs.Prelude.{[], ◌++◌, ◌≡◌, ℕ, ◌<◌, ◌≤◌, List, ◌∷◌, length, map, All, true, codes}
 use Rattle.std.specs.Char.{to_ascii_lowercase}
 use Rattle.std.specs.Fmt.{decimal, signed_decimal}
 use Rattle.std.specs.List.Sorted.{IsStrictlyIncreasing}

@@ -13,4 +13,5 @@ mod written_lines;
 pub use examples::restarts_with_another_text;
 pub use laws::restarts_give_other_plans_what_is_theirs;
 pub use line_index::LineIndex;
-pub use matching::take_told;
+pub use matching::{numbered, take_told};
+pub use written_lines::{Words, words_at};

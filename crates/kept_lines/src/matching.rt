@@ -14,7 +14,7 @@ use indexmap::IndexSet;
 use st_words::Value;
 
 /// The value with the number of another, where its type holds that number.
-fn numbered(value: Value, other: Value) -> Option<Value>
+pub fn numbered(value: Value, other: Value) -> Option<Value>
     ensures { result ≡ numbered value.kind other.number }
 {
     match Value::new(value.kind(), other.number()) {

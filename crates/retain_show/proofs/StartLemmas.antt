@@ -17,7 +17,7 @@ use Rattle.retain_show.specs.declared.fate.Changes.{Changes}
 use Rattle.retain_show.specs.Shown.{generation_shown, moment_shown, shown_text}
 use Rattle.retain_show.specs.Against as against
 use Rattle.retain_show.specs.Against.{Line, changes_in, changes_of, changes_shown, dropped_lines, dropped_shown, fates_shown}
-use Rattle.retain_show.specs.Against.{fate_by, fate_of, line_with_path, lines_of, retained, saved_shown, variable_shown}
+use Rattle.retain_show.specs.Against.{fate_by, fate_of, line_with_path, valued_lines, retained, saved_shown, variable_shown}
 use Rattle.retain_show.specs.Against.{was_shown, with_value, word_of}
 use Rattle.retain_show.specs.Wanted.{all_changes, all_shown, fate_in, is_dropped, kept_line, match_shown, matched, own_line, wanted}
 
@@ -29,10 +29,10 @@ lines_next None d others more again = refl
 lines_next (Some w) d others more again =
     ap (λ ls. record { path = w.path; spelling = w.spelling; number = d.number } ∷ ls) (again w.behind)
 
-pub lines_told : (text : List ℕ) (ds : List Datum) → map kept_line (lines_of text ds) ≡ lines_in text ds
+pub lines_told : (text : List ℕ) (ds : List Datum) → map kept_line (valued_lines text ds) ≡ lines_in text ds
 lines_told text [] = refl
 lines_told text (d ∷ ds) =
-    lines_next (words_at text) d (λ behind. lines_of behind ds) (λ behind. lines_in behind ds)
+    lines_next (words_at text) d (λ behind. valued_lines behind ds) (λ behind. lines_in behind ds)
     (λ behind. lines_told behind ds)
 
 some_same : (d : Datum) (o : Option KeptLine) → is_some (option_map (numbered_by d) o) ≡ is_some o
@@ -141,11 +141,11 @@ module _ (types : Enumerations) (lines : List Line) where
 -- how many there are of each in a record of another layout text
 pub changes_found : (types : Enumerations) (vs : List PlanVariable) (generation : ℕ) (c : Content) (ws lines : List Line)
     (layout : List ℕ) (told_changes : Changes) → ws ≡ map (wanted types) (retained vs)
-    → lines ≡ lines_of c.layout c.values → false ≡ bytes_eq c.layout layout → layout ≡ layout_text types vs
+    → lines ≡ valued_lines c.layout c.values → false ≡ bytes_eq c.layout layout → layout ≡ layout_text types vs
     → told_changes ≡ all_changes lines ws
     → ◌≡◌ {A = Option Changes} (Some told_changes) (against.changes types vs (Found generation c))
 changes_found types vs generation c ws lines layout told_changes e f g h i =
-    let told_lines = lines_of c.layout c.values in
+    let told_lines = valued_lines c.layout c.values in
     let all = changes_in types (told c).lines told_lines (retained vs) in
     ap Some (i ∙ ap (λ x. all_changes lines x) e ∙ ap (λ x. all_changes x (map (wanted types) (retained vs))) f
     ∙ counted_same types told_lines vs
@@ -157,7 +157,7 @@ pub changes_same : (types : Enumerations) (vs : List PlanVariable) (generation :
     → true ≡ bytes_eq c.layout layout → layout ≡ layout_text types vs
     → ◌≡◌ {A = Option Changes} None (against.changes types vs (Found generation c))
 changes_same types vs generation c layout g h =
-    let all = changes_in types (told c).lines (lines_of c.layout c.values) (retained vs) in
+    let all = changes_in types (told c).lines (valued_lines c.layout c.values) (retained vs) in
     ap (λ (b : Bool). if b then None else Some all) (g ∙ ap (bytes_eq c.layout) h)
 
 -- what is written of a file without a record
@@ -171,13 +171,13 @@ first_written types vs ws lines e f =
 
 -- what is written of a file with a record
 pub next_written : (types : Enumerations) (vs : List PlanVariable) (generation : ℕ) (c : Content) (ws lines : List Line)
-    (same : Bool) (layout : List ℕ) → ws ≡ map (wanted types) (retained vs) → lines ≡ lines_of c.layout c.values
+    (same : Bool) (layout : List ℕ) → ws ≡ map (wanted types) (retained vs) → lines ≡ valued_lines c.layout c.values
     → same ≡ bytes_eq c.layout layout → layout ≡ layout_text types vs
     → generation_shown generation ++ moment_shown c.moment ++ all_shown types lines ws ++ saved_shown same generation
     ≡ against.against types vs (Found generation c)
 next_written types vs generation c ws lines same layout e f g h =
     let head = generation_shown generation ++ moment_shown c.moment in
-    let told_lines = lines_of c.layout c.values in
+    let told_lines = valued_lines c.layout c.values in
     let rs = retained vs in
     ap (λ x. head ++ all_shown types lines x ++ saved_shown same generation) e
     ∙ ap (λ x. head ++ all_shown types x (map (wanted types) rs) ++ saved_shown same generation) f

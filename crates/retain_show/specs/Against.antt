@@ -29,9 +29,9 @@ line_then None d others = []
 line_then (Some w) d others = record { path = w.path; spelling = w.spelling; value = d } ∷ others w.behind
 
 -- the lines of a layout text, each with its value
-abbrev pub lines_of : List ℕ → List Datum → List Line
-lines_of text [] = []
-lines_of text (d ∷ ds) = line_then (words_at text) d (λ behind. lines_of behind ds)
+abbrev pub valued_lines : List ℕ → List Datum → List Line
+valued_lines text [] = []
+valued_lines text (d ∷ ds) = line_then (words_at text) d (λ behind. valued_lines behind ds)
 
 -- TYPE = VALUE, a value of an enumerated type by its name
 abbrev pub typed_shown : Line → List ℕ
@@ -129,7 +129,7 @@ abbrev pub against : Enumerations → List PlanVariable → Recovered → List �
 against types vs Nothing =
     shown_text Nothing ++ fates_shown types [] [] (retained vs) ++ saved_shown true 0
 against types vs (Found generation c) = generation_shown generation ++ moment_shown c.moment
-    ++ fates_shown types (told c).lines (lines_of c.layout c.values) (retained vs)
+    ++ fates_shown types (told c).lines (valued_lines c.layout c.values) (retained vs)
     ++ saved_shown (bytes_eq c.layout (layout_text types vs)) generation
 against types vs TooLong = []
 against types vs Refused = []
@@ -142,7 +142,7 @@ against_shown plan file = against (plan_view plan).enumerations plan.variables.i
 abbrev pub changes : Enumerations → List PlanVariable → Recovered → Option Changes
 changes types vs (Found generation c) =
     if bytes_eq c.layout (layout_text types vs) then None
-    else Some (changes_in types (told c).lines (lines_of c.layout c.values) (retained vs))
+    else Some (changes_in types (told c).lines (valued_lines c.layout c.values) (retained vs))
 changes types vs file = None
 
 -- What a warm start of a plan over another layout would make of a file.

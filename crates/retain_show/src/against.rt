@@ -8,7 +8,7 @@ ghost use Rattle.config.specs.PlanViews.{plan_view};
 ghost use Rattle.retain_store.specs.Opening.{RefusesFor};
 ghost use Rattle.retain_areas.specs.Recovered.{Found, Nothing, recovered};
 ghost use Rattle.retain_show.specs.Shown.{IsAccepted};
-ghost use Rattle.retain_show.specs.Against.{against, against_shown, changes, changes_against, lines_of, retained, saved_shown};
+ghost use Rattle.retain_show.specs.Against.{against, against_shown, changes, changes_against, valued_lines, retained, saved_shown};
 ghost use Rattle.retain_show.specs.Wanted.{record_lines, text_lines, types_of, wanted};
 
 use crate::changes::{Sides, changes, write_changes};
@@ -16,7 +16,7 @@ use crate::contents::opened;
 use crate::fate::Changes;
 use crate::record::{write_generation, write_moment};
 use crate::wanted::retained;
-use crate::written_lines::lines_of;
+use crate::written_lines::valued_lines;
 use config::Plan;
 use retain_store::{Record, StoreFault};
 use st_plans::PlanVariable;
@@ -83,12 +83,12 @@ fn sides_with<'a>(alloc: Global, text: &Text<'a>, last: &Record) -> io::Result<S
     ensures types { IfOk result (λ sides. types_of sides ≡ map vec_items text.now.types.now) }
     ensures wanted { IfOk result (λ sides. text_lines sides
         ≡ map (wanted (map vec_items text.now.types.now)) (retained text.now.variables.now)) }
-    ensures lines { IfOk result (λ sides. record_lines sides ≡ lines_of last.now.layout last.now.values) }
+    ensures lines { IfOk result (λ sides. record_lines sides ≡ valued_lines last.now.layout last.now.values) }
 {
     Ok(Sides {
         types: text.types,
         wanted: retained(alloc, text.types, text.variables)?,
-        lines: lines_of(alloc, last.layout(), last.values())?,
+        lines: valued_lines(alloc, last.layout(), last.values())?,
     })
 }
 

@@ -1,4 +1,4 @@
-use Rattle.std.proofs.Common.{[], List, sym, subst, arith}
+use Rattle.std.proofs.Common.{List, sym, subst, arith}
 use Rattle.st_plans.specs.declared.entry.Entry.{Entry}
 use Rattle.retain_areas.specs.Recovered.{Recovered}
 use Rattle.commit_lock.specs.Restart.{Survives}

@@ -10,7 +10,7 @@ use Rattle.commit_lock.proofs.starting.resume_from.Goals as goal
 
 pub take_numbers-requires : goal.take_numbers-requires
 take_numbers-requires g c =
-    let plan = c.args.serial.now.plan in
+    let plan = c.args.parts.now.serial.plan in
     let content = c.in-Some.record.now in
     let sound : IsRecordable content = search rules in
     let same : c.layout.result.now ≡ c.layout_text.result.now = search rules in
@@ -23,7 +23,7 @@ take_numbers-requires g c =
 
 pub resume-requires-clause-kinds : goal.resume-requires-clause-kinds
 resume-requires-clause-kinds g c =
-    let plan = c.args.serial.now.plan in
+    let plan = c.args.parts.now.serial.plan in
     let content = c.in-Some.record.now in
     let sound : IsRecordable content = search rules in
     let same : c.layout.result.now ≡ c.layout_text.result.now = search rules in
@@ -37,7 +37,7 @@ resume-requires-clause-kinds g c =
 
 pub resume-requires-clause-held : goal.resume-requires-clause-held
 resume-requires-clause-held g c =
-    let plan = c.args.serial.now.plan in
+    let plan = c.args.parts.now.serial.plan in
     let content = c.in-Some.record.now in
     let sound : IsRecordable content = search rules in
     let same : c.layout.result.now ≡ c.layout_text.result.now = search rules in
@@ -51,7 +51,7 @@ resume-requires-clause-held g c =
 
 pub returns-clause-survives : goal.returns-clause-survives
 returns-clause-survives g c = λ yes.
-    let plan = c.args.serial.now.plan in
+    let plan = c.args.parts.now.serial.plan in
     let content = c.in-Some.record.now in
     let sound : IsRecordable content = search rules in
     let same : c.layout.result.now ≡ c.layout_text.result.now = search rules in
@@ -69,7 +69,7 @@ returns-clause-survives g c = λ yes.
 
 pub returns-clause-resumed : goal.returns-clause-resumed
 returns-clause-resumed g c =
-    let plan = c.args.serial.now.plan in
+    let plan = c.args.parts.now.serial.plan in
     let content = c.in-Some.record.now in
     let sound : IsRecordable content = search rules in
     let same : c.layout.result.now ≡ c.layout_text.result.now = search rules in
@@ -81,5 +81,5 @@ returns-clause-resumed g c =
     c.deref.ensures.value ∙ c.take_numbers.ensures.items ∙ ap (all_renumbered own) c.values.ensures in
     let t = taken plan content own c.deref.result.now known sound c.retain.ensures.kinds are in
     c.resume.ensures.restarted
-    ∙ resumed_from plan c.args.serial.now.room content c.args.store.now.last c.deref.result.now c.moment.result found
+    ∙ resumed_from plan c.args.parts.now.serial.room content c.args.store.now.last c.deref.result.now c.moment.result found
     layout known t.are c.moment.ensures

@@ -1,4 +1,4 @@
-use Rattle.std.proofs.Common.{rules, ◌≡◌, ◌∙◌, true, false, refl, sym, ap, subst, inl}
+use Rattle.std.proofs.Common.{rules, ◌≡◌, ◌∙◌, false, refl, sym, ap, subst, inl}
 use Rattle.disk.specs.Runs.{LeavesOnly, started, weakens}
 use Rattle.retain_areas.specs.Recovered.{Recovered, recovered, Found}
 use Rattle.serial_core.specs.Steps.{State}
@@ -12,12 +12,12 @@ use Rattle.commit_lock.proofs.starting.warm.Goals as goal
 pub gone_on-requires-clause-start : goal.gone_on-requires-clause-start
 gone_on-requires-clause-start g c =
     started_warm c.args.parts.serial.plan c.args.parts.serial.room c.args.store.last
-    c.resume_from-is_same.new.serial c.resume_from-is_same.ensures.resumed
+    c.resume_from-is_same.new.parts.serial c.resume_from-is_same.ensures.resumed
 
 pub saved_first-requires-clause-start : goal.saved_first-requires-clause-start
 saved_first-requires-clause-start g c =
     started_warm c.args.parts.serial.plan c.args.parts.serial.room c.args.store.last
-    c.resume_from-is_same.new.serial c.resume_from-is_same.ensures.resumed
+    c.resume_from-is_same.new.parts.serial c.resume_from-is_same.ensures.resumed
 
 pub returns-then-is_same-clause-any_moment : goal.returns-then-is_same-clause-any_moment
 returns-then-is_same-clause-any_moment g c = λ tells.
@@ -49,7 +49,7 @@ pub returns-else-is_same-clause-any_moment : goal.returns-else-is_same-clause-an
 returns-else-is_same-clause-any_moment g c = λ tells.
     let plan = c.args.parts.serial.plan in
     let store = c.args.store in
-    let state = c.resume_from-is_same.new.serial in
+    let state = c.resume_from-is_same.new.parts.serial in
     let no : c.resume_from-is_same.result ≡ false = search rules in
     let other = c.resume_from-is_same.ensures.other no in
     let kept = record_started Warm plan c.args.parts.serial.room state store.last

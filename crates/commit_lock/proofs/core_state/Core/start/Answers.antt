@@ -1,12 +1,11 @@
 use Rattle.std.proofs.Common.{◌≡◌, ◌∙◌, ◌+◌, ap, inl, subst, sym}
-use Rattle.std.specs.Prelude.{IfOk}
 use Rattle.disk.specs.Runs.{joins, weakens}
 use Rattle.retain_areas.specs.Recovered.{Recovered, recovered, Found}
 use Rattle.retain_store.specs.Kept.{StoreView}
 use Rattle.retain_store.specs.Opening.{KeepsRecord}
 use Rattle.serial_core.specs.Steps.{State}
 use Rattle.commit_lock.specs.Restart.{record_now, warm}
-use Rattle.commit_lock.specs.Starting.{next_generation, LeftByStart, started}
+use Rattle.commit_lock.specs.Starting.{started}
 use Rattle.commit_lock.specs.declared.starting.StartMode.TheVariants.{Warm, Cold}
 use Rattle.commit_lock.proofs.StartLemmas.{match_both, left_same, left_saved, saved_unwritten, saved_next, saves_same}
 use Rattle.commit_lock.proofs.StartLemmas.{record_started, ok_both, ok_weaker}
