@@ -788,8 +788,8 @@ named() {
     LC_ALL=C sed "s/^V4095 INT$/$1 INT/" many > renamed
 }
 named V4096
-scene "4,095 counters, the last one named V4096 in the file" 0 "$(report 0 0 0 0 0 'N = 0' "${counters%5}0")" "" \
-    $(run limit.st none.csv renamed warm)
+scene "4,095 counters, the last one named V4096 in the file" 0 "$(report 0 0 0 0 0 'N = 0' "${counters%5}0")" \
+    "$(over_another 4094 1 0 1)" $(run limit.st none.csv renamed warm)
 # twice NAME: two counters of the file have this name, which is refused, and the file is left
 twice() {
     named "$1"
