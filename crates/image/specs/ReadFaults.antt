@@ -10,9 +10,9 @@ use Rattle.image.specs.declared.plant_error.PlantError.TheVariants.{Reading, NoM
 
 abbrev pub is_memory : ErrorKind → Bool
 is_memory OutOfMemory = true
-is_memory other = false
+is_memory kind = false
 
 -- the reader fails, or memory is wanted, the reader's own want too
 abbrev pub fault_of : records.ErrorKind → PlantError
 fault_of (Io e) = if is_memory (error_kind e) then NoMemory else Reading
-fault_of other = NoMemory
+fault_of kind = NoMemory
