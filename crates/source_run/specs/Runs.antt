@@ -1,5 +1,5 @@
 -- The report of a run.
-use Rattle.std.specs.Prelude.{◌≡◌, ℕ, List, Some}
+use Rattle.std.specs.Prelude.{ℕ, List, Some}
 use Rattle.st_plans.specs.Rows.{Latch}
 use Rattle.config.specs.declared.plan.Plan.{Plan}
 use Rattle.image.specs.Plants.{AreRowsOf}

@@ -1,4 +1,4 @@
-use Rattle.std.proofs.Common.{◌≡◌, rules}
+use Rattle.std.proofs.Common.{rules}
 use Rattle.st_words.specs.declared.limits.TheConstants.{MAX_LOG_ROOM}
 use Rattle.image.specs.Plants.{AreRowsOf}
 use Rattle.commit_lock.specs.Starting.{IsNew}
