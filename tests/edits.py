@@ -1,7 +1,9 @@
 #!/usr/bin/env python3
-"""Looks whether each edit of crates/*/must-fail and strength/ still applies: each of its `old:` texts stands once in the file that it names.
+"""Looks whether each edit of crates/*/must-fail, strength/ and tests/wrong still applies: each of its `old:` texts stands once in the file that
+it names.
 
-usage: tests/edits.py
+usage: tests/edits.py                  looks at all of them
+       tests/edits.py EDIT FOLDER      lays one of tests/wrong in, in a copy of the repository
 """
 import pathlib
 import sys
@@ -9,43 +11,60 @@ import sys
 ROOT = pathlib.Path(__file__).resolve().parent.parent
 
 
-def why_not(edit, crate):
-    """Says why the edit of a crate does not apply, if it doesn't."""
-    texts, path, old = {}, "", None
+class Misfit(Exception):
+    """Why an edit does not apply."""
+
+
+def laid_in(edit, crate):
+    """The files of a crate that an edit changes, with their texts as they are then."""
+    texts, path, old = {}, None, None
     for line in edit.read_text().split("\n"):
         word, _, rest = line.partition(": ")
         if word == "file":
-            path = rest.strip()
+            path = crate / rest.strip()
             if path not in texts:
-                file = ROOT / "crates" / crate / path
-                if not file.is_file():
-                    return f"there is no {path}"
-                texts[path] = file.read_text()
+                if not path.is_file():
+                    raise Misfit(f"there is no {rest.strip()}")
+                texts[path] = path.read_text()
         elif word == "old":
             old = rest
         elif line.startswith("new:"):
             if old is None:
-                return "a 'new:' without an 'old:'"
+                raise Misfit("a 'new:' without an 'old:'")
             found = texts[path].count(old)
             if found != 1:
-                return f"an 'old:' text stands in {path} {found} times"
+                raise Misfit(f"an 'old:' text stands in {path.relative_to(crate)} {found} times")
             texts[path] = texts[path].replace(old, line[len("new:") :].removeprefix(" "))
             old = None
-    return None if texts else "it names no file"
+    if not texts:
+        raise Misfit("it names no file")
+    return texts
+
+
+def look():
+    """Looks at all edits: how many there are, and how many don't apply."""
+    edits = [(it, it.parent.parent.name) for it in ROOT.glob("crates/*/must-fail/*.edit")]
+    edits += [(it, it.parent.name) for it in [*ROOT.glob("strength/*/*.edit"), *ROOT.glob("tests/wrong/*/*.edit")]]
+    bad = 0
+    for edit, crate in sorted(edits):
+        try:
+            laid_in(edit, ROOT / "crates" / crate)
+        except Misfit as why:
+            print(f"edits.py: {edit.relative_to(ROOT)}: {why}", file=sys.stderr)
+            bad += 1
+    return len(edits), bad
 
 
 def main():
-    edits = [(it, it.parent.parent.name) for it in ROOT.glob("crates/*/must-fail/*.edit")]
-    edits += [(it, it.parent.name) for it in ROOT.glob("strength/*/*.edit")]
-    bad = 0
-    for edit, crate in sorted(edits):
-        why = why_not(edit, crate)
-        if why:
-            print(f"edits.py: {edit.relative_to(ROOT)}: {why}", file=sys.stderr)
-            bad += 1
-    if bad or not edits:
+    if len(sys.argv) > 1:
+        edit, folder = (pathlib.Path(word) for word in sys.argv[1:])
+        for path, text in laid_in(edit, folder / "crates" / edit.parent.name).items():
+            path.write_text(text)
+        return
+    count, bad = look()
+    if bad or not count:
         sys.exit(1)
-    print(f"edits.py: {len(edits)} edits apply")
+    print(f"edits.py: {count} edits apply")
 
 
 main()

@@ -1,20 +1,24 @@
 #!/usr/bin/env bash
 # Runs all scripts over a program, side by side, since each works in a folder of its own, and prints what each has told.
 #
-# usage: tests/scripts.sh PLANT [SECONDS]     PLANT is the program, SECONDS what hostile.py and layouts.py give a text; ends with 1 where a script fails
+# usage: tests/scripts.sh PLANT [SECONDS]     PLANT is the program, SECONDS what hostile.py and layouts.py give a text of one that is hardly optimised,
+#                                            of which refusals.py refuses few requests; ends with 1 where a script fails
 set -euo pipefail
 plant=$(realpath "$1")
 shift
 cd "$(dirname "$0")/.."
 
 scripts=(program.sh language.py edges.py examples.sh replays.sh broken.py codes.py explanations.py explain.py shows.py layouts.py plots.py
-    pictures.py progress.py kill.sh two_runs.py hostile.py)
+    pictures.py progress.py kill.sh two_runs.py hostile.py refusals.py)
 told=$(mktemp -d)
 trap 'rm -rf "$told"' EXIT
 failed=0 running=()
 for script in "${scripts[@]}"; do
     words=()
-    case $script in hostile.py | layouts.py) words=("$@") ;; esac
+    case $script in
+        hostile.py | layouts.py) words=("$@") ;;
+        refusals.py) [ $# -eq 0 ] || words=(--few) ;;
+    esac
     "tests/$script" "$plant" "${words[@]}" > "$told/$script" 2>&1 &
     running+=($!)
 done
