@@ -70,8 +70,8 @@ PLOT = (*WORDS, "V5", *BUILD, "I6", "K6", "V5", "K6")
 SPARED = 2
 
 
-def fail(what):
-    sys.exit(f"refusals.py: {what}")
+class Failure(Exception):
+    """What is not as it should be with memory."""
 
 
 # A program that is started.
@@ -109,7 +109,7 @@ def calls_of(log):
         asked, mine, thread, what, fd, size, name = line.split(" ")
         if what == "open":
             names[fd] = name
-        calls.append(Call(int(asked), int(mine), int(thread), what, int(size), names[fd]))
+        calls.append(Call(int(asked), int(mine), int(thread), what, int(size), names.get(fd, "-")))
     return calls
 
 
@@ -148,7 +148,7 @@ class Program:
         """Runs what has to end well."""
         ended = self.run(words, **how)
         if ended.status:
-            fail(f"{' '.join(words)}: {ended}")
+            raise Failure(f"{' '.join(words)}: {ended}")
         return ended
 
     def calls(self, words, **how):
@@ -221,7 +221,7 @@ def changed(text, *changes):
     """The text with a piece of it in place of another, for each change."""
     for old, new in changes:
         if text.count(old) != 1:
-            fail(f"{old!r} stands in the text {text.count(old)} times")
+            raise Failure(f"{old!r} stands in the text {text.count(old)} times")
         text = text.replace(old, new)
     return text.encode()
 
@@ -284,7 +284,6 @@ def runs(program):
     yield run("counter.st", "later.csv", "warm", "--pace free", record, is_fixed=False, **store)
     yield run("next.st", "later.csv", "warm", "--trace t", old | before, **trace)
     yield run("next.st", "later.csv", "warm", "--pace free", old, is_fixed=False, **store)
-    yield run("wide.st", "rows.csv", "cold", **store)
     yield run("two.st", "later.csv", "cold", is_fixed=False, **store)
     yield run("two.st", "later.csv", "warm", "--pace free --trace t", before, is_fixed=False, **trace)
 
@@ -317,6 +316,8 @@ def large(program):
     hall = {"rows.csv": rows("t,start", "0,0", "10,1"), "none.csv": rows("t,start")}
     run = "run recipe.st --plant rows.csv --store s --start cold --trace t"
     traced = made(program, run, recipe | plant, "t")
+    wide = {"wide.st": SOURCES["wide.st"]} | ROWS
+    yield "run wide.st --plant rows.csv --store s --start cold", wide, RUN, {"store": "s"}
     yield "check conveyor.st", recipe, (*WORDS, *BUILD, "K6"), {}
     yield run, recipe | plant, TRACED, {"store": "s", "written": "t"}
     yield "run conveyor.st --plant rows.csv --store s --start cold", recipe | hall, RUN, {"store": "s"}
@@ -423,7 +424,7 @@ class Judge:
         self.want = program.run(scene.words)
         self.wanted = left(self.folder)
         if self.want.asked is None or not self.is_wanted() or not self.is_right(self.want):
-            fail(f"{scene}: with memory {self.want}")
+            raise Failure(f"{scene}: with memory {self.want}")
 
     def is_wanted(self):
         """Whether the answer with memory is the one that is known."""
@@ -622,12 +623,12 @@ def least_room(program):
         ended = program.with_room(["explain", "C3"], room)
         if ended is not None and ended.status is not None and 0 <= ended.status < NOT_LOADED:
             return room + SMALL
-    fail(f"the program is not loaded with room for {MOST_ROOM} KiB")
+    raise Failure(f"the program is not loaded with room for {MOST_ROOM} KiB")
 
 
 def rooms(least, depth):
     """Rooms from there on: in small steps while the job is done by one thread, and then in large ones, since the stack of a thread is large."""
-    small, large = {ALL: (SMALL // 4, LARGE // 8), None: (SMALL, LARGE)}.get(depth, (4 * SMALL, 4 * LARGE))
+    small, large = (SMALL // 4, LARGE // 8) if depth == ALL else (SMALL, LARGE)
     return [*range(least, least + LARGE, small), *range(least + LARGE, MOST_ROOM, large)]
 
 
@@ -665,7 +666,7 @@ class Counts:
 def counted(program, words):
     ended, calls = program.calls(words.split())
     if ended.status:
-        fail(f"{words}: {ended}")
+        raise Failure(f"{words}: {ended}")
     first, report = calls[0].thread, next(it for it in calls if it.name == "output")
     steps = [it for it in calls if it.name == "s" and it.what in DEVICE]
     # a start begins with a sync; what comes before it is the look of a warm run, which reads alone
@@ -708,7 +709,9 @@ def tried(scene, least, depth, program):
             told.findings.append(f"{scene}: {order}, {how}: {told.spans}")
         all_told.add(told)
     all_told.add(failed_files(judge))
-    all_told.add(with_less_room(judge, rooms(least, depth)))
+    # one that is hardly optimised takes more stack than it is given when it begins, and the system kills it where there is no room for that
+    if depth != SOME:
+        all_told.add(with_less_room(judge, rooms(least, depth)))
     return all_told
 
 
@@ -716,32 +719,44 @@ def in_folder(plant, allocator, work):
     """Does a part of the work in a folder of its own."""
     with tempfile.TemporaryDirectory() as folder:
         program = Program(plant, allocator, pathlib.Path(folder))
-        told = work(program)
+        try:
+            told = work(program)
+        except Failure as failure:
+            told = Told(findings=[str(failure)])
         told.starts = program.starts
     return told
+
+
+def all_of_it(plant, allocator, folder, depth):
+    """Tries all scenes, the large ones first, and looks at growths."""
+    program = Program(plant, allocator, folder)
+    scenes, least = sorted(scenes_of(program), key=lambda it: not it.is_large), least_room(program)
+    parts = [functools.partial(tried, scene, least, depth) for scene in scenes]
+    all_told = Told(program.starts)
+    with concurrent.futures.ProcessPoolExecutor(WORKERS) as pool:
+        for told in pool.map(functools.partial(in_folder, plant, allocator), [*parts, growths]):
+            all_told.add(told)
+    return len(scenes), all_told
 
 
 def main():
     plant, depth = str(pathlib.Path(sys.argv[1]).resolve()), sys.argv[2] if len(sys.argv) > 2 else None
     if depth not in (None, ALL, SOME):
-        fail(f"{depth} is neither {ALL} nor {SOME}")
+        sys.exit(f"refusals.py: {depth} is neither {ALL} nor {SOME}")
     with tempfile.TemporaryDirectory() as folder:
         folder = pathlib.Path(folder)
         allocator = str(folder / "refuse.so")
         subprocess.run(["gcc", "-O2", "-fPIC", "-shared", "-o", allocator, str(HERE / "refuse.c")], check=True)
         (folder / "files").mkdir()
-        program = Program(plant, allocator, folder / "files")
-        scenes, least = list(scenes_of(program)), least_room(program)
-        parts = [functools.partial(tried, scene, least, depth) for scene in sorted(scenes, key=lambda it: not it.is_large)]
-        all_told = Told(program.starts)
-        with concurrent.futures.ProcessPoolExecutor(WORKERS) as pool:
-            for told in pool.map(functools.partial(in_folder, plant, allocator), [*parts, growths]):
-                all_told.add(told)
-    for finding in all_told.findings:
+        try:
+            scenes, told = all_of_it(plant, allocator, folder / "files", depth)
+        except Failure as failure:
+            sys.exit(f"refusals.py: {failure}")
+    for finding in told.findings:
         print(f"refusals.py: {finding}", file=sys.stderr)
-    if all_told.findings:
+    if told.findings:
         sys.exit(1)
-    print(f"refusals.py: {all_told.refused} refusals over {len(scenes)} scenes told by their numbers, {all_told.starts} starts")
+    print(f"refusals.py: {told.refused} refusals in {scenes} scenes told by their numbers, with nothing lost, in {told.starts} starts")
 
 
 if __name__ == "__main__":

@@ -22,7 +22,7 @@ for edit; do
     done
     tests/edits.py "$edit" "$copy"
     "$copy/tools/unproved.py" plant_main "$copy/plant" > "$copy/log" 2>&1 || { cat "$copy/log" >&2; exit 1; }
-    if tests/refusals.py "$copy/plant" > "$copy/log" 2>&1; then
+    if tests/refusals.py "$copy/plant" --few > "$copy/log" 2>&1; then
         echo "$crate: $(basename "$edit" .edit): not told"
         status=1
     else
