@@ -64,6 +64,8 @@ BUILD = ("G9", "L6", "P3", "G9", "C12", "M3", "G9")
 WRONG_TEXT = (*WORDS, "G9", "L6", "P3", SAME, "C12")
 RUN = (*WORDS, *BUILD, "I6", "N2 S5", "K6 H1")
 TRACED = (*RUN, "V5")
+# where the threads' ways are open, what is the last request of a run in one is one of the report or the trace in another
+OPEN_TRACED = (*RUN[:-1], "K6 H1 V5")
 REPLAY = (*WORDS, "V5", *BUILD, "I6", "V5", "K6")
 PLOT = (*WORDS, "V5", *BUILD, "I6", "K6", "V5", "K6")
 # how many requests of the words the program can do without: room that is asked for ahead
@@ -274,7 +276,8 @@ def runs(program):
 
     def run(source, plant, start, more="", files=None, **options):
         words = f"run {source} --plant {plant} --store s --start {start} {more}"
-        return words, {source: SOURCES[source]} | ROWS | (files or {}), TRACED if "written" in options else RUN, options
+        stages = RUN if "written" not in options else TRACED if options.get("is_fixed", True) else OPEN_TRACED
+        return words, {source: SOURCES[source]} | ROWS | (files or {}), stages, options
 
     yield run("counter.st", "rows.csv", "cold", **store)
     yield run("counter.st", "rows.csv", "cold", "--trace t", before, **trace)
@@ -582,7 +585,7 @@ def out_of_order(scene, spans, depth):
         if at == len(scene.stages):
             return f"{answer} at the wrong stage"
     missing = {it for stage in scene.stages for it in stage.split()} - {answer for answer, _ in spans} - {SAME}
-    return f"no {', '.join(missing)}" if missing and are_all(scene, depth) else None
+    return f"no {', '.join(missing)}" if missing and scene.is_fixed and are_all(scene, depth) else None
 
 
 # Files whose opening or reading fails for want of memory.

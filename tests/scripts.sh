@@ -1,8 +1,8 @@
 #!/usr/bin/env bash
 # Runs all scripts over a program, side by side, since each works in a folder of its own, and prints what each has told.
 #
-# usage: tests/scripts.sh PLANT [SECONDS]     PLANT is the program, SECONDS what hostile.py and layouts.py give a text of one that is hardly optimised,
-#                                            of which refusals.py refuses few requests; ends with 1 where a script fails
+# usage: tests/scripts.sh PLANT [SECONDS]     PLANT is the program; SECONDS, for one that is hardly optimised, what hostile.py and layouts.py
+#                                            give a text, and refusals.py refuses few requests then; ends with 1 where a script fails
 set -euo pipefail
 plant=$(realpath "$1")
 shift
