@@ -104,6 +104,7 @@ use Rattle.run_lock.specs.contracts.mark.RaisePass as RaisePass
 use Rattle.run_lock.specs.contracts.mark.RaisePass.TheInside as RaiseInside
 use Rattle.run_lock.specs.declared.locked.Run as Run
 use Rattle.run_lock.specs.contracts.locked.Locked as Locked
+use Rattle.plc_threads.specs.contracts.driver.Pace as Pace
 use Rattle.plc_threads.specs.contracts.shared.Shared as Shared
 
 -- which types cross by their parts
@@ -2044,13 +2045,24 @@ module _ (J D : RattleType) (run : Run.Ghosts J.Denot) (disk : Disk.Ghosts D.Den
 
     pub shared-sync : IsSend J → IsSend D → IsSync (Shared.the_row J D run disk ledger)
     shared-sync j s = let under : IsSend (Locked.the_row J D run disk ledger) = locked-send j s in declared_sync
-        (Shared.the_type J D run disk ledger) (search (plain, under) depth 20, (search plain depth 20, tt))
+        (Shared.the_type J D run disk ledger) (
+          search (plain, under) depth 20,
+          (search plain depth 20, (search plain depth 20, (search plain depth 20, tt))),
+        )
 
--- a closure may cross where the three or the six that it captures may
-pub three-send : (name : Sym) (A B C : RattleType) → IsSend A → IsSend B → IsSend C
-    → IsSend (TupleAt name (A ∷ B ∷ C ∷ []))
-three-send name A B C a b c = declared_send (type_at name (A ∷ B ∷ C ∷ []))
-    (as_row_send (row_field A) a, (as_row_send (row_field B) b, (as_row_send (row_field C) c, tt)))
+pub pace-send : IsSend Pace.the_row
+pace-send = search plain depth 20
+
+-- a closure may cross where the five or the six that it captures may
+pub five-send : (name : Sym) (A B C D E : RattleType) → IsSend A → IsSend B → IsSend C → IsSend D → IsSend E
+    → IsSend (TupleAt name (A ∷ B ∷ C ∷ D ∷ E ∷ []))
+five-send name A B C D E a b c d e = declared_send (type_at name (A ∷ B ∷ C ∷ D ∷ E ∷ [])) (
+  as_row_send (row_field A) a,
+  (
+    as_row_send (row_field B) b,
+    (as_row_send (row_field C) c, (as_row_send (row_field D) d, (as_row_send (row_field E) e, tt))),
+  ),
+)
 
 pub six-send : (name : Sym) (A B C D E F : RattleType) → IsSend A → IsSend B → IsSend C → IsSend D → IsSend E
     → IsSend F → IsSend (TupleAt name (A ∷ B ∷ C ∷ D ∷ E ∷ F ∷ []))

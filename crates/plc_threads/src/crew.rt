@@ -58,7 +58,7 @@ fn run_crew<
     let Ok(mut told) = Vec::with_capacity(alloc, resources) else {
         return Err(RunFault::NO_MEMORY);
     };
-    let Ok(flusher) = scope.spawn(move || flush_all(rt, shared, mark)) else {
+    let Ok(flusher) = scope.spawn(move || flush_all(rt, shared, mark, resources, pace)) else {
         return Err(RunFault::NotStarted);
     };
     for resource in 0..resources {

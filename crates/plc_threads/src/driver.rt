@@ -51,20 +51,30 @@ pub fn drive<J: Run, D: Disk + Drop, R: Wait>(
         if pace == Pace::Settle {
             ask(mark, &mut pass, length);
         }
-        let mut guard = shared.changed.wait_while(rt, shared.locked.lock(rt), |l| {
-            l.phase == Phase::Running && pace == Pace::Settle && !l.is_settled(resources)
-        });
+        let mut guard = shared
+            .acknowledged
+            .wait_while(rt, shared.locked.lock(rt), |l| {
+                l.phase == Phase::Running && pace == Pace::Settle && !l.is_settled(resources)
+            });
         if guard.phase != Phase::Running {
             return;
         }
         guard.latch();
         length = guard.core.len() as u64;
-        shared.changed.notify_all();
+        match guard.phase {
+            Phase::Running => {
+                shared.due.notify_all();
+                shared.longer.notify_all();
+            }
+            Phase::Ended | Phase::Stopped(_) => shared.wake_all(),
+        }
     }
     ask(mark, &mut pass, length);
-    let mut guard = shared.changed.wait_while(rt, shared.locked.lock(rt), |l| {
-        l.phase == Phase::Running && !l.is_settled(resources)
-    });
+    let mut guard = shared
+        .acknowledged
+        .wait_while(rt, shared.locked.lock(rt), |l| {
+            l.phase == Phase::Running && !l.is_settled(resources)
+        });
     guard.end(Phase::Ended);
-    shared.changed.notify_all();
+    shared.wake_all();
 }

@@ -23,8 +23,8 @@ use st_plans::Row;
 use std::alloc::Global;
 use std::collections::VecDeque;
 use std::marker::Brand;
+use std::sync::Wait;
 use std::sync::ledger::{Blank, Book};
-use std::sync::{Condvar, Mutex, Wait};
 use std::thread::Threads;
 
 /// What a run has under its lock as it begins.
@@ -92,14 +92,16 @@ fn run_as<J: Run + Send + Sync, D: Disk + Drop + Send, G: Gate + Sync, R: Thread
 {
     let count = rows.len();
     let (book, all) = blank.open::<J>();
-    let shared = Shared {
-        locked: Mutex::new(locked(core, book, raises, rows)),
-        changed: Condvar::new(),
-    };
+    let shared = Shared::new(locked(core, book, raises, rows));
     let joined = in_scope(
         rt, alloc, &shared, mark, gate, pass, all, resources, count, pace,
     );
-    let Shared { locked, changed: _ } = shared;
+    let Shared {
+        locked,
+        due: _,
+        longer: _,
+        acknowledged: _,
+    } = shared;
     let Locked {
         core,
         mut book,

@@ -12,11 +12,17 @@ use st_plans::{Activation, Entry};
 use std::alloc::Global;
 use std::sync::{Condvar, Mutex, Wait};
 
-/// The one lock of a run, and what tells its threads that something under it has changed.
+/// The one lock of a run, and what tells its threads that something under it has changed. Each kind of thread is woken
+/// for what it waits for, and all of them when the run ends.
 #[derive(Drop)]
 pub struct Shared<J: Run, D: Disk> {
     pub locked: Mutex<Locked<J, D>>,
-    pub changed: Condvar,
+    /// For the workers: a row came, after which programs may be due.
+    pub due: Condvar,
+    /// For the flusher: the log is longer.
+    pub longer: Condvar,
+    /// For the driver: more of the log is acknowledged.
+    pub acknowledged: Condvar,
 }
 
 /// What a commit in one step did.
@@ -38,12 +44,37 @@ fn last_activation<D: Disk>(core: &Core<D>) -> Option<Activation> {
 }
 
 impl<J: Run, D: Disk + Drop> Shared<J, D> {
+    /// What is shared as a run begins.
+    pub fn new(locked: Locked<J, D>) -> Shared<J, D> {
+        Shared {
+            locked: Mutex::new(locked),
+            due: Condvar::new(),
+            longer: Condvar::new(),
+            acknowledged: Condvar::new(),
+        }
+    }
+
+    /// Wakes all threads: the run has ended.
+    pub fn wake_all(&self) {
+        self.due.notify_all();
+        self.longer.notify_all();
+        self.acknowledged.notify_all();
+    }
+
+    /// Wakes those for whom a call matters that makes the log longer, or ends the run.
+    fn wake_after<T, E>(&self, answer: &Result<T, E>) {
+        match answer {
+            Ok(_) => self.longer.notify_all(),
+            Err(_) => self.wake_all(),
+        }
+    }
+
     /// Ends the run, unless it has ended: it is stopped for what no core has told.
     pub fn end<R: Wait>(&self, rt: &R, end: Phase)
         requires { MayEnd end }
     {
         self.locked.lock(rt).end(end);
-        self.changed.notify_all();
+        self.wake_all();
     }
 
     /// The best activation of a resource, once there is one; none where the run has ended.
@@ -55,9 +86,9 @@ impl<J: Run, D: Disk + Drop> Shared<J, D> {
             }
             match guard.take(alloc, resource) {
                 Ok(Some(snapshot)) => return Some(snapshot),
-                Ok(None) => guard = self.changed.wait(rt, guard),
+                Ok(None) => guard = self.due.wait(rt, guard),
                 Err(_) => {
-                    self.changed.notify_all();
+                    self.wake_all();
                     return None;
                 }
             }
@@ -78,7 +109,7 @@ impl<J: Run, D: Disk + Drop> Shared<J, D> {
     {
         let mut guard = self.locked.lock(rt);
         let result = tally.commit(&mut *guard, execution);
-        self.changed.notify_all();
+        self.wake_after(&result);
         result.ok()
     }
 
@@ -97,7 +128,7 @@ impl<J: Run, D: Disk + Drop> Shared<J, D> {
     {
         let mut guard = self.locked.lock(rt);
         let result = tally.commit_here(&mut *guard, alloc, resource);
-        self.changed.notify_all();
+        self.wake_after(&result);
         match result {
             Ok(length) => Some(Served {
                 length,

@@ -2,6 +2,7 @@
 
 ghost use Rattle.std.specs.Prelude.{◌≡◌, ◌+◌};
 
+use crate::driver::Pace;
 use crate::gate::Gate;
 use crate::shared::{Served, Shared};
 use coded_runs::run;
@@ -66,17 +67,29 @@ pub fn work<J: Run, D: Disk + Drop, G: Gate, R: Wait>(
 }
 
 /// Flushes whenever the log is longer than what is acknowledged, until the run ends.
-pub fn flush_all<J: Run, D: Disk + Drop, R: Wait>(rt: &R, shared: &Shared<J, D>, mark: &Mark)
+///
+/// Where the next row comes when all has settled, it flushes once nothing waits: one save has all that came of a row.
+pub fn flush_all<J: Run, D: Disk + Drop, R: Wait>(
+    rt: &R,
+    shared: &Shared<J, D>,
+    mark: &Mark,
+    resources: usize,
+    pace: Pace,
+)
     requires { mark.now ≡ J.mark }
 {
     for _ in rt.forever() {
-        let mut guard = shared.changed.wait_while(rt, shared.locked.lock(rt), |l| {
-            l.phase == Phase::Running && l.core.acked() == l.core.len()
+        let mut guard = shared.longer.wait_while(rt, shared.locked.lock(rt), |l| {
+            l.phase == Phase::Running
+                && (l.core.acked() == l.core.len()
+                    || pace == Pace::Settle && !l.nothing_waits(resources))
         });
         if guard.phase != Phase::Running {
             break;
         }
-        let _ended = guard.flush(mark);
-        shared.changed.notify_all();
+        match guard.flush(mark) {
+            Ok(_) => shared.acknowledged.notify_all(),
+            Err(_) => shared.wake_all(),
+        }
     }
 }

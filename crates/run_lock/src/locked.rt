@@ -255,6 +255,13 @@ impl<J: Run, D: Disk> Locked<J, D> {
         *phase = end_of(*phase, end);
     }
 
+    /// Whether nothing waits on one of so many resources.
+    pub fn nothing_waits(&self, resources: usize) -> bool
+        ensures { IsTrue result ↔ NothingIsDue self.now.core.state resources }
+    {
+        nothing_waits(&self.core, resources)
+    }
+
     /// Whether nothing waits, and all is acknowledged.
     pub fn is_settled(&self, resources: usize) -> bool
         ensures { IsTrue result ↔ (NothingIsDue self.now.core.state resources × IsAcknowledged self.now.core) }
@@ -263,14 +270,21 @@ impl<J: Run, D: Disk> Locked<J, D> {
     }
 }
 
-/// Whether nothing waits on one of so many resources, and all of the log is acknowledged.
-pub fn is_settled<D: Disk>(core: &Core<D>, resources: usize) -> bool
-    ensures { IsTrue result ↔ (NothingIsDue core.now.state resources × IsAcknowledged core.now) }
+/// Whether nothing waits on one of so many resources.
+fn nothing_waits<D: Disk>(core: &Core<D>, resources: usize) -> bool
+    ensures { IsTrue result ↔ NothingIsDue core.now.state resources }
 {
     for resource in 0..resources {
         if core.waits_on(resource) {
             return false;
         }
     }
-    core.acked() == core.len()
+    true
+}
+
+/// Whether nothing waits on one of so many resources, and all of the log is acknowledged.
+pub fn is_settled<D: Disk>(core: &Core<D>, resources: usize) -> bool
+    ensures { IsTrue result ↔ (NothingIsDue core.now.state resources × IsAcknowledged core.now) }
+{
+    nothing_waits(core, resources) && core.acked() == core.len()
 }

@@ -5,15 +5,16 @@ use denote.Param.{param}
 use denote.Param.Send.{IsSend, arg_send, param_send, sendable, shr_send}
 use Rattle.std.proofs.Crossing.{crosses}
 use Rattle.std.below.core.proofs.ledger.Share.TheSendSync as ShareSend
-use Rattle.plc_threads.proofs.Crossing.{mark-sync, shared-sync, six-send, three-send}
+use Rattle.plc_threads.proofs.Crossing.{mark-sync, pace-send, shared-sync, five-send, six-send}
 use Rattle.plc_threads.proofs.crew.run_crew.Goals as goal
 
 pub spawn-requires-send-F : goal.spawn-requires-send-F
 spawn-requires-send-F g c κs within =
     let b = c.type_bounds in
     let shared = shared-sync _ _ g.J.Run g.D.Disk g.J.Ledger b.send-J b.send-D in
+    let number : IsSend usize = search sendable depth 20 in
     param_send _ _ (arg_send _ no _
-    (three-send _ _ _ _ (shr_send _ _ _ b.sync-R) (shr_send _ _ _ shared) (shr_send _ _ _ mark-sync)))
+    (five-send _ _ _ _ _ _ (shr_send _ _ _ b.sync-R) (shr_send _ _ _ shared) (shr_send _ _ _ mark-sync) number pace-send))
 
 pub spawn-requires-in-loop-resource-send-F : goal.spawn-requires-in-loop-resource-send-F
 spawn-requires-in-loop-resource-send-F g c κs within =
