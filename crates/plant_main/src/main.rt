@@ -13,6 +13,23 @@ use std::{env, io};
 /// The exit status where the words can't be read as text.
 const NO_TEXT: u8 = 1;
 
+/// More bytes of the stack than the deepest text takes, which needs up to 384 KiB.
+const STACK_BYTES: usize = 512 * 1024;
+
+/// Takes the room that the program needs on the stack before any memory, as programs under real-time conditions do. So
+/// where there is no room for it, the program ends as it begins, and never within its work.
+///
+/// It writes there what no compiler knows, the first byte of the program's name, and reads it again, so that none leaves
+/// it out.
+#[inline(never)]
+fn takes_stack<R: Env>(rt: &R) -> bool {
+    let mut name = [0u8; 256];
+    let _ = rt.arg(0, &mut name);
+    let byte = name[0];
+    let room = [byte; STACK_BYTES];
+    room[byte as usize] == byte
+}
+
 fn words_of(alloc: Global, rt: &(impl Env + AllocGlobal)) -> io::Result<Vec<String>> {
     env::args(rt)?.collect(alloc).map_err(io::Error::from)
 }
@@ -40,6 +57,9 @@ fn main(rt: HostRuntime) -> ExitCode {
     let alloc = rt.alloc();
     let mut out = rt.stdout();
     let mut err = rt.stderr();
+    if !takes_stack(&rt) {
+        return ExitCode::from(no_memory(&mut err));
+    }
     let words = match words_of(alloc, &rt) {
         Ok(words) => words,
         Err(error) => return ExitCode::from(no_words(&error, &mut err)),
