@@ -1,0 +1,5 @@
+pub mod Stepping
+pub mod Memories
+pub mod Operators
+pub mod Reading
+pub mod Statements

@@ -1,0 +1,352 @@
+-- What instructions make of words is what operators make of the values.
+use Rattle.std.proofs.Common.{◌≡◌, ℕ, suc, ◌-◌, ◌≤◌, ◌^◌, ◌&&◌, ◌*◌, ℤ, pos, negsuc, ◌+ℤ◌, ◌-ℤ◌, ◌*ℤ◌, ◌≤ℤ◌, Bool, true, false}
+use Rattle.std.proofs.Common.{Option, Some, None, Result, Ok, Err, refl, sym, ap, ap₂, subst, ◌∙◌, arith, w64, FitsSigned}
+use Rattle.std.proofs.Common.{mul-le-mul}
+use Rattle.std.specs.Prelude.{if◌then◌else◌, int_div, int_le, int_lt, not, slice_get, unsigned_abs}
+use Rattle.std.specs.Ordering.{int_eq}
+use Rattle.std.specs.Int.{int_wrapping_add, int_wrapping_mul, int_wrapping_sub}
+use Rattle.std.proofs.Math.IntN.{+ℤ_idr, +ℤ-neg_ℤ_cancel}
+use Rattle.std.proofs.lemmas.Int.{ints, unsigned_abs-mul, int_wrap_fits, wrapping_add_is, wrapping_mul_is, wrapping_sub_is}
+use Rattle.std.proofs.lemmas.Bool.Decides.{Decides-int_eq, Decides-like, same_from_decides}
+use Rattle.st_words.specs.declared.fault.Fault.{Fault}
+use Rattle.st_words.specs.declared.fault.Fault.TheVariants.{DivisionByZero, Range}
+use Rattle.st_words.specs.declared.kind.Kind.{Kind}
+use Rattle.st_words.specs.declared.kind.Kind.TheVariants.{Sint, Int, Dint, Lint, Usint, Uint, Udint, Ulint, Byte, Word}
+use Rattle.st_words.specs.declared.kind.Kind.TheVariants.{Dword, Lword, Time, Bool as Boolean, Enumerated}
+use Rattle.st_words.specs.declared.operator.BinaryOperator.{BinaryOperator}
+use Rattle.st_words.specs.declared.operator.BinaryOperator.TheVariants.{Or, Xor, And, Equal, NotEqual, Less, Greater}
+use Rattle.st_words.specs.declared.operator.BinaryOperator.TheVariants.{LessOrEqual, GreaterOrEqual, Add, Subtract}
+use Rattle.st_words.specs.declared.operator.BinaryOperator.TheVariants.{Multiply, Divide, Modulo}
+use Rattle.st_words.specs.Kinds.{holds}
+use Rattle.st_words.specs.Values.{Datum, IsHeld, datum_of_truth, in_range}
+use Rattle.st_words.specs.Words.{datum_at, number_at, shift_of}
+use Rattle.st_types.specs.Operators.{applied, quotient}
+use Rattle.quick_code.specs.declared.operation.Operation.{Operation}
+use Rattle.quick_code.specs.declared.operation.Operation.TheVariants as op
+use Rattle.quick_code.specs.declared.operation.Signed.{Signed}
+use Rattle.quick_code.specs.declared.operation.Signed.TheVariants as signed
+use Rattle.quick_code.specs.declared.quick_code.Way.{Way}
+use Rattle.quick_code.specs.declared.quick_instr.QuickInstr.{QuickInstr}
+use Rattle.quick_code.specs.declared.quick_instr.QuickInstr.TheVariants.{AddDint, AddInt, AddLint, DivideDint, DivideInt}
+use Rattle.quick_code.specs.declared.quick_instr.QuickInstr.TheVariants.{DivideLint, MultiplyDint, MultiplyInt}
+use Rattle.quick_code.specs.declared.quick_instr.QuickInstr.TheVariants.{MultiplyLint, SubtractDint, SubtractInt}
+use Rattle.quick_code.specs.declared.quick_instr.QuickInstr.TheVariants.{SubtractLint}
+use Rattle.quick_code.specs.QuickRuns.{Left}
+use Rattle.quick_code.specs.QuickSteps.{Memory, act, look, put, with_word}
+use Rattle.quick_code.specs.Words.{difference, divided, kept, kind_of, made, product, sum}
+use Rattle.quick_trees.specs.QuickMemory.{Ends, Frame}
+use Rattle.quick_trees.specs.Standing.{branch_unless, by_kind, instr_for}
+use Rattle.quick_trees.proofs.Stepping.{Follows, HasBranched, HasPut, has_branched, has_put}
+
+-- the words of a type with a sign are its numbers
+number_is : (s : Signed) (w : ℤ) → number_at (kind_of s) w ≡ w
+number_is signed.Int w = +ℤ_idr w
+number_is signed.Dint w = +ℤ_idr w
+number_is signed.Lint w = +ℤ_idr w
+
+abbrev IsWord : Signed → ℤ → Type 0
+IsWord s w = holds (kind_of s) w ≡ true
+
+word_held : (s : Signed) (w : ℤ) → IsHeld (datum_at (kind_of s) w) → IsWord s w
+word_held s w h = subst (IsWord s) (number_is s w) h
+
+held_word : (s : Signed) (w : ℤ) → IsWord s w → IsHeld (datum_at (kind_of s) w)
+held_word s w h = subst (IsWord s) (sym (number_is s w)) h
+
+-- a word that is narrow has at most 32 bits
+abbrev IsNarrow : ℤ → Type 0
+IsNarrow x = (negsuc (2 ^ 31 - 1) ≤ℤ x) × (x ≤ℤ pos (2 ^ 31))
+
+int_narrow : (x : ℤ) → IsWord signed.Int x → IsNarrow x
+int_narrow x h = grind (arith, ints)
+
+dint_narrow : (x : ℤ) → IsWord signed.Dint x → IsNarrow x
+dint_narrow x h = grind (arith, ints)
+
+narrow_fits : (x : ℤ) → IsNarrow x → FitsSigned w64 x
+narrow_fits x f = (let a = f.0 in let b = f.1 in grind (arith, ints))
+
+sum_fits : (x y : ℤ) → IsNarrow x → IsNarrow y → FitsSigned w64 (x +ℤ y)
+sum_fits x y f g = (let a = f.0 in let b = f.1 in let c = g.0 in let d = g.1 in grind (arith, ints))
+
+difference_fits : (x y : ℤ) → IsNarrow x → IsNarrow y → FitsSigned w64 (x -ℤ y)
+difference_fits x y f g = (let a = f.0 in let b = f.1 in let c = g.0 in let d = g.1 in grind (arith, ints))
+
+abs_small : (x : ℤ) → IsNarrow x → unsigned_abs x ≤ 2 ^ 31
+abs_small x f = (let a = f.0 in let b = f.1 in grind (arith, ints))
+
+fits_by_abs : (z : ℤ) → unsigned_abs z ≤ 2 ^ 31 * 2 ^ 31 → FitsSigned w64 z
+fits_by_abs z small = grind (arith, ints)
+
+product_fits : (x y : ℤ) → IsNarrow x → IsNarrow y → FitsSigned w64 (x *ℤ y)
+product_fits x y f g =
+    fits_by_abs (x *ℤ y)
+    (subst (λ n. n ≤ 2 ^ 31 * 2 ^ 31) (sym (unsigned_abs-mul x y)) (mul-le-mul (abs_small x f) (abs_small y g)))
+
+module _ (x y : ℤ) (f : IsNarrow x) (g : IsNarrow y) where
+  whole_sum : int_wrapping_add w64 x y ≡ x +ℤ y
+  whole_sum =
+      wrapping_add_is w64 x y (narrow_fits x f) (narrow_fits y g) ∙ int_wrap_fits w64 (x +ℤ y) (sum_fits x y f g)
+
+  whole_difference : int_wrapping_sub w64 x y ≡ x -ℤ y
+  whole_difference =
+      wrapping_sub_is w64 x y (narrow_fits x f) (narrow_fits y g)
+      ∙ int_wrap_fits w64 (x -ℤ y) (difference_fits x y f g)
+
+  whole_product : int_wrapping_mul w64 x y ≡ x *ℤ y
+  whole_product =
+      wrapping_mul_is w64 x y (narrow_fits x f) (narrow_fits y g) ∙ int_wrap_fits w64 (x *ℤ y) (product_fits x y f g)
+
+-- nothing leaves 64 bits
+sum_is : (s : Signed) (x y : ℤ) → IsWord s x → IsWord s y → sum s x y ≡ x +ℤ y
+sum_is signed.Int x y f g = whole_sum x y (int_narrow x f) (int_narrow y g)
+sum_is signed.Dint x y f g = whole_sum x y (dint_narrow x f) (dint_narrow y g)
+sum_is signed.Lint x y f g = refl
+
+difference_is : (s : Signed) (x y : ℤ) → IsWord s x → IsWord s y → difference s x y ≡ x -ℤ y
+difference_is signed.Int x y f g = whole_difference x y (int_narrow x f) (int_narrow y g)
+difference_is signed.Dint x y f g = whole_difference x y (dint_narrow x f) (dint_narrow y g)
+difference_is signed.Lint x y f g = refl
+
+product_is : (s : Signed) (x y : ℤ) → IsWord s x → IsWord s y → product s x y ≡ x *ℤ y
+product_is signed.Int x y f g = whole_product x y (int_narrow x f) (int_narrow y g)
+product_is signed.Dint x y f g = whole_product x y (dint_narrow x f) (dint_narrow y g)
+product_is signed.Lint x y f g = refl
+
+-- A word is the result of an operator.
+pub record IsResult (r : Result Datum Fault) (t : Kind) (w : ℤ) : Type 0 where
+  pub value : r ≡ Ok (datum_at t w)
+  pub held : IsHeld (datum_at t w)
+
+-- what is kept is the number, which the type has
+kept_is : (s : Signed) (z w : ℤ) → kept s z ≡ Some w → IsResult (in_range (kind_of s) z) (kind_of s) w
+kept_is s z w e = by_test (holds (kind_of s) z) refl e
+  where
+    by_test : (t : Bool) → holds (kind_of s) z ≡ t → (if t then Some z else None) ≡ Some w
+        → IsResult (in_range (kind_of s) z) (kind_of s) w
+    by_test true h e =
+        let same : z ≡ w = cc in
+        let kind = kind_of s in record {
+          value = ap (λ t. if t then Ok (record { kind = kind; number = z }) else Err Range) h
+              ∙ ap (λ n. Ok (record { kind = kind; number = n })) (same ∙ sym (number_is s w));
+          held = held_word s w (subst (IsWord s) same h);
+        }
+    by_test false h e = absurd cc
+
+-- the same of a quotient
+divided_is : (s : Signed) (x y w : ℤ) → divided y (kept s (int_div x y)) ≡ Some w
+    → IsResult (quotient (kind_of s) x y) (kind_of s) w
+divided_is s x y w e = by_test (int_eq y (pos 0)) e
+  where
+    by_test : (t : Bool) → (if t then None else kept s (int_div x y)) ≡ Some w
+        → IsResult (if t then Err DivisionByZero else in_range (kind_of s) (int_div x y)) (kind_of s) w
+    by_test true e = absurd cc
+    by_test false e = kept_is s (int_div x y) w e
+
+-- an operator that an instruction computes
+abbrev pub operation_of : BinaryOperator → Option Operation
+operation_of Add = Some op.Add
+operation_of Subtract = Some op.Subtract
+operation_of Multiply = Some op.Multiply
+operation_of Divide = Some op.Divide
+operation_of _ = None
+
+some_is : {A : Type 0} {x y : A} → Some x ≡ Some y → y ≡ x
+some_is e = cc
+
+made_is : (o : BinaryOperator) (n : Operation) (s : Signed) (x y w : ℤ) → operation_of o ≡ Some n → IsWord s x
+    → IsWord s y → made n s x y ≡ Some w → IsResult (applied o (kind_of s) x y) (kind_of s) w
+made_is Or n s x y w of f g e = absurd cc
+made_is Xor n s x y w of f g e = absurd cc
+made_is And n s x y w of f g e = absurd cc
+made_is Equal n s x y w of f g e = absurd cc
+made_is NotEqual n s x y w of f g e = absurd cc
+made_is Less n s x y w of f g e = absurd cc
+made_is Greater n s x y w of f g e = absurd cc
+made_is LessOrEqual n s x y w of f g e = absurd cc
+made_is GreaterOrEqual n s x y w of f g e = absurd cc
+made_is Add n s x y w of f g e =
+    kept_is s (x +ℤ y) w (ap (kept s) (sym (sum_is s x y f g)) ∙ subst (λ n. made n s x y ≡ Some w) (some_is of) e)
+made_is Subtract n s x y w of f g e =
+    kept_is s (x -ℤ y) w
+    (ap (kept s) (sym (difference_is s x y f g)) ∙ subst (λ n. made n s x y ≡ Some w) (some_is of) e)
+made_is Multiply n s x y w of f g e =
+    kept_is s (x *ℤ y) w
+    (ap (kept s) (sym (product_is s x y f g)) ∙ subst (λ n. made n s x y ≡ Some w) (some_is of) e)
+made_is Divide n s x y w of f g e =
+    divided_is s x y w (subst (λ n. made n s x y ≡ Some w) (some_is of) e)
+made_is Modulo n s x y w of f g e = absurd cc
+
+abbrev chosen : Signed → QuickInstr → QuickInstr → QuickInstr → QuickInstr
+chosen signed.Int a b c = a
+chosen signed.Dint a b c = b
+chosen signed.Lint a b c = c
+
+-- A type is one with a sign, and an instruction the one for it.
+record IsSigned (t : Kind) (a b c i : QuickInstr) : Type 0 where
+  type : Signed
+  kind : t ≡ kind_of type
+  instr : i ≡ chosen type a b c
+
+signed_of : (t : Kind) (a b c i : QuickInstr) → by_kind t a b c ≡ Some i → IsSigned t a b c i
+signed_of Sint a b c i e = absurd cc
+signed_of Int a b c i e = record { type = signed.Int; kind = refl; instr = cc }
+signed_of Dint a b c i e = record { type = signed.Dint; kind = refl; instr = cc }
+signed_of Lint a b c i e = record { type = signed.Lint; kind = refl; instr = cc }
+signed_of Usint a b c i e = absurd cc
+signed_of Uint a b c i e = absurd cc
+signed_of Udint a b c i e = absurd cc
+signed_of Ulint a b c i e = absurd cc
+signed_of Byte a b c i e = absurd cc
+signed_of Word a b c i e = absurd cc
+signed_of Dword a b c i e = absurd cc
+signed_of Lword a b c i e = absurd cc
+signed_of Time a b c i e = absurd cc
+signed_of Boolean a b c i e = absurd cc
+signed_of (Enumerated names number) a b c i e = absurd cc
+
+module _ (f : Frame) (p : ℕ) (e : Left) (m : Memory) (b : ℕ) where
+  -- The result of an operator on two words was assigned.
+  pub record HasComputed (o : BinaryOperator) (t : Kind) (x y : ℤ) (to : ℕ) : Type 0 where
+    pub word : ℤ
+    pub result : IsResult (applied o t (number_at t x) (number_at t y)) t word
+    pub ends : Ends f (suc p) (with_word m to word) b e
+
+  of_signed : (o : BinaryOperator) (n : Operation) (s : Signed) (x y : ℤ) (to : ℕ) → operation_of o ≡ Some n
+      → IsHeld (datum_at (kind_of s) x) → IsHeld (datum_at (kind_of s) y)
+      → Follows f p e (put to (made n s x y) m b) → HasComputed o (kind_of s) x y to
+  of_signed o n s x y to of g h runs =
+      let done = has_put f p e to (made n s x y) m b runs in
+      let k = kind_of s in
+      let result = made_is o n s x y done.word of (word_held s x g) (word_held s y h) done.is in record {
+        word = done.word;
+        result = subst (λ z. IsResult (applied o k z (number_at k y)) k done.word) (sym (number_is s x))
+            (subst (λ z. IsResult (applied o k x z) k done.word) (sym (number_is s y)) result);
+        ends = done.ends;
+      }
+
+  of_type : (o : BinaryOperator) (n : Operation) (t : Kind) (l r to : ℕ) (a d c i : QuickInstr)
+      → operation_of o ≡ Some n → by_kind t a d c ≡ Some i
+      → ((s : Signed) → act f.ways f.now (chosen s a d c) m b ≡ put to (made n s (look m l) (look m r)) m b)
+      → IsHeld (datum_at t (look m l)) → IsHeld (datum_at t (look m r)) → Follows f p e (act f.ways f.now i m b)
+      → HasComputed o t (look m l) (look m r) to
+  of_type o n t l r to a d c i of is does g h runs =
+      let which = signed_of t a d c i is in
+      let s = which.type in
+      let x = look m l in
+      let y = look m r in
+      subst (λ k. HasComputed o k x y to) (sym which.kind)
+      (of_signed o n s x y to of (subst (λ k. IsHeld (datum_at k x)) which.kind g)
+      (subst (λ k. IsHeld (datum_at k y)) which.kind h)
+      (subst (Follows f p e) (does s) (subst (λ i. Follows f p e (act f.ways f.now i m b)) which.instr runs)))
+
+  pub has_computed : (o : BinaryOperator) (t : Kind) (l r to : ℕ) (i : QuickInstr) → instr_for o t l r to ≡ Some i
+      → IsHeld (datum_at t (look m l)) → IsHeld (datum_at t (look m r)) → Follows f p e (act f.ways f.now i m b)
+      → HasComputed o t (look m l) (look m r) to
+  has_computed Or t l r to i is g h runs = absurd cc
+  has_computed Xor t l r to i is g h runs = absurd cc
+  has_computed And t l r to i is g h runs = absurd cc
+  has_computed Equal t l r to i is g h runs = absurd cc
+  has_computed NotEqual t l r to i is g h runs = absurd cc
+  has_computed Less t l r to i is g h runs = absurd cc
+  has_computed Greater t l r to i is g h runs = absurd cc
+  has_computed LessOrEqual t l r to i is g h runs = absurd cc
+  has_computed GreaterOrEqual t l r to i is g h runs = absurd cc
+  has_computed Add t l r to i is g h runs =
+      of_type Add op.Add t l r to (AddInt l r to) (AddDint l r to) (AddLint l r to) i refl is
+      (λ s. elim s as (λ s. act f.ways f.now (chosen s (AddInt l r to) (AddDint l r to) (AddLint l r to)) m b
+      ≡ put to (made op.Add s (look m l) (look m r)) m b) [ signed.Int ↦ refl | signed.Dint ↦ refl | signed.Lint ↦ refl ])
+      g h runs
+  has_computed Subtract t l r to i is g h runs =
+      of_type Subtract op.Subtract t l r to (SubtractInt l r to) (SubtractDint l r to) (SubtractLint l r to) i refl is
+      (λ s. elim s as (λ s. act f.ways f.now (chosen s (SubtractInt l r to) (SubtractDint l r to) (SubtractLint l r to)) m b
+      ≡ put to (made op.Subtract s (look m l) (look m r)) m b) [ signed.Int ↦ refl | signed.Dint ↦ refl | signed.Lint ↦ refl ])
+      g h runs
+  has_computed Multiply t l r to i is g h runs =
+      of_type Multiply op.Multiply t l r to (MultiplyInt l r to) (MultiplyDint l r to) (MultiplyLint l r to) i refl is
+      (λ s. elim s as (λ s. act f.ways f.now (chosen s (MultiplyInt l r to) (MultiplyDint l r to) (MultiplyLint l r to)) m b
+      ≡ put to (made op.Multiply s (look m l) (look m r)) m b) [ signed.Int ↦ refl | signed.Dint ↦ refl | signed.Lint ↦ refl ])
+      g h runs
+  has_computed Divide t l r to i is g h runs =
+      of_type Divide op.Divide t l r to (DivideInt l r to) (DivideDint l r to) (DivideLint l r to) i refl is
+      (λ s. elim s as (λ s. act f.ways f.now (chosen s (DivideInt l r to) (DivideDint l r to) (DivideLint l r to)) m b
+      ≡ put to (made op.Divide s (look m l) (look m r)) m b) [ signed.Int ↦ refl | signed.Dint ↦ refl | signed.Lint ↦ refl ])
+      g h runs
+  has_computed Modulo t l r to i is g h runs = absurd cc
+
+less_shifted : (x y s : ℤ) → int_lt (x +ℤ s) (y +ℤ s) ≡ int_lt x y
+less_shifted x y s = grind (arith, ints)
+
+at_most_shifted : (x y s : ℤ) → int_le (x +ℤ s) (y +ℤ s) ≡ int_le x y
+at_most_shifted x y s = grind (arith, ints)
+
+equal_shifted : (x y s : ℤ) → int_eq (x +ℤ s) (y +ℤ s) ≡ int_eq x y
+equal_shifted x y s =
+    same_from_decides (int_eq (x +ℤ s) (y +ℤ s)) (int_eq x y) (Decides-int_eq (x +ℤ s) (y +ℤ s))
+    (Decides-like (int_eq x y) (ap (λ z. z +ℤ s))
+    (λ e. sym (+ℤ-neg_ℤ_cancel x s) ∙ ap (λ z. z -ℤ s) e ∙ +ℤ-neg_ℤ_cancel y s) (Decides-int_eq x y))
+
+not_less : (x y : ℤ) → not (int_lt x y) ≡ int_le y x
+not_less x y = grind (arith, ints)
+
+not_at_most : (x y : ℤ) → not (int_le x y) ≡ int_lt y x
+not_at_most x y = grind (arith, ints)
+
+not_not : (t : Bool) → not (not t) ≡ t
+not_not true = refl
+not_not false = refl
+
+module _ (f : Frame) (q : ℕ) (e : Left) (m : Memory) (b : ℕ) where
+  -- A comparison was tested; unless it holds, the run went by the way.
+  pub record HasCompared (o : BinaryOperator) (t : Kind) (x y : ℤ) (w : Way) (past : ℕ) : Type 0 where
+    pub go : Bool
+    pub is : applied o t (number_at t x) (number_at t y) ≡ Ok (datum_of_truth go)
+    pub ends : HasBranched f q e (not go) w past m b
+
+  by_branch : (o : BinaryOperator) (t : Kind) (x y : ℤ) (w : Way) (past : ℕ) (go : Bool)
+      → applied o t (number_at t x) (number_at t y) ≡ Ok (datum_of_truth go) → (turn : Bool) → not go ≡ turn
+      → HasBranched f q e turn w past m b → HasCompared o t x y w past
+  by_branch o t x y w past go is turn same h =
+      record { go = go; is = is; ends = subst (λ u. HasBranched f q e u w past m b) (sym same) h }
+
+  pub has_compared : (o : BinaryOperator) (t : Kind) (l r : ℕ) (w : Way) (past : ℕ) (i : QuickInstr)
+      → branch_unless o l r w past ≡ Some i → Follows f q e (act f.ways f.now i m b)
+      → HasCompared o t (look m l) (look m r) w past
+  has_compared Or t l r w past i is runs = absurd cc
+  has_compared Xor t l r w past i is runs = absurd cc
+  has_compared And t l r w past i is runs = absurd cc
+  has_compared Equal t l r w past i is runs =
+      by_branch Equal t (look m l) (look m r) w past (int_eq (look m l) (look m r))
+      (ap (λ u. Ok (datum_of_truth u)) (equal_shifted (look m l) (look m r) (shift_of t))) (not (int_eq (look m l) (look m r))) (refl)
+      (has_branched f q e (not (int_eq (look m l) (look m r))) w past m b
+      (subst (λ i. Follows f q e (act f.ways f.now i m b)) (some_is is) runs))
+  has_compared NotEqual t l r w past i is runs =
+      by_branch NotEqual t (look m l) (look m r) w past (not (int_eq (look m l) (look m r)))
+      (ap (λ u. Ok (datum_of_truth u)) (ap not (equal_shifted (look m l) (look m r) (shift_of t)))) (int_eq (look m l) (look m r)) (not_not (int_eq (look m l) (look m r)))
+      (has_branched f q e (int_eq (look m l) (look m r)) w past m b
+      (subst (λ i. Follows f q e (act f.ways f.now i m b)) (some_is is) runs))
+  has_compared Less t l r w past i is runs =
+      by_branch Less t (look m l) (look m r) w past (int_lt (look m l) (look m r))
+      (ap (λ u. Ok (datum_of_truth u)) (less_shifted (look m l) (look m r) (shift_of t))) (int_le (look m r) (look m l)) (not_less (look m l) (look m r))
+      (has_branched f q e (int_le (look m r) (look m l)) w past m b
+      (subst (λ i. Follows f q e (act f.ways f.now i m b)) (some_is is) runs))
+  has_compared Greater t l r w past i is runs =
+      by_branch Greater t (look m l) (look m r) w past (int_lt (look m r) (look m l))
+      (ap (λ u. Ok (datum_of_truth u)) (less_shifted (look m r) (look m l) (shift_of t))) (int_le (look m l) (look m r)) (not_less (look m r) (look m l))
+      (has_branched f q e (int_le (look m l) (look m r)) w past m b
+      (subst (λ i. Follows f q e (act f.ways f.now i m b)) (some_is is) runs))
+  has_compared LessOrEqual t l r w past i is runs =
+      by_branch LessOrEqual t (look m l) (look m r) w past (int_le (look m l) (look m r))
+      (ap (λ u. Ok (datum_of_truth u)) (at_most_shifted (look m l) (look m r) (shift_of t))) (int_lt (look m r) (look m l)) (not_at_most (look m l) (look m r))
+      (has_branched f q e (int_lt (look m r) (look m l)) w past m b
+      (subst (λ i. Follows f q e (act f.ways f.now i m b)) (some_is is) runs))
+  has_compared GreaterOrEqual t l r w past i is runs =
+      by_branch GreaterOrEqual t (look m l) (look m r) w past (int_le (look m r) (look m l))
+      (ap (λ u. Ok (datum_of_truth u)) (at_most_shifted (look m r) (look m l) (shift_of t))) (int_lt (look m l) (look m r)) (not_at_most (look m r) (look m l))
+      (has_branched f q e (int_lt (look m l) (look m r)) w past m b
+      (subst (λ i. Follows f q e (act f.ways f.now i m b)) (some_is is) runs))
+  has_compared Add t l r w past i is runs = absurd cc
+  has_compared Subtract t l r w past i is runs = absurd cc
+  has_compared Multiply t l r w past i is runs = absurd cc
+  has_compared Divide t l r w past i is runs = absurd cc
+  has_compared Modulo t l r w past i is runs = absurd cc

@@ -1,0 +1,286 @@
+-- Code that reads an expression gives the value that the expression has.
+use Rattle.std.proofs.Common.{◌≡◌, ℕ, zero, suc, ◌+◌, ◌<◌, ◌≤◌, ◌+ℤ◌, ℤ, pos, negsuc, Bool, true, false, List, length}
+use Rattle.std.proofs.Common.{Option, Some, None, Result, Ok, Err, refl, sym, ap, ap₂, subst, ◌∙◌, arith}
+use Rattle.std.specs.Prelude.{if◌then◌else◌, not, slice_get}
+use Rattle.std.specs.Ordering.{int_eq}
+use Rattle.std.proofs.lemmas.Int.{ints}
+use Rattle.st_words.specs.declared.fault.Fault.{Fault}
+use Rattle.st_words.specs.declared.kind.Kind.{Kind}
+use Rattle.st_words.specs.declared.kind.Kind.TheVariants.{Bool as Boolean}
+use Rattle.st_words.specs.declared.literal.Literal.{Literal}
+use Rattle.st_words.specs.declared.operator.BinaryOperator.{BinaryOperator}
+use Rattle.st_words.proofs.KindLemmas.{same_kind-refl}
+use Rattle.st_words.specs.Kinds.{holds, same_kind}
+use Rattle.st_words.specs.Values.{Datum, IsHeld, datum_of_truth, is_true}
+use Rattle.st_words.specs.Words.{datum_at, number_at}
+use Rattle.st_types.specs.Failures.{ill_typed, valueless, or_failure, failing}
+use Rattle.st_types.specs.Evaluation.{known}
+use Rattle.st_types.specs.Operators.{applied, apply, truth}
+use Rattle.st_types.specs.Ticks.{Run, attempt, follow}
+use Rattle.quick_code.specs.declared.operation.Test.TheVariants as test
+use Rattle.quick_code.specs.declared.quick_code.Way.{Way}
+use Rattle.quick_code.specs.QuickRuns.{Left}
+use Rattle.quick_code.specs.QuickSteps.{Memory, look, put, with_word}
+use Rattle.quick_code.specs.Words.{passes, word_at}
+use Rattle.slot_trees.specs.SlotTrees.{Anchor, Place, SlotExpr, SlotExprs, Subscripts, binary, call, compute, constant, load}
+use Rattle.slot_trees.specs.SlotTrees.{no_subscripts, place, subscript_then, unary}
+use Rattle.slot_trees.specs.SlotEvaluation.{SlotScope, loaded, slot_at, slot_truth, slot_value}
+use Rattle.quick_trees.specs.QuickMemory.{Ends, Frame, IsHeldAt, IsMemory, first_temporary}
+use Rattle.quick_trees.specs.Standing.{AreRead, IsAssigned, IsCompared, IsComputed, IsConstant, IsMoved, IsRead, IsTemporary}
+use Rattle.quick_trees.specs.Standing.{IsTested, IsTestedFor, Stands, branch_unless, instr_for}
+use Rattle.quick_trees.proofs.Stepping.{Follows, HasBranched, has_branched, has_put, stepped}
+use Rattle.quick_trees.proofs.Memories.{Keeps, keeps_all, keeps_below, keeps_both, keeps_word, slot_there, still_memory}
+use Rattle.quick_trees.proofs.Memories.{there_within, word_here}
+use Rattle.quick_trees.proofs.Operators.{IsResult, has_compared, has_computed}
+
+-- one part after another that gave something
+pub then_gives : {A B : Type 0} (r : Result (A × ℕ) Fault) (a : A) (c : ℕ) (f : A → Run B) → r ≡ Ok (a, c)
+    → follow r f ≡ f a c
+then_gives r a c f e = ap (λ r. follow r f) e
+
+-- the truth that a BOOL is
+truth_of_truth : (go : Bool) → truth (datum_of_truth go) ≡ Ok go
+truth_of_truth true = refl
+truth_of_truth false = refl
+
+truth_of_word : (w : ℤ) → IsHeld (datum_at Boolean w) → truth (datum_at Boolean w) ≡ Ok (not (int_eq w (pos 0)))
+truth_of_word (pos zero) h = refl
+truth_of_word (pos (suc zero)) h = refl
+truth_of_word (pos (suc (suc n))) h = absurd (above n h)
+  where
+    above : (n : ℕ) → IsHeld (datum_at Boolean (pos (suc (suc n)))) → ⊥
+    above n h = grind (arith, ints)
+truth_of_word (negsuc n) h = absurd (below n h)
+  where
+    below : (n : ℕ) → IsHeld (datum_at Boolean (negsuc n)) → ⊥
+    below n h = grind (arith, ints)
+
+not_not : (t : Bool) → not (not t) ≡ t
+not_not true = refl
+not_not false = refl
+
+module _ (f : Frame) (z : SlotScope) (x : Left) where
+  -- An expression was read: a word has its value now.
+  pub record HasRead (e : SlotExpr) (t : Kind) (d k q : ℕ) (m : Memory) (vs : List Datum) (b : ℕ) : Type 0 where
+    pub memory : Memory
+    pub keeps : Keeps d m memory
+    pub value : (c : ℕ) → slot_value z vs e c ≡ Ok (datum_at t (word_at memory.words k), c)
+    pub held : IsHeldAt memory.words t k
+    pub low : k < suc d
+    pub ends : Ends f q memory b x
+
+  -- how code reads an expression
+  abbrev pub Reads : SlotExpr → Kind → ℕ → Type 0
+  Reads e t d =
+      (k p q : ℕ) → IsRead f z.base e t d k p q → (m : Memory) (vs : List Datum) (b : ℕ) → first_temporary f ≤ d
+      → IsMemory f m vs → Ends f p m b x → HasRead e t d k q m vs b
+
+  -- Two expressions were read.
+  record HaveRead (l r : SlotExpr) (t u : Kind) (d i j q : ℕ) (m : Memory) (vs : List Datum) (b : ℕ) : Type 0 where
+    memory : Memory
+    keeps : Keeps d m memory
+    is : IsMemory f memory vs
+    first : (c : ℕ) → slot_value z vs l c ≡ Ok (datum_at t (word_at memory.words i), c)
+    second : (c : ℕ) → slot_value z vs r c ≡ Ok (datum_at u (word_at memory.words j), c)
+    held_first : IsHeldAt memory.words t i
+    held_second : IsHeldAt memory.words u j
+    ends : Ends f q memory b x
+
+  read_both : (l r : SlotExpr) (t : Kind) (d i j p q : ℕ) → Reads l t d → Reads r t (suc d)
+      → AreRead (IsRead f z.base l t d) (IsRead f z.base r t (suc d)) i j p q → (m : Memory) (vs : List Datum) (b : ℕ)
+      → first_temporary f ≤ d → IsMemory f m vs → Ends f p m b x → HaveRead l r t t d i j q m vs b
+  read_both l r t d i j p q reads_l reads_r are m vs b le is runs =
+      let one = reads_l i p are.middle are.first m vs b le is runs in
+      let kept = still_memory f m vs is d one.memory le one.keeps in
+      let two = reads_r j are.middle q are.second one.memory vs b (omega arith) kept one.ends in
+      let same = keeps_word (suc d) one.memory two.memory i two.keeps one.low in record {
+        memory = two.memory;
+        keeps = keeps_both d (suc d) m one.memory two.memory (omega arith) one.keeps two.keeps;
+        is = still_memory f one.memory vs kept (suc d) two.memory (omega arith) two.keeps;
+        first = λ c. one.value c ∙ ap (λ w. Ok (datum_at t w, c)) (sym same);
+        second = two.value;
+        held_first = subst (λ w. IsHeld (datum_at t w)) (sym same) one.held;
+        held_second = two.held;
+        ends = two.ends;
+      }
+
+  -- what an operator gives of two values of a type
+  applied_to : (op : BinaryOperator) (l r : SlotExpr) (t : Kind) (v w : ℤ) (vs : List Datum) (c : ℕ) (y : Datum)
+      → slot_value z vs l c ≡ Ok (datum_at t v, c) → slot_value z vs r c ≡ Ok (datum_at t w, c)
+      → applied op t (number_at t v) (number_at t w) ≡ Ok y → slot_value z vs (binary op l r) c ≡ Ok (y, c)
+  applied_to op l r t v w vs c y first second gives =
+      then_gives (slot_value z vs l c) (datum_at t v) c
+      (λ a. λ c. follow (slot_value z vs r c) (λ b. attempt z.stand_ins (apply op a b))) first
+      ∙ then_gives (slot_value z vs r c) (datum_at t w) c (λ b. attempt z.stand_ins (apply op (datum_at t v) b)) second
+      ∙ ap (λ s. attempt z.stand_ins
+      (if s then failing (applied op t (number_at t v) (number_at t w)) else Err ill_typed) c) (same_kind-refl t)
+      ∙ ap (λ o. attempt z.stand_ins (failing o) c) gives
+
+  -- The value of an expression was assigned to a word.
+  pub record HasMade (e : SlotExpr) (t : Kind) (d to q : ℕ) (m : Memory) (vs : List Datum) (b : ℕ) : Type 0 where
+    pub memory : Memory
+    pub keeps : Keeps d m memory
+    pub word : ℤ
+    pub value : (c : ℕ) → slot_value z vs e c ≡ Ok (datum_at t word, c)
+    pub held : IsHeld (datum_at t word)
+    pub ends : Ends f q (with_word memory to word) b x
+
+  made_by : (op : BinaryOperator) (l r : SlotExpr) (t : Kind) (d to p q : ℕ) → Reads l t d → Reads r t (suc d)
+      → IsComputed f (IsRead f z.base l t d) (IsRead f z.base r t (suc d)) op t to p q
+      → (m : Memory) (vs : List Datum) (b : ℕ) → first_temporary f ≤ d → IsMemory f m vs → Ends f p m b x
+      → HasMade (binary op l r) t d to q m vs b
+  made_by op l r t d to p q reads_l reads_r is m vs b le of runs =
+      let both = read_both l r t d is.left is.right p is.last reads_l reads_r is.reads m vs b le of runs in
+      let step = stepped f is.last x both.memory b is.stands.instr both.ends is.stands.at in
+      let done = has_computed f is.last x both.memory b op t is.left is.right to is.stands.instr is.stands.is
+      both.held_first both.held_second step in record {
+        memory = both.memory;
+        keeps = both.keeps;
+        word = done.word;
+        value = λ c. applied_to op l r t (look both.memory is.left) (look both.memory is.right) vs c
+            (datum_at t done.word) (both.first c) (both.second c) done.result.value;
+        held = done.result.held;
+        ends = subst (λ q. Ends f q (with_word both.memory to done.word) b x) (sym is.next) done.ends;
+      }
+
+  read_constant : (l : Literal) (t : Kind) (d : ℕ) → Reads (constant l) t d
+  read_constant l t d k p q is m vs b le of runs =
+      let c = is.1 in
+      let at : datum_at t (word_at m.words k) ≡ c.value =
+      ap₂ (λ t k. datum_at t (word_at m.words k)) (sym c.of_type) c.place ∙ of.constants c.index c.value c.among in
+      let place = c.place in
+      let lt = there_within f.constants c.index c.value c.among in record {
+        memory = m;
+        keeps = keeps_all d m;
+        value = λ n. ap (λ r. attempt z.stand_ins r n) c.of_literal ∙ ap (λ v. Ok (v, n)) (sym at);
+        held = subst IsHeld (sym at) (of.held c.index c.value c.among);
+        low = omega arith;
+        ends = subst (λ p. Ends f p m b x) is.0 runs;
+      }
+
+  read_slot : (a : Anchor) (t : Kind) (d : ℕ) → Reads (load (place a no_subscripts)) t d
+  read_slot a t d k p q is m vs b le of runs =
+      let v = datum_at t (word_at m.words k) in
+      let held = of.slots k t is.2 in
+      let lt = there_within f.kinds k t is.2 in record {
+        memory = m;
+        keeps = keeps_all d m;
+        value = λ c. ap (λ j. loaded z vs j c) (sym is.1)
+            ∙ ap (λ o. attempt z.stand_ins (or_failure valueless (known o)) c) (slot_there f m vs of k t is.2)
+            ∙ ap (λ h. attempt z.stand_ins (or_failure valueless (if h then Some v else None)) c) held;
+        held = held;
+        low = omega arith;
+        ends = subst (λ p. Ends f p m b x) is.0 runs;
+      }
+
+  read_computed : (op : BinaryOperator) (l r : SlotExpr) (t : Kind) (d : ℕ) → Reads l t d → Reads r t (suc d)
+      → Reads (binary op l r) t d
+  read_computed op l r t d reads_l reads_r k p q is m vs b le of runs =
+      let made = made_by op l r t d k p q reads_l reads_r is.1 m vs b le of runs in
+      let depth = is.0.depth in
+      let there = is.0.there in
+      let long = of.long in
+      let kept = made.keeps.long in
+      let here = word_here made.memory k made.word (omega arith) in record {
+        memory = with_word made.memory k made.word;
+        keeps = keeps_both d d m made.memory (with_word made.memory k made.word) (omega arith) made.keeps
+            (keeps_below d made.memory k made.word (omega arith));
+        value = λ c. made.value c ∙ ap (λ w. Ok (datum_at t w, c)) (sym here);
+        held = subst (λ w. IsHeld (datum_at t w)) (sym here) made.held;
+        low = omega arith;
+        ends = made.ends;
+      }
+
+  pub reads : (e : SlotExpr) (t : Kind) (d : ℕ) → Reads e t d
+  reads (constant l) t d = read_constant l t d
+  reads (load (place a no_subscripts)) t d = read_slot a t d
+  reads (load (place a (subscript_then i lower count stride ss))) t d = λ k p q is. absurd is
+  reads (compute g es) t d = λ k p q is. absurd is
+  reads (call g es) t d = λ k p q is. absurd is
+  reads (unary op e) t d = λ k p q is. absurd is
+  reads (binary op l r) t d = read_computed op l r t d (reads l t d) (reads r t (suc d))
+
+  -- the same of an expression that is moved
+  moved : (e : SlotExpr) (t : Kind) (to p q : ℕ) → IsMoved f (IsRead f z.base e t (first_temporary f)) to p q
+      → (m : Memory) (vs : List Datum) (b : ℕ) → IsMemory f m vs → Ends f p m b x
+      → HasMade e t (first_temporary f) to q m vs b
+  moved e t to p q is m vs b of runs =
+      let d = first_temporary f in
+      let read = reads e t d is.from p is.last is.reads m vs b (omega arith) of runs in
+      let step = stepped f is.last x read.memory b _ read.ends is.stands in record {
+        memory = read.memory;
+        keeps = read.keeps;
+        word = look read.memory is.from;
+        value = read.value;
+        held = read.held;
+        ends = subst (λ q. Ends f q (with_word read.memory to (look read.memory is.from)) b x) (sym is.next) step;
+      }
+
+  -- the value of an expression is assigned to a word
+  pub assigned : (e : SlotExpr) (t : Kind) (to p q : ℕ) → IsAssigned f z.base e t to p q
+      → (m : Memory) (vs : List Datum) (b : ℕ) → IsMemory f m vs → Ends f p m b x
+      → HasMade e t (first_temporary f) to q m vs b
+  assigned (constant l) t to p q is m vs b of runs = moved (constant l) t to p q is m vs b of runs
+  assigned (load l) t to p q is m vs b of runs = moved (load l) t to p q is m vs b of runs
+  assigned (compute g es) t to p q is m vs b of runs = moved (compute g es) t to p q is m vs b of runs
+  assigned (call g es) t to p q is m vs b of runs = moved (call g es) t to p q is m vs b of runs
+  assigned (unary op e) t to p q is m vs b of runs = moved (unary op e) t to p q is m vs b of runs
+  assigned (binary op l r) t to p q is m vs b of runs =
+      let d = first_temporary f in
+      made_by op l r t d to p q (reads l t d) (reads r t (suc d)) is m vs b (omega arith) of runs
+
+  -- A condition was tested; unless it holds, the run went by the way.
+  pub record HasTested (e : SlotExpr) (q : ℕ) (w : Way) (past : ℕ) (vs : List Datum) (b : ℕ) : Type 0 where
+    pub memory : Memory
+    pub is : IsMemory f memory vs
+    pub go : Bool
+    pub truth : (c : ℕ) → slot_truth z e vs c ≡ Ok (go, c)
+    pub ends : HasBranched f q x (not go) w past memory b
+
+  truth_is : (e : SlotExpr) (vs : List Datum) (v : Datum) (go : Bool) (c : ℕ) → slot_value z vs e c ≡ Ok (v, c)
+      → truth v ≡ Ok go → slot_truth z e vs c ≡ Ok (go, c)
+  unfolding slot_truth
+  truth_is e vs v go c gives so =
+      then_gives (slot_value z vs e c) v c (λ v. attempt z.stand_ins (truth v)) gives
+      ∙ ap (λ r. attempt z.stand_ins r c) so
+
+  tested_word : (e : SlotExpr) (p q : ℕ) (w : Way) (past : ℕ)
+      → IsTested f (IsRead f z.base e Boolean (first_temporary f)) p q w past
+      → (m : Memory) (vs : List Datum) (b : ℕ) → IsMemory f m vs → Ends f p m b x → HasTested e q w past vs b
+  tested_word e p q w past is m vs b of runs =
+      let d = first_temporary f in
+      let read = reads e Boolean d is.from p q is.reads m vs b (omega arith) of runs in
+      let step = stepped f q x read.memory b _ read.ends is.stands in
+      let word = look read.memory is.from in
+      let none = int_eq word (pos 0) in record {
+        memory = read.memory;
+        is = still_memory f m vs of d read.memory (omega arith) read.keeps;
+        go = not none;
+        truth = λ c. truth_is e vs (datum_at Boolean word) (not none) c (read.value c) (truth_of_word word read.held);
+        ends = subst (λ t. HasBranched f q x t w past read.memory b) (sym (not_not none))
+            (has_branched f q x none w past read.memory b step);
+      }
+
+  pub tested : (e : SlotExpr) (p q : ℕ) (w : Way) (past : ℕ) → IsTestedFor f z.base e p q w past
+      → (m : Memory) (vs : List Datum) (b : ℕ) → IsMemory f m vs → Ends f p m b x → HasTested e q w past vs b
+  tested (constant l) p q w past is m vs b of runs = tested_word (constant l) p q w past is m vs b of runs
+  tested (load l) p q w past is m vs b of runs = tested_word (load l) p q w past is m vs b of runs
+  tested (compute g es) p q w past is m vs b of runs = tested_word (compute g es) p q w past is m vs b of runs
+  tested (call g es) p q w past is m vs b of runs = tested_word (call g es) p q w past is m vs b of runs
+  tested (unary op e) p q w past is m vs b of runs = tested_word (unary op e) p q w past is m vs b of runs
+  tested (binary op l r) p q w past is m vs b of runs =
+      let d = first_temporary f in
+      let t = is.kind in
+      let both = read_both l r t d is.left is.right p q (reads l t d) (reads r t (suc d)) is.reads m vs b (omega arith) of
+      runs in
+      let step = stepped f q x both.memory b is.stands.instr both.ends is.stands.at in
+      let done = has_compared f q x both.memory b op t is.left is.right w past is.stands.instr is.stands.is step in
+      record {
+        memory = both.memory;
+        is = both.is;
+        go = done.go;
+        truth = λ c. truth_is (binary op l r) vs (datum_of_truth done.go) done.go c
+            (applied_to op l r t (look both.memory is.left) (look both.memory is.right) vs c (datum_of_truth done.go)
+            (both.first c) (both.second c) done.is) (truth_of_truth done.go);
+        ends = done.ends;
+      }

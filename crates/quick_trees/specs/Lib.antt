@@ -1,0 +1,2 @@
+pub mod QuickMemory
+pub mod Standing
