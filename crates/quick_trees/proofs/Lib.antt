@@ -3,3 +3,4 @@ pub mod Memories
 pub mod Operators
 pub mod Reading
 pub mod Statements
+pub mod Programs

@@ -1,12 +1,14 @@
 -- What instructions make of words is what operators make of the values.
-use Rattle.std.proofs.Common.{◌≡◌, ℕ, suc, ◌-◌, ◌≤◌, ◌^◌, ◌&&◌, ◌*◌, ℤ, pos, negsuc, ◌+ℤ◌, ◌-ℤ◌, ◌*ℤ◌, ◌≤ℤ◌, Bool, true, false}
-use Rattle.std.proofs.Common.{Option, Some, None, Result, Ok, Err, refl, sym, ap, ap₂, subst, ◌∙◌, arith, w64, FitsSigned}
+use Rattle.std.proofs.Common.{◌≡◌, ℕ, suc, ◌-◌, ◌≤◌, ◌^◌, ◌*◌, ℤ, pos, negsuc, ◌+ℤ◌, ◌-ℤ◌, ◌*ℤ◌, ◌≤ℤ◌, Bool, true}
+use Rattle.std.proofs.Common.{false}
+use Rattle.std.proofs.Common.{Option, Some, None, Result, Ok, Err, refl, sym, ap, subst, ◌∙◌, arith, w64, FitsSigned}
 use Rattle.std.proofs.Common.{mul-le-mul}
-use Rattle.std.specs.Prelude.{if◌then◌else◌, int_div, int_le, int_lt, not, slice_get, unsigned_abs}
+use Rattle.std.specs.Prelude.{if◌then◌else◌, int_div, int_le, int_lt, not, unsigned_abs}
 use Rattle.std.specs.Ordering.{int_eq}
 use Rattle.std.specs.Int.{int_wrapping_add, int_wrapping_mul, int_wrapping_sub}
 use Rattle.std.proofs.Math.IntN.{+ℤ_idr, +ℤ-neg_ℤ_cancel}
-use Rattle.std.proofs.lemmas.Int.{ints, unsigned_abs-mul, int_wrap_fits, wrapping_add_is, wrapping_mul_is, wrapping_sub_is}
+use Rattle.std.proofs.lemmas.Int.{ints, unsigned_abs-mul, int_wrap_fits, wrapping_add_is, wrapping_mul_is}
+use Rattle.std.proofs.lemmas.Int.{wrapping_sub_is}
 use Rattle.std.proofs.lemmas.Bool.Decides.{Decides-int_eq, Decides-like, same_from_decides}
 use Rattle.st_words.specs.declared.fault.Fault.{Fault}
 use Rattle.st_words.specs.declared.fault.Fault.TheVariants.{DivisionByZero, Range}
@@ -27,7 +29,8 @@ use Rattle.quick_code.specs.declared.operation.Signed.{Signed}
 use Rattle.quick_code.specs.declared.operation.Signed.TheVariants as signed
 use Rattle.quick_code.specs.declared.quick_code.Way.{Way}
 use Rattle.quick_code.specs.declared.quick_instr.QuickInstr.{QuickInstr}
-use Rattle.quick_code.specs.declared.quick_instr.QuickInstr.TheVariants.{AddDint, AddInt, AddLint, DivideDint, DivideInt}
+use Rattle.quick_code.specs.declared.quick_instr.QuickInstr.TheVariants.{AddDint, AddInt, AddLint, DivideDint}
+use Rattle.quick_code.specs.declared.quick_instr.QuickInstr.TheVariants.{DivideInt}
 use Rattle.quick_code.specs.declared.quick_instr.QuickInstr.TheVariants.{DivideLint, MultiplyDint, MultiplyInt}
 use Rattle.quick_code.specs.declared.quick_instr.QuickInstr.TheVariants.{MultiplyLint, SubtractDint, SubtractInt}
 use Rattle.quick_code.specs.declared.quick_instr.QuickInstr.TheVariants.{SubtractLint}
@@ -36,7 +39,7 @@ use Rattle.quick_code.specs.QuickSteps.{Memory, act, look, put, with_word}
 use Rattle.quick_code.specs.Words.{difference, divided, kept, kind_of, made, product, sum}
 use Rattle.quick_trees.specs.QuickMemory.{Ends, Frame}
 use Rattle.quick_trees.specs.Standing.{branch_unless, by_kind, instr_for}
-use Rattle.quick_trees.proofs.Stepping.{Follows, HasBranched, HasPut, has_branched, has_put}
+use Rattle.quick_trees.proofs.Stepping.{Follows, HasBranched, has_branched, has_put}
 
 -- the words of a type with a sign are its numbers
 number_is : (s : Signed) (w : ℤ) → number_at (kind_of s) w ≡ w
@@ -255,22 +258,43 @@ module _ (f : Frame) (p : ℕ) (e : Left) (m : Memory) (b : ℕ) where
   has_computed Add t l r to i is g h runs =
       of_type Add op.Add t l r to (AddInt l r to) (AddDint l r to) (AddLint l r to) i refl is
       (λ s. elim s as (λ s. act f.ways f.now (chosen s (AddInt l r to) (AddDint l r to) (AddLint l r to)) m b
-      ≡ put to (made op.Add s (look m l) (look m r)) m b) [ signed.Int ↦ refl | signed.Dint ↦ refl | signed.Lint ↦ refl ])
+      ≡ put to (made op.Add s (look m l) (look m r)) m b) [
+        | signed.Int ↦ refl
+        | signed.Dint ↦ refl
+        | signed.Lint ↦ refl
+      ])
       g h runs
   has_computed Subtract t l r to i is g h runs =
       of_type Subtract op.Subtract t l r to (SubtractInt l r to) (SubtractDint l r to) (SubtractLint l r to) i refl is
-      (λ s. elim s as (λ s. act f.ways f.now (chosen s (SubtractInt l r to) (SubtractDint l r to) (SubtractLint l r to)) m b
-      ≡ put to (made op.Subtract s (look m l) (look m r)) m b) [ signed.Int ↦ refl | signed.Dint ↦ refl | signed.Lint ↦ refl ])
+      (λ s. elim s as (λ s. act f.ways f.now (chosen s (SubtractInt l r to) (SubtractDint l r to) (SubtractLint l r
+      to)) m b
+      ≡ put to (made op.Subtract s (look m l) (look m r)) m b) [
+        | signed.Int ↦ refl
+        | signed.Dint ↦ refl
+        | signed.Lint ↦
+            refl
+      ])
       g h runs
   has_computed Multiply t l r to i is g h runs =
       of_type Multiply op.Multiply t l r to (MultiplyInt l r to) (MultiplyDint l r to) (MultiplyLint l r to) i refl is
-      (λ s. elim s as (λ s. act f.ways f.now (chosen s (MultiplyInt l r to) (MultiplyDint l r to) (MultiplyLint l r to)) m b
-      ≡ put to (made op.Multiply s (look m l) (look m r)) m b) [ signed.Int ↦ refl | signed.Dint ↦ refl | signed.Lint ↦ refl ])
+      (λ s. elim s as (λ s. act f.ways f.now (chosen s (MultiplyInt l r to) (MultiplyDint l r to) (MultiplyLint l r
+      to)) m b
+      ≡ put to (made op.Multiply s (look m l) (look m r)) m b) [
+        | signed.Int ↦ refl
+        | signed.Dint ↦ refl
+        | signed.Lint ↦
+            refl
+      ])
       g h runs
   has_computed Divide t l r to i is g h runs =
       of_type Divide op.Divide t l r to (DivideInt l r to) (DivideDint l r to) (DivideLint l r to) i refl is
       (λ s. elim s as (λ s. act f.ways f.now (chosen s (DivideInt l r to) (DivideDint l r to) (DivideLint l r to)) m b
-      ≡ put to (made op.Divide s (look m l) (look m r)) m b) [ signed.Int ↦ refl | signed.Dint ↦ refl | signed.Lint ↦ refl ])
+      ≡ put to (made op.Divide s (look m l) (look m r)) m b) [
+        | signed.Int ↦ refl
+        | signed.Dint ↦ refl
+        | signed.Lint ↦
+            refl
+      ])
       g h runs
   has_computed Modulo t l r to i is g h runs = absurd cc
 
@@ -317,32 +341,38 @@ module _ (f : Frame) (q : ℕ) (e : Left) (m : Memory) (b : ℕ) where
   has_compared And t l r w past i is runs = absurd cc
   has_compared Equal t l r w past i is runs =
       by_branch Equal t (look m l) (look m r) w past (int_eq (look m l) (look m r))
-      (ap (λ u. Ok (datum_of_truth u)) (equal_shifted (look m l) (look m r) (shift_of t))) (not (int_eq (look m l) (look m r))) (refl)
+      (ap (λ u. Ok (datum_of_truth u)) (equal_shifted (look m l) (look m r) (shift_of t))) (not (int_eq (look m l)
+      (look m r))) (refl)
       (has_branched f q e (not (int_eq (look m l) (look m r))) w past m b
       (subst (λ i. Follows f q e (act f.ways f.now i m b)) (some_is is) runs))
   has_compared NotEqual t l r w past i is runs =
       by_branch NotEqual t (look m l) (look m r) w past (not (int_eq (look m l) (look m r)))
-      (ap (λ u. Ok (datum_of_truth u)) (ap not (equal_shifted (look m l) (look m r) (shift_of t)))) (int_eq (look m l) (look m r)) (not_not (int_eq (look m l) (look m r)))
+      (ap (λ u. Ok (datum_of_truth u)) (ap not (equal_shifted (look m l) (look m r) (shift_of t)))) (int_eq (look m l)
+      (look m r)) (not_not (int_eq (look m l) (look m r)))
       (has_branched f q e (int_eq (look m l) (look m r)) w past m b
       (subst (λ i. Follows f q e (act f.ways f.now i m b)) (some_is is) runs))
   has_compared Less t l r w past i is runs =
       by_branch Less t (look m l) (look m r) w past (int_lt (look m l) (look m r))
-      (ap (λ u. Ok (datum_of_truth u)) (less_shifted (look m l) (look m r) (shift_of t))) (int_le (look m r) (look m l)) (not_less (look m l) (look m r))
+      (ap (λ u. Ok (datum_of_truth u)) (less_shifted (look m l) (look m r) (shift_of t))) (int_le (look m r) (look m
+      l)) (not_less (look m l) (look m r))
       (has_branched f q e (int_le (look m r) (look m l)) w past m b
       (subst (λ i. Follows f q e (act f.ways f.now i m b)) (some_is is) runs))
   has_compared Greater t l r w past i is runs =
       by_branch Greater t (look m l) (look m r) w past (int_lt (look m r) (look m l))
-      (ap (λ u. Ok (datum_of_truth u)) (less_shifted (look m r) (look m l) (shift_of t))) (int_le (look m l) (look m r)) (not_less (look m r) (look m l))
+      (ap (λ u. Ok (datum_of_truth u)) (less_shifted (look m r) (look m l) (shift_of t))) (int_le (look m l) (look m
+      r)) (not_less (look m r) (look m l))
       (has_branched f q e (int_le (look m l) (look m r)) w past m b
       (subst (λ i. Follows f q e (act f.ways f.now i m b)) (some_is is) runs))
   has_compared LessOrEqual t l r w past i is runs =
       by_branch LessOrEqual t (look m l) (look m r) w past (int_le (look m l) (look m r))
-      (ap (λ u. Ok (datum_of_truth u)) (at_most_shifted (look m l) (look m r) (shift_of t))) (int_lt (look m r) (look m l)) (not_at_most (look m l) (look m r))
+      (ap (λ u. Ok (datum_of_truth u)) (at_most_shifted (look m l) (look m r) (shift_of t))) (int_lt (look m r) (look m
+      l)) (not_at_most (look m l) (look m r))
       (has_branched f q e (int_lt (look m r) (look m l)) w past m b
       (subst (λ i. Follows f q e (act f.ways f.now i m b)) (some_is is) runs))
   has_compared GreaterOrEqual t l r w past i is runs =
       by_branch GreaterOrEqual t (look m l) (look m r) w past (int_le (look m r) (look m l))
-      (ap (λ u. Ok (datum_of_truth u)) (at_most_shifted (look m r) (look m l) (shift_of t))) (int_lt (look m l) (look m r)) (not_at_most (look m r) (look m l))
+      (ap (λ u. Ok (datum_of_truth u)) (at_most_shifted (look m r) (look m l) (shift_of t))) (int_lt (look m l) (look m
+      r)) (not_at_most (look m r) (look m l))
       (has_branched f q e (int_lt (look m l) (look m r)) w past m b
       (subst (λ i. Follows f q e (act f.ways f.now i m b)) (some_is is) runs))
   has_compared Add t l r w past i is runs = absurd cc

@@ -1,7 +1,7 @@
 -- Code that reads an expression gives the value that the expression has.
-use Rattle.std.proofs.Common.{◌≡◌, ℕ, zero, suc, ◌+◌, ◌<◌, ◌≤◌, ◌+ℤ◌, ℤ, pos, negsuc, Bool, true, false, List, length}
-use Rattle.std.proofs.Common.{Option, Some, None, Result, Ok, Err, refl, sym, ap, ap₂, subst, ◌∙◌, arith}
-use Rattle.std.specs.Prelude.{if◌then◌else◌, not, slice_get}
+use Rattle.std.proofs.Common.{◌≡◌, ℕ, zero, suc, ◌<◌, ◌≤◌, ℤ, pos, negsuc, Bool, true, false, List}
+use Rattle.std.proofs.Common.{Some, None, Result, Ok, Err, refl, sym, ap, ap₂, subst, ◌∙◌, arith}
+use Rattle.std.specs.Prelude.{if◌then◌else◌, not}
 use Rattle.std.specs.Ordering.{int_eq}
 use Rattle.std.proofs.lemmas.Int.{ints}
 use Rattle.st_words.specs.declared.fault.Fault.{Fault}
@@ -10,28 +10,26 @@ use Rattle.st_words.specs.declared.kind.Kind.TheVariants.{Bool as Boolean}
 use Rattle.st_words.specs.declared.literal.Literal.{Literal}
 use Rattle.st_words.specs.declared.operator.BinaryOperator.{BinaryOperator}
 use Rattle.st_words.proofs.KindLemmas.{same_kind-refl}
-use Rattle.st_words.specs.Kinds.{holds, same_kind}
-use Rattle.st_words.specs.Values.{Datum, IsHeld, datum_of_truth, is_true}
+use Rattle.st_words.specs.Values.{Datum, IsHeld, datum_of_truth}
 use Rattle.st_words.specs.Words.{datum_at, number_at}
 use Rattle.st_types.specs.Failures.{ill_typed, valueless, or_failure, failing}
 use Rattle.st_types.specs.Evaluation.{known}
 use Rattle.st_types.specs.Operators.{applied, apply, truth}
 use Rattle.st_types.specs.Ticks.{Run, attempt, follow}
-use Rattle.quick_code.specs.declared.operation.Test.TheVariants as test
 use Rattle.quick_code.specs.declared.quick_code.Way.{Way}
 use Rattle.quick_code.specs.QuickRuns.{Left}
-use Rattle.quick_code.specs.QuickSteps.{Memory, look, put, with_word}
-use Rattle.quick_code.specs.Words.{passes, word_at}
-use Rattle.slot_trees.specs.SlotTrees.{Anchor, Place, SlotExpr, SlotExprs, Subscripts, binary, call, compute, constant, load}
+use Rattle.quick_code.specs.QuickSteps.{Memory, look, with_word}
+use Rattle.quick_code.specs.Words.{word_at}
+use Rattle.slot_trees.specs.SlotTrees.{Anchor, SlotExpr, binary, call, compute, constant, load}
 use Rattle.slot_trees.specs.SlotTrees.{no_subscripts, place, subscript_then, unary}
-use Rattle.slot_trees.specs.SlotEvaluation.{SlotScope, loaded, slot_at, slot_truth, slot_value}
+use Rattle.slot_trees.specs.SlotEvaluation.{SlotScope, loaded, slot_truth, slot_value}
 use Rattle.quick_trees.specs.QuickMemory.{Ends, Frame, IsHeldAt, IsMemory, first_temporary}
-use Rattle.quick_trees.specs.Standing.{AreRead, IsAssigned, IsCompared, IsComputed, IsConstant, IsMoved, IsRead, IsTemporary}
-use Rattle.quick_trees.specs.Standing.{IsTested, IsTestedFor, Stands, branch_unless, instr_for}
-use Rattle.quick_trees.proofs.Stepping.{Follows, HasBranched, has_branched, has_put, stepped}
+use Rattle.quick_trees.specs.Standing.{AreRead, IsAssigned, IsComputed, IsMoved, IsRead}
+use Rattle.quick_trees.specs.Standing.{IsTested, IsTestedFor}
+use Rattle.quick_trees.proofs.Stepping.{HasBranched, has_branched, stepped}
 use Rattle.quick_trees.proofs.Memories.{Keeps, keeps_all, keeps_below, keeps_both, keeps_word, slot_there, still_memory}
 use Rattle.quick_trees.proofs.Memories.{there_within, word_here}
-use Rattle.quick_trees.proofs.Operators.{IsResult, has_compared, has_computed}
+use Rattle.quick_trees.proofs.Operators.{has_compared, has_computed}
 
 -- one part after another that gave something
 pub then_gives : {A B : Type 0} (r : Result (A × ℕ) Fault) (a : A) (c : ℕ) (f : A → Run B) → r ≡ Ok (a, c)
@@ -271,7 +269,8 @@ module _ (f : Frame) (z : SlotScope) (x : Left) where
   tested (binary op l r) p q w past is m vs b of runs =
       let d = first_temporary f in
       let t = is.kind in
-      let both = read_both l r t d is.left is.right p q (reads l t d) (reads r t (suc d)) is.reads m vs b (omega arith) of
+      let both = read_both l r t d is.left is.right p q (reads l t d) (reads r t (suc d)) is.reads m vs b (omega arith)
+      of
       runs in
       let step = stepped f q x both.memory b is.stands.instr both.ends is.stands.at in
       let done = has_compared f q x both.memory b op t is.left is.right w past is.stands.instr is.stands.is step in

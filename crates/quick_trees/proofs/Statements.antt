@@ -1,26 +1,25 @@
 -- Code that stands for statements does what they mean.
-use Rattle.std.proofs.Common.{◌≡◌, ℕ, zero, suc, ◌+◌, ◌-◌, ◌<◌, ◌≤◌, Bool, true, false, Option, Some, None, Result, Ok, Err}
-use Rattle.std.proofs.Common.{refl, sym, ap, ap₂, subst, ◌∙◌, arith, inl, inr, ℤ}
-use Rattle.std.specs.Prelude.{◌&&◌, ◌⊎◌, if◌then◌else◌, not, slice_get, slice_set}
+use Rattle.std.proofs.Common.{◌≡◌, ℕ, zero, suc, ◌+◌, ◌-◌, ◌<◌, ◌≤◌, Bool, true, false, Some, Ok, Err}
+use Rattle.std.proofs.Common.{refl, ap, ap₂, subst, ◌∙◌, arith, inl, inr, ℤ}
+use Rattle.std.specs.Prelude.{◌&&◌, if◌then◌else◌, not, slice_get, slice_set}
 use Rattle.st_words.specs.declared.kind.Kind.{Kind}
 use Rattle.st_words.proofs.KindLemmas.{same_kind-refl}
-use Rattle.st_words.specs.Values.{Datum, IsHeld}
+use Rattle.st_words.specs.Values.{IsHeld}
 use Rattle.st_words.specs.Words.{datum_at}
 use Rattle.st_types.specs.Failures.{ill_typed}
-use Rattle.st_types.specs.Loops.{EndOf, TurnOf, again, behind, go_back, goes_on, guarded, looped, no_step, over, turned, turns}
+use Rattle.st_types.specs.Loops.{TurnOf, again, behind, go_back, goes_on, guarded, looped, no_step, over, turned, turns}
 use Rattle.st_types.specs.Ticks.{Run, ◌>>◌, attempt, follow, give, tick}
-use Rattle.quick_code.specs.declared.quick_code.Way.{Way}
 use Rattle.quick_code.specs.QuickRuns.{Left}
 use Rattle.quick_code.specs.QuickSteps.{Memory, with_word}
 use Rattle.quick_code.specs.Words.{word_at}
-use Rattle.slot_trees.specs.SlotTrees.{Anchor, Place, SlotArms, SlotExpr, SlotStmt, SlotStmts, arm_then, assign, binary}
-use Rattle.slot_trees.specs.SlotTrees.{CASE, constant, empty, EXIT, FOR, IF, invoke, load, no_arms, no_stmts, no_subscripts}
+use Rattle.slot_trees.specs.SlotTrees.{Anchor, SlotArms, SlotExpr, SlotStmt, SlotStmts, arm_then, assign}
+use Rattle.slot_trees.specs.SlotTrees.{CASE, empty, EXIT, FOR, IF, invoke, no_arms, no_stmts, no_subscripts}
 use Rattle.slot_trees.specs.SlotTrees.{place, REPEAT, RETURN, stmt_then, subscript_then, WHILE}
 use Rattle.slot_trees.specs.SlotEvaluation.{SlotScope, slot_at, slot_truth, slot_value}
 use Rattle.slot_trees.specs.SlotExecution.{SlotEnd, Slots, slot_assigning, slot_exec, slot_exec_all, slot_exec_arms}
 use Rattle.slot_trees.specs.SlotExecution.{stored_at, stored_over}
 use Rattle.quick_trees.specs.QuickMemory.{Ends, Frame, IsMemory, first_temporary}
-use Rattle.quick_trees.specs.Standing.{AreBoth, ArmsStand, IsArm, IsAssignment, IsJump, IsLoop, IsTestedFor, IsTicked, Joins}
+use Rattle.quick_trees.specs.Standing.{AreBoth, ArmsStand, IsArm, IsAssignment, IsLoop, IsTestedFor, IsTicked, Joins}
 use Rattle.quick_trees.specs.Standing.{Part, StandsFor, StmtsStand}
 use Rattle.quick_trees.proofs.Stepping.{HasBranched, has_taken, stepped}
 use Rattle.quick_trees.proofs.Memories.{slot_assigned, slot_there, still_memory}
@@ -31,8 +30,8 @@ ticks_on : (t u : ℕ) (g : Unit {0} → Run SlotEnd) → t ≡ suc u → follow
 ticks_on t u g e = ap (λ n. follow (tick n) g) e
 
 module _ (f : Frame) (z : SlotScope) (x : Left) where
-  -- A part was run: with so many ticks it gives these values, and the ticks that are left are those of the run and those
-  -- ahead.
+  -- A part was run: with so many ticks it gives these values, and the ticks that are left are those of the run and
+  -- those ahead.
   pub record HasRun (run : Slots → Run SlotEnd) (q c : ℕ) (vs : Slots) (t : ℕ) : Type 0 where
     pub memory : Memory
     pub values : Slots
@@ -244,7 +243,8 @@ module _ (f : Frame) (z : SlotScope) (x : Left) where
     does_stmt (assign (place a (subscript_then i lower count stride ss)) e) = λ p a q c r. absurd r
     does_stmt (invoke a code arguments) = λ p a q c r. absurd r
     does_stmt (IF arms otherwise) =
-        ticked (slot_exec_arms z arms (slot_exec_all z otherwise)) (ArmsStand f z.base arms (StmtsStand f z.base otherwise))
+        ticked (slot_exec_arms z arms (slot_exec_all z otherwise)) (ArmsStand f z.base arms (StmtsStand f z.base
+        otherwise))
         (does_arms arms otherwise (does_stmts otherwise))
     does_stmt (CASE e arms otherwise) = λ p a q c r. absurd r
     does_stmt (FOR a start limit step body) = λ p a q c r. absurd r
@@ -258,14 +258,15 @@ module _ (f : Frame) (z : SlotScope) (x : Left) where
 
     pub does_stmts : (ss : SlotStmts) → Does (slot_exec_all z ss) (StmtsStand f z.base ss)
     does_stmts no_stmts = λ p a q c r m vs b is runs. (
-      let ahead = r.1 in
-      nothing (slot_exec_all z no_stmts) q c m vs b (b + a) is (subst (λ p. Ends f p m b x) r.0 runs)
-      (ap (λ n. Ok (goes_on vs, b + n)) ahead) (omega arith))
+        let ahead = r.1 in
+        nothing (slot_exec_all z no_stmts) q c m vs b (b + a) is (subst (λ p. Ends f p m b x) r.0 runs)
+        (ap (λ n. Ok (goes_on vs, b + n)) ahead) (omega arith))
     does_stmts (stmt_then s ss) =
         in_turn (slot_exec z s) (slot_exec_all z ss) (StandsFor f z.base s) (StmtsStand f z.base ss) (does_stmt s)
         (does_stmts ss)
 
-    does_arms : (arms : SlotArms) (otherwise : SlotStmts) → Does (slot_exec_all z otherwise) (StmtsStand f z.base otherwise)
+    does_arms : (arms : SlotArms) (otherwise : SlotStmts) → Does (slot_exec_all z otherwise) (StmtsStand f z.base
+        otherwise)
         → Does (slot_exec_arms z arms (slot_exec_all z otherwise))
         (ArmsStand f z.base arms (StmtsStand f z.base otherwise))
     does_arms no_arms otherwise does = does

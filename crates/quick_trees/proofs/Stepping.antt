@@ -1,10 +1,11 @@
 -- What comes behind an instruction of a run that ends well.
-use Rattle.std.proofs.Common.{◌≡◌, ℕ, zero, suc, ◌-◌, ◌≤◌, ℤ, Bool, true, false, Option, Some, None, refl, sym, ap, ◌∙◌, arith}
+use Rattle.std.proofs.Common.{◌≡◌, ℕ, zero, suc, ◌-◌, ◌≤◌, ℤ, Bool, true, false, Option, Some, None, refl, sym, ap}
+use Rattle.std.proofs.Common.{◌∙◌, arith}
 use Rattle.std.specs.Prelude.{if◌then◌else◌, nat_le, slice_get}
 use Rattle.std.proofs.lemmas.Bool.Decides.{nat_tests}
 use Rattle.quick_code.specs.declared.quick_code.Way.{Way}
 use Rattle.quick_code.specs.declared.quick_instr.QuickInstr.{QuickInstr}
-use Rattle.quick_code.specs.QuickRuns.{EndsWell, Left, act_any, exec, follow, left}
+use Rattle.quick_code.specs.QuickRuns.{Left, act_any, exec, follow, left}
 use Rattle.quick_code.specs.QuickSteps.{Memory, Step, on, leads, over, unsure, act, branch, put, taken, with_word}
 use Rattle.quick_trees.specs.QuickMemory.{Ends, Frame}
 

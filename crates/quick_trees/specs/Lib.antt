@@ -1,2 +1,4 @@
 pub mod QuickMemory
 pub mod Standing
+pub mod Programs
+pub mod Example

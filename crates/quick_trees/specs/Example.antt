@@ -1,0 +1,65 @@
+-- A worked example: a program, and quick code that stands for it.
+use Rattle.std.specs.Prelude.{ℕ, ℤ, pos, List, [], ◌∷◌, false, None, Some}
+use Rattle.st_words.specs.declared.kind.Kind.TheVariants.{Int}
+use Rattle.st_words.specs.declared.literal.Literal.TheVariants as literals
+use Rattle.st_words.specs.declared.operator.BinaryOperator.TheVariants.{Add, Less}
+use Rattle.st_words.specs.Values.{Datum}
+use Rattle.quick_code.specs.declared.quick_code.Way.{Way}
+use Rattle.quick_code.specs.declared.quick_instr.QuickInstr.{QuickInstr}
+use Rattle.quick_code.specs.declared.quick_instr.QuickInstr.TheVariants.{AddInt, End, Jump, WhenAtMost}
+use Rattle.quick_code.specs.QuickSteps.{Memory}
+use Rattle.slot_trees.specs.SlotTrees.{SlotExpr, SlotLibrary, SlotStmts, arm_then, assign, binary, constant, IF, load}
+use Rattle.slot_trees.specs.SlotTrees.{no_arms, no_stmts, no_subscripts, own, place, stmt_then, WHILE}
+use Rattle.quick_trees.specs.QuickMemory.{Frame}
+
+abbrev pub variable : ℕ → SlotExpr
+variable k = load (place (own k) no_subscripts)
+
+abbrev pub number : ℕ → SlotExpr
+number n = constant (literals.Number (record {
+  place = 0;
+  is_negative = false;
+  magnitude = n;
+  written = Some Int;
+  is_decimal = false;
+  taken = None;
+}))
+
+-- x := x + e
+abbrev pub raised_by : SlotExpr → SlotStmts
+raised_by e = stmt_then (assign (place (own 0) no_subscripts) (binary Add (variable 0) e)) no_stmts
+
+-- WHILE x < 10 DO IF x < y THEN x := x + y; ELSE x := x + 1; END_IF; END_WHILE;
+abbrev pub its_body : SlotStmts
+its_body =
+    stmt_then (WHILE (binary Less (variable 0) (number 10)) (stmt_then (
+    IF (arm_then (binary Less (variable 0) (variable 1)) (raised_by (variable 1)) no_arms) (raised_by (number 1)))
+    no_stmts)) no_stmts
+
+abbrev pub way : ℕ → ℕ → Way
+way to n = record { place = to; ticks = n }
+
+-- x is the word 0, y is 1, and the constants 10 and 1 are 2 and 3
+abbrev pub its_code : List QuickInstr
+its_code =
+    Jump (way 1 1) ∷ WhenAtMost 2 0 (way 7 0) 1 ∷ WhenAtMost 1 0 (way 5 1) 1 ∷ AddInt 0 1 0 ∷ Jump (way 6 0)
+    ∷ AddInt 0 3 0 ∷ Jump (way 1 1) ∷ End ∷ []
+
+abbrev pub int : ℕ → Datum
+int n = record { kind = Int; number = pos n }
+
+abbrev pub its_frame : Frame
+its_frame = record {
+  code = its_code;
+  ways = [];
+  now = 0;
+  kinds = Int ∷ Int ∷ [];
+  constants = int 10 ∷ int 1 ∷ [];
+  size = 4;
+}
+
+abbrev pub no_units : SlotLibrary
+no_units = record { functions = []; blocks = [] }
+
+abbrev pub its_words : ℤ → ℤ → Memory
+its_words x y = record { words = x ∷ y ∷ pos 10 ∷ pos 1 ∷ []; notes = [] }

@@ -1,0 +1,21 @@
+//! A worked example, proved by computation.
+
+ghost use Rattle.std.specs.Prelude.{◌≡◌, Ok, Some, None, [], ◌∷◌, pos};
+ghost use Rattle.st_types.specs.Failures.{in_runs};
+ghost use Rattle.st_types.specs.Loops.{goes_on};
+ghost use Rattle.slot_trees.specs.SlotRuns.{slots_ran};
+ghost use Rattle.quick_code.specs.QuickRuns.{exec, left};
+ghost use Rattle.quick_trees.specs.Example.{int, its_body, its_code, its_frame, its_words, no_units};
+ghost use Rattle.quick_trees.specs.QuickMemory.{IsMemory};
+ghost use Rattle.quick_trees.specs.Standing.{IsProgram};
+
+/// A program of a loop with a choice in it. Its code stands for it. From 0 and 3 both come to 10 and 3, and take 25
+/// ticks: one, and three for each of eight turns. With 24 ticks the code cannot tell.
+pub fn a_program_in_quick_code()
+    ensures stands { IsProgram its_frame 0 its_body }
+    ensures words { IsMemory its_frame (its_words (pos 0) (pos 3)) (int 0 ∷ int 3 ∷ []) }
+    ensures run { exec its_code [] 0 50 0 (its_words (pos 0) (pos 3)) 30 ≡ Some (left (its_words (pos 10) (pos 3)) 5) }
+    ensures program { slots_ran in_runs no_units 0 its_body 0 0 (int 0 ∷ int 3 ∷ []) 30
+        ≡ Ok (goes_on (int 10 ∷ int 3 ∷ []), 5) }
+    ensures short { exec its_code [] 0 50 0 (its_words (pos 0) (pos 3)) 24 ≡ None }
+{}
