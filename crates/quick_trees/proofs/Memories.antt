@@ -93,6 +93,37 @@ keeps_below d m k w le = record {
 pub word_here : (m : Memory) (k : ℕ) (w : ℤ) → k < length m.words → word_at (with_word m k w).words k ≡ w
 word_here m k w lt = ap or_zero (set_here m.words k w lt)
 
+-- Constants and temporaries below a depth were not changed.
+pub record Spares (f : Frame) (d : ℕ) (m m' : Memory) : Type 0 where
+  pub long : length m'.words ≡ length m.words
+  pub same : (k : ℕ) → length f.kinds ≤ k → k < d → slice_get m'.words k ≡ slice_get m.words k
+
+module _ (f : Frame) (d : ℕ) where
+  pub spares_all : (m : Memory) → Spares f d m m
+  spares_all m = record { long = refl; same = λ k le lt. refl }
+
+  pub spares_both : (c : ℕ) (m m' n : Memory) → d ≤ c → Spares f d m m' → Spares f c m' n → Spares f d m n
+  spares_both c m m' n le g h = record {
+    long = h.long ∙ g.long;
+    same = λ k behind lt. h.same k behind (omega arith) ∙ g.same k behind lt;
+  }
+
+  pub spares_less : (c : ℕ) (m m' : Memory) → d ≤ c → Spares f c m m' → Spares f d m m'
+  spares_less c m m' le h = record { long = h.long; same = λ k behind lt. h.same k behind (omega arith) }
+
+  pub spares_kept : (m m' : Memory) → Keeps d m m' → Spares f d m m'
+  spares_kept m m' keeps = record { long = keeps.long; same = λ k behind lt. keeps.same k lt }
+
+  pub spares_slot : (m : Memory) (k : ℕ) (w : ℤ) → k < length f.kinds → Spares f d m (with_word m k w)
+  spares_slot m k w lt = record {
+    long = set_long m.words k w;
+    same = λ j behind below. set_elsewhere m.words j k w (λ e. omega arith);
+  }
+
+  pub spares_word : (m m' : Memory) (k : ℕ) → Spares f d m m' → length f.kinds ≤ k → k < d
+      → word_at m'.words k ≡ word_at m.words k
+  spares_word m m' k spares behind lt = ap or_zero (spares.same k behind lt)
+
 module _ (f : Frame) (m : Memory) (vs : List Datum) (is : IsMemory f m vs) where
   -- words of slots and constants are kept, so the memory is still that of the values
   pub still_memory : (d : ℕ) (m' : Memory) → first_temporary f ≤ d → Keeps d m m' → IsMemory f m' vs

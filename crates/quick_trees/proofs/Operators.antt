@@ -42,15 +42,15 @@ use Rattle.quick_trees.specs.Standing.{branch_unless, by_kind, instr_for}
 use Rattle.quick_trees.proofs.Stepping.{Follows, HasBranched, has_branched, has_put}
 
 -- the words of a type with a sign are its numbers
-number_is : (s : Signed) (w : ℤ) → number_at (kind_of s) w ≡ w
+pub number_is : (s : Signed) (w : ℤ) → number_at (kind_of s) w ≡ w
 number_is signed.Int w = +ℤ_idr w
 number_is signed.Dint w = +ℤ_idr w
 number_is signed.Lint w = +ℤ_idr w
 
-abbrev IsWord : Signed → ℤ → Type 0
+abbrev pub IsWord : Signed → ℤ → Type 0
 IsWord s w = holds (kind_of s) w ≡ true
 
-word_held : (s : Signed) (w : ℤ) → IsHeld (datum_at (kind_of s) w) → IsWord s w
+pub word_held : (s : Signed) (w : ℤ) → IsHeld (datum_at (kind_of s) w) → IsWord s w
 word_held s w h = subst (IsWord s) (number_is s w) h
 
 held_word : (s : Signed) (w : ℤ) → IsWord s w → IsHeld (datum_at (kind_of s) w)
@@ -157,7 +157,7 @@ operation_of _ = None
 some_is : {A : Type 0} {x y : A} → Some x ≡ Some y → y ≡ x
 some_is e = cc
 
-made_is : (o : BinaryOperator) (n : Operation) (s : Signed) (x y w : ℤ) → operation_of o ≡ Some n → IsWord s x
+pub made_is : (o : BinaryOperator) (n : Operation) (s : Signed) (x y w : ℤ) → operation_of o ≡ Some n → IsWord s x
     → IsWord s y → made n s x y ≡ Some w → IsResult (applied o (kind_of s) x y) (kind_of s) w
 made_is Or n s x y w of f g e = absurd cc
 made_is Xor n s x y w of f g e = absurd cc
@@ -301,7 +301,7 @@ module _ (f : Frame) (p : ℕ) (e : Left) (m : Memory) (b : ℕ) where
 less_shifted : (x y s : ℤ) → int_lt (x +ℤ s) (y +ℤ s) ≡ int_lt x y
 less_shifted x y s = grind (arith, ints)
 
-at_most_shifted : (x y s : ℤ) → int_le (x +ℤ s) (y +ℤ s) ≡ int_le x y
+pub at_most_shifted : (x y s : ℤ) → int_le (x +ℤ s) (y +ℤ s) ≡ int_le x y
 at_most_shifted x y s = grind (arith, ints)
 
 equal_shifted : (x y s : ℤ) → int_eq (x +ℤ s) (y +ℤ s) ≡ int_eq x y

@@ -10,11 +10,12 @@ use Rattle.slot_trees.specs.SlotTrees.{SlotLibrary, SlotStmts}
 use Rattle.slot_trees.specs.SlotEvaluation.{SlotScope}
 use Rattle.slot_trees.specs.SlotExecution.{SlotEnd, Slots, slot_exec_all}
 use Rattle.slot_trees.specs.SlotRuns.{slot_units_within, slots_ran}
-use Rattle.quick_trees.specs.QuickMemory.{Ends, Frame, IsMemory}
+use Rattle.quick_trees.specs.QuickMemory.{Ends, Frame, IsMemory, first_temporary}
 use Rattle.quick_trees.specs.Standing.{IsProgram}
 use Rattle.quick_trees.specs.Programs.{EndsAs}
 use Rattle.quick_trees.proofs.Stepping.{has_taken, stepped}
-use Rattle.quick_trees.proofs.Statements.{HasRun, does_stmts}
+use Rattle.quick_trees.proofs.Running.{HasRun}
+use Rattle.quick_trees.proofs.Statements.{does_stmts}
 
 ends_as : (f : Frame) (run : Slots → ℕ → Result (SlotEnd × ℕ) Fault) (vs values : Slots) (t n : ℕ) (m : Memory) (e :
     Left)
@@ -33,8 +34,9 @@ body_runs z body f budget m vs e program is runs =
     let took = has_taken f 0 e way m budget (stepped f 0 e m budget _ runs program.begins) in
     let enough = took.0 in
     let whole : budget - way.ticks + way.ticks ≡ budget = omega arith in
-    let done = subst (HasRun f z e (slot_exec_all z body) program.end 0 vs) whole
-    (does_stmts f z e body way.place way.ticks program.end 0 program.stands m vs (budget - way.ticks) is took.1) in
+    let done = subst (HasRun f z e (slot_exec_all z body) (first_temporary f) program.end 0 m vs) whole
+    (does_stmts f z e body (first_temporary f) (omega arith) way.place way.ticks program.end 0 program.stands m vs
+    (budget - way.ticks) is took.1) in
     ends_as f (slot_exec_all z body) vs done.values budget done.left done.memory e done.gives done.is
     (stepped f program.end e done.memory done.left _ done.ends program.ends)
 

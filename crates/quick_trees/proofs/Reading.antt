@@ -1,7 +1,8 @@
 -- Code that reads an expression gives the value that the expression has.
 use Rattle.std.proofs.Common.{◌≡◌, ℕ, zero, suc, ◌<◌, ◌≤◌, ℤ, pos, negsuc, Bool, true, false, List}
 use Rattle.std.proofs.Common.{Some, None, Result, Ok, Err, refl, sym, ap, ap₂, subst, ◌∙◌, arith}
-use Rattle.std.specs.Prelude.{if◌then◌else◌, not}
+use Rattle.std.proofs.Common.{inl, inr}
+use Rattle.std.specs.Prelude.{◌⊎◌, if◌then◌else◌, not}
 use Rattle.std.specs.Ordering.{int_eq}
 use Rattle.std.proofs.lemmas.Int.{ints}
 use Rattle.st_words.specs.declared.fault.Fault.{Fault}
@@ -25,6 +26,7 @@ use Rattle.slot_trees.specs.SlotTrees.{no_subscripts, place, subscript_then, una
 use Rattle.slot_trees.specs.SlotEvaluation.{SlotScope, loaded, slot_truth, slot_value}
 use Rattle.quick_trees.specs.QuickMemory.{Ends, Frame, IsHeldAt, IsMemory, first_temporary}
 use Rattle.quick_trees.specs.Standing.{AreRead, IsAssigned, IsComputed, IsMoved, IsRead}
+use Rattle.quick_trees.specs.Standing.{IsTemporary}
 use Rattle.quick_trees.specs.Standing.{IsTested, IsTestedFor}
 use Rattle.quick_trees.proofs.Stepping.{HasBranched, has_branched, stepped}
 use Rattle.quick_trees.proofs.Memories.{Keeps, keeps_all, keeps_below, keeps_both, keeps_word, slot_there, still_memory}
@@ -199,12 +201,11 @@ module _ (f : Frame) (z : SlotScope) (x : Left) where
   reads (binary op l r) t d = read_computed op l r t d (reads l t d) (reads r t (suc d))
 
   -- the same of an expression that is moved
-  moved : (e : SlotExpr) (t : Kind) (to p q : ℕ) → IsMoved f (IsRead f z.base e t (first_temporary f)) to p q
-      → (m : Memory) (vs : List Datum) (b : ℕ) → IsMemory f m vs → Ends f p m b x
-      → HasMade e t (first_temporary f) to q m vs b
-  moved e t to p q is m vs b of runs =
-      let d = first_temporary f in
-      let read = reads e t d is.from p is.last is.reads m vs b (omega arith) of runs in
+  pub moved : (e : SlotExpr) (t : Kind) (d to p q : ℕ) → IsMoved f (IsRead f z.base e t d) to p q
+      → (m : Memory) (vs : List Datum) (b : ℕ) → first_temporary f ≤ d → IsMemory f m vs → Ends f p m b x
+      → HasMade e t d to q m vs b
+  moved e t d to p q is m vs b le of runs =
+      let read = reads e t d is.from p is.last is.reads m vs b le of runs in
       let step = stepped f is.last x read.memory b _ read.ends is.stands in record {
         memory = read.memory;
         keeps = read.keeps;
@@ -215,25 +216,56 @@ module _ (f : Frame) (z : SlotScope) (x : Left) where
       }
 
   -- the value of an expression is assigned to a word
-  pub assigned : (e : SlotExpr) (t : Kind) (to p q : ℕ) → IsAssigned f z.base e t to p q
-      → (m : Memory) (vs : List Datum) (b : ℕ) → IsMemory f m vs → Ends f p m b x
-      → HasMade e t (first_temporary f) to q m vs b
-  assigned (constant l) t to p q is m vs b of runs = moved (constant l) t to p q is m vs b of runs
-  assigned (load l) t to p q is m vs b of runs = moved (load l) t to p q is m vs b of runs
-  assigned (compute g es) t to p q is m vs b of runs = moved (compute g es) t to p q is m vs b of runs
-  assigned (call g es) t to p q is m vs b of runs = moved (call g es) t to p q is m vs b of runs
-  assigned (unary op e) t to p q is m vs b of runs = moved (unary op e) t to p q is m vs b of runs
-  assigned (binary op l r) t to p q is m vs b of runs =
-      let d = first_temporary f in
-      made_by op l r t d to p q (reads l t d) (reads r t (suc d)) is m vs b (omega arith) of runs
+  pub assigned : (e : SlotExpr) (t : Kind) (d to p q : ℕ) → IsAssigned f z.base e t d to p q
+      → (m : Memory) (vs : List Datum) (b : ℕ) → first_temporary f ≤ d → IsMemory f m vs → Ends f p m b x
+      → HasMade e t d to q m vs b
+  assigned (constant l) t d to p q is m vs b le of runs = moved (constant l) t d to p q is m vs b le of runs
+  assigned (load l) t d to p q is m vs b le of runs = moved (load l) t d to p q is m vs b le of runs
+  assigned (compute g es) t d to p q is m vs b le of runs = moved (compute g es) t d to p q is m vs b le of runs
+  assigned (call g es) t d to p q is m vs b le of runs = moved (call g es) t d to p q is m vs b le of runs
+  assigned (unary op e) t d to p q is m vs b le of runs = moved (unary op e) t d to p q is m vs b le of runs
+  assigned (binary op l r) t d to p q is m vs b le of runs =
+      made_by op l r t d to p q (reads l t d) (reads r t (suc d)) is m vs b le of runs
+
+  -- An expression was read, and a word that is no slot has its value now.
+  pub record HasKept (e : SlotExpr) (t : Kind) (d k q : ℕ) (m : Memory) (vs : List Datum) (b : ℕ) : Type 0 where
+    pub memory : Memory
+    pub keeps : Keeps d m memory
+    pub value : (c : ℕ) → slot_value z vs e c ≡ Ok (datum_at t (word_at memory.words k), c)
+    pub low : k < suc d
+    pub ends : Ends f q memory b x
+
+  pub kept_in : (e : SlotExpr) (t : Kind) (d k p q : ℕ)
+      → IsRead f z.base e t d k p q ⊎ (IsTemporary f k d × IsMoved f (IsRead f z.base e t d) k p q)
+      → (m : Memory) (vs : List Datum) (b : ℕ) → first_temporary f ≤ d → IsMemory f m vs → Ends f p m b x
+      → HasKept e t d k q m vs b
+  kept_in e t d k p q (inl is) m vs b le of runs =
+      let read = reads e t d k p q is m vs b le of runs in
+      record { memory = read.memory; keeps = read.keeps; value = read.value; low = read.low; ends = read.ends }
+  kept_in e t d k p q (inr is) m vs b le of runs =
+      let made = moved e t d k p q is.1 m vs b le of runs in
+      let depth = is.0.depth in
+      let there = is.0.there in
+      let long = of.long in
+      let kept = made.keeps.long in
+      let here = word_here made.memory k made.word (omega arith) in record {
+        memory = with_word made.memory k made.word;
+        keeps = keeps_both d d m made.memory (with_word made.memory k made.word) (omega arith) made.keeps
+            (keeps_below d made.memory k made.word (omega arith));
+        value = λ c. made.value c ∙ ap (λ w. Ok (datum_at t w, c)) (sym here);
+        low = omega arith;
+        ends = made.ends;
+      }
 
   -- A condition was tested; unless it holds, the run went by the way.
-  pub record HasTested (e : SlotExpr) (q : ℕ) (w : Way) (past : ℕ) (vs : List Datum) (b : ℕ) : Type 0 where
-    pub memory : Memory
-    pub is : IsMemory f memory vs
-    pub go : Bool
-    pub truth : (c : ℕ) → slot_truth z e vs c ≡ Ok (go, c)
-    pub ends : HasBranched f q x (not go) w past memory b
+  pub record HasTested (e : SlotExpr) (d q : ℕ) (w : Way) (past : ℕ) (m : Memory) (vs : List Datum) (b : ℕ) : Type 0
+    where
+      pub memory : Memory
+      pub keeps : Keeps d m memory
+      pub is : IsMemory f memory vs
+      pub go : Bool
+      pub truth : (c : ℕ) → slot_truth z e vs c ≡ Ok (go, c)
+      pub ends : HasBranched f q x (not go) w past memory b
 
   truth_is : (e : SlotExpr) (vs : List Datum) (v : Datum) (go : Bool) (c : ℕ) → slot_value z vs e c ≡ Ok (v, c)
       → truth v ≡ Ok go → slot_truth z e vs c ≡ Ok (go, c)
@@ -242,40 +274,39 @@ module _ (f : Frame) (z : SlotScope) (x : Left) where
       then_gives (slot_value z vs e c) v c (λ v. attempt z.stand_ins (truth v)) gives
       ∙ ap (λ r. attempt z.stand_ins r c) so
 
-  tested_word : (e : SlotExpr) (p q : ℕ) (w : Way) (past : ℕ)
-      → IsTested f (IsRead f z.base e Boolean (first_temporary f)) p q w past
-      → (m : Memory) (vs : List Datum) (b : ℕ) → IsMemory f m vs → Ends f p m b x → HasTested e q w past vs b
-  tested_word e p q w past is m vs b of runs =
-      let d = first_temporary f in
-      let read = reads e Boolean d is.from p q is.reads m vs b (omega arith) of runs in
+  tested_word : (e : SlotExpr) (d p q : ℕ) (w : Way) (past : ℕ) → IsTested f (IsRead f z.base e Boolean d) p q w past
+      → (m : Memory) (vs : List Datum) (b : ℕ) → first_temporary f ≤ d → IsMemory f m vs → Ends f p m b x
+      → HasTested e d q w past m vs b
+  tested_word e d p q w past is m vs b le of runs =
+      let read = reads e Boolean d is.from p q is.reads m vs b le of runs in
       let step = stepped f q x read.memory b _ read.ends is.stands in
       let word = look read.memory is.from in
       let none = int_eq word (pos 0) in record {
         memory = read.memory;
-        is = still_memory f m vs of d read.memory (omega arith) read.keeps;
+        keeps = read.keeps;
+        is = still_memory f m vs of d read.memory le read.keeps;
         go = not none;
         truth = λ c. truth_is e vs (datum_at Boolean word) (not none) c (read.value c) (truth_of_word word read.held);
         ends = subst (λ t. HasBranched f q x t w past read.memory b) (sym (not_not none))
             (has_branched f q x none w past read.memory b step);
       }
 
-  pub tested : (e : SlotExpr) (p q : ℕ) (w : Way) (past : ℕ) → IsTestedFor f z.base e p q w past
-      → (m : Memory) (vs : List Datum) (b : ℕ) → IsMemory f m vs → Ends f p m b x → HasTested e q w past vs b
-  tested (constant l) p q w past is m vs b of runs = tested_word (constant l) p q w past is m vs b of runs
-  tested (load l) p q w past is m vs b of runs = tested_word (load l) p q w past is m vs b of runs
-  tested (compute g es) p q w past is m vs b of runs = tested_word (compute g es) p q w past is m vs b of runs
-  tested (call g es) p q w past is m vs b of runs = tested_word (call g es) p q w past is m vs b of runs
-  tested (unary op e) p q w past is m vs b of runs = tested_word (unary op e) p q w past is m vs b of runs
-  tested (binary op l r) p q w past is m vs b of runs =
-      let d = first_temporary f in
+  pub tested : (e : SlotExpr) (d p q : ℕ) (w : Way) (past : ℕ) → IsTestedFor f z.base e d p q w past
+      → (m : Memory) (vs : List Datum) (b : ℕ) → first_temporary f ≤ d → IsMemory f m vs → Ends f p m b x
+      → HasTested e d q w past m vs b
+  tested (constant l) d p q w past is m vs b le of runs = tested_word (constant l) d p q w past is m vs b le of runs
+  tested (load l) d p q w past is m vs b le of runs = tested_word (load l) d p q w past is m vs b le of runs
+  tested (compute g es) d p q w past is m vs b le of runs = tested_word (compute g es) d p q w past is m vs b le of runs
+  tested (call g es) d p q w past is m vs b le of runs = tested_word (call g es) d p q w past is m vs b le of runs
+  tested (unary op e) d p q w past is m vs b le of runs = tested_word (unary op e) d p q w past is m vs b le of runs
+  tested (binary op l r) d p q w past is m vs b le of runs =
       let t = is.kind in
-      let both = read_both l r t d is.left is.right p q (reads l t d) (reads r t (suc d)) is.reads m vs b (omega arith)
-      of
-      runs in
+      let both = read_both l r t d is.left is.right p q (reads l t d) (reads r t (suc d)) is.reads m vs b le of runs in
       let step = stepped f q x both.memory b is.stands.instr both.ends is.stands.at in
       let done = has_compared f q x both.memory b op t is.left is.right w past is.stands.instr is.stands.is step in
       record {
         memory = both.memory;
+        keeps = both.keeps;
         is = both.is;
         go = done.go;
         truth = λ c. truth_is (binary op l r) vs (datum_of_truth done.go) done.go c
