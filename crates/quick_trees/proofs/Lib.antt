@@ -1,6 +1,7 @@
 pub mod Stepping
 pub mod Memories
 pub mod Operators
+pub mod Elements
 pub mod Reading
 pub mod Running
 pub mod Counting

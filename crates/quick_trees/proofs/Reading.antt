@@ -1,8 +1,8 @@
 -- Code that reads an expression gives the value that the expression has.
 use Rattle.std.proofs.Common.{◌≡◌, ℕ, zero, suc, ◌<◌, ◌≤◌, ℤ, pos, negsuc, Bool, true, false, List}
 use Rattle.std.proofs.Common.{Some, None, Result, Ok, Err, refl, sym, ap, ap₂, subst, ◌∙◌, arith}
-use Rattle.std.proofs.Common.{inl, inr}
-use Rattle.std.specs.Prelude.{◌⊎◌, if◌then◌else◌, not}
+use Rattle.std.proofs.Common.{◌+◌, ◌*◌, inl, inr}
+use Rattle.std.specs.Prelude.{◌⊎◌, if◌then◌else◌, not, slice_get}
 use Rattle.std.specs.Ordering.{int_eq}
 use Rattle.std.proofs.lemmas.Int.{ints}
 use Rattle.st_words.specs.declared.fault.Fault.{Fault}
@@ -16,21 +16,24 @@ use Rattle.st_words.specs.Words.{datum_at, number_at}
 use Rattle.st_types.specs.Failures.{ill_typed, valueless, or_failure, failing}
 use Rattle.st_types.specs.Evaluation.{known}
 use Rattle.st_types.specs.Operators.{applied, apply, truth}
-use Rattle.st_types.specs.Ticks.{Run, attempt, follow}
+use Rattle.st_types.specs.Ticks.{Run, attempt, fault, follow, give}
 use Rattle.quick_code.specs.declared.quick_code.Way.{Way}
 use Rattle.quick_code.specs.QuickRuns.{Left}
 use Rattle.quick_code.specs.QuickSteps.{Memory, look, with_word}
 use Rattle.quick_code.specs.Words.{word_at}
 use Rattle.slot_trees.specs.SlotTrees.{Anchor, SlotExpr, binary, call, compute, constant, load}
 use Rattle.slot_trees.specs.SlotTrees.{no_subscripts, place, subscript_then, unary}
-use Rattle.slot_trees.specs.SlotEvaluation.{SlotScope, loaded, slot_truth, slot_value}
+use Rattle.st_layouts.specs.Shapes.{distance, in_bounds}
+use Rattle.st_words.specs.declared.fault.Fault.TheVariants.{Index}
+use Rattle.slot_trees.specs.SlotEvaluation.{led, slot_at, SlotScope, loaded, slot_truth, slot_value}
 use Rattle.quick_trees.specs.QuickMemory.{Ends, Frame, IsHeldAt, IsMemory, first_temporary}
 use Rattle.quick_trees.specs.Standing.{AreRead, IsAssigned, IsComputed, IsMoved, IsRead}
-use Rattle.quick_trees.specs.Standing.{IsTemporary}
+use Rattle.quick_trees.specs.Standing.{IsFetched, IsTemporary}
 use Rattle.quick_trees.specs.Standing.{IsTested, IsTestedFor}
 use Rattle.quick_trees.proofs.Stepping.{HasBranched, has_branched, stepped}
 use Rattle.quick_trees.proofs.Memories.{Keeps, keeps_all, keeps_below, keeps_both, keeps_word, slot_there, still_memory}
 use Rattle.quick_trees.proofs.Memories.{there_within, word_here}
+use Rattle.quick_trees.proofs.Elements.{LeadsTo, element_is, has_loaded}
 use Rattle.quick_trees.proofs.Operators.{has_compared, has_computed}
 
 -- one part after another that gave something
@@ -173,12 +176,54 @@ module _ (f : Frame) (z : SlotScope) (x : Left) where
         ends = subst (λ p. Ends f p m b x) is.0 runs;
       }
 
-  read_computed : (op : BinaryOperator) (l r : SlotExpr) (t : Kind) (d : ℕ) → Reads l t d → Reads r t (suc d)
-      → Reads (binary op l r) t d
-  read_computed op l r t d reads_l reads_r k p q is m vs b le of runs =
-      let made = made_by op l r t d k p q reads_l reads_r is.1 m vs b le of runs in
-      let depth = is.0.depth in
-      let there = is.0.there in
+  -- a subscript was read: what led to a place of the array leads there in the tree
+  pub led_by : (e : SlotExpr) (lower : ℤ) (first count stride : ℕ) (t : Kind) (w : ℤ) (k : ℕ) (vs : List Datum) (c : ℕ)
+      → slot_value z vs e c ≡ Ok (datum_at t w, c) → LeadsTo lower first count stride (number_at t w) k
+      → led z vs first (subscript_then e lower count stride no_subscripts) c ≡ Ok (k, c)
+  led_by e lower first count stride t w k vs c value leads =
+      then_gives (slot_value z vs e c) (datum_at t w) c (λ v. if in_bounds lower count v.number
+      then give (first + distance lower v.number * stride) else fault Index) value
+      ∙ ap (λ u. (if u then give (first + distance lower (number_at t w) * stride) else fault Index) c) leads.inside
+      ∙ ap (λ j. Ok (first + j * stride, c)) leads.behind
+      ∙ ap (λ j. Ok (j, c)) (sym leads.place)
+
+  fetched_by : (a : Anchor) (e : SlotExpr) (lower : ℤ) (count stride : ℕ) (t : Kind) (d to p q : ℕ)
+      → ((u : Kind) → Reads e u d)
+      → IsFetched f (λ u. IsRead f z.base e u d) lower (slot_at z.base a) count stride t to p q
+      → (m : Memory) (vs : List Datum) (b : ℕ) → first_temporary f ≤ d → IsMemory f m vs → Ends f p m b x
+      → HasMade (load (place a (subscript_then e lower count stride no_subscripts))) t d to q m vs b
+  fetched_by a e lower count stride t d to p q reads_e is m vs b le of runs =
+      let first = slot_at z.base a in
+      let u = is.subscript.kind in
+      let one = reads_e u is.index p is.last is.subscript.reads m vs b le of runs in
+      let kept = still_memory f m vs of d one.memory le one.keeps in
+      let w = look one.memory is.index in
+      let done = has_loaded f is.last x one.memory b is.index is.shift to first count stride is.loads one.ends in
+      let leads = element_is lower is.shift first count stride u w done.place is.subscript.from_lower
+      is.subscript.narrow
+      done.is in
+      let slot : slice_get f.kinds done.place ≡ Some t =
+      ap (slice_get f.kinds) leads.place ∙ is.elements.each leads.before leads.less in
+      let v = datum_at t (look one.memory done.place) in
+      let held = kept.slots done.place t slot in record {
+        memory = one.memory;
+        keeps = one.keeps;
+        word = look one.memory done.place;
+        value = λ c. then_gives (led z vs first (subscript_then e lower count stride no_subscripts) c) done.place c
+            (loaded z vs) (led_by e lower first count stride u w done.place vs c (one.value c) leads)
+            ∙ ap (λ o. attempt z.stand_ins (or_failure valueless (known o)) c)
+            (slot_there f one.memory vs kept done.place t slot)
+            ∙ ap (λ h. attempt z.stand_ins (or_failure valueless (if h then Some v else None)) c) held;
+        held = held;
+        ends = subst (λ q. Ends f q (with_word one.memory to (look one.memory done.place)) b x) (sym is.next) done.ends;
+      }
+
+  -- what was made in a temporary was read
+  read_made : (e : SlotExpr) (t : Kind) (d k q : ℕ) → IsTemporary f k d → (m : Memory) (vs : List Datum) (b : ℕ)
+      → first_temporary f ≤ d → IsMemory f m vs → HasMade e t d k q m vs b → HasRead e t d k q m vs b
+  read_made e t d k q is m vs b le of made =
+      let depth = is.depth in
+      let there = is.there in
       let long = of.long in
       let kept = made.keeps.long in
       let here = word_here made.memory k made.word (omega arith) in record {
@@ -194,11 +239,16 @@ module _ (f : Frame) (z : SlotScope) (x : Left) where
   pub reads : (e : SlotExpr) (t : Kind) (d : ℕ) → Reads e t d
   reads (constant l) t d = read_constant l t d
   reads (load (place a no_subscripts)) t d = read_slot a t d
-  reads (load (place a (subscript_then i lower count stride ss))) t d = λ k p q is. absurd is
+  reads (load (place a (subscript_then i lower count stride no_subscripts))) t d = λ k p q is m vs b le of runs.
+      read_made (load (place a (subscript_then i lower count stride no_subscripts))) t d k q is.0 m vs b le of
+      (fetched_by a i lower count stride t d k p q (λ u. reads i u d) is.1 m vs b le of runs)
+  reads (load (place a (subscript_then i lower count stride (subscript_then j l c s ss)))) t d = λ k p q is. absurd is
   reads (compute g es) t d = λ k p q is. absurd is
   reads (call g es) t d = λ k p q is. absurd is
   reads (unary op e) t d = λ k p q is. absurd is
-  reads (binary op l r) t d = read_computed op l r t d (reads l t d) (reads r t (suc d))
+  reads (binary op l r) t d = λ k p q is m vs b le of runs.
+      read_made (binary op l r) t d k q is.0 m vs b le of
+      (made_by op l r t d k p q (reads l t d) (reads r t (suc d)) is.1 m vs b le of runs)
 
   -- the same of an expression that is moved
   pub moved : (e : SlotExpr) (t : Kind) (d to p q : ℕ) → IsMoved f (IsRead f z.base e t d) to p q
@@ -220,7 +270,15 @@ module _ (f : Frame) (z : SlotScope) (x : Left) where
       → (m : Memory) (vs : List Datum) (b : ℕ) → first_temporary f ≤ d → IsMemory f m vs → Ends f p m b x
       → HasMade e t d to q m vs b
   assigned (constant l) t d to p q is m vs b le of runs = moved (constant l) t d to p q is m vs b le of runs
-  assigned (load l) t d to p q is m vs b le of runs = moved (load l) t d to p q is m vs b le of runs
+  assigned (load (place a no_subscripts)) t d to p q is m vs b le of runs =
+      moved (load (place a no_subscripts)) t d to p q is m vs b le of runs
+  assigned (load (place a (subscript_then i lower count stride no_subscripts))) t d to p q is m vs b le of runs =
+      fetched_by a i lower count stride t d to p q (λ u. reads i u d) is m vs b le of runs
+  assigned (load (place a (subscript_then i lower count stride (subscript_then j l c s ss)))) t d to p q is m vs b le of
+      runs =
+      moved (load (place a (subscript_then i lower count stride (subscript_then j l c s ss)))) t d to p q is m vs b le
+      of
+      runs
   assigned (compute g es) t d to p q is m vs b le of runs = moved (compute g es) t d to p q is m vs b le of runs
   assigned (call g es) t d to p q is m vs b le of runs = moved (call g es) t d to p q is m vs b le of runs
   assigned (unary op e) t d to p q is m vs b le of runs = moved (unary op e) t d to p q is m vs b le of runs

@@ -1,6 +1,6 @@
 -- Parts of a program, and how code does what they mean.
 use Rattle.std.proofs.Common.{◌≡◌, ℕ, zero, suc, ◌+◌, ◌-◌, ◌<◌, ◌≤◌, Bool, true, false, Some, Ok, Err}
-use Rattle.std.proofs.Common.{refl, ap, ap₂, subst, ◌∙◌, arith, inl, inr, ℤ}
+use Rattle.std.proofs.Common.{refl, sym, ap, ap₂, subst, ◌∙◌, arith, inl, inr, ℤ}
 use Rattle.std.specs.Prelude.{◌&&◌, if◌then◌else◌, not, slice_get, slice_set}
 use Rattle.st_words.specs.declared.kind.Kind.{Kind}
 use Rattle.st_words.proofs.KindLemmas.{same_kind-refl}
@@ -25,7 +25,12 @@ use Rattle.quick_trees.proofs.Stepping.{HasBranched, has_taken, stepped}
 use Rattle.quick_trees.proofs.Memories.{Spares, slot_assigned, slot_there, spares_all, spares_both, spares_kept}
 use Rattle.quick_trees.proofs.Memories.{spares_slot}
 use Rattle.quick_trees.proofs.Memories.{still_memory, there_within}
-use Rattle.quick_trees.proofs.Reading.{assigned, tested, then_gives}
+use Rattle.quick_trees.proofs.Elements.{element_is, has_stored}
+use Rattle.quick_trees.proofs.Memories.{keeps_both, keeps_word}
+use Rattle.quick_trees.specs.Standing.{IsStored}
+use Rattle.slot_trees.specs.SlotTrees.{subscript_then}
+use Rattle.slot_trees.specs.SlotEvaluation.{led}
+use Rattle.quick_trees.proofs.Reading.{led_by, reads, assigned, tested, then_gives}
 
 -- a tick is taken
 ticks_on : (t u : ℕ) (g : Unit {0} → Run SlotEnd) → t ≡ suc u → follow (tick t) g ≡ g tt u
@@ -125,6 +130,53 @@ module _ (f : Frame) (z : SlotScope) (x : Left) where
         fewer = omega arith;
         is = slot_assigned f made.memory vs kept k t made.word r.target made.held;
         ends = made.ends;
+      }
+
+  pub does_store : (a : Anchor) (i : SlotExpr) (lower : ℤ) (count stride : ℕ) (e : SlotExpr) (d : ℕ)
+      → first_temporary f ≤ d
+      → Does (slot_assigning z (place a (subscript_then i lower count stride no_subscripts)) e) d
+      (IsStored f z.base a i lower count stride e d)
+  does_store a i lower count stride e d le p n q c r m vs b is runs =
+      let first = slot_at z.base a in
+      let t = r.kind in
+      let one = reads f z x e t d r.from p r.middle r.value m vs b le is runs in
+      let is_one = still_memory f m vs is d one.memory le one.keeps in
+      let u = r.subscript.kind in
+      let two = reads f z x i u (suc d) r.at r.middle r.last r.subscript.reads one.memory vs b (omega arith) is_one
+      one.ends in
+      let is_two = still_memory f one.memory vs is_one (suc d) two.memory (omega arith) two.keeps in
+      let kept = keeps_word (suc d) one.memory two.memory r.from two.keeps one.low in
+      let w = word_at two.memory.words r.from in
+      let held = subst (λ w. IsHeld (datum_at t w)) (sym kept) one.held in
+      let value = one.value (b + n) ∙ ap (λ w. Ok (datum_at t w, b + n)) (sym kept) in
+      let done = has_stored f r.last x two.memory b r.at r.shift r.from first count stride r.stores two.ends in
+      let k = done.place in
+      let leads = element_is lower r.shift first count stride u (word_at two.memory.words r.at) k r.subscript.from_lower
+      r.subscript.narrow done.is in
+      let slot : slice_get f.kinds k ≡ Some t =
+      ap (slice_get f.kinds) leads.place ∙ r.elements.each leads.before leads.less in
+      let us = slice_set vs k (datum_at t w) in
+      let after = with_word two.memory k w in
+      let ahead = r.ahead in
+      let keeps = keeps_both d (suc d) m one.memory two.memory (omega arith) one.keeps two.keeps in record {
+        memory = after;
+        spares = spares_both f d d m two.memory after (omega arith) (spares_kept f d m two.memory keeps)
+            (spares_slot f d two.memory k w (there_within f.kinds k t slot));
+        values = us;
+        left = b;
+        gives = then_gives (slot_value z vs e (b + n)) (datum_at t w) (b + n)
+            (λ v. λ b. follow (led z vs first (subscript_then i lower count stride no_subscripts) b)
+            (λ k. λ b. follow (attempt z.stand_ins (stored_at vs k v) b) (λ us. give (goes_on us)))) value
+            ∙ then_gives (led z vs first (subscript_then i lower count stride no_subscripts) (b + n)) k (b + n)
+            (λ k. λ b. follow (attempt z.stand_ins (stored_at vs k (datum_at t w)) b) (λ us. give (goes_on us)))
+            (led_by f z x i lower first count stride u (word_at two.memory.words r.at) k vs (b + n)
+            (two.value (b + n)) leads)
+            ∙ ap (λ o. follow (attempt z.stand_ins o (b + n)) (λ us. give (goes_on us)))
+            (stores vs k t (word_at two.memory.words k) w (slot_there f two.memory vs is_two k t slot) held)
+            ∙ ap (λ j. Ok (goes_on us, b + j)) ahead;
+        fewer = omega arith;
+        is = slot_assigned f two.memory vs is_two k t w slot held;
+        ends = subst (λ q. Ends f q after b x) (sym r.next) done.ends;
       }
 
   pub in_turn : (run go : Slots → Run SlotEnd) (d : ℕ) (First Second : Part) → Does run d First → Does go d Second

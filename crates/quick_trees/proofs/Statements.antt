@@ -9,8 +9,10 @@ use Rattle.slot_trees.specs.SlotEvaluation.{SlotScope, slot_at, slot_truth}
 use Rattle.slot_trees.specs.SlotExecution.{slot_assigning, slot_counting, slot_exec, slot_exec_all}
 use Rattle.slot_trees.specs.SlotExecution.{slot_exec_arms}
 use Rattle.quick_trees.specs.QuickMemory.{Ends, Frame, first_temporary}
-use Rattle.quick_trees.specs.Standing.{ArmsStand, IsAssignment, IsFor, IsLoop, IsTestedFor, StandsFor, StmtsStand}
-use Rattle.quick_trees.proofs.Running.{Does, does_arm, does_assign, does_loop, does_nothing, in_turn, nothing, ticked}
+use Rattle.quick_trees.specs.Standing.{ArmsStand, IsAssignment, IsFor, IsLoop, IsStored, IsTestedFor, StandsFor}
+use Rattle.quick_trees.specs.Standing.{StmtsStand}
+use Rattle.quick_trees.proofs.Running.{Does, does_arm, does_assign, does_loop, does_nothing, does_store, in_turn}
+use Rattle.quick_trees.proofs.Running.{nothing, ticked}
 use Rattle.quick_trees.proofs.Counting.{does_for}
 
 module _ (f : Frame) (z : SlotScope) (x : Left) where
@@ -21,7 +23,11 @@ module _ (f : Frame) (z : SlotScope) (x : Left) where
     does_stmt (assign (place a no_subscripts) e) d le =
         ticked f z x (slot_assigning z (place a no_subscripts) e) d (IsAssignment f z.base a e d)
         (does_assign f z x a e d le)
-    does_stmt (assign (place a (subscript_then i lower count stride ss)) e) d le = λ p a q c r. absurd r
+    does_stmt (assign (place a (subscript_then i lower count stride no_subscripts)) e) d le =
+        ticked f z x (slot_assigning z (place a (subscript_then i lower count stride no_subscripts)) e) d
+        (IsStored f z.base a i lower count stride e d) (does_store f z x a i lower count stride e d le)
+    does_stmt (assign (place a (subscript_then i lower count stride (subscript_then j l c s ss))) e) d le =
+        λ p a q c r. absurd r
     does_stmt (invoke a code arguments) d le = λ p a q c r. absurd r
     does_stmt (IF arms otherwise) d le =
         ticked f z x (slot_exec_arms z arms (slot_exec_all z otherwise)) d

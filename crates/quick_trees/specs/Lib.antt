@@ -2,3 +2,4 @@ pub mod QuickMemory
 pub mod Standing
 pub mod Programs
 pub mod Example
+pub mod LoopExample

@@ -1,0 +1,95 @@
+-- Where elements stand.
+use Rattle.std.proofs.Common.{◌≡◌, ℕ, suc, ◌+◌, ◌*◌, ◌^◌, ◌<◌, ◌+ℤ◌, ◌-ℤ◌, ℤ, pos, negsuc, Bool, true, false, Option}
+use Rattle.std.proofs.Common.{Some, None}
+use Rattle.std.proofs.Common.{refl, sym, ap, subst, ◌∙◌, arith, inl, inr}
+use Rattle.std.specs.Prelude.{if◌then◌else◌, nat_lt}
+use Rattle.std.proofs.Math.IntN.{+ℤ_idr}
+use Rattle.std.proofs.lemmas.Bool.Decides.{nat_tests}
+use Rattle.std.proofs.lemmas.Int.{ints}
+use Rattle.st_words.specs.declared.kind.Kind.{Kind}
+use Rattle.st_words.specs.Words.{is_wide, number_at}
+use Rattle.st_types.specs.Operators.{natural}
+use Rattle.st_layouts.specs.Shapes.{distance, in_bounds}
+use Rattle.quick_code.specs.QuickRuns.{Left}
+use Rattle.quick_code.specs.QuickSteps.{Memory, load, look, store, with_word}
+use Rattle.quick_code.specs.Words.{element_place}
+use Rattle.quick_trees.specs.QuickMemory.{Ends, Frame}
+use Rattle.quick_trees.specs.Standing.{Loads, Stores}
+use Rattle.quick_trees.proofs.Stepping.{Follows, stepped}
+
+-- the words of a type that is not wide are its numbers
+pub narrow_number : (t : Kind) (w : ℤ) → is_wide t ≡ false → number_at t w ≡ w
+narrow_number t w h = ap (λ (b : Bool). w +ℤ (if b then pos (2 ^ 63) else pos 0)) h ∙ +ℤ_idr w
+
+-- A subscript leads to a place: so many elements behind the first one.
+pub record LeadsTo (lower : ℤ) (first count stride : ℕ) (n : ℤ) (k : ℕ) : Type 0 where
+  pub before : ℕ
+  pub less : before < count
+  pub place : k ≡ first + before * stride
+  pub inside : in_bounds lower count n ≡ true
+  pub behind : distance lower n ≡ before
+
+inside_is : (lower n : ℤ) (j count : ℕ) → n ≡ lower +ℤ pos j → j < count → in_bounds lower count n ≡ true
+inside_is lower n j count is less = grind (arith, ints)
+
+leads_to : (lower shift : ℤ) (first count stride : ℕ) (n z : ℤ) (k : ℕ) → lower +ℤ shift ≡ pos 0 → z ≡ n +ℤ shift
+    → element_place first count stride z ≡ Some k → LeadsTo lower first count stride n k
+leads_to lower shift first count stride n (pos j) k from is e = by_test (nat_lt j count) refl e
+  where
+    by_test : (t : Bool) → nat_lt j count ≡ t → (if t then Some (first + j * stride) else None) ≡ Some k
+        → LeadsTo lower first count stride n k
+    by_test true h e =
+        let less : j < count = grind (arith, nat_tests) in
+        let at : n ≡ lower +ℤ pos j = omega (arith, ints) in
+        let apart : n -ℤ lower ≡ pos j = omega (arith, ints) in record {
+          before = j;
+          less = less;
+          place = cc;
+          inside = inside_is lower n j count at less;
+          behind = ap natural apart;
+        }
+    by_test false h e = absurd cc
+leads_to lower shift first count stride n (negsuc j) k from is e = absurd cc
+
+pub element_is : (lower shift : ℤ) (first count stride : ℕ) (t : Kind) (w : ℤ) (k : ℕ) → lower +ℤ shift ≡ pos 0
+    → is_wide t ≡ false → element_place first count stride (w +ℤ shift) ≡ Some k
+    → LeadsTo lower first count stride (number_at t w) k
+element_is lower shift first count stride t w k from narrow e =
+    leads_to lower shift first count stride (number_at t w) (w +ℤ shift) k from
+    (ap (λ n. n +ℤ shift) (sym (narrow_number t w narrow))) e
+
+module _ (f : Frame) (p : ℕ) (e : Left) (m : Memory) (b : ℕ) where
+  -- A word at a place was loaded, or assigned.
+  pub record HasLoaded (o : Option ℕ) (to : ℕ) : Type 0 where
+    pub place : ℕ
+    pub is : o ≡ Some place
+    pub ends : Ends f (suc p) (with_word m to (look m place)) b e
+
+  of_load : (o : Option ℕ) (to : ℕ) → Follows f p e (load o to m b) → HasLoaded o to
+  of_load (Some k) to h = record { place = k; is = refl; ends = h }
+  of_load None to h = absurd h
+
+  pub has_loaded : (i : ℕ) (shift : ℤ) (to first count stride : ℕ) → Loads f i shift to first count stride p
+      → Ends f p m b e → HasLoaded (element_place first count stride (look m i +ℤ shift)) to
+  has_loaded i shift to first count stride (inl is) runs =
+      subst (λ s. HasLoaded (element_place first count s (look m i +ℤ shift)) to) (sym is.0)
+      (of_load (element_place first count 1 (look m i +ℤ shift)) to (stepped f p e m b _ runs is.1))
+  has_loaded i shift to first count stride (inr is) runs =
+      of_load (element_place first count stride (look m i +ℤ shift)) to (stepped f p e m b _ runs is)
+
+  pub record HasStored (o : Option ℕ) (w : ℤ) : Type 0 where
+    pub place : ℕ
+    pub is : o ≡ Some place
+    pub ends : Ends f (suc p) (with_word m place w) b e
+
+  of_store : (o : Option ℕ) (w : ℤ) → Follows f p e (store o w m b) → HasStored o w
+  of_store (Some k) w h = record { place = k; is = refl; ends = h }
+  of_store None w h = absurd h
+
+  pub has_stored : (i : ℕ) (shift : ℤ) (from first count stride : ℕ) → Stores f i shift from first count stride p
+      → Ends f p m b e → HasStored (element_place first count stride (look m i +ℤ shift)) (look m from)
+  has_stored i shift from first count stride (inl is) runs =
+      subst (λ s. HasStored (element_place first count s (look m i +ℤ shift)) (look m from)) (sym is.0)
+      (of_store (element_place first count 1 (look m i +ℤ shift)) (look m from) (stepped f p e m b _ runs is.1))
+  has_stored i shift from first count stride (inr is) runs =
+      of_store (element_place first count stride (look m i +ℤ shift)) (look m from) (stepped f p e m b _ runs is)
