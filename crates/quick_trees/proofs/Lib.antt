@@ -1,5 +1,6 @@
 pub mod Stepping
 pub mod Memories
+pub mod Bits
 pub mod Operators
 pub mod Elements
 pub mod Reading

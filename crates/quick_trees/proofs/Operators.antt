@@ -34,6 +34,15 @@ use Rattle.quick_code.specs.declared.quick_instr.QuickInstr.TheVariants.{DivideI
 use Rattle.quick_code.specs.declared.quick_instr.QuickInstr.TheVariants.{DivideLint, MultiplyDint, MultiplyInt}
 use Rattle.quick_code.specs.declared.quick_instr.QuickInstr.TheVariants.{MultiplyLint, SubtractDint, SubtractInt}
 use Rattle.quick_code.specs.declared.quick_instr.QuickInstr.TheVariants.{SubtractLint}
+use Rattle.std.proofs.Common.{zero, ◌<◌, ◌≢◌}
+use Rattle.std.specs.Int.{int_bit_and, int_bit_or, int_bit_xor}
+use Rattle.std.specs.Int.RustNames.{int_rem}
+use Rattle.std.proofs.lemmas.Int.{quot-rem, rem_below}
+use Rattle.st_types.specs.Operators.{remainder}
+use Rattle.quick_code.specs.declared.quick_instr.QuickInstr.TheVariants as quick
+use Rattle.quick_code.specs.Words.{word_of_truth}
+use Rattle.quick_trees.specs.Standing.{truth_for}
+use Rattle.quick_trees.proofs.Bits.{and_is, bits_of, or_is, xor_is}
 use Rattle.quick_code.specs.QuickRuns.{Left}
 use Rattle.quick_code.specs.QuickSteps.{Memory, act, look, put, with_word}
 use Rattle.quick_code.specs.Words.{difference, divided, kept, kind_of, made, product, sum}
@@ -146,12 +155,75 @@ divided_is s x y w e = by_test (int_eq y (pos 0)) e
     by_test true e = absurd cc
     by_test false e = kept_is s (int_div x y) w e
 
+rest_is : (a d : ℤ) → int_rem a d ≡ a -ℤ (int_div a d *ℤ d)
+rest_is a d = let e = quot-rem a d in omega (arith, ints)
+
+remainder_is : (a d : ℤ) → d ≢ pos 0 → int_rem a d ≡ remainder a d
+remainder_is a d h = by_test (int_eq d (pos 0)) refl
+  where
+    by_test : (t : Bool) → int_eq d (pos 0) ≡ t → int_rem a d ≡ (if t then pos 0 else a -ℤ (int_div a d *ℤ d))
+    by_test true e = absurd (h ((Decides-int_eq d (pos 0)).0 e))
+    by_test false e = rest_is a d
+
+abs_pos : (y : ℤ) → y ≢ pos 0 → 0 < unsigned_abs y
+abs_pos (pos zero) h = absurd (h refl)
+abs_pos (pos (suc n)) h = omega arith
+abs_pos (negsuc n) h = omega arith
+
+nearer_int : (r y : ℤ) → IsWord signed.Int y → unsigned_abs r < unsigned_abs y → IsWord signed.Int r
+nearer_int r y h less = grind (arith, ints)
+
+nearer_dint : (r y : ℤ) → IsWord signed.Dint y → unsigned_abs r < unsigned_abs y → IsWord signed.Dint r
+nearer_dint r y h less = grind (arith, ints)
+
+nearer_lint : (r y : ℤ) → IsWord signed.Lint y → unsigned_abs r < unsigned_abs y → IsWord signed.Lint r
+nearer_lint r y h less = grind (arith, ints)
+
+-- a remainder is nearer to 0 than the divisor
+remainder_held : (s : Signed) (x y : ℤ) → IsWord s y → y ≢ pos 0 → IsWord s (int_rem x y)
+remainder_held signed.Int x y h apart = nearer_int (int_rem x y) y h (rem_below x y (abs_pos y apart))
+remainder_held signed.Dint x y h apart = nearer_dint (int_rem x y) y h (rem_below x y (abs_pos y apart))
+remainder_held signed.Lint x y h apart = nearer_lint (int_rem x y) y h (rem_below x y (abs_pos y apart))
+
+unequal : (y : ℤ) → int_eq y (pos 0) ≡ false → y ≢ pos 0
+unequal y h same = let is : int_eq y (pos 0) ≡ true = (Decides-int_eq y (pos 0)).1 same in cc
+
+kept_same : (s : Signed) (z w : ℤ) (t : Bool) → (if t then Some z else None) ≡ Some w → z ≡ w
+kept_same s z w true e = cc
+kept_same s z w false e = absurd cc
+
+-- a remainder in 64 bits is one in its type
+remainder_typed : (s : Signed) (x y w : ℤ) → IsWord s y → made op.Modulo signed.Lint x y ≡ Some w
+    → made op.Modulo s x y ≡ Some w
+remainder_typed s x y w h e = by_test (int_eq y (pos 0)) refl e
+  where
+    by_test : (t : Bool) → int_eq y (pos 0) ≡ t → (if t then None else kept signed.Lint (int_rem x y)) ≡ Some w
+        → (if t then None else kept s (int_rem x y)) ≡ Some w
+    by_test true z e = absurd cc
+    by_test false z e =
+        let r = int_rem x y in
+        let same = kept_same signed.Lint r w (holds (kind_of signed.Lint) r) e in
+        ap (λ t. if t then Some r else None) (remainder_held s x y h (unequal y z)) ∙ ap (λ n. Some n) same
+
+-- the same of a remainder
+remainder_by : (s : Signed) (x y w : ℤ) (t : Bool) → int_eq y (pos 0) ≡ t
+    → (if t then None else kept s (int_rem x y)) ≡ Some w → IsResult (in_range (kind_of s) (remainder x y)) (kind_of s)
+    w
+remainder_by s x y w true h e = absurd cc
+remainder_by s x y w false h e =
+    kept_is s (remainder x y) w (ap (kept s) (sym (remainder_is x y (unequal y h))) ∙ e)
+
+remainder_of : (s : Signed) (x y w : ℤ) → divided y (kept s (int_rem x y)) ≡ Some w
+    → IsResult (in_range (kind_of s) (remainder x y)) (kind_of s) w
+remainder_of s x y w e = remainder_by s x y w (int_eq y (pos 0)) refl e
+
 -- an operator that an instruction computes
 abbrev pub operation_of : BinaryOperator → Option Operation
 operation_of Add = Some op.Add
 operation_of Subtract = Some op.Subtract
 operation_of Multiply = Some op.Multiply
 operation_of Divide = Some op.Divide
+operation_of Modulo = Some op.Modulo
 operation_of _ = None
 
 some_is : {A : Type 0} {x y : A} → Some x ≡ Some y → y ≡ x
@@ -178,7 +250,8 @@ made_is Multiply n s x y w of f g e =
     (ap (kept s) (sym (product_is s x y f g)) ∙ subst (λ n. made n s x y ≡ Some w) (some_is of) e)
 made_is Divide n s x y w of f g e =
     divided_is s x y w (subst (λ n. made n s x y ≡ Some w) (some_is of) e)
-made_is Modulo n s x y w of f g e = absurd cc
+made_is Modulo n s x y w of f g e =
+    remainder_of s x y w (subst (λ n. made n s x y ≡ Some w) (some_is of) e)
 
 abbrev chosen : Signed → QuickInstr → QuickInstr → QuickInstr → QuickInstr
 chosen signed.Int a b c = a
@@ -190,6 +263,11 @@ record IsSigned (t : Kind) (a b c i : QuickInstr) : Type 0 where
   type : Signed
   kind : t ≡ kind_of type
   instr : i ≡ chosen type a b c
+
+chosen_same : (s : Signed) (a : QuickInstr) → chosen s a a a ≡ a
+chosen_same signed.Int a = refl
+chosen_same signed.Dint a = refl
+chosen_same signed.Lint a = refl
 
 signed_of : (t : Kind) (a b c i : QuickInstr) → by_kind t a b c ≡ Some i → IsSigned t a b c i
 signed_of Sint a b c i e = absurd cc
@@ -243,12 +321,60 @@ module _ (f : Frame) (p : ℕ) (e : Left) (m : Memory) (b : ℕ) where
       (subst (λ k. IsHeld (datum_at k y)) which.kind h)
       (subst (Follows f p e) (does s) (subst (λ i. Follows f p e (act f.ways f.now i m b)) which.instr runs)))
 
+  -- a remainder, which is computed in 64 bits
+  of_remainder : (t : Kind) (l r to : ℕ) (i : QuickInstr)
+      → by_kind t (quick.Modulo l r to) (quick.Modulo l r to) (quick.Modulo l r to) ≡ Some i
+      → IsHeld (datum_at t (look m l)) → IsHeld (datum_at t (look m r)) → Follows f p e (act f.ways f.now i m b)
+      → HasComputed Modulo t (look m l) (look m r) to
+  of_remainder t l r to i is g h runs =
+      let a = quick.Modulo l r to in
+      let which = signed_of t a a a i is in
+      let s = which.type in
+      let k = kind_of s in
+      let x = look m l in
+      let y = look m r in
+      let hx = word_held s x (subst (λ k. IsHeld (datum_at k x)) which.kind g) in
+      let hy = word_held s y (subst (λ k. IsHeld (datum_at k y)) which.kind h) in
+      let done = has_put f p e to (made op.Modulo signed.Lint x y) m b
+      (subst (λ i. Follows f p e (act f.ways f.now i m b)) (which.instr ∙ chosen_same s a) runs) in
+      let result = made_is Modulo op.Modulo s x y done.word refl hx hy (remainder_typed s x y done.word hy done.is) in
+      let own = subst (λ z. IsResult (applied Modulo k z (number_at k y)) k done.word) (sym (number_is s x))
+      (subst (λ z. IsResult (applied Modulo k x z) k done.word) (sym (number_is s y)) result) in
+      record {
+        word = done.word;
+        result = subst (λ k. IsResult (applied Modulo k (number_at k x) (number_at k y)) k done.word) (sym which.kind)
+            own;
+        ends = done.ends;
+      }
+
+  -- an operator on bits
+  of_operator : (o : BinaryOperator) (t : Kind) (x y v : ℤ) (to : ℕ)
+      → (applied o t (number_at t x) (number_at t y) ≡ Ok (datum_at t v)) × IsHeld (datum_at t v)
+      → Follows f p e (put to (Some v) m b) → HasComputed o t x y to
+  of_operator o t x y v to is runs =
+      record { word = v; result = record { value = is.0; held = is.1 }; ends = runs }
+
   pub has_computed : (o : BinaryOperator) (t : Kind) (l r to : ℕ) (i : QuickInstr) → instr_for o t l r to ≡ Some i
       → IsHeld (datum_at t (look m l)) → IsHeld (datum_at t (look m r)) → Follows f p e (act f.ways f.now i m b)
       → HasComputed o t (look m l) (look m r) to
-  has_computed Or t l r to i is g h runs = absurd cc
-  has_computed Xor t l r to i is g h runs = absurd cc
-  has_computed And t l r to i is g h runs = absurd cc
+  has_computed Or t l r to i is g h runs =
+      let bits = bits_of t (quick.Or l r to) i is in
+      let x = look m l in
+      let y = look m r in
+      of_operator Or t x y (int_bit_or w64 x y) to (or_is bits.bits t x y bits.are g h)
+      (subst (λ i. Follows f p e (act f.ways f.now i m b)) bits.instr runs)
+  has_computed Xor t l r to i is g h runs =
+      let bits = bits_of t (quick.Xor l r to) i is in
+      let x = look m l in
+      let y = look m r in
+      of_operator Xor t x y (int_bit_xor w64 x y) to (xor_is bits.bits t x y bits.are g h)
+      (subst (λ i. Follows f p e (act f.ways f.now i m b)) bits.instr runs)
+  has_computed And t l r to i is g h runs =
+      let bits = bits_of t (quick.And l r to) i is in
+      let x = look m l in
+      let y = look m r in
+      of_operator And t x y (int_bit_and w64 x y) to (and_is bits.bits t x y bits.are g h)
+      (subst (λ i. Follows f p e (act f.ways f.now i m b)) bits.instr runs)
   has_computed Equal t l r to i is g h runs = absurd cc
   has_computed NotEqual t l r to i is g h runs = absurd cc
   has_computed Less t l r to i is g h runs = absurd cc
@@ -296,7 +422,7 @@ module _ (f : Frame) (p : ℕ) (e : Left) (m : Memory) (b : ℕ) where
             refl
       ])
       g h runs
-  has_computed Modulo t l r to i is g h runs = absurd cc
+  has_computed Modulo t l r to i is g h runs = of_remainder t l r to i is g h runs
 
 less_shifted : (x y s : ℤ) → int_lt (x +ℤ s) (y +ℤ s) ≡ int_lt x y
 less_shifted x y s = grind (arith, ints)
@@ -380,3 +506,50 @@ module _ (f : Frame) (q : ℕ) (e : Left) (m : Memory) (b : ℕ) where
   has_compared Multiply t l r w past i is runs = absurd cc
   has_compared Divide t l r w past i is runs = absurd cc
   has_compared Modulo t l r w past i is runs = absurd cc
+
+  -- The truth of a comparison was assigned.
+  pub record HasTruth (o : BinaryOperator) (t : Kind) (x y : ℤ) (to : ℕ) : Type 0 where
+    pub go : Bool
+    pub is : applied o t (number_at t x) (number_at t y) ≡ Ok (datum_of_truth go)
+    pub ends : Ends f (suc q) (with_word m to (word_of_truth go)) b e
+
+  pub has_truth : (o : BinaryOperator) (t : Kind) (l r to : ℕ) (i : QuickInstr) → truth_for o l r to ≡ Some i
+      → Follows f q e (act f.ways f.now i m b) → HasTruth o t (look m l) (look m r) to
+  has_truth Or t l r to i is runs = absurd cc
+  has_truth Xor t l r to i is runs = absurd cc
+  has_truth And t l r to i is runs = absurd cc
+  has_truth Equal t l r to i is runs = record {
+    go = int_eq (look m l) (look m r);
+    is = ap (λ u. Ok (datum_of_truth u)) (equal_shifted (look m l) (look m r) (shift_of t));
+    ends = subst (λ i. Follows f q e (act f.ways f.now i m b)) (some_is is) runs;
+  }
+  has_truth NotEqual t l r to i is runs = record {
+    go = not (int_eq (look m l) (look m r));
+    is = ap (λ u. Ok (datum_of_truth u)) (ap not (equal_shifted (look m l) (look m r) (shift_of t)));
+    ends = subst (λ i. Follows f q e (act f.ways f.now i m b)) (some_is is) runs;
+  }
+  has_truth Less t l r to i is runs = record {
+    go = int_lt (look m l) (look m r);
+    is = ap (λ u. Ok (datum_of_truth u)) (less_shifted (look m l) (look m r) (shift_of t));
+    ends = subst (λ i. Follows f q e (act f.ways f.now i m b)) (some_is is) runs;
+  }
+  has_truth Greater t l r to i is runs = record {
+    go = int_lt (look m r) (look m l);
+    is = ap (λ u. Ok (datum_of_truth u)) (less_shifted (look m r) (look m l) (shift_of t));
+    ends = subst (λ i. Follows f q e (act f.ways f.now i m b)) (some_is is) runs;
+  }
+  has_truth LessOrEqual t l r to i is runs = record {
+    go = int_le (look m l) (look m r);
+    is = ap (λ u. Ok (datum_of_truth u)) (at_most_shifted (look m l) (look m r) (shift_of t));
+    ends = subst (λ i. Follows f q e (act f.ways f.now i m b)) (some_is is) runs;
+  }
+  has_truth GreaterOrEqual t l r to i is runs = record {
+    go = int_le (look m r) (look m l);
+    is = ap (λ u. Ok (datum_of_truth u)) (at_most_shifted (look m r) (look m l) (shift_of t));
+    ends = subst (λ i. Follows f q e (act f.ways f.now i m b)) (some_is is) runs;
+  }
+  has_truth Add t l r to i is runs = absurd cc
+  has_truth Subtract t l r to i is runs = absurd cc
+  has_truth Multiply t l r to i is runs = absurd cc
+  has_truth Divide t l r to i is runs = absurd cc
+  has_truth Modulo t l r to i is runs = absurd cc

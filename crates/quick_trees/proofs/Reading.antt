@@ -26,6 +26,9 @@ use Rattle.slot_trees.specs.SlotTrees.{no_subscripts, place, subscript_then, una
 use Rattle.st_layouts.specs.Shapes.{distance, in_bounds}
 use Rattle.st_words.specs.declared.fault.Fault.TheVariants.{Index}
 use Rattle.slot_trees.specs.SlotEvaluation.{led, slot_at, SlotScope, loaded, slot_truth, slot_value}
+use Rattle.quick_code.specs.Words.{word_of_truth}
+use Rattle.quick_trees.specs.Standing.{IsTruth}
+use Rattle.quick_trees.proofs.Operators.{has_truth}
 use Rattle.quick_trees.specs.QuickMemory.{Ends, Frame, IsHeldAt, IsMemory, first_temporary}
 use Rattle.quick_trees.specs.Standing.{AreRead, IsAssigned, IsComputed, IsMoved, IsRead}
 use Rattle.quick_trees.specs.Standing.{IsFetched, IsTemporary}
@@ -57,6 +60,15 @@ truth_of_word (negsuc n) h = absurd (below n h)
   where
     below : (n : ℕ) → IsHeld (datum_at Boolean (negsuc n)) → ⊥
     below n h = grind (arith, ints)
+
+-- the word of a truth is that of the value
+truth_word : (go : Bool) → datum_at Boolean (word_of_truth go) ≡ datum_of_truth go
+truth_word true = refl
+truth_word false = refl
+
+truth_held : (go : Bool) → IsHeld (datum_at Boolean (word_of_truth go))
+truth_held true = refl
+truth_held false = refl
 
 not_not : (t : Bool) → not (not t) ≡ t
 not_not true = refl
@@ -145,6 +157,39 @@ module _ (f : Frame) (z : SlotScope) (x : Left) where
         held = done.result.held;
         ends = subst (λ q. Ends f q (with_word both.memory to done.word) b x) (sym is.next) done.ends;
       }
+
+  truth_by : (op : BinaryOperator) (l r : SlotExpr) (t : Kind) (d to p q : ℕ) → ((u : Kind) → Reads l u d)
+      → ((u : Kind) → Reads r u (suc d))
+      → IsTruth f (λ u. IsRead f z.base l u d) (λ u. IsRead f z.base r u (suc d)) op t to p q
+      → (m : Memory) (vs : List Datum) (b : ℕ) → first_temporary f ≤ d → IsMemory f m vs → Ends f p m b x
+      → HasMade (binary op l r) t d to q m vs b
+  truth_by op l r t d to p q reads_l reads_r is m vs b le of runs =
+      let u = is.kind in
+      let both = read_both l r u d is.left is.right p is.last (reads_l u) (reads_r u) is.reads m vs b le of runs in
+      let step = stepped f is.last x both.memory b is.stands.instr both.ends is.stands.at in
+      let done = has_truth f is.last x both.memory b op u is.left is.right to is.stands.instr is.stands.is step in
+      subst (λ t. HasMade (binary op l r) t d to q m vs b) (sym is.truth) (record {
+        memory = both.memory;
+        keeps = both.keeps;
+        word = word_of_truth done.go;
+        value = λ c. applied_to op l r u (look both.memory is.left) (look both.memory is.right) vs c
+            (datum_of_truth done.go) (both.first c) (both.second c) done.is
+            ∙ ap (λ v. Ok (v, c)) (sym (truth_word done.go));
+        held = truth_held done.go;
+        ends = subst (λ q. Ends f q (with_word both.memory to (word_of_truth done.go)) b x) (sym is.next) done.ends;
+      })
+
+  -- what an operator makes, computed or compared
+  binary_by : (op : BinaryOperator) (l r : SlotExpr) (t : Kind) (d to p q : ℕ) → ((u : Kind) → Reads l u d)
+      → ((u : Kind) → Reads r u (suc d))
+      → IsComputed f (IsRead f z.base l t d) (IsRead f z.base r t (suc d)) op t to p q
+      ⊎ IsTruth f (λ u. IsRead f z.base l u d) (λ u. IsRead f z.base r u (suc d)) op t to p q
+      → (m : Memory) (vs : List Datum) (b : ℕ) → first_temporary f ≤ d → IsMemory f m vs → Ends f p m b x
+      → HasMade (binary op l r) t d to q m vs b
+  binary_by op l r t d to p q reads_l reads_r (inl is) m vs b le of runs =
+      made_by op l r t d to p q (reads_l t) (reads_r t) is m vs b le of runs
+  binary_by op l r t d to p q reads_l reads_r (inr is) m vs b le of runs =
+      truth_by op l r t d to p q reads_l reads_r is m vs b le of runs
 
   read_constant : (l : Literal) (t : Kind) (d : ℕ) → Reads (constant l) t d
   read_constant l t d k p q is m vs b le of runs =
@@ -248,7 +293,7 @@ module _ (f : Frame) (z : SlotScope) (x : Left) where
   reads (unary op e) t d = λ k p q is. absurd is
   reads (binary op l r) t d = λ k p q is m vs b le of runs.
       read_made (binary op l r) t d k q is.0 m vs b le of
-      (made_by op l r t d k p q (reads l t d) (reads r t (suc d)) is.1 m vs b le of runs)
+      (binary_by op l r t d k p q (λ u. reads l u d) (λ u. reads r u (suc d)) is.1 m vs b le of runs)
 
   -- the same of an expression that is moved
   pub moved : (e : SlotExpr) (t : Kind) (d to p q : ℕ) → IsMoved f (IsRead f z.base e t d) to p q
@@ -283,7 +328,7 @@ module _ (f : Frame) (z : SlotScope) (x : Left) where
   assigned (call g es) t d to p q is m vs b le of runs = moved (call g es) t d to p q is m vs b le of runs
   assigned (unary op e) t d to p q is m vs b le of runs = moved (unary op e) t d to p q is m vs b le of runs
   assigned (binary op l r) t d to p q is m vs b le of runs =
-      made_by op l r t d to p q (reads l t d) (reads r t (suc d)) is m vs b le of runs
+      binary_by op l r t d to p q (λ u. reads l u d) (λ u. reads r u (suc d)) is m vs b le of runs
 
   -- An expression was read, and a word that is no slot has its value now.
   pub record HasKept (e : SlotExpr) (t : Kind) (d k q : ℕ) (m : Memory) (vs : List Datum) (b : ℕ) : Type 0 where
@@ -357,7 +402,9 @@ module _ (f : Frame) (z : SlotScope) (x : Left) where
   tested (compute g es) d p q w past is m vs b le of runs = tested_word (compute g es) d p q w past is m vs b le of runs
   tested (call g es) d p q w past is m vs b le of runs = tested_word (call g es) d p q w past is m vs b le of runs
   tested (unary op e) d p q w past is m vs b le of runs = tested_word (unary op e) d p q w past is m vs b le of runs
-  tested (binary op l r) d p q w past is m vs b le of runs =
+  tested (binary op l r) d p q w past (inr is) m vs b le of runs = tested_word (binary op l r) d p q w past is m vs b
+      le of runs
+  tested (binary op l r) d p q w past (inl is) m vs b le of runs =
       let t = is.kind in
       let both = read_both l r t d is.left is.right p q (reads l t d) (reads r t (suc d)) is.reads m vs b le of runs in
       let step = stepped f q x both.memory b is.stands.instr both.ends is.stands.at in

@@ -85,7 +85,7 @@ returns-clause-stands c = record {
               middle = 5;
               value = (
                 record { depth = refl; there = omega arith },
-                record {
+                inl (record {
                   left = 9;
                   right = 1;
                   last = 4;
@@ -107,7 +107,7 @@ returns-clause-stands c = record {
                   };
                   stands = record { instr = AddInt 9 1 9; is = refl; at = refl };
                   next = refl;
-                },
+                }),
               );
               at = 0;
               shift = negsuc 0;

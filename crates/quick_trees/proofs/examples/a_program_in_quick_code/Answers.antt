@@ -1,3 +1,4 @@
+use Rattle.std.proofs.Common.{inl}
 use Rattle.std.proofs.Common.{◌≡◌, ℕ, zero, suc, pos, [], ◌∷◌, Some, refl, subst, arith, inr, ◌+◌}
 use Rattle.std.specs.Prelude.{slice_get}
 use Rattle.st_words.specs.declared.kind.Kind.{Kind}
@@ -60,7 +61,7 @@ returns-clause-stands c = record {
         test = 1;
         way = way 7 0;
         past = 1;
-        tested = record {
+        tested = inl (record {
           kind = Int;
           left = 0;
           right = 2;
@@ -73,7 +74,7 @@ returns-clause-stands c = record {
             );
           };
           stands = record { instr = WhenAtMost 2 0 (way 7 0) 1; is = refl; at = refl };
-        };
+        });
         over = refl;
         ahead = refl;
         end = 6;
@@ -88,13 +89,13 @@ returns-clause-stands c = record {
               test = 2;
               way = way 5 1;
               past = 1;
-              tested = record {
+              tested = inl (record {
                 kind = Int;
                 left = 0;
                 right = 1;
                 reads = record { middle = 2; first = (refl, refl, refl); second = (refl, refl, refl) };
                 stands = record { instr = WhenAtMost 1 0 (way 5 1) 1; is = refl; at = refl };
-              };
+              });
               end = 4;
               left = 0;
               body = record {
@@ -106,14 +107,14 @@ returns-clause-stands c = record {
                   rest = record {
                     kind = Int;
                     target = refl;
-                    assigned = record {
+                    assigned = inl (record {
                       left = 0;
                       right = 1;
                       last = 3;
                       reads = record { middle = 3; first = (refl, refl, refl); second = (refl, refl, refl) };
                       stands = record { instr = AddInt 0 1 0; is = refl; at = refl };
                       next = refl;
-                    };
+                    });
                     ahead = refl;
                   };
                 };
@@ -129,7 +130,7 @@ returns-clause-stands c = record {
                   rest = record {
                     kind = Int;
                     target = refl;
-                    assigned = record {
+                    assigned = inl (record {
                       left = 0;
                       right = 3;
                       last = 5;
@@ -150,7 +151,7 @@ returns-clause-stands c = record {
                       };
                       stands = record { instr = AddInt 0 3 0; is = refl; at = refl };
                       next = refl;
-                    };
+                    });
                     ahead = refl;
                   };
                 };
