@@ -41,7 +41,7 @@ use Rattle.std.proofs.lemmas.Int.{quot-rem, rem_below}
 use Rattle.st_types.specs.Operators.{remainder}
 use Rattle.quick_code.specs.declared.quick_instr.QuickInstr.TheVariants as quick
 use Rattle.quick_code.specs.Words.{word_of_truth}
-use Rattle.quick_trees.specs.Standing.{truth_for}
+use Rattle.quick_trees.specs.Standing.{branch_unless_by, instr_by, truth_for}
 use Rattle.quick_trees.proofs.Bits.{and_is, bits_of, or_is, xor_is}
 use Rattle.quick_code.specs.QuickRuns.{Left}
 use Rattle.quick_code.specs.QuickSteps.{Memory, act, look, put, with_word}
@@ -306,37 +306,32 @@ module _ (f : Frame) (p : ℕ) (e : Left) (m : Memory) (b : ℕ) where
         ends = done.ends;
       }
 
-  of_type : (o : BinaryOperator) (n : Operation) (t : Kind) (l r to : ℕ) (a d c i : QuickInstr)
+  of_type : (o : BinaryOperator) (n : Operation) (t : Kind) (x y : ℤ) (to : ℕ) (a d c i : QuickInstr)
       → operation_of o ≡ Some n → by_kind t a d c ≡ Some i
-      → ((s : Signed) → act f.ways f.now (chosen s a d c) m b ≡ put to (made n s (look m l) (look m r)) m b)
-      → IsHeld (datum_at t (look m l)) → IsHeld (datum_at t (look m r)) → Follows f p e (act f.ways f.now i m b)
-      → HasComputed o t (look m l) (look m r) to
-  of_type o n t l r to a d c i of is does g h runs =
+      → ((s : Signed) → act f.ways f.now (chosen s a d c) m b ≡ put to (made n s x y) m b)
+      → IsHeld (datum_at t x) → IsHeld (datum_at t y) → Follows f p e (act f.ways f.now i m b)
+      → HasComputed o t x y to
+  of_type o n t x y to a d c i of is does g h runs =
       let which = signed_of t a d c i is in
       let s = which.type in
-      let x = look m l in
-      let y = look m r in
       subst (λ k. HasComputed o k x y to) (sym which.kind)
       (of_signed o n s x y to of (subst (λ k. IsHeld (datum_at k x)) which.kind g)
       (subst (λ k. IsHeld (datum_at k y)) which.kind h)
       (subst (Follows f p e) (does s) (subst (λ i. Follows f p e (act f.ways f.now i m b)) which.instr runs)))
 
   -- a remainder, which is computed in 64 bits
-  of_remainder : (t : Kind) (l r to : ℕ) (i : QuickInstr)
-      → by_kind t (quick.Modulo l r to) (quick.Modulo l r to) (quick.Modulo l r to) ≡ Some i
-      → IsHeld (datum_at t (look m l)) → IsHeld (datum_at t (look m r)) → Follows f p e (act f.ways f.now i m b)
-      → HasComputed Modulo t (look m l) (look m r) to
-  of_remainder t l r to i is g h runs =
-      let a = quick.Modulo l r to in
+  of_remainder : (t : Kind) (x y : ℤ) (to : ℕ) (a i : QuickInstr) → by_kind t a a a ≡ Some i
+      → act f.ways f.now a m b ≡ put to (made op.Modulo signed.Lint x y) m b → IsHeld (datum_at t x)
+      → IsHeld (datum_at t y) → Follows f p e (act f.ways f.now i m b) → HasComputed Modulo t x y to
+  of_remainder t x y to a i is does g h runs =
       let which = signed_of t a a a i is in
       let s = which.type in
       let k = kind_of s in
-      let x = look m l in
-      let y = look m r in
       let hx = word_held s x (subst (λ k. IsHeld (datum_at k x)) which.kind g) in
       let hy = word_held s y (subst (λ k. IsHeld (datum_at k y)) which.kind h) in
       let done = has_put f p e to (made op.Modulo signed.Lint x y) m b
-      (subst (λ i. Follows f p e (act f.ways f.now i m b)) (which.instr ∙ chosen_same s a) runs) in
+      (subst (Follows f p e) does
+      (subst (λ i. Follows f p e (act f.ways f.now i m b)) (which.instr ∙ chosen_same s a) runs)) in
       let result = made_is Modulo op.Modulo s x y done.word refl hx hy (remainder_typed s x y done.word hy done.is) in
       let own = subst (λ z. IsResult (applied Modulo k z (number_at k y)) k done.word) (sym (number_is s x))
       (subst (λ z. IsResult (applied Modulo k x z) k done.word) (sym (number_is s y)) result) in
@@ -382,7 +377,7 @@ module _ (f : Frame) (p : ℕ) (e : Left) (m : Memory) (b : ℕ) where
   has_computed LessOrEqual t l r to i is g h runs = absurd cc
   has_computed GreaterOrEqual t l r to i is g h runs = absurd cc
   has_computed Add t l r to i is g h runs =
-      of_type Add op.Add t l r to (AddInt l r to) (AddDint l r to) (AddLint l r to) i refl is
+      of_type Add op.Add t (look m l) (look m r) to (AddInt l r to) (AddDint l r to) (AddLint l r to) i refl is
       (λ s. elim s as (λ s. act f.ways f.now (chosen s (AddInt l r to) (AddDint l r to) (AddLint l r to)) m b
       ≡ put to (made op.Add s (look m l) (look m r)) m b) [
         | signed.Int ↦ refl
@@ -391,7 +386,8 @@ module _ (f : Frame) (p : ℕ) (e : Left) (m : Memory) (b : ℕ) where
       ])
       g h runs
   has_computed Subtract t l r to i is g h runs =
-      of_type Subtract op.Subtract t l r to (SubtractInt l r to) (SubtractDint l r to) (SubtractLint l r to) i refl is
+      of_type Subtract op.Subtract t (look m l) (look m r) to (SubtractInt l r to) (SubtractDint l r to) (SubtractLint
+      l r to) i refl is
       (λ s. elim s as (λ s. act f.ways f.now (chosen s (SubtractInt l r to) (SubtractDint l r to) (SubtractLint l r
       to)) m b
       ≡ put to (made op.Subtract s (look m l) (look m r)) m b) [
@@ -402,7 +398,8 @@ module _ (f : Frame) (p : ℕ) (e : Left) (m : Memory) (b : ℕ) where
       ])
       g h runs
   has_computed Multiply t l r to i is g h runs =
-      of_type Multiply op.Multiply t l r to (MultiplyInt l r to) (MultiplyDint l r to) (MultiplyLint l r to) i refl is
+      of_type Multiply op.Multiply t (look m l) (look m r) to (MultiplyInt l r to) (MultiplyDint l r to) (MultiplyLint
+      l r to) i refl is
       (λ s. elim s as (λ s. act f.ways f.now (chosen s (MultiplyInt l r to) (MultiplyDint l r to) (MultiplyLint l r
       to)) m b
       ≡ put to (made op.Multiply s (look m l) (look m r)) m b) [
@@ -413,7 +410,8 @@ module _ (f : Frame) (p : ℕ) (e : Left) (m : Memory) (b : ℕ) where
       ])
       g h runs
   has_computed Divide t l r to i is g h runs =
-      of_type Divide op.Divide t l r to (DivideInt l r to) (DivideDint l r to) (DivideLint l r to) i refl is
+      of_type Divide op.Divide t (look m l) (look m r) to (DivideInt l r to) (DivideDint l r to) (DivideLint l r to) i
+      refl is
       (λ s. elim s as (λ s. act f.ways f.now (chosen s (DivideInt l r to) (DivideDint l r to) (DivideLint l r to)) m b
       ≡ put to (made op.Divide s (look m l) (look m r)) m b) [
         | signed.Int ↦ refl
@@ -422,7 +420,41 @@ module _ (f : Frame) (p : ℕ) (e : Left) (m : Memory) (b : ℕ) where
             refl
       ])
       g h runs
-  has_computed Modulo t l r to i is g h runs = of_remainder t l r to i is g h runs
+  has_computed Modulo t l r to i is g h runs =
+      of_remainder t (look m l) (look m r) to (quick.Modulo l r to) i is refl g h runs
+
+  pub has_computed_by : (o : BinaryOperator) (t : Kind) (l : ℕ) (n : ℤ) (to : ℕ) (i : QuickInstr)
+      → instr_by o t l n to ≡ Some i → IsHeld (datum_at t (look m l)) → IsHeld (datum_at t n)
+      → Follows f p e (act f.ways f.now i m b) → HasComputed o t (look m l) n to
+  has_computed_by Or t l n to i is g h runs = absurd cc
+  has_computed_by Xor t l n to i is g h runs =
+      let bits = bits_of t (quick.XorBy l n to) i is in
+      let x = look m l in
+      of_operator Xor t x n (int_bit_xor w64 x n) to (xor_is bits.bits t x n bits.are g h)
+      (subst (λ i. Follows f p e (act f.ways f.now i m b)) bits.instr runs)
+  has_computed_by And t l n to i is g h runs =
+      let bits = bits_of t (quick.AndBy l n to) i is in
+      let x = look m l in
+      of_operator And t x n (int_bit_and w64 x n) to (and_is bits.bits t x n bits.are g h)
+      (subst (λ i. Follows f p e (act f.ways f.now i m b)) bits.instr runs)
+  has_computed_by Equal t l n to i is g h runs = absurd cc
+  has_computed_by NotEqual t l n to i is g h runs = absurd cc
+  has_computed_by Less t l n to i is g h runs = absurd cc
+  has_computed_by Greater t l n to i is g h runs = absurd cc
+  has_computed_by LessOrEqual t l n to i is g h runs = absurd cc
+  has_computed_by GreaterOrEqual t l n to i is g h runs = absurd cc
+  has_computed_by Add t l n to i is g h runs =
+      of_type Add op.Add t (look m l) n to (quick.AddIntBy l n to) (quick.AddDintBy l n to) (quick.AddLintBy l n to) i
+      refl is
+      (λ s. elim s as (λ s. act f.ways f.now
+      (chosen s (quick.AddIntBy l n to) (quick.AddDintBy l n to) (quick.AddLintBy l n to)) m b
+      ≡ put to (made op.Add s (look m l) n) m b) [ signed.Int ↦ refl | signed.Dint ↦ refl | signed.Lint ↦ refl ])
+      g h runs
+  has_computed_by Subtract t l n to i is g h runs = absurd cc
+  has_computed_by Multiply t l n to i is g h runs = absurd cc
+  has_computed_by Divide t l n to i is g h runs = absurd cc
+  has_computed_by Modulo t l n to i is g h runs =
+      of_remainder t (look m l) n to (quick.ModuloBy l n to) i is refl g h runs
 
 less_shifted : (x y s : ℤ) → int_lt (x +ℤ s) (y +ℤ s) ≡ int_lt x y
 less_shifted x y s = grind (arith, ints)
@@ -506,6 +538,53 @@ module _ (f : Frame) (q : ℕ) (e : Left) (m : Memory) (b : ℕ) where
   has_compared Multiply t l r w past i is runs = absurd cc
   has_compared Divide t l r w past i is runs = absurd cc
   has_compared Modulo t l r w past i is runs = absurd cc
+
+  pub has_compared_to : (o : BinaryOperator) (t : Kind) (l : ℕ) (n : ℤ) (w : Way) (past : ℕ) (i : QuickInstr)
+      → branch_unless_by o l n w past ≡ Some i → Follows f q e (act f.ways f.now i m b)
+      → HasCompared o t (look m l) n w past
+  has_compared_to Or t l n w past i is runs = absurd cc
+  has_compared_to Xor t l n w past i is runs = absurd cc
+  has_compared_to And t l n w past i is runs = absurd cc
+  has_compared_to Equal t l n w past i is runs =
+      by_branch Equal t (look m l) n w past (int_eq (look m l) n)
+      (ap (λ u. Ok (datum_of_truth u)) (equal_shifted (look m l) n (shift_of t))) (not (int_eq (look m l) n)) (refl)
+      (has_branched f q e (not (int_eq (look m l) n)) w past m b
+      (subst (λ i. Follows f q e (act f.ways f.now i m b)) (some_is is) runs))
+  has_compared_to NotEqual t l n w past i is runs =
+      by_branch NotEqual t (look m l) n w past (not (int_eq (look m l) n))
+      (ap (λ u. Ok (datum_of_truth u)) (ap not (equal_shifted (look m l) n (shift_of t)))) (int_eq (look m l) n)
+      (not_not (int_eq (look m l) n))
+      (has_branched f q e (int_eq (look m l) n) w past m b
+      (subst (λ i. Follows f q e (act f.ways f.now i m b)) (some_is is) runs))
+  has_compared_to Less t l n w past i is runs =
+      by_branch Less t (look m l) n w past (int_lt (look m l) n)
+      (ap (λ u. Ok (datum_of_truth u)) (less_shifted (look m l) n (shift_of t))) (int_le n (look m l)) (not_less (look
+      m l) n)
+      (has_branched f q e (int_le n (look m l)) w past m b
+      (subst (λ i. Follows f q e (act f.ways f.now i m b)) (some_is is) runs))
+  has_compared_to Greater t l n w past i is runs =
+      by_branch Greater t (look m l) n w past (int_lt n (look m l))
+      (ap (λ u. Ok (datum_of_truth u)) (less_shifted n (look m l) (shift_of t))) (int_le (look m l) n) (not_less n
+      (look m l))
+      (has_branched f q e (int_le (look m l) n) w past m b
+      (subst (λ i. Follows f q e (act f.ways f.now i m b)) (some_is is) runs))
+  has_compared_to LessOrEqual t l n w past i is runs =
+      by_branch LessOrEqual t (look m l) n w past (int_le (look m l) n)
+      (ap (λ u. Ok (datum_of_truth u)) (at_most_shifted (look m l) n (shift_of t))) (int_lt n (look m l)) (not_at_most
+      (look m l) n)
+      (has_branched f q e (int_lt n (look m l)) w past m b
+      (subst (λ i. Follows f q e (act f.ways f.now i m b)) (some_is is) runs))
+  has_compared_to GreaterOrEqual t l n w past i is runs =
+      by_branch GreaterOrEqual t (look m l) n w past (int_le n (look m l))
+      (ap (λ u. Ok (datum_of_truth u)) (at_most_shifted n (look m l) (shift_of t))) (int_lt (look m l) n) (not_at_most
+      n (look m l))
+      (has_branched f q e (int_lt (look m l) n) w past m b
+      (subst (λ i. Follows f q e (act f.ways f.now i m b)) (some_is is) runs))
+  has_compared_to Add t l n w past i is runs = absurd cc
+  has_compared_to Subtract t l n w past i is runs = absurd cc
+  has_compared_to Multiply t l n w past i is runs = absurd cc
+  has_compared_to Divide t l n w past i is runs = absurd cc
+  has_compared_to Modulo t l n w past i is runs = absurd cc
 
   -- The truth of a comparison was assigned.
   pub record HasTruth (o : BinaryOperator) (t : Kind) (x y : ℤ) (to : ℕ) : Type 0 where

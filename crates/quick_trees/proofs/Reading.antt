@@ -27,8 +27,8 @@ use Rattle.st_layouts.specs.Shapes.{distance, in_bounds}
 use Rattle.st_words.specs.declared.fault.Fault.TheVariants.{Index}
 use Rattle.slot_trees.specs.SlotEvaluation.{led, slot_at, SlotScope, loaded, slot_truth, slot_value}
 use Rattle.quick_code.specs.Words.{word_of_truth}
-use Rattle.quick_trees.specs.Standing.{IsTruth}
-use Rattle.quick_trees.proofs.Operators.{has_truth}
+use Rattle.quick_trees.specs.Standing.{IsComputedBy, IsNumber, IsTruth}
+use Rattle.quick_trees.proofs.Operators.{has_compared_to, has_computed_by, has_truth}
 use Rattle.quick_trees.specs.QuickMemory.{Ends, Frame, IsHeldAt, IsMemory, first_temporary}
 use Rattle.quick_trees.specs.Standing.{AreRead, IsAssigned, IsComputed, IsMoved, IsRead}
 use Rattle.quick_trees.specs.Standing.{IsFetched, IsTemporary}
@@ -179,17 +179,55 @@ module _ (f : Frame) (z : SlotScope) (x : Left) where
         ends = subst (λ q. Ends f q (with_word both.memory to (word_of_truth done.go)) b x) (sym is.next) done.ends;
       })
 
+  -- a constant has its value
+  number_gives : (r : SlotExpr) (t : Kind) (w : ℤ) (vs : List Datum) (c : ℕ) → IsNumber r t w
+      → slot_value z vs r c ≡ Ok (datum_at t w, c)
+  number_gives (constant l) t w vs c is = ap (λ r. attempt z.stand_ins r c) is.0
+  number_gives (load l) t w vs c is = absurd is
+  number_gives (compute g es) t w vs c is = absurd is
+  number_gives (call g es) t w vs c is = absurd is
+  number_gives (unary op e) t w vs c is = absurd is
+  number_gives (binary op x y) t w vs c is = absurd is
+
+  number_held : (r : SlotExpr) (t : Kind) (w : ℤ) → IsNumber r t w → IsHeld (datum_at t w)
+  number_held (constant l) t w is = is.1
+  number_held (load l) t w is = absurd is
+  number_held (compute g es) t w is = absurd is
+  number_held (call g es) t w is = absurd is
+  number_held (unary op e) t w is = absurd is
+  number_held (binary op x y) t w is = absurd is
+
+  computed_by : (op : BinaryOperator) (l r : SlotExpr) (t : Kind) (d to p q : ℕ) → Reads l t d
+      → IsComputedBy f (IsRead f z.base l t d) op t r to p q → (m : Memory) (vs : List Datum) (b : ℕ)
+      → first_temporary f ≤ d → IsMemory f m vs → Ends f p m b x → HasMade (binary op l r) t d to q m vs b
+  computed_by op l r t d to p q reads_l is m vs b le of runs =
+      let one = reads_l is.left p is.last is.reads m vs b le of runs in
+      let step = stepped f is.last x one.memory b is.stands.instr one.ends is.stands.at in
+      let done = has_computed_by f is.last x one.memory b op t is.left is.word to is.stands.instr is.stands.is one.held
+      (number_held r t is.word is.number) step in record {
+        memory = one.memory;
+        keeps = one.keeps;
+        word = done.word;
+        value = λ c. applied_to op l r t (look one.memory is.left) is.word vs c (datum_at t done.word) (one.value c)
+            (number_gives r t is.word vs c is.number) done.result.value;
+        held = done.result.held;
+        ends = subst (λ q. Ends f q (with_word one.memory to done.word) b x) (sym is.next) done.ends;
+      }
+
   -- what an operator makes, computed or compared
   binary_by : (op : BinaryOperator) (l r : SlotExpr) (t : Kind) (d to p q : ℕ) → ((u : Kind) → Reads l u d)
       → ((u : Kind) → Reads r u (suc d))
       → IsComputed f (IsRead f z.base l t d) (IsRead f z.base r t (suc d)) op t to p q
-      ⊎ IsTruth f (λ u. IsRead f z.base l u d) (λ u. IsRead f z.base r u (suc d)) op t to p q
+      ⊎ (IsTruth f (λ u. IsRead f z.base l u d) (λ u. IsRead f z.base r u (suc d)) op t to p q
+      ⊎ IsComputedBy f (IsRead f z.base l t d) op t r to p q)
       → (m : Memory) (vs : List Datum) (b : ℕ) → first_temporary f ≤ d → IsMemory f m vs → Ends f p m b x
       → HasMade (binary op l r) t d to q m vs b
   binary_by op l r t d to p q reads_l reads_r (inl is) m vs b le of runs =
       made_by op l r t d to p q (reads_l t) (reads_r t) is m vs b le of runs
-  binary_by op l r t d to p q reads_l reads_r (inr is) m vs b le of runs =
+  binary_by op l r t d to p q reads_l reads_r (inr (inl is)) m vs b le of runs =
       truth_by op l r t d to p q reads_l reads_r is m vs b le of runs
+  binary_by op l r t d to p q reads_l reads_r (inr (inr is)) m vs b le of runs =
+      computed_by op l r t d to p q (reads_l t) is m vs b le of runs
 
   read_constant : (l : Literal) (t : Kind) (d : ℕ) → Reads (constant l) t d
   read_constant l t d k p q is m vs b le of runs =
@@ -402,8 +440,23 @@ module _ (f : Frame) (z : SlotScope) (x : Left) where
   tested (compute g es) d p q w past is m vs b le of runs = tested_word (compute g es) d p q w past is m vs b le of runs
   tested (call g es) d p q w past is m vs b le of runs = tested_word (call g es) d p q w past is m vs b le of runs
   tested (unary op e) d p q w past is m vs b le of runs = tested_word (unary op e) d p q w past is m vs b le of runs
-  tested (binary op l r) d p q w past (inr is) m vs b le of runs = tested_word (binary op l r) d p q w past is m vs b
-      le of runs
+  tested (binary op l r) d p q w past (inr (inr is)) m vs b le of runs =
+      tested_word (binary op l r) d p q w past is m vs b le of runs
+  tested (binary op l r) d p q w past (inr (inl is)) m vs b le of runs =
+      let t = is.kind in
+      let one = reads l t d is.left p q is.reads m vs b le of runs in
+      let step = stepped f q x one.memory b is.stands.instr one.ends is.stands.at in
+      let done = has_compared_to f q x one.memory b op t is.left is.word w past is.stands.instr is.stands.is step in
+      record {
+        memory = one.memory;
+        keeps = one.keeps;
+        is = still_memory f m vs of d one.memory le one.keeps;
+        go = done.go;
+        truth = λ c. truth_is (binary op l r) vs (datum_of_truth done.go) done.go c
+            (applied_to op l r t (look one.memory is.left) is.word vs c (datum_of_truth done.go) (one.value c)
+            (number_gives r t is.word vs c is.number) done.is) (truth_of_truth done.go);
+        ends = done.ends;
+      }
   tested (binary op l r) d p q w past (inl is) m vs b le of runs =
       let t = is.kind in
       let both = read_both l r t d is.left is.right p q (reads l t d) (reads r t (suc d)) is.reads m vs b le of runs in
