@@ -5,6 +5,7 @@ pub mod Operators
 pub mod Elements
 pub mod Reading
 pub mod Running
+pub mod Turning
 pub mod Counting
 pub mod Statements
 pub mod Programs

@@ -41,7 +41,8 @@ use Rattle.std.proofs.lemmas.Int.{quot-rem, rem_below}
 use Rattle.st_types.specs.Operators.{remainder}
 use Rattle.quick_code.specs.declared.quick_instr.QuickInstr.TheVariants as quick
 use Rattle.quick_code.specs.Words.{word_of_truth}
-use Rattle.quick_trees.specs.Standing.{branch_unless_by, instr_by, truth_for}
+use Rattle.quick_trees.specs.Standing.{branch_for, branch_for_by, branch_unless_by, branch_when, branch_when_by}
+use Rattle.quick_trees.specs.Standing.{instr_by, truth_for}
 use Rattle.quick_trees.proofs.Bits.{and_is, bits_of, or_is, xor_is}
 use Rattle.quick_code.specs.QuickRuns.{Left}
 use Rattle.quick_code.specs.QuickSteps.{Memory, act, look, put, with_word}
@@ -468,6 +469,11 @@ equal_shifted x y s =
     (Decides-like (int_eq x y) (ap (λ z. z +ℤ s))
     (λ e. sym (+ℤ-neg_ℤ_cancel x s) ∙ ap (λ z. z -ℤ s) e ∙ +ℤ-neg_ℤ_cancel y s) (Decides-int_eq x y))
 
+-- whether a branch is taken that is taken when a condition holds, or unless it does
+abbrev pub turn_for : Bool → Bool → Bool
+turn_for true go = go
+turn_for false go = not go
+
 not_less : (x y : ℤ) → not (int_lt x y) ≡ int_le y x
 not_less x y = grind (arith, ints)
 
@@ -479,112 +485,220 @@ not_not true = refl
 not_not false = refl
 
 module _ (f : Frame) (q : ℕ) (e : Left) (m : Memory) (b : ℕ) where
-  -- A comparison was tested; unless it holds, the run went by the way.
-  pub record HasCompared (o : BinaryOperator) (t : Kind) (x y : ℤ) (w : Way) (past : ℕ) : Type 0 where
+  -- A comparison was tested, and the run went by the way when it holds, or unless it does.
+  pub record HasCompared (o : BinaryOperator) (t : Kind) (x y : ℤ) (when : Bool) (w : Way) (past : ℕ) : Type 0 where
     pub go : Bool
     pub is : applied o t (number_at t x) (number_at t y) ≡ Ok (datum_of_truth go)
-    pub ends : HasBranched f q e (not go) w past m b
+    pub ends : HasBranched f q e (turn_for when go) w past m b
 
   by_branch : (o : BinaryOperator) (t : Kind) (x y : ℤ) (w : Way) (past : ℕ) (go : Bool)
       → applied o t (number_at t x) (number_at t y) ≡ Ok (datum_of_truth go) → (turn : Bool) → not go ≡ turn
-      → HasBranched f q e turn w past m b → HasCompared o t x y w past
+      → HasBranched f q e turn w past m b → HasCompared o t x y false w past
   by_branch o t x y w past go is turn same h =
       record { go = go; is = is; ends = subst (λ u. HasBranched f q e u w past m b) (sym same) h }
 
-  pub has_compared : (o : BinaryOperator) (t : Kind) (l r : ℕ) (w : Way) (past : ℕ) (i : QuickInstr)
+  compared_unless : (o : BinaryOperator) (t : Kind) (l r : ℕ) (w : Way) (past : ℕ) (i : QuickInstr)
       → branch_unless o l r w past ≡ Some i → Follows f q e (act f.ways f.now i m b)
-      → HasCompared o t (look m l) (look m r) w past
-  has_compared Or t l r w past i is runs = absurd cc
-  has_compared Xor t l r w past i is runs = absurd cc
-  has_compared And t l r w past i is runs = absurd cc
-  has_compared Equal t l r w past i is runs =
+      → HasCompared o t (look m l) (look m r) false w past
+  compared_unless Or t l r w past i is runs = absurd cc
+  compared_unless Xor t l r w past i is runs = absurd cc
+  compared_unless And t l r w past i is runs = absurd cc
+  compared_unless Equal t l r w past i is runs =
       by_branch Equal t (look m l) (look m r) w past (int_eq (look m l) (look m r))
       (ap (λ u. Ok (datum_of_truth u)) (equal_shifted (look m l) (look m r) (shift_of t))) (not (int_eq (look m l)
       (look m r))) (refl)
       (has_branched f q e (not (int_eq (look m l) (look m r))) w past m b
       (subst (λ i. Follows f q e (act f.ways f.now i m b)) (some_is is) runs))
-  has_compared NotEqual t l r w past i is runs =
+  compared_unless NotEqual t l r w past i is runs =
       by_branch NotEqual t (look m l) (look m r) w past (not (int_eq (look m l) (look m r)))
       (ap (λ u. Ok (datum_of_truth u)) (ap not (equal_shifted (look m l) (look m r) (shift_of t)))) (int_eq (look m l)
       (look m r)) (not_not (int_eq (look m l) (look m r)))
       (has_branched f q e (int_eq (look m l) (look m r)) w past m b
       (subst (λ i. Follows f q e (act f.ways f.now i m b)) (some_is is) runs))
-  has_compared Less t l r w past i is runs =
+  compared_unless Less t l r w past i is runs =
       by_branch Less t (look m l) (look m r) w past (int_lt (look m l) (look m r))
       (ap (λ u. Ok (datum_of_truth u)) (less_shifted (look m l) (look m r) (shift_of t))) (int_le (look m r) (look m
       l)) (not_less (look m l) (look m r))
       (has_branched f q e (int_le (look m r) (look m l)) w past m b
       (subst (λ i. Follows f q e (act f.ways f.now i m b)) (some_is is) runs))
-  has_compared Greater t l r w past i is runs =
+  compared_unless Greater t l r w past i is runs =
       by_branch Greater t (look m l) (look m r) w past (int_lt (look m r) (look m l))
       (ap (λ u. Ok (datum_of_truth u)) (less_shifted (look m r) (look m l) (shift_of t))) (int_le (look m l) (look m
       r)) (not_less (look m r) (look m l))
       (has_branched f q e (int_le (look m l) (look m r)) w past m b
       (subst (λ i. Follows f q e (act f.ways f.now i m b)) (some_is is) runs))
-  has_compared LessOrEqual t l r w past i is runs =
+  compared_unless LessOrEqual t l r w past i is runs =
       by_branch LessOrEqual t (look m l) (look m r) w past (int_le (look m l) (look m r))
       (ap (λ u. Ok (datum_of_truth u)) (at_most_shifted (look m l) (look m r) (shift_of t))) (int_lt (look m r) (look m
       l)) (not_at_most (look m l) (look m r))
       (has_branched f q e (int_lt (look m r) (look m l)) w past m b
       (subst (λ i. Follows f q e (act f.ways f.now i m b)) (some_is is) runs))
-  has_compared GreaterOrEqual t l r w past i is runs =
+  compared_unless GreaterOrEqual t l r w past i is runs =
       by_branch GreaterOrEqual t (look m l) (look m r) w past (int_le (look m r) (look m l))
       (ap (λ u. Ok (datum_of_truth u)) (at_most_shifted (look m r) (look m l) (shift_of t))) (int_lt (look m l) (look m
       r)) (not_at_most (look m r) (look m l))
       (has_branched f q e (int_lt (look m l) (look m r)) w past m b
       (subst (λ i. Follows f q e (act f.ways f.now i m b)) (some_is is) runs))
-  has_compared Add t l r w past i is runs = absurd cc
-  has_compared Subtract t l r w past i is runs = absurd cc
-  has_compared Multiply t l r w past i is runs = absurd cc
-  has_compared Divide t l r w past i is runs = absurd cc
-  has_compared Modulo t l r w past i is runs = absurd cc
+  compared_unless Add t l r w past i is runs = absurd cc
+  compared_unless Subtract t l r w past i is runs = absurd cc
+  compared_unless Multiply t l r w past i is runs = absurd cc
+  compared_unless Divide t l r w past i is runs = absurd cc
+  compared_unless Modulo t l r w past i is runs = absurd cc
 
-  pub has_compared_to : (o : BinaryOperator) (t : Kind) (l : ℕ) (n : ℤ) (w : Way) (past : ℕ) (i : QuickInstr)
+  compared_unless_to : (o : BinaryOperator) (t : Kind) (l : ℕ) (n : ℤ) (w : Way) (past : ℕ) (i : QuickInstr)
       → branch_unless_by o l n w past ≡ Some i → Follows f q e (act f.ways f.now i m b)
-      → HasCompared o t (look m l) n w past
-  has_compared_to Or t l n w past i is runs = absurd cc
-  has_compared_to Xor t l n w past i is runs = absurd cc
-  has_compared_to And t l n w past i is runs = absurd cc
-  has_compared_to Equal t l n w past i is runs =
+      → HasCompared o t (look m l) n false w past
+  compared_unless_to Or t l n w past i is runs = absurd cc
+  compared_unless_to Xor t l n w past i is runs = absurd cc
+  compared_unless_to And t l n w past i is runs = absurd cc
+  compared_unless_to Equal t l n w past i is runs =
       by_branch Equal t (look m l) n w past (int_eq (look m l) n)
       (ap (λ u. Ok (datum_of_truth u)) (equal_shifted (look m l) n (shift_of t))) (not (int_eq (look m l) n)) (refl)
       (has_branched f q e (not (int_eq (look m l) n)) w past m b
       (subst (λ i. Follows f q e (act f.ways f.now i m b)) (some_is is) runs))
-  has_compared_to NotEqual t l n w past i is runs =
+  compared_unless_to NotEqual t l n w past i is runs =
       by_branch NotEqual t (look m l) n w past (not (int_eq (look m l) n))
       (ap (λ u. Ok (datum_of_truth u)) (ap not (equal_shifted (look m l) n (shift_of t)))) (int_eq (look m l) n)
       (not_not (int_eq (look m l) n))
       (has_branched f q e (int_eq (look m l) n) w past m b
       (subst (λ i. Follows f q e (act f.ways f.now i m b)) (some_is is) runs))
-  has_compared_to Less t l n w past i is runs =
+  compared_unless_to Less t l n w past i is runs =
       by_branch Less t (look m l) n w past (int_lt (look m l) n)
       (ap (λ u. Ok (datum_of_truth u)) (less_shifted (look m l) n (shift_of t))) (int_le n (look m l)) (not_less (look
       m l) n)
       (has_branched f q e (int_le n (look m l)) w past m b
       (subst (λ i. Follows f q e (act f.ways f.now i m b)) (some_is is) runs))
-  has_compared_to Greater t l n w past i is runs =
+  compared_unless_to Greater t l n w past i is runs =
       by_branch Greater t (look m l) n w past (int_lt n (look m l))
       (ap (λ u. Ok (datum_of_truth u)) (less_shifted n (look m l) (shift_of t))) (int_le (look m l) n) (not_less n
       (look m l))
       (has_branched f q e (int_le (look m l) n) w past m b
       (subst (λ i. Follows f q e (act f.ways f.now i m b)) (some_is is) runs))
-  has_compared_to LessOrEqual t l n w past i is runs =
+  compared_unless_to LessOrEqual t l n w past i is runs =
       by_branch LessOrEqual t (look m l) n w past (int_le (look m l) n)
       (ap (λ u. Ok (datum_of_truth u)) (at_most_shifted (look m l) n (shift_of t))) (int_lt n (look m l)) (not_at_most
       (look m l) n)
       (has_branched f q e (int_lt n (look m l)) w past m b
       (subst (λ i. Follows f q e (act f.ways f.now i m b)) (some_is is) runs))
-  has_compared_to GreaterOrEqual t l n w past i is runs =
+  compared_unless_to GreaterOrEqual t l n w past i is runs =
       by_branch GreaterOrEqual t (look m l) n w past (int_le n (look m l))
       (ap (λ u. Ok (datum_of_truth u)) (at_most_shifted n (look m l) (shift_of t))) (int_lt (look m l) n) (not_at_most
       n (look m l))
       (has_branched f q e (int_lt (look m l) n) w past m b
       (subst (λ i. Follows f q e (act f.ways f.now i m b)) (some_is is) runs))
-  has_compared_to Add t l n w past i is runs = absurd cc
-  has_compared_to Subtract t l n w past i is runs = absurd cc
-  has_compared_to Multiply t l n w past i is runs = absurd cc
-  has_compared_to Divide t l n w past i is runs = absurd cc
-  has_compared_to Modulo t l n w past i is runs = absurd cc
+  compared_unless_to Add t l n w past i is runs = absurd cc
+  compared_unless_to Subtract t l n w past i is runs = absurd cc
+  compared_unless_to Multiply t l n w past i is runs = absurd cc
+  compared_unless_to Divide t l n w past i is runs = absurd cc
+  compared_unless_to Modulo t l n w past i is runs = absurd cc
+
+  compared_when : (o : BinaryOperator) (t : Kind) (l r : ℕ) (w : Way) (past : ℕ) (i : QuickInstr)
+      → branch_when o l r w past ≡ Some i → Follows f q e (act f.ways f.now i m b)
+      → HasCompared o t (look m l) (look m r) true w past
+  compared_when Or t l r w past i is runs = absurd cc
+  compared_when Xor t l r w past i is runs = absurd cc
+  compared_when And t l r w past i is runs = absurd cc
+  compared_when Equal t l r w past i is runs = record {
+    go = int_eq (look m l) (look m r);
+    is = ap (λ u. Ok (datum_of_truth u)) (equal_shifted (look m l) (look m r) (shift_of t));
+    ends = has_branched f q e (int_eq (look m l) (look m r)) w past m b
+        (subst (λ i. Follows f q e (act f.ways f.now i m b)) (some_is is) runs);
+  }
+  compared_when NotEqual t l r w past i is runs = record {
+    go = not (int_eq (look m l) (look m r));
+    is = ap (λ u. Ok (datum_of_truth u)) (ap not (equal_shifted (look m l) (look m r) (shift_of t)));
+    ends = has_branched f q e (not (int_eq (look m l) (look m r))) w past m b
+        (subst (λ i. Follows f q e (act f.ways f.now i m b)) (some_is is) runs);
+  }
+  compared_when Less t l r w past i is runs = record {
+    go = int_lt (look m l) (look m r);
+    is = ap (λ u. Ok (datum_of_truth u)) (less_shifted (look m l) (look m r) (shift_of t));
+    ends = has_branched f q e (int_lt (look m l) (look m r)) w past m b
+        (subst (λ i. Follows f q e (act f.ways f.now i m b)) (some_is is) runs);
+  }
+  compared_when Greater t l r w past i is runs = record {
+    go = int_lt (look m r) (look m l);
+    is = ap (λ u. Ok (datum_of_truth u)) (less_shifted (look m r) (look m l) (shift_of t));
+    ends = has_branched f q e (int_lt (look m r) (look m l)) w past m b
+        (subst (λ i. Follows f q e (act f.ways f.now i m b)) (some_is is) runs);
+  }
+  compared_when LessOrEqual t l r w past i is runs = record {
+    go = int_le (look m l) (look m r);
+    is = ap (λ u. Ok (datum_of_truth u)) (at_most_shifted (look m l) (look m r) (shift_of t));
+    ends = has_branched f q e (int_le (look m l) (look m r)) w past m b
+        (subst (λ i. Follows f q e (act f.ways f.now i m b)) (some_is is) runs);
+  }
+  compared_when GreaterOrEqual t l r w past i is runs = record {
+    go = int_le (look m r) (look m l);
+    is = ap (λ u. Ok (datum_of_truth u)) (at_most_shifted (look m r) (look m l) (shift_of t));
+    ends = has_branched f q e (int_le (look m r) (look m l)) w past m b
+        (subst (λ i. Follows f q e (act f.ways f.now i m b)) (some_is is) runs);
+  }
+  compared_when Add t l r w past i is runs = absurd cc
+  compared_when Subtract t l r w past i is runs = absurd cc
+  compared_when Multiply t l r w past i is runs = absurd cc
+  compared_when Divide t l r w past i is runs = absurd cc
+  compared_when Modulo t l r w past i is runs = absurd cc
+
+  compared_when_to : (o : BinaryOperator) (t : Kind) (l : ℕ) (n : ℤ) (w : Way) (past : ℕ) (i : QuickInstr)
+      → branch_when_by o l n w past ≡ Some i → Follows f q e (act f.ways f.now i m b)
+      → HasCompared o t (look m l) n true w past
+  compared_when_to Or t l n w past i is runs = absurd cc
+  compared_when_to Xor t l n w past i is runs = absurd cc
+  compared_when_to And t l n w past i is runs = absurd cc
+  compared_when_to Equal t l n w past i is runs = record {
+    go = int_eq (look m l) n;
+    is = ap (λ u. Ok (datum_of_truth u)) (equal_shifted (look m l) n (shift_of t));
+    ends = has_branched f q e (int_eq (look m l) n) w past m b
+        (subst (λ i. Follows f q e (act f.ways f.now i m b)) (some_is is) runs);
+  }
+  compared_when_to NotEqual t l n w past i is runs = record {
+    go = not (int_eq (look m l) n);
+    is = ap (λ u. Ok (datum_of_truth u)) (ap not (equal_shifted (look m l) n (shift_of t)));
+    ends = has_branched f q e (not (int_eq (look m l) n)) w past m b
+        (subst (λ i. Follows f q e (act f.ways f.now i m b)) (some_is is) runs);
+  }
+  compared_when_to Less t l n w past i is runs = record {
+    go = int_lt (look m l) n;
+    is = ap (λ u. Ok (datum_of_truth u)) (less_shifted (look m l) n (shift_of t));
+    ends = has_branched f q e (int_lt (look m l) n) w past m b
+        (subst (λ i. Follows f q e (act f.ways f.now i m b)) (some_is is) runs);
+  }
+  compared_when_to Greater t l n w past i is runs = record {
+    go = int_lt n (look m l);
+    is = ap (λ u. Ok (datum_of_truth u)) (less_shifted n (look m l) (shift_of t));
+    ends = has_branched f q e (int_lt n (look m l)) w past m b
+        (subst (λ i. Follows f q e (act f.ways f.now i m b)) (some_is is) runs);
+  }
+  compared_when_to LessOrEqual t l n w past i is runs = record {
+    go = int_le (look m l) n;
+    is = ap (λ u. Ok (datum_of_truth u)) (at_most_shifted (look m l) n (shift_of t));
+    ends = has_branched f q e (int_le (look m l) n) w past m b
+        (subst (λ i. Follows f q e (act f.ways f.now i m b)) (some_is is) runs);
+  }
+  compared_when_to GreaterOrEqual t l n w past i is runs = record {
+    go = int_le n (look m l);
+    is = ap (λ u. Ok (datum_of_truth u)) (at_most_shifted n (look m l) (shift_of t));
+    ends = has_branched f q e (int_le n (look m l)) w past m b
+        (subst (λ i. Follows f q e (act f.ways f.now i m b)) (some_is is) runs);
+  }
+  compared_when_to Add t l n w past i is runs = absurd cc
+  compared_when_to Subtract t l n w past i is runs = absurd cc
+  compared_when_to Multiply t l n w past i is runs = absurd cc
+  compared_when_to Divide t l n w past i is runs = absurd cc
+  compared_when_to Modulo t l n w past i is runs = absurd cc
+
+  pub has_compared : (when : Bool) (o : BinaryOperator) (t : Kind) (l r : ℕ) (w : Way) (past : ℕ) (i : QuickInstr)
+      → branch_for when o l r w past ≡ Some i → Follows f q e (act f.ways f.now i m b)
+      → HasCompared o t (look m l) (look m r) when w past
+  has_compared true o t l r w past i is runs = compared_when o t l r w past i is runs
+  has_compared false o t l r w past i is runs = compared_unless o t l r w past i is runs
+
+  pub has_compared_to : (when : Bool) (o : BinaryOperator) (t : Kind) (l : ℕ) (n : ℤ) (w : Way) (past : ℕ)
+      (i : QuickInstr) → branch_for_by when o l n w past ≡ Some i → Follows f q e (act f.ways f.now i m b)
+      → HasCompared o t (look m l) n when w past
+  has_compared_to true o t l n w past i is runs = compared_when_to o t l n w past i is runs
+  has_compared_to false o t l n w past i is runs = compared_unless_to o t l n w past i is runs
 
   -- The truth of a comparison was assigned.
   pub record HasTruth (o : BinaryOperator) (t : Kind) (x y : ℤ) (to : ℕ) : Type 0 where

@@ -28,12 +28,15 @@ use Rattle.st_words.specs.declared.fault.Fault.TheVariants.{Index}
 use Rattle.slot_trees.specs.SlotEvaluation.{led, slot_at, SlotScope, loaded, slot_truth, slot_value}
 use Rattle.quick_code.specs.Words.{word_of_truth}
 use Rattle.quick_trees.specs.Standing.{IsComputedBy, IsNumber, IsTruth}
+use Rattle.quick_code.specs.QuickSteps.{act}
+use Rattle.quick_trees.specs.Standing.{truth_branch}
+use Rattle.quick_trees.proofs.Operators.{turn_for}
 use Rattle.quick_trees.proofs.Operators.{has_compared_to, has_computed_by, has_truth}
 use Rattle.quick_trees.specs.QuickMemory.{Ends, Frame, IsHeldAt, IsMemory, first_temporary}
 use Rattle.quick_trees.specs.Standing.{AreRead, IsAssigned, IsComputed, IsMoved, IsRead}
 use Rattle.quick_trees.specs.Standing.{IsFetched, IsTemporary}
 use Rattle.quick_trees.specs.Standing.{IsTested, IsTestedFor}
-use Rattle.quick_trees.proofs.Stepping.{HasBranched, has_branched, stepped}
+use Rattle.quick_trees.proofs.Stepping.{Follows, HasBranched, has_branched, stepped}
 use Rattle.quick_trees.proofs.Memories.{Keeps, keeps_all, keeps_below, keeps_both, keeps_word, slot_there, still_memory}
 use Rattle.quick_trees.proofs.Memories.{there_within, word_here}
 use Rattle.quick_trees.proofs.Elements.{LeadsTo, element_is, has_loaded}
@@ -398,15 +401,15 @@ module _ (f : Frame) (z : SlotScope) (x : Left) where
         ends = made.ends;
       }
 
-  -- A condition was tested; unless it holds, the run went by the way.
-  pub record HasTested (e : SlotExpr) (d q : ℕ) (w : Way) (past : ℕ) (m : Memory) (vs : List Datum) (b : ℕ) : Type 0
-    where
-      pub memory : Memory
-      pub keeps : Keeps d m memory
-      pub is : IsMemory f memory vs
-      pub go : Bool
-      pub truth : (c : ℕ) → slot_truth z e vs c ≡ Ok (go, c)
-      pub ends : HasBranched f q x (not go) w past memory b
+  -- A condition was tested, and the run went by the way when it holds, or unless it does.
+  pub record HasTested (e : SlotExpr) (when : Bool) (d q : ℕ) (w : Way) (past : ℕ) (m : Memory) (vs : List Datum)
+      (b : ℕ) : Type 0 where
+    pub memory : Memory
+    pub keeps : Keeps d m memory
+    pub is : IsMemory f memory vs
+    pub go : Bool
+    pub truth : (c : ℕ) → slot_truth z e vs c ≡ Ok (go, c)
+    pub ends : HasBranched f q x (turn_for when go) w past memory b
 
   truth_is : (e : SlotExpr) (vs : List Datum) (v : Datum) (go : Bool) (c : ℕ) → slot_value z vs e c ≡ Ok (v, c)
       → truth v ≡ Ok go → slot_truth z e vs c ≡ Ok (go, c)
@@ -415,12 +418,22 @@ module _ (f : Frame) (z : SlotScope) (x : Left) where
       then_gives (slot_value z vs e c) v c (λ v. attempt z.stand_ins (truth v)) gives
       ∙ ap (λ r. attempt z.stand_ins r c) so
 
-  tested_word : (e : SlotExpr) (d p q : ℕ) (w : Way) (past : ℕ) → IsTested f (IsRead f z.base e Boolean d) p q w past
+  -- how a branch on a BOOL goes
+  word_branched : (when : Bool) (k q : ℕ) (w : Way) (past : ℕ) (m : Memory) (b : ℕ)
+      → Follows f q x (act f.ways f.now (truth_branch when k w past) m b)
+      → HasBranched f q x (turn_for when (not (int_eq (look m k) (pos 0)))) w past m b
+  word_branched true k q w past m b runs = has_branched f q x (not (int_eq (look m k) (pos 0))) w past m b runs
+  word_branched false k q w past m b runs =
+      subst (λ t. HasBranched f q x t w past m b) (sym (not_not (int_eq (look m k) (pos 0))))
+      (has_branched f q x (int_eq (look m k) (pos 0)) w past m b runs)
+
+  tested_word : (e : SlotExpr) (when : Bool) (d p q : ℕ) (w : Way) (past : ℕ)
+      → IsTested f (IsRead f z.base e Boolean d) when p q w past
       → (m : Memory) (vs : List Datum) (b : ℕ) → first_temporary f ≤ d → IsMemory f m vs → Ends f p m b x
-      → HasTested e d q w past m vs b
-  tested_word e d p q w past is m vs b le of runs =
+      → HasTested e when d q w past m vs b
+  tested_word e when d p q w past is m vs b le of runs =
       let read = reads e Boolean d is.from p q is.reads m vs b le of runs in
-      let step = stepped f q x read.memory b _ read.ends is.stands in
+      let step = stepped f q x read.memory b (truth_branch when is.from w past) read.ends is.stands in
       let word = look read.memory is.from in
       let none = int_eq word (pos 0) in record {
         memory = read.memory;
@@ -428,25 +441,26 @@ module _ (f : Frame) (z : SlotScope) (x : Left) where
         is = still_memory f m vs of d read.memory le read.keeps;
         go = not none;
         truth = λ c. truth_is e vs (datum_at Boolean word) (not none) c (read.value c) (truth_of_word word read.held);
-        ends = subst (λ t. HasBranched f q x t w past read.memory b) (sym (not_not none))
-            (has_branched f q x none w past read.memory b step);
+        ends = word_branched when is.from q w past read.memory b step;
       }
 
-  pub tested : (e : SlotExpr) (d p q : ℕ) (w : Way) (past : ℕ) → IsTestedFor f z.base e d p q w past
-      → (m : Memory) (vs : List Datum) (b : ℕ) → first_temporary f ≤ d → IsMemory f m vs → Ends f p m b x
-      → HasTested e d q w past m vs b
-  tested (constant l) d p q w past is m vs b le of runs = tested_word (constant l) d p q w past is m vs b le of runs
-  tested (load l) d p q w past is m vs b le of runs = tested_word (load l) d p q w past is m vs b le of runs
-  tested (compute g es) d p q w past is m vs b le of runs = tested_word (compute g es) d p q w past is m vs b le of runs
-  tested (call g es) d p q w past is m vs b le of runs = tested_word (call g es) d p q w past is m vs b le of runs
-  tested (unary op e) d p q w past is m vs b le of runs = tested_word (unary op e) d p q w past is m vs b le of runs
-  tested (binary op l r) d p q w past (inr (inr is)) m vs b le of runs =
-      tested_word (binary op l r) d p q w past is m vs b le of runs
-  tested (binary op l r) d p q w past (inr (inl is)) m vs b le of runs =
+  pub tested : (e : SlotExpr) (when : Bool) (d p q : ℕ) (w : Way) (past : ℕ)
+      → IsTestedFor f z.base e when d p q w past → (m : Memory) (vs : List Datum) (b : ℕ) → first_temporary f ≤ d
+      → IsMemory f m vs → Ends f p m b x → HasTested e when d q w past m vs b
+  tested (constant l) v d p q w past is m vs b le of runs = tested_word (constant l) v d p q w past is m vs b le of runs
+  tested (load l) v d p q w past is m vs b le of runs = tested_word (load l) v d p q w past is m vs b le of runs
+  tested (compute g es) v d p q w past is m vs b le of runs =
+      tested_word (compute g es) v d p q w past is m vs b le of runs
+  tested (call g es) v d p q w past is m vs b le of runs = tested_word (call g es) v d p q w past is m vs b le of runs
+  tested (unary op e) v d p q w past is m vs b le of runs =
+      tested_word (unary op e) v d p q w past is m vs b le of runs
+  tested (binary op l r) v d p q w past (inr (inr is)) m vs b le of runs =
+      tested_word (binary op l r) v d p q w past is m vs b le of runs
+  tested (binary op l r) v d p q w past (inr (inl is)) m vs b le of runs =
       let t = is.kind in
       let one = reads l t d is.left p q is.reads m vs b le of runs in
       let step = stepped f q x one.memory b is.stands.instr one.ends is.stands.at in
-      let done = has_compared_to f q x one.memory b op t is.left is.word w past is.stands.instr is.stands.is step in
+      let done = has_compared_to f q x one.memory b v op t is.left is.word w past is.stands.instr is.stands.is step in
       record {
         memory = one.memory;
         keeps = one.keeps;
@@ -457,11 +471,11 @@ module _ (f : Frame) (z : SlotScope) (x : Left) where
             (number_gives r t is.word vs c is.number) done.is) (truth_of_truth done.go);
         ends = done.ends;
       }
-  tested (binary op l r) d p q w past (inl is) m vs b le of runs =
+  tested (binary op l r) v d p q w past (inl is) m vs b le of runs =
       let t = is.kind in
       let both = read_both l r t d is.left is.right p q (reads l t d) (reads r t (suc d)) is.reads m vs b le of runs in
       let step = stepped f q x both.memory b is.stands.instr both.ends is.stands.at in
-      let done = has_compared f q x both.memory b op t is.left is.right w past is.stands.instr is.stands.is step in
+      let done = has_compared f q x both.memory b v op t is.left is.right w past is.stands.instr is.stands.is step in
       record {
         memory = both.memory;
         keeps = both.keeps;

@@ -210,7 +210,8 @@ module _ (f : Frame) (z : SlotScope) (x : Left) where
 
   module _ (e : SlotExpr) (d : ℕ) (le : first_temporary f ≤ d) (body rest : Slots → Run SlotEnd) (Body Rest : Part)
       (does_body : Does body d Body) (does_rest : Does rest d Rest) where
-    chosen : (p a q c : ℕ) (r : IsArm f (IsTestedFor f z.base e d) Body Rest p a q c) (m : Memory) (vs : Slots) (b : ℕ)
+    chosen : (p a q c : ℕ) (r : IsArm f (IsTestedFor f z.base e false d) Body Rest p a q c) (m : Memory) (vs : Slots)
+        (b : ℕ)
         → IsMemory f m vs → (go : Bool) → HasBranched f r.test x (not go) r.way r.past m b
         → HasRun (λ us. if go then body us else rest us) d q c m vs (b + a)
     chosen p a q c r m vs b is true h =
@@ -228,16 +229,16 @@ module _ (f : Frame) (z : SlotScope) (x : Left) where
         (does_rest way.place (a + way.ticks) q c r.rest m vs (b - way.ticks) is h.1)
 
     pub does_arm : Does (λ vs. λ b. follow (slot_truth z e vs b) (λ go. if go then body vs else rest vs)) d
-        (IsArm f (IsTestedFor f z.base e d) Body Rest)
+        (IsArm f (IsTestedFor f z.base e false d) Body Rest)
     does_arm p a q c r m vs b is runs =
-        let t = tested f z x e d p r.test r.way r.past r.tested m vs b le is runs in
+        let t = tested f z x e false d p r.test r.way r.past r.tested m vs b le is runs in
         gives_same (λ vs. λ b. follow (slot_truth z e vs b) (λ go. if go then body vs else rest vs))
         (λ us. if t.go then body us else rest us) d q c m t.memory vs vs (b + a) (b + a)
         (then_gives (slot_truth z e vs (b + a)) t.go (b + a) (λ go. if go then body vs else rest vs) (t.truth (b + a)))
         (omega arith) (spares_kept f d m t.memory t.keeps) (chosen p a q c r t.memory vs b t.is t.go t.ends)
 
   module _ (e : SlotExpr) (d : ℕ) (le : first_temporary f ≤ d) (body : Slots → Run SlotEnd) (Body : Part)
-      (does_body : Does body d Body) (p a q c : ℕ) (r : IsLoop f (IsTestedFor f z.base e d) Body p a q c) where
+      (does_body : Does body d Body) (p a q c : ℕ) (r : IsLoop f (IsTestedFor f z.base e false d) Body p a q c) where
     -- a turn, and what comes behind it
     abbrev turn : Slots → Run (TurnOf Slots)
     turn = guarded (slot_truth z e) body
@@ -293,7 +294,7 @@ module _ (f : Frame) (z : SlotScope) (x : Left) where
     around : (n : ℕ) → Around n
     around zero m vs b is runs less = absurd (omega arith)
     around (suc n) m vs b is runs less =
-        let t = tested f z x e d p r.test r.way r.past r.tested m vs b le is runs in
+        let t = tested f z x e false d p r.test r.way r.past r.tested m vs b le is runs in
         gives_same (turns (suc n) turn no_step) (behind_test n t.go) d q c m t.memory vs vs (b + a) (b + a)
         (tested_turn n vs (b + a) t.go (t.truth (b + a))) (omega arith) (spares_kept f d m t.memory t.keeps)
         (by_test n (around n) t.memory vs b t.is less t.go t.ends)

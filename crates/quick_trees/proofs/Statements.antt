@@ -13,9 +13,25 @@ use Rattle.quick_trees.specs.Standing.{ArmsStand, IsAssignment, IsFor, IsLoop, I
 use Rattle.quick_trees.specs.Standing.{StmtsStand}
 use Rattle.quick_trees.proofs.Running.{Does, does_arm, does_assign, does_loop, does_nothing, does_store, in_turn}
 use Rattle.quick_trees.proofs.Running.{nothing, ticked}
+use Rattle.slot_trees.specs.SlotTrees.{SlotExpr}
 use Rattle.quick_trees.proofs.Counting.{does_for}
+use Rattle.quick_trees.proofs.Turning.{does_turning}
+use Rattle.quick_trees.specs.Standing.{IsTurning}
+use Rattle.std.proofs.Common.{false, inl, inr}
+use Rattle.std.specs.Prelude.{◌⊎◌}
 
 module _ (f : Frame) (z : SlotScope) (x : Left) where
+  -- a WHILE of either form
+  does_while : (e : SlotExpr) (body : SlotStmts) (d : ℕ) → first_temporary f ≤ d
+      → Does f z x (slot_exec_all z body) d (StmtsStand f z.base body d)
+      → Does f z x (looped (guarded (slot_truth z e) (slot_exec_all z body)) no_step) d
+      (λ p a q c. IsLoop f (IsTestedFor f z.base e false d) (StmtsStand f z.base body d) p a q c
+      ⊎ IsTurning f (λ when. IsTestedFor f z.base e when d) (StmtsStand f z.base body d) p a q c)
+  does_while e body d le does p a q c (inl r) =
+      does_loop f z x e d le (slot_exec_all z body) (StmtsStand f z.base body d) does p a q c r
+  does_while e body d le does p a q c (inr r) =
+      does_turning f z x e d le (slot_exec_all z body) (StmtsStand f z.base body d) does p a q c r
+
   mutual
     does_stmt : (s : SlotStmt) (d : ℕ) → first_temporary f ≤ d
         → Does f z x (slot_exec z s) d (StandsFor f z.base s d)
@@ -41,9 +57,9 @@ module _ (f : Frame) (z : SlotScope) (x : Left) where
         (StmtsStand f z.base body (suc (suc d))) (does_stmts body (suc (suc d)) (omega arith)) p b q c r)
     does_stmt (WHILE e body) d le =
         ticked f z x (looped (guarded (slot_truth z e) (slot_exec_all z body)) no_step) d
-        (IsLoop f (IsTestedFor f z.base e d) (StmtsStand f z.base body d))
-        (λ p a q c r. does_loop f z x e d le (slot_exec_all z body) (StmtsStand f z.base body d) (does_stmts body d le)
-        p a q c r)
+        (λ p a q c. IsLoop f (IsTestedFor f z.base e false d) (StmtsStand f z.base body d) p a q c
+        ⊎ IsTurning f (λ when. IsTestedFor f z.base e when d) (StmtsStand f z.base body d) p a q c)
+        (does_while e body d le (does_stmts body d le))
     does_stmt (REPEAT body e) d le = λ p a q c r. absurd r
     does_stmt EXIT d le = λ p a q c r. absurd r
     does_stmt RETURN d le = λ p a q c r. absurd r

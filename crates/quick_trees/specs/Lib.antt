@@ -3,3 +3,4 @@ pub mod Standing
 pub mod Programs
 pub mod Example
 pub mod LoopExample
+pub mod CountExample

@@ -57,7 +57,7 @@ returns-clause-stands c = record {
     first = record {
       behind = 0;
       ticks = refl;
-      rest = record {
+      rest = inl (record {
         test = 1;
         way = way 7 0;
         past = 1;
@@ -162,7 +162,7 @@ returns-clause-stands c = record {
           second = (refl, refl);
         };
         back = record { way = way 1 1; stands = refl; place = refl; ahead = refl };
-      };
+      });
     };
     second = (refl, refl);
   };

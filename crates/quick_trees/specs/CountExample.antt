@@ -1,0 +1,25 @@
+-- A worked example of a WHILE in two instructions a turn.
+use Rattle.std.specs.Prelude.{ℕ, pos, List, [], ◌∷◌}
+use Rattle.st_words.specs.declared.kind.Kind.TheVariants.{Int}
+use Rattle.st_words.specs.declared.operator.BinaryOperator.TheVariants.{Less}
+use Rattle.quick_code.specs.declared.quick_instr.QuickInstr.{QuickInstr}
+use Rattle.quick_code.specs.declared.quick_instr.QuickInstr.TheVariants.{AddIntBy, End, Jump, WhenBelow, WhenFrom}
+use Rattle.quick_code.specs.QuickSteps.{Memory}
+use Rattle.slot_trees.specs.SlotTrees.{SlotStmts, binary, no_stmts, stmt_then, WHILE}
+use Rattle.quick_trees.specs.Example.{number, raised_by, variable, way}
+use Rattle.quick_trees.specs.QuickMemory.{Frame}
+
+-- WHILE x < 10 DO x := x + 1; END_WHILE;
+abbrev pub count_body : SlotStmts
+count_body = stmt_then (WHILE (binary Less (variable 0) (number 10)) (raised_by (number 1))) no_stmts
+
+abbrev pub count_code : List QuickInstr
+count_code =
+    Jump (way 1 1) ∷ WhenFrom 0 (pos 10) (way 4 0) 1 ∷ AddIntBy 0 (pos 1) 0 ∷ WhenBelow 0 (pos 10) (way 2 2) 1 ∷ End
+    ∷ []
+
+abbrev pub count_frame : Frame
+count_frame = record { code = count_code; ways = []; now = 0; kinds = Int ∷ []; constants = []; size = 1 }
+
+abbrev pub count_words : ℕ → Memory
+count_words n = record { words = pos n ∷ []; notes = [] }
