@@ -26,7 +26,8 @@ use Rattle.slot_trees.specs.SlotExecution.{SlotEnd, Slots, slot_counting, slot_r
 use Rattle.slot_trees.specs.SlotExecution.{slot_stored}
 use Rattle.slot_trees.specs.SlotExecution.{stored_at}
 use Rattle.quick_trees.specs.QuickMemory.{Ends, Frame, IsMemory, first_temporary}
-use Rattle.quick_trees.specs.Standing.{CountsUp, IsFor, IsStep, Part}
+use Rattle.quick_trees.specs.Pieces.{CountsUp, IsStep, Part}
+use Rattle.quick_trees.specs.Standing.{IsFor}
 use Rattle.quick_trees.proofs.Stepping.{Follows, HasBranched, has_branched, stepped}
 use Rattle.quick_trees.proofs.Memories.{keeps_both, keeps_word, set_elsewhere, slot_assigned, slot_there, spares_all}
 use Rattle.quick_trees.proofs.Memories.{spares_both, spares_kept, spares_less, spares_slot, spares_word, still_memory}

@@ -14,7 +14,7 @@ use Rattle.quick_code.specs.QuickRuns.{Left}
 use Rattle.quick_code.specs.QuickSteps.{Memory, load, look, store, with_word}
 use Rattle.quick_code.specs.Words.{element_place}
 use Rattle.quick_trees.specs.QuickMemory.{Ends, Frame}
-use Rattle.quick_trees.specs.Standing.{Loads, Stores}
+use Rattle.quick_trees.specs.Pieces.{Loads, Stores}
 use Rattle.quick_trees.proofs.Stepping.{Follows, stepped}
 
 -- the words of a type that is not wide are its numbers

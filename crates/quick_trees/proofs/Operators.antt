@@ -41,14 +41,14 @@ use Rattle.std.proofs.lemmas.Int.{quot-rem, rem_below}
 use Rattle.st_types.specs.Operators.{remainder}
 use Rattle.quick_code.specs.declared.quick_instr.QuickInstr.TheVariants as quick
 use Rattle.quick_code.specs.Words.{word_of_truth}
-use Rattle.quick_trees.specs.Standing.{branch_for, branch_for_by, branch_unless_by, branch_when, branch_when_by}
-use Rattle.quick_trees.specs.Standing.{instr_by, truth_for}
+use Rattle.quick_trees.specs.Instructions.{branch_for, branch_for_by, branch_unless_by, branch_when, branch_when_by}
+use Rattle.quick_trees.specs.Instructions.{instr_by, truth_for}
 use Rattle.quick_trees.proofs.Bits.{and_is, bits_of, or_is, xor_is}
 use Rattle.quick_code.specs.QuickRuns.{Left}
 use Rattle.quick_code.specs.QuickSteps.{Memory, act, look, put, with_word}
 use Rattle.quick_code.specs.Words.{difference, divided, kept, kind_of, made, product, sum}
 use Rattle.quick_trees.specs.QuickMemory.{Ends, Frame}
-use Rattle.quick_trees.specs.Standing.{branch_unless, by_kind, instr_for}
+use Rattle.quick_trees.specs.Instructions.{branch_unless, by_kind, instr_for}
 use Rattle.quick_trees.proofs.Stepping.{Follows, HasBranched, has_branched, has_put}
 
 -- the words of a type with a sign are its numbers

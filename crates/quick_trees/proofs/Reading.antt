@@ -27,15 +27,17 @@ use Rattle.st_layouts.specs.Shapes.{distance, in_bounds}
 use Rattle.st_words.specs.declared.fault.Fault.TheVariants.{Index}
 use Rattle.slot_trees.specs.SlotEvaluation.{led, slot_at, SlotScope, loaded, slot_truth, slot_value}
 use Rattle.quick_code.specs.Words.{word_of_truth}
-use Rattle.quick_trees.specs.Standing.{IsComputedBy, IsNumber, IsTruth}
+use Rattle.quick_trees.specs.Pieces.{IsComputedBy, IsNumber, IsTruth}
 use Rattle.quick_code.specs.QuickSteps.{act}
-use Rattle.quick_trees.specs.Standing.{truth_branch}
+use Rattle.quick_trees.specs.Instructions.{truth_branch}
 use Rattle.quick_trees.proofs.Operators.{turn_for}
 use Rattle.quick_trees.proofs.Operators.{has_compared_to, has_computed_by, has_truth}
 use Rattle.quick_trees.specs.QuickMemory.{Ends, Frame, IsHeldAt, IsMemory, first_temporary}
-use Rattle.quick_trees.specs.Standing.{AreRead, IsAssigned, IsComputed, IsMoved, IsRead}
-use Rattle.quick_trees.specs.Standing.{IsFetched, IsTemporary}
-use Rattle.quick_trees.specs.Standing.{IsTested, IsTestedFor}
+use Rattle.quick_trees.specs.Pieces.{AreRead, IsComputed, IsMoved}
+use Rattle.quick_trees.specs.Standing.{IsAssigned, IsRead}
+use Rattle.quick_trees.specs.Pieces.{IsFetched, IsTemporary}
+use Rattle.quick_trees.specs.Pieces.{IsTested}
+use Rattle.quick_trees.specs.Standing.{IsTestedFor}
 use Rattle.quick_trees.proofs.Stepping.{Follows, HasBranched, has_branched, stepped}
 use Rattle.quick_trees.proofs.Memories.{Keeps, keeps_all, keeps_below, keeps_both, keeps_word, slot_there, still_memory}
 use Rattle.quick_trees.proofs.Memories.{there_within, word_here}

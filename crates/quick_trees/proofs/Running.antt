@@ -19,8 +19,9 @@ use Rattle.slot_trees.specs.SlotEvaluation.{SlotScope, slot_at, slot_truth, slot
 use Rattle.slot_trees.specs.SlotExecution.{SlotEnd, Slots, slot_assigning}
 use Rattle.slot_trees.specs.SlotExecution.{stored_at, stored_over}
 use Rattle.quick_trees.specs.QuickMemory.{Ends, Frame, IsMemory, first_temporary}
-use Rattle.quick_trees.specs.Standing.{AreBoth, IsArm, IsAssignment, IsLoop, IsTestedFor, IsTicked, Joins}
-use Rattle.quick_trees.specs.Standing.{Part}
+use Rattle.quick_trees.specs.Pieces.{AreBoth, IsArm, IsLoop, IsTicked, Joins}
+use Rattle.quick_trees.specs.Standing.{IsAssignment, IsTestedFor}
+use Rattle.quick_trees.specs.Pieces.{Part}
 use Rattle.quick_trees.proofs.Stepping.{HasBranched, has_taken, stepped}
 use Rattle.quick_trees.proofs.Memories.{Spares, slot_assigned, slot_there, spares_all, spares_both, spares_kept}
 use Rattle.quick_trees.proofs.Memories.{spares_slot}

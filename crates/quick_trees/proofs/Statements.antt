@@ -9,14 +9,15 @@ use Rattle.slot_trees.specs.SlotEvaluation.{SlotScope, slot_at, slot_truth}
 use Rattle.slot_trees.specs.SlotExecution.{slot_assigning, slot_counting, slot_exec, slot_exec_all}
 use Rattle.slot_trees.specs.SlotExecution.{slot_exec_arms}
 use Rattle.quick_trees.specs.QuickMemory.{Ends, Frame, first_temporary}
-use Rattle.quick_trees.specs.Standing.{ArmsStand, IsAssignment, IsFor, IsLoop, IsStored, IsTestedFor, StandsFor}
+use Rattle.quick_trees.specs.Pieces.{IsLoop}
+use Rattle.quick_trees.specs.Standing.{ArmsStand, IsAssignment, IsFor, IsStored, IsTestedFor, StandsFor}
 use Rattle.quick_trees.specs.Standing.{StmtsStand}
 use Rattle.quick_trees.proofs.Running.{Does, does_arm, does_assign, does_loop, does_nothing, does_store, in_turn}
 use Rattle.quick_trees.proofs.Running.{nothing, ticked}
 use Rattle.slot_trees.specs.SlotTrees.{SlotExpr}
 use Rattle.quick_trees.proofs.Counting.{does_for}
 use Rattle.quick_trees.proofs.Turning.{does_turning}
-use Rattle.quick_trees.specs.Standing.{IsTurning}
+use Rattle.quick_trees.specs.Pieces.{IsTurning}
 use Rattle.std.proofs.Common.{false, inl, inr}
 use Rattle.std.specs.Prelude.{◌⊎◌}
 

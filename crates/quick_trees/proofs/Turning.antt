@@ -9,7 +9,8 @@ use Rattle.slot_trees.specs.SlotTrees.{SlotExpr}
 use Rattle.slot_trees.specs.SlotEvaluation.{SlotScope, slot_truth}
 use Rattle.slot_trees.specs.SlotExecution.{SlotEnd, Slots}
 use Rattle.quick_trees.specs.QuickMemory.{Ends, Frame, IsMemory, first_temporary}
-use Rattle.quick_trees.specs.Standing.{IsTestedFor, IsTurning, Part}
+use Rattle.quick_trees.specs.Pieces.{IsTurning, Part}
+use Rattle.quick_trees.specs.Standing.{IsTestedFor}
 use Rattle.quick_trees.proofs.Stepping.{HasBranched}
 use Rattle.quick_trees.proofs.Memories.{Spares, spares_all, spares_both, spares_kept}
 use Rattle.quick_trees.proofs.Reading.{tested}
@@ -30,8 +31,8 @@ module _ (f : Frame) (z : SlotScope) (x : Left) (e : SlotExpr) (d : ℕ) (le : f
   turn_is : (n : ℕ) (vs : Slots) (t : ℕ) (go : Bool) → IsTrue go vs
       → turns (suc n) turn no_step vs t ≡ follow (in_body go vs t) (go_back no_step (turns n turn no_step))
   unfolding turns guarded
-  turn_is n vs t go so = ap (λ r. follow (follow r (λ go. in_body go vs)) (go_back no_step (turns n turn no_step))) (so
-  t)
+  turn_is n vs t go so =
+      ap (λ r. follow (follow r (λ go. in_body go vs)) (go_back no_step (turns n turn no_step))) (so t)
 
   -- the loop is over where the condition fails
   is_over : (n : ℕ) (vs : Slots) (t : ℕ) → t < n → IsTrue false vs → turns n turn no_step vs t ≡ Ok (goes_on vs, t)

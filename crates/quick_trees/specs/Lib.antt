@@ -1,4 +1,6 @@
 pub mod QuickMemory
+pub mod Instructions
+pub mod Pieces
 pub mod Standing
 pub mod Programs
 pub mod Example

@@ -7,7 +7,7 @@ use Rattle.slot_trees.specs.SlotExecution.{slot_runs_on, slot_step_on}
 use Rattle.slot_trees.specs.SlotRuns.{slot_units_within, slots_ran}
 use Rattle.quick_trees.specs.Example.{int, way}
 use Rattle.quick_trees.specs.LoopExample.{loop_frame}
-use Rattle.quick_trees.specs.Standing.{AreElements}
+use Rattle.quick_trees.specs.Pieces.{AreElements}
 use Rattle.quick_trees.proofs.examples.a_loop_in_quick_code.Goals as goal
 
 elements : AreElements loop_frame 2 3 1 Int
