@@ -32,6 +32,8 @@ use Rattle.quick_code.specs.QuickSteps.{act}
 use Rattle.quick_trees.specs.Instructions.{truth_branch}
 use Rattle.quick_trees.proofs.Operators.{turn_for}
 use Rattle.quick_trees.proofs.Operators.{has_compared_to, has_computed_by, has_truth}
+use Rattle.st_words.specs.declared.operator.UnaryOperator.TheVariants.{Negate, Not}
+use Rattle.st_types.specs.Operators.{apply_unary}
 use Rattle.quick_trees.specs.QuickMemory.{Ends, Frame, IsHeldAt, IsMemory, first_temporary}
 use Rattle.quick_trees.specs.Pieces.{AreRead, IsComputed, IsMoved}
 use Rattle.quick_trees.specs.Standing.{IsAssigned, IsRead}
@@ -54,17 +56,11 @@ truth_of_truth : (go : Bool) → truth (datum_of_truth go) ≡ Ok go
 truth_of_truth true = refl
 truth_of_truth false = refl
 
-truth_of_word : (w : ℤ) → IsHeld (datum_at Boolean w) → truth (datum_at Boolean w) ≡ Ok (not (int_eq w (pos 0)))
-truth_of_word (pos zero) h = refl
-truth_of_word (pos (suc zero)) h = refl
-truth_of_word (pos (suc (suc n))) h = absurd (above n h)
-  where
-    above : (n : ℕ) → IsHeld (datum_at Boolean (pos (suc (suc n)))) → ⊥
-    above n h = grind (arith, ints)
-truth_of_word (negsuc n) h = absurd (below n h)
-  where
-    below : (n : ℕ) → IsHeld (datum_at Boolean (negsuc n)) → ⊥
-    below n h = grind (arith, ints)
+-- a branch is taken when a condition fails where one is taken unless it holds
+turned : (when go : Bool) → turn_for (not when) go ≡ turn_for when (not go)
+turned true go = refl
+turned false true = refl
+turned false false = refl
 
 -- the word of a truth is that of the value
 truth_word : (go : Bool) → datum_at Boolean (word_of_truth go) ≡ datum_of_truth go
@@ -74,6 +70,22 @@ truth_word false = refl
 truth_held : (go : Bool) → IsHeld (datum_at Boolean (word_of_truth go))
 truth_held true = refl
 truth_held false = refl
+
+truth_is_word : (w : ℤ) → IsHeld (datum_at Boolean w) → datum_at Boolean w ≡ datum_of_truth (not (int_eq w (pos 0)))
+truth_is_word (pos zero) h = refl
+truth_is_word (pos (suc zero)) h = refl
+truth_is_word (pos (suc (suc n))) h = absurd (above n h)
+  where
+    above : (n : ℕ) → IsHeld (datum_at Boolean (pos (suc (suc n)))) → ⊥
+    above n h = grind (arith, ints)
+truth_is_word (negsuc n) h = absurd (below n h)
+  where
+    below : (n : ℕ) → IsHeld (datum_at Boolean (negsuc n)) → ⊥
+    below n h = grind (arith, ints)
+
+not_is : (go : Bool) → apply_unary Not (datum_of_truth go) ≡ Ok (datum_of_truth (not go))
+not_is true = refl
+not_is false = refl
 
 not_not : (t : Bool) → not (not t) ≡ t
 not_not true = refl
@@ -410,6 +422,7 @@ module _ (f : Frame) (z : SlotScope) (x : Left) where
     pub keeps : Keeps d m memory
     pub is : IsMemory f memory vs
     pub go : Bool
+    pub value : (c : ℕ) → slot_value z vs e c ≡ Ok (datum_of_truth go, c)
     pub truth : (c : ℕ) → slot_truth z e vs c ≡ Ok (go, c)
     pub ends : HasBranched f q x (turn_for when go) w past memory b
 
@@ -442,7 +455,9 @@ module _ (f : Frame) (z : SlotScope) (x : Left) where
         keeps = read.keeps;
         is = still_memory f m vs of d read.memory le read.keeps;
         go = not none;
-        truth = λ c. truth_is e vs (datum_at Boolean word) (not none) c (read.value c) (truth_of_word word read.held);
+        value = λ c. read.value c ∙ ap (λ v. Ok (v, c)) (truth_is_word word read.held);
+        truth = λ c. truth_is e vs (datum_of_truth (not none)) (not none) c
+            (read.value c ∙ ap (λ v. Ok (v, c)) (truth_is_word word read.held)) (truth_of_truth (not none));
         ends = word_branched when is.from q w past read.memory b step;
       }
 
@@ -454,8 +469,23 @@ module _ (f : Frame) (z : SlotScope) (x : Left) where
   tested (compute g es) v d p q w past is m vs b le of runs =
       tested_word (compute g es) v d p q w past is m vs b le of runs
   tested (call g es) v d p q w past is m vs b le of runs = tested_word (call g es) v d p q w past is m vs b le of runs
-  tested (unary op e) v d p q w past is m vs b le of runs =
-      tested_word (unary op e) v d p q w past is m vs b le of runs
+  tested (unary Negate e) v d p q w past is m vs b le of runs =
+      tested_word (unary Negate e) v d p q w past is m vs b le of runs
+  tested (unary Not e) v d p q w past is m vs b le of runs =
+      let t = tested e (not v) d p q w past is m vs b le of runs in
+      let value = λ (c : ℕ). then_gives (slot_value z vs e c) (datum_of_truth t.go) c
+      (λ y. attempt z.stand_ins (failing (apply_unary Not y))) (t.value c)
+      ∙ ap (λ o. attempt z.stand_ins (failing o) c) (not_is t.go) in
+      record {
+        memory = t.memory;
+        keeps = t.keeps;
+        is = t.is;
+        go = not t.go;
+        value = value;
+        truth = λ c. truth_is (unary Not e) vs (datum_of_truth (not t.go)) (not t.go) c (value c)
+            (truth_of_truth (not t.go));
+        ends = subst (λ u. HasBranched f q x u w past t.memory b) (turned v t.go) t.ends;
+      }
   tested (binary op l r) v d p q w past (inr (inr is)) m vs b le of runs =
       tested_word (binary op l r) v d p q w past is m vs b le of runs
   tested (binary op l r) v d p q w past (inr (inl is)) m vs b le of runs =
@@ -463,14 +493,15 @@ module _ (f : Frame) (z : SlotScope) (x : Left) where
       let one = reads l t d is.left p q is.reads m vs b le of runs in
       let step = stepped f q x one.memory b is.stands.instr one.ends is.stands.at in
       let done = has_compared_to f q x one.memory b v op t is.left is.word w past is.stands.instr is.stands.is step in
+      let value = λ (c : ℕ). applied_to op l r t (look one.memory is.left) is.word vs c (datum_of_truth done.go)
+      (one.value c) (number_gives r t is.word vs c is.number) done.is in
       record {
         memory = one.memory;
         keeps = one.keeps;
         is = still_memory f m vs of d one.memory le one.keeps;
         go = done.go;
-        truth = λ c. truth_is (binary op l r) vs (datum_of_truth done.go) done.go c
-            (applied_to op l r t (look one.memory is.left) is.word vs c (datum_of_truth done.go) (one.value c)
-            (number_gives r t is.word vs c is.number) done.is) (truth_of_truth done.go);
+        value = value;
+        truth = λ c. truth_is (binary op l r) vs (datum_of_truth done.go) done.go c (value c) (truth_of_truth done.go);
         ends = done.ends;
       }
   tested (binary op l r) v d p q w past (inl is) m vs b le of runs =
@@ -478,13 +509,14 @@ module _ (f : Frame) (z : SlotScope) (x : Left) where
       let both = read_both l r t d is.left is.right p q (reads l t d) (reads r t (suc d)) is.reads m vs b le of runs in
       let step = stepped f q x both.memory b is.stands.instr both.ends is.stands.at in
       let done = has_compared f q x both.memory b v op t is.left is.right w past is.stands.instr is.stands.is step in
+      let value = λ (c : ℕ). applied_to op l r t (look both.memory is.left) (look both.memory is.right) vs c
+      (datum_of_truth done.go) (both.first c) (both.second c) done.is in
       record {
         memory = both.memory;
         keeps = both.keeps;
         is = both.is;
         go = done.go;
-        truth = λ c. truth_is (binary op l r) vs (datum_of_truth done.go) done.go c
-            (applied_to op l r t (look both.memory is.left) (look both.memory is.right) vs c (datum_of_truth done.go)
-            (both.first c) (both.second c) done.is) (truth_of_truth done.go);
+        value = value;
+        truth = λ c. truth_is (binary op l r) vs (datum_of_truth done.go) done.go c (value c) (truth_of_truth done.go);
         ends = done.ends;
       }
