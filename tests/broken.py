@@ -20,6 +20,8 @@ import tempfile
 
 TOKEN = re.compile(r"\(\*.*?\*\)|[A-Za-z0-9_#%]+|:=|=>|\.\.|<=|>=|<>|\S", re.DOTALL)
 FAULT = re.compile(r"fault ([A-Z])([0-9]+)(?: at ([0-9]+))?\n")
+# what a warm start says of a record of another layout
+OTHER = re.compile(r"the retain file has another layout: \d+ carried, \d+ new, \d+ retyped, \d+ dropped\n")
 ROOT = pathlib.Path(__file__).resolve().parent.parent
 # texts of the whole language, from which three of four broken ones are made
 WHOLE = ("conveyor.st", "recipe.st")
@@ -49,10 +51,10 @@ class Plant:
         return done.returncode, done.stdout, done.stderr
 
     def look(self, what, answer, status, codes):
-        """Whether it was refused, with one line of one of these codes; else it was accepted."""
+        """Whether it was refused, with one line of one of these codes; else it was accepted, perhaps over a record of another layout."""
         found, out, err = answer
         if found == 0:
-            if err or not out:
+            if err and not OTHER.fullmatch(err) or not out:
                 fail(what, answer)
             return None
         fault = FAULT.fullmatch(err)
