@@ -34,6 +34,14 @@ use Rattle.quick_trees.proofs.Operators.{turn_for}
 use Rattle.quick_trees.proofs.Operators.{has_compared_to, has_computed_by, has_truth}
 use Rattle.st_words.specs.declared.operator.UnaryOperator.TheVariants.{Negate, Not}
 use Rattle.st_types.specs.Operators.{apply_unary}
+use Rattle.std.specs.Prelude.{[], ◌∷◌}
+use Rattle.st_words.specs.declared.fault.Fault.TheVariants.{Conversion}
+use Rattle.st_words.specs.Kinds.{holds}
+use Rattle.st_types.specs.StandardFunctions.{ABS, CONVERT, LIMIT, MAX, MIN, ROL, ROR, SEL, SHL, SHR, conversion}
+use Rattle.st_types.specs.StandardFunctions.{standard_value}
+use Rattle.slot_trees.specs.SlotTrees.{expr_then, no_exprs}
+use Rattle.quick_trees.specs.Pieces.{IsWider}
+use Rattle.quick_trees.proofs.Elements.{narrow_number}
 use Rattle.quick_trees.specs.QuickMemory.{Ends, Frame, IsHeldAt, IsMemory, first_temporary}
 use Rattle.quick_trees.specs.Pieces.{AreRead, IsComputed, IsMoved}
 use Rattle.quick_trees.specs.Standing.{IsAssigned, IsRead}
@@ -336,6 +344,40 @@ module _ (f : Frame) (z : SlotScope) (x : Left) where
         ends = made.ends;
       }
 
+  -- a value of a type is one of a wider type
+  widened : (from t : Kind) (w : ℤ) → IsWider from t → IsHeld (datum_at from w)
+      → (standard_value (CONVERT from t) (datum_at from w ∷ []) ≡ Ok (datum_at t w)) × IsHeld (datum_at t w)
+  widened from t w wider held =
+      let one = narrow_number from w wider.narrow_from in
+      let two = narrow_number t w wider.narrow_to in
+      let same : number_at from w ≡ number_at t w = one ∙ sym two in
+      let holds_it : holds t (number_at from w) ≡ true = wider.all (number_at from w) held in (
+        ap (λ b. if b then failing (conversion t (number_at from w)) else Err ill_typed) (same_kind-refl from)
+            ∙ ap (λ b. failing (if b then Ok (record { kind = t; number = number_at from w }) else Err Conversion))
+            holds_it
+            ∙ ap (λ n. Ok (record { kind = t; number = n })) same,
+        subst (λ n. holds t n ≡ true) same holds_it,
+      )
+
+  read_wider : (e : SlotExpr) (from to t : Kind) (d : ℕ) → Reads e from d
+      → (k p q : ℕ) → (to ≡ t) × IsWider from t × IsRead f z.base e from d k p q
+      → (m : Memory) (vs : List Datum) (b : ℕ) → first_temporary f ≤ d → IsMemory f m vs → Ends f p m b x
+      → HasRead (compute (CONVERT from to) (expr_then e no_exprs)) t d k q m vs b
+  read_wider e from to t d reads_e k p q is m vs b le of runs =
+      let one = reads_e k p q is.2 m vs b le of runs in
+      let w = look one.memory k in
+      let wide = widened from t w is.1 one.held in record {
+        memory = one.memory;
+        keeps = one.keeps;
+        value = λ c. ap (λ u. slot_value z vs (compute (CONVERT from u) (expr_then e no_exprs)) c) is.0
+            ∙ ap (λ r. follow (follow r (λ v. λ b. follow (give [] b) (λ xs. give (v ∷ xs))))
+            (λ xs. attempt z.stand_ins (standard_value (CONVERT from t) xs))) (one.value c)
+            ∙ ap (λ o. attempt z.stand_ins o c) wide.0;
+        held = wide.1;
+        low = one.low;
+        ends = one.ends;
+      }
+
   pub reads : (e : SlotExpr) (t : Kind) (d : ℕ) → Reads e t d
   reads (constant l) t d = read_constant l t d
   reads (load (place a no_subscripts)) t d = read_slot a t d
@@ -343,7 +385,18 @@ module _ (f : Frame) (z : SlotScope) (x : Left) where
       read_made (load (place a (subscript_then i lower count stride no_subscripts))) t d k q is.0 m vs b le of
       (fetched_by a i lower count stride t d k p q (λ u. reads i u d) is.1 m vs b le of runs)
   reads (load (place a (subscript_then i lower count stride (subscript_then j l c s ss)))) t d = λ k p q is. absurd is
-  reads (compute g es) t d = λ k p q is. absurd is
+  reads (compute ABS es) t d = λ k p q is. absurd is
+  reads (compute MIN es) t d = λ k p q is. absurd is
+  reads (compute MAX es) t d = λ k p q is. absurd is
+  reads (compute LIMIT es) t d = λ k p q is. absurd is
+  reads (compute SEL es) t d = λ k p q is. absurd is
+  reads (compute SHL es) t d = λ k p q is. absurd is
+  reads (compute SHR es) t d = λ k p q is. absurd is
+  reads (compute ROL es) t d = λ k p q is. absurd is
+  reads (compute ROR es) t d = λ k p q is. absurd is
+  reads (compute (CONVERT from to) no_exprs) t d = λ k p q is. absurd is
+  reads (compute (CONVERT from to) (expr_then e no_exprs)) t d = read_wider e from to t d (reads e from d)
+  reads (compute (CONVERT from to) (expr_then e (expr_then i es))) t d = λ k p q is. absurd is
   reads (call g es) t d = λ k p q is. absurd is
   reads (unary op e) t d = λ k p q is. absurd is
   reads (binary op l r) t d = λ k p q is m vs b le of runs.
