@@ -422,7 +422,15 @@ module _ (f : Frame) (z : SlotScope) (x : Left) where
   pub assigned : (e : SlotExpr) (t : Kind) (d to p q : ℕ) → IsAssigned f z.base e t d to p q
       → (m : Memory) (vs : List Datum) (b : ℕ) → first_temporary f ≤ d → IsMemory f m vs → Ends f p m b x
       → HasMade e t d to q m vs b
-  assigned (constant l) t d to p q is m vs b le of runs = moved (constant l) t d to p q is m vs b le of runs
+  assigned (constant l) t d to p q (inl is) m vs b le of runs = moved (constant l) t d to p q is m vs b le of runs
+  assigned (constant l) t d to p q (inr is) m vs b le of runs = record {
+    memory = m;
+    keeps = keeps_all d m;
+    word = is.word;
+    value = λ c. number_gives (constant l) t is.word vs c is.number;
+    held = number_held (constant l) t is.word is.number;
+    ends = subst (λ q. Ends f q (with_word m to is.word) b x) (sym is.next) (stepped f p x m b _ runs is.stands);
+  }
   assigned (load (place a no_subscripts)) t d to p q is m vs b le of runs =
       moved (load (place a no_subscripts)) t d to p q is m vs b le of runs
   assigned (load (place a (subscript_then i lower count stride no_subscripts))) t d to p q is m vs b le of runs =
