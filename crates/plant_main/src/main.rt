@@ -19,8 +19,8 @@ const STACK_BYTES: usize = 512 * 1024;
 /// Takes the room that the program needs on the stack before any memory, as programs under real-time conditions do. So
 /// where there is no room for it, the program ends as it begins, and never within its work.
 ///
-/// It writes there what no compiler knows, the first byte of the program's name, and reads it again, so that none leaves
-/// it out.
+/// It writes there what no compiler knows, the first byte of the program's name, and reads it again, so that none
+/// leaves it out.
 #[inline(never)]
 fn takes_stack<R: Env>(rt: &R) -> bool {
     let mut name = [0u8; 256];

@@ -57,8 +57,8 @@ fn picture_of(alloc: Global, plan: &Plan, plot: &Plot, title: &str) -> Result<Ve
     }
 }
 
-/// Writes the picture into its file, or gives it for the standard output. The file is made when the picture is there, so
-/// where memory is wanted it stays as it was.
+/// Writes the picture into its file, or gives it for the standard output. The file is made when the picture is there,
+/// so where memory is wanted it stays as it was.
 fn draw<F: Files>(
     alloc: Global,
     files: &mut F,

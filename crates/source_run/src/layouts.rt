@@ -1,8 +1,9 @@
 //! What a warm start over a record of another layout takes over.
 
-ghost use Rattle.std.specs.Prelude.{◌≡◌, IfOk, None};
+ghost use Rattle.std.specs.Prelude.{◌≡◌, IfErr, IfOk, None, Ok};
 ghost use Rattle.retain_areas.specs.Recovered.{recovered};
 ghost use Rattle.retain_show.specs.Against.{changes_against};
+ghost use Rattle.retain_store.specs.Opening.{RefusesFor};
 
 use config::Plan;
 use disk::Disk;
@@ -14,6 +15,7 @@ use std::alloc::Global;
 /// The bytes of a retain file; S1 where it is too long, S3 where it can't be read, S5 out of memory.
 fn bytes_of<D: Disk>(alloc: Global, disk: &mut D) -> Result<Vec<u8>, StoreFault>
     ensures bytes { D.tells → IfOk result (λ file. file.items ≡ D.seen disk.old) }
+    ensures refused { D.tells → IfErr result (λ fault. RefusesFor fault (recovered (D.seen disk.old))) }
     ensures seen { D.tells → D.seen disk.new ≡ D.seen disk.old }
 {
     let length = disk.len()?;
@@ -37,9 +39,10 @@ pub(crate) fn changes_by<D: Disk>(
     start: Start,
     disk: &mut D,
 ) -> Result<Option<Changes>, StoreFault>
-    ensures cold { start ≡ Start.Cold → IfOk result (λ found. found ≡ None) }
+    ensures cold { start ≡ Start.Cold → result ≡ Ok None }
     ensures told { D.tells → start ≡ Start.Warm
         → IfOk result (λ found. found ≡ changes_against plan.now (recovered (D.seen disk.old))) }
+    ensures refused { D.tells → IfErr result (λ fault. RefusesFor fault (recovered (D.seen disk.old))) }
     ensures seen { D.tells → D.seen disk.new ≡ D.seen disk.old }
 {
     match start {
