@@ -33,37 +33,19 @@ module _ {A M : Type 0} where
   fewer_by (Ok r) b c Good on e le h = (h.0, (h.1.0, (let l = h.1.1 in omega arith), h.1.2))
   fewer_by (Err f) b c Good on e le h = h
 
-  going_by : (r : Result (A × ℕ) Fault) (b : ℕ) (Good Fair : A → M → Type 0) (on off : A → M → ℕ → Ending M)
-      (e : Ending M) → ((a : A) (m : M) → Good a m → Fair a m) → ((a : A) (m : M) (c : ℕ) → on a m c ≡ off a m c)
-      → GivesBy r b Good on e → GivesBy r b Fair off e
-  going_by (Ok r) b Good Fair on off e k same h = (h.0, (k r.0 h.0 h.1.0, h.1.1, h.1.2 ∙ same r.0 h.0 r.1))
-  going_by (Err f) b Good Fair on off e k same h = h
+  going_by : (r : Result (A × ℕ) Fault) (b : ℕ) (Good : A → M → Type 0) (on off : A → M → ℕ → Ending M) (e : Ending M)
+      → ((a : A) (m : M) (c : ℕ) → on a m c ≡ off a m c) → GivesBy r b Good on e → GivesBy r b Good off e
+  going_by (Ok r) b Good on off e same h = (h.0, (h.1.0, h.1.1, h.1.2 ∙ same r.0 h.0 r.1))
+  going_by (Err f) b Good on off e same h = h
 
   -- going on elsewhere, where that is the same
   pub going : {r : Result (A × ℕ) Fault} {b : ℕ} {Good : A → M → Type 0} {on off : A → M → ℕ → Ending M} {e : Ending M}
       → ((a : A) (m : M) (c : ℕ) → on a m c ≡ off a m c) → Gives r b Good on e → Gives r b Good off e
-  going {r} {b} {Good} {on} {off} {e} same h =
-      record { by = going_by r b Good Good on off e (λ a m g. g) same h.by }
-
-  -- a memory that fits is one that fits so
-  pub fitting : {r : Result (A × ℕ) Fault} {b : ℕ} {Good Fair : A → M → Type 0} {on : A → M → ℕ → Ending M}
-      {e : Ending M} → ((a : A) (m : M) → Good a m → Fair a m) → Gives r b Good on e → Gives r b Fair on e
-  fitting {r} {b} {Good} {Fair} {on} {e} k h =
-      record { by = going_by r b Good Fair on on e k (λ a m c. refl) h.by }
+  going {r} {b} {Good} {on} {off} {e} same h = record { by = going_by r b Good on off e same h.by }
 
   pub given : {a : A} (m : M) {b : ℕ} {Good : A → M → Type 0} {on : A → M → ℕ → Ending M} → Good a m
       → Gives (give a b) b Good on (on a m b)
   given m good = record { by = (m, (good, omega arith, refl)) }
-
-  taken_by : (t : StandIns) (r : Result A Failure) (b : ℕ) (m : M) (Good : A → M → Type 0) (on : A → M → ℕ → Ending M)
-      → ((a : A) → Good a m) → GivesBy (attempt t r b) b Good on (on_result t r m (λ a. on a m b))
-  taken_by t (Ok a) b m Good on h = (m, (h a, omega arith, refl))
-  taken_by t (Err e) b m Good on h = (m, refl)
-
-  -- a part that takes no ticks, at the end
-  pub taken : (t : StandIns) (r : Result A Failure) (b : ℕ) (m : M) (Good : A → M → Type 0) (on : A → M → ℕ → Ending M)
-      → ((a : A) → Good a m) → Gives (attempt t r b) b Good on (on_result t r m (λ a. on a m b))
-  taken t r b m Good on h = record { by = taken_by t r b m Good on h }
 
 module _ {A B M : Type 0} where
   bind_by : (r : Result (A × ℕ) Fault) (f : A → Run B) (b : ℕ) (Good : A → M → Type 0) (Fair : B → M → Type 0)

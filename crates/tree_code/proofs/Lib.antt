@@ -11,3 +11,7 @@ pub mod Arguments
 pub mod Statements
 pub mod Units
 pub mod ProgramRuns
+pub mod UnmarkedLoops
+pub mod UnmarkedEvaluation
+pub mod UnmarkedExecution
+pub mod UnmarkedRuns

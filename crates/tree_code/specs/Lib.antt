@@ -4,3 +4,8 @@ pub mod Growing
 pub mod Calls
 pub mod Fitting
 pub mod Programs
+pub mod MarkedEvaluation
+pub mod MarkedExecution
+pub mod MarkedRuns
+pub mod MarkedPrograms
+pub mod MarkExamples
