@@ -13,3 +13,5 @@ mod timer;
 mod timers;
 
 pub use blocks::step;
+pub use timer::Timer;
+pub use timers::{off_delay, on_delay, pulse};

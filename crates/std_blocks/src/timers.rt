@@ -72,7 +72,7 @@ fn stopped(q: bool, t: Timer) -> Timer
 }
 
 /// On delay: Q follows IN once IN was TRUE for PT.
-fn on_delay(now: u64, input: bool, pt: i128, t: Timer) -> Timer
+pub fn on_delay(now: u64, input: bool, pt: i128, t: Timer) -> Timer
     ensures { timer_view result ≡ on_delay now input pt (timer_view t) }
 {
     if input {
@@ -83,7 +83,7 @@ fn on_delay(now: u64, input: bool, pt: i128, t: Timer) -> Timer
 }
 
 /// Off delay: Q is TRUE while IN is, and for PT after it.
-fn off_delay(now: u64, input: bool, pt: i128, t: Timer) -> Timer
+pub fn off_delay(now: u64, input: bool, pt: i128, t: Timer) -> Timer
     ensures { timer_view result ≡ off_delay now input pt (timer_view t) }
 {
     if input {
@@ -114,7 +114,7 @@ fn running_pulse(now: u64, input: bool, pt: i128, t: Timer) -> Timer
 }
 
 /// Pulse: Q is TRUE for PT from the rise of IN.
-fn pulse(now: u64, input: bool, pt: i128, t: Timer) -> Timer
+pub fn pulse(now: u64, input: bool, pt: i128, t: Timer) -> Timer
     ensures { timer_view result ≡ pulse now input pt (timer_view t) }
 {
     if input {
