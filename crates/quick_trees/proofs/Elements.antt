@@ -11,7 +11,7 @@ use Rattle.st_words.specs.Words.{is_wide, number_at}
 use Rattle.st_types.specs.Operators.{natural}
 use Rattle.st_layouts.specs.Shapes.{distance, in_bounds}
 use Rattle.quick_code.specs.QuickRuns.{Left}
-use Rattle.quick_code.specs.QuickSteps.{Memory, load, look, store, with_word}
+use Rattle.quick_code.specs.QuickSteps.{Memory, load, look, note, noted_read, noted_written, store, with_word}
 use Rattle.quick_code.specs.Words.{element_place}
 use Rattle.quick_trees.specs.QuickMemory.{Ends, Frame}
 use Rattle.quick_trees.specs.Pieces.{Loads, Stores}
@@ -21,7 +21,7 @@ use Rattle.quick_trees.proofs.Stepping.{Follows, stepped}
 pub narrow_number : (t : Kind) (w : ℤ) → is_wide t ≡ false → number_at t w ≡ w
 narrow_number t w h = ap (λ (b : Bool). w +ℤ (if b then pos (2 ^ 63) else pos 0)) h ∙ +ℤ_idr w
 
--- A subscript leads to a place: so many elements behind the first one.
+-- A subscript leads to a slot: so many elements behind the first one.
 pub record LeadsTo (lower : ℤ) (first count stride : ℕ) (n : ℤ) (k : ℕ) : Type 0 where
   pub before : ℕ
   pub less : before < count
@@ -32,12 +32,19 @@ pub record LeadsTo (lower : ℤ) (first count stride : ℕ) (n : ℤ) (k : ℕ) 
 inside_is : (lower n : ℤ) (j count : ℕ) → n ≡ lower +ℤ pos j → j < count → in_bounds lower count n ≡ true
 inside_is lower n j count is less = grind (arith, ints)
 
-leads_to : (lower shift : ℤ) (first count stride : ℕ) (n z : ℤ) (k : ℕ) → lower +ℤ shift ≡ pos 0 → z ≡ n +ℤ shift
-    → element_place first count stride z ≡ Some k → LeadsTo lower first count stride n k
-leads_to lower shift first count stride n (pos j) k from is e = by_test (nat_lt j count) refl e
+-- An element's word is so many elements behind the first one, and its slot likewise.
+pub record IsElement (lower : ℤ) (first word count stride : ℕ) (n : ℤ) (w : ℕ) : Type 0 where
+  pub before : ℕ
+  pub less : before < count
+  pub place : w ≡ word + before * stride
+  pub leads : LeadsTo lower first count stride n (first + before * stride)
+
+leads_to : (lower shift : ℤ) (first word count stride : ℕ) (n z : ℤ) (w : ℕ) → lower +ℤ shift ≡ pos 0 → z ≡ n +ℤ shift
+    → element_place word count stride z ≡ Some w → IsElement lower first word count stride n w
+leads_to lower shift first word count stride n (pos j) w from is e = by_test (nat_lt j count) refl e
   where
-    by_test : (t : Bool) → nat_lt j count ≡ t → (if t then Some (first + j * stride) else None) ≡ Some k
-        → LeadsTo lower first count stride n k
+    by_test : (t : Bool) → nat_lt j count ≡ t → (if t then Some (word + j * stride) else None) ≡ Some w
+        → IsElement lower first word count stride n w
     by_test true h e =
         let less : j < count = grind (arith, nat_tests) in
         let at : n ≡ lower +ℤ pos j = omega (arith, ints) in
@@ -45,25 +52,30 @@ leads_to lower shift first count stride n (pos j) k from is e = by_test (nat_lt 
           before = j;
           less = less;
           place = cc;
-          inside = inside_is lower n j count at less;
-          behind = ap natural apart;
+          leads = record {
+            before = j;
+            less = less;
+            place = refl;
+            inside = inside_is lower n j count at less;
+            behind = ap natural apart;
+          };
         }
     by_test false h e = absurd cc
-leads_to lower shift first count stride n (negsuc j) k from is e = absurd cc
+leads_to lower shift first word count stride n (negsuc j) w from is e = absurd cc
 
-pub element_is : (lower shift : ℤ) (first count stride : ℕ) (t : Kind) (w : ℤ) (k : ℕ) → lower +ℤ shift ≡ pos 0
-    → is_wide t ≡ false → element_place first count stride (w +ℤ shift) ≡ Some k
-    → LeadsTo lower first count stride (number_at t w) k
-element_is lower shift first count stride t w k from narrow e =
-    leads_to lower shift first count stride (number_at t w) (w +ℤ shift) k from
-    (ap (λ n. n +ℤ shift) (sym (narrow_number t w narrow))) e
+pub element_is : (lower shift : ℤ) (first word count stride : ℕ) (t : Kind) (v : ℤ) (w : ℕ) → lower +ℤ shift ≡ pos 0
+    → is_wide t ≡ false → element_place word count stride (v +ℤ shift) ≡ Some w
+    → IsElement lower first word count stride (number_at t v) w
+element_is lower shift first word count stride t v w from narrow e =
+    leads_to lower shift first word count stride (number_at t v) (v +ℤ shift) w from
+    (ap (λ n. n +ℤ shift) (sym (narrow_number t v narrow))) e
 
 module _ (f : Frame) (p : ℕ) (e : Left) (m : Memory) (b : ℕ) where
   -- A word at a place was loaded, or assigned.
   pub record HasLoaded (o : Option ℕ) (to : ℕ) : Type 0 where
     pub place : ℕ
     pub is : o ≡ Some place
-    pub ends : Ends f (suc p) (with_word m to (look m place)) b e
+    pub ends : Ends f (suc p) (with_word (note noted_read place m) to (look m place)) b e
 
   of_load : (o : Option ℕ) (to : ℕ) → Follows f p e (load o to m b) → HasLoaded o to
   of_load (Some k) to h = record { place = k; is = refl; ends = h }
@@ -80,7 +92,7 @@ module _ (f : Frame) (p : ℕ) (e : Left) (m : Memory) (b : ℕ) where
   pub record HasStored (o : Option ℕ) (w : ℤ) : Type 0 where
     pub place : ℕ
     pub is : o ≡ Some place
-    pub ends : Ends f (suc p) (with_word m place w) b e
+    pub ends : Ends f (suc p) (with_word (note noted_written place m) place w) b e
 
   of_store : (o : Option ℕ) (w : ℤ) → Follows f p e (store o w m b) → HasStored o w
   of_store (Some k) w h = record { place = k; is = refl; ends = h }

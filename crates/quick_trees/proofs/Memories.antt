@@ -1,75 +1,33 @@
--- Words, and the values that they are, after one is assigned.
-use Rattle.std.proofs.Common.{◌≡◌, ◌≢◌, ℕ, zero, suc, ◌+◌, ◌<◌, ◌≤◌, ◌==◌, Bool, true, false, List, [], ◌∷◌, length, ℤ}
-use Rattle.std.proofs.Common.{Some, refl, sym, ap, ap₂, ◌∙◌, subst, arith}
-use Rattle.std.specs.Prelude.{slice_get, slice_set}
+-- Words, and the values that they are, after one is assigned, looked up or noted.
+use Rattle.std.proofs.Common.{◌≡◌, ◌≢◌, ℕ, ◌+◌, ◌<◌, ◌≤◌, ◌==◌, Bool, true, false, List, length, ℤ}
+use Rattle.std.proofs.Common.{Some, refl, sym, ap, ap₂, ◌∙◌, subst, arith, inl, inr, Option}
+use Rattle.std.specs.Prelude.{◌⊎◌, slice_get, slice_set}
 use Rattle.std.proofs.lemmas.Bool.Decides.{nat_tests}
 use Rattle.st_words.specs.declared.kind.Kind.{Kind}
 use Rattle.st_words.specs.Values.{Datum, IsHeld}
 use Rattle.st_words.specs.Words.{datum_at}
-use Rattle.quick_code.specs.QuickSteps.{Memory, with_word}
+use Rattle.machine_code.specs.declared.mark.Mark.{Mark}
+use Rattle.machine_code.specs.Tracking.{Tracked, seen, with_mark, written}
+use Rattle.quick_code.specs.QuickSteps.{Memory, look, note, noted_read, noted_written, or_none, with_word}
 use Rattle.quick_code.specs.Words.{or_zero, word_at}
-use Rattle.quick_trees.specs.QuickMemory.{Frame, IsHeldAt, IsMemory, first_temporary, values_of}
-
-module _ {A : Type 0} where
-  pub set_here : (xs : List A) (k : ℕ) (v : A) → k < length xs → slice_get (slice_set xs k v) k ≡ Some v
-  set_here [] k v lt = absurd (omega arith)
-  set_here (x ∷ xs) zero v lt = refl
-  set_here (x ∷ xs) (suc k) v lt = set_here xs k v (omega arith)
-
-  pub set_elsewhere : (xs : List A) (j k : ℕ) (v : A) → (j ≡ k → ⊥) → slice_get (slice_set xs k v) j ≡ slice_get xs j
-  set_elsewhere [] j k v apart = refl
-  set_elsewhere (x ∷ xs) zero zero v apart = absurd (apart refl)
-  set_elsewhere (x ∷ xs) zero (suc k) v apart = refl
-  set_elsewhere (x ∷ xs) (suc j) zero v apart = refl
-  set_elsewhere (x ∷ xs) (suc j) (suc k) v apart = set_elsewhere xs j k v (λ e. apart (ap suc e))
-
-  pub set_long : (xs : List A) (k : ℕ) (v : A) → length (slice_set xs k v) ≡ length xs
-  set_long [] k v = refl
-  set_long (x ∷ xs) zero v = refl
-  set_long (x ∷ xs) (suc k) v = ap suc (set_long xs k v)
-
-  pub there_within : (xs : List A) (k : ℕ) (v : A) → slice_get xs k ≡ Some v → k < length xs
-  there_within [] k v e = absurd (cc)
-  there_within (x ∷ xs) zero v e = omega arith
-  there_within (x ∷ xs) (suc k) v e = (let l = there_within xs k v e in omega arith)
-
--- the value of a slot
-pub value_there : (kinds : List Kind) (ws : List ℤ) (k : ℕ) (t : Kind) → slice_get kinds k ≡ Some t
-    → length kinds ≤ length ws → slice_get (values_of kinds ws) k ≡ Some (datum_at t (word_at ws k))
-value_there [] ws k t e le = absurd (cc)
-value_there (x ∷ kinds) [] k t e le = absurd (omega arith)
-value_there (x ∷ kinds) (w ∷ ws) zero t e le = let same : x ≡ t = cc in ap (λ u. Some (datum_at u w)) same
-value_there (x ∷ kinds) (w ∷ ws) (suc k) t e le = value_there kinds ws k t e (omega arith)
-
--- a word is assigned to a slot
-set_in_slots : (kinds : List Kind) (ws : List ℤ) (i : ℕ) (t : Kind) (w : ℤ) → slice_get kinds i ≡ Some t
-    → values_of kinds (slice_set ws i w) ≡ slice_set (values_of kinds ws) i (datum_at t w)
-set_in_slots [] ws i t w e = absurd (cc)
-set_in_slots (x ∷ kinds) [] i t w e = refl
-set_in_slots (x ∷ kinds) (v ∷ ws) zero t w e =
-    let same : x ≡ t = cc in ap (λ u. datum_at u w ∷ values_of kinds ws) same
-set_in_slots (x ∷ kinds) (v ∷ ws) (suc i) t w e = ap (λ vs. datum_at x v ∷ vs) (set_in_slots kinds ws i t w e)
-
--- the first words are the same
-abbrev pub AreSame : ℕ → List ℤ → List ℤ → Type 0
-AreSame n ws us = (k : ℕ) → k < n → slice_get us k ≡ slice_get ws k
-
-values_same : (kinds : List Kind) (ws us : List ℤ) → length us ≡ length ws → AreSame (length kinds) ws us
-    → values_of kinds us ≡ values_of kinds ws
-values_same [] ws us long same = refl
-values_same (x ∷ kinds) [] [] long same = refl
-values_same (x ∷ kinds) [] (u ∷ us) long same = absurd (omega arith)
-values_same (x ∷ kinds) (w ∷ ws) [] long same = absurd (omega arith)
-values_same (x ∷ kinds) (w ∷ ws) (u ∷ us) long same =
-    let first : Some u ≡ Some w = same zero (omega arith) in
-    let here : u ≡ w = cc in
-    ap₂ (λ v vs. datum_at x v ∷ vs) here
-    (values_same kinds ws us (omega arith) (λ k lt. same (suc k) (omega arith)))
+use Rattle.quick_trees.specs.declared.noting.Noting.{Noting}
+use Rattle.quick_trees.specs.declared.noting.Noting.TheVariants.{Exact}
+use Rattle.quick_trees.specs.Notes.{AreTrueOf, Changes, Tells, at_assignment, at_look, with_assignment_ahead}
+use Rattle.quick_trees.specs.Notes.{with_look_ahead}
+use Rattle.quick_trees.specs.QuickMemory.{Frame, IsRoom, first_temporary}
+use Rattle.quick_trees.specs.Sites.{HasOwnWord, HasWord, IsExact, IsValueAt, Site, Touches, called}
+use Rattle.quick_trees.specs.Sites.{kinds_of, whole}
+use Rattle.quick_trees.specs.Standing.{IsAssignedAt}
+use Rattle.quick_trees.proofs.Lists.{set_elsewhere, set_here, set_long, some_is, there_within}
+use Rattle.quick_trees.proofs.Notings.{assigned_by, assigned_to, assignment_noted, changed_few, is_assigned_then}
+use Rattle.quick_trees.proofs.Notings.{look_noted, looked_by, looked_up, noted_beyond, stays_assigned, told_all}
+use Rattle.quick_trees.proofs.Notings.{told_few}
+use Rattle.machine_code.specs.Tracking.{assigned}
 
 -- Below a depth no word was changed.
 pub record Keeps (d : ℕ) (m m' : Memory) : Type 0 where
   pub long : length m'.words ≡ length m.words
-  pub same : AreSame d m.words m'.words
+  pub same : (k : ℕ) → k < d → slice_get m'.words k ≡ slice_get m.words k
 
 pub keeps_all : (d : ℕ) (m : Memory) → Keeps d m m
 keeps_all d m = record { long = refl; same = λ k lt. refl }
@@ -80,7 +38,10 @@ keeps_both d c m m' n le g h = record {
   same = λ k lt. h.same k (omega arith) ∙ g.same k lt;
 }
 
-pub keeps_word : (d : ℕ) (m m' : Memory) (k : ℕ) → Keeps d m m' → k < d → word_at m'.words k ≡ word_at m.words k
+pub keeps_less : (d c : ℕ) (m m' : Memory) → d ≤ c → Keeps c m m' → Keeps d m m'
+keeps_less d c m m' le h = record { long = h.long; same = λ k lt. h.same k (omega arith) }
+
+pub keeps_word : (d : ℕ) (m m' : Memory) (k : ℕ) → Keeps d m m' → k < d → look m' k ≡ look m k
 keeps_word d m m' k keeps lt = ap or_zero (keeps.same k lt)
 
 -- a word from a depth on is assigned
@@ -90,93 +51,382 @@ keeps_below d m k w le = record {
   same = λ j lt. set_elsewhere m.words j k w (λ e. omega arith);
 }
 
-pub word_here : (m : Memory) (k : ℕ) (w : ℤ) → k < length m.words → word_at (with_word m k w).words k ≡ w
+pub word_here : (m : Memory) (k : ℕ) (w : ℤ) → k < length m.words → look (with_word m k w) k ≡ w
 word_here m k w lt = ap or_zero (set_here m.words k w lt)
 
--- Constants and temporaries below a depth were not changed.
-pub record Spares (f : Frame) (d : ℕ) (m m' : Memory) : Type 0 where
-  pub long : length m'.words ≡ length m.words
-  pub same : (k : ℕ) → length f.kinds ≤ k → k < d → slice_get m'.words k ≡ slice_get m.words k
+pub word_elsewhere : (m : Memory) (j k : ℕ) (w : ℤ) → (j ≡ k → ⊥) → look (with_word m k w) j ≡ look m j
+word_elsewhere m j k w apart = ap or_zero (set_elsewhere m.words j k w apart)
 
-module _ (f : Frame) (d : ℕ) where
-  pub spares_all : (m : Memory) → Spares f d m m
-  spares_all m = record { long = refl; same = λ k le lt. refl }
+-- The words and the notes are as many as they should be, the constants are there, and what is known of notes is true of
+-- marks.
+pub record IsNoted (f : Frame) (ns : List Noting) (marks : List Mark) (m : Memory) : Type 0 where
+  pub room : IsRoom f m
+  pub few : length ns ≤ length f.kinds
+  pub are : AreTrueOf ns marks m.notes
 
-  pub spares_both : (c : ℕ) (m m' n : Memory) → d ≤ c → Spares f d m m' → Spares f c m' n → Spares f d m n
-  spares_both c m m' n le g h = record {
-    long = h.long ∙ g.long;
-    same = λ k behind lt. h.same k behind (omega arith) ∙ g.same k behind lt;
+module _ (f : Frame) (ns : List Noting) (marks : List Mark) (m : Memory) (is : IsNoted f ns marks m) where
+  room_with : (notes : List ℕ) → length notes ≡ length m.notes → IsRoom f (record m { notes = notes })
+  room_with notes e = record {
+    words = is.room.words;
+    notes = e ∙ is.room.notes;
+    room = is.room.room;
+    constants = is.room.constants;
+    held = is.room.held;
   }
 
-  pub spares_less : (c : ℕ) (m m' : Memory) → d ≤ c → Spares f c m m' → Spares f d m m'
-  spares_less c m m' le h = record { long = h.long; same = λ k behind lt. h.same k behind (omega arith) }
-
-  pub spares_kept : (m m' : Memory) → Keeps d m m' → Spares f d m m'
-  spares_kept m m' keeps = record { long = keeps.long; same = λ k behind lt. keeps.same k lt }
-
-  pub spares_slot : (m : Memory) (k : ℕ) (w : ℤ) → k < length f.kinds → Spares f d m (with_word m k w)
-  spares_slot m k w lt = record {
-    long = set_long m.words k w;
-    same = λ j behind below. set_elsewhere m.words j k w (λ e. omega arith);
+  -- no constant is assigned
+  pub noted_word : (k : ℕ) (w : ℤ) → (k < length f.kinds) ⊎ (first_temporary f ≤ k) → IsNoted f ns marks
+      (with_word m k w)
+  noted_word k w where_is = record {
+    room = record {
+      words = set_long m.words k w ∙ is.room.words;
+      notes = is.room.notes;
+      room = is.room.room;
+      constants = λ j v at. (let lt = there_within f.constants j v at in
+          let apart = not_constant where_is j lt in
+          ap (λ o. datum_at v.kind (or_zero o)) (set_elsewhere m.words (length f.kinds + j) k w apart)
+          ∙ is.room.constants j v at);
+      held = is.room.held;
+    };
+    few = is.few;
+    are = is.are;
   }
+    where
+      not_constant : (k < length f.kinds) ⊎ (first_temporary f ≤ k) → (j : ℕ) → j < length f.constants
+          → length f.kinds + j ≡ k → ⊥
+      not_constant (inl h) j lt e = omega arith
+      not_constant (inr h) j lt e = omega arith
 
-  pub spares_word : (m m' : Memory) (k : ℕ) → Spares f d m m' → length f.kinds ≤ k → k < d
-      → word_at m'.words k ≡ word_at m.words k
-  spares_word m m' k spares behind lt = ap or_zero (spares.same k behind lt)
-
-module _ (f : Frame) (m : Memory) (vs : List Datum) (is : IsMemory f m vs) where
-  -- words of slots and constants are kept, so the memory is still that of the values
-  pub still_memory : (d : ℕ) (m' : Memory) → first_temporary f ≤ d → Keeps d m m' → IsMemory f m' vs
-  still_memory d m' le keeps = record {
-    long = keeps.long ∙ is.long;
+  pub noted_told : (ns' : List Noting) → Tells ns ns' → IsNoted f ns' marks m
+  noted_told ns' tell = record {
     room = is.room;
-    values = values_same f.kinds m.words m'.words keeps.long (λ k lt. keeps.same k (omega arith)) ∙ is.values;
-    slots = λ k t at. (let lt = there_within f.kinds k t at in
-        subst (λ w. IsHeld (datum_at t w)) (sym (keeps_word d m m' k keeps (omega arith))) (is.slots k t at));
-    constants = λ j v at. (let lt = there_within f.constants j v at in
-        ap (datum_at v.kind) (keeps_word d m m' (length f.kinds + j) keeps (omega arith)) ∙ is.constants j v at);
-    held = is.held;
+    few = (let fewer = told_few ns ns' tell in let few = is.few in omega arith);
+    are = told_all ns ns' marks m.notes tell is.are;
   }
 
-  -- a word is assigned to a slot
-  module _ (i : ℕ) (t : Kind) (w : ℤ) (target : slice_get f.kinds i ≡ Some t) (holds : IsHeld (datum_at t w)) where
-    slot_held : (k : ℕ) (u : Kind) → slice_get f.kinds k ≡ Some u → IsHeldAt (with_word m i w).words u k
-    slot_held k u at = by_place (k == i) refl
-      where
-        here : k ≡ i → IsHeldAt (with_word m i w).words u k
-        here e =
-            let found : Some t ≡ Some u = sym target ∙ ap (slice_get f.kinds) (sym e) ∙ at in
-            let same : t ≡ u = cc in
-            let within = there_within f.kinds i t target in
-            let long = is.long in
-            let room = is.room in
-            let word : word_at (with_word m i w).words k ≡ w =
-            ap (word_at (with_word m i w).words) e ∙ word_here m i w (omega arith) in
-            subst (λ z. IsHeld (datum_at u z)) (sym word) (subst (λ u. IsHeld (datum_at u w)) same holds)
+  -- a place that is told has a note
+  note_there : (change : Noting → Option Noting) (k : ℕ) (ns' : List Noting) → Changes change k ns ns'
+      → k < length m.notes
+  note_there change k ns' c =
+      let lt = there_within ns k c.old c.there in
+      let few = is.few in
+      let notes = is.room.notes in
+      let room = is.room.room in
+      omega arith
 
-        by_place : (p : Bool) → (k == i) ≡ p → IsHeldAt (with_word m i w).words u k
-        by_place true e = here (grind (arith, nat_tests))
-        by_place false e =
-            let apart : k ≢ i = λ is. grind (arith, nat_tests) in
-            subst (λ z. IsHeld (datum_at u z)) (sym (ap or_zero (set_elsewhere m.words k i w apart))) (is.slots k u at)
+  pub noted_look : (k : ℕ) (ns' : List Noting) → Changes with_look_ahead k ns ns'
+      → IsNoted f ns' marks (note noted_read k m)
+  noted_look k ns' c = record {
+    room = room_with (slice_set m.notes k (noted_read (or_none (slice_get m.notes k))))
+        (set_long m.notes k (noted_read (or_none (slice_get m.notes k))));
+    few = (let same = changed_few with_look_ahead k ns ns' c in let few = is.few in omega arith);
+    are = look_noted ns marks m.notes is.are k ns' (note_there with_look_ahead k ns' c) c;
+  }
 
-    pub slot_assigned : IsMemory f (with_word m i w) (slice_set vs i (datum_at t w))
-    slot_assigned = record {
-      long = set_long m.words i w ∙ is.long;
-      room = is.room;
-      values = set_in_slots f.kinds m.words i t w target ∙ ap (λ vs. slice_set vs i (datum_at t w)) is.values;
-      slots = slot_held;
-      constants = λ j v at. (let lt = there_within f.kinds i t target in
-          let apart : length f.kinds + j ≢ i = λ e. omega arith in
-          ap (λ o. datum_at v.kind (or_zero o)) (set_elsewhere m.words (length f.kinds + j) i w apart)
-          ∙ is.constants j v at);
-      held = is.held;
+  pub noted_assignment : (k : ℕ) (ns' : List Noting) → Changes with_assignment_ahead k ns ns'
+      → IsNoted f ns' marks (note noted_written k m)
+  noted_assignment k ns' c = record {
+    room = room_with (slice_set m.notes k (noted_written (or_none (slice_get m.notes k))))
+        (set_long m.notes k (noted_written (or_none (slice_get m.notes k))));
+    few = (let same = changed_few with_assignment_ahead k ns ns' c in let few = is.few in omega arith);
+    are = assignment_noted ns marks m.notes is.are k ns' (note_there with_assignment_ahead k ns' c) c;
+  }
+
+  -- an element is looked up or assigned, and noted
+  exact_there : (k : ℕ) → slice_get ns k ≡ Some Exact → k < length m.notes
+  exact_there k exact =
+      let lt = there_within ns k Exact exact in
+      let few = is.few in
+      let notes = is.room.notes in
+      let room = is.room.room in
+      omega arith
+
+  pub noted_loaded : (k : ℕ) → slice_get ns k ≡ Some Exact → IsNoted f ns (with_mark seen marks k) (note noted_read k m)
+  noted_loaded k exact = record {
+    room = room_with (slice_set m.notes k (noted_read (or_none (slice_get m.notes k))))
+        (set_long m.notes k (noted_read (or_none (slice_get m.notes k))));
+    few = is.few;
+    are = looked_by ns marks m.notes is.are k (exact_there k exact) exact;
+  }
+
+  pub noted_stored : (k : ℕ) → slice_get ns k ≡ Some Exact
+      → IsNoted f ns (with_mark assigned marks k) (note noted_written k m)
+  noted_stored k exact = record {
+    room = room_with (slice_set m.notes k (noted_written (or_none (slice_get m.notes k))))
+        (set_long m.notes k (noted_written (or_none (slice_get m.notes k))));
+    few = is.few;
+    are = assigned_by ns marks m.notes is.are k (exact_there k exact) exact;
+  }
+
+  pub noted_past : (g : ℕ → ℕ) (k : ℕ) → length f.kinds ≤ k → IsNoted f ns marks (note g k m)
+  noted_past g k le = record {
+    room = room_with (slice_set m.notes k (g (or_none (slice_get m.notes k))))
+        (set_long m.notes k (g (or_none (slice_get m.notes k))));
+    few = is.few;
+    are = noted_beyond ns marks m.notes is.are k g (let few = is.few in omega arith);
+  }
+
+-- where a unit's own words are
+abbrev pub IsOwnPlace : Frame → Site → ℕ → Type 0
+IsOwnPlace f (whole base) w = w < length f.kinds
+IsOwnPlace f (called kinds seats) w = (first_temporary f ≤ w) × (w < f.size)
+
+-- The values of a unit stand below a depth, from which on temporaries are free. Its own words are no other value's, and
+-- no constants.
+pub record IsSite (f : Frame) (s : Site) (d : ℕ) : Type 0 where
+  pub deep : first_temporary f ≤ d
+  pub below : (k w : ℕ) (t : Kind) → slice_get (kinds_of f s) k ≡ Some t → HasWord s k w → w < d
+  pub has : (k w : ℕ) → HasOwnWord s k w → HasWord s k w
+  pub one : (k w u : ℕ) → HasWord s k w → HasWord s k u → w ≡ u
+  pub apart : (k j w : ℕ) → HasOwnWord s k w → HasWord s j w → j ≡ k
+  pub own : (k w : ℕ) (t : Kind) → slice_get (kinds_of f s) k ≡ Some t → HasOwnWord s k w → IsOwnPlace f s w
+
+pub deeper : (f : Frame) (s : Site) (d c : ℕ) → d ≤ c → IsSite f s d → IsSite f s c
+deeper f s d c le is = record {
+  deep = (let deep = is.deep in omega arith);
+  below = λ k w t at has. (let lt = is.below k w t at has in omega arith);
+  has = is.has;
+  one = is.one;
+  apart = is.apart;
+  own = is.own;
+}
+
+pub whole_site : (f : Frame) (base : ℕ) → IsSite f (whole base) (first_temporary f)
+whole_site f base = record {
+  deep = omega arith;
+  below = λ k w t at has. (let lt = there_within f.kinds k t at in omega arith);
+  has = λ k w has. has;
+  one = λ k w u has had. has ∙ sym had;
+  apart = λ k j w own has. sym has ∙ own;
+  own = λ k w t at has. (let lt = there_within f.kinds k t at in omega arith);
+}
+
+-- an own word is no constant
+own_no_constant : (f : Frame) (s : Site) (w : ℕ) → IsOwnPlace f s w → (w < length f.kinds) ⊎ (first_temporary f ≤ w)
+own_no_constant f (whole base) w h = inl h
+own_no_constant f (called kinds seats) w h = inr h.0
+
+-- the marks that the notes tell of: those of a program's slots, or of the slots of what called a function
+abbrev pub marks_of : Site → List Mark → Tracked → List Mark
+marks_of (whole base) marks t = t.marks
+marks_of (called kinds seats) marks t = marks
+
+-- The words of a run are the values of a unit, and what is known of the notes is true of the marks.
+pub record Holds (f : Frame) (s : Site) (marks : List Mark) (ns : List Noting) (m : Memory) (t : Tracked) : Type 0 where
+  pub noted : IsNoted f ns (marks_of s marks t) m
+  pub long : length t.values ≡ length (kinds_of f s)
+  pub values : (k w : ℕ) (kind : Kind) → slice_get (kinds_of f s) k ≡ Some kind → HasWord s k w
+      → IsValueAt m t.values kind k w
+
+-- the slot is marked where the program looks it up
+abbrev pub with_look : Tracked → ℕ → Tracked
+with_look t k = record { values = t.values; marks = with_mark seen t.marks k }
+
+looked_in : (f : Frame) (s : Site) (marks : List Mark) (ns ns' : List Noting) (m : Memory) (t : Tracked) (k : ℕ)
+    → IsNoted f ns (marks_of s marks t) m → Touches at_look s k ns ns'
+    → IsNoted f ns' (marks_of s marks (with_look t k)) m
+looked_in f (whole base) marks ns ns' m t k is c = record {
+  room = is.room;
+  few = (let same = changed_few at_look k ns ns' c in let few = is.few in omega arith);
+  are = looked_up ns t.marks m.notes is.are k ns' c;
+}
+looked_in f (called kinds seats) marks ns ns' m t k is c = subst (λ ns. IsNoted f ns marks m) c is
+
+assigned_in : (f : Frame) (s : Site) (marks : List Mark) (ns ns' : List Noting) (m : Memory) (t : Tracked) (k : ℕ)
+    (v : Datum) → IsNoted f ns (marks_of s marks t) m → Touches at_assignment s k ns ns'
+    → IsNoted f ns' (marks_of s marks (written t k v)) m
+assigned_in f (whole base) marks ns ns' m t k v is c = record {
+  room = is.room;
+  few = (let same = changed_few at_assignment k ns ns' c in let few = is.few in omega arith);
+  are = assigned_to ns t.marks m.notes is.are k ns' c;
+}
+assigned_in f (called kinds seats) marks ns ns' m t k v is c = subst (λ ns. IsNoted f ns marks m) c is
+
+loaded_in : (f : Frame) (s : Site) (marks : List Mark) (ns : List Noting) (m : Memory) (t : Tracked) (k w : ℕ)
+    → IsNoted f ns (marks_of s marks t) m → HasOwnWord s k w → IsOwnPlace f s w → IsExact s ns k
+    → IsNoted f ns (marks_of s marks (with_look t k)) (note noted_read w m)
+loaded_in f (whole base) marks ns m t k w is own place exact =
+    subst (λ w. IsNoted f ns (with_mark seen t.marks k) (note noted_read w m)) (sym own)
+    (noted_loaded f ns t.marks m is k exact)
+loaded_in f (called kinds seats) marks ns m t k w is own place exact =
+    noted_past f ns marks m is noted_read w (let far = place.0 in omega arith)
+
+stored_in : (f : Frame) (s : Site) (marks : List Mark) (ns : List Noting) (m : Memory) (t : Tracked) (k w : ℕ)
+    (v : Datum) → IsNoted f ns (marks_of s marks t) m → HasOwnWord s k w → IsOwnPlace f s w → IsExact s ns k
+    → IsNoted f ns (marks_of s marks (written t k v)) (note noted_written w m)
+stored_in f (whole base) marks ns m t k w v is own place exact =
+    subst (λ w. IsNoted f ns (with_mark assigned t.marks k) (note noted_written w m))
+    (sym own) (noted_stored f ns t.marks m is k exact)
+stored_in f (called kinds seats) marks ns m t k w v is own place exact =
+    noted_past f ns marks m is noted_written w (let far = place.0 in omega arith)
+
+-- what is known to have been assigned may be looked up and assigned
+pub assigned_look : (s : Site) (k : ℕ) (ns : List Noting) → IsAssignedAt s k ns → Touches at_look s k ns ns
+assigned_look (whole base) k ns is = stays_assigned at_look k ns refl is
+assigned_look (called kinds seats) k ns is = refl
+
+pub assigned_again : (s : Site) (k : ℕ) (ns : List Noting) → IsAssignedAt s k ns → Touches at_assignment s k ns ns
+assigned_again (whole base) k ns is = stays_assigned at_assignment k ns refl is
+assigned_again (called kinds seats) k ns is = refl
+
+pub assigned_then : (s : Site) (k : ℕ) (ns ns' : List Noting) → Touches at_assignment s k ns ns' → IsAssignedAt s k ns'
+assigned_then (whole base) k ns ns' c = is_assigned_then k ns ns' c
+assigned_then (called kinds seats) k ns ns' c = tt
+
+module _ (f : Frame) (s : Site) (marks : List Mark) (ns : List Noting) (m : Memory) (t : Tracked)
+    (is : Holds f s marks ns m t) where
+  -- less is known
+  pub still_told : (ns' : List Noting) → Tells ns ns' → Holds f s marks ns' m t
+  still_told ns' tell = record {
+    noted = noted_told f ns (marks_of s marks t) m is.noted ns' tell;
+    long = is.long;
+    values = is.values;
+  }
+
+  -- a variable is looked up
+  pub holds_looked : (k : ℕ) (ns' : List Noting) → Touches at_look s k ns ns' → Holds f s marks ns' m (with_look t k)
+  holds_looked k ns' c = record {
+    noted = looked_in f s marks ns ns' m t k is.noted c;
+    long = is.long;
+    values = is.values;
+  }
+
+  module _ (d : ℕ) (at_site : IsSite f s d) where
+    -- other words and notes, where words below the depth are kept
+    pub holds_kept : (ns' : List Noting) (m' : Memory) → Keeps d m m' → IsNoted f ns' (marks_of s marks t) m'
+        → Holds f s marks ns' m' t
+    holds_kept ns' m' keeps noted = record {
+      noted = noted;
+      long = is.long;
+      values = λ k w kind at has. (let v = is.values k w kind at has in
+          let same = keeps_word d m m' w keeps (at_site.below k w kind at has) in record {
+            is = v.is ∙ ap (λ x. Some (datum_at kind x)) (sym same);
+            held = subst (λ x. IsHeld (datum_at kind x)) (sym same) v.held;
+          });
     }
 
-  -- the value in a slot
-  pub slot_there : (k : ℕ) (t : Kind) → slice_get f.kinds k ≡ Some t
-      → slice_get vs k ≡ Some (datum_at t (word_at m.words k))
-  slot_there k t at =
-      let long = is.long in
-      let room = is.room in
-      sym (ap (λ xs. slice_get xs k) is.values) ∙ value_there f.kinds m.words k t at (omega arith)
+    -- a temporary is assigned
+    pub holds_temporary : (k : ℕ) (w : ℤ) → d ≤ k → Holds f s marks ns (with_word m k w) t
+    holds_temporary k w le =
+        holds_kept ns (with_word m k w) (keeps_below d m k w le)
+        (noted_word f ns (marks_of s marks t) m is.noted k w (inr (let deep = at_site.deep in omega arith)))
+
+    module _ (k w : ℕ) (kind : Kind) (target : slice_get (kinds_of f s) k ≡ Some kind) (own : HasOwnWord s k w) where
+      pub own_place : IsOwnPlace f s w
+      own_place = at_site.own k w kind target own
+
+      pub own_value : IsValueAt m t.values kind k w
+      own_value = is.values k w kind target (at_site.has k w own)
+
+      inside : (s : Site) → IsOwnPlace f s w → w < length m.words
+      inside (whole base) place =
+          let words = is.noted.room.words in let room = is.noted.room.room in omega arith
+      inside (called kinds seats) place = (let words = is.noted.room.words in let lt = place.1 in omega arith)
+
+      pub own_inside : w < length m.words
+      own_inside = inside s own_place
+
+      -- its word is assigned
+      module _ (v : ℤ) (m' : Memory) (words : m'.words ≡ slice_set m.words w v) (holds : IsHeld (datum_at kind v)) where
+        abbrev after : List Datum
+        after = slice_set t.values k (datum_at kind v)
+
+        value_now : (j u : ℕ) (other : Kind) → slice_get (kinds_of f s) j ≡ Some other → HasWord s j u → (p : Bool)
+            → (u == w) ≡ p → IsValueAt m' after other j u
+        value_now j u other at has true e =
+            let here : u ≡ w = grind (arith, nat_tests) in
+            let same : j ≡ k = at_site.apart k j w own (subst (HasWord s j) here has) in
+            let type : kind ≡ other = some_is (sym target ∙ ap (slice_get (kinds_of f s)) (sym same) ∙ at) in
+            let word : look m' u ≡ v =
+            ap (λ ws. word_at ws u) words ∙ ap (λ u. word_at (slice_set m.words w v) u) here
+            ∙ word_here m w v own_inside in
+            let slot = there_within (kinds_of f s) k kind target in
+            let long = is.long in
+            let found : slice_get after j ≡ Some (datum_at other (look m' u)) =
+            ap (slice_get after) same
+            ∙ set_here t.values k (datum_at kind v) (omega arith)
+            ∙ ap₂ (λ t x. Some (datum_at t x)) type (sym word) in record {
+              is = found;
+              held = subst (λ x. IsHeld (datum_at other x)) (sym word)
+                  (subst (λ t. IsHeld (datum_at t v)) type holds);
+            }
+        value_now j u other at has false e =
+            let away : u ≢ w = λ is. grind (arith, nat_tests) in
+            let apart : j ≢ k = λ is. away (at_site.one k u w (subst (λ i. HasWord s i u) is has)
+            (at_site.has k w own)) in
+            let word : look m' u ≡ look m u = ap (λ ws. word_at ws u) words ∙ word_elsewhere m u w v away in
+            let old = is.values j u other at has in record {
+              is = set_elsewhere t.values j k (datum_at kind v) apart
+                  ∙ old.is
+                  ∙ ap (λ x. Some (datum_at other x)) (sym word);
+              held = subst (λ x. IsHeld (datum_at other x)) (sym word) old.held;
+            }
+
+        pub holds_written : (ns' : List Noting) → IsNoted f ns' (marks_of s marks (written t k (datum_at kind v))) m'
+            → Holds f s marks ns' m' (written t k (datum_at kind v))
+        holds_written ns' noted = record {
+          noted = noted;
+          long = set_long t.values k (datum_at kind v) ∙ is.long;
+          values = λ j u other at has. value_now j u other at has (u == w) refl;
+        }
+
+      -- a variable is assigned
+      pub holds_assigned : (v : ℤ) → IsHeld (datum_at kind v) → (ns' : List Noting) → Touches at_assignment s k ns ns'
+          → Holds f s marks ns' (with_word m w v) (written t k (datum_at kind v))
+      holds_assigned v holds ns' c =
+          holds_written v (with_word m w v) refl holds ns'
+          (noted_word f ns' (marks_of s marks (written t k (datum_at kind v))) m
+          (assigned_in f s marks ns ns' m t k (datum_at kind v) is.noted c) w v (own_no_constant f s w own_place))
+
+      -- an element is assigned, and noted
+      pub holds_stored : (v : ℤ) → IsHeld (datum_at kind v) → IsExact s ns k
+          → Holds f s marks ns (with_word (note noted_written w m) w v) (written t k (datum_at kind v))
+      holds_stored v holds exact =
+          holds_written v (with_word (note noted_written w m) w v) refl holds ns
+          (noted_word f ns (marks_of s marks (written t k (datum_at kind v))) (note noted_written w m)
+          (stored_in f s marks ns m t k w (datum_at kind v) is.noted own own_place exact) w v
+          (own_no_constant f s w own_place))
+
+      -- an element is looked up, and noted
+      pub holds_loaded : IsExact s ns k → Holds f s marks ns (note noted_read w m) (with_look t k)
+      holds_loaded exact = record {
+        noted = loaded_in f s marks ns m t k w is.noted own own_place exact;
+        long = is.long;
+        values = λ j u kind at has. (let v = is.values j u kind at has in record { is = v.is; held = v.held });
+      }
+
+-- The words of constants and of a unit's callers, and temporaries below a depth, were not changed: none but own words.
+pub record Spares (f : Frame) (s : Site) (d : ℕ) (m m' : Memory) : Type 0 where
+  pub long : length m'.words ≡ length m.words
+  pub same : (w : ℕ) → w < d → ((k : ℕ) → k < length (kinds_of f s) → HasOwnWord s k w → ⊥)
+      → slice_get m'.words w ≡ slice_get m.words w
+
+module _ (f : Frame) (s : Site) (d : ℕ) where
+  pub spares_all : (m : Memory) → Spares f s d m m
+  spares_all m = record { long = refl; same = λ w lt not_own. refl }
+
+  pub spares_both : (c : ℕ) (m m' n : Memory) → d ≤ c → Spares f s d m m' → Spares f s c m' n → Spares f s d m n
+  spares_both c m m' n le g h = record {
+    long = h.long ∙ g.long;
+    same = λ w lt not_own. h.same w (omega arith) not_own ∙ g.same w lt not_own;
+  }
+
+  pub spares_less : (c : ℕ) (m m' : Memory) → d ≤ c → Spares f s c m m' → Spares f s d m m'
+  spares_less c m m' le h = record { long = h.long; same = λ w lt not_own. h.same w (omega arith) not_own }
+
+  pub spares_kept : (m m' : Memory) → Keeps d m m' → Spares f s d m m'
+  spares_kept m m' keeps = record { long = keeps.long; same = λ w lt not_own. keeps.same w lt }
+
+  -- an own word is assigned, whatever is noted
+  pub spares_own : (m m' : Memory) (k u : ℕ) (t : Kind) (v : ℤ) → slice_get (kinds_of f s) k ≡ Some t
+      → HasOwnWord s k u → m'.words ≡ slice_set m.words u v → Spares f s d m m'
+  spares_own m m' k u t v target own words = record {
+    long = ap length words ∙ set_long m.words u v;
+    same = λ w lt not_own. ap (λ ws. slice_get ws w) words
+        ∙ set_elsewhere m.words w u v
+        (λ e. not_own k (there_within (kinds_of f s) k t target) (subst (HasOwnWord s k) (sym e) own));
+  }
+
+  pub spares_word : (m m' : Memory) (w : ℕ) → Spares f s d m m' → w < d
+      → ((k : ℕ) → k < length (kinds_of f s) → HasOwnWord s k w → ⊥) → look m' w ≡ look m w
+  spares_word m m' w spares lt not_own = ap or_zero (spares.same w lt not_own)

@@ -1,50 +1,76 @@
--- Programs end as their code does.
-use Rattle.std.proofs.Common.{◌≡◌, ℕ, ◌+◌, ◌-◌, List, Result, Ok, ap, subst, ◌∙◌, arith}
-use Rattle.st_words.specs.declared.fault.Fault.{Fault}
-use Rattle.st_words.specs.Values.{Datum}
+-- Code of a program does what its body says.
+use Rattle.std.proofs.Common.{◌≡◌, ℕ, ◌+◌, ◌-◌, ◌≤◌, Ok, ap, subst, ◌∙◌, arith, length, []}
 use Rattle.st_types.specs.Failures.{StandIns}
-use Rattle.st_types.specs.Loops.{goes_on}
+use Rattle.machine_code.specs.Tracking.{Tracked}
+use Rattle.quick_code.specs.declared.quick_instr.QuickInstr.TheVariants.{End, Jump}
 use Rattle.quick_code.specs.QuickRuns.{Left, left}
 use Rattle.quick_code.specs.QuickSteps.{Memory}
 use Rattle.slot_trees.specs.SlotTrees.{SlotLibrary, SlotStmts}
-use Rattle.slot_trees.specs.SlotEvaluation.{SlotScope}
-use Rattle.slot_trees.specs.SlotExecution.{SlotEnd, Slots, slot_exec_all}
-use Rattle.slot_trees.specs.SlotRuns.{slot_units_within, slots_ran}
-use Rattle.quick_trees.specs.QuickMemory.{Ends, Frame, IsMemory, first_temporary}
-use Rattle.quick_trees.specs.Standing.{IsProgram}
-use Rattle.quick_trees.specs.Programs.{EndsAs}
+use Rattle.slot_trees.specs.SlotRuns.{state_of}
+use Rattle.tree_code.specs.MarkedRuns.{marked_ran, marked_units_within}
+use Rattle.quick_trees.specs.declared.noting.Noting.TheVariants.{Exact}
+use Rattle.quick_trees.specs.Calls.{quick_units}
+use Rattle.quick_trees.specs.Points.{Point, along}
+use Rattle.quick_trees.specs.Programs.{EndsAs, IsProgram, beginning}
+use Rattle.quick_trees.specs.QuickMemory.{Ends, Frame, first_temporary}
+use Rattle.quick_trees.specs.Sites.{IsMemory, whole}
+use Rattle.quick_trees.proofs.Lists.{replicate_long}
 use Rattle.quick_trees.proofs.Stepping.{has_taken, stepped}
-use Rattle.quick_trees.proofs.Running.{HasRun}
+use Rattle.quick_trees.proofs.Memories.{Holds, whole_site}
+use Rattle.quick_trees.proofs.Settings.{Setting}
+use Rattle.quick_trees.proofs.Running.{joined}
 use Rattle.quick_trees.proofs.Statements.{does_stmts}
+use Rattle.quick_trees.proofs.Calling.{at_last, does_calls, is_over}
 
-ends_as : (f : Frame) (run : Slots → ℕ → Result (SlotEnd × ℕ) Fault) (vs values : Slots) (t n : ℕ) (m : Memory) (e :
-    Left)
-    → run vs t ≡ Ok (goes_on values, n + 0) → IsMemory f m values → left m n ≡ e → EndsAs f (run vs t) e
-ends_as f run vs values t n m e gives is same = record {
-  values = values;
-  gives = gives
-      ∙ ap (λ n. Ok (goes_on values, n)) (let k : n + 0 ≡ n = omega arith in k ∙ ap (λ (e : Left). e.ticks) same);
-  is = subst (λ (e : Left). IsMemory f e.memory values) same is;
-}
-
-pub body_runs : (z : SlotScope) (body : SlotStmts) (f : Frame) (budget : ℕ) (m : Memory) (vs : List Datum) (e : Left)
-    → IsProgram f z.base body → IsMemory f m vs → Ends f 0 m budget e → EndsAs f (slot_exec_all z body vs budget) e
-body_runs z body f budget m vs e program is runs =
-    let way = program.way in
-    let took = has_taken f 0 e way m budget (stepped f 0 e m budget _ runs program.begins) in
+pub program_runs : (stand_ins : StandIns) (library : SlotLibrary) (base calls depth budget : ℕ) (body : SlotStmts)
+    (f : Frame) (m : Memory) (t : Tracked) (e : Left) → IsProgram f library base calls body → calls ≤ depth
+    → IsMemory f (whole base) (beginning f) m t → Ends f 0 m budget e
+    → EndsAs f base (marked_ran stand_ins library base body f.now depth t budget) e
+unfolding marked_ran
+program_runs stand_ins library base calls depth budget body f m t e program le is runs =
+    let s : Setting = record {
+      frame = f;
+      site = whole base;
+      units = quick_units f library calls;
+      means = marked_units_within stand_ins library f.now depth;
+      stand_ins = stand_ins;
+      marks = [];
+      finish = e;
+      does = does_calls f e stand_ins library calls depth le;
+    } in
+    let holds : Holds f (whole base) [] (beginning f).noted m t = record {
+      noted = record {
+        room = is.room;
+        few = (let long = replicate_long (length f.kinds) Exact in omega arith);
+        are = is.marks;
+      };
+      long = is.long;
+      values = is.values;
+    } in
+    let took = has_taken f 0 e program.way m budget (stepped f 0 e m budget (Jump program.way) runs program.begins) in
     let enough = took.0 in
-    let whole : budget - way.ticks + way.ticks ≡ budget = omega arith in
-    let done = subst (HasRun f z e (slot_exec_all z body) (first_temporary f) program.end 0 m vs) whole
-    (does_stmts f z e body (first_temporary f) (omega arith) way.place way.ticks program.end 0 program.stands m vs
-    (budget - way.ticks) is took.1) in
-    ends_as f (slot_exec_all z body) vs done.values budget done.left done.memory e done.gives done.is
-    (stepped f program.end e done.memory done.left _ done.ends program.ends)
-
-pub program_runs : (stand_ins : StandIns) (library : SlotLibrary) (base depth budget : ℕ) (body : SlotStmts) (f : Frame)
-    (m : Memory) (vs : List Datum) (e : Left) → IsProgram f base body → IsMemory f m vs → Ends f 0 m budget e
-    → EndsAs f (slots_ran stand_ins library base body f.now depth vs budget) e
-unfolding slots_ran
-program_runs stand_ins library base depth budget body f m vs e program is runs =
-    body_runs (record { units = slot_units_within stand_ins library f.now depth; base = base; stand_ins = stand_ins })
-    body
-    f budget m vs e program is runs
+    let ran = does_stmts s body (first_temporary f) (at_last program.last) (along (beginning f) program.way) program.end
+    program.stands m t (budget - program.way.ticks) (whole_site f base) holds took.1 in
+    let over = is_over s (first_temporary f) program.last m ran.end ran.rest
+    (joined s (first_temporary f) (at_last program.last) program.end program.last m ran.end ran.rest program.joins
+    ran.ended) in
+    let left_is : left over.memory over.left ≡ e = stepped f program.last.place e over.memory over.left End over.ends
+    program.ends in
+    let whole_budget : budget ≡ budget - program.way.ticks + (0 + program.way.ticks) = omega arith in
+    let ahead : program.last.ahead ≡ 0 = ap (λ (p : Point). p.ahead) program.last_is in
+    let ticks = over.ticks in
+    let rest : ran.rest ≡ over.left = omega arith in
+    record {
+      end = ran.end;
+      gives = ap (λ n. marked_ran stand_ins library base body f.now depth t n) whole_budget
+          ∙ ran.gives
+          ∙ ap (λ n. Ok (ran.end, n)) (rest ∙ ap (λ (e : Left). e.ticks) left_is);
+      at = program.last;
+      exact = ap (λ (p : Point). p.noted) program.last_is;
+      is = subst (λ (e : Left). IsMemory f (whole base) program.last e.memory (state_of ran.end)) left_is (record {
+        room = over.is.noted.room;
+        long = over.is.long;
+        values = over.is.values;
+        marks = over.is.noted.are;
+      });
+    }

@@ -1,220 +1,226 @@
 -- Code that reads an expression gives the value that the expression has.
-use Rattle.std.proofs.Common.{◌≡◌, ℕ, zero, suc, ◌<◌, ◌≤◌, ℤ, pos, negsuc, Bool, true, false, List}
-use Rattle.std.proofs.Common.{Some, None, Result, Ok, Err, refl, sym, ap, ap₂, subst, ◌∙◌, arith}
+use Rattle.std.proofs.Common.{◌≡◌, ℕ, zero, suc, ◌<◌, ◌≤◌, ℤ, true, List, [], ◌∷◌, length}
+use Rattle.std.proofs.Common.{Some, None, Ok, Err, refl, sym, ap, ap₂, subst, ◌∙◌, arith}
 use Rattle.std.proofs.Common.{◌+◌, ◌*◌, inl, inr}
-use Rattle.std.specs.Prelude.{◌⊎◌, if◌then◌else◌, not, slice_get}
-use Rattle.std.specs.Ordering.{int_eq}
-use Rattle.std.proofs.lemmas.Int.{ints}
-use Rattle.st_words.specs.declared.fault.Fault.{Fault}
+use Rattle.std.specs.Prelude.{◌⊎◌, if◌then◌else◌, slice_get}
+use Rattle.st_words.specs.declared.fault.Fault.TheVariants.{Conversion, Index}
 use Rattle.st_words.specs.declared.kind.Kind.{Kind}
-use Rattle.st_words.specs.declared.kind.Kind.TheVariants.{Bool as Boolean}
 use Rattle.st_words.specs.declared.literal.Literal.{Literal}
 use Rattle.st_words.specs.declared.operator.BinaryOperator.{BinaryOperator}
 use Rattle.st_words.proofs.KindLemmas.{same_kind-refl}
+use Rattle.st_words.specs.Kinds.{holds}
 use Rattle.st_words.specs.Values.{Datum, IsHeld, datum_of_truth}
 use Rattle.st_words.specs.Words.{datum_at, number_at}
-use Rattle.st_types.specs.Failures.{ill_typed, valueless, or_failure, failing}
+use Rattle.st_types.specs.Failures.{StandIns, failing, ill_typed, or_failure, valueless}
 use Rattle.st_types.specs.Evaluation.{known}
-use Rattle.st_types.specs.Operators.{applied, apply, truth}
-use Rattle.st_types.specs.Ticks.{Run, attempt, fault, follow, give}
-use Rattle.quick_code.specs.declared.quick_code.Way.{Way}
-use Rattle.quick_code.specs.QuickRuns.{Left}
-use Rattle.quick_code.specs.QuickSteps.{Memory, look, with_word}
-use Rattle.quick_code.specs.Words.{word_at}
-use Rattle.slot_trees.specs.SlotTrees.{Anchor, SlotExpr, binary, call, compute, constant, load}
-use Rattle.slot_trees.specs.SlotTrees.{no_subscripts, place, subscript_then, unary}
-use Rattle.st_layouts.specs.Shapes.{distance, in_bounds}
-use Rattle.st_words.specs.declared.fault.Fault.TheVariants.{Index}
-use Rattle.slot_trees.specs.SlotEvaluation.{led, slot_at, SlotScope, loaded, slot_truth, slot_value}
-use Rattle.quick_code.specs.Words.{word_of_truth}
-use Rattle.quick_trees.specs.Pieces.{IsComputedBy, IsNumber, IsTruth}
-use Rattle.quick_code.specs.QuickSteps.{act}
-use Rattle.quick_trees.specs.Instructions.{truth_branch}
-use Rattle.quick_trees.proofs.Operators.{turn_for}
-use Rattle.quick_trees.proofs.Operators.{has_compared_to, has_computed_by, has_truth}
-use Rattle.st_words.specs.declared.operator.UnaryOperator.TheVariants.{Negate, Not}
-use Rattle.st_types.specs.Operators.{apply_unary}
-use Rattle.std.specs.Prelude.{[], ◌∷◌}
-use Rattle.st_words.specs.declared.fault.Fault.TheVariants.{Conversion}
-use Rattle.st_words.specs.Kinds.{holds}
+use Rattle.st_types.specs.Operators.{applied, apply}
 use Rattle.st_types.specs.StandardFunctions.{ABS, CONVERT, LIMIT, MAX, MIN, ROL, ROR, SEL, SHL, SHR, conversion}
 use Rattle.st_types.specs.StandardFunctions.{standard_value}
-use Rattle.slot_trees.specs.SlotTrees.{expr_then, no_exprs}
-use Rattle.quick_trees.specs.Pieces.{IsWider}
-use Rattle.quick_trees.proofs.Elements.{narrow_number}
-use Rattle.quick_trees.specs.QuickMemory.{Ends, Frame, IsHeldAt, IsMemory, first_temporary}
-use Rattle.quick_trees.specs.Pieces.{AreRead, IsComputed, IsMoved}
-use Rattle.quick_trees.specs.Standing.{IsAssigned, IsRead}
-use Rattle.quick_trees.specs.Pieces.{IsFetched, IsTemporary}
-use Rattle.quick_trees.specs.Pieces.{IsTested}
-use Rattle.quick_trees.specs.Standing.{IsTestedFor}
-use Rattle.quick_trees.proofs.Stepping.{Follows, HasBranched, has_branched, stepped}
-use Rattle.quick_trees.proofs.Memories.{Keeps, keeps_all, keeps_below, keeps_both, keeps_word, slot_there, still_memory}
-use Rattle.quick_trees.proofs.Memories.{there_within, word_here}
-use Rattle.quick_trees.proofs.Elements.{LeadsTo, element_is, has_loaded}
-use Rattle.quick_trees.proofs.Operators.{has_compared, has_computed}
+use Rattle.st_types.specs.Ticks.{attempt, fault, follow, give}
+use Rattle.st_layouts.specs.Shapes.{distance, in_bounds}
+use Rattle.machine_code.specs.Tracking.{Tracked, looked}
+use Rattle.quick_code.specs.QuickSteps.{Memory, look, note, noted_read, with_word}
+use Rattle.quick_code.specs.Words.{word_of_truth}
+use Rattle.slot_trees.specs.SlotTrees.{Anchor, SlotExpr, SlotExprs, binary, call, compute, constant, expr_then, load}
+use Rattle.slot_trees.specs.SlotTrees.{no_exprs, no_subscripts, place, subscript_then, unary}
+use Rattle.slot_trees.specs.SlotEvaluation.{slot_at}
+use Rattle.tree_code.specs.MarkedEvaluation.{MarkedScope, marked_led, marked_load, marked_value, marked_values}
+use Rattle.quick_trees.specs.Points.{Part, Point}
+use Rattle.quick_trees.specs.QuickMemory.{Ends, Frame}
+use Rattle.quick_trees.specs.Sites.{HasOwnWord, base_of}
+use Rattle.quick_trees.specs.Pieces.{AreRead, IsComputed, IsComputedBy, IsFetched, IsNumber, IsTemporary}
+use Rattle.quick_trees.specs.Pieces.{IsTruth, IsWider}
+use Rattle.quick_trees.specs.Standing.{AreArguments, IsCall, IsRead}
+use Rattle.quick_trees.proofs.Lists.{some_is, there_within}
+use Rattle.quick_trees.proofs.Stepping.{stepped}
+use Rattle.quick_trees.proofs.Memories.{Holds, IsSite, Keeps, deeper, holds_kept, holds_loaded, holds_looked}
+use Rattle.quick_trees.proofs.Memories.{holds_temporary, keeps_all, keeps_below, keeps_both, keeps_less, keeps_word}
+use Rattle.quick_trees.proofs.Memories.{marks_of, own_value, with_look, word_here}
+use Rattle.quick_trees.proofs.Elements.{LeadsTo, element_is, has_loaded, narrow_number}
+use Rattle.quick_trees.proofs.Operators.{has_computed, has_computed_by, has_truth}
+use Rattle.quick_trees.proofs.Truths.{then_gives, truth_held, truth_word}
+use Rattle.quick_trees.proofs.Settings.{AreGiven, Setting, scope_of}
+use Rattle.st_words.specs.declared.kind.Kind.TheVariants.{Bool as Boolean}
 
--- one part after another that gave something
-pub then_gives : {A B : Type 0} (r : Result (A × ℕ) Fault) (a : A) (c : ℕ) (f : A → Run B) → r ≡ Ok (a, c)
-    → follow r f ≡ f a c
-then_gives r a c f e = ap (λ r. follow r f) e
+-- the value of a slot is loaded, which is marked
+load_gives : (t : StandIns) (tr : Tracked) (k : ℕ) (v : Datum) (n : ℕ) → slice_get tr.values k ≡ Some v → IsHeld v
+    → marked_load t tr k n ≡ Ok ((v, with_look tr k), n)
+load_gives t tr k v n at held =
+    ap (λ o. follow (attempt t (or_failure valueless (looked tr k o)) n)
+    (λ r. λ b. follow (attempt t (or_failure valueless (known (Some r.0))) b) (λ v. give (v, r.1)))) at
+    ∙ ap (λ h. follow (attempt t (or_failure valueless (if h then Some v else None)) n) (λ v. give (v, with_look tr k)))
+    held
 
--- the truth that a BOOL is
-truth_of_truth : (go : Bool) → truth (datum_of_truth go) ≡ Ok go
-truth_of_truth true = refl
-truth_of_truth false = refl
+module _ (s : Setting) where
+  abbrev f : Frame
+  f = s.frame
 
--- a branch is taken when a condition fails where one is taken unless it holds
-turned : (when go : Bool) → turn_for (not when) go ≡ turn_for when (not go)
-turned true go = refl
-turned false true = refl
-turned false false = refl
+  abbrev z : MarkedScope
+  z = scope_of s
 
--- the word of a truth is that of the value
-truth_word : (go : Bool) → datum_at Boolean (word_of_truth go) ≡ datum_of_truth go
-truth_word true = refl
-truth_word false = refl
+  abbrev pub AreHeld : Point → Memory → Tracked → Type 0
+  AreHeld p m t = Holds s.frame s.site s.marks p.noted m t
 
-truth_held : (go : Bool) → IsHeld (datum_at Boolean (word_of_truth go))
-truth_held true = refl
-truth_held false = refl
+  abbrev pub Is : SlotExpr → Kind → ℕ → ℕ → Part
+  Is e t d k = IsRead s.frame s.site s.units e t d k
 
-truth_is_word : (w : ℤ) → IsHeld (datum_at Boolean w) → datum_at Boolean w ≡ datum_of_truth (not (int_eq w (pos 0)))
-truth_is_word (pos zero) h = refl
-truth_is_word (pos (suc zero)) h = refl
-truth_is_word (pos (suc (suc n))) h = absurd (above n h)
-  where
-    above : (n : ℕ) → IsHeld (datum_at Boolean (pos (suc (suc n)))) → ⊥
-    above n h = grind (arith, ints)
-truth_is_word (negsuc n) h = absurd (below n h)
-  where
-    below : (n : ℕ) → IsHeld (datum_at Boolean (negsuc n)) → ⊥
-    below n h = grind (arith, ints)
-
-not_is : (go : Bool) → apply_unary Not (datum_of_truth go) ≡ Ok (datum_of_truth (not go))
-not_is true = refl
-not_is false = refl
-
-not_not : (t : Bool) → not (not t) ≡ t
-not_not true = refl
-not_not false = refl
-
-module _ (f : Frame) (z : SlotScope) (x : Left) where
   -- An expression was read: a word has its value now.
-  pub record HasRead (e : SlotExpr) (t : Kind) (d k q : ℕ) (m : Memory) (vs : List Datum) (b : ℕ) : Type 0 where
-    pub memory : Memory
-    pub keeps : Keeps d m memory
-    pub value : (c : ℕ) → slot_value z vs e c ≡ Ok (datum_at t (word_at memory.words k), c)
-    pub held : IsHeldAt memory.words t k
-    pub low : k < suc d
-    pub ends : Ends f q memory b x
+  pub record HasRead (e : SlotExpr) (t : Kind) (d k : ℕ) (p q : Point) (m : Memory) (tr : Tracked) (b : ℕ) : Type 0
+    where
+      pub memory : Memory
+      pub tracked : Tracked
+      pub left : ℕ
+      pub gives : marked_value z tr e (b + p.ahead) ≡ Ok ((datum_at t (look memory k), tracked), left + q.ahead)
+      pub fewer : left + q.ahead ≤ b + p.ahead
+      pub keeps : Keeps d m memory
+      pub is : AreHeld q memory tracked
+      pub held : IsHeld (datum_at t (look memory k))
+      pub low : k < suc d
+      pub ends : Ends f q.place memory left s.finish
+
+  -- how code does something that begins at a point
+  abbrev pub From : ℕ → Point → (Memory → Tracked → ℕ → Type 0) → Type 0
+  From d p Then =
+      (m : Memory) (tr : Tracked) (b : ℕ) → IsSite s.frame s.site d → AreHeld p m tr → Ends f p.place m b s.finish
+      → Then m tr b
 
   -- how code reads an expression
   abbrev pub Reads : SlotExpr → Kind → ℕ → Type 0
-  Reads e t d =
-      (k p q : ℕ) → IsRead f z.base e t d k p q → (m : Memory) (vs : List Datum) (b : ℕ) → first_temporary f ≤ d
-      → IsMemory f m vs → Ends f p m b x → HasRead e t d k q m vs b
+  Reads e t d = (k : ℕ) (p q : Point) → Is e t d k p q → From d p (HasRead e t d k p q)
 
   -- Two expressions were read.
-  record HaveRead (l r : SlotExpr) (t u : Kind) (d i j q : ℕ) (m : Memory) (vs : List Datum) (b : ℕ) : Type 0 where
-    memory : Memory
-    keeps : Keeps d m memory
-    is : IsMemory f memory vs
-    first : (c : ℕ) → slot_value z vs l c ≡ Ok (datum_at t (word_at memory.words i), c)
-    second : (c : ℕ) → slot_value z vs r c ≡ Ok (datum_at u (word_at memory.words j), c)
-    held_first : IsHeldAt memory.words t i
-    held_second : IsHeldAt memory.words u j
-    ends : Ends f q memory b x
+  pub record HaveRead (l r : SlotExpr) (t u : Kind) (d i j : ℕ) (p q : Point) (m : Memory) (tr : Tracked) (b : ℕ) :
+      Type 0
+    where
+      pub memory : Memory
+      pub between : Tracked
+      pub then_left : ℕ
+      pub tracked : Tracked
+      pub left : ℕ
+      pub first : marked_value z tr l (b + p.ahead) ≡ Ok ((datum_at t (look memory i), between), then_left)
+      pub second : marked_value z between r then_left ≡ Ok ((datum_at u (look memory j), tracked), left + q.ahead)
+      pub fewer : left + q.ahead ≤ b + p.ahead
+      pub keeps : Keeps d m memory
+      pub is : AreHeld q memory tracked
+      pub held_first : IsHeld (datum_at t (look memory i))
+      pub held_second : IsHeld (datum_at u (look memory j))
+      pub ends : Ends f q.place memory left s.finish
 
-  read_both : (l r : SlotExpr) (t : Kind) (d i j p q : ℕ) → Reads l t d → Reads r t (suc d)
-      → AreRead (IsRead f z.base l t d) (IsRead f z.base r t (suc d)) i j p q → (m : Memory) (vs : List Datum) (b : ℕ)
-      → first_temporary f ≤ d → IsMemory f m vs → Ends f p m b x → HaveRead l r t t d i j q m vs b
-  read_both l r t d i j p q reads_l reads_r are m vs b le is runs =
-      let one = reads_l i p are.middle are.first m vs b le is runs in
-      let kept = still_memory f m vs is d one.memory le one.keeps in
-      let two = reads_r j are.middle q are.second one.memory vs b (omega arith) kept one.ends in
-      let same = keeps_word (suc d) one.memory two.memory i two.keeps one.low in record {
+  pub read_both : (l r : SlotExpr) (t : Kind) (d i j : ℕ) (p q : Point) → Reads l t d → Reads r t (suc d)
+      → AreRead (Is l t d) (Is r t (suc d)) i j p q → From d p (HaveRead l r t t d i j p q)
+  read_both l r t d i j p q reads_l reads_r are m tr b site is runs =
+      let one = reads_l i p are.middle are.first m tr b site is runs in
+      let two = reads_r j are.middle q are.second one.memory one.tracked one.left
+      (deeper s.frame s.site d (suc d) (omega arith) site) one.is one.ends in
+      let same = keeps_word (suc d) one.memory two.memory i two.keeps one.low in
+      let few_one = one.fewer in
+      let few_two = two.fewer in record {
         memory = two.memory;
+        between = one.tracked;
+        then_left = one.left + are.middle.ahead;
+        tracked = two.tracked;
+        left = two.left;
+        first = one.gives ∙ ap (λ w. Ok ((datum_at t w, one.tracked), one.left + are.middle.ahead)) (sym same);
+        second = two.gives;
+        fewer = omega arith;
         keeps = keeps_both d (suc d) m one.memory two.memory (omega arith) one.keeps two.keeps;
-        is = still_memory f one.memory vs kept (suc d) two.memory (omega arith) two.keeps;
-        first = λ c. one.value c ∙ ap (λ w. Ok (datum_at t w, c)) (sym same);
-        second = two.value;
+        is = two.is;
         held_first = subst (λ w. IsHeld (datum_at t w)) (sym same) one.held;
         held_second = two.held;
         ends = two.ends;
       }
 
   -- what an operator gives of two values of a type
-  applied_to : (op : BinaryOperator) (l r : SlotExpr) (t : Kind) (v w : ℤ) (vs : List Datum) (c : ℕ) (y : Datum)
-      → slot_value z vs l c ≡ Ok (datum_at t v, c) → slot_value z vs r c ≡ Ok (datum_at t w, c)
-      → applied op t (number_at t v) (number_at t w) ≡ Ok y → slot_value z vs (binary op l r) c ≡ Ok (y, c)
-  applied_to op l r t v w vs c y first second gives =
-      then_gives (slot_value z vs l c) (datum_at t v) c
-      (λ a. λ c. follow (slot_value z vs r c) (λ b. attempt z.stand_ins (apply op a b))) first
-      ∙ then_gives (slot_value z vs r c) (datum_at t w) c (λ b. attempt z.stand_ins (apply op (datum_at t v) b)) second
-      ∙ ap (λ s. attempt z.stand_ins
-      (if s then failing (applied op t (number_at t v) (number_at t w)) else Err ill_typed) c) (same_kind-refl t)
-      ∙ ap (λ o. attempt z.stand_ins (failing o) c) gives
+  pub applied_to : (op : BinaryOperator) (l r : SlotExpr) (t : Kind) (v w : ℤ) (tr tr' tr'' : Tracked) (a b c : ℕ)
+      (y : Datum) → marked_value z tr l a ≡ Ok ((datum_at t v, tr'), b)
+      → marked_value z tr' r b ≡ Ok ((datum_at t w, tr''), c) → applied op t (number_at t v) (number_at t w) ≡ Ok y
+      → marked_value z tr (binary op l r) a ≡ Ok ((y, tr''), c)
+  applied_to op l r t v w tr tr' tr'' a b c y first second gives =
+      then_gives (marked_value z tr l a) (datum_at t v, tr') b
+      (λ u. λ n. follow (marked_value z u.1 r n)
+      (λ i. λ n. follow (attempt s.stand_ins (apply op u.0 i.0) n) (λ v. give (v, i.1)))) first
+      ∙ then_gives (marked_value z tr' r b) (datum_at t w, tr'') c
+      (λ i. λ n. follow (attempt s.stand_ins (apply op (datum_at t v) i.0) n) (λ v. give (v, i.1))) second
+      ∙ ap (λ h. follow (attempt s.stand_ins
+      (if h then failing (applied op t (number_at t v) (number_at t w)) else Err ill_typed) c) (λ v. give (v, tr'')))
+      (same_kind-refl t)
+      ∙ ap (λ o. follow (attempt s.stand_ins (failing o) c) (λ v. give (v, tr''))) gives
 
   -- The value of an expression was assigned to a word.
-  pub record HasMade (e : SlotExpr) (t : Kind) (d to q : ℕ) (m : Memory) (vs : List Datum) (b : ℕ) : Type 0 where
-    pub memory : Memory
-    pub keeps : Keeps d m memory
-    pub word : ℤ
-    pub value : (c : ℕ) → slot_value z vs e c ≡ Ok (datum_at t word, c)
-    pub held : IsHeld (datum_at t word)
-    pub ends : Ends f q (with_word memory to word) b x
+  pub record HasMade (e : SlotExpr) (t : Kind) (d to : ℕ) (p q : Point) (m : Memory) (tr : Tracked) (b : ℕ) : Type 0
+    where
+      pub memory : Memory
+      pub tracked : Tracked
+      pub left : ℕ
+      pub word : ℤ
+      pub gives : marked_value z tr e (b + p.ahead) ≡ Ok ((datum_at t word, tracked), left + q.ahead)
+      pub fewer : left + q.ahead ≤ b + p.ahead
+      pub keeps : Keeps d m memory
+      pub is : AreHeld q memory tracked
+      pub held : IsHeld (datum_at t word)
+      pub ends : Ends f q.place (with_word memory to word) left s.finish
 
-  made_by : (op : BinaryOperator) (l r : SlotExpr) (t : Kind) (d to p q : ℕ) → Reads l t d → Reads r t (suc d)
-      → IsComputed f (IsRead f z.base l t d) (IsRead f z.base r t (suc d)) op t to p q
-      → (m : Memory) (vs : List Datum) (b : ℕ) → first_temporary f ≤ d → IsMemory f m vs → Ends f p m b x
-      → HasMade (binary op l r) t d to q m vs b
-  made_by op l r t d to p q reads_l reads_r is m vs b le of runs =
-      let both = read_both l r t d is.left is.right p is.last reads_l reads_r is.reads m vs b le of runs in
-      let step = stepped f is.last x both.memory b is.stands.instr both.ends is.stands.at in
-      let done = has_computed f is.last x both.memory b op t is.left is.right to is.stands.instr is.stands.is
-      both.held_first both.held_second step in record {
+  made_by : (op : BinaryOperator) (l r : SlotExpr) (t : Kind) (d to : ℕ) (p q : Point) → Reads l t d
+      → Reads r t (suc d) → IsComputed f (Is l t d) (Is r t (suc d)) op t to p q
+      → From d p (HasMade (binary op l r) t d to p q)
+  made_by op l r t d to p q reads_l reads_r is m tr b site of runs =
+      let both = read_both l r t d is.left is.right p is.last reads_l reads_r is.reads m tr b site of runs in
+      let step = stepped f is.last.place s.finish both.memory both.left is.stands.instr both.ends is.stands.at in
+      let done = has_computed f is.last.place s.finish both.memory both.left op t is.left is.right to is.stands.instr
+      is.stands.is both.held_first both.held_second step in
+      subst (λ q. HasMade (binary op l r) t d to p q m tr b) (sym is.next) (record {
         memory = both.memory;
-        keeps = both.keeps;
+        tracked = both.tracked;
+        left = both.left;
         word = done.word;
-        value = λ c. applied_to op l r t (look both.memory is.left) (look both.memory is.right) vs c
-            (datum_at t done.word) (both.first c) (both.second c) done.result.value;
-        held = done.result.held;
-        ends = subst (λ q. Ends f q (with_word both.memory to done.word) b x) (sym is.next) done.ends;
-      }
-
-  truth_by : (op : BinaryOperator) (l r : SlotExpr) (t : Kind) (d to p q : ℕ) → ((u : Kind) → Reads l u d)
-      → ((u : Kind) → Reads r u (suc d))
-      → IsTruth f (λ u. IsRead f z.base l u d) (λ u. IsRead f z.base r u (suc d)) op t to p q
-      → (m : Memory) (vs : List Datum) (b : ℕ) → first_temporary f ≤ d → IsMemory f m vs → Ends f p m b x
-      → HasMade (binary op l r) t d to q m vs b
-  truth_by op l r t d to p q reads_l reads_r is m vs b le of runs =
-      let u = is.kind in
-      let both = read_both l r u d is.left is.right p is.last (reads_l u) (reads_r u) is.reads m vs b le of runs in
-      let step = stepped f is.last x both.memory b is.stands.instr both.ends is.stands.at in
-      let done = has_truth f is.last x both.memory b op u is.left is.right to is.stands.instr is.stands.is step in
-      subst (λ t. HasMade (binary op l r) t d to q m vs b) (sym is.truth) (record {
-        memory = both.memory;
+        gives = applied_to op l r t (look both.memory is.left) (look both.memory is.right) tr both.between both.tracked
+            (b + p.ahead) both.then_left (both.left + is.last.ahead) (datum_at t done.word) both.first both.second
+            done.result.value;
+        fewer = both.fewer;
         keeps = both.keeps;
-        word = word_of_truth done.go;
-        value = λ c. applied_to op l r u (look both.memory is.left) (look both.memory is.right) vs c
-            (datum_of_truth done.go) (both.first c) (both.second c) done.is
-            ∙ ap (λ v. Ok (v, c)) (sym (truth_word done.go));
-        held = truth_held done.go;
-        ends = subst (λ q. Ends f q (with_word both.memory to (word_of_truth done.go)) b x) (sym is.next) done.ends;
+        is = both.is;
+        held = done.result.held;
+        ends = done.ends;
       })
 
-  -- a constant has its value
-  number_gives : (r : SlotExpr) (t : Kind) (w : ℤ) (vs : List Datum) (c : ℕ) → IsNumber r t w
-      → slot_value z vs r c ≡ Ok (datum_at t w, c)
-  number_gives (constant l) t w vs c is = ap (λ r. attempt z.stand_ins r c) is.0
-  number_gives (load l) t w vs c is = absurd is
-  number_gives (compute g es) t w vs c is = absurd is
-  number_gives (call g es) t w vs c is = absurd is
-  number_gives (unary op e) t w vs c is = absurd is
-  number_gives (binary op x y) t w vs c is = absurd is
+  truth_by : (op : BinaryOperator) (l r : SlotExpr) (t : Kind) (d to : ℕ) (p q : Point) → ((u : Kind) → Reads l u d)
+      → ((u : Kind) → Reads r u (suc d)) → IsTruth f (λ u. Is l u d) (λ u. Is r u (suc d)) op t to p q
+      → From d p (HasMade (binary op l r) t d to p q)
+  truth_by op l r t d to p q reads_l reads_r is m tr b site of runs =
+      let u = is.kind in
+      let both = read_both l r u d is.left is.right p is.last (reads_l u) (reads_r u) is.reads m tr b site of runs in
+      let step = stepped f is.last.place s.finish both.memory both.left is.stands.instr both.ends is.stands.at in
+      let done = has_truth f is.last.place s.finish both.memory both.left op u is.left is.right to is.stands.instr
+      is.stands.is step in
+      subst (λ t. HasMade (binary op l r) t d to p q m tr b) (sym is.truth)
+      (subst (λ q. HasMade (binary op l r) Boolean d to p q m tr b)
+      (sym is.next) (record {
+        memory = both.memory;
+        tracked = both.tracked;
+        left = both.left;
+        word = word_of_truth done.go;
+        gives = applied_to op l r u (look both.memory is.left) (look both.memory is.right) tr both.between both.tracked
+            (b + p.ahead) both.then_left (both.left + is.last.ahead) (datum_of_truth done.go) both.first both.second
+            done.is
+            ∙ ap (λ v. Ok ((v, both.tracked), both.left + is.last.ahead)) (sym (truth_word done.go));
+        fewer = both.fewer;
+        keeps = both.keeps;
+        is = both.is;
+        held = truth_held done.go;
+        ends = done.ends;
+      }))
 
-  number_held : (r : SlotExpr) (t : Kind) (w : ℤ) → IsNumber r t w → IsHeld (datum_at t w)
+  -- a constant has its value
+  pub number_gives : (r : SlotExpr) (t : Kind) (w : ℤ) (tr : Tracked) (n : ℕ) → IsNumber r t w
+      → marked_value z tr r n ≡ Ok ((datum_at t w, tr), n)
+  number_gives (constant l) t w tr n is = ap (λ r. follow (attempt s.stand_ins r n) (λ v. give (v, tr))) is.0
+  number_gives (load l) t w tr n is = absurd is
+  number_gives (compute g es) t w tr n is = absurd is
+  number_gives (call g es) t w tr n is = absurd is
+  number_gives (unary op e) t w tr n is = absurd is
+  number_gives (binary op x y) t w tr n is = absurd is
+
+  pub number_held : (r : SlotExpr) (t : Kind) (w : ℤ) → IsNumber r t w → IsHeld (datum_at t w)
   number_held (constant l) t w is = is.1
   number_held (load l) t w is = absurd is
   number_held (compute g es) t w is = absurd is
@@ -222,123 +228,153 @@ module _ (f : Frame) (z : SlotScope) (x : Left) where
   number_held (unary op e) t w is = absurd is
   number_held (binary op x y) t w is = absurd is
 
-  computed_by : (op : BinaryOperator) (l r : SlotExpr) (t : Kind) (d to p q : ℕ) → Reads l t d
-      → IsComputedBy f (IsRead f z.base l t d) op t r to p q → (m : Memory) (vs : List Datum) (b : ℕ)
-      → first_temporary f ≤ d → IsMemory f m vs → Ends f p m b x → HasMade (binary op l r) t d to q m vs b
-  computed_by op l r t d to p q reads_l is m vs b le of runs =
-      let one = reads_l is.left p is.last is.reads m vs b le of runs in
-      let step = stepped f is.last x one.memory b is.stands.instr one.ends is.stands.at in
-      let done = has_computed_by f is.last x one.memory b op t is.left is.word to is.stands.instr is.stands.is one.held
-      (number_held r t is.word is.number) step in record {
+  computed_by : (op : BinaryOperator) (l r : SlotExpr) (t : Kind) (d to : ℕ) (p q : Point) → Reads l t d
+      → IsComputedBy f (Is l t d) op t r to p q → From d p (HasMade (binary op l r) t d to p q)
+  computed_by op l r t d to p q reads_l is m tr b site of runs =
+      let one = reads_l is.left p is.last is.reads m tr b site of runs in
+      let step = stepped f is.last.place s.finish one.memory one.left is.stands.instr one.ends is.stands.at in
+      let done = has_computed_by f is.last.place s.finish one.memory one.left op t is.left is.word to is.stands.instr
+      is.stands.is one.held (number_held r t is.word is.number) step in
+      subst (λ q. HasMade (binary op l r) t d to p q m tr b) (sym is.next) (record {
         memory = one.memory;
-        keeps = one.keeps;
+        tracked = one.tracked;
+        left = one.left;
         word = done.word;
-        value = λ c. applied_to op l r t (look one.memory is.left) is.word vs c (datum_at t done.word) (one.value c)
-            (number_gives r t is.word vs c is.number) done.result.value;
+        gives = applied_to op l r t (look one.memory is.left) is.word tr one.tracked one.tracked (b + p.ahead)
+            (one.left + is.last.ahead) (one.left + is.last.ahead) (datum_at t done.word) one.gives
+            (number_gives r t is.word one.tracked (one.left + is.last.ahead) is.number) done.result.value;
+        fewer = one.fewer;
+        keeps = one.keeps;
+        is = one.is;
         held = done.result.held;
-        ends = subst (λ q. Ends f q (with_word one.memory to done.word) b x) (sym is.next) done.ends;
-      }
+        ends = done.ends;
+      })
 
   -- what an operator makes, computed or compared
-  binary_by : (op : BinaryOperator) (l r : SlotExpr) (t : Kind) (d to p q : ℕ) → ((u : Kind) → Reads l u d)
+  pub binary_by : (op : BinaryOperator) (l r : SlotExpr) (t : Kind) (d to : ℕ) (p q : Point) → ((u : Kind)
+      → Reads l u d)
       → ((u : Kind) → Reads r u (suc d))
-      → IsComputed f (IsRead f z.base l t d) (IsRead f z.base r t (suc d)) op t to p q
-      ⊎ (IsTruth f (λ u. IsRead f z.base l u d) (λ u. IsRead f z.base r u (suc d)) op t to p q
-      ⊎ IsComputedBy f (IsRead f z.base l t d) op t r to p q)
-      → (m : Memory) (vs : List Datum) (b : ℕ) → first_temporary f ≤ d → IsMemory f m vs → Ends f p m b x
-      → HasMade (binary op l r) t d to q m vs b
-  binary_by op l r t d to p q reads_l reads_r (inl is) m vs b le of runs =
-      made_by op l r t d to p q (reads_l t) (reads_r t) is m vs b le of runs
-  binary_by op l r t d to p q reads_l reads_r (inr (inl is)) m vs b le of runs =
-      truth_by op l r t d to p q reads_l reads_r is m vs b le of runs
-  binary_by op l r t d to p q reads_l reads_r (inr (inr is)) m vs b le of runs =
-      computed_by op l r t d to p q (reads_l t) is m vs b le of runs
+      → IsComputed f (Is l t d) (Is r t (suc d)) op t to p q
+      ⊎ (IsTruth f (λ u. Is l u d) (λ u. Is r u (suc d)) op t to p q ⊎ IsComputedBy f (Is l t d) op t r to p q)
+      → From d p (HasMade (binary op l r) t d to p q)
+  binary_by op l r t d to p q reads_l reads_r (inl is) =
+      made_by op l r t d to p q (reads_l t) (reads_r t) is
+  binary_by op l r t d to p q reads_l reads_r (inr (inl is)) =
+      truth_by op l r t d to p q reads_l reads_r is
+  binary_by op l r t d to p q reads_l reads_r (inr (inr is)) =
+      computed_by op l r t d to p q (reads_l t) is
 
   read_constant : (l : Literal) (t : Kind) (d : ℕ) → Reads (constant l) t d
-  read_constant l t d k p q is m vs b le of runs =
+  read_constant l t d k p q is m tr b site of runs =
       let c = is.1 in
-      let at : datum_at t (word_at m.words k) ≡ c.value =
-      ap₂ (λ t k. datum_at t (word_at m.words k)) (sym c.of_type) c.place ∙ of.constants c.index c.value c.among in
+      let at : datum_at t (look m k) ≡ c.value =
+      ap₂ (λ t k. datum_at t (look m k)) (sym c.of_type) c.place ∙ of.noted.room.constants c.index c.value c.among in
       let place = c.place in
-      let lt = there_within f.constants c.index c.value c.among in record {
+      let deep = site.deep in
+      let lt = there_within s.frame.constants c.index c.value c.among in
+      subst (λ q. HasRead (constant l) t d k p q m tr b) is.0 (record {
         memory = m;
+        tracked = tr;
+        left = b;
+        gives = ap (λ r. follow (attempt s.stand_ins r (b + p.ahead)) (λ v. give (v, tr))) c.of_literal
+            ∙ ap (λ v. Ok ((v, tr), b + p.ahead)) (sym at);
+        fewer = omega arith;
         keeps = keeps_all d m;
-        value = λ n. ap (λ r. attempt z.stand_ins r n) c.of_literal ∙ ap (λ v. Ok (v, n)) (sym at);
-        held = subst IsHeld (sym at) (of.held c.index c.value c.among);
+        is = of;
+        held = subst IsHeld (sym at) (of.noted.room.held c.index c.value c.among);
         low = omega arith;
-        ends = subst (λ p. Ends f p m b x) is.0 runs;
-      }
+        ends = runs;
+      })
 
   read_slot : (a : Anchor) (t : Kind) (d : ℕ) → Reads (load (place a no_subscripts)) t d
-  read_slot a t d k p q is m vs b le of runs =
-      let v = datum_at t (word_at m.words k) in
-      let held = of.slots k t is.2 in
-      let lt = there_within f.kinds k t is.2 in record {
+  read_slot a t d k p q is m tr b site of runs =
+      let slot = slot_at (base_of s.site) a in
+      let value = of.values slot k t is.of_type is.has in
+      let lt = site.below slot k t is.of_type is.has in
+      subst (λ q. HasRead (load (place a no_subscripts)) t d k p q m tr b) (sym is.is) (record {
         memory = m;
+        tracked = with_look tr slot;
+        left = b;
+        gives = load_gives s.stand_ins tr slot (datum_at t (look m k)) (b + p.ahead) value.is value.held;
+        fewer = omega arith;
         keeps = keeps_all d m;
-        value = λ c. ap (λ j. loaded z vs j c) (sym is.1)
-            ∙ ap (λ o. attempt z.stand_ins (or_failure valueless (known o)) c) (slot_there f m vs of k t is.2)
-            ∙ ap (λ h. attempt z.stand_ins (or_failure valueless (if h then Some v else None)) c) held;
-        held = held;
+        is = holds_looked s.frame s.site s.marks p.noted m tr of slot q.noted is.touches;
+        held = value.held;
         low = omega arith;
-        ends = subst (λ p. Ends f p m b x) is.0 runs;
-      }
+        ends = runs;
+      })
 
   -- a subscript was read: what led to a place of the array leads there in the tree
-  pub led_by : (e : SlotExpr) (lower : ℤ) (first count stride : ℕ) (t : Kind) (w : ℤ) (k : ℕ) (vs : List Datum) (c : ℕ)
-      → slot_value z vs e c ≡ Ok (datum_at t w, c) → LeadsTo lower first count stride (number_at t w) k
-      → led z vs first (subscript_then e lower count stride no_subscripts) c ≡ Ok (k, c)
-  led_by e lower first count stride t w k vs c value leads =
-      then_gives (slot_value z vs e c) (datum_at t w) c (λ v. if in_bounds lower count v.number
-      then give (first + distance lower v.number * stride) else fault Index) value
-      ∙ ap (λ u. (if u then give (first + distance lower (number_at t w) * stride) else fault Index) c) leads.inside
-      ∙ ap (λ j. Ok (first + j * stride, c)) leads.behind
-      ∙ ap (λ j. Ok (j, c)) (sym leads.place)
+  pub led_by : (e : SlotExpr) (lower : ℤ) (first count stride : ℕ) (t : Kind) (w : ℤ) (k : ℕ) (tr tr' : Tracked)
+      (a b : ℕ)
+      → marked_value z tr e a ≡ Ok ((datum_at t w, tr'), b) → LeadsTo lower first count stride (number_at t w) k
+      → marked_led z tr first (subscript_then e lower count stride no_subscripts) a ≡ Ok ((k, tr'), b)
+  led_by e lower first count stride t w k tr tr' a b value leads =
+      then_gives (marked_value z tr e a) (datum_at t w, tr') b (λ r. if in_bounds lower count r.0.number
+      then give (first + distance lower r.0.number * stride, r.1) else fault Index) value
+      ∙ ap (λ u. (if u then give (first + distance lower (number_at t w) * stride, tr') else fault Index) b)
+      leads.inside
+      ∙ ap (λ j. Ok ((first + j * stride, tr'), b)) leads.behind
+      ∙ ap (λ j. Ok ((j, tr'), b)) (sym leads.place)
 
-  fetched_by : (a : Anchor) (e : SlotExpr) (lower : ℤ) (count stride : ℕ) (t : Kind) (d to p q : ℕ)
+  pub fetched_by : (a : Anchor) (e : SlotExpr) (lower : ℤ) (count stride : ℕ) (t : Kind) (d to : ℕ) (p q : Point)
       → ((u : Kind) → Reads e u d)
-      → IsFetched f (λ u. IsRead f z.base e u d) lower (slot_at z.base a) count stride t to p q
-      → (m : Memory) (vs : List Datum) (b : ℕ) → first_temporary f ≤ d → IsMemory f m vs → Ends f p m b x
-      → HasMade (load (place a (subscript_then e lower count stride no_subscripts))) t d to q m vs b
-  fetched_by a e lower count stride t d to p q reads_e is m vs b le of runs =
-      let first = slot_at z.base a in
+      → IsFetched f s.site (λ u. Is e u d) lower (slot_at (base_of s.site) a) count stride t to p q
+      → From d p (HasMade (load (place a (subscript_then e lower count stride no_subscripts))) t d to p q)
+  fetched_by a e lower count stride t d to p q reads_e is m tr b site of runs =
+      let first = slot_at (base_of s.site) a in
       let u = is.subscript.kind in
-      let one = reads_e u is.index p is.last is.subscript.reads m vs b le of runs in
-      let kept = still_memory f m vs of d one.memory le one.keeps in
+      let one = reads_e u is.index p is.last is.subscript.reads m tr b site of runs in
       let w = look one.memory is.index in
-      let done = has_loaded f is.last x one.memory b is.index is.shift to first count stride is.loads one.ends in
-      let leads = element_is lower is.shift first count stride u w done.place is.subscript.from_lower
-      is.subscript.narrow
-      done.is in
-      let slot : slice_get f.kinds done.place ≡ Some t =
-      ap (slice_get f.kinds) leads.place ∙ is.elements.each leads.before leads.less in
-      let v = datum_at t (look one.memory done.place) in
-      let held = kept.slots done.place t slot in record {
-        memory = one.memory;
-        keeps = one.keeps;
+      let done = has_loaded f is.last.place s.finish one.memory one.left is.index is.shift to is.word count stride
+      is.loads one.ends in
+      let leads = element_is lower is.shift first is.word count stride u w done.place is.subscript.from_lower
+      is.subscript.narrow done.is in
+      let k = first + leads.before * stride in
+      let own = subst (HasOwnWord s.site k) (sym leads.place) (is.elements.words leads.before leads.less) in
+      let target = is.elements.each leads.before leads.less in
+      let value = own_value s.frame s.site s.marks is.last.noted one.memory one.tracked one.is d site k done.place t
+      target own in
+      subst (λ q. HasMade (load (place a (subscript_then e lower count stride no_subscripts))) t d to p q m tr b)
+      (sym is.next) (record {
+        memory = note noted_read done.place one.memory;
+        tracked = with_look one.tracked k;
+        left = one.left;
         word = look one.memory done.place;
-        value = λ c. then_gives (led z vs first (subscript_then e lower count stride no_subscripts) c) done.place c
-            (loaded z vs) (led_by e lower first count stride u w done.place vs c (one.value c) leads)
-            ∙ ap (λ o. attempt z.stand_ins (or_failure valueless (known o)) c)
-            (slot_there f one.memory vs kept done.place t slot)
-            ∙ ap (λ h. attempt z.stand_ins (or_failure valueless (if h then Some v else None)) c) held;
-        held = held;
-        ends = subst (λ q. Ends f q (with_word one.memory to (look one.memory done.place)) b x) (sym is.next) done.ends;
-      }
+        gives = then_gives
+            (marked_led z tr first (subscript_then e lower count stride no_subscripts) (b + p.ahead))
+            (k, one.tracked) (one.left + is.last.ahead) (λ r. marked_load s.stand_ins r.1 r.0)
+            (led_by e lower first count stride u w k tr one.tracked (b + p.ahead) (one.left + is.last.ahead) one.gives
+            leads.leads)
+            ∙ load_gives s.stand_ins one.tracked k (datum_at t (look one.memory done.place)) (one.left + is.last.ahead)
+            value.is value.held;
+        fewer = one.fewer;
+        keeps = record { long = one.keeps.long; same = one.keeps.same };
+        is = holds_loaded s.frame s.site s.marks is.last.noted one.memory one.tracked one.is d site k done.place t
+            target own (is.elements.exact leads.before leads.less);
+        held = value.held;
+        ends = done.ends;
+      })
 
   -- what was made in a temporary was read
-  read_made : (e : SlotExpr) (t : Kind) (d k q : ℕ) → IsTemporary f k d → (m : Memory) (vs : List Datum) (b : ℕ)
-      → first_temporary f ≤ d → IsMemory f m vs → HasMade e t d k q m vs b → HasRead e t d k q m vs b
-  read_made e t d k q is m vs b le of made =
+  pub read_made : (e : SlotExpr) (t : Kind) (d k : ℕ) (p q : Point) → IsTemporary f k d
+      → From d p (HasMade e t d k p q) → From d p (HasRead e t d k p q)
+  read_made e t d k p q is makes m tr b site of runs =
+      let made = makes m tr b site of runs in
       let depth = is.depth in
       let there = is.there in
-      let long = of.long in
+      let long = of.noted.room.words in
       let kept = made.keeps.long in
       let here = word_here made.memory k made.word (omega arith) in record {
         memory = with_word made.memory k made.word;
+        tracked = made.tracked;
+        left = made.left;
+        gives = made.gives ∙ ap (λ w. Ok ((datum_at t w, made.tracked), made.left + q.ahead)) (sym here);
+        fewer = made.fewer;
         keeps = keeps_both d d m made.memory (with_word made.memory k made.word) (omega arith) made.keeps
             (keeps_below d made.memory k made.word (omega arith));
-        value = λ c. made.value c ∙ ap (λ w. Ok (datum_at t w, c)) (sym here);
+        is = holds_temporary s.frame s.site s.marks q.noted made.memory made.tracked made.is d site k made.word
+            (omega arith);
         held = subst (λ w. IsHeld (datum_at t w)) (sym here) made.held;
         low = omega arith;
         ends = made.ends;
@@ -360,224 +396,186 @@ module _ (f : Frame) (z : SlotScope) (x : Left) where
       )
 
   read_wider : (e : SlotExpr) (from to t : Kind) (d : ℕ) → Reads e from d
-      → (k p q : ℕ) → (to ≡ t) × IsWider from t × IsRead f z.base e from d k p q
-      → (m : Memory) (vs : List Datum) (b : ℕ) → first_temporary f ≤ d → IsMemory f m vs → Ends f p m b x
-      → HasRead (compute (CONVERT from to) (expr_then e no_exprs)) t d k q m vs b
-  read_wider e from to t d reads_e k p q is m vs b le of runs =
-      let one = reads_e k p q is.2 m vs b le of runs in
+      → (k : ℕ) (p q : Point) → (to ≡ t) × IsWider from t × Is e from d k p q
+      → From d p (HasRead (compute (CONVERT from to) (expr_then e no_exprs)) t d k p q)
+  read_wider e from to t d reads_e k p q is m tr b site of runs =
+      let one = reads_e k p q is.2 m tr b site of runs in
       let w = look one.memory k in
       let wide = widened from t w is.1 one.held in record {
         memory = one.memory;
+        tracked = one.tracked;
+        left = one.left;
+        gives = ap (λ u. marked_value z tr (compute (CONVERT from u) (expr_then e no_exprs)) (b + p.ahead)) is.0
+            ∙ then_gives (marked_values z tr (expr_then e no_exprs) (b + p.ahead))
+            (datum_at from w ∷ [], one.tracked) (one.left + q.ahead)
+            (λ xs. λ b. follow (attempt s.stand_ins (standard_value (CONVERT from t) xs.0) b) (λ v. give (v, xs.1)))
+            (then_gives (marked_value z tr e (b + p.ahead)) (datum_at from w, one.tracked) (one.left + q.ahead)
+            (λ r. λ n. follow (marked_values z r.1 no_exprs n) (λ xs. give (r.0 ∷ xs.0, xs.1))) one.gives)
+            ∙ ap (λ o. follow (attempt s.stand_ins o (one.left + q.ahead)) (λ v. give (v, one.tracked))) wide.0;
+        fewer = one.fewer;
         keeps = one.keeps;
-        value = λ c. ap (λ u. slot_value z vs (compute (CONVERT from u) (expr_then e no_exprs)) c) is.0
-            ∙ ap (λ r. follow (follow r (λ v. λ b. follow (give [] b) (λ xs. give (v ∷ xs))))
-            (λ xs. attempt z.stand_ins (standard_value (CONVERT from t) xs))) (one.value c)
-            ∙ ap (λ o. attempt z.stand_ins o c) wide.0;
+        is = one.is;
         held = wide.1;
         low = one.low;
         ends = one.ends;
       }
 
-  pub reads : (e : SlotExpr) (t : Kind) (d : ℕ) → Reads e t d
-  reads (constant l) t d = read_constant l t d
-  reads (load (place a no_subscripts)) t d = read_slot a t d
-  reads (load (place a (subscript_then i lower count stride no_subscripts))) t d = λ k p q is m vs b le of runs.
-      read_made (load (place a (subscript_then i lower count stride no_subscripts))) t d k q is.0 m vs b le of
-      (fetched_by a i lower count stride t d k p q (λ u. reads i u d) is.1 m vs b le of runs)
-  reads (load (place a (subscript_then i lower count stride (subscript_then j l c s ss)))) t d = λ k p q is. absurd is
-  reads (compute ABS es) t d = λ k p q is. absurd is
-  reads (compute MIN es) t d = λ k p q is. absurd is
-  reads (compute MAX es) t d = λ k p q is. absurd is
-  reads (compute LIMIT es) t d = λ k p q is. absurd is
-  reads (compute SEL es) t d = λ k p q is. absurd is
-  reads (compute SHL es) t d = λ k p q is. absurd is
-  reads (compute SHR es) t d = λ k p q is. absurd is
-  reads (compute ROL es) t d = λ k p q is. absurd is
-  reads (compute ROR es) t d = λ k p q is. absurd is
-  reads (compute (CONVERT from to) no_exprs) t d = λ k p q is. absurd is
-  reads (compute (CONVERT from to) (expr_then e no_exprs)) t d = read_wider e from to t d (reads e from d)
-  reads (compute (CONVERT from to) (expr_then e (expr_then i es))) t d = λ k p q is. absurd is
-  reads (call g es) t d = λ k p q is. absurd is
-  reads (unary op e) t d = λ k p q is. absurd is
-  reads (binary op l r) t d = λ k p q is m vs b le of runs.
-      read_made (binary op l r) t d k q is.0 m vs b le of
-      (binary_by op l r t d k p q (λ u. reads l u d) (λ u. reads r u (suc d)) is.1 m vs b le of runs)
-
-  -- the same of an expression that is moved
-  pub moved : (e : SlotExpr) (t : Kind) (d to p q : ℕ) → IsMoved f (IsRead f z.base e t d) to p q
-      → (m : Memory) (vs : List Datum) (b : ℕ) → first_temporary f ≤ d → IsMemory f m vs → Ends f p m b x
-      → HasMade e t d to q m vs b
-  moved e t d to p q is m vs b le of runs =
-      let read = reads e t d is.from p is.last is.reads m vs b le of runs in
-      let step = stepped f is.last x read.memory b _ read.ends is.stands in record {
-        memory = read.memory;
-        keeps = read.keeps;
-        word = look read.memory is.from;
-        value = read.value;
-        held = read.held;
-        ends = subst (λ q. Ends f q (with_word read.memory to (look read.memory is.from)) b x) (sym is.next) step;
-      }
-
-  -- the value of an expression is assigned to a word
-  pub assigned : (e : SlotExpr) (t : Kind) (d to p q : ℕ) → IsAssigned f z.base e t d to p q
-      → (m : Memory) (vs : List Datum) (b : ℕ) → first_temporary f ≤ d → IsMemory f m vs → Ends f p m b x
-      → HasMade e t d to q m vs b
-  assigned (constant l) t d to p q (inl is) m vs b le of runs = moved (constant l) t d to p q is m vs b le of runs
-  assigned (constant l) t d to p q (inr is) m vs b le of runs = record {
-    memory = m;
-    keeps = keeps_all d m;
-    word = is.word;
-    value = λ c. number_gives (constant l) t is.word vs c is.number;
-    held = number_held (constant l) t is.word is.number;
-    ends = subst (λ q. Ends f q (with_word m to is.word) b x) (sym is.next) (stepped f p x m b _ runs is.stands);
-  }
-  assigned (load (place a no_subscripts)) t d to p q is m vs b le of runs =
-      moved (load (place a no_subscripts)) t d to p q is m vs b le of runs
-  assigned (load (place a (subscript_then i lower count stride no_subscripts))) t d to p q is m vs b le of runs =
-      fetched_by a i lower count stride t d to p q (λ u. reads i u d) is m vs b le of runs
-  assigned (load (place a (subscript_then i lower count stride (subscript_then j l c s ss)))) t d to p q is m vs b le of
-      runs =
-      moved (load (place a (subscript_then i lower count stride (subscript_then j l c s ss)))) t d to p q is m vs b le
-      of
-      runs
-  assigned (compute g es) t d to p q is m vs b le of runs = moved (compute g es) t d to p q is m vs b le of runs
-  assigned (call g es) t d to p q is m vs b le of runs = moved (call g es) t d to p q is m vs b le of runs
-  assigned (unary op e) t d to p q is m vs b le of runs = moved (unary op e) t d to p q is m vs b le of runs
-  assigned (binary op l r) t d to p q is m vs b le of runs =
-      binary_by op l r t d to p q (λ u. reads l u d) (λ u. reads r u (suc d)) is m vs b le of runs
-
-  -- An expression was read, and a word that is no slot has its value now.
-  pub record HasKept (e : SlotExpr) (t : Kind) (d k q : ℕ) (m : Memory) (vs : List Datum) (b : ℕ) : Type 0 where
+  -- Arguments were read.
+  pub record HaveArguments (es : SlotExprs) (d : ℕ) (kinds : List Kind) (words : List ℕ) (p q : Point) (m : Memory)
+      (tr : Tracked) (b : ℕ) : Type 0 where
     pub memory : Memory
+    pub tracked : Tracked
+    pub left : ℕ
+    pub arguments : List Datum
+    pub gives : marked_values z tr es (b + p.ahead) ≡ Ok ((arguments, tracked), left + q.ahead)
+    pub fewer : left + q.ahead ≤ b + p.ahead
     pub keeps : Keeps d m memory
-    pub value : (c : ℕ) → slot_value z vs e c ≡ Ok (datum_at t (word_at memory.words k), c)
-    pub low : k < suc d
-    pub ends : Ends f q memory b x
+    pub is : AreHeld q memory tracked
+    pub given : AreGiven memory (d + length words) kinds words arguments
+    pub ends : Ends f q.place memory left s.finish
 
-  pub kept_in : (e : SlotExpr) (t : Kind) (d k p q : ℕ)
-      → IsRead f z.base e t d k p q ⊎ (IsTemporary f k d × IsMoved f (IsRead f z.base e t d) k p q)
-      → (m : Memory) (vs : List Datum) (b : ℕ) → first_temporary f ≤ d → IsMemory f m vs → Ends f p m b x
-      → HasKept e t d k q m vs b
-  kept_in e t d k p q (inl is) m vs b le of runs =
-      let read = reads e t d k p q is m vs b le of runs in
-      record { memory = read.memory; keeps = read.keeps; value = read.value; low = read.low; ends = read.ends }
-  kept_in e t d k p q (inr is) m vs b le of runs =
-      let made = moved e t d k p q is.1 m vs b le of runs in
-      let depth = is.0.depth in
-      let there = is.0.there in
-      let long = of.long in
-      let kept = made.keeps.long in
-      let here = word_here made.memory k made.word (omega arith) in record {
-        memory = with_word made.memory k made.word;
-        keeps = keeps_both d d m made.memory (with_word made.memory k made.word) (omega arith) made.keeps
-            (keeps_below d made.memory k made.word (omega arith));
-        value = λ c. made.value c ∙ ap (λ w. Ok (datum_at t w, c)) (sym here);
-        low = omega arith;
-        ends = made.ends;
+  abbrev pub ReadsAll : SlotExprs → ℕ → List Kind → List ℕ → Type 0
+  ReadsAll es d kinds words =
+      (p q : Point) → AreArguments s.frame s.site s.units es d kinds words p q
+      → From d p (HaveArguments es d kinds words p q)
+
+  read_none : (d : ℕ) → ReadsAll no_exprs d [] []
+  read_none d p q is m tr b site of runs =
+      subst (λ q. HaveArguments no_exprs d [] [] p q m tr b) is (record {
+        memory = m;
+        tracked = tr;
+        left = b;
+        arguments = [];
+        gives = refl;
+        fewer = omega arith;
+        keeps = keeps_all d m;
+        is = of;
+        given = record {
+          words_long = refl;
+          kinds_long = refl;
+          each = λ i w t at type. absurd cc;
+          held = λ i w t at type. absurd cc;
+          low = λ i w at. absurd cc;
+        };
+        ends = runs;
+      })
+
+  read_further : (e : SlotExpr) (es : SlotExprs) (d : ℕ) (t : Kind) (kinds : List Kind) (w : ℕ) (words : List ℕ)
+      → Reads e t d → ReadsAll es (suc d) kinds words → ReadsAll (expr_then e es) d (t ∷ kinds) (w ∷ words)
+  read_further e es d t kinds w words reads_e reads_es p q is m tr b site of runs =
+      let one = reads_e w p is.middle is.first m tr b site of runs in
+      let rest = reads_es is.middle q is.second one.memory one.tracked one.left
+      (deeper s.frame s.site d (suc d) (omega arith) site) one.is one.ends in
+      let same = keeps_word (suc d) one.memory rest.memory w rest.keeps one.low in
+      let low = one.low in
+      let few_one = one.fewer in
+      let few_rest = rest.fewer in
+      let v = datum_at t (look rest.memory w) in record {
+        memory = rest.memory;
+        tracked = rest.tracked;
+        left = rest.left;
+        arguments = v ∷ rest.arguments;
+        gives = then_gives (marked_value z tr e (b + p.ahead)) (datum_at t (look one.memory w), one.tracked)
+            (one.left + is.middle.ahead)
+            (λ r. λ n. follow (marked_values z r.1 es n) (λ xs. give (r.0 ∷ xs.0, xs.1))) one.gives
+            ∙ then_gives (marked_values z one.tracked es (one.left + is.middle.ahead)) (rest.arguments, rest.tracked)
+            (rest.left + q.ahead) (λ xs. give (datum_at t (look one.memory w) ∷ xs.0, xs.1)) rest.gives
+            ∙ ap (λ x. Ok ((datum_at t x ∷ rest.arguments, rest.tracked), rest.left + q.ahead)) (sym same);
+        fewer = omega arith;
+        keeps = keeps_both d (suc d) m one.memory rest.memory (omega arith) one.keeps rest.keeps;
+        is = rest.is;
+        given = given_further d t kinds w words rest.memory rest.arguments
+            (subst (λ w. IsHeld (datum_at t w)) (sym same) one.held) low rest.given;
+        ends = rest.ends;
+      }
+    where
+      given_further : (d : ℕ) (t : Kind) (kinds : List Kind) (w : ℕ) (words : List ℕ) (m : Memory) (values : List Datum)
+          → IsHeld (datum_at t (look m w)) → w < suc d → AreGiven m (suc d + length words) kinds words values
+          → AreGiven m (d + suc (length words)) (t ∷ kinds) (w ∷ words) (datum_at t (look m w) ∷ values)
+      given_further d t kinds w words m values held low rest = record {
+        words_long = ap suc rest.words_long;
+        kinds_long = ap suc rest.kinds_long;
+        each = λ i. elim i as (λ i. (u : ℕ) (r : Kind) → slice_get (w ∷ words) i ≡ Some u
+            → slice_get (t ∷ kinds) i ≡ Some r
+            → slice_get (datum_at t (look m w) ∷ values) i ≡ Some (datum_at r (look m u))) [
+              | zero ↦ λ u r at type. ap₂ (λ r u. Some (datum_at r (look m u))) (some_is type) (some_is at)
+              | suc i ↦ λ u r at type. rest.each i u r at type
+            ];
+        held = λ i. elim i as (λ i. (u : ℕ) (r : Kind) → slice_get (w ∷ words) i ≡ Some u
+            → slice_get (t ∷ kinds) i ≡ Some r → IsHeld (datum_at r (look m u))) [
+              | zero ↦ λ u r at type. subst (λ u. IsHeld (datum_at r (look m u))) (some_is at)
+                  (subst (λ r. IsHeld (datum_at r (look m w))) (some_is type) held)
+              | suc i ↦ λ u r at type. rest.held i u r at type
+            ];
+        low = λ i. elim i as (λ i. (u : ℕ) → slice_get (w ∷ words) i ≡ Some u → u < d + suc (length words)) [
+          | zero ↦ λ u at. subst (λ u. u < d + suc (length words)) (some_is at) (omega arith)
+          | suc i ↦ λ u at. (let low = rest.low i u at in omega arith)
+        ];
       }
 
-  -- A condition was tested, and the run went by the way when it holds, or unless it does.
-  pub record HasTested (e : SlotExpr) (when : Bool) (d q : ℕ) (w : Way) (past : ℕ) (m : Memory) (vs : List Datum)
-      (b : ℕ) : Type 0 where
-    pub memory : Memory
-    pub keeps : Keeps d m memory
-    pub is : IsMemory f memory vs
-    pub go : Bool
-    pub value : (c : ℕ) → slot_value z vs e c ≡ Ok (datum_of_truth go, c)
-    pub truth : (c : ℕ) → slot_truth z e vs c ≡ Ok (go, c)
-    pub ends : HasBranched f q x (turn_for when go) w past memory b
-
-  truth_is : (e : SlotExpr) (vs : List Datum) (v : Datum) (go : Bool) (c : ℕ) → slot_value z vs e c ≡ Ok (v, c)
-      → truth v ≡ Ok go → slot_truth z e vs c ≡ Ok (go, c)
-  unfolding slot_truth
-  truth_is e vs v go c gives so =
-      then_gives (slot_value z vs e c) v c (λ v. attempt z.stand_ins (truth v)) gives
-      ∙ ap (λ r. attempt z.stand_ins r c) so
-
-  -- how a branch on a BOOL goes
-  word_branched : (when : Bool) (k q : ℕ) (w : Way) (past : ℕ) (m : Memory) (b : ℕ)
-      → Follows f q x (act f.ways f.now (truth_branch when k w past) m b)
-      → HasBranched f q x (turn_for when (not (int_eq (look m k) (pos 0)))) w past m b
-  word_branched true k q w past m b runs = has_branched f q x (not (int_eq (look m k) (pos 0))) w past m b runs
-  word_branched false k q w past m b runs =
-      subst (λ t. HasBranched f q x t w past m b) (sym (not_not (int_eq (look m k) (pos 0))))
-      (has_branched f q x (int_eq (look m k) (pos 0)) w past m b runs)
-
-  tested_word : (e : SlotExpr) (when : Bool) (d p q : ℕ) (w : Way) (past : ℕ)
-      → IsTested f (IsRead f z.base e Boolean d) when p q w past
-      → (m : Memory) (vs : List Datum) (b : ℕ) → first_temporary f ≤ d → IsMemory f m vs → Ends f p m b x
-      → HasTested e when d q w past m vs b
-  tested_word e when d p q w past is m vs b le of runs =
-      let read = reads e Boolean d is.from p q is.reads m vs b le of runs in
-      let step = stepped f q x read.memory b (truth_branch when is.from w past) read.ends is.stands in
-      let word = look read.memory is.from in
-      let none = int_eq word (pos 0) in record {
-        memory = read.memory;
-        keeps = read.keeps;
-        is = still_memory f m vs of d read.memory le read.keeps;
-        go = not none;
-        value = λ c. read.value c ∙ ap (λ v. Ok (v, c)) (truth_is_word word read.held);
-        truth = λ c. truth_is e vs (datum_of_truth (not none)) (not none) c
-            (read.value c ∙ ap (λ v. Ok (v, c)) (truth_is_word word read.held)) (truth_of_truth (not none));
-        ends = word_branched when is.from q w past read.memory b step;
-      }
-
-  pub tested : (e : SlotExpr) (when : Bool) (d p q : ℕ) (w : Way) (past : ℕ)
-      → IsTestedFor f z.base e when d p q w past → (m : Memory) (vs : List Datum) (b : ℕ) → first_temporary f ≤ d
-      → IsMemory f m vs → Ends f p m b x → HasTested e when d q w past m vs b
-  tested (constant l) v d p q w past is m vs b le of runs = tested_word (constant l) v d p q w past is m vs b le of runs
-  tested (load l) v d p q w past is m vs b le of runs = tested_word (load l) v d p q w past is m vs b le of runs
-  tested (compute g es) v d p q w past is m vs b le of runs =
-      tested_word (compute g es) v d p q w past is m vs b le of runs
-  tested (call g es) v d p q w past is m vs b le of runs = tested_word (call g es) v d p q w past is m vs b le of runs
-  tested (unary Negate e) v d p q w past is m vs b le of runs =
-      tested_word (unary Negate e) v d p q w past is m vs b le of runs
-  tested (unary Not e) v d p q w past is m vs b le of runs =
-      let t = tested e (not v) d p q w past is m vs b le of runs in
-      let value = λ (c : ℕ). then_gives (slot_value z vs e c) (datum_of_truth t.go) c
-      (λ y. attempt z.stand_ins (failing (apply_unary Not y))) (t.value c)
-      ∙ ap (λ o. attempt z.stand_ins (failing o) c) (not_is t.go) in
-      record {
-        memory = t.memory;
-        keeps = t.keeps;
-        is = t.is;
-        go = not t.go;
-        value = value;
-        truth = λ c. truth_is (unary Not e) vs (datum_of_truth (not t.go)) (not t.go) c (value c)
-            (truth_of_truth (not t.go));
-        ends = subst (λ u. HasBranched f q x u w past t.memory b) (turned v t.go) t.ends;
-      }
-  tested (binary op l r) v d p q w past (inr (inr is)) m vs b le of runs =
-      tested_word (binary op l r) v d p q w past is m vs b le of runs
-  tested (binary op l r) v d p q w past (inr (inl is)) m vs b le of runs =
-      let t = is.kind in
-      let one = reads l t d is.left p q is.reads m vs b le of runs in
-      let step = stepped f q x one.memory b is.stands.instr one.ends is.stands.at in
-      let done = has_compared_to f q x one.memory b v op t is.left is.word w past is.stands.instr is.stands.is step in
-      let value = λ (c : ℕ). applied_to op l r t (look one.memory is.left) is.word vs c (datum_of_truth done.go)
-      (one.value c) (number_gives r t is.word vs c is.number) done.is in
-      record {
-        memory = one.memory;
-        keeps = one.keeps;
-        is = still_memory f m vs of d one.memory le one.keeps;
-        go = done.go;
-        value = value;
-        truth = λ c. truth_is (binary op l r) vs (datum_of_truth done.go) done.go c (value c) (truth_of_truth done.go);
+  -- a function was called
+  pub called_by : (i : ℕ) (es : SlotExprs) (t : Kind) (d to : ℕ) (p q : Point)
+      → ((kinds : List Kind) (words : List ℕ) → ReadsAll es d kinds words)
+      → IsCall s.units (AreArguments s.frame s.site s.units es d) i t d to p q
+      → From d p (HasMade (call i es) t d to p q)
+  called_by i es t d to p q reads_es is m tr b site of runs =
+      let all = reads_es is.kinds is.words p is.given is.arguments m tr b site of runs in
+      let deep = site.deep in
+      let done = s.does i is.kinds is.words (d + length is.words) t to is.given q is.calls
+      (marks_of s.site s.marks all.tracked) all.memory all.left all.arguments (omega arith) all.is.noted all.given
+      all.ends in
+      let few_all = all.fewer in
+      let few_done = done.fewer in record {
+        memory = done.memory;
+        tracked = all.tracked;
+        left = done.left;
+        word = done.word;
+        gives = then_gives (marked_values z tr es (b + p.ahead)) (all.arguments, all.tracked)
+            (all.left + is.given.ahead)
+            (λ r. λ n. follow (s.means.functions i r.0 n) (λ v. give (v, r.1))) all.gives
+            ∙ then_gives (s.means.functions i all.arguments (all.left + is.given.ahead)) (datum_at t done.word)
+            (done.left + q.ahead) (λ v. give (v, all.tracked)) done.gives;
+        fewer = omega arith;
+        keeps = keeps_both d (d + length is.words) m all.memory done.memory (omega arith) all.keeps done.keeps;
+        is = holds_kept s.frame s.site s.marks is.given.noted all.memory all.tracked all.is d site q.noted done.memory
+            (keeps_less d (d + length is.words) all.memory done.memory (omega arith) done.keeps) done.noted;
+        held = done.held;
         ends = done.ends;
       }
-  tested (binary op l r) v d p q w past (inl is) m vs b le of runs =
-      let t = is.kind in
-      let both = read_both l r t d is.left is.right p q (reads l t d) (reads r t (suc d)) is.reads m vs b le of runs in
-      let step = stepped f q x both.memory b is.stands.instr both.ends is.stands.at in
-      let done = has_compared f q x both.memory b v op t is.left is.right w past is.stands.instr is.stands.is step in
-      let value = λ (c : ℕ). applied_to op l r t (look both.memory is.left) (look both.memory is.right) vs c
-      (datum_of_truth done.go) (both.first c) (both.second c) done.is in
-      record {
-        memory = both.memory;
-        keeps = both.keeps;
-        is = both.is;
-        go = done.go;
-        value = value;
-        truth = λ c. truth_is (binary op l r) vs (datum_of_truth done.go) done.go c (value c) (truth_of_truth done.go);
-        ends = done.ends;
-      }
+
+  mutual
+    pub reads : (e : SlotExpr) (t : Kind) (d : ℕ) → Reads e t d
+    reads (constant l) t d = read_constant l t d
+    reads (load (place a no_subscripts)) t d = read_slot a t d
+    reads (load (place a (subscript_then i lower count stride no_subscripts))) t d = λ k p q is.
+        read_made (load (place a (subscript_then i lower count stride no_subscripts))) t d k p q is.0
+        (fetched_by a i lower count stride t d k p q (λ u. reads i u d) is.1)
+    reads (load (place a (subscript_then i lower count stride (subscript_then j l c s ss)))) t d = λ k p q is. absurd is
+    reads (compute ABS es) t d = λ k p q is. absurd is
+    reads (compute MIN es) t d = λ k p q is. absurd is
+    reads (compute MAX es) t d = λ k p q is. absurd is
+    reads (compute LIMIT es) t d = λ k p q is. absurd is
+    reads (compute SEL es) t d = λ k p q is. absurd is
+    reads (compute SHL es) t d = λ k p q is. absurd is
+    reads (compute SHR es) t d = λ k p q is. absurd is
+    reads (compute ROL es) t d = λ k p q is. absurd is
+    reads (compute ROR es) t d = λ k p q is. absurd is
+    reads (compute (CONVERT from to) no_exprs) t d = λ k p q is. absurd is
+    reads (compute (CONVERT from to) (expr_then e no_exprs)) t d = read_wider e from to t d (reads e from d)
+    reads (compute (CONVERT from to) (expr_then e (expr_then i es))) t d = λ k p q is. absurd is
+    reads (call g es) t d = λ k p q is.
+        read_made (call g es) t d k p q is.0
+        (called_by g es t d k p q (λ kinds words. reads_all es d kinds words) is.1)
+    reads (unary op e) t d = λ k p q is. absurd is
+    reads (binary op l r) t d = λ k p q is.
+        read_made (binary op l r) t d k p q is.0
+        (binary_by op l r t d k p q (λ u. reads l u d) (λ u. reads r u (suc d)) is.1)
+
+    pub reads_all : (es : SlotExprs) (d : ℕ) (kinds : List Kind) (words : List ℕ) → ReadsAll es d kinds words
+    reads_all no_exprs d [] [] = read_none d
+    reads_all no_exprs d [] (w ∷ words) = λ p q is. absurd is
+    reads_all no_exprs d (t ∷ kinds) words = λ p q is. absurd is
+    reads_all (expr_then e es) d [] words = λ p q is. absurd is
+    reads_all (expr_then e es) d (t ∷ kinds) [] = λ p q is. absurd is
+    reads_all (expr_then e es) d (t ∷ kinds) (w ∷ words) =
+        read_further e es d t kinds w words (reads e t d) (reads_all es (suc d) kinds words)

@@ -1,308 +1,490 @@
--- Parts of a program, and how code does what they mean.
-use Rattle.std.proofs.Common.{◌≡◌, ℕ, zero, suc, ◌+◌, ◌-◌, ◌<◌, ◌≤◌, Bool, true, false, Some, Ok, Err}
+-- Parts of a unit, and how code does what they mean.
+use Rattle.std.proofs.Common.{◌≡◌, ℕ, suc, ◌+◌, ◌-◌, ◌*◌, ◌≤◌, Bool, true, false, List, [], ◌∷◌, Some, Ok}
 use Rattle.std.proofs.Common.{refl, sym, ap, ap₂, subst, ◌∙◌, arith, inl, inr, ℤ}
-use Rattle.std.specs.Prelude.{◌&&◌, if◌then◌else◌, not, slice_get, slice_set}
+use Rattle.std.specs.Prelude.{◌&&◌, if◌then◌else◌, not, slice_get}
 use Rattle.st_words.specs.declared.kind.Kind.{Kind}
 use Rattle.st_words.proofs.KindLemmas.{same_kind-refl}
 use Rattle.st_words.specs.Values.{IsHeld}
 use Rattle.st_words.specs.Words.{datum_at}
-use Rattle.st_types.specs.Failures.{ill_typed}
-use Rattle.st_types.specs.Loops.{TurnOf, again, behind, go_back, goes_on, guarded, looped, no_step, over, turned, turns}
+use Rattle.st_types.specs.Failures.{StandIns, ill_typed, or_failure}
+use Rattle.st_types.specs.Loops.{behind, exits, goes_on, returns}
 use Rattle.st_types.specs.Ticks.{Run, ◌>>◌, attempt, follow, give, tick}
-use Rattle.quick_code.specs.QuickRuns.{Left}
-use Rattle.quick_code.specs.QuickSteps.{Memory, with_word}
-use Rattle.quick_code.specs.Words.{word_at}
-use Rattle.slot_trees.specs.SlotTrees.{Anchor, SlotExpr}
-use Rattle.slot_trees.specs.SlotTrees.{no_subscripts}
-use Rattle.slot_trees.specs.SlotTrees.{place}
-use Rattle.slot_trees.specs.SlotEvaluation.{SlotScope, slot_at, slot_truth, slot_value}
-use Rattle.slot_trees.specs.SlotExecution.{SlotEnd, Slots, slot_assigning}
-use Rattle.slot_trees.specs.SlotExecution.{stored_at, stored_over}
-use Rattle.quick_trees.specs.QuickMemory.{Ends, Frame, IsMemory, first_temporary}
-use Rattle.quick_trees.specs.Pieces.{AreBoth, IsArm, IsLoop, IsTicked, Joins}
-use Rattle.quick_trees.specs.Standing.{IsAssignment, IsTestedFor}
-use Rattle.quick_trees.specs.Pieces.{Part}
+use Rattle.machine_code.specs.Tracking.{Tracked, replaced, written}
+use Rattle.quick_code.specs.QuickSteps.{Memory, look, note, noted_read, noted_written, with_word}
+use Rattle.quick_code.specs.declared.quick_instr.QuickInstr.TheVariants.{NoteRead, NoteWritten}
+use Rattle.slot_trees.specs.SlotTrees.{Anchor, Place, SlotExpr, no_subscripts, place, subscript_then}
+use Rattle.slot_trees.specs.SlotEvaluation.{slot_at}
+use Rattle.slot_trees.specs.SlotRuns.{state_of}
+use Rattle.tree_code.specs.MarkedEvaluation.{MarkedScope, marked_place, marked_truth, marked_value}
+use Rattle.tree_code.specs.MarkedExecution.{MarkedEnd, marked_assigning, marked_put}
+use Rattle.quick_trees.specs.Pieces.{AreBoth, IsArm, IsTicked}
+use Rattle.quick_trees.specs.Points.{AllNoted, AreNoted, IsNoted, Joins, Meets, Note, Part, Point}
+use Rattle.quick_trees.specs.Points.{assignment_of, look_of}
+use Rattle.quick_trees.specs.QuickMemory.{Ends}
+use Rattle.quick_trees.specs.Sites.{HasOwnWord, base_of}
+use Rattle.quick_trees.specs.Standing.{Exits, IsAssignment, IsStored, IsTestedFor}
 use Rattle.quick_trees.proofs.Stepping.{HasBranched, has_taken, stepped}
-use Rattle.quick_trees.proofs.Memories.{Spares, slot_assigned, slot_there, spares_all, spares_both, spares_kept}
-use Rattle.quick_trees.proofs.Memories.{spares_slot}
-use Rattle.quick_trees.proofs.Memories.{still_memory, there_within}
+use Rattle.quick_trees.proofs.Memories.{IsSite, Spares, deeper, holds_assigned, holds_stored, keeps_both}
+use Rattle.quick_trees.proofs.Memories.{keeps_word, marks_of, noted_assignment, noted_look, own_value, spares_all}
+use Rattle.quick_trees.proofs.Memories.{spares_both, spares_kept, spares_own, still_told}
 use Rattle.quick_trees.proofs.Elements.{element_is, has_stored}
-use Rattle.quick_trees.proofs.Memories.{keeps_both, keeps_word}
-use Rattle.quick_trees.specs.Standing.{IsStored}
-use Rattle.slot_trees.specs.SlotTrees.{subscript_then}
-use Rattle.slot_trees.specs.SlotEvaluation.{led}
-use Rattle.quick_trees.proofs.Reading.{led_by, reads, assigned, tested, then_gives}
+use Rattle.quick_trees.proofs.Settings.{Setting, scope_of}
+use Rattle.quick_trees.proofs.Truths.{then_gives}
+use Rattle.quick_trees.proofs.Reading.{AreHeld, From, led_by, reads}
+use Rattle.quick_trees.proofs.Testing.{made, tested, truth_is}
+use Rattle.std.proofs.Common.{None}
+use Rattle.std.proofs.Common.{length}
+
+-- where a run of statements comes that ends so
+abbrev pub reached : Exits → Point → MarkedEnd → Point
+reached e q (goes_on t) = q
+reached e q (exits t) = e.out
+reached e q (returns t) = e.back
 
 -- a tick is taken
-ticks_on : (t u : ℕ) (g : Unit {0} → Run SlotEnd) → t ≡ suc u → follow (tick t) g ≡ g tt u
+pub ticks_on : {A : Type 0} (t u : ℕ) (g : Unit {0} → Run A) → t ≡ suc u → follow (tick t) g ≡ g tt u
 ticks_on t u g e = ap (λ n. follow (tick n) g) e
 
-module _ (f : Frame) (z : SlotScope) (x : Left) where
-  -- A part was run: with so many ticks it gives these values, and the ticks that are left are those of the run and
-  -- those ahead.
-  pub record HasRun (run : Slots → Run SlotEnd) (d q c : ℕ) (m : Memory) (vs : Slots) (t : ℕ) : Type 0 where
+-- a slot takes a value of its type
+pub puts : (s : StandIns) (tr : Tracked) (k : ℕ) (t : Kind) (v w : ℤ) (n : ℕ)
+    → slice_get tr.values k ≡ Some (datum_at t v) → IsHeld (datum_at t w)
+    → marked_put s tr k (datum_at t w) n ≡ Ok (written tr k (datum_at t w), n)
+puts s tr k t v w n at held =
+    ap (λ o. attempt s (or_failure ill_typed (replaced tr k (datum_at t w) o)) n) at
+    ∙ ap₂ (λ a b. attempt s (or_failure ill_typed
+    (if a && b then Some (written tr k (datum_at t w)) else None)) n) (same_kind-refl t) held
+
+module _ (s : Setting) where
+  abbrev z : MarkedScope
+  z = scope_of s
+
+  -- Statements ended so, with so many ticks of the tree: of a machine's, those that are left and those ahead.
+  pub record HasEnded (d : ℕ) (e : Exits) (q : Point) (m : Memory) (end : MarkedEnd) (n : ℕ) : Type 0 where
     pub memory : Memory
-    pub spares : Spares f d m memory
-    pub values : Slots
     pub left : ℕ
-    pub gives : run vs t ≡ Ok (goes_on values, left + c)
-    pub fewer : left + c ≤ t
-    pub is : IsMemory f memory values
-    pub ends : Ends f q memory left x
+    pub ticks : n ≡ left + (reached e q end).ahead
+    pub spares : Spares s.frame s.site d m memory
+    pub is : AreHeld s (reached e q end) memory (state_of end)
+    pub ends : Ends s.frame (reached e q end).place memory left s.finish
+
+  -- A part was run.
+  pub record HasRun (run : Tracked → Run MarkedEnd) (d : ℕ) (e : Exits) (q : Point) (m : Memory) (tr : Tracked)
+      (n : ℕ) :
+      Type 0
+    where
+      pub end : MarkedEnd
+      pub rest : ℕ
+      pub gives : run tr n ≡ Ok (end, rest)
+      pub fewer : rest ≤ n
+      pub ended : HasEnded d e q m end rest
 
   -- how code does what a part means, where temporaries from a depth on are free
-  abbrev pub Does : (Slots → Run SlotEnd) → ℕ → Part → Type 0
-  Does run d part =
-      (p a q c : ℕ) → part p a q c → (m : Memory) (vs : Slots) (b : ℕ) → IsMemory f m vs → Ends f p m b x
-      → HasRun run d q c m vs (b + a)
+  abbrev pub Does : (Tracked → Run MarkedEnd) → ℕ → Exits → Part → Type 0
+  Does run d e part =
+      (p q : Point) → part p q → From s d p (λ m tr b. HasRun run d e q m tr (b + p.ahead))
 
-  -- what gives the same was run as well
-  pub gives_same : (run go : Slots → Run SlotEnd) (d q c : ℕ) (m n : Memory) (vs us : Slots) (t u : ℕ)
-      → run vs t ≡ go us u → u ≤ t → Spares f d m n → HasRun go d q c n us u → HasRun run d q c m vs t
-  gives_same run go d q c m n vs us t u same le spares h = record {
+  -- it ended in a later memory
+  later : (d c : ℕ) (e : Exits) (q : Point) (m n : Memory) (end : MarkedEnd) (rest : ℕ) → d ≤ c
+      → Spares s.frame s.site d m n → HasEnded c e q n end rest → HasEnded d e q m end rest
+  later d c e q m n end rest le spares h = record {
     memory = h.memory;
-    spares = spares_both f d d m n h.memory (omega arith) spares h.spares;
-    values = h.values;
     left = h.left;
-    gives = same ∙ h.gives;
-    fewer = (let few = h.fewer in omega arith);
+    ticks = h.ticks;
+    spares = spares_both s.frame s.site d c m n h.memory le spares h.spares;
     is = h.is;
     ends = h.ends;
   }
 
-  pub nothing : (run : Slots → Run SlotEnd) (d q c : ℕ) (m : Memory) (vs : Slots) (b t : ℕ) → IsMemory f m vs
-      → Ends f q m b x → run vs t ≡ Ok (goes_on vs, b + c) → b + c ≤ t → HasRun run d q c m vs t
-  nothing run d q c m vs b t is runs gives fewer = record {
-    memory = m;
-    spares = spares_all f d m;
-    values = vs;
-    left = b;
-    gives = gives;
-    fewer = fewer;
-    is = is;
-    ends = runs;
+  -- what gives the same was run as well
+  pub gives_same : (run go : Tracked → Run MarkedEnd) (d : ℕ) (e : Exits) (q : Point) (m n : Memory) (tr us : Tracked)
+      (t u : ℕ) → run tr t ≡ go us u → u ≤ t → Spares s.frame s.site d m n → HasRun go d e q n us u
+      → HasRun run d e q m tr t
+  gives_same run go d e q m n tr us t u same le spares h = record {
+    end = h.end;
+    rest = h.rest;
+    gives = same ∙ h.gives;
+    fewer = (let few = h.fewer in omega arith);
+    ended = later d d e q m n h.end h.rest (omega arith) spares h.ended;
   }
 
-  pub ticked : (run : Slots → Run SlotEnd) (d : ℕ) (rest : Part) → Does run d rest
-      → Does (λ vs. tick >> run vs) d (IsTicked rest)
-  ticked run d rest does p a q c r m vs b is runs =
-      let ticks = r.ticks in
-      let e : b + a ≡ suc (b + r.behind) = omega arith in
-      gives_same (λ vs. tick >> run vs) run d q c m m vs vs (b + a) (b + r.behind)
-      (ticks_on (b + a) (b + r.behind) (λ _. run vs) e) (omega arith) (spares_all f d m)
-      (does p r.behind q c r.rest m vs b is runs)
+  pub nothing : (run : Tracked → Run MarkedEnd) (d : ℕ) (e : Exits) (q : Point) (m : Memory) (tr : Tracked) (b t n : ℕ)
+      → AreHeld s q m tr → Ends s.frame q.place m b s.finish → run tr t ≡ Ok (goes_on tr, n) → n ≡ b + q.ahead → n ≤ t
+      → HasRun run d e q m tr t
+  nothing run d e q m tr b t n is runs gives ticks fewer = record {
+    end = goes_on tr;
+    rest = n;
+    gives = gives;
+    fewer = fewer;
+    ended = record {
+      memory = m;
+      left = b;
+      ticks = ticks;
+      spares = spares_all s.frame s.site d m;
+      is = is;
+      ends = runs;
+    };
+  }
 
-  pub does_nothing : (d : ℕ) → Does (λ vs. tick >> give (goes_on vs)) d (λ p a q c. (p ≡ q) × (a ≡ suc c))
-  does_nothing d p a q c r m vs b is runs =
-      let ticks = r.1 in
-      let e : b + a ≡ suc (b + c) = omega arith in
-      nothing (λ vs. tick >> give (goes_on vs)) d q c m vs b (b + a) is (subst (λ p. Ends f p m b x) r.0 runs)
-      (ticks_on (b + a) (b + c) (λ _. give (goes_on vs)) e) (omega arith)
+  -- a point that is another, of whose notes no more is known
+  pub held_met : (p q : Point) (m : Memory) (tr : Tracked) → Meets p q → AreHeld s p m tr → AreHeld s q m tr
+  held_met p q m tr met is = still_told s.frame s.site s.marks p.noted m tr is q.noted met.noted
 
-  -- a slot takes a value of its type
-  pub stores : (vs : Slots) (k : ℕ) (t : Kind) (v w : ℤ) → slice_get vs k ≡ Some (datum_at t v) → IsHeld (datum_at t w)
-      → stored_at vs k (datum_at t w) ≡ Ok (slice_set vs k (datum_at t w))
-  stores vs k t v w at held =
-      ap (λ o. stored_over o vs k (datum_at t w)) at
-      ∙ ap₂ (λ a b. if a && b then Ok (slice_set vs k (datum_at t w)) else Err ill_typed) (same_kind-refl t) held
+  pub ends_met : (p q : Point) (m : Memory) (b : ℕ) → Meets p q → Ends s.frame p.place m b s.finish
+      → Ends s.frame q.place m b s.finish
+  ends_met p q m b met runs = subst (λ p. Ends s.frame p m b s.finish) met.place runs
 
-  pub does_assign : (a : Anchor) (e : SlotExpr) (d : ℕ) → first_temporary f ≤ d
-      → Does (slot_assigning z (place a no_subscripts) e) d (IsAssignment f z.base a e d)
-  does_assign a e d le p n q c r m vs b is runs =
-      let k = slot_at z.base a in
-      let t = r.kind in
-      let made = assigned f z x e t d k p q r.assigned m vs b le is runs in
-      let kept = still_memory f m vs is d made.memory le made.keeps in
-      let us = slice_set vs k (datum_at t made.word) in
-      let after = with_word made.memory k made.word in
-      let ahead = r.ahead in record {
-        memory = after;
-        spares = spares_both f d d m made.memory after (omega arith) (spares_kept f d m made.memory made.keeps)
-            (spares_slot f d made.memory k made.word (there_within f.kinds k t r.target));
-        values = us;
-        left = b;
-        gives = then_gives (slot_value z vs e (b + n)) (datum_at t made.word) (b + n)
-            (λ v. λ b. follow (attempt z.stand_ins (stored_at vs k v) b) (λ us. give (goes_on us)))
-            (made.value (b + n))
-            ∙ ap (λ o. follow (attempt z.stand_ins o (b + n)) (λ us. give (goes_on us)))
-            (stores vs k t (word_at made.memory.words k) made.word
-            (slot_there f made.memory vs kept k t r.target) made.held)
-            ∙ ap (λ j. Ok (goes_on us, b + j)) ahead;
-        fewer = omega arith;
-        is = slot_assigned f made.memory vs kept k t made.word r.target made.held;
-        ends = made.ends;
-      }
+  pub met : (d : ℕ) (e : Exits) (p q : Point) (m : Memory) (end : MarkedEnd) (n : ℕ) → Meets p q
+      → HasEnded d e p m end n → HasEnded d e q m end n
+  met d e p q m (goes_on t) n same h = record {
+    memory = h.memory;
+    left = h.left;
+    ticks = h.ticks ∙ ap (λ a. h.left + a) same.ahead;
+    spares = h.spares;
+    is = held_met p q h.memory t same h.is;
+    ends = ends_met p q h.memory h.left same h.ends;
+  }
+  met d e p q m (exits t) n same h =
+      record { memory = h.memory; left = h.left; ticks = h.ticks; spares = h.spares; is = h.is; ends = h.ends }
+  met d e p q m (returns t) n same h =
+      record { memory = h.memory; left = h.left; ticks = h.ticks; spares = h.spares; is = h.is; ends = h.ends }
 
-  pub does_store : (a : Anchor) (i : SlotExpr) (lower : ℤ) (count stride : ℕ) (e : SlotExpr) (d : ℕ)
-      → first_temporary f ≤ d
-      → Does (slot_assigning z (place a (subscript_then i lower count stride no_subscripts)) e) d
-      (IsStored f z.base a i lower count stride e d)
-  does_store a i lower count stride e d le p n q c r m vs b is runs =
-      let first = slot_at z.base a in
-      let t = r.kind in
-      let one = reads f z x e t d r.from p r.middle r.value m vs b le is runs in
-      let is_one = still_memory f m vs is d one.memory le one.keeps in
-      let u = r.subscript.kind in
-      let two = reads f z x i u (suc d) r.at r.middle r.last r.subscript.reads one.memory vs b (omega arith) is_one
-      one.ends in
-      let is_two = still_memory f one.memory vs is_one (suc d) two.memory (omega arith) two.keeps in
-      let kept = keeps_word (suc d) one.memory two.memory r.from two.keeps one.low in
-      let w = word_at two.memory.words r.from in
-      let held = subst (λ w. IsHeld (datum_at t w)) (sym kept) one.held in
-      let value = one.value (b + n) ∙ ap (λ w. Ok (datum_at t w, b + n)) (sym kept) in
-      let done = has_stored f r.last x two.memory b r.at r.shift r.from first count stride r.stores two.ends in
-      let k = done.place in
-      let leads = element_is lower r.shift first count stride u (word_at two.memory.words r.at) k r.subscript.from_lower
-      r.subscript.narrow done.is in
-      let slot : slice_get f.kinds k ≡ Some t =
-      ap (slice_get f.kinds) leads.place ∙ r.elements.each leads.before leads.less in
-      let us = slice_set vs k (datum_at t w) in
-      let after = with_word two.memory k w in
-      let ahead = r.ahead in
-      let keeps = keeps_both d (suc d) m one.memory two.memory (omega arith) one.keeps two.keeps in record {
-        memory = after;
-        spares = spares_both f d d m two.memory after (omega arith) (spares_kept f d m two.memory keeps)
-            (spares_slot f d two.memory k w (there_within f.kinds k t slot));
-        values = us;
-        left = b;
-        gives = then_gives (slot_value z vs e (b + n)) (datum_at t w) (b + n)
-            (λ v. λ b. follow (led z vs first (subscript_then i lower count stride no_subscripts) b)
-            (λ k. λ b. follow (attempt z.stand_ins (stored_at vs k v) b) (λ us. give (goes_on us)))) value
-            ∙ then_gives (led z vs first (subscript_then i lower count stride no_subscripts) (b + n)) k (b + n)
-            (λ k. λ b. follow (attempt z.stand_ins (stored_at vs k (datum_at t w)) b) (λ us. give (goes_on us)))
-            (led_by f z x i lower first count stride u (word_at two.memory.words r.at) k vs (b + n)
-            (two.value (b + n)) leads)
-            ∙ ap (λ o. follow (attempt z.stand_ins o (b + n)) (λ us. give (goes_on us)))
-            (stores vs k t (word_at two.memory.words k) w (slot_there f two.memory vs is_two k t slot) held)
-            ∙ ap (λ j. Ok (goes_on us, b + j)) ahead;
-        fewer = omega arith;
-        is = slot_assigned f two.memory vs is_two k t w slot held;
-        ends = subst (λ q. Ends f q after b x) (sym r.next) done.ends;
-      }
+  -- A run came to a point by a jump, or was there.
+  pub record HasJoined (q : Point) (m : Memory) (tr : Tracked) (n : ℕ) : Type 0 where
+    pub left : ℕ
+    pub ticks : n ≡ left + q.ahead
+    pub is : AreHeld s q m tr
+    pub ends : Ends s.frame q.place m left s.finish
 
-  pub in_turn : (run go : Slots → Run SlotEnd) (d : ℕ) (First Second : Part) → Does run d First → Does go d Second
-      → Does (λ vs. λ b. follow (run vs b) (λ e. behind e go)) d (AreBoth First Second)
-  in_turn run go d First Second one two p a q c r m vs b is runs =
-      let h = one p a r.middle r.left r.first m vs b is runs in
-      gives_same (λ vs. λ b. follow (run vs b) (λ e. behind e go)) go d q c m h.memory vs h.values (b + a)
-      (h.left + r.left) (then_gives (run vs (b + a)) (goes_on h.values) (h.left + r.left) (λ e. behind e go) h.gives)
-      h.fewer h.spares (two r.middle r.left q c r.second h.memory h.values h.left h.is h.ends)
-
-  -- behind a jump the rest of the ticks is the same
-  joined : (run : Slots → Run SlotEnd) (d p a q c : ℕ) → Joins f p a q c → (m : Memory) (vs : Slots) (t : ℕ)
-      → HasRun run d p a m vs t → HasRun run d q c m vs t
-  joined run d p a q c (inl same) m vs t h =
-      subst (λ n. HasRun run d q n m vs t) same.1 (subst (λ n. HasRun run d n a m vs t) same.0 h)
-  joined run d p a q c (inr j) m vs t h =
-      let took = has_taken f p x j.way h.memory h.left (stepped f p x h.memory h.left _ h.ends j.stands) in
+  pub has_joined : (p q : Point) (m : Memory) (tr : Tracked) (b n : ℕ) → Joins s.frame p q → n ≡ b + p.ahead
+      → AreHeld s p m tr → Ends s.frame p.place m b s.finish → HasJoined q m tr n
+  has_joined p q m tr b n (inl same) ticks is runs = record {
+    left = b;
+    ticks = ticks ∙ ap (λ a. b + a) same.ahead;
+    is = held_met p q m tr same is;
+    ends = ends_met p q m b same runs;
+  }
+  has_joined p q m tr b n (inr j) ticks is runs =
+      let took = has_taken s.frame p.place s.finish j.way m b (stepped s.frame p.place s.finish m b _ runs j.stands) in
       let enough = took.0 in
-      let ahead = j.ahead in
-      let rest = h.left - j.way.ticks in
-      let same : h.left + a ≡ rest + c = omega arith in record {
-        memory = h.memory;
-        spares = h.spares;
-        values = h.values;
-        left = rest;
-        gives = h.gives ∙ ap (λ n. Ok (goes_on h.values, n)) same;
-        fewer = (let few = h.fewer in omega arith);
-        is = h.is;
-        ends = subst (λ q. Ends f q h.memory rest x) j.place took.1;
+      let ahead = j.meets.ahead in record {
+        left = b - j.way.ticks;
+        ticks = omega arith;
+        is = still_told s.frame s.site s.marks p.noted m tr is q.noted j.meets.noted;
+        ends = subst (λ q. Ends s.frame q m (b - j.way.ticks) s.finish) j.meets.place took.1;
       }
 
-  module _ (e : SlotExpr) (d : ℕ) (le : first_temporary f ≤ d) (body rest : Slots → Run SlotEnd) (Body Rest : Part)
-      (does_body : Does body d Body) (does_rest : Does rest d Rest) where
-    chosen : (p a q c : ℕ) (r : IsArm f (IsTestedFor f z.base e false d) Body Rest p a q c) (m : Memory) (vs : Slots)
-        (b : ℕ)
-        → IsMemory f m vs → (go : Bool) → HasBranched f r.test x (not go) r.way r.past m b
-        → HasRun (λ us. if go then body us else rest us) d q c m vs (b + a)
-    chosen p a q c r m vs b is true h =
+  pub joined : (d : ℕ) (e : Exits) (p q : Point) (m : Memory) (end : MarkedEnd) (n : ℕ) → Joins s.frame p q
+      → HasEnded d e p m end n → HasEnded d e q m end n
+  joined d e p q m (goes_on t) n joins h =
+      let j = has_joined p q h.memory t h.left n joins h.ticks h.is h.ends in
+      record { memory = h.memory; left = j.left; ticks = j.ticks; spares = h.spares; is = j.is; ends = j.ends }
+  joined d e p q m (exits t) n joins h =
+      record { memory = h.memory; left = h.left; ticks = h.ticks; spares = h.spares; is = h.is; ends = h.ends }
+  joined d e p q m (returns t) n joins h =
+      record { memory = h.memory; left = h.left; ticks = h.ticks; spares = h.spares; is = h.is; ends = h.ends }
+
+  pub run_joined : (run : Tracked → Run MarkedEnd) (d : ℕ) (e : Exits) (p q : Point) (m : Memory) (tr : Tracked) (n : ℕ)
+      → Joins s.frame p q → HasRun run d e p m tr n → HasRun run d e q m tr n
+  run_joined run d e p q m tr n joins h = record {
+    end = h.end;
+    rest = h.rest;
+    gives = h.gives;
+    fewer = h.fewer;
+    ended = joined d e p q m h.end h.rest joins h.ended;
+  }
+
+  -- Looks and assignments that come were noted.
+  pub record HasNoted (p q : Point) (m : Memory) (tr : Tracked) (b : ℕ) : Type 0 where
+    pub memory : Memory
+    pub words : memory.words ≡ m.words
+    pub ahead : p.ahead ≡ q.ahead
+    pub is : AreHeld s q memory tr
+    pub ends : Ends s.frame q.place memory b s.finish
+
+  noted_once : (n : Note) (p q : Point) (m : Memory) (tr : Tracked) (b : ℕ) → IsNoted s.frame n p q → AreHeld s p m tr
+      → Ends s.frame p.place m b s.finish → HasNoted p q m tr b
+  noted_once (look_of k) p q m tr b is of runs = record {
+    memory = note noted_read k m;
+    words = refl;
+    ahead = sym (ap (λ (q : Point). q.ahead) is.1.0);
+    is = record {
+      noted = noted_look s.frame p.noted (marks_of s.site s.marks tr) m of.noted k q.noted is.1.1;
+      long = of.long;
+      values = λ j w t at has. (let v = of.values j w t at has in record { is = v.is; held = v.held });
+    };
+    ends = subst (λ i. Ends s.frame i (note noted_read k m) b s.finish) (sym (ap (λ (q : Point). q.place) is.1.0))
+        (stepped s.frame p.place s.finish m b (NoteRead k) runs is.0);
+  }
+  noted_once (assignment_of k) p q m tr b is of runs = record {
+    memory = note noted_written k m;
+    words = refl;
+    ahead = sym (ap (λ (q : Point). q.ahead) is.1.0);
+    is = record {
+      noted = noted_assignment s.frame p.noted (marks_of s.site s.marks tr) m of.noted k q.noted is.1.1;
+      long = of.long;
+      values = λ j w t at has. (let v = of.values j w t at has in record { is = v.is; held = v.held });
+    };
+    ends = subst (λ i. Ends s.frame i (note noted_written k m) b s.finish) (sym (ap (λ (q : Point). q.place) is.1.0))
+        (stepped s.frame p.place s.finish m b (NoteWritten k) runs is.0);
+  }
+
+  pub has_noted : (ns : List Note) (p q : Point) (m : Memory) (tr : Tracked) (b : ℕ) → AllNoted s.frame ns p q
+      → AreHeld s p m tr → Ends s.frame p.place m b s.finish → HasNoted p q m tr b
+  has_noted [] p q m tr b is of runs =
+      subst (λ q. HasNoted p q m tr b) is (record { memory = m; words = refl; ahead = refl; is = of; ends = runs })
+  has_noted (n ∷ ns) p q m tr b is of runs =
+      let one = noted_once n p is.0 m tr b is.1.0 of runs in
+      let rest = has_noted ns is.0 q one.memory tr b is.1.1 one.is one.ends in record {
+        memory = rest.memory;
+        words = rest.words ∙ one.words;
+        ahead = one.ahead ∙ rest.ahead;
+        is = rest.is;
+        ends = rest.ends;
+      }
+
+  pub spares_words : (d : ℕ) (m n : Memory) → n.words ≡ m.words → Spares s.frame s.site d m n
+  spares_words d m n same = record {
+    long = ap length same;
+    same = λ w lt not_own. ap (λ ws. slice_get ws w) same;
+  }
+
+  -- a part behind notes
+  pub noting : (run : Tracked → Run MarkedEnd) (d : ℕ) (e : Exits) (part : Part) → Does run d e part
+      → Does run d e (AreBoth (AreNoted s.frame) part)
+  noting run d e part does p q r m tr b site is runs =
+      let n = has_noted r.first.notes p r.middle m tr b r.first.all is runs in
+      let same = n.ahead in
+      let at : b + p.ahead ≡ b + r.middle.ahead = omega arith in
+      gives_same run run d e q m n.memory tr tr (b + p.ahead) (b + r.middle.ahead) (ap (run tr) at) (omega arith)
+      (spares_words d m n.memory n.words) (does r.middle q r.second n.memory tr b site n.is n.ends)
+
+  pub ticked : (run : Tracked → Run MarkedEnd) (d : ℕ) (e : Exits) (rest : Part) → Does run d e rest
+      → Does (λ tr. tick >> run tr) d e (IsTicked rest)
+  ticked run d e rest does p q r m tr b site is runs =
+      let ticks = r.ticks in
+      let at : b + p.ahead ≡ suc (b + r.behind) = omega arith in
+      gives_same (λ tr. tick >> run tr) run d e q m m tr tr (b + p.ahead) (b + r.behind)
+      (ticks_on (b + p.ahead) (b + r.behind) (λ _. run tr) at) (omega arith) (spares_all s.frame s.site d m)
+      (does (record p { ahead = r.behind }) q r.rest m tr b site is runs)
+
+  pub does_nothing : (d : ℕ) (e : Exits) → Does (λ tr. give (goes_on tr)) d e Meets
+  does_nothing d e p q same m tr b site is runs =
+      nothing (λ tr. give (goes_on tr)) d e q m tr b (b + p.ahead) (b + p.ahead) (held_met p q m tr same is)
+      (ends_met p q m b same runs) refl (ap (λ a. b + a) same.ahead) (omega arith)
+
+  -- EXIT, and RETURN
+  pub does_exit : (d : ℕ) (e : Exits) → Does (λ tr. give (exits tr)) d e (λ p q. Joins s.frame p e.out)
+  does_exit d e p q joins m tr b site is runs =
+      let j = has_joined p e.out m tr b (b + p.ahead) joins refl is runs in record {
+        end = exits tr;
+        rest = b + p.ahead;
+        gives = refl;
+        fewer = omega arith;
+        ended = record {
+          memory = m;
+          left = j.left;
+          ticks = j.ticks;
+          spares = spares_all s.frame s.site d m;
+          is = j.is;
+          ends = j.ends;
+        };
+      }
+
+  pub does_return : (d : ℕ) (e : Exits) → Does (λ tr. give (returns tr)) d e (λ p q. Joins s.frame p e.back)
+  does_return d e p q joins m tr b site is runs =
+      let j = has_joined p e.back m tr b (b + p.ahead) joins refl is runs in record {
+        end = returns tr;
+        rest = b + p.ahead;
+        gives = refl;
+        fewer = omega arith;
+        ended = record {
+          memory = m;
+          left = j.left;
+          ticks = j.ticks;
+          spares = spares_all s.frame s.site d m;
+          is = j.is;
+          ends = j.ends;
+        };
+      }
+
+  -- a value is assigned to a slot that a place leads to
+  assigns : (l : Place) (y : SlotExpr) (tr tr' tr'' : Tracked) (a b c k : ℕ) (t : Kind) (w old : ℤ)
+      → marked_value z tr y a ≡ Ok ((datum_at t w, tr'), b) → marked_place z tr' l b ≡ Ok ((k, tr''), c)
+      → slice_get tr''.values k ≡ Some (datum_at t old) → IsHeld (datum_at t w)
+      → marked_assigning z l y tr a ≡ Ok (goes_on (written tr'' k (datum_at t w)), c)
+  assigns l y tr tr' tr'' a b c k t w old value led at held =
+      then_gives (marked_value z tr y a) (datum_at t w, tr') b
+      (λ v. λ n. follow (marked_place z v.1 l n)
+      (λ l. λ n. follow (marked_put s.stand_ins l.1 l.0 v.0 n) (λ m. give (goes_on m)))) value
+      ∙ then_gives (marked_place z tr' l b) (k, tr'') c
+      (λ l. λ n. follow (marked_put s.stand_ins l.1 l.0 (datum_at t w) n) (λ m. give (goes_on m))) led
+      ∙ then_gives (marked_put s.stand_ins tr'' k (datum_at t w) c) (written tr'' k (datum_at t w)) c
+      (λ m. give (goes_on m)) (puts s.stand_ins tr'' k t old w c at held)
+
+  pub does_assign : (a : Anchor) (y : SlotExpr) (d : ℕ) (e : Exits)
+      → Does (marked_assigning z (place a no_subscripts) y) d e (IsAssignment s.frame s.site s.units a y d)
+  does_assign a y d e p q r m tr b site is runs =
+      let k = slot_at (base_of s.site) a in
+      let t = r.kind in
+      let done = made s y t d r.word p r.made r.makes m tr b site is runs in
+      let old = own_value s.frame s.site s.marks r.made.noted done.memory done.tracked done.is d site k r.word t
+      r.target r.own in
+      let after = written done.tracked k (datum_at t done.word) in
+      let m' = with_word done.memory r.word done.word in
+      let rest = done.left + r.made.ahead in
+      record {
+        end = goes_on after;
+        rest = rest;
+        gives = assigns (place a no_subscripts) y tr done.tracked done.tracked (b + p.ahead) rest rest k t done.word
+            (look done.memory r.word) done.gives refl old.is done.held;
+        fewer = done.fewer;
+        ended = subst (λ q. HasEnded d e q m (goes_on after) rest) (sym r.is) (record {
+          memory = m';
+          left = done.left;
+          ticks = refl;
+          spares = spares_both s.frame s.site d d m done.memory m' (omega arith)
+              (spares_kept s.frame s.site d m done.memory done.keeps)
+              (spares_own s.frame s.site d done.memory m' k r.word t done.word r.target r.own refl);
+          is = holds_assigned s.frame s.site s.marks r.made.noted done.memory done.tracked done.is d site k r.word t
+              r.target r.own done.word done.held q.noted r.touches;
+          ends = done.ends;
+        });
+      }
+
+  pub does_store : (a : Anchor) (i : SlotExpr) (lower : ℤ) (count stride : ℕ) (y : SlotExpr) (d : ℕ) (e : Exits)
+      → Does (marked_assigning z (place a (subscript_then i lower count stride no_subscripts)) y) d e
+      (IsStored s.frame s.site s.units a i lower count stride y d)
+  does_store a i lower count stride y d e p q r m tr b site is runs =
+      let first = slot_at (base_of s.site) a in
+      let t = r.kind in
+      let one = reads s y t d r.from p r.middle r.value m tr b site is runs in
+      let u = r.subscript.kind in
+      let two = reads s i u (suc d) r.at r.middle r.last r.subscript.reads one.memory one.tracked one.left
+      (deeper s.frame s.site d (suc d) (omega arith) site) one.is one.ends in
+      let kept = keeps_word (suc d) one.memory two.memory r.from two.keeps one.low in
+      let w = look two.memory r.from in
+      let held = subst (λ w. IsHeld (datum_at t w)) (sym kept) one.held in
+      let value = one.gives ∙ ap (λ w. Ok ((datum_at t w, one.tracked), one.left + r.middle.ahead)) (sym kept) in
+      let done = has_stored s.frame r.last.place s.finish two.memory two.left r.at r.shift r.from r.word count stride
+      r.stores two.ends in
+      let leads = element_is lower r.shift first r.word count stride u (look two.memory r.at) done.place
+      r.subscript.from_lower r.subscript.narrow done.is in
+      let k = first + leads.before * stride in
+      let own = subst (HasOwnWord s.site k) (sym leads.place) (r.elements.words leads.before leads.less) in
+      let target = r.elements.each leads.before leads.less in
+      let old = own_value s.frame s.site s.marks r.last.noted two.memory two.tracked two.is d site k done.place t target
+      own in
+      let after = written two.tracked k (datum_at t w) in
+      let m' = with_word (note noted_written done.place two.memory) done.place w in
+      let rest = two.left + r.last.ahead in
+      let keeps = keeps_both d (suc d) m one.memory two.memory (omega arith) one.keeps two.keeps in
+      let few_one = one.fewer in
+      let few_two = two.fewer in
+      record {
+        end = goes_on after;
+        rest = rest;
+        gives = assigns (place a (subscript_then i lower count stride no_subscripts)) y tr one.tracked two.tracked
+            (b + p.ahead) (one.left + r.middle.ahead) rest k t w (look two.memory done.place) value
+            (led_by s i lower first count stride u (look two.memory r.at) k one.tracked two.tracked
+            (one.left + r.middle.ahead) rest two.gives leads.leads)
+            old.is held;
+        fewer = omega arith;
+        ended = subst (λ q. HasEnded d e q m (goes_on after) rest) (sym r.is) (record {
+          memory = m';
+          left = two.left;
+          ticks = refl;
+          spares = spares_both s.frame s.site d d m two.memory m' (omega arith)
+              (spares_kept s.frame s.site d m two.memory keeps)
+              (spares_own s.frame s.site d two.memory m' k done.place t w target own refl);
+          is = holds_stored s.frame s.site s.marks r.last.noted two.memory two.tracked two.is d site k done.place t
+              target own w held (r.elements.exact leads.before leads.less);
+          ends = done.ends;
+        });
+      }
+
+  -- one part behind another, unless this left the unit or a loop
+  module _ (run go : Tracked → Run MarkedEnd) (d : ℕ) (e : Exits) (p q : Point) (m : Memory) (tr : Tracked) (n : ℕ)
+      (next : (us : Tracked) (rest : ℕ) → (h : HasEnded d e p m (goes_on us) rest) → rest ≤ n
+      → HasRun go d e q h.memory us rest) where
+    abbrev both : Tracked → Run MarkedEnd
+    both us = λ b. follow (run us b) (λ e. behind e go)
+
+    by_end : (end : MarkedEnd) (rest : ℕ) → run tr n ≡ Ok (end, rest) → rest ≤ n → HasEnded d e p m end rest
+        → HasRun both d e q m tr n
+    by_end (goes_on us) rest gives fewer h =
+        gives_same both go d e q m h.memory tr us n rest (then_gives (run tr n) (goes_on us) rest
+        (λ e. behind e go) gives)
+        fewer h.spares (next us rest h fewer)
+    by_end (exits us) rest gives fewer h = record {
+      end = exits us;
+      rest = rest;
+      gives = then_gives (run tr n) (exits us) rest (λ e. behind e go) gives;
+      fewer = fewer;
+      ended = record {
+        memory = h.memory;
+        left = h.left;
+        ticks = h.ticks;
+        spares = h.spares;
+        is = h.is;
+        ends = h.ends;
+      };
+    }
+    by_end (returns us) rest gives fewer h = record {
+      end = returns us;
+      rest = rest;
+      gives = then_gives (run tr n) (returns us) rest (λ e. behind e go) gives;
+      fewer = fewer;
+      ended = record {
+        memory = h.memory;
+        left = h.left;
+        ticks = h.ticks;
+        spares = h.spares;
+        is = h.is;
+        ends = h.ends;
+      };
+    }
+
+    then_run : HasRun run d e p m tr n → HasRun both d e q m tr n
+    then_run h = by_end h.end h.rest h.gives h.fewer h.ended
+
+  pub in_turn : (run go : Tracked → Run MarkedEnd) (d : ℕ) (e : Exits) (First Second : Part) → Does run d e First
+      → Does go d e Second → Does (λ tr. λ b. follow (run tr b) (λ e. behind e go)) d e (AreBoth First Second)
+  in_turn run go d e First Second one two p q r m tr b site is runs =
+      then_run run go d e r.middle q m tr (b + p.ahead)
+      (λ us rest h fewer. subst (HasRun go d e q h.memory us) (sym h.ticks)
+      (two r.middle q r.second h.memory us h.left site h.is h.ends))
+      (one p r.middle r.first m tr b site is runs)
+
+  module _ (x : SlotExpr) (d : ℕ) (e : Exits) (body rest : Tracked → Run MarkedEnd) (Body Rest : Part)
+      (does_body : Does body d e Body) (does_rest : Does rest d e Rest) where
+    chosen : (p q : Point) (r : IsArm s.frame (IsTestedFor s.frame s.site s.units x false d) Body Rest p q) (m : Memory)
+        (tr : Tracked) (b : ℕ) → IsSite s.frame s.site d → AreHeld s r.test m tr → (go : Bool)
+        → HasBranched s.frame r.test.place s.finish (not go) r.way r.past m b
+        → HasRun (λ us. if go then body us else rest us) d e q m tr (b + r.test.ahead)
+    chosen p q r m tr b site is true h =
         let enough = h.0 in
-        let past = r.past in
-        let same : b - past + (a + past) ≡ b + a = omega arith in
-        joined body d r.end r.left q c r.joins m vs (b + a)
-        (subst (HasRun body d r.end r.left m vs) same
-        (does_body (suc r.test) (a + past) r.end r.left r.body m vs (b - past) is h.1))
-    chosen p a q c r m vs b is false h =
+        let same : b - r.past + (r.test.ahead + r.past) ≡ b + r.test.ahead = omega arith in
+        run_joined body d e r.end q m tr (b + r.test.ahead) r.joins
+        (subst (HasRun body d e r.end m tr) same
+        (does_body (record { place = suc r.test.place; ahead = r.test.ahead + r.past; noted = r.test.noted }) r.end
+        r.body
+        m tr (b - r.past) site is h.1))
+    chosen p q r m tr b site is false h =
         let enough = h.0 in
-        let way = r.way in
-        let same : b - way.ticks + (a + way.ticks) ≡ b + a = omega arith in
-        subst (HasRun rest d q c m vs) same
-        (does_rest way.place (a + way.ticks) q c r.rest m vs (b - way.ticks) is h.1)
+        let same : b - r.way.ticks + (r.test.ahead + r.way.ticks) ≡ b + r.test.ahead = omega arith in
+        subst (HasRun rest d e q m tr) same
+        (does_rest
+        (record { place = r.way.place; ahead = r.test.ahead + r.way.ticks; noted = r.test.noted }) q r.rest m tr
+        (b - r.way.ticks) site is h.1)
 
-    pub does_arm : Does (λ vs. λ b. follow (slot_truth z e vs b) (λ go. if go then body vs else rest vs)) d
-        (IsArm f (IsTestedFor f z.base e false d) Body Rest)
-    does_arm p a q c r m vs b is runs =
-        let t = tested f z x e false d p r.test r.way r.past r.tested m vs b le is runs in
-        gives_same (λ vs. λ b. follow (slot_truth z e vs b) (λ go. if go then body vs else rest vs))
-        (λ us. if t.go then body us else rest us) d q c m t.memory vs vs (b + a) (b + a)
-        (then_gives (slot_truth z e vs (b + a)) t.go (b + a) (λ go. if go then body vs else rest vs) (t.truth (b + a)))
-        (omega arith) (spares_kept f d m t.memory t.keeps) (chosen p a q c r t.memory vs b t.is t.go t.ends)
-
-  module _ (e : SlotExpr) (d : ℕ) (le : first_temporary f ≤ d) (body : Slots → Run SlotEnd) (Body : Part)
-      (does_body : Does body d Body) (p a q c : ℕ) (r : IsLoop f (IsTestedFor f z.base e false d) Body p a q c) where
-    -- a turn, and what comes behind it
-    abbrev turn : Slots → Run (TurnOf Slots)
-    turn = guarded (slot_truth z e) body
-
-    abbrev in_body : Bool → Slots → Run (TurnOf Slots)
-    in_body go us = if go then (λ b. follow (body us b) (λ e. give (turned e))) else give (over (goes_on us))
-
-    abbrev behind_test : ℕ → Bool → Slots → Run SlotEnd
-    behind_test n go us = λ b. follow (in_body go us b) (go_back no_step (turns n turn no_step))
-
-    tested_turn : (n : ℕ) (vs : Slots) (t : ℕ) (go : Bool) → slot_truth z e vs t ≡ Ok (go, t)
-        → turns (suc n) turn no_step vs t ≡ behind_test n go vs t
-    unfolding turns guarded
-    tested_turn n vs t go so =
-        ap (λ r. follow (follow r (λ go. in_body go vs)) (go_back no_step (turns n turn no_step))) so
-
-    -- the loop from a turn on, within so many turns
-    abbrev Around : ℕ → Type 0
-    Around n =
-        (m : Memory) (vs : Slots) (b : ℕ) → IsMemory f m vs → Ends f p m b x → b + a < n
-        → HasRun (turns n turn no_step) d q c m vs (b + a)
-
-    by_test : (n : ℕ) → Around n → (m : Memory) (vs : Slots) (b : ℕ) → IsMemory f m vs → b + a < suc n → (go : Bool)
-        → HasBranched f r.test x (not go) r.way r.past m b → HasRun (behind_test n go) d q c m vs (b + a)
-    by_test n around m vs b is less true h =
-        let enough = h.0 in
-        let past = r.past in
-        let same : b - past + (a + past) ≡ b + a = omega arith in
-        let done = subst (HasRun body d r.end r.left m vs) same
-        (does_body (suc r.test) (a + past) r.end r.left r.body m vs (b - past) is h.1) in
-        let way = r.back.way in
-        let took = has_taken f r.end x way done.memory done.left
-        (stepped f r.end x done.memory done.left _ done.ends r.back.stands) in
-        let paid = took.0 in
-        let ahead = r.back.ahead in
-        let few = done.fewer in
-        let rest = done.left - way.ticks in
-        let again_at : done.left + r.left ≡ suc (rest + a) = omega arith in
-        gives_same (behind_test n true) (turns n turn no_step) d q c m done.memory vs done.values (b + a) (rest + a)
-        (ap (λ o. follow (follow o (λ e. give (turned e))) (go_back no_step (turns n turn no_step))) done.gives
-        ∙ ap (λ t. go_back no_step (turns n turn no_step) (again done.values) t) again_at)
-        (omega arith) done.spares
-        (around done.memory done.values rest done.is (subst (λ p. Ends f p done.memory rest x) r.back.place took.1)
-        (omega arith))
-    by_test n around m vs b is less false h =
-        let enough = h.0 in
-        let ahead = r.ahead in
-        let rest = b - r.way.ticks in
-        let same : b + a ≡ rest + c = omega arith in
-        nothing (behind_test n false) d q c m vs rest (b + a) is (subst (λ p. Ends f p m rest x) r.over h.1)
-        (ap (λ n. Ok (goes_on vs, n)) same) (omega arith)
-
-    around : (n : ℕ) → Around n
-    around zero m vs b is runs less = absurd (omega arith)
-    around (suc n) m vs b is runs less =
-        let t = tested f z x e false d p r.test r.way r.past r.tested m vs b le is runs in
-        gives_same (turns (suc n) turn no_step) (behind_test n t.go) d q c m t.memory vs vs (b + a) (b + a)
-        (tested_turn n vs (b + a) t.go (t.truth (b + a))) (omega arith) (spares_kept f d m t.memory t.keeps)
-        (by_test n (around n) t.memory vs b t.is less t.go t.ends)
-
-    pub does_loop : (m : Memory) (vs : Slots) (b : ℕ) → IsMemory f m vs → Ends f p m b x
-        → HasRun (looped turn no_step) d q c m vs (b + a)
-    unfolding looped
-    does_loop m vs b is runs =
-        gives_same (looped turn no_step) (turns (suc (b + a)) turn no_step) d q c m m vs vs (b + a) (b + a) refl
-        (omega arith) (spares_all f d m) (around (suc (b + a)) m vs b is runs (omega arith))
+    pub does_arm : Does (λ tr. λ b. follow (marked_truth z x tr b) (λ r. if r.0 then body r.1 else rest r.1)) d e
+        (IsArm s.frame (IsTestedFor s.frame s.site s.units x false d) Body Rest)
+    does_arm p q r m tr b site is runs =
+        let t = tested s x false d p r.test r.way r.past r.tested m tr b site is runs in
+        gives_same (λ tr. λ b. follow (marked_truth z x tr b) (λ r. if r.0 then body r.1 else rest r.1))
+        (λ us. if t.go then body us else rest us) d e q m t.memory tr t.tracked (b + p.ahead) (t.left + r.test.ahead)
+        (then_gives (marked_truth z x tr (b + p.ahead)) (t.go, t.tracked) (t.left + r.test.ahead)
+        (λ r. if r.0 then body r.1 else rest r.1)
+        (truth_is s x tr t.tracked t.go (b + p.ahead) (t.left + r.test.ahead) t.value))
+        t.fewer (spares_kept s.frame s.site d m t.memory t.keeps)
+        (chosen p q r t.memory t.tracked t.left site t.is t.go t.ends)

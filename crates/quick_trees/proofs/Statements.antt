@@ -1,86 +1,178 @@
 -- Code that stands for statements does what they mean.
-use Rattle.std.proofs.Common.{ℕ, suc, ◌+◌, ◌≤◌, Ok, ap, subst, arith}
-use Rattle.st_types.specs.Loops.{goes_on, guarded, looped, no_step}
+use Rattle.std.proofs.Common.{◌≡◌, ℕ, suc, ◌+◌, ◌-◌, ◌≤◌, ◌+ℤ◌, ℤ, Bool, true, false, Option, Some, None}
+use Rattle.std.proofs.Common.{refl, ap, subst, ◌∙◌, arith}
+use Rattle.std.specs.Prelude.{if◌then◌else◌, slice_get}
+use Rattle.std.specs.List.{list_any}
+use Rattle.st_words.specs.Words.{datum_at, number_at}
+use Rattle.st_types.specs.Execution.{label_holds}
+use Rattle.st_types.specs.Loops.{exits, goes_on, returns}
+use Rattle.st_types.specs.Ticks.{Run, follow, give}
+use Rattle.machine_code.specs.Tracking.{Tracked}
+use Rattle.quick_code.specs.declared.quick_code.Way.{Way}
 use Rattle.quick_code.specs.QuickRuns.{Left}
-use Rattle.slot_trees.specs.SlotTrees.{SlotArms, SlotStmt, SlotStmts, arm_then, assign, CASE, empty, EXIT, FOR}
-use Rattle.slot_trees.specs.SlotTrees.{IF, invoke, no_arms, no_stmts, no_subscripts, place, REPEAT, RETURN, stmt_then}
-use Rattle.slot_trees.specs.SlotTrees.{subscript_then, WHILE}
-use Rattle.slot_trees.specs.SlotEvaluation.{SlotScope, slot_at, slot_truth}
-use Rattle.slot_trees.specs.SlotExecution.{slot_assigning, slot_counting, slot_exec, slot_exec_all}
-use Rattle.slot_trees.specs.SlotExecution.{slot_exec_arms}
-use Rattle.quick_trees.specs.QuickMemory.{Ends, Frame, first_temporary}
-use Rattle.quick_trees.specs.Pieces.{IsLoop}
-use Rattle.quick_trees.specs.Standing.{ArmsStand, IsAssignment, IsFor, IsStored, IsTestedFor, StandsFor}
-use Rattle.quick_trees.specs.Standing.{StmtsStand}
-use Rattle.quick_trees.proofs.Running.{Does, does_arm, does_assign, does_loop, does_nothing, does_store, in_turn}
-use Rattle.quick_trees.proofs.Running.{nothing, ticked}
-use Rattle.slot_trees.specs.SlotTrees.{SlotExpr}
+use Rattle.quick_code.specs.QuickSteps.{Memory, look, taken_if_any}
+use Rattle.quick_code.specs.Words.{case_of}
+use Rattle.slot_trees.specs.SlotTrees.{SlotArms, SlotCaseArms, SlotExpr, SlotStmt, SlotStmts, arm_then, assign}
+use Rattle.slot_trees.specs.SlotTrees.{CASE, case_arm_then, empty, EXIT, FOR, IF, invoke, no_arms, no_case_arms}
+use Rattle.slot_trees.specs.SlotTrees.{no_stmts, no_subscripts, place, REPEAT, RETURN, stmt_then, subscript_then, WHILE}
+use Rattle.slot_trees.specs.SlotEvaluation.{slot_at}
+use Rattle.tree_code.specs.MarkedEvaluation.{MarkedScope, marked_truth, marked_value}
+use Rattle.tree_code.specs.MarkedExecution.{MarkedEnd, marked_assigning, marked_counting, marked_exec, marked_exec_all}
+use Rattle.tree_code.specs.MarkedExecution.{marked_exec_arms, marked_exec_case, marked_guarded, marked_loop}
+use Rattle.tree_code.specs.MarkedExecution.{marked_no_step, marked_until}
+use Rattle.quick_trees.specs.Pieces.{AreBoth, IsArm, IsLoop, IsUntil}
+use Rattle.quick_trees.specs.Points.{Joins, Meets, Part, along}
+use Rattle.quick_trees.specs.QuickMemory.{Ends, Frame}
+use Rattle.quick_trees.specs.Sites.{base_of}
+use Rattle.quick_trees.specs.Standing.{ArmsStand, ChosenStand, Exits, IsAssignment, IsCase, IsFor, IsStored}
+use Rattle.quick_trees.specs.Standing.{IsTestedFor, StandsFor, StmtsStand, part_by}
+use Rattle.quick_trees.proofs.Stepping.{Follows, has_taken, stepped}
+use Rattle.quick_trees.proofs.Memories.{spares_kept}
+use Rattle.quick_trees.proofs.Elements.{narrow_number}
+use Rattle.quick_trees.proofs.Settings.{Setting, scope_of}
+use Rattle.quick_trees.proofs.Truths.{then_gives}
+use Rattle.quick_trees.proofs.Reading.{Is, reads}
+use Rattle.quick_trees.proofs.Running.{Does, HasRun, does_arm, does_assign, does_exit, does_nothing, does_return}
+use Rattle.quick_trees.proofs.Running.{does_store, gives_same, in_turn, noting, run_joined, ticked}
+use Rattle.quick_trees.proofs.Looping.{does_repeat, does_while}
 use Rattle.quick_trees.proofs.Counting.{does_for}
-use Rattle.quick_trees.proofs.Turning.{does_turning}
-use Rattle.quick_trees.specs.Pieces.{IsTurning}
-use Rattle.std.proofs.Common.{false, inl, inr}
-use Rattle.std.specs.Prelude.{◌⊎◌}
 
-module _ (f : Frame) (z : SlotScope) (x : Left) where
-  -- a WHILE of either form
-  does_while : (e : SlotExpr) (body : SlotStmts) (d : ℕ) → first_temporary f ≤ d
-      → Does f z x (slot_exec_all z body) d (StmtsStand f z.base body d)
-      → Does f z x (looped (guarded (slot_truth z e) (slot_exec_all z body)) no_step) d
-      (λ p a q c. IsLoop f (IsTestedFor f z.base e false d) (StmtsStand f z.base body d) p a q c
-      ⊎ IsTurning f (λ when. IsTestedFor f z.base e when d) (StmtsStand f z.base body d) p a q c)
-  does_while e body d le does p a q c (inl r) =
-      does_loop f z x e d le (slot_exec_all z body) (StmtsStand f z.base body d) does p a q c r
-  does_while e body d le does p a q c (inr r) =
-      does_turning f z x e d le (slot_exec_all z body) (StmtsStand f z.base body d) does p a q c r
+-- A way of a table was gone.
+record HasSwitched (f : Frame) (e : Left) (o : Option Way) (m : Memory) (b : ℕ) : Type 0 where
+  way : Way
+  is : o ≡ Some way
+  enough : way.ticks ≤ b
+  ends : Ends f way.place m (b - way.ticks) e
+
+has_switched : (f : Frame) (p : ℕ) (e : Left) (o : Option Way) (m : Memory) (b : ℕ)
+    → Follows f p e (taken_if_any o m b) → HasSwitched f e o m b
+has_switched f p e (Some w) m b h =
+    let took = has_taken f p e w m b h in record { way = w; is = refl; enough = took.0; ends = took.1 }
+has_switched f p e None m b h = absurd h
+
+module _ (s : Setting) where
+  abbrev z : MarkedScope
+  z = scope_of s
+
+  -- the statements that are chosen by the number of a selector
+  module _ (x : SlotExpr) (d : ℕ) (e : Exits) (run : ℤ → Tracked → Run MarkedEnd) (Chosen : ℤ → Part)
+      (does_chosen : (n : ℤ) → Does s (run n) d e (Chosen n)) where
+    pub does_case : Does s (λ tr. λ b. follow (marked_value z tr x b) (λ r. run r.0.number r.1)) d e
+        (IsCase s.frame (λ t. Is s x t d) Chosen)
+    does_case p q r m tr b site is runs =
+        let one = reads s x r.kind d r.selector p r.last r.reads m tr b site is runs in
+        let w = look one.memory r.selector in
+        let number : number_at r.kind w ≡ w = narrow_number r.kind w r.narrow in
+        let went = has_switched s.frame r.last.place s.finish
+        (slice_get s.frame.ways (r.first + case_of r.count (w +ℤ r.shift))) one.memory one.left
+        (stepped s.frame r.last.place s.finish one.memory one.left _ one.ends r.stands) in
+        let enough = went.enough in
+        let rest = one.left - went.way.ticks in
+        let same : rest + (r.last.ahead + went.way.ticks) ≡ one.left + r.last.ahead = omega arith in
+        gives_same s (λ tr. λ b. follow (marked_value z tr x b) (λ r. run r.0.number r.1)) (run w) d e q m one.memory tr
+        one.tracked (b + p.ahead) (one.left + r.last.ahead)
+        (then_gives (marked_value z tr x (b + p.ahead)) (datum_at r.kind w, one.tracked) (one.left + r.last.ahead)
+        (λ r. run r.0.number r.1) one.gives
+        ∙ ap (λ n. run n one.tracked (one.left + r.last.ahead)) number)
+        one.fewer (spares_kept s.frame s.site d m one.memory one.keeps)
+        (subst (HasRun s (run w) d e q one.memory one.tracked) same
+        (does_chosen w (along r.last went.way) q (r.chosen w went.way went.is) one.memory one.tracked rest site one.is
+        went.ends))
+
+  -- a part that is joined to what follows
+  joins_on : (run : Tracked → Run MarkedEnd) (d : ℕ) (e : Exits) (part : Part) → Does s run d e part
+      → Does s run d e (AreBoth part (Joins s.frame))
+  joins_on run d e part does p q r m tr b site is runs =
+      run_joined s run d e r.middle q m tr (b + p.ahead) r.second (does p r.middle r.first m tr b site is runs)
+
+  one_of : (run go : Tracked → Run MarkedEnd) (d : ℕ) (e : Exits) (part other : Part) (t : Bool) → Does s run d e part
+      → Does s go d e other → Does s (λ tr. if t then run tr else go tr) d e (part_by t part other)
+  one_of run go d e part other true does does_other = does
+  one_of run go d e part other false does does_other = does_other
 
   mutual
-    does_stmt : (s : SlotStmt) (d : ℕ) → first_temporary f ≤ d
-        → Does f z x (slot_exec z s) d (StandsFor f z.base s d)
-    does_stmt empty d le = does_nothing f z x d
-    does_stmt (assign (place a no_subscripts) e) d le =
-        ticked f z x (slot_assigning z (place a no_subscripts) e) d (IsAssignment f z.base a e d)
-        (does_assign f z x a e d le)
-    does_stmt (assign (place a (subscript_then i lower count stride no_subscripts)) e) d le =
-        ticked f z x (slot_assigning z (place a (subscript_then i lower count stride no_subscripts)) e) d
-        (IsStored f z.base a i lower count stride e d) (does_store f z x a i lower count stride e d le)
-    does_stmt (assign (place a (subscript_then i lower count stride (subscript_then j l c s ss))) e) d le =
-        λ p a q c r. absurd r
-    does_stmt (invoke a code arguments) d le = λ p a q c r. absurd r
-    does_stmt (IF arms otherwise) d le =
-        ticked f z x (slot_exec_arms z arms (slot_exec_all z otherwise)) d
-        (ArmsStand f z.base arms (StmtsStand f z.base otherwise d) d)
-        (does_arms arms otherwise d le (does_stmts otherwise d le))
-    does_stmt (CASE e arms otherwise) d le = λ p a q c r. absurd r
-    does_stmt (FOR a start limit step body) d le =
-        ticked f z x (slot_counting z (slot_at z.base a) start limit step (slot_exec_all z body)) d
-        (IsFor f z.base (StmtsStand f z.base body (suc (suc d))) a start limit step d)
-        (λ p b q c r. does_for f z x a start limit step d le (slot_exec_all z body)
-        (StmtsStand f z.base body (suc (suc d))) (does_stmts body (suc (suc d)) (omega arith)) p b q c r)
-    does_stmt (WHILE e body) d le =
-        ticked f z x (looped (guarded (slot_truth z e) (slot_exec_all z body)) no_step) d
-        (λ p a q c. IsLoop f (IsTestedFor f z.base e false d) (StmtsStand f z.base body d) p a q c
-        ⊎ IsTurning f (λ when. IsTestedFor f z.base e when d) (StmtsStand f z.base body d) p a q c)
-        (does_while e body d le (does_stmts body d le))
-    does_stmt (REPEAT body e) d le = λ p a q c r. absurd r
-    does_stmt EXIT d le = λ p a q c r. absurd r
-    does_stmt RETURN d le = λ p a q c r. absurd r
+    does_stmt : (x : SlotStmt) (d : ℕ) (e : Exits)
+        → Does s (marked_exec z x) d e (StandsFor s.frame s.site s.units x d e)
+    does_stmt empty d e = ticked s (λ tr. give (goes_on tr)) d e Meets (does_nothing s d e)
+    does_stmt (assign (place a no_subscripts) y) d e =
+        ticked s (marked_assigning z (place a no_subscripts) y) d e (IsAssignment s.frame s.site s.units a y d)
+        (does_assign s a y d e)
+    does_stmt (assign (place a (subscript_then i lower count stride no_subscripts)) y) d e =
+        ticked s (marked_assigning z (place a (subscript_then i lower count stride no_subscripts)) y) d e
+        (IsStored s.frame s.site s.units a i lower count stride y d) (does_store s a i lower count stride y d e)
+    does_stmt (assign (place a (subscript_then i lower count stride (subscript_then j l c r ss))) y) d e =
+        λ p q r. absurd r
+    does_stmt (invoke a code arguments) d e = λ p q r. absurd r
+    does_stmt (IF arms otherwise) d e =
+        ticked s (marked_exec_arms z arms (marked_exec_all z otherwise)) d e
+        (ArmsStand s.frame s.site s.units arms (StmtsStand s.frame s.site s.units otherwise d e) d e)
+        (does_arms arms otherwise d e (does_stmts otherwise d e))
+    does_stmt (CASE x arms otherwise) d e =
+        ticked s (λ tr. λ b. follow (marked_value z tr x b)
+        (λ r. marked_exec_case z r.0.number arms (marked_exec_all z otherwise) r.1)) d e
+        (IsCase s.frame (λ t. Is s x t d) (λ n. ChosenStand s.frame s.site s.units n arms
+        (StmtsStand s.frame s.site s.units otherwise d e) d e))
+        (does_case x d e (λ n. marked_exec_case z n arms (marked_exec_all z otherwise))
+        (λ n. ChosenStand s.frame s.site s.units n arms (StmtsStand s.frame s.site s.units otherwise d e) d e)
+        (λ n. does_chosen n arms otherwise d e (does_stmts otherwise d e)))
+    does_stmt (FOR a start limit step body) d e =
+        ticked s (marked_counting z (slot_at (base_of s.site) a) start limit step (marked_exec_all z body)) d e
+        (λ p q. IsFor s.frame s.site s.units (StmtsStand s.frame s.site s.units body (suc (suc d))
+        (record e { out = q }))
+        a start limit step d p q)
+        (λ p q r. does_for s a start limit step d e (marked_exec_all z body)
+        (StmtsStand s.frame s.site s.units body (suc (suc d)) (record e { out = q })) p q
+        (does_stmts body (suc (suc d)) (record e { out = q })) r)
+    does_stmt (WHILE x body) d e =
+        ticked s (marked_loop (marked_guarded (marked_truth z x) (marked_exec_all z body)) marked_no_step) d e
+        (λ p q. IsLoop s.frame (λ when. IsTestedFor s.frame s.site s.units x when d)
+        (StmtsStand s.frame s.site s.units body d (record e { out = q })) p q)
+        (λ p q r. does_while s x d e (marked_exec_all z body)
+        (StmtsStand s.frame s.site s.units body d (record e { out = q })) p q
+        (does_stmts body d (record e { out = q })) r)
+    does_stmt (REPEAT body x) d e =
+        ticked s (marked_loop (marked_until (marked_exec_all z body) (marked_truth z x)) marked_no_step) d e
+        (λ p q. IsUntil s.frame (λ when. IsTestedFor s.frame s.site s.units x when d)
+        (StmtsStand s.frame s.site s.units body d (record e { out = q })) p q)
+        (λ p q r. does_repeat s x d e (marked_exec_all z body)
+        (StmtsStand s.frame s.site s.units body d (record e { out = q })) p q
+        (does_stmts body d (record e { out = q })) r)
+    does_stmt EXIT d e = ticked s (λ tr. give (exits tr)) d e (λ p q. Joins s.frame p e.out) (does_exit s d e)
+    does_stmt RETURN d e = ticked s (λ tr. give (returns tr)) d e (λ p q. Joins s.frame p e.back) (does_return s d e)
 
-    pub does_stmts : (ss : SlotStmts) (d : ℕ) → first_temporary f ≤ d
-        → Does f z x (slot_exec_all z ss) d (StmtsStand f z.base ss d)
-    does_stmts no_stmts d le = λ p a q c r m vs b is runs. (
-        let ahead = r.1 in
-        nothing f z x (slot_exec_all z no_stmts) d q c m vs b (b + a) is (subst (λ p. Ends f p m b x) r.0 runs)
-        (ap (λ n. Ok (goes_on vs, b + n)) ahead) (omega arith))
-    does_stmts (stmt_then s ss) d le =
-        in_turn f z x (slot_exec z s) (slot_exec_all z ss) d (StandsFor f z.base s d) (StmtsStand f z.base ss d)
-        (does_stmt s d le) (does_stmts ss d le)
+    pub does_stmts : (xs : SlotStmts) (d : ℕ) (e : Exits)
+        → Does s (marked_exec_all z xs) d e (StmtsStand s.frame s.site s.units xs d e)
+    does_stmts no_stmts d e = does_nothing s d e
+    does_stmts (stmt_then x xs) d e =
+        noting s (marked_exec_all z (stmt_then x xs)) d e
+        (AreBoth (StandsFor s.frame s.site s.units x d e) (StmtsStand s.frame s.site s.units xs d e))
+        (in_turn s (marked_exec z x) (marked_exec_all z xs) d e (StandsFor s.frame s.site s.units x d e)
+        (StmtsStand s.frame s.site s.units xs d e) (does_stmt x d e) (does_stmts xs d e))
 
-    does_arms : (arms : SlotArms) (otherwise : SlotStmts) (d : ℕ) → first_temporary f ≤ d
-        → Does f z x (slot_exec_all z otherwise) d (StmtsStand f z.base otherwise d)
-        → Does f z x (slot_exec_arms z arms (slot_exec_all z otherwise)) d
-        (ArmsStand f z.base arms (StmtsStand f z.base otherwise d) d)
-    does_arms no_arms otherwise d le does = does
-    does_arms (arm_then e body arms) otherwise d le does =
-        does_arm f z x e d le (slot_exec_all z body) (slot_exec_arms z arms (slot_exec_all z otherwise))
-        (StmtsStand f z.base body d) (ArmsStand f z.base arms (StmtsStand f z.base otherwise d) d)
-        (does_stmts body d le) (does_arms arms otherwise d le does)
+    does_arms : (arms : SlotArms) (otherwise : SlotStmts) (d : ℕ) (e : Exits)
+        → Does s (marked_exec_all z otherwise) d e (StmtsStand s.frame s.site s.units otherwise d e)
+        → Does s (marked_exec_arms z arms (marked_exec_all z otherwise)) d e
+        (ArmsStand s.frame s.site s.units arms (StmtsStand s.frame s.site s.units otherwise d e) d e)
+    does_arms no_arms otherwise d e does = does
+    does_arms (arm_then x body arms) otherwise d e does =
+        noting s (marked_exec_arms z (arm_then x body arms) (marked_exec_all z otherwise)) d e
+        (IsArm s.frame (IsTestedFor s.frame s.site s.units x false d) (StmtsStand s.frame s.site s.units body d e)
+        (ArmsStand s.frame s.site s.units arms (StmtsStand s.frame s.site s.units otherwise d e) d e))
+        (does_arm s x d e (marked_exec_all z body) (marked_exec_arms z arms (marked_exec_all z otherwise))
+        (StmtsStand s.frame s.site s.units body d e)
+        (ArmsStand s.frame s.site s.units arms (StmtsStand s.frame s.site s.units otherwise d e) d e)
+        (does_stmts body d e) (does_arms arms otherwise d e does))
+
+    does_chosen : (n : ℤ) (arms : SlotCaseArms) (otherwise : SlotStmts) (d : ℕ) (e : Exits)
+        → Does s (marked_exec_all z otherwise) d e (StmtsStand s.frame s.site s.units otherwise d e)
+        → Does s (marked_exec_case z n arms (marked_exec_all z otherwise)) d e
+        (ChosenStand s.frame s.site s.units n arms (StmtsStand s.frame s.site s.units otherwise d e) d e)
+    does_chosen n no_case_arms otherwise d e does =
+        joins_on (marked_exec_all z otherwise) d e (StmtsStand s.frame s.site s.units otherwise d e) does
+    does_chosen n (case_arm_then labels body arms) otherwise d e does =
+        one_of (marked_exec_all z body) (marked_exec_case z n arms (marked_exec_all z otherwise)) d e
+        (AreBoth (StmtsStand s.frame s.site s.units body d e) (Joins s.frame))
+        (ChosenStand s.frame s.site s.units n arms (StmtsStand s.frame s.site s.units otherwise d e) d e)
+        (list_any (label_holds n) labels)
+        (joins_on (marked_exec_all z body) d e (StmtsStand s.frame s.site s.units body d e) (does_stmts body d e))
+        (does_chosen n arms otherwise d e does)

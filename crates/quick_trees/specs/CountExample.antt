@@ -2,11 +2,14 @@
 use Rattle.std.specs.Prelude.{ℕ, pos, List, [], ◌∷◌}
 use Rattle.st_words.specs.declared.kind.Kind.TheVariants.{Int}
 use Rattle.st_words.specs.declared.operator.BinaryOperator.TheVariants.{Less}
+use Rattle.machine_code.specs.declared.mark.Mark.{Mark}
+use Rattle.machine_code.specs.Tracking.{Tracked, tracked}
 use Rattle.quick_code.specs.declared.quick_instr.QuickInstr.{QuickInstr}
-use Rattle.quick_code.specs.declared.quick_instr.QuickInstr.TheVariants.{AddIntBy, End, Jump, WhenBelow, WhenFrom}
+use Rattle.quick_code.specs.declared.quick_instr.QuickInstr.TheVariants.{AddIntBy, End, Jump, NoteRead, NoteWritten}
+use Rattle.quick_code.specs.declared.quick_instr.QuickInstr.TheVariants.{WhenBelow, WhenFrom}
 use Rattle.quick_code.specs.QuickSteps.{Memory}
 use Rattle.slot_trees.specs.SlotTrees.{SlotStmts, binary, no_stmts, stmt_then, WHILE}
-use Rattle.quick_trees.specs.Example.{number, raised_by, variable, way}
+use Rattle.quick_trees.specs.Example.{int, number, raised_by, variable, way}
 use Rattle.quick_trees.specs.QuickMemory.{Frame}
 
 -- WHILE x < 10 DO x := x + 1; END_WHILE;
@@ -15,11 +18,14 @@ count_body = stmt_then (WHILE (binary Less (variable 0) (number 10)) (raised_by 
 
 abbrev pub count_code : List QuickInstr
 count_code =
-    Jump (way 1 1) ∷ WhenFrom 0 (pos 10) (way 4 0) 1 ∷ AddIntBy 0 (pos 1) 0 ∷ WhenBelow 0 (pos 10) (way 2 2) 1 ∷ End
-    ∷ []
+    Jump (way 1 1) ∷ NoteRead 0 ∷ WhenFrom 0 (pos 10) (way 6 0) 2 ∷ NoteWritten 0 ∷ AddIntBy 0 (pos 1) 0
+    ∷ WhenBelow 0 (pos 10) (way 4 2) 0 ∷ End ∷ []
 
 abbrev pub count_frame : Frame
 count_frame = record { code = count_code; ways = []; now = 0; kinds = Int ∷ []; constants = []; size = 1 }
 
-abbrev pub count_words : ℕ → Memory
-count_words n = record { words = pos n ∷ []; notes = [] }
+abbrev pub count_words : ℕ → ℕ → Memory
+count_words n note = record { words = pos n ∷ []; notes = note ∷ [] }
+
+abbrev pub count_slots : ℕ → Mark → Tracked
+count_slots n m = tracked (int n ∷ []) (m ∷ [])

@@ -1,12 +1,16 @@
 -- A worked example: a program, and quick code that stands for it.
-use Rattle.std.specs.Prelude.{ℕ, ℤ, pos, List, [], ◌∷◌, false, None, Some}
+use Rattle.std.specs.Prelude.{ℕ, ℤ, pos, List, [], ◌∷◌, Bool, false, None, Some}
 use Rattle.st_words.specs.declared.kind.Kind.TheVariants.{Int}
 use Rattle.st_words.specs.declared.literal.Literal.TheVariants as literals
+use Rattle.st_words.specs.declared.literal.Number.{Number}
 use Rattle.st_words.specs.declared.operator.BinaryOperator.TheVariants.{Add, Less}
 use Rattle.st_words.specs.Values.{Datum}
+use Rattle.machine_code.specs.declared.mark.Mark.{Mark}
+use Rattle.machine_code.specs.Tracking.{Tracked, tracked}
 use Rattle.quick_code.specs.declared.quick_code.Way.{Way}
 use Rattle.quick_code.specs.declared.quick_instr.QuickInstr.{QuickInstr}
-use Rattle.quick_code.specs.declared.quick_instr.QuickInstr.TheVariants.{AddInt, End, Jump, WhenAtMost}
+use Rattle.quick_code.specs.declared.quick_instr.QuickInstr.TheVariants.{AddInt, End, Jump, NoteRead, NoteWritten}
+use Rattle.quick_code.specs.declared.quick_instr.QuickInstr.TheVariants.{WhenAtMost, WhenLess}
 use Rattle.quick_code.specs.QuickSteps.{Memory}
 use Rattle.slot_trees.specs.SlotTrees.{SlotExpr, SlotLibrary, SlotStmts, arm_then, assign, binary, constant, IF, load}
 use Rattle.slot_trees.specs.SlotTrees.{no_arms, no_stmts, no_subscripts, own, place, stmt_then, WHILE}
@@ -15,15 +19,18 @@ use Rattle.quick_trees.specs.QuickMemory.{Frame}
 abbrev pub variable : ℕ → SlotExpr
 variable k = load (place (own k) no_subscripts)
 
-abbrev pub number : ℕ → SlotExpr
-number n = constant (literals.Number (record {
+abbrev pub written : ℕ → Number
+written n = record {
   place = 0;
   is_negative = false;
   magnitude = n;
   written = Some Int;
   is_decimal = false;
   taken = None;
-}))
+}
+
+abbrev pub number : ℕ → SlotExpr
+number n = constant (literals.Number (written n))
 
 -- x := x + e
 abbrev pub raised_by : SlotExpr → SlotStmts
@@ -42,8 +49,8 @@ way to n = record { place = to; ticks = n }
 -- x is the word 0, y is 1, and the constants 10 and 1 are 2 and 3
 abbrev pub its_code : List QuickInstr
 its_code =
-    Jump (way 1 1) ∷ WhenAtMost 2 0 (way 7 0) 1 ∷ WhenAtMost 1 0 (way 5 1) 1 ∷ AddInt 0 1 0 ∷ Jump (way 6 0)
-    ∷ AddInt 0 3 0 ∷ Jump (way 1 1) ∷ End ∷ []
+    Jump (way 1 1) ∷ NoteRead 0 ∷ WhenAtMost 2 0 (way 10 0) 1 ∷ NoteRead 1 ∷ NoteWritten 0 ∷ WhenAtMost 1 0 (way 8 2) 2
+    ∷ AddInt 0 1 0 ∷ Jump (way 9 0) ∷ AddInt 0 3 0 ∷ WhenLess 0 2 (way 5 1) 0 ∷ End ∷ []
 
 abbrev pub int : ℕ → Datum
 int n = record { kind = Int; number = pos n }
@@ -61,5 +68,15 @@ its_frame = record {
 abbrev pub no_units : SlotLibrary
 no_units = record { functions = []; blocks = [] }
 
-abbrev pub its_words : ℤ → ℤ → Memory
-its_words x y = record { words = x ∷ y ∷ pos 10 ∷ pos 1 ∷ []; notes = [] }
+abbrev pub its_words : ℤ → ℤ → ℕ → ℕ → Memory
+its_words x y m n = record { words = x ∷ y ∷ pos 10 ∷ pos 1 ∷ []; notes = m ∷ n ∷ 0 ∷ 0 ∷ [] }
+
+-- what a program did with a slot: it looked it up before it assigned it, and it assigned it
+abbrev pub mark : Bool → Bool → Mark
+mark read assigned = record { is_read = read; is_assigned = assigned }
+
+abbrev pub untouched : Mark
+untouched = mark false false
+
+abbrev pub its_slots : ℕ → ℕ → Mark → Mark → Tracked
+its_slots x y m n = tracked (int x ∷ int y ∷ []) (m ∷ n ∷ [])

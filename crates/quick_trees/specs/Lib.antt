@@ -1,8 +1,16 @@
 pub mod QuickMemory
+pub mod Notes
+pub mod Points
+pub mod Sites
 pub mod Instructions
 pub mod Pieces
 pub mod Standing
+pub mod Calls
 pub mod Programs
 pub mod Example
 pub mod LoopExample
 pub mod CountExample
+pub mod CallExample
+pub mod CaseExample
+pub mod RepeatExample
+pub mod ReturnExample

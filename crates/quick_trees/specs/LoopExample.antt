@@ -2,10 +2,12 @@
 use Rattle.std.specs.Prelude.{ℕ, pos, negsuc, List, [], ◌∷◌, None}
 use Rattle.st_words.specs.declared.kind.Kind.TheVariants.{Int}
 use Rattle.st_words.specs.declared.operator.BinaryOperator.TheVariants.{Add}
-use Rattle.st_words.specs.Values.{Datum}
+use Rattle.machine_code.specs.declared.mark.Mark.{Mark}
+use Rattle.machine_code.specs.Tracking.{Tracked, tracked}
 use Rattle.quick_code.specs.declared.quick_instr.QuickInstr.{QuickInstr}
 use Rattle.quick_code.specs.declared.quick_instr.QuickInstr.TheVariants.{AddInt, CountUpInt, End, Jump, LoadElement}
-use Rattle.quick_code.specs.declared.quick_instr.QuickInstr.TheVariants.{Move, StoreElement, WhenLess}
+use Rattle.quick_code.specs.declared.quick_instr.QuickInstr.TheVariants.{Move, NoteRead, NoteWritten, StoreElement}
+use Rattle.quick_code.specs.declared.quick_instr.QuickInstr.TheVariants.{WhenLess}
 use Rattle.quick_code.specs.QuickSteps.{Memory}
 use Rattle.slot_trees.specs.SlotTrees.{Place, SlotStmts, assign, binary, FOR, load, no_stmts, no_subscripts, own, place}
 use Rattle.slot_trees.specs.SlotTrees.{stmt_then, subscript_then}
@@ -26,8 +28,9 @@ loop_body =
 -- i is the word 0, s is 1, the elements are 2 to 4, the constants 1 and 3 are 5 and 6, and what is behind them is free
 abbrev pub loop_code : List QuickInstr
 loop_code =
-    Jump (way 1 1) ∷ Move 5 0 ∷ WhenLess 6 0 (way 8 0) 2 ∷ LoadElement 0 (negsuc 0) 9 2 3 ∷ AddInt 9 1 9
-    ∷ StoreElement 0 (negsuc 0) 9 2 3 ∷ LoadElement 0 (negsuc 0) 1 2 3 ∷ CountUpInt 0 (pos 1) 6 (way 3 3) 1 ∷ End ∷ []
+    Jump (way 1 1) ∷ NoteWritten 0 ∷ Move 5 0 ∷ WhenLess 6 0 (way 11 0) 2 ∷ NoteRead 1 ∷ NoteWritten 1
+    ∷ LoadElement 0 (negsuc 0) 9 2 3 ∷ AddInt 9 1 9 ∷ StoreElement 0 (negsuc 0) 9 2 3 ∷ LoadElement 0 (negsuc 0) 1 2 3
+    ∷ CountUpInt 0 (pos 1) 6 (way 6 3) 1 ∷ End ∷ []
 
 abbrev pub loop_frame : Frame
 loop_frame = record {
@@ -39,11 +42,12 @@ loop_frame = record {
   size = 10;
 }
 
-abbrev pub loop_words : ℕ → ℕ → ℕ → ℕ → ℕ → ℕ → Memory
-loop_words i s x y z t = record {
+-- the values of i, s and the elements and a temporary, and the notes of i, s and of each element
+abbrev pub loop_words : ℕ → ℕ → ℕ → ℕ → ℕ → ℕ → ℕ → ℕ → ℕ → Memory
+loop_words i s x y z t m n o = record {
   words = pos i ∷ pos s ∷ pos x ∷ pos y ∷ pos z ∷ pos 1 ∷ pos 3 ∷ pos 0 ∷ pos 0 ∷ pos t ∷ [];
-  notes = [];
+  notes = m ∷ n ∷ o ∷ o ∷ o ∷ 0 ∷ 0 ∷ 0 ∷ 0 ∷ 0 ∷ [];
 }
 
-abbrev pub loop_values : ℕ → ℕ → ℕ → ℕ → ℕ → List Datum
-loop_values i s x y z = int i ∷ int s ∷ int x ∷ int y ∷ int z ∷ []
+abbrev pub loop_slots : ℕ → ℕ → ℕ → ℕ → ℕ → Mark → Mark → Mark → Tracked
+loop_slots i s x y z m n o = tracked (int i ∷ int s ∷ int x ∷ int y ∷ int z ∷ []) (m ∷ n ∷ o ∷ o ∷ o ∷ [])

@@ -1,43 +1,99 @@
 //! Worked examples, proved by computation.
 
-ghost use Rattle.std.specs.Prelude.{◌≡◌, Ok, Some, None, [], ◌∷◌, pos};
+ghost use Rattle.std.specs.Prelude.{◌≡◌, Ok, Some, None, [], pos, false, true};
 ghost use Rattle.st_types.specs.Failures.{in_runs};
 ghost use Rattle.st_types.specs.Loops.{goes_on};
-ghost use Rattle.slot_trees.specs.SlotRuns.{slots_ran};
+ghost use Rattle.tree_code.specs.MarkedRuns.{marked_ran};
 ghost use Rattle.quick_code.specs.QuickRuns.{exec, left};
-ghost use Rattle.quick_trees.specs.CountExample.{count_body, count_code, count_frame, count_words};
-ghost use Rattle.quick_trees.specs.Example.{int, its_body, its_code, its_frame, its_words, no_units};
-ghost use Rattle.quick_trees.specs.LoopExample.{loop_body, loop_code, loop_frame, loop_values, loop_words};
-ghost use Rattle.quick_trees.specs.QuickMemory.{IsMemory};
-ghost use Rattle.quick_trees.specs.Standing.{IsProgram};
+ghost use Rattle.quick_trees.specs.CallExample.{call_body, call_code, call_frame, call_library, call_words};
+ghost use Rattle.quick_trees.specs.CaseExample.{case_body, case_code, case_frame, case_ways, case_words};
+ghost use Rattle.quick_trees.specs.CountExample.{count_body, count_code, count_frame, count_slots, count_words};
+ghost use Rattle.quick_trees.specs.Example.{its_body, its_code, its_frame, its_slots, its_words, mark, no_units};
+ghost use Rattle.quick_trees.specs.Example.{untouched};
+ghost use Rattle.quick_trees.specs.LoopExample.{loop_body, loop_code, loop_frame, loop_slots, loop_words};
+ghost use Rattle.quick_trees.specs.RepeatExample.{repeat_body, repeat_code, repeat_frame};
+ghost use Rattle.quick_trees.specs.ReturnExample.{return_body, return_code, return_frame, return_library, return_words};
+ghost use Rattle.quick_trees.specs.Programs.{beginning, IsProgram};
+ghost use Rattle.quick_trees.specs.Sites.{IsMemory, whole};
 
 /// A program of a loop with a choice in it. Its code stands for it. From 0 and 3 both come to 10 and 3, and take 25
-/// ticks: one, and three for each of eight turns. With 24 ticks the code cannot tell.
+/// ticks: one, and three for each of eight turns. The notes tell that x was looked up before it was assigned, and y
+/// looked up. With 24 ticks the code cannot tell.
 pub fn a_program_in_quick_code()
-    ensures stands { IsProgram its_frame 0 its_body }
-    ensures words { IsMemory its_frame (its_words (pos 0) (pos 3)) (int 0 ∷ int 3 ∷ []) }
-    ensures run { exec its_code [] 0 50 0 (its_words (pos 0) (pos 3)) 30 ≡ Some (left (its_words (pos 10) (pos 3)) 5) }
-    ensures program { slots_ran in_runs no_units 0 its_body 0 0 (int 0 ∷ int 3 ∷ []) 30
-        ≡ Ok (goes_on (int 10 ∷ int 3 ∷ []), 5) }
-    ensures short { exec its_code [] 0 50 0 (its_words (pos 0) (pos 3)) 24 ≡ None }
+    ensures stands { IsProgram its_frame no_units 0 0 its_body }
+    ensures words { IsMemory its_frame (whole 0) (beginning its_frame) (its_words (pos 0) (pos 3) 0 0)
+        (its_slots 0 3 untouched untouched) }
+    ensures run { exec its_code [] 0 50 0 (its_words (pos 0) (pos 3) 0 0) 30
+        ≡ Some (left (its_words (pos 10) (pos 3) 3 1) 5) }
+    ensures program { marked_ran in_runs no_units 0 its_body 0 0 (its_slots 0 3 untouched untouched) 30
+        ≡ Ok (goes_on (its_slots 10 3 (mark true true) (mark true false)), 5) }
+    ensures short { exec its_code [] 0 50 0 (its_words (pos 0) (pos 3) 0 0) 24 ≡ None }
 {}
 
 /// A FOR over the elements of an array. Its code stands for it. From 10 and the elements 1, 2 and 3 both make the
-/// elements 11, 13 and 16, and take 10 ticks: one, and three for each of three turns. With 9 ticks the code cannot
-/// tell.
+/// elements 11, 13 and 16, and take 10 ticks: one, and three for each of three turns. The control variable was assigned
+/// first, all else looked up first. With 9 ticks the code cannot tell.
 pub fn a_loop_in_quick_code()
-    ensures stands { IsProgram loop_frame 0 loop_body }
-    ensures run { exec loop_code [] 0 50 0 (loop_words 0 10 1 2 3 7) 30 ≡ Some (left (loop_words 4 16 11 13 16 16) 20) }
-    ensures program { slots_ran in_runs no_units 0 loop_body 0 0 (loop_values 0 10 1 2 3) 30
-        ≡ Ok (goes_on (loop_values 4 16 11 13 16), 20) }
-    ensures short { exec loop_code [] 0 50 0 (loop_words 0 10 1 2 3 7) 9 ≡ None }
+    ensures stands { IsProgram loop_frame no_units 0 0 loop_body }
+    ensures run { exec loop_code [] 0 50 0 (loop_words 0 10 1 2 3 7 0 0 0) 30
+        ≡ Some (left (loop_words 4 16 11 13 16 16 2 3 3) 20) }
+    ensures program { marked_ran in_runs no_units 0 loop_body 0 0
+        (loop_slots 0 10 1 2 3 untouched untouched untouched) 30
+        ≡ Ok (goes_on (loop_slots 4 16 11 13 16 (mark false true) (mark true true) (mark true true)), 20) }
+    ensures short { exec loop_code [] 0 50 0 (loop_words 0 10 1 2 3 7 0 0 0) 9 ≡ None }
 {}
 
 /// A WHILE whose turn is two instructions, with its constants in them. Its code stands for it. From 4 both come to 10,
 /// and take 13 ticks: one, and two for each of six turns.
 pub fn a_count_in_quick_code()
-    ensures stands { IsProgram count_frame 0 count_body }
-    ensures run { exec count_code [] 0 50 0 (count_words 4) 20 ≡ Some (left (count_words 10) 7) }
-    ensures program { slots_ran in_runs no_units 0 count_body 0 0 (int 4 ∷ []) 20 ≡ Ok (goes_on (int 10 ∷ []), 7) }
-    ensures short { exec count_code [] 0 50 0 (count_words 4) 12 ≡ None }
+    ensures stands { IsProgram count_frame no_units 0 0 count_body }
+    ensures run { exec count_code [] 0 50 0 (count_words 4 0) 20 ≡ Some (left (count_words 10 3) 7) }
+    ensures program { marked_ran in_runs no_units 0 count_body 0 0 (count_slots 4 untouched) 20
+        ≡ Ok (goes_on (count_slots 10 (mark true true)), 7) }
+    ensures short { exec count_code [] 0 50 0 (count_words 4 0) 12 ≡ None }
+{}
+
+/// A call within a call. The input of the function stays where its argument is: a slot, and then the inner result. From
+/// 3 both come to 12, and take three ticks: one for the assignment, and one for that in each call.
+pub fn a_call_in_quick_code()
+    ensures stands { IsProgram call_frame call_library 0 1 call_body }
+    ensures run { exec call_code [] 0 50 0 (call_words 3 0 0 0 0 0) 20 ≡ Some (left (call_words 3 12 6 12 1 2) 17) }
+    ensures program { marked_ran in_runs call_library 0 call_body 0 1 (its_slots 3 0 untouched untouched) 20
+        ≡ Ok (goes_on (its_slots 3 12 (mark true false) (mark false true)), 17) }
+    ensures short { exec call_code [] 0 50 0 (call_words 3 0 0 0 0 0) 2 ≡ None }
+{}
+
+/// A CASE by a table. From 3 both come to 20, and from 7, which no label holds, to 7. They take two ticks.
+pub fn a_case_in_quick_code()
+    ensures stands { IsProgram case_frame no_units 0 0 case_body }
+    ensures run { exec case_code case_ways 0 50 0 (case_words 3 0 0 0) 20 ≡ Some (left (case_words 3 20 1 2) 18) }
+    ensures program { marked_ran in_runs no_units 0 case_body 0 0 (its_slots 3 0 untouched untouched) 20
+        ≡ Ok (goes_on (its_slots 3 20 (mark true false) (mark false true)), 18) }
+    ensures run_past { exec case_code case_ways 0 50 0 (case_words 7 0 0 0) 20 ≡ Some (left (case_words 7 7 1 2) 18) }
+    ensures program_past { marked_ran in_runs no_units 0 case_body 0 0 (its_slots 7 0 untouched untouched) 20
+        ≡ Ok (goes_on (its_slots 7 7 (mark true false) (mark false true)), 18) }
+    ensures short { exec case_code case_ways 0 50 0 (case_words 3 0 0 0) 1 ≡ None }
+{}
+
+/// A REPEAT that an EXIT may leave. Its code stands for it. From 0 and 3 both leave it by EXIT with 4, after 13 ticks:
+/// one, three for each of three turns that go back, and three for the last. From 0 and 9 they come to 5.
+pub fn a_repeat_in_quick_code()
+    ensures stands { IsProgram repeat_frame no_units 0 0 repeat_body }
+    ensures run { exec repeat_code [] 0 50 0 (case_words 0 3 0 0) 20 ≡ Some (left (case_words 4 3 3 1) 7) }
+    ensures program { marked_ran in_runs no_units 0 repeat_body 0 0 (its_slots 0 3 untouched untouched) 20
+        ≡ Ok (goes_on (its_slots 4 3 (mark true true) (mark true false)), 7) }
+    ensures run_through { exec repeat_code [] 0 50 0 (case_words 0 9 0 0) 20 ≡ Some (left (case_words 5 9 3 1) 5) }
+    ensures program_through { marked_ran in_runs no_units 0 repeat_body 0 0 (its_slots 0 9 untouched untouched) 20
+        ≡ Ok (goes_on (its_slots 5 9 (mark true true) (mark true false)), 5) }
+{}
+
+/// A function that counts down, and returns from within its loop. From 5 both come to 2, and take 11 ticks: for the
+/// assignment and the loop, four choices, three ways back, and the two statements that are chosen in the end.
+pub fn a_return_in_quick_code()
+    ensures stands { IsProgram return_frame return_library 0 1 return_body }
+    ensures run { exec return_code [] 0 50 0 (return_words 5 0 0 0 0 0) 20
+        ≡ Some (left (return_words 5 2 2 2 1 2) 9) }
+    ensures program { marked_ran in_runs return_library 0 return_body 0 1 (its_slots 5 0 untouched untouched) 20
+        ≡ Ok (goes_on (its_slots 5 2 (mark true false) (mark false true)), 9) }
+    ensures short { exec return_code [] 0 50 0 (return_words 5 0 0 0 0 0) 10 ≡ None }
 {}

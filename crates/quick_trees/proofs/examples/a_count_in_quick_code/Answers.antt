@@ -1,84 +1,161 @@
-use Rattle.std.proofs.Common.{pos, refl, inl, inr}
+use Rattle.std.proofs.Common.{pos, [], ◌∷◌, refl}
+use Rattle.std.proofs.Common.{inl, inr}
 use Rattle.st_words.specs.declared.kind.Kind.TheVariants.{Int}
-use Rattle.st_types.specs.Loops.{guarded, looped, turns}
-use Rattle.quick_code.specs.declared.quick_instr.QuickInstr.TheVariants.{AddIntBy, WhenBelow, WhenFrom}
-use Rattle.slot_trees.specs.SlotEvaluation.{slot_truth}
-use Rattle.slot_trees.specs.SlotRuns.{slot_units_within, slots_ran}
+use Rattle.tree_code.specs.MarkedEvaluation.{marked_truth}
+use Rattle.tree_code.specs.MarkedExecution.{marked_guarded, marked_loop, marked_turns}
+use Rattle.tree_code.specs.MarkedRuns.{marked_ran, marked_units_within}
+use Rattle.quick_trees.specs.declared.noting.Noting.TheVariants.{Exact, LookAhead}
+use Rattle.quick_trees.specs.declared.noting.Noting.TheVariants.{Looked, LookedAssignmentAhead, Assigned}
 use Rattle.quick_trees.specs.Example.{way}
+use Rattle.quick_trees.specs.Points.{assignment_of, look_of}
+use Rattle.quick_trees.proofs.Tellings.{at, each_tells}
+use Rattle.quick_code.specs.declared.quick_instr.QuickInstr.TheVariants.{AddIntBy, WhenBelow, WhenFrom}
 use Rattle.quick_trees.proofs.examples.a_count_in_quick_code.Goals as goal
 
 pub returns-clause-stands : goal.returns-clause-stands
 returns-clause-stands c = record {
   way = way 1 1;
   begins = refl;
-  end = 4;
+  end = at 6 0 (Exact ∷ []);
+  last = at 6 0 (Exact ∷ []);
+  last_is = refl;
   stands = record {
-    middle = 4;
-    left = 0;
+    middle = at 2 1 (LookAhead ∷ []);
     first = record {
-      behind = 0;
-      ticks = refl;
-      rest = inr (record {
-        test = 1;
-        way = way 4 0;
-        past = 1;
-        tested = inr (inl (record {
-          kind = Int;
-          left = 0;
-          word = pos 10;
-          reads = (refl, refl, refl);
-          number = (refl, refl);
-          stands = record { instr = WhenFrom 0 (pos 10) (way 4 0) 1; is = refl; at = refl };
-        }));
-        over = refl;
-        ahead = refl;
-        end = 3;
-        left = 0;
-        body = record {
-          middle = 3;
-          left = 0;
-          first = record {
-            behind = 0;
-            ticks = refl;
-            rest = record {
-              kind = Int;
-              target = refl;
-              assigned = inr (inr (record {
-                left = 0;
-                word = pos 1;
-                last = 2;
-                reads = (refl, refl, refl);
-                number = (refl, refl);
-                stands = record { instr = AddIntBy 0 (pos 1) 0; is = refl; at = refl };
-                next = refl;
-              }));
-              ahead = refl;
+      notes = (look_of 0 ∷ []);
+      all = (
+        at 2 1 (LookAhead ∷ []),
+        ((refl, (refl, record { old = Exact; there = refl; new = LookAhead; is = refl; rest = refl })), refl),
+      );
+    };
+    second = record {
+      middle = at 6 0 (Exact ∷ []);
+      first = record {
+        behind = 0;
+        ticks = refl;
+        rest = record {
+          test = at 2 0 (Looked ∷ []);
+          way = way 6 0;
+          past = 2;
+          tested = inr (inl (record {
+            kind = Int;
+            left = 0;
+            word = pos 10;
+            reads = record {
+              of_type = refl;
+              has = refl;
+              is = refl;
+              touches = record { old = LookAhead; there = refl; new = Looked; is = refl; rest = refl };
+            };
+            number = (refl, refl);
+            stands = record { instr = WhenFrom 0 (pos 10) (way 6 0) 2; is = refl; at = refl };
+          }));
+          over = record { place = refl; ahead = refl; noted = each_tells (Looked ∷ []) (Exact ∷ []) (refl, tt) };
+          noted = at 4 2 (LookedAssignmentAhead ∷ []);
+          notes = record {
+            notes = (assignment_of 0 ∷ []);
+            all = (
+              at 4 2 (LookedAssignmentAhead ∷ []),
+              (
+                (
+                  refl,
+                  (refl, record { old = Looked; there = refl; new = LookedAssignmentAhead; is = refl; rest = refl }),
+                ),
+                refl,
+              ),
+            );
+          };
+          head = at 4 2 (LookedAssignmentAhead ∷ []);
+          begins = record {
+            place = refl;
+            ahead = refl;
+            noted = each_tells (LookedAssignmentAhead ∷ []) (LookedAssignmentAhead ∷ []) (refl, tt);
+          };
+          end = at 5 1 (Assigned ∷ []);
+          body = record {
+            middle = at 4 2 (LookedAssignmentAhead ∷ []);
+            first = record { notes = []; all = refl };
+            second = record {
+              middle = at 5 1 (Assigned ∷ []);
+              first = record {
+                behind = 1;
+                ticks = refl;
+                rest = record {
+                  kind = Int;
+                  target = refl;
+                  word = 0;
+                  own = refl;
+                  made = at 5 1 (LookedAssignmentAhead ∷ []);
+                  makes = inr (inr (record {
+                    left = 0;
+                    word = pos 1;
+                    last = at 4 1 (LookedAssignmentAhead ∷ []);
+                    reads = record {
+                      of_type = refl;
+                      has = refl;
+                      is = refl;
+                      touches = record {
+                        old = LookedAssignmentAhead;
+                        there = refl;
+                        new = LookedAssignmentAhead;
+                        is = refl;
+                        rest = refl;
+                      };
+                    };
+                    number = (refl, refl);
+                    stands = record { instr = AddIntBy 0 (pos 1) 0; is = refl; at = refl };
+                    next = refl;
+                  }));
+                  is = refl;
+                  touches = record {
+                    old = LookedAssignmentAhead;
+                    there = refl;
+                    new = Assigned;
+                    is = refl;
+                    rest = refl;
+                  };
+                };
+              };
+              second = record {
+                place = refl;
+                ahead = refl;
+                noted = each_tells (Assigned ∷ []) (Assigned ∷ []) (refl, tt);
+              };
             };
           };
-          second = (refl, refl);
+          turn = 0;
+          tick = refl;
+          foot = at 5 0 (Assigned ∷ []);
+          back = way 4 2;
+          after = 0;
+          asked = inr (inl (record {
+            kind = Int;
+            left = 0;
+            word = pos 10;
+            reads = record {
+              of_type = refl;
+              has = refl;
+              is = refl;
+              touches = record { old = Assigned; there = refl; new = Assigned; is = refl; rest = refl };
+            };
+            number = (refl, refl);
+            stands = record { instr = WhenBelow 0 (pos 10) (way 4 2) 0; is = refl; at = refl };
+          }));
+          again = record {
+            place = refl;
+            ahead = refl;
+            noted = each_tells (Assigned ∷ []) (LookedAssignmentAhead ∷ []) (refl, tt);
+          };
+          behind = record { place = refl; ahead = refl; noted = each_tells (Assigned ∷ []) (Exact ∷ []) (refl, tt) };
         };
-        foot = 3;
-        back = way 2 2;
-        after = 1;
-        asked = inr (inl (record {
-          kind = Int;
-          left = 0;
-          word = pos 10;
-          reads = (refl, refl, refl);
-          number = (refl, refl);
-          stands = record { instr = WhenBelow 0 (pos 10) (way 2 2) 1; is = refl; at = refl };
-        }));
-        again = refl;
-        again_ahead = refl;
-        behind = refl;
-        behind_ahead = refl;
-      });
+      };
+      second = record { place = refl; ahead = refl; noted = each_tells (Exact ∷ []) (Exact ∷ []) (refl, tt) };
     };
-    second = (refl, refl);
   };
+  joins = inl (record { place = refl; ahead = refl; noted = each_tells (Exact ∷ []) (Exact ∷ []) (refl, tt) });
   ends = refl;
 }
 
 pub returns-clause-program : goal.returns-clause-program
-unfolding slots_ran slot_units_within slot_truth looped turns guarded
+unfolding marked_ran marked_units_within marked_truth marked_loop marked_turns marked_guarded
 returns-clause-program c = refl

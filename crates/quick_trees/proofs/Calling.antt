@@ -1,0 +1,203 @@
+-- Code in the place of a call does what the function does.
+use Rattle.std.proofs.Common.{◌≡◌, ℕ, zero, suc, ◌+◌, ◌<◌, ◌≤◌, true, false, List, length, Some, Ok, refl, sym}
+use Rattle.std.proofs.Common.{ap, ◌∙◌, subst, arith, inl, inr}
+use Rattle.std.specs.Prelude.{◌⊎◌, slice_get}
+use Rattle.st_words.specs.declared.kind.Kind.{Kind}
+use Rattle.st_words.specs.Values.{Datum}
+use Rattle.st_words.specs.Words.{datum_at}
+use Rattle.st_types.specs.Failures.{StandIns, ill_typed, or_failure}
+use Rattle.st_types.specs.Loops.{exits, goes_on, returns}
+use Rattle.st_types.specs.Ticks.{attempt, follow}
+use Rattle.machine_code.specs.declared.mark.Mark.{Mark}
+use Rattle.quick_code.specs.declared.quick_instr.QuickInstr.TheVariants.{Move}
+use Rattle.quick_code.specs.QuickRuns.{Left}
+use Rattle.quick_code.specs.QuickSteps.{Memory, look}
+use Rattle.slot_trees.specs.SlotTrees.{SlotFunction, SlotLibrary}
+use Rattle.slot_trees.specs.SlotRuns.{state_of}
+use Rattle.tree_code.specs.MarkedEvaluation.{MarkedUnits}
+use Rattle.tree_code.specs.MarkedExecution.{MarkedEnd, marked_exec_all}
+use Rattle.tree_code.specs.MarkedRuns.{marked_function, marked_units_over, marked_units_within}
+use Rattle.tree_code.specs.MarkedRuns.{unmarked_values}
+use Rattle.quick_trees.specs.Calls.{IsFunction, kinds_in, quick_units, quick_units_over}
+use Rattle.quick_trees.specs.Points.{Point}
+use Rattle.quick_trees.specs.QuickMemory.{Ends, Frame, first_temporary}
+use Rattle.quick_trees.specs.Sites.{HasOwnWord, Seat, called}
+use Rattle.quick_trees.specs.Standing.{Exits, QuickUnits}
+use Rattle.quick_trees.proofs.Lists.{map_long, some_is, there_within}
+use Rattle.quick_trees.proofs.Stepping.{stepped}
+use Rattle.quick_trees.proofs.Memories.{IsNoted, IsSite, Spares, keeps_all}
+use Rattle.quick_trees.proofs.Beginnings.{HaveBegun, IsSeated, begun_slots, have_begun}
+use Rattle.quick_trees.proofs.Settings.{AreGiven, DoesCalls, HasCalled, Setting, scope_of}
+use Rattle.quick_trees.proofs.Truths.{then_gives}
+use Rattle.quick_trees.proofs.Reading.{AreHeld}
+use Rattle.quick_trees.proofs.Running.{HasEnded, joined}
+use Rattle.quick_trees.proofs.Statements.{does_stmts}
+use Rattle.st_words.specs.Values.{IsHeld}
+
+-- EXIT and RETURN lead behind the body of a function
+abbrev pub at_last : Point → Exits
+at_last last = record { out = last; back = last }
+
+-- A body came to its end.
+pub record IsOver (s : Setting) (d : ℕ) (last : Point) (m : Memory) (end : MarkedEnd) (n : ℕ) : Type 0 where
+  pub memory : Memory
+  pub left : ℕ
+  pub ticks : n ≡ left + last.ahead
+  pub spares : Spares s.frame s.site d m memory
+  pub is : AreHeld s last memory (state_of end)
+  pub ends : Ends s.frame last.place memory left s.finish
+
+pub is_over : (s : Setting) (d : ℕ) (last : Point) (m : Memory) (end : MarkedEnd) (n : ℕ)
+    → HasEnded s d (at_last last) last m end n → IsOver s d last m end n
+is_over s d last m (goes_on t) n h =
+    record { memory = h.memory; left = h.left; ticks = h.ticks; spares = h.spares; is = h.is; ends = h.ends }
+is_over s d last m (exits t) n h =
+    record { memory = h.memory; left = h.left; ticks = h.ticks; spares = h.spares; is = h.is; ends = h.ends }
+is_over s d last m (returns t) n h =
+    record { memory = h.memory; left = h.left; ticks = h.ticks; spares = h.spares; is = h.is; ends = h.ends }
+
+module _ (f : Frame) (x : Left) (units : QuickUnits) (means : MarkedUnits) (stand_ins : StandIns)
+    (does : DoesCalls f x units means) (g : SlotFunction) (kinds : List Kind) (words : List ℕ) (d : ℕ) (t : Kind)
+    (to : ℕ) (p q : Point) (r : IsFunction f units g kinds words d t to p q) (marks : List Mark) (m : Memory) (b : ℕ)
+    (values : List Datum) (deep : first_temporary f ≤ d) (noted : IsNoted f p.noted marks m)
+    (given : AreGiven m d kinds words values) (runs : Ends f p.place m b x) where
+  abbrev inside : Setting
+  inside = record {
+    frame = f;
+    site = called (kinds_in g) r.seats;
+    units = units;
+    means = means;
+    stand_ins = stand_ins;
+    marks = marks;
+    finish = x;
+    does = does;
+  }
+
+  begun : HaveBegun f x g kinds words d values m marks r.inputs given deep r.room zero r.seats p r.begun m b
+  begun =
+      have_begun f x g kinds words d values m marks r.inputs given deep r.room zero r.seats p r.begun m b r.begins
+      (keeps_all d m) noted (let all = r.all in omega arith) runs
+
+  seat_is : (k : ℕ) (s : Seat) → slice_get r.seats k ≡ Some s
+      → IsSeated f x g kinds words d values m marks r.inputs given deep r.room k s begun.memory
+  seat_is k s at = begun.seated k k s at (omega arith)
+
+  seat_below : (k : ℕ) (s : Seat) → k < length g.fresh
+      → (s ≡ record { word = d + k; is_own = true }) ⊎ ((s.is_own ≡ false) × (s.word < d)) → s.word < d + length g.fresh
+  seat_below k s lt (inl is) = (let at = ap (λ (s : Seat). s.word) is in omega arith)
+  seat_below k s lt (inr is) = (let low = is.1 in omega arith)
+
+  within : (k : ℕ) (s : Seat) → slice_get r.seats k ≡ Some s → k < length g.fresh
+  within k s at = (let lt = there_within r.seats k s at in let all = r.all in omega arith)
+
+  own_at : (k : ℕ) (s : Seat) → s.is_own ≡ true
+      → (s ≡ record { word = d + k; is_own = true }) ⊎ ((s.is_own ≡ false) × (s.word < d)) → s.word ≡ d + k
+  own_at k s own (inl is) = ap (λ (s : Seat). s.word) is
+  own_at k s own (inr is) = absurd (let no = is.0 in cc)
+
+  own_word : (k w : ℕ) → HasOwnWord (called (kinds_in g) r.seats) k w → w ≡ d + k
+  own_word k w own = own_at k (record { word = w; is_own = true }) refl (seat_is k
+      (record { word = w; is_own = true }) own).where_is
+
+  only_own : (k j w : ℕ) (s : Seat) → w ≡ d + k → w ≡ s.word
+      → (s ≡ record { word = d + j; is_own = true }) ⊎ ((s.is_own ≡ false) × (s.word < d)) → j ≡ k
+  only_own k j w s own has (inl is) = (let at = ap (λ (s : Seat). s.word) is in omega arith)
+  only_own k j w s own has (inr is) = absurd (let low = is.1 in omega arith)
+
+  site : IsSite f (called (kinds_in g) r.seats) (d + length g.fresh)
+  site = record {
+    deep = omega arith;
+    below = λ k w t at has. subst (λ w. w < d + length g.fresh) (sym has.1.1)
+        (seat_below k has.0 (within k has.0 has.1.0) (seat_is k has.0 has.1.0).where_is);
+    has = λ k w own. (record { word = w; is_own = true }, (own, refl));
+    one = λ k w u has had.
+        has.1.1 ∙ ap (λ (s : Seat). s.word) (some_is (sym has.1.0 ∙ had.1.0)) ∙ sym had.1.1;
+    apart = λ k j w own has.
+        only_own k j w has.0 (own_word k w own) has.1.1 (seat_is j has.0 has.1.0).where_is;
+    own = λ k w t at own. (let is = own_word k w own in
+        let lt = within k (record { word = w; is_own = true }) own in
+        let room = r.room in
+        (omega arith, omega arith));
+  }
+
+  slots : List Datum
+  slots = (begun_slots f x g kinds words d values m marks r.inputs given deep r.room).slots
+
+  holds : AreHeld inside r.begun begun.memory (unmarked_values slots)
+  unfolding slots
+  holds = record {
+    noted = begun.noted;
+    long = (begun_slots f x g kinds words d values m marks r.inputs given deep r.room).long
+        ∙ sym (map_long (λ (v : Datum). v.kind) g.fresh);
+    values = λ k w kind at has. (let v = (seat_is k has.0 has.1.0).value kind at in record {
+      is = v.is ∙ ap (λ w. Some (datum_at kind (look begun.memory w))) (sym has.1.1);
+      held = subst (λ w. IsHeld (datum_at kind (look begun.memory w)))
+          (sym has.1.1) v.held;
+    });
+  }
+
+  called_one : HasCalled f x (marked_function stand_ins means g values) t d to p q marks m b
+  unfolding slots
+  called_one =
+      let start = begun_slots f x g kinds words d values m marks r.inputs given deep r.room in
+      let ran = does_stmts inside g.body (d + length g.fresh) (at_last r.last) r.begun r.end r.body begun.memory
+      (unmarked_values slots) b site holds begun.ends in
+      let over = is_over inside (d + length g.fresh) r.last begun.memory ran.end ran.rest
+      (joined inside (d + length g.fresh) (at_last r.last) r.end r.last begun.memory ran.end ran.rest r.joins ran.ended)
+      in
+      let value = over.is.values g.result r.result.word t r.of_type (r.result, (r.seat, refl)) in
+      let few = ran.fewer in
+      let ticks = over.ticks in
+      let ahead = begun.ahead in
+      let same : b + p.ahead ≡ b + r.begun.ahead = omega arith in
+      let body = marked_exec_all (scope_of inside) g.body in
+      subst (λ q. HasCalled f x (marked_function stand_ins means g values) t d to p q marks m b) (sym r.is) (record {
+        memory = over.memory;
+        word = look over.memory r.result.word;
+        left = over.left;
+        gives = ap (λ o. follow (attempt stand_ins o (b + p.ahead)) (λ vs. λ b. follow (body (unmarked_values vs) b)
+            (λ e. attempt stand_ins (or_failure ill_typed (slice_get (state_of e).values g.result))))) start.gives
+            ∙ then_gives (body (unmarked_values slots) (b + p.ahead)) ran.end ran.rest
+            (λ e. attempt stand_ins (or_failure ill_typed (slice_get (state_of e).values g.result)))
+            (ap (body (unmarked_values slots)) same ∙ ran.gives)
+            ∙ ap (λ o. attempt stand_ins (or_failure ill_typed o) ran.rest) value.is
+            ∙ ap (λ n. Ok (datum_at t (look over.memory r.result.word), n)) ticks;
+        fewer = omega arith;
+        keeps = record {
+          long = over.spares.long ∙ begun.keeps.long;
+          same = λ w lt. over.spares.same w (omega arith) (λ k within own. (let at = own_word k w own in omega arith))
+              ∙ begun.keeps.same w (omega arith);
+        };
+        noted = over.is.noted;
+        held = value.held;
+        ends = stepped f r.last.place x over.memory over.left (Move r.result.word to) over.ends r.moved;
+      })
+
+module _ (f : Frame) (x : Left) (stand_ins : StandIns) (library : SlotLibrary) where
+  calls_over : (units : QuickUnits) (means : MarkedUnits) → DoesCalls f x units means
+      → DoesCalls f x (quick_units_over f library units) (marked_units_over stand_ins library f.now means)
+  calls_over units means does i kinds words d t to p q r marks m b values deep noted given runs =
+      let done = called_one f x units means stand_ins does r.0 kinds words d t to p q r.1.1 marks m b values deep noted
+      given runs in record {
+        memory = done.memory;
+        word = done.word;
+        left = done.left;
+        gives = ap (λ o. follow (attempt stand_ins (or_failure ill_typed o) (b + p.ahead))
+            (λ g. marked_function stand_ins means g values)) r.1.0
+            ∙ done.gives;
+        fewer = done.fewer;
+        keeps = done.keeps;
+        noted = done.noted;
+        held = done.held;
+        ends = done.ends;
+      }
+
+  -- calls at most so deep
+  pub does_calls : (calls depth : ℕ) → calls ≤ depth
+      → DoesCalls f x (quick_units f library calls) (marked_units_within stand_ins library f.now depth)
+  unfolding quick_units marked_units_within
+  does_calls zero depth le = λ i kinds words d t to p q r. absurd r
+  does_calls (suc calls) zero le = absurd (omega arith)
+  does_calls (suc calls) (suc depth) le =
+      calls_over (quick_units f library calls) (marked_units_within stand_ins library f.now depth)
+      (does_calls calls depth (omega arith))

@@ -1,0 +1,63 @@
+-- Where code that stands for a unit runs, and what the code of the functions that it calls does.
+use Rattle.std.proofs.Common.{◌≡◌, ℕ, ◌+◌, ◌<◌, ◌≤◌, ℤ, List, length, Some, Ok}
+use Rattle.std.specs.Prelude.{slice_get}
+use Rattle.st_words.specs.declared.kind.Kind.{Kind}
+use Rattle.st_words.specs.Values.{Datum, IsHeld}
+use Rattle.st_words.specs.Words.{datum_at}
+use Rattle.st_types.specs.Failures.{StandIns}
+use Rattle.st_types.specs.Ticks.{Run}
+use Rattle.machine_code.specs.declared.mark.Mark.{Mark}
+use Rattle.quick_code.specs.QuickRuns.{Left}
+use Rattle.quick_code.specs.QuickSteps.{Memory, look, with_word}
+use Rattle.tree_code.specs.MarkedEvaluation.{MarkedScope, MarkedUnits}
+use Rattle.quick_trees.specs.Points.{Point}
+use Rattle.quick_trees.specs.QuickMemory.{Ends, Frame, first_temporary}
+use Rattle.quick_trees.specs.Sites.{Site, base_of}
+use Rattle.quick_trees.specs.Standing.{QuickUnits}
+use Rattle.quick_trees.proofs.Memories.{IsNoted, Keeps}
+
+-- Words below a depth have the values of arguments.
+pub record AreGiven (m : Memory) (d : ℕ) (kinds : List Kind) (words : List ℕ) (values : List Datum) : Type 0 where
+  pub words_long : length values ≡ length words
+  pub kinds_long : length values ≡ length kinds
+  pub each : (i w : ℕ) (t : Kind) → slice_get words i ≡ Some w → slice_get kinds i ≡ Some t
+      → slice_get values i ≡ Some (datum_at t (look m w))
+  pub held : (i w : ℕ) (t : Kind) → slice_get words i ≡ Some w → slice_get kinds i ≡ Some t
+      → IsHeld (datum_at t (look m w))
+  pub low : (i w : ℕ) → slice_get words i ≡ Some w → w < d
+
+-- A function was called: its result was assigned to a word, and words below a depth were kept.
+pub record HasCalled (f : Frame) (x : Left) (run : Run Datum) (t : Kind) (d to : ℕ) (p q : Point) (marks : List Mark)
+    (m : Memory) (b : ℕ) : Type 0 where
+  pub memory : Memory
+  pub word : ℤ
+  pub left : ℕ
+  pub gives : run (b + p.ahead) ≡ Ok (datum_at t word, left + q.ahead)
+  pub fewer : left + q.ahead ≤ b + p.ahead
+  pub keeps : Keeps d m memory
+  pub noted : IsNoted f q.noted marks memory
+  pub held : IsHeld (datum_at t word)
+  pub ends : Ends f q.place (with_word memory to word) left x
+
+-- code in the place of a call does what the function does
+abbrev pub DoesCalls : Frame → Left → QuickUnits → MarkedUnits → Type 0
+DoesCalls f x units means =
+    (i : ℕ) (kinds : List Kind) (words : List ℕ) (d : ℕ) (t : Kind) (to : ℕ) (p q : Point)
+    → units.functions i kinds words d t to p q → (marks : List Mark) (m : Memory) (b : ℕ) (values : List Datum)
+    → first_temporary f ≤ d → IsNoted f p.noted marks m → AreGiven m d kinds words values → Ends f p.place m b x
+    → HasCalled f x (means.functions i values) t d to p q marks m b
+
+-- The code, where the unit's values stand, what units stand for and what they mean, the marks of the slots of what
+-- called the unit, and what the run leaves.
+pub record Setting : Type 1 where
+  pub frame : Frame
+  pub site : Site
+  pub units : QuickUnits
+  pub means : MarkedUnits
+  pub stand_ins : StandIns
+  pub marks : List Mark
+  pub finish : Left
+  pub does : DoesCalls frame finish units means
+
+abbrev pub scope_of : Setting → MarkedScope
+scope_of s = record { units = s.means; base = base_of s.site; stand_ins = s.stand_ins }

@@ -1,0 +1,59 @@
+-- Truths, as values and as words.
+use Rattle.std.proofs.Common.{◌≡◌, ℕ, zero, suc, ℤ, pos, negsuc, Bool, true, false, Result, Ok, refl, ap, arith}
+use Rattle.std.specs.Prelude.{not}
+use Rattle.std.specs.Ordering.{int_eq}
+use Rattle.std.proofs.lemmas.Int.{ints}
+use Rattle.st_words.specs.declared.fault.Fault.{Fault}
+use Rattle.st_words.specs.declared.kind.Kind.TheVariants.{Bool as Boolean}
+use Rattle.st_words.specs.declared.operator.UnaryOperator.TheVariants.{Not}
+use Rattle.st_words.specs.Values.{IsHeld, datum_of_truth}
+use Rattle.st_words.specs.Words.{datum_at}
+use Rattle.st_types.specs.Operators.{apply_unary, truth}
+use Rattle.st_types.specs.Ticks.{Run, follow}
+use Rattle.quick_code.specs.Words.{word_of_truth}
+use Rattle.quick_trees.proofs.Operators.{turn_for}
+
+-- one part after another that gave something
+pub then_gives : {A B : Type 0} (r : Result (A × ℕ) Fault) (a : A) (c : ℕ) (f : A → Run B) → r ≡ Ok (a, c)
+    → follow r f ≡ f a c
+then_gives r a c f e = ap (λ r. follow r f) e
+
+-- the truth that a BOOL is
+pub truth_of_truth : (go : Bool) → truth (datum_of_truth go) ≡ Ok go
+truth_of_truth true = refl
+truth_of_truth false = refl
+
+-- a branch is taken when a condition fails where one is taken unless it holds
+pub turned : (when go : Bool) → turn_for (not when) go ≡ turn_for when (not go)
+turned true go = refl
+turned false true = refl
+turned false false = refl
+
+-- the word of a truth is that of the value
+pub truth_word : (go : Bool) → datum_at Boolean (word_of_truth go) ≡ datum_of_truth go
+truth_word true = refl
+truth_word false = refl
+
+pub truth_held : (go : Bool) → IsHeld (datum_at Boolean (word_of_truth go))
+truth_held true = refl
+truth_held false = refl
+
+pub truth_is_word : (w : ℤ) → IsHeld (datum_at Boolean w) → datum_at Boolean w ≡ datum_of_truth (not (int_eq w (pos 0)))
+truth_is_word (pos zero) h = refl
+truth_is_word (pos (suc zero)) h = refl
+truth_is_word (pos (suc (suc n))) h = absurd (above n h)
+  where
+    above : (n : ℕ) → IsHeld (datum_at Boolean (pos (suc (suc n)))) → ⊥
+    above n h = grind (arith, ints)
+truth_is_word (negsuc n) h = absurd (below n h)
+  where
+    below : (n : ℕ) → IsHeld (datum_at Boolean (negsuc n)) → ⊥
+    below n h = grind (arith, ints)
+
+pub not_is : (go : Bool) → apply_unary Not (datum_of_truth go) ≡ Ok (datum_of_truth (not go))
+not_is true = refl
+not_is false = refl
+
+pub not_not : (t : Bool) → not (not t) ≡ t
+not_not true = refl
+not_not false = refl

@@ -1,0 +1,78 @@
+-- Quick code of functions in the place of their calls.
+use Rattle.std.specs.Prelude.{◌≡◌, ◌≤◌, ◌+◌, ◌⊎◌, ℕ, ℤ, zero, suc, true, false, List, [], ◌∷◌, length, map, Some}
+use Rattle.std.specs.Prelude.{slice_get}
+use Rattle.st_words.specs.declared.kind.Kind.{Kind}
+use Rattle.st_words.specs.Values.{Datum, IsHeld}
+use Rattle.st_words.specs.Words.{datum_at}
+use Rattle.quick_code.specs.declared.quick_instr.QuickInstr.TheVariants.{Move, Set}
+use Rattle.slot_trees.specs.SlotTrees.{SlotFunction, SlotLibrary}
+use Rattle.quick_trees.specs.Points.{Point, Part, next, Joins}
+use Rattle.quick_trees.specs.QuickMemory.{Frame}
+use Rattle.quick_trees.specs.Sites.{Seat, called}
+use Rattle.quick_trees.specs.Standing.{QuickUnits, StmtsStand}
+
+-- the types of a function's values
+abbrev pub kinds_in : SlotFunction → List Kind
+kinds_in g = map (λ v. v.kind) g.fresh
+
+-- The arguments are of the types of the inputs, and no value is two inputs.
+pub record AreInputs (g : SlotFunction) (kinds : List Kind) (words : List ℕ) : Type 0 where
+  pub words_long : length words ≡ length g.inputs
+  pub kinds_long : length kinds ≡ length g.inputs
+  pub typed : (i k : ℕ) (t : Kind) → slice_get g.inputs i ≡ Some k → slice_get (kinds_in g) k ≡ Some t
+      → slice_get kinds i ≡ Some t
+  pub there : (i k : ℕ) → slice_get g.inputs i ≡ Some k → (v : Datum) × (slice_get g.fresh k ≡ Some v)
+  pub once : (i j k : ℕ) → slice_get g.inputs i ≡ Some k → slice_get g.inputs j ≡ Some k → i ≡ j
+
+-- The value is an input whose argument has this word.
+pub record IsInput (g : SlotFunction) (words : List ℕ) (k word : ℕ) : Type 0 where
+  pub index : ℕ
+  pub input : slice_get g.inputs index ≡ Some k
+  pub argument : slice_get words index ≡ Some word
+
+-- A value is begun: an input may stay where its argument is, if the body never assigns it, or it is moved to the
+-- function's own word; any other value is set.
+abbrev pub IsBegun : Frame → SlotFunction → List ℕ → ℕ → ℕ → Seat → Part
+IsBegun f g words start k s p q =
+    ((s.is_own ≡ false) × (IsInput g words k s.word × (p ≡ q)))
+    ⊎ ((s ≡ record { word = start + k; is_own = true }) × ((q ≡ next p)
+    × (((x : ℕ) × (IsInput g words k x × (slice_get f.code p.place ≡ Some (Move x s.word))))
+    ⊎ ((w : ℤ) × ((v : Datum) × ((slice_get g.fresh k ≡ Some v) × ((v ≡ datum_at v.kind w) × (IsHeld v
+    × (((i : ℕ) → slice_get g.inputs i ≡ Some k → ⊥) × (slice_get f.code p.place ≡ Some (Set w s.word)))))))))))
+
+abbrev pub AreBegun : Frame → SlotFunction → List ℕ → ℕ → ℕ → List Seat → Part
+AreBegun f g words start k [] p q = p ≡ q
+AreBegun f g words start k (s ∷ seats) p q =
+    (r : Point) × (IsBegun f g words start k s p r × AreBegun f g words start (suc k) seats r q)
+
+-- The function's values stand from a depth on. They are begun, the body runs, and the result is moved to a word.
+pub record IsFunction (f : Frame) (units : QuickUnits) (g : SlotFunction) (kinds : List Kind) (words : List ℕ)
+    (d : ℕ) (t : Kind) (to : ℕ) (p q : Point) : Type 0 where
+  pub inputs : AreInputs g kinds words
+  pub room : d + length g.fresh ≤ f.size
+  pub seats : List Seat
+  pub all : length seats ≡ length g.fresh
+  pub begun : Point
+  pub begins : AreBegun f g words d 0 seats p begun
+  pub end : Point
+  pub last : Point
+  pub body : StmtsStand f (called (kinds_in g) seats) units g.body (d + length g.fresh)
+      (record { out = last; back = last }) begun end
+  pub joins : Joins f end last
+  pub result : Seat
+  pub seat : slice_get seats g.result ≡ Some result
+  pub of_type : slice_get (kinds_in g) g.result ≡ Some t
+  pub moved : slice_get f.code last.place ≡ Some (Move result.word to)
+  pub is : q ≡ next last
+
+-- the functions of a text, where those that they call stand so
+abbrev pub quick_units_over : Frame → SlotLibrary → QuickUnits → QuickUnits
+quick_units_over f library units = record {
+  functions = λ i kinds words d t to p q. (g : SlotFunction)
+      × ((slice_get library.functions i ≡ Some g) × IsFunction f units g kinds words d t to p q);
+}
+
+-- with calls at most so deep
+unfoldable pub quick_units : Frame → SlotLibrary → ℕ → QuickUnits
+quick_units f library zero = record { functions = λ i kinds words d t to p q. ⊥ }
+quick_units f library (suc n) = quick_units_over f library (quick_units f library n)
