@@ -1,0 +1,617 @@
+use Rattle.std.proofs.Common.{ap, arith, inl, inr, map, refl, rules, subst, sym, ◌∙◌, ◌≡◌}
+use Rattle.st_names.specs.Standard.{standard_view}
+use Rattle.st_types.specs.StandardFunctions.{CONVERT}
+use Rattle.slot_trees.specs.SlotTrees.{binary, compute, load}
+use Rattle.slot_bodies.specs.Chains.{exprs_of}
+use Rattle.slot_bodies.specs.ExpressionViews.{place_view, slot_expr_view}
+use Rattle.code_drafts.proofs.Sizes.{expr_size, exprs_size}
+use Rattle.quick_trees.specs.Pieces.{Stands}
+use Rattle.quick_checks.specs.Checking.{frame_of, point_of, site_of}
+use Rattle.quick_trees.specs.Calls.{quick_units}
+use Rattle.quick_trees.specs.Standing.{IsRead}
+use Rattle.st_words.specs.declared.kind.Kind.TheVariants.{Bool as Boolean}
+use Rattle.slot_bodies.specs.declared.expression.Operands as code_operands
+use Rattle.slot_bodies.specs.declared.expression.SlotExpr as code_expr
+use Rattle.st_words.specs.declared.kind.Kind.TheVariants.{Bool as Boolean}
+use Rattle.std.proofs.Common.{◌+◌, length}
+use Rattle.std.specs.Prelude.{option_map}
+use Rattle.slot_bodies.specs.Chains.{arms_of}
+use Rattle.slot_bodies.specs.StatementViews.{slot_arm_view, slot_stmt_view, slot_stmts_view}
+use Rattle.slot_bodies.specs.ExpressionViews.{anchor_view}
+use Rattle.slot_bodies.specs.declared.statement.SlotStmt as code_stmt
+use Rattle.slot_bodies.specs.declared.statement.SlotArm as code_arm
+use Rattle.slot_bodies.proofs.Bridge.{choose_view}
+use Rattle.slot_trees.specs.SlotTrees.{call, constant, empty, FOR, IF, REPEAT, WHILE}
+use Rattle.code_drafts.proofs.Elements.{body_smaller, condition_smaller, expr_smaller, stmt_smaller}
+use Rattle.code_drafts.proofs.Sizes.{stmts_size}
+use Rattle.quick_trees.specs.Points.{Meets, Point, next}
+use Rattle.quick_checks.specs.Checking.{exits_of, kinds_read, landing_of, seat_of, words_read}
+use Rattle.quick_checks.proofs.Arguments.{arguments_all, arguments_more, function_stands, long_seats, long_words}
+use Rattle.std.proofs.Common.{suc}
+use Rattle.slot_bodies.specs.LibraryViews.{slot_function_view, slot_library_view}
+use Rattle.code_drafts.specs.Emitting.{filled}
+use Rattle.code_drafts.proofs.Depths.{function_lighter}
+use Rattle.code_drafts.proofs.Filled.{filled_function}
+use Rattle.quick_checks.proofs.Standings.{arms_next, arms_over, meets_same, stmts_next, stmts_on, stmts_over, ticked}
+use Rattle.quick_checks.proofs.+check.Goals as goal
+
+pub reading::check_binary-returns-in-Some : goal.reading::check_binary-returns-in-Some
+reading::check_binary-returns-in-Some t c = λ now whole kept. inr (inr (record {
+  left = c.in_ok-left.left.word;
+  word = c.in-Some.field-0;
+  last = _;
+  reads = c.in_ok-left.ensures now whole kept;
+  number = c.in-Some.ensures.number;
+  stands = c.in-Some.ensures.stands now;
+  next = c.in_ok-step.ensures;
+}))
+
+pub reading::check_binary-returns-then-stands : goal.reading::check_binary-returns-then-stands
+reading::check_binary-returns-then-stands t c =
+    let kinds : c.in_ok-right.right.kind ≡ c.in_ok-left.left.kind = c.if-not-is_kind.ensures (search rules) in
+    λ now whole kept. inl (record {
+      left = c.in_ok-left.left.word;
+      right = c.in_ok-right.right.word;
+      last = _;
+      reads = record {
+        middle = _;
+        first = c.in_ok-left.ensures now whole kept;
+        second = rw (← kinds, ← c.in_ok-below.ensures) (c.in_ok-right.ensures now whole kept);
+      };
+      stands = subst (λ o. Stands (frame_of c.args.draft.now now) o c.check_read-2.new.at.place) c.instr_for.ensures
+          (c.if-stands.ensures (search rules) now);
+      next = c.in_ok-step-2.ensures;
+    })
+
+pub reading::check_binary-returns : goal.reading::check_binary-returns
+reading::check_binary-returns t c =
+    let kinds : c.in_ok-right.right.kind ≡ c.in_ok-left.left.kind = c.if-not-is_kind.ensures (search rules) in
+    λ now whole kept. inr (inl (record {
+      truth = refl;
+      kind = c.in_ok-left.left.kind;
+      left = c.in_ok-left.left.word;
+      right = c.in_ok-right.right.word;
+      last = _;
+      reads = record {
+        middle = _;
+        first = c.in_ok-left.ensures now whole kept;
+        second = rw (← kinds, ← c.in_ok-below.ensures) (c.in_ok-right.ensures now whole kept);
+      };
+      stands = subst (λ o. Stands (frame_of c.args.draft.now now) o c.check_read-2.new.at.place) c.truth_for.ensures
+          (c.in_ok-expect_for.ensures.stands now);
+      next = c.in_ok-expect_for.ensures.next;
+    }))
+
+pub reading::check_fetched-returns : goal.reading::check_fetched-returns
+reading::check_fetched-returns t c = λ now whole kept. record {
+  index = c.in_ok-index.index.word;
+  shift = c.in_ok-expect_load.field-0;
+  last = _;
+  subscript = record {
+    kind = c.in_ok-index.index.kind;
+    narrow = sym c.is_wide.ensures ∙ c.if-is_wide.false;
+    reads = c.in_ok-index.ensures now whole kept;
+    from_lower = c.in_ok-expect_load.ensures.from_lower;
+  };
+  word = c.in_ok-elements.elements.word;
+  elements = c.in_ok-elements.ensures now;
+  loads = c.in_ok-expect_load.ensures.loads now;
+  next = c.in_ok-expect_load.ensures.next;
+}
+
+pub reading::check_read-check_fetched-requires : goal.reading::check_read-check_fetched-requires
+reading::check_read-check_fetched-requires t c =
+    let seen : slot_expr_view c.args.expression.now ≡ load (place_view c.in-Load.place) =
+    rw c.in-Load.is (search (rules, code_expr.the_lemmas)) in
+    let e = ap expr_size (seen ∙ ap load c.in-Some-element_of.ensures) in (omega (arith, e), tt)
+
+pub reading::check_converted-check_read-requires : goal.reading::check_converted-check_read-requires
+reading::check_converted-check_read-requires t c =
+    let p = ap exprs_size c.in-Some.ensures in (omega (arith, p), tt)
+
+pub reading::check_read-check_converted-requires : goal.reading::check_read-check_converted-requires
+reading::check_read-check_converted-requires t c =
+    let es = c.in-Compute.arguments.items in
+    let seen : slot_expr_view c.args.expression.now
+    ≡ compute (standard_view c.in-Compute.function) (exprs_of (map slot_expr_view es)) =
+    rw c.in-Compute.is (search (rules, code_expr.the_lemmas)) in
+    let e = ap expr_size seen in
+    let d = ap (λ xs. exprs_size (exprs_of (map slot_expr_view xs))) c.deref-in-Compute.ensures.value in
+    (omega (arith, e, d), tt)
+
+pub reading::check_read-returns-in_ok-kind-in-Load : goal.reading::check_read-returns-in_ok-kind-in-Load
+reading::check_read-returns-in_ok-kind-in-Load t c =
+    let seen : slot_expr_view c.args.expression.now ≡ load (place_view c.in-Load.place) =
+    rw c.in-Load.is (search (rules, code_expr.the_lemmas)) in
+    let is = seen ∙ ap load c.in-Some-element_of.ensures in
+    λ now whole kept. rw is (c.in_ok-temporary-in-Load.ensures now, c.in_ok-kind-in-Load.ensures now whole kept)
+
+pub reading::check_read-returns-in_ok-kind-in-Binary : goal.reading::check_read-returns-in_ok-kind-in-Binary
+reading::check_read-returns-in_ok-kind-in-Binary t c =
+    let seen : slot_expr_view c.args.expression.now ≡ binary c.in-Binary.operator
+    (slot_expr_view c.in-Binary.operands.value.left) (slot_expr_view c.in-Binary.operands.value.right) =
+    rw c.in-Binary.is (search (rules, code_expr.the_lemmas)) in
+    let is = seen ∙ ap (λ (b : code_operands.Operands). binary c.in-Binary.operator (slot_expr_view b.left)
+    (slot_expr_view b.right)) (sym c.deref-in-Binary.ensures) in
+    λ now whole kept. rw is (c.in_ok-temporary-in-Binary.ensures now, c.in_ok-kind-in-Binary.ensures now whole kept)
+
+pub reading::check_converted-returns : goal.reading::check_converted-returns
+reading::check_converted-returns t c =
+    let is = ap (λ g. compute (standard_view g) (exprs_of (map slot_expr_view c.args.arguments.now))) c.in-Convert.is
+    ∙ ap (compute (CONVERT c.in-Convert.from c.in-Convert.to)) c.in-Some.ensures in
+    let kind : c.in_ok-read.read.kind ≡ c.in-Convert.from = c.if-not-is_kind.ensures (search rules) in
+    λ now whole kept. subst (λ x. IsRead (frame_of c.args.draft.now now) (site_of c.args.scope.now.values)
+    (quick_units (frame_of c.args.draft.now now) whole c.args.scope.now.calls) x c.in-Convert.to c.args.depth
+    c.in_ok-read.read.word (point_of c.args.at.now) (point_of c.check_read.new.at)) (sym is)
+    (refl, c.if-not-is_wider.ensures (search rules), rw (← kind) (c.in_ok-read.ensures now whole kept))
+
+pub reading::check_read-returns-in-Compute : goal.reading::check_read-returns-in-Compute
+reading::check_read-returns-in-Compute t c =
+    let es = c.in-Compute.arguments.items in
+    let seen : slot_expr_view c.args.expression.now
+    ≡ compute (standard_view c.in-Compute.function) (exprs_of (map slot_expr_view es)) =
+    rw c.in-Compute.is (search (rules, code_expr.the_lemmas)) in
+    let is = seen ∙ ap (λ xs. compute (standard_view c.in-Compute.function) (exprs_of (map slot_expr_view xs)))
+    (sym c.deref-in-Compute.ensures.value) in
+    rw is c.check_converted.ensures
+
+pub reading::check_made-returns-in-Some : goal.reading::check_made-returns-in-Some
+reading::check_made-returns-in-Some t c =
+    let seen : slot_expr_view c.args.expression.now ≡ load (place_view c.in-Load.place) =
+    rw c.in-Load.is (search (rules, code_expr.the_lemmas)) in
+    let is = seen ∙ ap load c.in-Some.ensures in
+    λ now whole kept. rw is (record {
+      from = c.in_ok-read-in-Load.read.word;
+      last = _;
+      reads = record {
+        of_type = c.in_ok-read-in-Load.ensures.of_type now;
+        has = c.in_ok-read-in-Load.ensures.has;
+        is = c.in_ok-read-in-Load.ensures.same;
+        touches = c.in_ok-read-in-Load.ensures.touches;
+      };
+      stands = c.in_ok-expect-in-Load.ensures.stands;
+      next = c.in_ok-expect-in-Load.ensures.next;
+    })
+
+pub reading::check_made-returns-in-Some-element_of : goal.reading::check_made-returns-in-Some-element_of
+reading::check_made-returns-in-Some-element_of t c =
+    let seen : slot_expr_view c.args.expression.now ≡ load (place_view c.in-Load.place) =
+    rw c.in-Load.is (search (rules, code_expr.the_lemmas)) in
+    let is = seen ∙ ap load c.in-Some-element_of.ensures in
+    rw is c.check_fetched.ensures
+
+pub reading::check_made-returns-in_ok-expect-in-Compute : goal.reading::check_made-returns-in_ok-expect-in-Compute
+reading::check_made-returns-in_ok-expect-in-Compute t c =
+    let es = c.in-Compute.arguments.items in
+    let seen : slot_expr_view c.args.expression.now
+    ≡ compute (standard_view c.in-Compute.function) (exprs_of (map slot_expr_view es)) =
+    rw c.in-Compute.is (search (rules, code_expr.the_lemmas)) in
+    let is = seen ∙ ap (λ xs. compute (standard_view c.in-Compute.function) (exprs_of (map slot_expr_view xs)))
+    (sym c.deref-in-Compute.ensures.value) in
+    λ now whole kept. rw is (record {
+      from = c.in_ok-read-in-Compute.read.word;
+      last = _;
+      reads = c.in_ok-read-in-Compute.ensures now whole kept;
+      stands = c.in_ok-expect-in-Compute.ensures.stands;
+      next = c.in_ok-expect-in-Compute.ensures.next;
+    })
+
+pub conditions::check_truth-returns : goal.conditions::check_truth-returns
+conditions::check_truth-returns t c =
+    let kind : c.in_ok-read.read.kind ≡ Boolean = c.if-not-is_kind.ensures (search rules) in
+    λ now whole kept. record {
+      from = c.in_ok-read.read.word;
+      reads = rw (← kind) (c.in_ok-read.ensures now whole kept);
+      stands = c.in_ok-leg.ensures;
+    }
+
+pub conditions::check_compared-returns-then-not-is_comparison : goal.conditions::check_compared-returns-then-not-is_comparison
+conditions::check_compared-returns-then-not-is_comparison t c =
+    let kind : c.in_ok-kind.kind ≡ Boolean = c.if-not-is_kind.ensures (search rules) in
+    λ now whole kept. inr (inr (record {
+      from = c.args.depth;
+      reads = (c.in_ok-temporary.ensures now, rw (← kind) (c.in_ok-kind.ensures now whole kept));
+      stands = c.in_ok-leg.ensures;
+    }))
+
+pub conditions::check_compared-returns-in-Some : goal.conditions::check_compared-returns-in-Some
+conditions::check_compared-returns-in-Some t c = λ now whole kept. inr (inl (record {
+  kind = c.in_ok-left.left.kind;
+  left = c.in_ok-left.left.word;
+  word = c.in-Some.compared.constant;
+  reads = c.in_ok-left.ensures now whole kept;
+  number = c.in-Some.ensures.number;
+  stands = c.in-Some.ensures.stands now;
+}))
+
+pub conditions::check_compared-returns : goal.conditions::check_compared-returns
+conditions::check_compared-returns t c =
+    let kinds : c.in_ok-right.right.kind ≡ c.in_ok-left.left.kind = c.if-not-is_kind-2.ensures (search rules) in
+    λ now whole kept. inl (record {
+      kind = c.in_ok-left.left.kind;
+      left = c.in_ok-left.left.word;
+      right = c.in_ok-right.right.word;
+      reads = record {
+        middle = _;
+        first = c.in_ok-left.ensures now whole kept;
+        second = rw (← kinds, ← c.in_ok-below.ensures) (c.in_ok-right.ensures now whole kept);
+      };
+      stands = c.in_ok-leg-2.ensures now;
+    })
+
+pub conditions::check_test-returns-in_ok-leg-in-Load : goal.conditions::check_test-returns-in_ok-leg-in-Load
+conditions::check_test-returns-in_ok-leg-in-Load t c =
+    let seen : slot_expr_view c.args.condition.now ≡ load (place_view c.in-Load.field-0) =
+    rw c.in-Load.is (search (rules, code_expr.the_lemmas)) in
+    λ now whole kept. rw seen (rw seen at (c.in_ok-leg-in-Load.ensures now whole kept))
+
+pub conditions::check_test-returns-in_ok-leg-in-Call : goal.conditions::check_test-returns-in_ok-leg-in-Call
+conditions::check_test-returns-in_ok-leg-in-Call t c =
+    let seen : slot_expr_view c.args.condition.now
+    ≡ call c.in-Call.field-0 (exprs_of (map slot_expr_view c.in-Call.field-1.items)) =
+    rw c.in-Call.is (search (rules, code_expr.the_lemmas)) in
+    λ now whole kept. rw seen (rw seen at (c.in_ok-leg-in-Call.ensures now whole kept))
+
+pub reading::check_read-returns-in_ok-kind-in-Call : goal.reading::check_read-returns-in_ok-kind-in-Call
+reading::check_read-returns-in_ok-kind-in-Call t c =
+    let seen : slot_expr_view c.args.expression.now
+    ≡ call c.in-Call.function (exprs_of (map slot_expr_view c.in-Call.arguments.items)) =
+    rw c.in-Call.is (search (rules, code_expr.the_lemmas)) in
+    let is = seen ∙ ap (λ xs. call c.in-Call.function (exprs_of (map slot_expr_view xs)))
+    (sym c.deref-in-Call.ensures.value) in
+    λ now whole kept. rw is (c.in_ok-temporary-in-Call.ensures now, c.in_ok-kind-in-Call.ensures now whole kept)
+
+pub statements::check_assigned-returns : goal.statements::check_assigned-returns
+statements::check_assigned-returns t c =
+    let kind : c.in_ok-kind.kind ≡ c.in_ok-target.target.kind = c.if-not-is_kind.ensures (search rules) in
+    λ now whole kept. record {
+      kind = c.in_ok-target.target.kind;
+      target = c.in_ok-target.ensures.of_type now;
+      word = c.in_ok-target.target.word;
+      own = c.in_ok-target.ensures.own;
+      made = _;
+      makes = rw (← kind) (c.in_ok-kind.ensures now whole kept);
+      is = c.in_ok-assign_variable.ensures.same;
+      touches = c.in_ok-assign_variable.ensures.touches;
+    }
+
+pub statements::check_stored-returns : goal.statements::check_stored-returns
+statements::check_stored-returns t c =
+    let kind : c.in_ok-elements.elements.kind ≡ c.in_ok-from.from.kind = c.if-not-is_kind.ensures (search rules) in
+    λ now whole kept. record {
+      kind = c.in_ok-from.from.kind;
+      from = c.in_ok-from.from.word;
+      middle = _;
+      value = c.in_ok-from.ensures now whole kept;
+      at = c.in_ok-index.index.word;
+      shift = c.in_ok-expect_store.field-0;
+      last = _;
+      subscript = record {
+        kind = c.in_ok-index.index.kind;
+        narrow = sym c.is_wide.ensures ∙ c.if-is_wide.false;
+        reads = rw (← c.in_ok-below.ensures) (c.in_ok-index.ensures now whole kept);
+        from_lower = c.in_ok-expect_store.ensures.from_lower;
+      };
+      word = c.in_ok-elements.elements.word;
+      elements = rw (← kind) (c.in_ok-elements.ensures now);
+      stores = c.in_ok-expect_store.ensures.stores now;
+      is = c.in_ok-expect_store.ensures.next;
+    }
+
+pub statements::check_stmts-check_stmt-requires : goal.statements::check_stmts-check_stmt-requires
+statements::check_stmts-check_stmt-requires t c = (
+  omega (
+    arith,
+    stmt_smaller c.args.statements.now c.loop-index.index c.index-statements-index.result
+        c.loop-index-test.true c.index-statements-index.is,
+  ),
+  tt,
+)
+
+pub statements::check_stmts-loop-index-preserved : goal.statements::check_stmts-loop-index-preserved
+statements::check_stmts-loop-index-preserved t c = λ now whole kept q rest.
+    c.loop-index.invariant now whole kept q (stmts_next (frame_of c.args.draft.now now) (site_of c.args.scope.now.values)
+    (quick_units (frame_of c.args.draft.now now) whole c.args.scope.now.calls) c.args.statements.now c.loop-index.index
+    (c.loop-index.index + 1) c.index-statements-index.result c.args.depth (exits_of c.args.exits.now) _ _ _ q
+    c.loop-index-test.true refl c.index-statements-index.is (c.in_ok-read_notes_before.ensures now)
+    (c.in_ok-check_stmt.ensures now whole kept) rest)
+
+pub statements::check_stmts-returns : goal.statements::check_stmts-returns
+statements::check_stmts-returns t c = λ now whole kept.
+    c.loop-index.invariant now whole kept (point_of c.loop-index.at) (stmts_over (frame_of c.args.draft.now now)
+    (site_of c.args.scope.now.values) (quick_units (frame_of c.args.draft.now now) whole c.args.scope.now.calls)
+    c.args.statements.now c.loop-index.index c.args.depth (exits_of c.args.exits.now) (point_of c.loop-index.at)
+    c.loop-index-test.false)
+
+pub statements::check_if-check_test-requires : goal.statements::check_if-check_test-requires
+statements::check_if-check_test-requires t c =
+    let e = ap (λ (y : code_arm.SlotArm). expr_size (slot_expr_view y.condition)) c.index-arms-index.is in (
+      omega (
+        arith,
+        e,
+        condition_smaller c.args.arms.now c.loop-index.index c.index-arms-index.result
+            c.loop-index-test.true c.index-arms-index.is,
+      ),
+      tt,
+    )
+
+pub statements::check_if-check_stmts-requires : goal.statements::check_if-check_stmts-requires
+statements::check_if-check_stmts-requires t c =
+    let d = ap (λ xs. stmts_size (slot_stmts_view xs)) c.deref.ensures.value in
+    let e = ap (λ (y : code_arm.SlotArm). stmts_size (slot_stmts_view y.body.items)) c.index-arms-index.is in (
+      omega (
+        arith,
+        d,
+        e,
+        body_smaller c.args.arms.now c.loop-index.index c.index-arms-index.result
+            c.loop-index-test.true c.index-arms-index.is,
+      ),
+      tt,
+    )
+
+pub statements::check_if-loop-index-preserved : goal.statements::check_if-loop-index-preserved
+statements::check_if-loop-index-preserved t c =
+    let go = c.go.ensures ∙ c.in_ok-rest.ensures in
+    λ now whole kept rest. c.loop-index.invariant now whole kept (arms_next (frame_of c.args.draft.now now)
+    (site_of c.args.scope.now.values) (quick_units (frame_of c.args.draft.now now) whole c.args.scope.now.calls)
+    c.args.arms.now c.loop-index.index (c.loop-index.index + 1) c.index-arms-index.result _ c.args.depth
+    (exits_of c.args.exits.now) _ _ (point_of c.check_test.new.at) (point_of c.check_stmts.new.at) _
+    c.in_ok-leg.leg.way c.in_ok-leg.leg.past c.loop-index-test.true refl c.index-arms-index.is
+    (c.in_ok-read_notes.ensures now) (c.in_ok-leg.ensures now whole kept)
+    (rw (c.deref.ensures.value, c.in_ok-pass.ensures) at (c.in_ok-check_stmts.ensures now whole kept))
+    (c.if-not-joins.ensures (search rules) now) (rw go at rest))
+
+pub statements::check_if-returns : goal.statements::check_if-returns
+statements::check_if-returns t c =
+    λ now whole kept. rw c.go-2.ensures (c.loop-index.invariant now whole kept (arms_over
+    (frame_of c.args.draft.now now) (site_of c.args.scope.now.values)
+    (quick_units (frame_of c.args.draft.now now) whole c.args.scope.now.calls) c.args.arms.now c.loop-index.index _
+    c.args.depth (exits_of c.args.exits.now) _ _ c.loop-index-test.false (stmts_on (frame_of c.args.draft.now now)
+    (site_of c.args.scope.now.values) (quick_units (frame_of c.args.draft.now now) whole c.args.scope.now.calls)
+    (slot_stmts_view c.args.otherwise.now) c.args.depth (exits_of c.args.exits.now) _ _ _
+    (c.in_ok-check_stmts-2.ensures now whole kept) (c.if-not-is_at.ensures (search rules)))))
+
+pub statements::check_while-returns : goal.statements::check_while-returns
+statements::check_while-returns t c =
+    let q = c.go.ensures in
+    λ now whole kept. record {
+      test = point_of c.check_test.new.at;
+      way = c.in_ok-first.first.way;
+      past = c.in_ok-first.first.past;
+      tested = rw c.landing.ensures at (c.in_ok-first.ensures now whole kept);
+      over = rw q (c.if-not-leads.ensures (search rules));
+      noted = point_of c.read_notes.new.at;
+      notes = rw c.in_ok-pass.ensures at (c.in_ok-read_notes.ensures now);
+      head = point_of c.read_notes.new.at;
+      begins = meets_same _;
+      end = point_of c.check_stmts.new.at;
+      body = rw q (rw c.in_ok-inner.ensures at (c.in_ok-check_stmts.ensures now whole kept));
+      turn = _;
+      tick = c.in_ok-tick.ensures.ticks;
+      foot = point_of c.check_test-2.new.at;
+      back = c.in_ok-again.again.way;
+      after = c.in_ok-again.again.past;
+      asked = rw c.in_ok-tick.ensures.rest at (c.in_ok-again.ensures now whole kept);
+      again = rw c.in_ok-head.ensures at (c.if-not-leads-2.ensures (search rules));
+      behind = rw q (c.if-not-passes.ensures (search rules));
+    }
+
+pub statements::check_repeat-returns : goal.statements::check_repeat-returns
+statements::check_repeat-returns t c =
+    let q = c.go.ensures in
+    λ now whole kept. record {
+      noted = point_of c.read_notes.new.at;
+      notes = rw c.landing.ensures at (c.in_ok-read_notes.ensures now);
+      head = point_of c.read_notes.new.at;
+      begins = meets_same _;
+      end = point_of c.check_stmts.new.at;
+      body = rw q (rw c.in_ok-inner.ensures at (c.in_ok-check_stmts.ensures now whole kept));
+      foot = point_of c.check_test.new.at;
+      back = c.in_ok-again.again.way;
+      after = c.in_ok-again.again.past;
+      asked = c.in_ok-again.ensures now whole kept;
+      again = rw c.in_ok-head.ensures at (c.if-not-goes_back.ensures (search rules));
+      behind = rw q (c.if-not-passes.ensures (search rules));
+    }
+
+pub counting::check_for-returns : goal.counting::check_for-returns
+counting::check_for-returns t c =
+    let q = c.go.ensures in
+    let from : c.in_ok-from.from.kind ≡ c.in_ok-target.target.kind = c.if-not-is_kind.ensures (search rules) in
+    let kept : c.in_ok-kept.kept.kind ≡ c.in_ok-target.target.kind = c.if-not-is_kind-2.ensures (search rules) in
+    λ now whole is. record {
+      kind = c.in_ok-target.target.kind;
+      target = c.in_ok-target.ensures.of_type now;
+      control = c.in_ok-target.target.word;
+      own = c.in_ok-target.ensures.own;
+      from = c.in_ok-from.from.word;
+      to = c.in_ok-kept.kept.word;
+      middle = point_of c.check_read.new.at;
+      move = point_of c.check_kept.new.at;
+      first = rw (c.landing.ensures, from) at (c.in_ok-from.ensures now whole is);
+      second = rw (c.in_ok-below.ensures, kept) at (c.in_ok-kept.ensures now whole is);
+      assigned = c.in_ok-expect.ensures.stands;
+      test = point_of c.assign_variable.new.at;
+      assigns = c.in_ok-assign_variable.ensures.same
+          ∙ ap (λ (x : Point). record x { noted = c.assign_variable.new.at.noted.items }) c.in_ok-expect.ensures.next;
+      touches = rw (ap (λ (x : Point). x.noted) c.in_ok-expect.ensures.next) at c.in_ok-assign_variable.ensures.touches;
+      by = c.in_ok-turns.turns.by;
+      step_is = c.in_ok-turns.ensures.step;
+      moves = c.in_ok-turns.ensures.moves;
+      small = c.in_ok-turns.ensures.small;
+      way = c.in_ok-first.first.way;
+      past = c.in_ok-first.first.past;
+      tested = rw c.in_ok-turns.ensures.control at (c.in_ok-first.ensures now);
+      over = rw q (c.if-not-leads.ensures (search rules));
+      noted = point_of c.read_notes.new.at;
+      notes = rw c.in_ok-pass.ensures at (c.in_ok-read_notes.ensures now);
+      head = point_of c.read_notes.new.at;
+      begins = meets_same _;
+      end = point_of c.check_stmts.new.at;
+      body = rw (q, ← c.in_ok-below.ensures, ← c.in_ok-inside.ensures)
+          (rw c.in_ok-inner.ensures at (c.in_ok-check_stmts.ensures now whole is));
+      known = c.if-not-is_assigned.ensures (search rules);
+      back = c.in_ok-again.again.way;
+      after = c.in_ok-again.again.past;
+      counts = rw (c.in_ok-turns.ensures.kind, c.in_ok-turns.ensures.control) at (c.in_ok-again.ensures now);
+      again = rw c.in_ok-head.ensures at (c.if-not-goes_back.ensures (search rules));
+      behind = rw q (c.if-not-passes_back.ensures (search rules));
+    }
+
+pub counting::check_kept-returns-then-is_same : goal.counting::check_kept-returns-then-is_same
+counting::check_kept-returns-then-is_same t c = λ now whole kept. record {
+  kept = inr (
+    c.in_ok-temporary.ensures now,
+    record {
+      from = c.in_ok-read.read.word;
+      last = _;
+      reads = c.in_ok-read.ensures now whole kept;
+      stands = c.in_ok-expect.ensures.stands;
+      next = c.in_ok-expect.ensures.next;
+    },
+  );
+  stays = c.if-not-stays.ensures (search rules) now;
+}
+
+pub statements::check_stmt-returns-in-Empty : goal.statements::check_stmt-returns-in-Empty
+statements::check_stmt-returns-in-Empty t c =
+    let seen : slot_stmt_view c.args.statement.now ≡ empty = rw c.in-Empty.is (search (rules, code_stmt.the_lemmas)) in
+    λ now whole kept. rw seen (ticked Meets (point_of c.args.at.now) (point_of c.tick.new.at) (point_of c.tick.new.at)
+    c.in_ok-tick.ensures.ticks c.in_ok-tick.ensures.rest (meets_same _))
+
+pub statements::check_stmt-returns-in_ok-check_if-in-If : goal.statements::check_stmt-returns-in_ok-check_if-in-If
+statements::check_stmt-returns-in_ok-check_if-in-If t c =
+    let seen : slot_stmt_view c.args.statement.now
+    ≡ IF (arms_of (map slot_arm_view c.in-If.arms.items)) (slot_stmts_view c.in-If.otherwise.items) =
+    rw c.in-If.is (choose_view c.in-If.arms c.in-If.otherwise) in
+    let is = seen ∙ ap (λ xs. IF (arms_of (map slot_arm_view xs)) (slot_stmts_view c.in-If.otherwise.items))
+    (sym c.deref.ensures.value)
+    ∙ ap (λ xs. IF (arms_of (map slot_arm_view c.deref.result.now)) (slot_stmts_view xs))
+    (sym c.deref-in-If.ensures.value) in
+    λ now whole kept. rw is (ticked _ (point_of c.args.at.now) (point_of c.tick.new.at) (point_of c.check_if.new.at)
+    c.in_ok-tick.ensures.ticks c.in_ok-tick.ensures.rest (c.in_ok-check_if-in-If.ensures now whole kept))
+
+pub statements::check_stmt-returns-in_ok-check_for-in-For : goal.statements::check_stmt-returns-in_ok-check_for-in-For
+statements::check_stmt-returns-in_ok-check_for-in-For t c =
+    let seen : slot_stmt_view c.args.statement.now
+    ≡ FOR (anchor_view c.in-For.control) (slot_expr_view c.in-For.start) (slot_expr_view c.in-For.limit)
+    (option_map slot_expr_view c.in-For.step) (slot_stmts_view c.in-For.body.items) =
+    rw c.in-For.is (search (rules, code_stmt.the_lemmas)) in
+    let is = seen ∙ ap (λ xs. FOR (anchor_view c.in-For.control) (slot_expr_view c.in-For.start)
+    (slot_expr_view c.in-For.limit) (option_map slot_expr_view c.in-For.step) (slot_stmts_view xs))
+    (sym c.deref-in-For.ensures.value) in
+    λ now whole kept. rw is (ticked _ (point_of c.args.at.now) (point_of c.tick.new.at) (point_of c.check_for.new.at)
+    c.in_ok-tick.ensures.ticks c.in_ok-tick.ensures.rest (c.in_ok-check_for-in-For.ensures now whole kept))
+
+pub statements::check_stmt-returns-in_ok-check_while-in-While :
+    goal.statements::check_stmt-returns-in_ok-check_while-in-While
+statements::check_stmt-returns-in_ok-check_while-in-While t c =
+    let seen : slot_stmt_view c.args.statement.now
+    ≡ WHILE (slot_expr_view c.in-While.condition) (slot_stmts_view c.in-While.body.items) =
+    rw c.in-While.is (search (rules, code_stmt.the_lemmas)) in
+    let is = seen ∙ ap (λ xs. WHILE (slot_expr_view c.in-While.condition) (slot_stmts_view xs))
+    (sym c.deref-in-While.ensures.value) in
+    λ now whole kept. rw is (ticked _ (point_of c.args.at.now) (point_of c.tick.new.at) (point_of c.check_while.new.at)
+    c.in_ok-tick.ensures.ticks c.in_ok-tick.ensures.rest (c.in_ok-check_while-in-While.ensures now whole kept))
+
+pub statements::check_stmt-returns-in_ok-check_repeat-in-Repeat :
+    goal.statements::check_stmt-returns-in_ok-check_repeat-in-Repeat
+statements::check_stmt-returns-in_ok-check_repeat-in-Repeat t c =
+    let seen : slot_stmt_view c.args.statement.now
+    ≡ REPEAT (slot_stmts_view c.in-Repeat.body.items) (slot_expr_view c.in-Repeat.condition) =
+    rw c.in-Repeat.is (search (rules, code_stmt.the_lemmas)) in
+    let is = seen ∙ ap (λ xs. REPEAT (slot_stmts_view xs) (slot_expr_view c.in-Repeat.condition))
+    (sym c.deref-in-Repeat.ensures.value) in
+    λ now whole kept. rw is (ticked _ (point_of c.args.at.now) (point_of c.tick.new.at) (point_of c.check_repeat.new.at)
+    c.in_ok-tick.ensures.ticks c.in_ok-tick.ensures.rest (c.in_ok-check_repeat-in-Repeat.ensures now whole kept))
+
+pub calls::check_arguments-check_read-requires : goal.calls::check_arguments-check_read-requires
+calls::check_arguments-check_read-requires t c = (
+  omega (
+    arith,
+    expr_smaller c.args.arguments.now c.loop-index.index c.index-arguments-index.result
+        c.loop-index-test.true c.index-arguments-index.is,
+  ),
+  tt,
+)
+
+pub calls::check_arguments-loop-index-preserved : goal.calls::check_arguments-loop-index-preserved
+calls::check_arguments-loop-index-preserved t c = λ now whole kept.
+    arguments_more (frame_of c.args.draft.now now) (site_of c.args.scope.now.values)
+    (quick_units (frame_of c.args.draft.now now) whole c.args.scope.now.calls) c.args.arguments.now c.loop-index.index
+    c.index-arguments-index.result c.loop-index.below c.in_ok-below.below c.args.depth c.loop-index.read.items
+    c.push.new.self.items c.in_ok-argument.argument _ _ _ c.loop-index-test.true c.index-arguments-index.is
+    (c.in_ok-argument.ensures now whole kept) c.in_ok-below.ensures c.in_ok-push.ensures.items
+    (c.loop-index.invariant now whole kept)
+
+pub calls::check_arguments-returns : goal.calls::check_arguments-returns
+calls::check_arguments-returns t c = λ now whole kept.
+    arguments_all (frame_of c.args.draft.now now) (site_of c.args.scope.now.values)
+    (quick_units (frame_of c.args.draft.now now) whole c.args.scope.now.calls) c.args.arguments.now c.loop-index.index
+    c.loop-index.below c.args.depth c.loop-index.read.items _ _ c.loop-index-test.false
+    (c.loop-index.invariant now whole kept)
+
+pub calls::check_call-returns : goal.calls::check_call-returns
+calls::check_call-returns t c =
+    let many = long_words c.in_ok-read.read.items in
+    let long = ap length c.deref.ensures.value in
+    let below : c.in_ok-narrow.field-0 ≡ c.args.depth + length (words_read c.in_ok-read.read.items) =
+    omega (arith, many, long, c.in_ok-narrow.ensures, c.in-Some.ensures, c.len.ensures, c.deref.ensures.len) in
+    λ now whole kept. record {
+      kinds = kinds_read c.in_ok-read.read.items;
+      words = words_read c.in_ok-read.read.items;
+      given = point_of c.check_arguments.new.at;
+      arguments = c.in_ok-read.ensures now whole kept;
+      calls = rw (c.deref.ensures.value, below) at (c.in_ok-kind.ensures now whole kept);
+    }
+
+pub calls::check_function-check_stmts-requires : goal.calls::check_function-check_stmts-requires
+calls::check_function-check_stmts-requires t c =
+    let g = slot_function_view c.in-Ok.function.now in
+    let d = ap (λ xs. stmts_size (slot_stmts_view xs)) c.deref.ensures.value in
+    let fewer : suc c.in-Some.calls ≡ c.args.scope.now.calls = omega (arith, c.in-Some.ensures) in (
+      omega (
+        arith,
+        d,
+        function_lighter (filled (slot_library_view c.args.library.now)) c.args.scope.now.calls
+            c.in-Some.calls c.args.number g fewer
+            (filled_function (slot_library_view c.args.library.now) c.args.number g c.in-Ok.ensures.known),
+      ),
+      tt,
+    )
+
+pub calls::check_function-returns : goal.calls::check_function-returns
+calls::check_function-returns t c =
+    let g = slot_function_view c.in-Ok.function.now in
+    let fewer : suc c.in-Some.calls ≡ c.args.scope.now.calls = omega (arith, c.in-Some.ensures) in
+    let result = c.in_ok-result.ensures in
+    λ now whole kept. function_stands (frame_of c.args.draft.now now) whole c.args.scope.now.calls c.in-Some.calls
+    c.args.number g _ _ _ _ _ _ _ fewer (kept.functions c.args.number g c.in-Ok.ensures.known) (record {
+      inputs = c.if-not-are_inputs.ensures (search rules);
+      room = c.in_ok-below.ensures.room;
+      seats = map seat_of c.in_ok-seats.seats.items;
+      all = long_seats c.in_ok-seats.seats.items ∙ c.in_ok-seats.ensures.all;
+      begun = point_of c.begin.new.at;
+      begins = c.in_ok-seats.ensures.begun now;
+      end = point_of c.check_stmts.new.at;
+      last = landing_of c.in_ok-last.last;
+      body = rw (
+        c.in_ok-kinds.ensures,
+        c.deref.ensures.value,
+        c.in_ok-below.ensures.below,
+        c.in_ok-exits.ensures,
+        c.landing.ensures,
+      ) at (c.in_ok-check_stmts.ensures now whole kept);
+      joins = c.if-not-joins.ensures (search rules) now;
+      result = result.0;
+      seat = result.1.0;
+      of_type = rw c.in_ok-kinds.ensures at (c.in_ok-kind.ensures now);
+      moved = rw (← ap (λ (x : Point). x.place) c.go.ensures, ← result.1.1) c.in_ok-expect.ensures.stands;
+      is = c.in_ok-expect.ensures.next ∙ ap next c.go.ensures;
+    })
+
+pub conditions::check_test-returns-in_ok-leg-in-Constant : goal.conditions::check_test-returns-in_ok-leg-in-Constant
+conditions::check_test-returns-in_ok-leg-in-Constant t c =
+    let seen : slot_expr_view c.args.condition.now ≡ constant c.in-Constant.field-0.value =
+    rw c.in-Constant.is (search (rules, code_expr.the_lemmas)) in
+    λ now whole kept. rw seen (rw seen at (c.in_ok-leg-in-Constant.ensures now whole kept))

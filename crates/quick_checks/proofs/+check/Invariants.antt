@@ -1,0 +1,125 @@
+use Rattle.std.proofs.Common.{ℕ, List, ◌++◌, map, drop, length, ◌+◌, ◌-◌, ◌*◌}
+use Rattle.slot_bodies.specs.Chains.{arms_of, exprs_of, stmts_of}
+use Rattle.slot_bodies.specs.ExpressionViews.{slot_expr_view}
+use Rattle.slot_bodies.specs.LibraryViews.{slot_library_view}
+use Rattle.slot_bodies.specs.StatementViews.{slot_arm_view, slot_stmt_view, slot_stmts_view}
+use Rattle.code_drafts.specs.Emitting.{filled}
+use Rattle.code_drafts.proofs.Sizes.{weight, arms_size, expr_size, exprs_size, stmt_size, stmts_size}
+use Rattle.st_words.specs.declared.kind.Kind.{Kind}
+use Rattle.quick_trees.specs.Points.{Point}
+use Rattle.quick_trees.specs.Standing.{AreArguments, ArmsStand, StmtsStand}
+use Rattle.quick_checks.specs.Checking.{Always, exits_of, kinds_read, landing_of, point_of, words_read}
+use Rattle.quick_checks.proofs.+check.Given as goal
+
+-- Calls go down in depth, and else into parts of trees.
+abbrev pub decreases-reading::check_read : goal.decreases-reading::check_read
+decreases-reading::check_read l = 4 * (weight (filled (slot_library_view l.library.now)) l.scope.now.calls
+    + (expr_size (slot_expr_view l.expression.now))) + 0
+
+abbrev pub decreases-reading::check_made : goal.decreases-reading::check_made
+decreases-reading::check_made l = 4 * (weight (filled (slot_library_view l.library.now)) l.scope.now.calls
+    + (expr_size (slot_expr_view l.expression.now))) + 2
+
+abbrev pub decreases-reading::check_binary : goal.decreases-reading::check_binary
+decreases-reading::check_binary l = 4 * (weight (filled (slot_library_view l.library.now)) l.scope.now.calls
+    + (expr_size (slot_expr_view l.operands.now.left) + expr_size (slot_expr_view l.operands.now.right))) + 1
+
+abbrev pub decreases-reading::check_fetched : goal.decreases-reading::check_fetched
+decreases-reading::check_fetched l = 4 * (weight (filled (slot_library_view l.library.now)) l.scope.now.calls
+    + (expr_size (slot_expr_view l.subscript.now.index))) + 1
+
+abbrev pub decreases-reading::check_converted : goal.decreases-reading::check_converted
+decreases-reading::check_converted l = 4 * (weight (filled (slot_library_view l.library.now)) l.scope.now.calls
+    + (exprs_size (exprs_of (map slot_expr_view l.arguments.now)))) + 1
+
+abbrev pub decreases-conditions::check_test : goal.decreases-conditions::check_test
+decreases-conditions::check_test l = 4 * (weight (filled (slot_library_view l.library.now)) l.scope.now.calls
+    + (expr_size (slot_expr_view l.condition.now))) + 2
+
+abbrev pub decreases-conditions::check_truth : goal.decreases-conditions::check_truth
+decreases-conditions::check_truth l = 4 * (weight (filled (slot_library_view l.library.now)) l.scope.now.calls
+    + (expr_size (slot_expr_view l.condition.now))) + 1
+
+abbrev pub decreases-conditions::check_compared : goal.decreases-conditions::check_compared
+decreases-conditions::check_compared l = 4 * (weight (filled (slot_library_view l.library.now)) l.scope.now.calls
+    + (expr_size (slot_expr_view l.operands.now.left) + expr_size (slot_expr_view l.operands.now.right))) + 2
+
+abbrev pub decreases-calls::check_call : goal.decreases-calls::check_call
+decreases-calls::check_call l = 4 * (weight (filled (slot_library_view l.library.now)) l.scope.now.calls
+    + (exprs_size (exprs_of (map slot_expr_view l.arguments.now)))) + 3
+
+abbrev pub decreases-calls::check_arguments : goal.decreases-calls::check_arguments
+decreases-calls::check_arguments l = 4 * (weight (filled (slot_library_view l.library.now)) l.scope.now.calls
+    + (exprs_size (exprs_of (map slot_expr_view l.arguments.now)))) + 2
+
+abbrev pub decreases-statements::check_stmts : goal.decreases-statements::check_stmts
+decreases-statements::check_stmts l = 4 * (weight (filled (slot_library_view l.library.now)) l.scope.now.calls
+    + (stmts_size (slot_stmts_view l.statements.now))) + 0
+
+abbrev pub decreases-statements::check_stmt : goal.decreases-statements::check_stmt
+decreases-statements::check_stmt l = 4 * (weight (filled (slot_library_view l.library.now)) l.scope.now.calls
+    + (stmt_size (slot_stmt_view l.statement.now))) + 0
+
+abbrev pub decreases-statements::check_assigned : goal.decreases-statements::check_assigned
+decreases-statements::check_assigned l = 4 * (weight (filled (slot_library_view l.library.now)) l.scope.now.calls
+    + (expr_size (slot_expr_view l.value.now))) + 3
+
+abbrev pub decreases-statements::check_stored : goal.decreases-statements::check_stored
+decreases-statements::check_stored l = 4 * (weight (filled (slot_library_view l.library.now)) l.scope.now.calls
+    + (expr_size (slot_expr_view l.subscript.now.index) + expr_size (slot_expr_view l.value.now))) + 1
+
+abbrev pub decreases-statements::check_if : goal.decreases-statements::check_if
+decreases-statements::check_if l = 4 * (weight (filled (slot_library_view l.library.now)) l.scope.now.calls
+    + (arms_size (arms_of (map slot_arm_view l.arms.now)) + stmts_size (slot_stmts_view l.otherwise.now))) + 1
+
+abbrev pub decreases-statements::check_while : goal.decreases-statements::check_while
+decreases-statements::check_while l = 4 * (weight (filled (slot_library_view l.library.now)) l.scope.now.calls
+    + (expr_size (slot_expr_view l.condition.now) + stmts_size (slot_stmts_view l.body.now))) + 3
+
+abbrev pub decreases-statements::check_repeat : goal.decreases-statements::check_repeat
+decreases-statements::check_repeat l = 4 * (weight (filled (slot_library_view l.library.now)) l.scope.now.calls
+    + (expr_size (slot_expr_view l.condition.now) + stmts_size (slot_stmts_view l.body.now))) + 3
+
+abbrev pub decreases-counting::check_kept : goal.decreases-counting::check_kept
+decreases-counting::check_kept l = 4 * (weight (filled (slot_library_view l.library.now)) l.scope.now.calls
+    + (expr_size (slot_expr_view l.limit.now))) + 1
+
+abbrev pub decreases-counting::check_for : goal.decreases-counting::check_for
+decreases-counting::check_for l = 4 * (weight (filled (slot_library_view l.library.now)) l.scope.now.calls
+    + (expr_size (slot_expr_view l.start.now) + expr_size (slot_expr_view l.limit.now) + stmts_size (slot_stmts_view l.body.now))) + 3
+
+abbrev pub decreases-calls::check_function : goal.decreases-calls::check_function
+decreases-calls::check_function l = 4 * weight (filled (slot_library_view l.library.now)) l.scope.now.calls + 1
+
+-- What stands for what is left, and so for all.
+abbrev pub invariant-statements::check_stmts-loop-index : goal.invariant-statements::check_stmts-loop-index
+invariant-statements::check_stmts-loop-index l = Always l.draft l.library l.scope (λ f s units. (q : Point)
+    → StmtsStand f s units (stmts_of (map slot_stmt_view (drop l.index l.statements))) l.depth (exits_of l.exits)
+    (point_of l.at) q
+    → StmtsStand f s units (stmts_of (map slot_stmt_view l.statements)) l.depth (exits_of l.exits)
+    (point_of l.fn.at) q)
+
+abbrev pub decreases-statements::check_stmts-loop-index : goal.decreases-statements::check_stmts-loop-index
+decreases-statements::check_stmts-loop-index l = length l.statements - l.index
+
+abbrev pub invariant-statements::check_if-loop-index : goal.invariant-statements::check_if-loop-index
+invariant-statements::check_if-loop-index l = Always l.draft l.library l.scope (λ f s units.
+    ArmsStand f s units (arms_of (map slot_arm_view (drop l.index l.arms)))
+    (StmtsStand f s units (slot_stmts_view l.otherwise) l.depth (exits_of l.exits)) l.depth (exits_of l.exits)
+    (point_of l.at) (landing_of l.behind)
+    → ArmsStand f s units (arms_of (map slot_arm_view l.arms))
+    (StmtsStand f s units (slot_stmts_view l.otherwise) l.depth (exits_of l.exits)) l.depth (exits_of l.exits)
+    (point_of l.fn.at) (landing_of l.behind))
+
+abbrev pub decreases-statements::check_if-loop-index : goal.decreases-statements::check_if-loop-index
+decreases-statements::check_if-loop-index l = length l.arms - l.index
+
+abbrev pub decreases-calls::check_arguments-loop-index : goal.decreases-calls::check_arguments-loop-index
+decreases-calls::check_arguments-loop-index l = length l.arguments - l.index
+
+abbrev pub invariant-calls::check_arguments-loop-index : goal.invariant-calls::check_arguments-loop-index
+invariant-calls::check_arguments-loop-index l = Always l.draft l.library l.scope (λ f s units.
+    (ts : List Kind) (ws : List ℕ) (q : Point)
+    → AreArguments f s units (exprs_of (map slot_expr_view (drop l.index l.arguments))) l.below ts ws (point_of l.at) q
+    → AreArguments f s units (exprs_of (map slot_expr_view l.arguments)) l.depth (kinds_read l.read.items ++ ts)
+    (words_read l.read.items ++ ws) (point_of l.fn.at) q)

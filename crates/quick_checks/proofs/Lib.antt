@@ -1,0 +1,9 @@
+pub mod Literals
+pub mod Seats
+pub mod Noted
+pub mod Wider
+pub mod Below
+pub mod Chains
+pub mod Standings
+pub mod Arguments
+pub mod Inputs

@@ -1,0 +1,60 @@
+//! Code that is to be checked.
+
+ghost use Rattle.std.specs.Prelude.{◌≡◌};
+
+use quick_code::QuickCode;
+use quick_trees::Noting;
+use st_words::{Kind, Value};
+
+/// Quick code of a program, with the types of its slots, the constants that stand behind them, and how many words there
+/// are.
+pub struct QuickDraft {
+    pub code: QuickCode,
+    pub kinds: Vec<Kind>,
+    pub constants: Vec<Value>,
+    pub words: usize,
+}
+
+impl Drop for QuickDraft {
+    fn drop(self) {
+        let Self {
+            code: _,
+            kinds: _,
+            constants: _,
+            words: _,
+        } = self;
+    }
+}
+
+impl QuickDraft {
+    /// The code, the constants, and how many words there are.
+    pub fn into_parts(self) -> (QuickCode, Vec<Value>, usize)
+        ensures code { result.0 ≡ self.code }
+        ensures constants { result.1 ≡ self.constants }
+        ensures words { result.2 ≡ self.words }
+    {
+        let Self {
+            code,
+            kinds: _,
+            constants,
+            words,
+        } = self;
+        (code, constants, words)
+    }
+}
+
+/// A place of the code where runs come together, how many ticks of what comes they have taken already, and what is known
+/// of the notes of the slots.
+#[derive(Drop)]
+pub struct Landing {
+    pub place: usize,
+    pub ahead: usize,
+    pub noted: Vec<Noting>,
+}
+
+/// Where EXIT and RETURN lead.
+#[derive(Drop)]
+pub struct Exits {
+    pub out: Landing,
+    pub back: Landing,
+}

@@ -1,0 +1,335 @@
+//! Values of expressions.
+
+ghost use Rattle.std.specs.Prelude.{◌≡◌, ◌+ℤ◌, ◌<◌, ◌+◌, ◌*◌, ◌⊎◌, ℕ, IfOk, IfSome, IsTrue, OnOk, Some, map, pos, slice_get, suc};
+ghost use Rattle.slot_trees.specs.SlotEvaluation.{slot_at};
+ghost use Rattle.slot_trees.specs.SlotTrees as tree;
+ghost use Rattle.slot_bodies.specs.Chains.{exprs_of};
+ghost use Rattle.slot_bodies.specs.ExpressionViews.{anchor_view, place_view, slot_expr_view};
+ghost use Rattle.quick_trees.specs.Notes as notes;
+ghost use Rattle.quick_trees.specs.Instructions as instrs;
+ghost use Rattle.quick_trees.specs.Pieces.{AreElements, IsNumber, IsTemporary, IsWider, Loads, Stands, Stores};
+ghost use Rattle.quick_trees.specs.Points.{next};
+ghost use Rattle.quick_trees.specs.Sites.{HasOwnWord, HasWord, IsExact, Touches, base_of, kinds_of};
+ghost use Rattle.quick_checks.specs.Checking.{frame_of, point_of, site_of};
+
+use crate::constants::{Reading, number_for};
+use crate::cursor::{Cursor, expect, look, stands};
+use crate::draft::QuickDraft;
+use crate::instructions::instr_by;
+use crate::refusal::Refusal;
+use crate::scope::{Values, is_kind, kind_at, narrow, own_word_of, slot_of, word_of};
+use quick_code::QuickInstr;
+use quick_trees::Noting;
+use slot_bodies::{Anchor, Place, SlotExpr, Subscript};
+use st_words::{BinaryOperator, Kind, is_wide};
+
+/// How many elements an array has at most that quick code goes into.
+const MAX_ELEMENTS: usize = 8192;
+
+/// Looks up a variable: its type and its word.
+pub fn read_variable(
+    draft: &QuickDraft,
+    values: &Values,
+    anchor: Anchor,
+    at: &mut Cursor,
+) -> Result<Reading, Refusal>
+    ensures of_type { IfOk result (λ r. (now : ℕ) → slice_get (kinds_of (frame_of draft.now now) (site_of values.now))
+        (slot_at (base_of (site_of values.now)) (anchor_view anchor)) ≡ Some r.kind) }
+    ensures has { IfOk result (λ r. HasWord (site_of values.now)
+        (slot_at (base_of (site_of values.now)) (anchor_view anchor)) r.word) }
+    ensures same { OnOk result (point_of at.new ≡ record (point_of at.old) { noted = at.new.noted.items }) }
+    ensures touches { OnOk result (Touches notes.at_look (site_of values.now)
+        (slot_at (base_of (site_of values.now)) (anchor_view anchor)) at.old.noted.items at.new.noted.items) }
+{
+    let slot = slot_of(values, anchor)?;
+    let kind = kind_at(draft, values, slot)?;
+    let word = word_of(values, slot)?;
+    look(values, at, slot)?;
+    Ok(Reading { kind, word })
+}
+
+/// The variable of a place without subscripts.
+pub fn variable_of(place: &Place) -> Option<Anchor>
+    ensures { IfSome result (λ a. place_view place.now ≡ tree.place (anchor_view a) tree.no_subscripts) }
+{
+    if place.subscripts.is_empty() {
+        Some(place.anchor)
+    } else {
+        None
+    }
+}
+
+/// What is added to a subscript, so that the first element's is 0.
+fn shift_for(subscript: &Subscript) -> Result<i32, Refusal>
+    ensures { IfOk result (λ n. subscript.now.lower +ℤ n ≡ pos 0) }
+{
+    let Some(shift) = subscript.lower.checked_neg() else {
+        return Err(Refusal::Other);
+    };
+    match i32::try_from(shift) {
+        Ok(shift) => Ok(shift),
+        Err(_) => Err(Refusal::Other),
+    }
+}
+
+/// Where an element lies that is so many behind the first of an array.
+fn element_at(first: usize, index: usize, stride: usize) -> Option<usize>
+    ensures { IfSome result (λ k. k ≡ first + index * stride) }
+{
+    first.checked_add(index.checked_mul(stride)?)
+}
+
+/// The array whose elements are looked at: its first slot and the word of that, and the type of the values there.
+#[derive(Clone, Copy)]
+struct Elements {
+    slot: usize,
+    word: u16,
+    kind: Kind,
+    stride: usize,
+}
+
+/// Whether an element begins with a value of the type, has the word, and nothing is known of its note.
+fn is_element(
+    draft: &QuickDraft,
+    values: &Values,
+    at: &Cursor,
+    array: Elements,
+    index: usize,
+) -> bool
+    ensures of_type { IsTrue result → (now : ℕ) → slice_get (kinds_of (frame_of draft.now now) (site_of values.now))
+        (array.slot + index * array.stride) ≡ Some array.kind }
+    ensures has { IsTrue result → HasOwnWord (site_of values.now) (array.slot + index * array.stride)
+        (array.word + index * array.stride) }
+    ensures exact { IsTrue result → IsExact (site_of values.now) at.now.noted.items (array.slot + index * array.stride) }
+{
+    let (Some(slot), Some(word)) = (
+        element_at(array.slot, index, array.stride),
+        element_at(array.word as usize, index, array.stride),
+    ) else {
+        return false;
+    };
+    let (Ok(kind), Ok(own)) = (kind_at(draft, values, slot), own_word_of(values, slot)) else {
+        return false;
+    };
+    is_kind(kind, array.kind) && own as usize == word && is_exact(values, &at.noted, slot)
+}
+
+/// Whether nothing is known of the note of a slot.
+fn is_exact(values: &Values, noted: &[Noting], slot: usize) -> bool
+    ensures { IsTrue result → IsExact (site_of values.now) noted.now slot }
+{
+    match values {
+        Values::Whole(_) => match noted.get(slot) {
+            Some(Noting::Exact) => true,
+            _ => false,
+        },
+        Values::Called(_, _) => true,
+    }
+}
+
+/// The elements of an array: the type and the word of what each begins with.
+pub fn read_elements(
+    draft: &QuickDraft,
+    values: &Values,
+    at: &Cursor,
+    anchor: Anchor,
+    subscript: &Subscript,
+) -> Result<Reading, Refusal>
+    ensures { IfOk result (λ r. (now : ℕ) → AreElements (frame_of draft.now now) (site_of values.now)
+        at.now.noted.items (slot_at (base_of (site_of values.now)) (anchor_view anchor))
+        subscript.now.count subscript.now.stride r.word r.kind) }
+{
+    if subscript.count > MAX_ELEMENTS {
+        return Err(Refusal::Other);
+    }
+    let first = slot_of(values, anchor)?;
+    let kind = kind_at(draft, values, first)?;
+    let word = own_word_of(values, first)?;
+    let array = Elements {
+        slot: first,
+        word,
+        kind,
+        stride: subscript.stride,
+    };
+    let mut index = 0;
+    while index < subscript.count {
+        if !is_element(draft, values, at, array, index) {
+            return Err(Refusal::Other);
+        }
+        index += 1;
+    }
+    Ok(Reading { kind, word })
+}
+
+/// Finds the instruction that loads an element: what it adds to the subscript, so that the first element's is 0.
+pub fn expect_load(
+    draft: &QuickDraft,
+    at: &mut Cursor,
+    index: u16,
+    to: u16,
+    first: u16,
+    subscript: &Subscript,
+) -> Result<i32, Refusal>
+    ensures from_lower { IfOk result (λ shift. subscript.now.lower +ℤ shift ≡ pos 0) }
+    ensures loads { IfOk result (λ shift. (now : ℕ) → Loads (frame_of draft.now now) index shift to first
+        subscript.now.count subscript.now.stride at.old.place) }
+    ensures next { OnOk result (point_of at.new ≡ next (point_of at.old)) }
+{
+    let shift = shift_for(subscript)?;
+    let count = narrow(subscript.count)?;
+    let stride = narrow(subscript.stride)?;
+    if stride == 1 {
+        expect(
+            draft,
+            at,
+            QuickInstr::LoadElement {
+                subscript: index,
+                shift,
+                to,
+                first,
+                count,
+            },
+        )?;
+    } else {
+        expect(
+            draft,
+            at,
+            QuickInstr::LoadMember {
+                subscript: index,
+                shift,
+                to,
+                first,
+                count,
+                stride,
+            },
+        )?;
+    }
+    Ok(shift)
+}
+
+/// The same of the instruction that assigns to an element.
+pub fn expect_store(
+    draft: &QuickDraft,
+    at: &mut Cursor,
+    index: u16,
+    from: u16,
+    first: u16,
+    subscript: &Subscript,
+) -> Result<i32, Refusal>
+    ensures from_lower { IfOk result (λ shift. subscript.now.lower +ℤ shift ≡ pos 0) }
+    ensures stores { IfOk result (λ shift. (now : ℕ) → Stores (frame_of draft.now now) index shift from first
+        subscript.now.count subscript.now.stride at.old.place) }
+    ensures next { OnOk result (point_of at.new ≡ next (point_of at.old)) }
+{
+    let shift = shift_for(subscript)?;
+    let count = narrow(subscript.count)?;
+    let stride = narrow(subscript.stride)?;
+    if stride == 1 {
+        expect(
+            draft,
+            at,
+            QuickInstr::StoreElement {
+                subscript: index,
+                shift,
+                from,
+                first,
+                count,
+            },
+        )?;
+    } else {
+        expect(
+            draft,
+            at,
+            QuickInstr::StoreMember {
+                subscript: index,
+                shift,
+                from,
+                first,
+                count,
+                stride,
+            },
+        )?;
+    }
+    Ok(shift)
+}
+
+/// The constant with which the instruction here makes what an operator makes of a word and an expression.
+pub fn constant_taken(
+    draft: &QuickDraft,
+    at: &Cursor,
+    operator: BinaryOperator,
+    left: Reading,
+    right: &SlotExpr,
+    to: u16,
+) -> Option<i32>
+    ensures number { IfSome result (λ w. IsNumber (slot_expr_view right.now) left.kind w) }
+    ensures stands { IfSome result (λ w. (now : ℕ) → Stands (frame_of draft.now now)
+        (instrs.instr_by operator left.kind left.word w to) at.now.place) }
+{
+    let word = number_for(right, left.kind)?;
+    if stands(
+        draft,
+        at,
+        instr_by(operator, left.kind, left.word, word, to),
+    ) {
+        Some(word)
+    } else {
+        None
+    }
+}
+
+/// Whether each number of a type is one of another, and both are words as they are.
+#[tactic(auto, using(crate::proofs::Wider::wider))]
+pub fn is_wider(from: Kind, to: Kind) -> bool
+    ensures { IsTrue result → IsWider from to }
+{
+    !is_wide(from) && !is_wide(to) && to.least() <= from.least() && from.greatest() <= to.greatest()
+}
+
+/// The array and the subscript of a place that has one alone.
+#[tactic(auto, using(crate::proofs::Chains::one_subscript))]
+pub fn element_of(place: &Place) -> Option<(Anchor, &Subscript)>
+    ensures { IfSome result (λ e. place_view place.now ≡ tree.place (anchor_view e.0)
+        (tree.subscript_then (slot_expr_view e.1.now.index) e.1.now.lower e.1.now.count e.1.now.stride
+        tree.no_subscripts)) }
+{
+    if place.subscripts.len() == 1 {
+        Some((place.anchor, &place.subscripts[0]))
+    } else {
+        None
+    }
+}
+
+/// The argument, where there is one alone.
+#[tactic(auto, using(crate::proofs::Chains::one_expr))]
+pub fn only_argument(arguments: &[SlotExpr]) -> Option<&SlotExpr>
+    ensures { IfSome result (λ e. exprs_of (map slot_expr_view arguments.now)
+        ≡ tree.expr_then (slot_expr_view e.now) tree.no_exprs) }
+{
+    if arguments.len() == 1 {
+        Some(&arguments[0])
+    } else {
+        None
+    }
+}
+
+/// A temporary of a depth, if there is one.
+pub fn temporary(draft: &QuickDraft, depth: u16) -> Result<(), Refusal>
+    ensures { OnOk result ((now : ℕ) → IsTemporary (frame_of draft.now now) depth depth) }
+{
+    if (depth as usize) < draft.words {
+        Ok(())
+    } else {
+        Err(Refusal::Other)
+    }
+}
+
+/// One deeper.
+pub fn deeper(depth: u16) -> Result<u16, Refusal>
+    ensures { IfOk result (λ d. d ≡ suc depth) }
+{
+    match depth.checked_add(1) {
+        Some(depth) => Ok(depth),
+        None => Err(Refusal::Other),
+    }
+}

@@ -1,0 +1,27 @@
+//! Whether quick code stands for a program.
+//!
+//! Whoever drafted the code is not trusted: each piece of the tree is found again in the code, with the ticks that are
+//! taken ahead and what is known of the notes. Where the answer is yes, the code stands for the program.
+#![tactic(auto)]
+
+mod calls;
+mod conditions;
+mod constants;
+mod counting;
+mod cursor;
+mod draft;
+mod expressions;
+mod instructions;
+mod programs;
+mod prologues;
+mod reading;
+mod refusal;
+mod same;
+mod scope;
+mod statements;
+
+pub use constants::literal_value;
+pub use draft::Landing;
+pub use instructions::{branch_for, branch_for_by, instr_by, instr_for, truth_branch, truth_for};
+pub use programs::{DraftedProgram, checked};
+pub use refusal::Refusal;

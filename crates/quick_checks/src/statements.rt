@@ -1,0 +1,291 @@
+//! The code of statements.
+
+ghost use Rattle.std.specs.Prelude.{◌≡◌, ℕ, OnOk, map};
+ghost use Rattle.slot_trees.specs.SlotTrees as tree;
+ghost use Rattle.slot_bodies.specs.Chains.{arms_of, stmts_of};
+ghost use Rattle.slot_bodies.specs.ExpressionViews.{anchor_view, slot_expr_view};
+ghost use Rattle.slot_bodies.specs.StatementViews.{slot_arm_view, slot_stmt_view, slot_stmts_view};
+ghost use Rattle.quick_trees.specs.Pieces.{IsLoop, IsUntil};
+ghost use Rattle.quick_trees.specs.Standing.{ArmsStand, IsAssignment, IsStored, IsTestedFor, StandsFor, StmtsStand};
+ghost use Rattle.quick_checks.specs.Checking.{Always, exits_of, frame_of, point_of};
+ghost use Rattle.quick_trees.specs.Points.{AreNoted};
+
+use crate::conditions::check_test;
+use crate::counting::check_for;
+use crate::cursor::{
+    Cursor, assign_variable, exits_in_loop, go, goes_back, is_at, joins, landing, leads, mark,
+    mark_along, pass, passes, read_notes, tick,
+};
+use crate::draft::{Exits, QuickDraft};
+use crate::expressions::{deeper, element_of, expect_store, read_elements, variable_of};
+use crate::reading::{check_made, check_read};
+use crate::refusal::Refusal;
+use crate::scope::{Scope, is_kind, target_of};
+use slot_bodies::{Anchor, SlotArm, SlotExpr, SlotLibrary, SlotStmt, Subscript};
+use st_words::is_wide;
+
+/// Finds the code of statements one after another, and what is noted before each.
+#[cycle(check)]
+pub fn check_stmts(
+    draft: &QuickDraft,
+    library: &SlotLibrary,
+    scope: &Scope,
+    statements: &[SlotStmt],
+    depth: u16,
+    exits: &Exits,
+    at: &mut Cursor,
+) -> Result<(), Refusal>
+    ensures { OnOk result (Always draft.now library.now scope.now (λ f s units. StmtsStand f s units
+        (slot_stmts_view statements.now) depth (exits_of exits.now) (point_of at.old) (point_of at.new))) }
+{
+    let mut index = 0;
+    while index < statements.len() {
+        let statement = &statements[index];
+        read_notes_before(draft, statement, at)?;
+        check_stmt(draft, library, scope, statement, depth, exits, at)?;
+        index += 1;
+    }
+    Ok(())
+}
+
+/// What is noted before a statement. None is read before an empty statement: what stands there may belong to what
+/// comes behind a statement that this one ends.
+#[tactic(auto, using(crate::proofs::Noted::noted_none))]
+fn read_notes_before(
+    draft: &QuickDraft,
+    statement: &SlotStmt,
+    at: &mut Cursor,
+) -> Result<(), Refusal>
+    ensures { OnOk result
+        ((now : ℕ) → AreNoted (frame_of draft.now now) (point_of at.old) (point_of at.new)) }
+{
+    match statement {
+        SlotStmt::Empty => Ok(()),
+        _ => read_notes(draft, at),
+    }
+}
+
+/// The same of a statement.
+#[cycle(check)]
+fn check_stmt(
+    draft: &QuickDraft,
+    library: &SlotLibrary,
+    scope: &Scope,
+    statement: &SlotStmt,
+    depth: u16,
+    exits: &Exits,
+    at: &mut Cursor,
+) -> Result<(), Refusal>
+    ensures { OnOk result (Always draft.now library.now scope.now (λ f s units. StandsFor f s units
+        (slot_stmt_view statement.now) depth (exits_of exits.now) (point_of at.old) (point_of at.new))) }
+{
+    tick(at)?;
+    match statement {
+        SlotStmt::Empty => {}
+        SlotStmt::Assign(place, value) => {
+            if let Some(anchor) = variable_of(place) {
+                check_assigned(draft, library, scope, anchor, value, depth, at)?;
+                return Ok(());
+            }
+            let Some((anchor, subscript)) = element_of(place) else {
+                return Err(Refusal::Other);
+            };
+            check_stored(draft, library, scope, anchor, subscript, value, depth, at)?;
+        }
+        SlotStmt::If(arms, otherwise) => {
+            check_if(draft, library, scope, arms, otherwise, depth, exits, at)?;
+        }
+        SlotStmt::For {
+            control,
+            start,
+            limit,
+            step,
+            body,
+        } => {
+            check_for(
+                draft, library, scope, *control, start, limit, step, body, depth, exits, at,
+            )?;
+        }
+        SlotStmt::While(condition, body) => {
+            check_while(draft, library, scope, condition, body, depth, exits, at)?;
+        }
+        SlotStmt::Repeat(body, condition) => {
+            check_repeat(draft, library, scope, body, condition, depth, exits, at)?;
+        }
+        SlotStmt::Exit => {
+            if !joins(draft, at, &exits.out) {
+                return Err(Refusal::Other);
+            }
+            let behind = landing(at)?;
+            go(at, behind);
+        }
+        SlotStmt::Return => {
+            if !joins(draft, at, &exits.back) {
+                return Err(Refusal::Other);
+            }
+            let behind = landing(at)?;
+            go(at, behind);
+        }
+        SlotStmt::Case(_, _, _) | SlotStmt::Invoke(_, _, _) => return Err(Refusal::Other),
+    }
+    Ok(())
+}
+
+/// The same of an assignment to a variable without subscripts, but for its tick.
+#[cycle(check)]
+fn check_assigned(
+    draft: &QuickDraft,
+    library: &SlotLibrary,
+    scope: &Scope,
+    anchor: Anchor,
+    value: &SlotExpr,
+    depth: u16,
+    at: &mut Cursor,
+) -> Result<(), Refusal>
+    ensures { OnOk result (Always draft.now library.now scope.now (λ f s units. IsAssignment f s units
+        (anchor_view anchor) (slot_expr_view value.now) depth (point_of at.old) (point_of at.new))) }
+{
+    let target = target_of(draft, &scope.values, anchor)?;
+    let kind = check_made(draft, library, scope, value, depth, target.word, at)?;
+    if !is_kind(kind, target.kind) {
+        return Err(Refusal::Other);
+    }
+    assign_variable(&scope.values, anchor, at)?;
+    Ok(())
+}
+
+/// The same of an assignment to an element.
+#[cycle(check)]
+fn check_stored(
+    draft: &QuickDraft,
+    library: &SlotLibrary,
+    scope: &Scope,
+    anchor: Anchor,
+    subscript: &Subscript,
+    value: &SlotExpr,
+    depth: u16,
+    at: &mut Cursor,
+) -> Result<(), Refusal>
+    ensures { OnOk result (Always draft.now library.now scope.now (λ f s units. IsStored f s units
+        (anchor_view anchor) (slot_expr_view subscript.now.index) subscript.now.lower subscript.now.count
+        subscript.now.stride (slot_expr_view value.now) depth (point_of at.old) (point_of at.new))) }
+{
+    let from = check_read(draft, library, scope, value, depth, at)?;
+    let below = deeper(depth)?;
+    let index = check_read(draft, library, scope, &subscript.index, below, at)?;
+    if is_wide(index.kind) {
+        return Err(Refusal::Other);
+    }
+    let elements = read_elements(draft, &scope.values, at, anchor, subscript)?;
+    if !is_kind(elements.kind, from.kind) {
+        return Err(Refusal::Other);
+    }
+    expect_store(draft, at, index.word, from.word, elements.word, subscript)?;
+    Ok(())
+}
+
+/// The same of the arms of an IF, and of what stands where no condition holds.
+#[cycle(check)]
+fn check_if(
+    draft: &QuickDraft,
+    library: &SlotLibrary,
+    scope: &Scope,
+    arms: &[SlotArm],
+    otherwise: &[SlotStmt],
+    depth: u16,
+    exits: &Exits,
+    at: &mut Cursor,
+) -> Result<(), Refusal>
+    ensures { OnOk result (Always draft.now library.now scope.now (λ f s units. ArmsStand f s units
+        (arms_of (map slot_arm_view arms.now))
+        (StmtsStand f s units (slot_stmts_view otherwise.now) depth (exits_of exits.now)) depth (exits_of exits.now)
+        (point_of at.old) (point_of at.new))) }
+{
+    let behind = landing(at)?;
+    let mut index = 0;
+    while index < arms.len() {
+        let arm = &arms[index];
+        read_notes(draft, at)?;
+        let leg = check_test(draft, library, scope, &arm.condition, false, depth, at)?;
+        let rest = mark_along(at, leg.way)?;
+        pass(at, leg.past)?;
+        check_stmts(draft, library, scope, &arm.body, depth, exits, at)?;
+        if !joins(draft, at, &behind) {
+            return Err(Refusal::Other);
+        }
+        go(at, rest);
+        index += 1;
+    }
+    check_stmts(draft, library, scope, otherwise, depth, exits, at)?;
+    if !is_at(at, &behind) {
+        return Err(Refusal::Other);
+    }
+    go(at, behind);
+    Ok(())
+}
+
+/// The same of a WHILE.
+#[cycle(check)]
+fn check_while(
+    draft: &QuickDraft,
+    library: &SlotLibrary,
+    scope: &Scope,
+    condition: &SlotExpr,
+    body: &[SlotStmt],
+    depth: u16,
+    exits: &Exits,
+    at: &mut Cursor,
+) -> Result<(), Refusal>
+    ensures { OnOk result (Always draft.now library.now scope.now (λ f s units. IsLoop f
+        (λ when p q w past. IsTestedFor f s units (slot_expr_view condition.now) when depth p q w past)
+        (λ p q. StmtsStand f s units (slot_stmts_view body.now) depth
+        (record (exits_of exits.now) { out = point_of at.new }) p q) (point_of at.old) (point_of at.new))) }
+{
+    let behind = landing(at)?;
+    let inner = exits_in_loop(exits, &behind)?;
+    let first = check_test(draft, library, scope, condition, false, depth, at)?;
+    if !leads(at, first.way, &behind) {
+        return Err(Refusal::Other);
+    }
+    pass(at, first.past)?;
+    read_notes(draft, at)?;
+    let head = mark(at)?;
+    check_stmts(draft, library, scope, body, depth, &inner, at)?;
+    tick(at)?;
+    let again = check_test(draft, library, scope, condition, true, depth, at)?;
+    if !leads(at, again.way, &head) || !passes(at, again.past, &behind) {
+        return Err(Refusal::Other);
+    }
+    go(at, behind);
+    Ok(())
+}
+
+/// The same of a REPEAT.
+#[cycle(check)]
+fn check_repeat(
+    draft: &QuickDraft,
+    library: &SlotLibrary,
+    scope: &Scope,
+    body: &[SlotStmt],
+    condition: &SlotExpr,
+    depth: u16,
+    exits: &Exits,
+    at: &mut Cursor,
+) -> Result<(), Refusal>
+    ensures { OnOk result (Always draft.now library.now scope.now (λ f s units. IsUntil f
+        (λ when p q w past. IsTestedFor f s units (slot_expr_view condition.now) when depth p q w past)
+        (λ p q. StmtsStand f s units (slot_stmts_view body.now) depth
+        (record (exits_of exits.now) { out = point_of at.new }) p q) (point_of at.old) (point_of at.new))) }
+{
+    let behind = landing(at)?;
+    let inner = exits_in_loop(exits, &behind)?;
+    read_notes(draft, at)?;
+    let head = mark(at)?;
+    check_stmts(draft, library, scope, body, depth, &inner, at)?;
+    let again = check_test(draft, library, scope, condition, false, depth, at)?;
+    if !goes_back(at, again.way, &head) || !passes(at, again.past, &behind) {
+        return Err(Refusal::Other);
+    }
+    go(at, behind);
+    Ok(())
+}

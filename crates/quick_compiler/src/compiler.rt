@@ -1,0 +1,88 @@
+//! Quick code of a program.
+
+ghost use Rattle.std.specs.Prelude.{◌≤◌, ◌+◌, ℕ, IfOk, IfSome, length};
+ghost use Rattle.slot_trees.specs.SlotTrees as tree;
+ghost use Rattle.slot_bodies.specs.LibraryViews.{IsKeptOf, slot_library_view};
+ghost use Rattle.slot_bodies.specs.StatementViews.{slot_stmts_view};
+ghost use Rattle.quick_code.specs.Soundness.{IsSound};
+ghost use Rattle.quick_trees.specs.Programs.{IsProgram};
+ghost use Rattle.quick_programs.specs.Quick.{frame_of};
+
+use quick_checks::{DraftedProgram, Landing, checked};
+use quick_drafts::{Landing as Drafted, Program, draft_program};
+use quick_programs::QuickParts;
+use slot_bodies::{SlotLibrary, SlotStmt};
+use st_words::Kind;
+use std::alloc::{AllocError, Global};
+
+/// The landings of a draft, as the check takes them.
+fn landings_of(alloc: Global, drafted: Vec<Drafted>) -> Result<Vec<Landing>, AllocError> {
+    let mut landings = Vec::new(alloc);
+    for landing in drafted {
+        let Drafted {
+            place,
+            ahead,
+            noted,
+        } = landing;
+        landings.push(Landing {
+            place,
+            ahead,
+            noted,
+        })?;
+    }
+    Ok(landings)
+}
+
+/// Quick code of a program with its own variables from a slot on, over slots of these types, with calls at most so deep.
+/// None where some part has none.
+///
+/// The code is drafted, and then it is checked against the program: a draft that is not found to stand for it is none.
+///
+/// The only error is out of memory.
+pub fn compile(
+    alloc: Global,
+    library: &SlotLibrary,
+    kinds: &[Kind],
+    base: usize,
+    calls: u16,
+    body: &[SlotStmt],
+) -> Result<Option<QuickParts>, AllocError>
+    ensures stands { IfOk result (λ o. IfSome o (λ p. (whole : tree.SlotLibrary)
+        → IsKeptOf (slot_library_view library.now) whole
+        → (now : ℕ) → IsProgram (frame_of p kinds.now now) whole base calls (slot_stmts_view body.now))) }
+    ensures sound { IfOk result (λ o. IfSome o (λ p. IsSound p.code p.words p.words)) }
+    ensures room { IfOk result (λ o. IfSome o (λ p. length kinds.now + length p.constants.items ≤ p.words)) }
+{
+    let calls = usize::from(calls);
+    let program = Program {
+        body,
+        library,
+        kinds,
+        base,
+        calls,
+    };
+    let Some(draft) = draft_program(alloc, program)? else {
+        return Ok(None);
+    };
+    let (code, constants, words, landings) = draft.into_parts();
+    if constants.len() > words || kinds.len() > words - constants.len() {
+        return Ok(None);
+    }
+    let landings = landings_of(alloc, landings)?;
+    let drafted = DraftedProgram {
+        code,
+        constants,
+        words,
+    };
+    match checked(alloc, drafted, kinds, library, base, calls, body, landings)? {
+        Some(program) => {
+            let (code, constants, words) = program.into_parts();
+            Ok(Some(QuickParts {
+                code,
+                constants,
+                words,
+            }))
+        }
+        None => Ok(None),
+    }
+}

@@ -1,0 +1,6 @@
+//! Quick code of programs.
+#![tactic(auto)]
+
+mod compiler;
+
+pub use compiler::compile;

@@ -1,0 +1,65 @@
+use Rattle.std.proofs.Common.{◌≤◌}
+use Rattle.quick_drafts.proofs.+draft.Given as goal
+
+abbrev pub decreases-calls::put_call : goal.decreases-calls::put_call
+decreases-calls::put_call l = l.spot.levels
+
+abbrev pub decreases-calls::put_function : goal.decreases-calls::put_function
+decreases-calls::put_function l = l.spot.levels
+
+abbrev pub decreases-conditions::put_compared : goal.decreases-conditions::put_compared
+decreases-conditions::put_compared l = l.spot.levels
+
+abbrev pub decreases-conditions::put_test : goal.decreases-conditions::put_test
+decreases-conditions::put_test l = l.spot.levels
+
+abbrev pub decreases-loops::put_for : goal.decreases-loops::put_for
+decreases-loops::put_for l = l.spot.levels
+
+abbrev pub decreases-loops::put_repeat : goal.decreases-loops::put_repeat
+decreases-loops::put_repeat l = l.spot.levels
+
+abbrev pub decreases-loops::put_while : goal.decreases-loops::put_while
+decreases-loops::put_while l = l.spot.levels
+
+abbrev pub decreases-reading::put_binary : goal.decreases-reading::put_binary
+decreases-reading::put_binary l = l.spot.levels
+
+abbrev pub decreases-reading::put_fetched : goal.decreases-reading::put_fetched
+decreases-reading::put_fetched l = l.spot.levels
+
+abbrev pub decreases-reading::put_made : goal.decreases-reading::put_made
+decreases-reading::put_made l = l.spot.levels
+
+abbrev pub decreases-reading::put_read : goal.decreases-reading::put_read
+decreases-reading::put_read l = l.spot.levels
+
+abbrev pub decreases-statements::put_arm : goal.decreases-statements::put_arm
+decreases-statements::put_arm l = l.spot.levels
+
+abbrev pub decreases-statements::put_assignment : goal.decreases-statements::put_assignment
+decreases-statements::put_assignment l = l.spot.levels
+
+abbrev pub decreases-statements::put_case : goal.decreases-statements::put_case
+decreases-statements::put_case l = l.spot.levels
+
+abbrev pub decreases-statements::put_if : goal.decreases-statements::put_if
+decreases-statements::put_if l = l.spot.levels
+
+abbrev pub decreases-statements::put_stmt : goal.decreases-statements::put_stmt
+decreases-statements::put_stmt l = l.spot.levels
+
+abbrev pub decreases-statements::put_stmts : goal.decreases-statements::put_stmts
+decreases-statements::put_stmts l = l.spot.levels
+
+abbrev pub invariant-calls::put_call-loop-place : goal.invariant-calls::put_call-loop-place
+invariant-calls::put_call-loop-place l = l.spot.levels ≤ l.fn.spot.levels
+
+abbrev pub invariant-statements::put_case-loop-number : goal.invariant-statements::put_case-loop-number
+invariant-statements::put_case-loop-number l = l.spot.levels ≤ l.fn.spot.levels
+
+abbrev pub invariant-statements::put_if-loop-number : goal.invariant-statements::put_if-loop-number
+invariant-statements::put_if-loop-number l = l.spot.levels ≤ l.fn.spot.levels
+
+abbrev pub invariant-statements::put_stmts-loop-statement : goal.invariant-statements::put_stmts-loop-statement
+invariant-statements::put_stmts-loop-statement l = l.spot.levels ≤ l.fn.spot.levels

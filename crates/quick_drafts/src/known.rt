@@ -1,0 +1,224 @@
+//! What is known of each slot where a run comes, along several ways.
+
+use crate::stop::Stop;
+use std::alloc::{AllocError, Global};
+
+/// What is known of a slot.
+pub trait State: Copy {
+    /// The most that is known where either is; none where there is no such thing.
+    fn joined(self, other: Self) -> Option<Self>;
+}
+
+/// What is known of one slot.
+#[derive(Clone, Copy)]
+pub struct Entry<S: Copy> {
+    pub slot: usize,
+    pub state: S,
+}
+
+/// What is known of each slot, and what was known before each change.
+pub struct Known<S: Copy> {
+    alloc: Global,
+    states: Vec<S>,
+    trail: Vec<Entry<S>>,
+}
+
+impl<S: Copy> Drop for Known<S> {
+    fn drop(self) {
+        let Self {
+            alloc: _,
+            states: _,
+            trail: _,
+        } = self;
+    }
+}
+
+/// Ways that come together: what each changed since they parted.
+pub struct Ways<S: Copy> {
+    /// How many changes there were where they parted.
+    pub since: usize,
+    pub count: usize,
+    entries: Vec<Entry<S>>,
+}
+
+impl<S: Copy> Drop for Ways<S> {
+    fn drop(self) {
+        let Self {
+            since: _,
+            count: _,
+            entries: _,
+        } = self;
+    }
+}
+
+impl<S: Copy> Ways<S> {
+    /// No ways yet, which part after so many changes.
+    pub fn new(alloc: Global, since: usize) -> Ways<S> {
+        Ways {
+            since,
+            count: 0,
+            entries: Vec::new(alloc),
+        }
+    }
+}
+
+impl<S: State> Known<S> {
+    /// The same of so many slots.
+    pub fn new(alloc: Global, count: usize, state: S) -> Result<Known<S>, AllocError> {
+        let mut states = Vec::new(alloc);
+        for _ in 0..count {
+            states.push(state)?;
+        }
+        Ok(Known {
+            alloc,
+            states,
+            trail: Vec::new(alloc),
+        })
+    }
+
+    /// How many slots there are.
+    pub fn slots(&self) -> usize {
+        self.states.len()
+    }
+
+    /// What is known of all slots.
+    pub fn all(&self) -> Result<Vec<S>, AllocError> {
+        Vec::from_slice(self.alloc, &self.states)
+    }
+
+    /// What is known of a slot.
+    pub fn at(&self, slot: usize) -> Result<S, Stop> {
+        match self.states.get(slot) {
+            Some(state) => Ok(*state),
+            None => Err(Stop::NotCovered),
+        }
+    }
+
+    /// From here on, this is known of a slot.
+    pub fn set(&mut self, slot: usize, state: S) -> Result<(), Stop> {
+        if slot >= self.states.len() {
+            return Err(Stop::NotCovered);
+        }
+        let before = self.states[slot];
+        self.trail.push(Entry {
+            slot,
+            state: before,
+        })?;
+        self.states[slot] = state;
+        Ok(())
+    }
+
+    /// How many changes there were.
+    pub fn changes(&self) -> usize {
+        self.trail.len()
+    }
+
+    /// Goes back to where there were so many changes.
+    pub fn undo(&mut self, changes: usize) {
+        while self.trail.len() > changes {
+            let Some(entry) = self.trail.pop() else {
+                break;
+            };
+            if entry.slot < self.states.len() {
+                self.states[entry.slot] = entry.state;
+            }
+        }
+    }
+
+    /// What is known of the slots that changed, each once and in order.
+    pub fn changed(&self, since: usize) -> Result<Vec<Entry<S>>, Stop> {
+        let alloc = self.alloc;
+        let mut changed = Vec::new(alloc);
+        let Some(entries) = self.trail.as_slice().get(since..) else {
+            return Err(Stop::NotCovered);
+        };
+        for entry in entries {
+            changed.push(Entry {
+                slot: entry.slot,
+                state: self.at(entry.slot)?,
+            })?;
+        }
+        changed.sort_by_key(|entry| entry.slot)?;
+        let mut once = Vec::new(alloc);
+        let mut last = None;
+        for entry in &changed {
+            if last != Some(entry.slot) {
+                once.push(*entry)?;
+            }
+            last = Some(entry.slot);
+        }
+        Ok(once)
+    }
+
+    /// The way that a run came is one of several.
+    pub fn add(&self, ways: &mut Ways<S>) -> Result<(), Stop> {
+        for entry in &self.changed(ways.since)? {
+            ways.entries.push(*entry)?;
+        }
+        ways.count = ways.count.saturating_add(1);
+        Ok(())
+    }
+
+    /// Goes on where ways come together.
+    pub fn meet(&mut self, ways: Ways<S>) -> Result<(), Stop> {
+        self.undo(ways.since);
+        let count = ways.count;
+        let mut entries = Vec::from_slice(self.alloc, &ways.entries)?;
+        entries.sort_by_key(|entry| entry.slot)?;
+        let mut group: Option<Group<S>> = None;
+        for entry in &entries {
+            group = match group {
+                Some(open) if open.slot == entry.slot => Some(open.with(entry.state)?),
+                Some(open) => {
+                    self.close(open, count)?;
+                    Some(Group::new(*entry))
+                }
+                None => Some(Group::new(*entry)),
+            };
+        }
+        match group {
+            Some(open) => self.close(open, count),
+            None => Ok(()),
+        }
+    }
+
+    /// What some ways know of a slot is known where all come together, as far as the others know it too.
+    fn close(&mut self, group: Group<S>, count: usize) -> Result<(), Stop> {
+        if group.count >= count {
+            return self.set(group.slot, group.state);
+        }
+        let other = self.at(group.slot)?;
+        let all = group.with(other)?;
+        self.set(all.slot, all.state)
+    }
+}
+
+/// What some ways know of a slot.
+#[derive(Clone, Copy)]
+struct Group<S: Copy> {
+    slot: usize,
+    state: S,
+    count: usize,
+}
+
+impl<S: State> Group<S> {
+    fn new(entry: Entry<S>) -> Group<S> {
+        Group {
+            slot: entry.slot,
+            state: entry.state,
+            count: 1,
+        }
+    }
+
+    /// With a further way.
+    fn with(self, state: S) -> Result<Group<S>, Stop> {
+        match self.state.joined(state) {
+            Some(state) => Ok(Group {
+                slot: self.slot,
+                state,
+                count: self.count.saturating_add(1),
+            }),
+            None => Err(Stop::NotCovered),
+        }
+    }
+}

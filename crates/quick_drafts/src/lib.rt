@@ -1,0 +1,30 @@
+//! Drafts of quick code, made of the slot trees of programs.
+//!
+//! Nothing is promised of a draft: whether it stands for its program is found by a check. So what counts here is that
+//! drafts are short and fast, and of a form that the check finds.
+#![tactic(auto)]
+
+mod aheads;
+mod assigned;
+mod calls;
+mod cases;
+mod conditions;
+mod constants;
+mod draft;
+mod known;
+mod legs;
+mod loops;
+mod notes;
+mod operators;
+mod places;
+mod programs;
+mod reading;
+mod sheet;
+mod spot;
+mod statements;
+mod stop;
+mod survey;
+mod touch;
+mod unit;
+
+pub use programs::{Drafted, Landing, Program, draft_program};

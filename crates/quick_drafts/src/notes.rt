@@ -1,0 +1,123 @@
+//! What is noted before statements.
+
+use crate::draft::Draft;
+use crate::spot::below;
+use crate::stop::Stop;
+use crate::survey::{Turns, survey_turns};
+use crate::touch::Touch;
+use crate::unit::Unit;
+use quick_trees::Noting;
+use slot_bodies::{Place, SlotExpr, SlotStmt};
+
+/// Notes what an expression looks up.
+#[cycle(note)]
+pub fn note_looks(
+    unit: Unit,
+    draft: &mut Draft,
+    expression: &SlotExpr,
+    levels: usize,
+) -> Result<(), Stop> {
+    let levels = below(levels)?;
+    match expression {
+        SlotExpr::Constant(_) => {}
+        SlotExpr::Load(place) => {
+            note_subscripts(unit, draft, place, levels)?;
+            if place.subscripts.is_empty() && unit.is_noted() {
+                draft.note_look(unit.slot_of(place.anchor)?)?;
+            }
+        }
+        SlotExpr::Compute(_, arguments) | SlotExpr::Call(_, arguments) => {
+            for argument in arguments {
+                note_looks(unit, draft, argument, levels)?;
+            }
+        }
+        SlotExpr::Unary(_, operand) => note_looks(unit, draft, operand, levels)?,
+        SlotExpr::Binary(_, operands) => {
+            note_looks(unit, draft, &operands.left, levels)?;
+            note_looks(unit, draft, &operands.right, levels)?;
+        }
+    }
+    Ok(())
+}
+
+/// Notes what the subscripts of a place look up.
+#[cycle(note)]
+fn note_subscripts(
+    unit: Unit,
+    draft: &mut Draft,
+    place: &Place,
+    levels: usize,
+) -> Result<(), Stop> {
+    let levels = below(levels)?;
+    for subscript in &place.subscripts {
+        note_looks(unit, draft, &subscript.index, levels)?;
+    }
+    Ok(())
+}
+
+/// Notes what a statement surely does before its first branch.
+pub fn note_statement(
+    unit: Unit,
+    draft: &mut Draft,
+    statement: &SlotStmt,
+    levels: usize,
+) -> Result<(), Stop> {
+    if !unit.is_noted() {
+        return Ok(());
+    }
+    match statement {
+        SlotStmt::Assign(place, value) => {
+            note_looks(unit, draft, value, levels)?;
+            note_subscripts(unit, draft, place, levels)?;
+            if place.subscripts.is_empty() {
+                draft.note_assignment(unit.slot_of(place.anchor)?)?;
+            }
+        }
+        SlotStmt::If(arms, _) => {
+            if let Some(arm) = arms.first() {
+                note_looks(unit, draft, &arm.condition, levels)?;
+            }
+        }
+        SlotStmt::Case(selector, _, _) => note_looks(unit, draft, selector, levels)?,
+        SlotStmt::For {
+            control,
+            start,
+            limit,
+            ..
+        } => {
+            note_looks(unit, draft, start, levels)?;
+            note_looks(unit, draft, limit, levels)?;
+            draft.note_assignment(unit.slot_of(*control)?)?;
+        }
+        SlotStmt::While(condition, _) => note_looks(unit, draft, condition, levels)?,
+        SlotStmt::Empty
+        | SlotStmt::Repeat(_, _)
+        | SlotStmt::Invoke(_, _, _)
+        | SlotStmt::Exit
+        | SlotStmt::Return => {}
+    }
+    Ok(())
+}
+
+/// Notes what each turn of a loop does with a slot, once, before the first turn.
+pub fn note_turns(unit: Unit, draft: &mut Draft, turns: Turns, levels: usize) -> Result<(), Stop> {
+    if !unit.is_noted() {
+        return Ok(());
+    }
+    for touch in &survey_turns(unit, &mut draft.survey, turns, levels)? {
+        note_touch(draft, touch.slot, touch.state)?;
+    }
+    Ok(())
+}
+
+fn note_touch(draft: &mut Draft, slot: usize, touch: Touch) -> Result<(), Stop> {
+    let is_exact = draft.known.at(slot)? == Noting::Exact;
+    if is_exact && touch.looks() {
+        draft.note_look(slot)?;
+    }
+    let is_first = touch == Touch::LookedThenAssigned || touch == Touch::Assigned;
+    if touch.assigns() && (is_first || !is_exact) {
+        draft.note_assignment(slot)?;
+    }
+    Ok(())
+}

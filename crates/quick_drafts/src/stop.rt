@@ -1,0 +1,24 @@
+//! Why no code is drafted.
+
+use std::alloc::{AllocError, AllocFailed};
+
+/// Why no code is drafted.
+#[derive(Clone, Copy, PartialEq, Eq, Drop)]
+pub enum Stop {
+    /// Memory ran out.
+    OutOfMemory,
+    /// Quick code does not cover the program, or it is too large.
+    NotCovered,
+}
+
+impl From<AllocError> for Stop {
+    fn from(_e: AllocError) -> Stop {
+        Stop::OutOfMemory
+    }
+}
+
+impl<T: Drop> From<AllocFailed<T>> for Stop {
+    fn from(_e: AllocFailed<T>) -> Stop {
+        Stop::OutOfMemory
+    }
+}

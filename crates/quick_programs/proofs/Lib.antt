@@ -1,0 +1,5 @@
+mod Memories
+mod Beginning
+mod Answering
+mod Leaving
+mod Words

@@ -1,0 +1,16 @@
+//! Programs in quick code, with the words that they run over, and what a run leaves.
+//!
+//! Where quick code stands for a program, and instructions are the code of the same program, a run of the quick code
+//! that ends well ends as the instructions do: with the same ticks, values and marks.
+#![tactic(auto)]
+
+mod laws;
+mod memory;
+mod parts;
+mod program;
+mod running;
+
+pub use laws::quick_code_answers_as_its_instructions;
+pub use parts::QuickParts;
+pub use program::QuickProgram;
+pub use running::QuickRun;
