@@ -6,6 +6,7 @@ ghost use Rattle.machine_code.specs.declared.limits.TheConstants.{MAX_INSTRUCTIO
 
 use crate::word_program::WordProgram;
 use machine_code::Instr;
+use quick_programs::QuickProgram;
 use st_words::Kind;
 use std::sync::Arc;
 
@@ -16,12 +17,16 @@ pub struct Code {
     pub kinds: Arc<Vec<Kind>>,
     /// How many values its memory has behind those of the slots, for the variables of functions.
     pub extra: usize,
-    /// Word code that stands for the instructions, where there is some (`Code::new`): none where values stand behind
+    /// Quick code of the same program, where there is some: a run begins with it.
+    pub quick: Option<QuickProgram>,
+    /// Word code that stands for the instructions, where there is some and no quick code: none where values stand behind
     /// those of the slots.
     pub words: Option<WordProgram>,
     ghost short: { length instrs.value.items ≤ MAX_INSTRUCTIONS },
     ghost numbered: { length kinds.value.items + extra ≤ MAX_MEMORY },
-    ghost stands: { ForSome words (λ f. (f.instrs ≡ instrs.value.items) × (f.kinds ≡ kinds.value.items)
+    ghost stands: { ForSome quick (λ q. (q.instrs ≡ instrs.value.items) × (q.kinds ≡ kinds.value.items)
+        × (q.extra ≡ extra)) },
+    ghost stands_in_words: { ForSome words (λ f. (f.instrs ≡ instrs.value.items) × (f.kinds ≡ kinds.value.items)
         × (extra ≡ 0)) },
 }
 
@@ -31,6 +36,7 @@ impl Drop for Code {
             instrs: _,
             kinds: _,
             extra: _,
+            quick: _,
             words: _,
         } = self;
     }

@@ -1,5 +1,5 @@
 -- The memory that a run begins with where nothing stands behind the slots, and its marks.
-use Rattle.std.proofs.Common.{◌≡◌, ◌+◌, ◌≤◌, ◌∷◌, [], ℕ, zero, suc, List, length, map, take}
+use Rattle.std.proofs.Common.{◌≡◌, ◌+◌, ◌≤◌, ◌∷◌, ℕ, zero, suc, List, length, map, take}
 use Rattle.std.proofs.Common.{ap, sym, subst, refl, ◌∙◌, append-nil, arith}
 use Rattle.st_layouts.proofs.ListLemmas.{length_map}
 use Rattle.std.specs.Prelude.{replicate, Result}

@@ -1,9 +1,11 @@
 //! Runs of code.
 
-ghost use Rattle.std.specs.Prelude.{◌≡◌, [], IfOk, length, map, replicate};
+ghost use Rattle.std.specs.Prelude.{◌≡◌, [], IfOk, IfSome, length, map, replicate};
 ghost use Rattle.st_types.specs.Failures.{in_runs};
 ghost use Rattle.machine_code.specs.Machine.{runs};
-ghost use Rattle.machine_code.specs.Tracking.{tracking, tracked};
+ghost use Rattle.machine_code.specs.Tracking.{are_assigned, are_read, tracking, tracked};
+ghost use Rattle.run_cells.specs.Cells.{cut, picked};
+ghost use Rattle.st_types.specs.declared.outcome.Outcome.TheVariants.{Done};
 ghost use Rattle.slot_machine.specs.Steps.{Ends};
 ghost use Rattle.coded_programs.specs.Codes.{code_view};
 ghost use Rattle.coded_runs.specs.Runs.{EndsAs, IsLong, marked_run, unmarked};
@@ -14,6 +16,7 @@ use crate::memory::{memory_over, take_front, unmarked};
 use crate::snapshot::Snapshot;
 use coded_programs::{Code, WordProgram};
 use machine_code::Mark;
+use quick_programs::QuickRun;
 use run_cells::{Cells, reads_of, writes_left};
 use slot_machine::Stop;
 use st_types::Outcome;
@@ -108,8 +111,48 @@ pub struct Ran {
     pub outcome: Outcome,
 }
 
-/// Runs code on the values of its slots.
-fn run_code(
+/// What a run of quick code did.
+fn told(alloc: Global, slots: &[Value], left: &QuickRun) -> Result<Ran, AllocError>
+    ensures reads { IfOk result (λ ran. map cut ran.reads.items ≡ picked (are_read left.now.marks.items) 0 slots.now) }
+    ensures writes { IfOk result (λ ran. map cut ran.writes.items
+        ≡ picked (are_assigned left.now.marks.items) 0 left.now.values.items) }
+    ensures done { IfOk result (λ ran. ran.outcome ≡ Done) }
+{
+    let reads = reads_of(alloc, slots, &left.marks)?;
+    let writes = writes_left(alloc, Outcome::Done, &left.values, &left.marks)?;
+    Ok(Ran {
+        reads,
+        writes,
+        outcome: Outcome::Done,
+    })
+}
+
+/// Runs code on the values of its slots, by the quick machine. None where it cannot tell how the run ends, or where there
+/// is no quick code.
+fn run_quick(
+    alloc: Global,
+    code: &Code,
+    moment: u64,
+    slots: &[Value],
+    budget: u32,
+) -> Result<Option<Ran>, AllocError>
+    requires typed { map (λ v. v.kind) slots.now ≡ code.now.kinds.value.items }
+    ensures ran { IfOk result (λ o. IfSome o (IsRunOf (marked_run (code_view code.now) moment slots.now budget)
+        slots.now)) }
+    ensures long { IfOk result (λ o. IfSome o (λ _. IsLong (length slots.now) (marked_run (code_view code.now) moment
+        slots.now budget))) }
+{
+    let Some(quick) = &code.quick else {
+        return Ok(None);
+    };
+    match quick.run(alloc, slots, moment, budget)? {
+        Some(left) => Ok(Some(told(alloc, slots, &left)?)),
+        None => Ok(None),
+    }
+}
+
+/// Runs code on the values of its slots, by its word code or by the machine on values.
+fn run_values(
     alloc: Global,
     code: &Code,
     moment: u64,
@@ -131,6 +174,25 @@ fn run_code(
         writes,
         outcome,
     })
+}
+
+/// Runs code on the values of its slots: by the quick machine where that can tell how the run ends.
+fn run_code(
+    alloc: Global,
+    code: &Code,
+    moment: u64,
+    slots: &[Value],
+    budget: u32,
+) -> Result<Ran, AllocError>
+    requires typed { map (λ v. v.kind) slots.now ≡ code.now.kinds.value.items }
+    ensures ran { IfOk result (IsRunOf (marked_run (code_view code.now) moment slots.now budget) slots.now) }
+    ensures long { IfOk result (λ _. IsLong (length slots.now) (marked_run (code_view code.now) moment slots.now
+        budget)) }
+{
+    match run_quick(alloc, code, moment, slots, budget)? {
+        Some(ran) => Ok(ran),
+        None => run_values(alloc, code, moment, slots, budget),
+    }
 }
 
 /// Runs a snapshot's code on its values. Its reads are what it looked up before it had assigned it, and its writes what

@@ -69,6 +69,13 @@ use Rattle.word_code.specs.contracts.word_instr.WordInstr as WordInstr
 use Rattle.word_code.specs.contracts.word_instr.WordStep as WordStep
 use Rattle.coded_programs.specs.contracts.word_program.WordProgram as WordProgram
 use Rattle.coded_programs.specs.contracts.word_program.WordProgram.TheInside as WordInside
+use Rattle.st_names.specs.contracts.standard_blocks.StandardBlock as StandardBlock
+use Rattle.quick_code.specs.contracts.quick_code.QuickCode as QuickCode
+use Rattle.quick_code.specs.contracts.quick_code.Way as Way
+use Rattle.quick_code.specs.contracts.quick_instr.QuickInstr as QuickInstr
+use Rattle.quick_programs.specs.contracts.parts.QuickParts as QuickParts
+use Rattle.quick_programs.specs.contracts.program.QuickProgram as QuickProgram
+use Rattle.quick_programs.specs.contracts.program.QuickProgram.TheInside as QuickInside
 use Rattle.coded_programs.specs.contracts.code.Code as Code
 use Rattle.config.specs.contracts.task.ProgramInstance as ProgramInstance
 use Rattle.st_plans.specs.contracts.plan.PlanVariable as PlanVariable
@@ -1486,6 +1493,36 @@ instr-sync = variants_sync Instr.enum (
   ),
 )
 
+pub way-send : IsSend Way.the_row
+way-send = search plain depth 20
+
+pub standard_block-send : IsSend StandardBlock.the_row
+standard_block-send = variants_send StandardBlock.enum (search plain depth 40)
+
+pub quick_instr-send : IsSend QuickInstr.the_row
+quick_instr-send = variants_send QuickInstr.enum (tt, ((way-send, tt), ((search plain depth 20, (search plain depth 20, (search plain depth 20, (search plain depth 20, tt)))), ((search plain depth 20, (search plain depth 20, tt)), ((search plain depth 20, (search plain depth 20, tt)), ((search plain depth 20, (search plain depth 20, (search plain depth 20, (search plain depth 20, tt)))), ((search plain depth 20, (search plain depth 20, (search plain depth 20, (search plain depth 20, tt)))), ((search plain depth 20, tt), ((search plain depth 20, (search plain depth 20, (search plain depth 20, tt))), ((search plain depth 20, (search plain depth 20, (search plain depth 20, tt))), ((search plain depth 20, (search plain depth 20, (search plain depth 20, tt))), ((search plain depth 20, (search plain depth 20, (search plain depth 20, tt))), ((search plain depth 20, (search plain depth 20, (search plain depth 20, tt))), ((search plain depth 20, (search plain depth 20, (search plain depth 20, tt))), ((search plain depth 20, (search plain depth 20, (search plain depth 20, tt))), ((search plain depth 20, (search plain depth 20, (search plain depth 20, tt))), ((search plain depth 20, (search plain depth 20, (search plain depth 20, tt))), ((search plain depth 20, (search plain depth 20, (search plain depth 20, tt))), ((search plain depth 20, (search plain depth 20, (search plain depth 20, tt))), ((search plain depth 20, (search plain depth 20, (search plain depth 20, tt))), ((search plain depth 20, (search plain depth 20, (search plain depth 20, tt))), ((search plain depth 20, (search plain depth 20, (search plain depth 20, tt))), ((search plain depth 20, (search plain depth 20, (search plain depth 20, tt))), ((search plain depth 20, (search plain depth 20, (search plain depth 20, tt))), ((search plain depth 20, (search plain depth 20, (search plain depth 20, tt))), ((search plain depth 20, (search plain depth 20, (search plain depth 20, tt))), ((search plain depth 20, (search plain depth 20, (search plain depth 20, tt))), ((search plain depth 20, (search plain depth 20, (search plain depth 20, tt))), ((search plain depth 20, (search plain depth 20, (search plain depth 20, tt))), ((search plain depth 20, (search plain depth 20, (search plain depth 20, tt))), ((search plain depth 20, (search plain depth 20, (search plain depth 20, tt))), ((search plain depth 20, (search plain depth 20, (search plain depth 20, tt))), ((search plain depth 20, (search plain depth 20, (search plain depth 20, tt))), ((search plain depth 20, (search plain depth 20, (search plain depth 20, tt))), ((search plain depth 20, (search plain depth 20, (search plain depth 20, tt))), ((search plain depth 20, (search plain depth 20, (search plain depth 20, tt))), ((search plain depth 20, (search plain depth 20, (search plain depth 20, tt))), ((search plain depth 20, (search plain depth 20, (way-send, (search plain depth 20, tt)))), ((search plain depth 20, (search plain depth 20, (way-send, (search plain depth 20, tt)))), ((search plain depth 20, (search plain depth 20, (way-send, (search plain depth 20, tt)))), ((search plain depth 20, (search plain depth 20, (way-send, (search plain depth 20, tt)))), ((search plain depth 20, (search plain depth 20, (way-send, (search plain depth 20, tt)))), ((search plain depth 20, (search plain depth 20, (way-send, (search plain depth 20, tt)))), ((search plain depth 20, (search plain depth 20, (way-send, (search plain depth 20, tt)))), ((search plain depth 20, (search plain depth 20, (way-send, (search plain depth 20, tt)))), ((search plain depth 20, (search plain depth 20, (way-send, (search plain depth 20, tt)))), ((search plain depth 20, (search plain depth 20, (way-send, (search plain depth 20, tt)))), ((search plain depth 20, (search plain depth 20, (search plain depth 20, (search plain depth 20, (search plain depth 20, tt))))), ((search plain depth 20, (search plain depth 20, (search plain depth 20, (search plain depth 20, (search plain depth 20, (search plain depth 20, tt)))))), ((search plain depth 20, (search plain depth 20, (search plain depth 20, (search plain depth 20, (search plain depth 20, tt))))), ((search plain depth 20, (search plain depth 20, (search plain depth 20, (search plain depth 20, (search plain depth 20, (search plain depth 20, tt)))))), ((search plain depth 20, (search plain depth 20, (search plain depth 20, (search plain depth 20, (search plain depth 20, tt))))), ((search plain depth 20, (search plain depth 20, (search plain depth 20, (search plain depth 20, (search plain depth 20, (search plain depth 20, tt)))))), ((search plain depth 20, (search plain depth 20, (search plain depth 20, (search plain depth 20, (search plain depth 20, (search plain depth 20, (search plain depth 20, tt))))))), ((search plain depth 20, (search plain depth 20, (search plain depth 20, (search plain depth 20, (search plain depth 20, (search plain depth 20, (search plain depth 20, tt))))))), ((standard_block-send, (search plain depth 20, tt)), ((search plain depth 20, (search plain depth 20, (search plain depth 20, (way-send, (search plain depth 20, tt))))), ((search plain depth 20, (search plain depth 20, (search plain depth 20, (way-send, (search plain depth 20, tt))))), ((search plain depth 20, (search plain depth 20, (search plain depth 20, (way-send, (search plain depth 20, tt))))), ((search plain depth 20, (search plain depth 20, (search plain depth 20, (way-send, (search plain depth 20, tt))))), ((search plain depth 20, tt), ((search plain depth 20, tt), tt))))))))))))))))))))))))))))))))))))))))))))))))))))))))))))))
+
+pub quick_code-send : IsSend QuickCode.the_row
+quick_code-send = declared_send QuickCode.the_type (Vec-send _ quick_instr-send, (Vec-send _ way-send, tt))
+
+pub quick_parts-send : IsSend QuickParts.the_row
+quick_parts-send = declared_send QuickParts.the_type (quick_code-send, (Vec-send _ value-send, (search plain depth 20, tt)))
+
+pub way-sync : IsSync Way.the_row
+way-sync = search plain depth 20
+
+pub standard_block-sync : IsSync StandardBlock.the_row
+standard_block-sync = variants_sync StandardBlock.enum (search plain depth 40)
+
+pub quick_instr-sync : IsSync QuickInstr.the_row
+quick_instr-sync = variants_sync QuickInstr.enum (tt, ((way-sync, tt), ((search plain depth 20, (search plain depth 20, (search plain depth 20, (search plain depth 20, tt)))), ((search plain depth 20, (search plain depth 20, tt)), ((search plain depth 20, (search plain depth 20, tt)), ((search plain depth 20, (search plain depth 20, (search plain depth 20, (search plain depth 20, tt)))), ((search plain depth 20, (search plain depth 20, (search plain depth 20, (search plain depth 20, tt)))), ((search plain depth 20, tt), ((search plain depth 20, (search plain depth 20, (search plain depth 20, tt))), ((search plain depth 20, (search plain depth 20, (search plain depth 20, tt))), ((search plain depth 20, (search plain depth 20, (search plain depth 20, tt))), ((search plain depth 20, (search plain depth 20, (search plain depth 20, tt))), ((search plain depth 20, (search plain depth 20, (search plain depth 20, tt))), ((search plain depth 20, (search plain depth 20, (search plain depth 20, tt))), ((search plain depth 20, (search plain depth 20, (search plain depth 20, tt))), ((search plain depth 20, (search plain depth 20, (search plain depth 20, tt))), ((search plain depth 20, (search plain depth 20, (search plain depth 20, tt))), ((search plain depth 20, (search plain depth 20, (search plain depth 20, tt))), ((search plain depth 20, (search plain depth 20, (search plain depth 20, tt))), ((search plain depth 20, (search plain depth 20, (search plain depth 20, tt))), ((search plain depth 20, (search plain depth 20, (search plain depth 20, tt))), ((search plain depth 20, (search plain depth 20, (search plain depth 20, tt))), ((search plain depth 20, (search plain depth 20, (search plain depth 20, tt))), ((search plain depth 20, (search plain depth 20, (search plain depth 20, tt))), ((search plain depth 20, (search plain depth 20, (search plain depth 20, tt))), ((search plain depth 20, (search plain depth 20, (search plain depth 20, tt))), ((search plain depth 20, (search plain depth 20, (search plain depth 20, tt))), ((search plain depth 20, (search plain depth 20, (search plain depth 20, tt))), ((search plain depth 20, (search plain depth 20, (search plain depth 20, tt))), ((search plain depth 20, (search plain depth 20, (search plain depth 20, tt))), ((search plain depth 20, (search plain depth 20, (search plain depth 20, tt))), ((search plain depth 20, (search plain depth 20, (search plain depth 20, tt))), ((search plain depth 20, (search plain depth 20, (search plain depth 20, tt))), ((search plain depth 20, (search plain depth 20, (search plain depth 20, tt))), ((search plain depth 20, (search plain depth 20, (search plain depth 20, tt))), ((search plain depth 20, (search plain depth 20, (search plain depth 20, tt))), ((search plain depth 20, (search plain depth 20, (search plain depth 20, tt))), ((search plain depth 20, (search plain depth 20, (way-sync, (search plain depth 20, tt)))), ((search plain depth 20, (search plain depth 20, (way-sync, (search plain depth 20, tt)))), ((search plain depth 20, (search plain depth 20, (way-sync, (search plain depth 20, tt)))), ((search plain depth 20, (search plain depth 20, (way-sync, (search plain depth 20, tt)))), ((search plain depth 20, (search plain depth 20, (way-sync, (search plain depth 20, tt)))), ((search plain depth 20, (search plain depth 20, (way-sync, (search plain depth 20, tt)))), ((search plain depth 20, (search plain depth 20, (way-sync, (search plain depth 20, tt)))), ((search plain depth 20, (search plain depth 20, (way-sync, (search plain depth 20, tt)))), ((search plain depth 20, (search plain depth 20, (way-sync, (search plain depth 20, tt)))), ((search plain depth 20, (search plain depth 20, (way-sync, (search plain depth 20, tt)))), ((search plain depth 20, (search plain depth 20, (search plain depth 20, (search plain depth 20, (search plain depth 20, tt))))), ((search plain depth 20, (search plain depth 20, (search plain depth 20, (search plain depth 20, (search plain depth 20, (search plain depth 20, tt)))))), ((search plain depth 20, (search plain depth 20, (search plain depth 20, (search plain depth 20, (search plain depth 20, tt))))), ((search plain depth 20, (search plain depth 20, (search plain depth 20, (search plain depth 20, (search plain depth 20, (search plain depth 20, tt)))))), ((search plain depth 20, (search plain depth 20, (search plain depth 20, (search plain depth 20, (search plain depth 20, tt))))), ((search plain depth 20, (search plain depth 20, (search plain depth 20, (search plain depth 20, (search plain depth 20, (search plain depth 20, tt)))))), ((search plain depth 20, (search plain depth 20, (search plain depth 20, (search plain depth 20, (search plain depth 20, (search plain depth 20, (search plain depth 20, tt))))))), ((search plain depth 20, (search plain depth 20, (search plain depth 20, (search plain depth 20, (search plain depth 20, (search plain depth 20, (search plain depth 20, tt))))))), ((standard_block-sync, (search plain depth 20, tt)), ((search plain depth 20, (search plain depth 20, (search plain depth 20, (way-sync, (search plain depth 20, tt))))), ((search plain depth 20, (search plain depth 20, (search plain depth 20, (way-sync, (search plain depth 20, tt))))), ((search plain depth 20, (search plain depth 20, (search plain depth 20, (way-sync, (search plain depth 20, tt))))), ((search plain depth 20, (search plain depth 20, (search plain depth 20, (way-sync, (search plain depth 20, tt))))), ((search plain depth 20, tt), ((search plain depth 20, tt), tt))))))))))))))))))))))))))))))))))))))))))))))))))))))))))))))
+
+pub quick_code-sync : IsSync QuickCode.the_row
+quick_code-sync = declared_sync QuickCode.the_type (Vec-sync _ quick_instr-sync, (Vec-sync _ way-sync, tt))
+
+pub quick_parts-sync : IsSync QuickParts.the_row
+quick_parts-sync = declared_sync QuickParts.the_type (quick_code-sync, (Vec-sync _ value-sync, (search plain depth 20, tt)))
+
 pub bounds-send : IsSend Bounds.the_row
 bounds-send = search plain depth 20
 
@@ -1765,12 +1802,24 @@ word_inside-send = declared_send WordInside.the_type (
 pub word_program-send : IsSend WordProgram.the_row
 word_program-send = search (plain, word_inside-send) depth 20
 
+quick_inside-send : IsSend QuickInside.the_row
+quick_inside-send = declared_send QuickInside.the_type (
+  Arc-send _ (Vec-send _ instr-send) (Vec-sync _ instr-sync),
+  (
+    Arc-send _ (Vec-send _ kind-send) (Vec-sync _ kind-sync),
+    (search plain depth 20, (quick_parts-send, tt)),
+  ),
+)
+
+pub quick_program-send : IsSend QuickProgram.the_row
+quick_program-send = search (plain, quick_inside-send) depth 20
+
 pub code-send : IsSend Code.the_row
 code-send = declared_send Code.the_type (
   Arc-send _ (Vec-send _ instr-send) (Vec-sync _ instr-sync),
   (
     Arc-send _ (Vec-send _ kind-send) (Vec-sync _ kind-sync),
-    (search plain depth 20, (option-send _ word_program-send, tt)),
+    (search plain depth 20, (option-send _ quick_program-send, (option-send _ word_program-send, tt))),
   ),
 )
 
@@ -1783,12 +1832,24 @@ word_inside-sync = declared_sync WordInside.the_type (
 pub word_program-sync : IsSync WordProgram.the_row
 word_program-sync = search (plain, word_inside-sync) depth 20
 
+quick_inside-sync : IsSync QuickInside.the_row
+quick_inside-sync = declared_sync QuickInside.the_type (
+  Arc-sync _ (Vec-send _ instr-send) (Vec-sync _ instr-sync),
+  (
+    Arc-sync _ (Vec-send _ kind-send) (Vec-sync _ kind-sync),
+    (search plain depth 20, (quick_parts-sync, tt)),
+  ),
+)
+
+pub quick_program-sync : IsSync QuickProgram.the_row
+quick_program-sync = search (plain, quick_inside-sync) depth 20
+
 pub code-sync : IsSync Code.the_row
 code-sync = declared_sync Code.the_type (
   Arc-sync _ (Vec-send _ instr-send) (Vec-sync _ instr-sync),
   (
     Arc-sync _ (Vec-send _ kind-send) (Vec-sync _ kind-sync),
-    (search plain depth 20, (option-sync _ word_program-sync, tt)),
+    (search plain depth 20, (option-sync _ quick_program-sync, (option-sync _ word_program-sync, tt))),
   ),
 )
 

@@ -1,5 +1,5 @@
 -- The code of a tree takes a slot's value nowhere as it is, where its calls of blocks and its loops stand elsewhere.
-use Rattle.std.proofs.Common.{◌≡◌, refl, ℕ, suc, ◌+◌, List, [], ◌∷◌, Option, Some, None, length}
+use Rattle.std.proofs.Common.{◌≡◌, refl, ℕ, suc, ◌+◌, List, [], ◌∷◌, Option, Some, None}
 use Rattle.std.specs.Prelude.{Result, Ok, Err, false}
 use Rattle.st_words.specs.Values.{Datum}
 use Rattle.st_trees.specs.declared.statement.Label.{Label}
@@ -21,7 +21,7 @@ use Rattle.tree_code.specs.Codes.{CodeUnits, literal_code, label_code, labels_co
 use Rattle.tree_code.specs.Codes.{place_code, led_code, subscripts_code, step_code, inputs_code, outputs_code}
 use Rattle.tree_code.specs.Codes.{invoke_code, stmt_code, stmts_code, arms_code, case_code, given_members}
 use Rattle.tree_code.specs.Calls.{resets_code}
-use Rattle.text_codes.proofs.Taking.{unequal, Clean, Keeps, same_code, keeps_on, put, put_on, close_on}
+use Rattle.text_codes.proofs.Taking.{unequal, Keeps, same_code, keeps_on, put, put_on, close_on}
 
 module _ (k : ℕ) where
   literal_keeps : (r : Result Datum Failure) (c : Code) → Keeps k c (literal_code r c)

@@ -18,3 +18,4 @@ mod ReachedCalls
 mod ProgramRoots
 mod ValueSums
 pub mod ManyValues
+mod QuickAnswers

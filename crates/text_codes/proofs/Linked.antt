@@ -1,7 +1,6 @@
 -- Linked statements keep away from a slot, where their control variables and the instances that they call do.
-use Rattle.std.proofs.Common.{◌≡◌, refl, sym, subst, ap, ◌∙◌, ℕ, ◌+◌, List, [], ◌∷◌, Option, Some, None}
+use Rattle.std.proofs.Common.{◌≡◌, subst, ap, ◌∙◌, ℕ, ◌+◌, List, [], ◌∷◌, Some}
 use Rattle.std.specs.Prelude.{option_map, option_and_then}
-use Rattle.st_trees.specs.Expressions.{Expr}
 use Rattle.st_trees.specs.Statements as text
 use Rattle.st_trees.specs.Statements.{Argument, Stmt, Stmts, Arms, CaseArms}
 use Rattle.st_types.specs.Scopes.{Name}

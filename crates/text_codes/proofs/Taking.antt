@@ -1,5 +1,5 @@
 -- Code in which no instruction takes a slot's value as it is.
-use Rattle.std.proofs.Common.{◌≡◌, refl, sym, ap, ap₂, ◌∙◌, ℕ, zero, suc, ◌==◌, ◌||◌, Bool, true, false, List, [], ◌∷◌}
+use Rattle.std.proofs.Common.{◌≡◌, refl, ap, ap₂, ℕ, zero, suc, ◌==◌, ◌||◌, Bool, true, false, [], ◌∷◌}
 use Rattle.std.proofs.Common.{◌++◌, length, arith}
 use Rattle.std.specs.Prelude.{slice_set}
 use Rattle.std.specs.List.{list_any}

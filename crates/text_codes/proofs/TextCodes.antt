@@ -1,5 +1,5 @@
 -- Code that is made of a linked body.
-use Rattle.std.proofs.Common.{◌≡◌, ℕ, ◌+◌, List, length, Some, Result, Ok, Err, ◌∙◌, ap, sym, refl, subst, arith, []}
+use Rattle.std.proofs.Common.{◌≡◌, ℕ, ◌+◌, List, length, Some, Result, Ok, Err, ◌∙◌, ap, sym, subst, arith, []}
 use Rattle.std.proofs.Common.{◌++◌}
 use Rattle.std.specs.Prelude.{slice_get}
 use Rattle.std.proofs.lemmas.List.{length-append}

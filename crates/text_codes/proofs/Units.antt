@@ -1,13 +1,12 @@
 -- The code of units and programs takes the slot of a global or an input nowhere as it is.
 use Rattle.std.proofs.Common.{◌≡◌, refl, sym, ap, subst, ◌∙◌, ℕ, zero, suc, ◌+◌, ◌-◌, ◌<◌, ◌≤◌, arith, Bool, true, false}
 use Rattle.std.proofs.Common.{◌&&◌, if◌then◌else◌, List, [], ◌∷◌, length, Option, Some, None, slice_get}
-use Rattle.std.specs.Prelude.{nat_le, nat_lt, option_map, option_and_then}
+use Rattle.std.specs.Prelude.{nat_le, nat_lt, option_and_then}
 use Rattle.std.proofs.lemmas.Bool.Decides.{nat_tests}
 use Rattle.std.proofs.lemmas.Option.{slice_get_within}
 use Rattle.st_words.specs.declared.kind.Kind.{Kind}
 use Rattle.st_words.specs.declared.path.Owner.{Owner}
 use Rattle.st_words.specs.Paths.{Path}
-use Rattle.st_trees.specs.Statements.{Stmts}
 use Rattle.st_types.specs.Runs.{Program}
 use Rattle.st_types.specs.Scopes.{Name, Body, Block, Library, block_in, block_named, contains_name, member_at, of_program}
 use Rattle.st_types.specs.Scopes.{path_in, own_path, unowned}
@@ -19,16 +18,16 @@ use Rattle.st_layouts.specs.Shapes.{of_instance, sizes}
 use Rattle.st_layouts.specs.Standing.{Stands, slot}
 use Rattle.st_layouts.specs.TextLayouts.{further}
 use Rattle.st_layouts.proofs.LeafLemmas.{of_shape, length_leaves}
-use Rattle.st_layouts.proofs.ListLemmas.{some_is, both}
+use Rattle.st_layouts.proofs.ListLemmas.{some_is}
 use Rattle.st_names.specs.Standard.{block_view}
 use Rattle.machine_code.specs.declared.instr.Instr.TheVariants.{Step}
-use Rattle.machine_code.specs.Asking.{takes_as_it_is, IsOnlyLookedUp}
+use Rattle.machine_code.specs.Asking.{IsOnlyLookedUp}
 use Rattle.slot_trees.specs.LinkedStatements.{control_of, plain_anchor, Instance, instance_at, instance_of_symbol}
 use Rattle.slot_trees.specs.LinkedStatements.{plain_offset, offset_of, code_of, linked_stmts}
 use Rattle.slot_trees.specs.LinkedTexts.{Numbers, table_of, parts_of_members, IsLibraryLink, IsProgramLink, EachInstance}
-use Rattle.slot_trees.specs.LinkedTexts.{IsBlockLink, IsStandard, HasBlock}
+use Rattle.slot_trees.specs.LinkedTexts.{IsBlockLink, HasBlock}
 use Rattle.slot_trees.specs.SlotEvaluation.{slot_at}
-use Rattle.slot_trees.specs.SlotTrees.{Anchor, own, BlockCode, own_block, standard_block, SlotArgument, given, copied}
+use Rattle.slot_trees.specs.SlotTrees.{Anchor, BlockCode, own_block, standard_block, SlotArgument, given, copied}
 use Rattle.slot_trees.specs.SlotTrees.{SlotStmt, empty, assign, invoke, IF, CASE, FOR, WHILE, REPEAT, EXIT, RETURN}
 use Rattle.slot_trees.specs.SlotTrees.{SlotStmts, no_stmts, stmt_then, SlotArms, no_arms, arm_then, SlotCaseArms}
 use Rattle.slot_trees.specs.SlotTrees.{no_case_arms, case_arm_then, SlotFunction, SlotLibrary}

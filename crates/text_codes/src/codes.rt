@@ -1,6 +1,6 @@
 //! The codes of a text's programs.
 
-ghost use Rattle.std.specs.Prelude.{◌≡◌, ◌≢◌, ◌≤◌, ◌<◌, ◌+◌, ◌*◌, ◌/◌, IfErr, IfOk, false, length, map};
+ghost use Rattle.std.specs.Prelude.{◌≡◌, ◌≢◌, ◌≤◌, ◌<◌, ◌+◌, ◌-◌, ◌*◌, ◌/◌, IfErr, IfOk, IfSome, false, length, map};
 ghost use Rattle.machine_code.specs.declared.limits.TheConstants.{MAX_INSTRUCTIONS};
 ghost use Rattle.st_words.specs.declared.limits.TheConstants.{MAX_PATHS};
 ghost use Rattle.st_trees.specs.SourceViews.{source_view};
@@ -15,6 +15,8 @@ ghost use Rattle.slot_bodies.specs.StatementViews.{slot_stmts_view};
 ghost use Rattle.text_links.specs.Accepted.{IsAccepted, IsLinked};
 ghost use Rattle.text_links.specs.CalledFunctions.{is_called, program_count, value_count};
 ghost use Rattle.text_links.specs.Linked.{linked_text_view};
+ghost use Rattle.tree_code.specs.Programs.{program_code, ProgramFits};
+ghost use Rattle.quick_programs.specs.Quick.{IsAnswering};
 ghost use Rattle.coded_programs.specs.Codes.{code_view};
 ghost use Rattle.code_drafts.specs.Linked.{ProgramLinked};
 ghost use Rattle.text_fitting.specs.Compiled.{AreCompiled};
@@ -29,13 +31,14 @@ use crate::slot_kinds::kinds_of;
 use coded_programs::Code;
 use layout::Layout;
 use machine_code::MAX_INSTRUCTIONS;
+use quick_programs::{QuickParts, quick_code_answers_as_its_instructions};
 use slot_bodies::{SlotLibrary, SlotStmt};
-use st_compile::{CompileError, compile};
+use st_compile::{CALL_DEPTH, CompileError, Compiled, compile};
 use st_link::LinkError;
 use st_sound::programs_of_accepted_texts_run_by_slots;
 use st_trees::Source;
 use st_words::Kind;
-use std::alloc::Global;
+use std::alloc::{AllocError, Global};
 use std::sync::Arc;
 use text_fitting::accepted_texts_are_compiled;
 use text_links::{CalledFunctions, LinkedText, accepted_texts_are_orderly, link};
@@ -69,6 +72,26 @@ fn linked_text(
     }
 }
 
+/// Quick code of a linked body over slots of these types, if it has some: it answers as the instructions.
+fn quick_of(
+    alloc: Global,
+    library: &SlotLibrary,
+    kinds: &[Kind],
+    body: &[SlotStmt],
+    compiled: &Compiled,
+) -> Result<Option<QuickParts>, AllocError>
+    requires code { (whole : tree.SlotLibrary) → IsKeptOf (slot_library_view library.now) whole
+        → compiled.now.code.items ≡ program_code whole 0 (length kinds.now) (slot_stmts_view body.now) 64 }
+    requires fits { (whole : tree.SlotLibrary) → IsKeptOf (slot_library_view library.now) whole
+        → ProgramFits compiled.now.memory whole 0 (length kinds.now) (slot_stmts_view body.now) 64 }
+    requires room { length kinds.now ≤ compiled.now.memory }
+    ensures { IfOk result (λ o. IfSome o (IsAnswering compiled.now.code.items kinds.now
+        (compiled.now.memory - length kinds.now))) }
+{
+    quick_code_answers_as_its_instructions();
+    quick_compiler::compile(alloc, library, kinds, 0, CALL_DEPTH, body)
+}
+
 /// The code of a linked body over slots of these types.
 fn code_of(
     alloc: Global,
@@ -90,7 +113,8 @@ fn code_of(
     let size = kinds.len();
     let compiled = compile(alloc, library, 0, size, body)?;
     let extra = compiled.memory - size;
-    Ok(Code::new(alloc, compiled.code, Arc::clone(kinds)?, extra)?)
+    let quick = quick_of(alloc, library, kinds, body, &compiled)?;
+    Ok(Code::new(alloc, compiled.code, Arc::clone(kinds)?, extra, quick)?)
 }
 
 /// The codes of linked bodies, in order.

@@ -21,3 +21,9 @@ returns-clause-code c =
           (subst (λ n. ProgramFits n whole 0 (length kinds) body 64) whole_memory
           (subst (λ n. ProgramFits memory whole 0 n body 64) size (c.in_ok-compiled.ensures.fits whole kept)));
     }
+
+pub quick_of-requires-clause-fits : goal.quick_of-requires-clause-fits
+quick_of-requires-clause-fits c =
+    let size : c.len-size.result ≡ length c.deref-3.result.now = search rules in
+    λ whole kept. subst (λ n. ProgramFits c.in_ok-compiled.compiled.memory whole 0 n (slot_stmts_view c.args.body.now)
+    64) size (c.in_ok-compiled.ensures.fits whole kept)

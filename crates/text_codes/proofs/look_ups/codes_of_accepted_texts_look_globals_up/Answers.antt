@@ -1,6 +1,6 @@
-use Rattle.std.proofs.Common.{◌≡◌, ap, subst, sym, ◌∙◌, length, Option, Some, slice_get}
+use Rattle.std.proofs.Common.{◌≡◌, subst, sym, Option, Some, slice_get}
 use Rattle.st_layouts.specs.TextLayouts.{slots_of_text}
-use Rattle.slot_trees.specs.LinkedPrograms.{HasProgram, IsLinkOf}
+use Rattle.slot_trees.specs.LinkedPrograms.{IsLinkOf}
 use Rattle.slot_trees.specs.LinkedTexts.{IsProgramLink}
 use Rattle.slot_trees.specs.SlotTrees.{SlotStmts}
 use Rattle.slot_trees.specs.TextLinks.{LinkedText, linked_source}

@@ -1,7 +1,6 @@
 use Rattle.std.proofs.Common.{◌≡◌, ℕ, ◌+◌, List, length, ◌∙◌, refl, subst, arith, Result, Ok, Err}
 use Rattle.st_words.specs.Values.{Datum}
 use Rattle.st_words.specs.declared.fault.Fault.{Fault}
-use Rattle.st_types.specs.declared.outcome.Outcome.TheVariants.{Faulted}
 use Rattle.st_types.specs.Failures.{in_runs}
 use Rattle.st_types.specs.Runs.{store_after}
 use Rattle.st_layouts.specs.TextLayouts.{slots_of_text}

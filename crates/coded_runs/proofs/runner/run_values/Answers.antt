@@ -6,7 +6,7 @@ use Rattle.coded_runs.specs.Runs.{memory_over}
 use Rattle.coded_runs.proofs.KindLemmas.{typed_over}
 use Rattle.run_cells.proofs.PickedLemmas.{take_front}
 use Rattle.coded_runs.proofs.TrueLemmas.{begins, begins_long, is_long, outcome_is, reads_is, writes_is}
-use Rattle.coded_runs.proofs.runner.run_code.Goals as goal
+use Rattle.coded_runs.proofs.runner.run_values.Goals as goal
 
 pub end_of-requires : goal.end_of-requires
 end_of-requires c =

@@ -1,0 +1,60 @@
+-- Quick code of a linked body answers as the instructions.
+use Rattle.std.proofs.Common.{◌≡◌, ◌≤◌, ◌+◌, ◌-◌, ℕ, List, Option, Some, None, IfOk, IfSome, Result, Ok, Err, length, sym}
+use Rattle.std.proofs.Common.{subst, arith}
+use Rattle.st_words.specs.declared.kind.Kind.{Kind}
+use Rattle.slot_trees.specs.SlotTrees.{SlotLibrary, SlotStmts}
+use Rattle.slot_bodies.specs.LibraryViews.{IsKeptOf, KeptLibrary}
+use Rattle.machine_code.specs.declared.instr.Instr.{Instr}
+use Rattle.tree_code.specs.Programs.{program_code, ProgramFits}
+use Rattle.code_drafts.specs.Emitting.{filled}
+use Rattle.code_drafts.proofs.Filled.{filled_body, filled_function}
+use Rattle.quick_code.specs.Soundness.{IsSound}
+use Rattle.quick_trees.specs.Programs.{IsProgram}
+use Rattle.quick_trees.specs.QuickMemory.{first_temporary}
+use Rattle.quick_programs.specs.declared.parts.QuickParts.{QuickParts}
+use Rattle.quick_programs.specs.Quick.{AnswersFor, IsAnswering, frame_of}
+
+-- the law of quick code beside instructions
+abbrev pub AnswersLaw : Type 0
+AnswersLaw =
+    (library : SlotLibrary) (base calls depth extra : ℕ) (body : SlotStmts) (kinds : List Kind) (p : QuickParts)
+    → ((now : ℕ) → IsProgram (frame_of p kinds now) library base calls body)
+    → first_temporary (frame_of p kinds 0) ≤ p.words
+    → ProgramFits (length kinds + extra) library base (length kinds) body depth
+    → AnswersFor (program_code library base (length kinds) body depth) kinds extra p
+
+module _ (law : AnswersLaw) (kept : KeptLibrary) (kinds : List Kind) (body : SlotStmts) (code : List Instr)
+    (memory : ℕ)
+    (code_is : (whole : SlotLibrary) → IsKeptOf kept whole → code ≡ program_code whole 0 (length kinds) body 64)
+    (fits : (whole : SlotLibrary) → IsKeptOf kept whole → ProgramFits memory whole 0 (length kinds) body 64)
+    (le : length kinds ≤ memory) where
+  kept_of : IsKeptOf kept (filled kept)
+  kept_of = record { functions = filled_function kept; blocks = filled_body kept }
+
+  abbrev Stands : QuickParts → Type 0
+  Stands p = (whole : SlotLibrary) → IsKeptOf kept whole → (now : ℕ) → IsProgram (frame_of p kinds now) whole 0 64 body
+
+  answers : (p : QuickParts) → Stands p → IsSound p.code p.words p.words
+      → length kinds + length p.constants.items ≤ p.words → IsAnswering code kinds (memory - length kinds) p
+  answers p stands sound room =
+      let whole = filled kept in
+      let all : memory ≡ length kinds + (memory - length kinds) = omega (arith, le) in
+      let fits_so = subst (λ n. ProgramFits n whole 0 (length kinds) body 64) all (fits whole kept_of) in
+      let answering = law whole 0 64 64 (memory - length kinds) body kinds p (stands whole kept_of) room fits_so in
+      record {
+        sound = sound;
+        answers = subst (λ is. AnswersFor is kinds (memory - length kinds) p) (sym (code_is whole kept_of)) answering;
+      }
+
+  if_answers : (o : Option QuickParts) → IfSome o Stands → IfSome o (λ p. IsSound p.code p.words p.words)
+      → IfSome o (λ p. length kinds + length p.constants.items ≤ p.words)
+      → IfSome o (IsAnswering code kinds (memory - length kinds))
+  if_answers (Some p) stands sound room = answers p stands sound room
+  if_answers None stands sound room = stands
+
+  pub all_answer : {E : Type 0} (r : Result (Option QuickParts) E) → IfOk r (λ o. IfSome o Stands)
+      → IfOk r (λ o. IfSome o (λ p. IsSound p.code p.words p.words))
+      → IfOk r (λ o. IfSome o (λ p. length kinds + length p.constants.items ≤ p.words))
+      → IfOk r (λ o. IfSome o (IsAnswering code kinds (memory - length kinds)))
+  all_answer (Ok o) stands sound room = if_answers o stands sound room
+  all_answer (Err e) stands sound room = stands
