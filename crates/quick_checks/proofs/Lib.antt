@@ -7,3 +7,5 @@ pub mod Chains
 pub mod Standings
 pub mod Arguments
 pub mod Inputs
+pub mod Tables
+pub mod ChosenArms

@@ -243,6 +243,20 @@ pub fn mark_along(at: &Cursor, way: Way) -> Result<Landing, Refusal>
     })
 }
 
+/// The point to which a way leads from a landing.
+pub fn way_from(from: &Landing, way: Way) -> Result<Landing, Refusal>
+    ensures { IfOk result (λ l. landing_of l ≡ along (landing_of from.now) way) }
+{
+    let Some(ahead) = from.ahead.checked_add(usize::from(way.ticks)) else {
+        return Err(Refusal::Other);
+    };
+    Ok(Landing {
+        place: usize::from(way.place),
+        ahead,
+        noted: from.noted.clone()?,
+    })
+}
+
 /// Goes on at a landing.
 pub fn go(at: &mut Cursor, to: Landing)
     ensures { point_of at.new ≡ landing_of to }

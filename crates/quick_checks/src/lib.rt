@@ -5,6 +5,8 @@
 #![tactic(auto)]
 
 mod calls;
+mod cases;
+mod choices;
 mod conditions;
 mod constants;
 mod counting;

@@ -10,6 +10,7 @@ ghost use Rattle.quick_trees.specs.Standing.{ArmsStand, IsAssignment, IsStored, 
 ghost use Rattle.quick_checks.specs.Checking.{Always, exits_of, frame_of, point_of};
 ghost use Rattle.quick_trees.specs.Points.{AreNoted};
 
+use crate::cases::check_case;
 use crate::conditions::check_test;
 use crate::counting::check_for;
 use crate::cursor::{
@@ -126,7 +127,12 @@ fn check_stmt(
             let behind = landing(at)?;
             go(at, behind);
         }
-        SlotStmt::Case(_, _, _) | SlotStmt::Invoke(_, _, _) => return Err(Refusal::Other),
+        SlotStmt::Case(selector, arms, otherwise) => {
+            check_case(
+                draft, library, scope, selector, arms, otherwise, depth, exits, at,
+            )?;
+        }
+        SlotStmt::Invoke(_, _, _) => return Err(Refusal::Other),
     }
     Ok(())
 }

@@ -31,6 +31,8 @@ pub struct Draft {
     /// The ways out of each loop around.
     pub outs: Vec<Ways<Noting>>,
     pub promises: Vec<Promise>,
+    /// No run comes here, so all is known.
+    pub is_lost: bool,
     /// How many notings the promises have.
     notings: usize,
     pub survey: Survey,
@@ -45,6 +47,7 @@ impl Drop for Draft {
             known: _,
             outs: _,
             promises: _,
+            is_lost: _,
             notings: _,
             survey: _,
         } = self;
@@ -68,6 +71,7 @@ impl Draft {
             known: _,
             outs: _,
             promises,
+            is_lost: _,
             notings: _,
             survey: _,
         } = self;
@@ -90,6 +94,7 @@ impl Draft {
             known: Known::new(alloc, slots, Noting::Exact)?,
             outs: Vec::new(alloc),
             promises: Vec::new(alloc),
+            is_lost: false,
             notings: 0,
             survey: Survey::new(alloc, slots)?,
         })
@@ -144,12 +149,12 @@ impl Draft {
         self.keep(place, noted)
     }
 
-    /// A way leads out of the loop around.
-    pub fn add_out(&mut self) -> Result<(), Stop> {
+    /// A way leads out of the loop around, or elsewhere.
+    pub fn add_out(&mut self, comes: bool) -> Result<(), Stop> {
         let Some(mut ways) = self.outs.pop() else {
             return Err(Stop::NotCovered);
         };
-        self.known.add(&mut ways)?;
+        self.known.add(&mut ways, comes)?;
         self.outs.push(ways)?;
         Ok(())
     }
@@ -178,7 +183,7 @@ impl Draft {
 
     /// The program looks a value up here.
     pub fn look(&mut self, unit: Unit, slot: usize) -> Result<(), Stop> {
-        if !unit.is_noted() {
+        if self.is_lost || !unit.is_noted() {
             return Ok(());
         }
         let noting = self.known.at(slot)?;
@@ -191,7 +196,7 @@ impl Draft {
 
     /// The program assigns a value here.
     pub fn assign(&mut self, unit: Unit, anchor: Anchor) -> Result<(), Stop> {
-        if !unit.is_noted() {
+        if self.is_lost || !unit.is_noted() {
             return Ok(());
         }
         let slot = unit.slot_of(anchor)?;

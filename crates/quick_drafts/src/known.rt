@@ -3,6 +3,9 @@
 use crate::stop::Stop;
 use std::alloc::{AllocError, Global};
 
+/// How many changes are looked at in all, where ways part and come together. More are in hostile texts alone.
+const MAX_LOOKED_AT: usize = 3_000_000;
+
 /// What is known of a slot.
 pub trait State: Copy {
     /// The most that is known where either is; none where there is no such thing.
@@ -21,6 +24,8 @@ pub struct Known<S: Copy> {
     alloc: Global,
     states: Vec<S>,
     trail: Vec<Entry<S>>,
+    /// How many changes may still be looked at.
+    left: usize,
 }
 
 impl<S: Copy> Drop for Known<S> {
@@ -29,6 +34,7 @@ impl<S: Copy> Drop for Known<S> {
             alloc: _,
             states: _,
             trail: _,
+            left: _,
         } = self;
     }
 }
@@ -36,17 +42,49 @@ impl<S: Copy> Drop for Known<S> {
 /// Ways that come together: what each changed since they parted.
 pub struct Ways<S: Copy> {
     /// How many changes there were where they parted.
-    pub since: usize,
-    pub count: usize,
+    since: usize,
+    coming: Changes<S>,
+    /// Those that lead elsewhere. What they know counts only where none comes.
+    leaving: Changes<S>,
+}
+
+/// What some ways changed.
+struct Changes<S: Copy> {
+    ways: usize,
     entries: Vec<Entry<S>>,
+}
+
+impl<S: Copy> Drop for Changes<S> {
+    fn drop(self) {
+        let Self {
+            ways: _,
+            entries: _,
+        } = self;
+    }
+}
+
+impl<S: Copy> Changes<S> {
+    fn new(alloc: Global) -> Changes<S> {
+        Changes {
+            ways: 0,
+            entries: Vec::new(alloc),
+        }
+    }
+
+    /// With those of a further way.
+    fn add(&mut self, entries: &[Entry<S>]) -> Result<(), AllocError> {
+        self.entries.extend_from_slice(entries)?;
+        self.ways = self.ways.saturating_add(1);
+        Ok(())
+    }
 }
 
 impl<S: Copy> Drop for Ways<S> {
     fn drop(self) {
         let Self {
             since: _,
-            count: _,
-            entries: _,
+            coming: _,
+            leaving: _,
         } = self;
     }
 }
@@ -56,8 +94,8 @@ impl<S: Copy> Ways<S> {
     pub fn new(alloc: Global, since: usize) -> Ways<S> {
         Ways {
             since,
-            count: 0,
-            entries: Vec::new(alloc),
+            coming: Changes::new(alloc),
+            leaving: Changes::new(alloc),
         }
     }
 }
@@ -73,6 +111,7 @@ impl<S: State> Known<S> {
             alloc,
             states,
             trail: Vec::new(alloc),
+            left: MAX_LOOKED_AT,
         })
     }
 
@@ -126,7 +165,12 @@ impl<S: State> Known<S> {
     }
 
     /// What is known of the slots that changed, each once and in order.
-    pub fn changed(&self, since: usize) -> Result<Vec<Entry<S>>, Stop> {
+    pub fn changed(&mut self, since: usize) -> Result<Vec<Entry<S>>, Stop> {
+        let changes = self.trail.len().saturating_sub(since);
+        let Some(left) = self.left.checked_sub(changes) else {
+            return Err(Stop::NotCovered);
+        };
+        self.left = left;
         let alloc = self.alloc;
         let mut changed = Vec::new(alloc);
         let Some(entries) = self.trail.as_slice().get(since..) else {
@@ -150,20 +194,30 @@ impl<S: State> Known<S> {
         Ok(once)
     }
 
-    /// The way that a run came is one of several.
-    pub fn add(&self, ways: &mut Ways<S>) -> Result<(), Stop> {
-        for entry in &self.changed(ways.since)? {
-            ways.entries.push(*entry)?;
+    /// The way that a run came is one of several; it may lead elsewhere.
+    pub fn add(&mut self, ways: &mut Ways<S>, comes: bool) -> Result<(), Stop> {
+        let changed = self.changed(ways.since)?;
+        if comes {
+            ways.coming.add(&changed)?;
+        } else {
+            ways.leaving.add(&changed)?;
         }
-        ways.count = ways.count.saturating_add(1);
         Ok(())
     }
 
     /// Goes on where ways come together.
     pub fn meet(&mut self, ways: Ways<S>) -> Result<(), Stop> {
         self.undo(ways.since);
-        let count = ways.count;
-        let mut entries = Vec::from_slice(self.alloc, &ways.entries)?;
+        if ways.coming.ways > 0 {
+            self.meet_all(&ways.coming)
+        } else {
+            self.meet_all(&ways.leaving)
+        }
+    }
+
+    fn meet_all(&mut self, changes: &Changes<S>) -> Result<(), Stop> {
+        let count = changes.ways;
+        let mut entries = Vec::from_slice(self.alloc, &changes.entries)?;
         entries.sort_by_key(|entry| entry.slot)?;
         let mut group: Option<Group<S>> = None;
         for entry in &entries {

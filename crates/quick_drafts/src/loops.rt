@@ -51,16 +51,21 @@ impl Loop {
         let ways = Ways::new(draft.alloc, draft.known.changes());
         draft.outs.push(ways)?;
         if may_have_none {
-            draft.add_out()?;
+            draft.add_out(true)?;
         }
         Ok(())
     }
 
+    /// Ends the body, to which no run may come.
+    fn end_body(self, draft: &mut Draft, goes_on: bool) -> Result<(), Stop> {
+        draft.is_lost = !goes_on;
+        draft.sheet.bind(self.foot)
+    }
+
     /// Ends the loop.
     fn end(self, draft: &mut Draft, goes_on: bool) -> Result<(), Stop> {
-        if goes_on {
-            draft.add_out()?;
-        }
+        draft.add_out(goes_on)?;
+        draft.is_lost = false;
         let Some(ways) = draft.outs.pop() else {
             return Err(Stop::NotCovered);
         };
@@ -114,7 +119,7 @@ pub fn put_while(
     note_turns(unit, draft, turns, spot.levels)?;
     draft.sheet.bind(turned.head)?;
     let goes_on = put_stmts(unit, draft, body, spot.inside()?, turned.exits(exits))?;
-    draft.sheet.bind(turned.foot)?;
+    turned.end_body(draft, goes_on)?;
     draft.sheet.tick()?;
     put_test(unit, draft, condition, turned.back(true), spot.inside()?)?;
     turned.end(draft, goes_on)
@@ -138,7 +143,7 @@ pub fn put_repeat(
     note_turns(unit, draft, turns, spot.levels)?;
     draft.sheet.bind(turned.head)?;
     let goes_on = put_stmts(unit, draft, body, spot.inside()?, turned.exits(exits))?;
-    draft.sheet.bind(turned.foot)?;
+    turned.end_body(draft, goes_on)?;
     put_test(unit, draft, condition, turned.back(false), spot.inside()?)?;
     turned.end(draft, goes_on)
 }
@@ -185,7 +190,7 @@ pub fn put_for(
     note_turns(unit, draft, turns, spot.levels)?;
     draft.sheet.bind(turned.head)?;
     let goes_on = put_stmts(unit, draft, body, spot.behind(2)?, turned.exits(exits))?;
-    draft.sheet.bind(turned.foot)?;
+    turned.end_body(draft, goes_on)?;
     let back = Lead {
         mark: turned.head,
         is_turn: true,

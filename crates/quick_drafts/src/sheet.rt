@@ -145,13 +145,6 @@ impl Sheet {
         Ok(())
     }
 
-    /// A new mark, whose point is here.
-    pub fn mark_here(&mut self) -> Result<usize, Stop> {
-        let mark = self.mark()?;
-        self.bind(mark)?;
-        Ok(mark)
-    }
-
     /// A way of the table leads to a mark.
     pub fn put_way(&mut self, mark: usize) -> Result<(), Stop> {
         self.table.push(mark)?;

@@ -95,7 +95,7 @@ fn put_stmt(
         }
         SlotStmt::Exit => {
             draft.leave(exits.out, exits.end)?;
-            draft.add_out()?;
+            draft.add_out(true)?;
             return Ok(false);
         }
         SlotStmt::Return => {
@@ -200,11 +200,10 @@ fn put_arm(
     exits: Exits,
 ) -> Result<(), Stop> {
     let changes = draft.known.changes();
-    if put_stmts(unit, draft, body, spot.inside()?, exits)? {
-        draft.known.add(ways)?;
-        if !is_last {
-            draft.sheet.jump(exits.end)?;
-        }
+    let goes_on = put_stmts(unit, draft, body, spot.inside()?, exits)?;
+    draft.known.add(ways, goes_on)?;
+    if goes_on && !is_last {
+        draft.sheet.jump(exits.end)?;
     }
     draft.known.undo(changes);
     Ok(())

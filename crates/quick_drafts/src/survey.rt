@@ -71,11 +71,11 @@ impl Survey {
         self.known.set(slot, after)
     }
 
-    fn leave_loop(&mut self) -> Result<(), Stop> {
+    fn leave_loop(&mut self, comes: bool) -> Result<(), Stop> {
         let Some(mut ways) = self.outs.pop() else {
             return Err(Stop::NotCovered);
         };
-        self.known.add(&mut ways)?;
+        self.known.add(&mut ways, comes)?;
         self.outs.push(ways)?;
         Ok(())
     }
@@ -84,7 +84,7 @@ impl Survey {
         if self.outs.is_empty() {
             return Err(Stop::NotCovered);
         }
-        self.known.add(&mut self.outs[0])
+        self.known.add(&mut self.outs[0], true)
     }
 
     fn forget(&mut self) {
@@ -126,16 +126,14 @@ fn survey_loop(
     let inner = below(levels)?;
     let mut ways = Ways::new(survey.alloc, survey.known.changes());
     if may_have_none {
-        survey.known.add(&mut ways)?;
+        survey.known.add(&mut ways, true)?;
     }
     survey.outs.push(ways)?;
     let goes_on = survey_stmts(unit, survey, turns.body, inner)?;
     if let Some(condition) = turns.condition {
         survey_expr(unit, survey, condition, inner)?;
     }
-    if goes_on {
-        survey.leave_loop()?;
-    }
+    survey.leave_loop(goes_on)?;
     match survey.outs.pop() {
         Some(ways) => survey.known.meet(ways),
         None => Err(Stop::NotCovered),
@@ -214,7 +212,7 @@ fn survey_stmt(
             survey_loop(unit, survey, turns, false, inner)?;
         }
         SlotStmt::Exit => {
-            survey.leave_loop()?;
+            survey.leave_loop(true)?;
             return Ok(false);
         }
         SlotStmt::Return => {
@@ -272,9 +270,8 @@ fn survey_arm(
 ) -> Result<(), Stop> {
     let inner = below(levels)?;
     let changes = survey.known.changes();
-    if survey_stmts(unit, survey, body, inner)? {
-        survey.known.add(ways)?;
-    }
+    let goes_on = survey_stmts(unit, survey, body, inner)?;
+    survey.known.add(ways, goes_on)?;
     survey.known.undo(changes);
     Ok(())
 }

@@ -33,6 +33,21 @@ use Rattle.code_drafts.specs.Emitting.{filled}
 use Rattle.code_drafts.proofs.Depths.{function_lighter}
 use Rattle.code_drafts.proofs.Filled.{filled_function}
 use Rattle.quick_checks.proofs.Standings.{arms_next, arms_over, meets_same, stmts_next, stmts_on, stmts_over, ticked}
+use Rattle.std.specs.Prelude.{Some, slice_get}
+use Rattle.std.proofs.Common.{ℕ}
+use Rattle.quick_trees.specs.Points.{Joins, along}
+use Rattle.quick_trees.specs.Standing.{StmtsStand}
+use Rattle.slot_bodies.specs.declared.statement.SlotCaseArm as code_case_arm
+use Rattle.slot_bodies.specs.Chains.{case_arms_of}
+use Rattle.slot_bodies.specs.StatementViews.{slot_case_arm_view}
+use Rattle.slot_bodies.proofs.Bridge.{select_view}
+use Rattle.slot_trees.specs.SlotTrees.{CASE}
+use Rattle.code_drafts.proofs.Elements.{case_smaller}
+use Rattle.quick_code.specs.declared.quick_code.Way.{Way}
+use Rattle.quick_trees.specs.Pieces.{AreBoth}
+use Rattle.quick_checks.specs.Choices.{body_at}
+use Rattle.quick_checks.proofs.Below.{one_more}
+use Rattle.quick_checks.proofs.ChosenArms.{body_is, case_stands}
 use Rattle.quick_checks.proofs.+check.Goals as goal
 
 pub reading::check_binary-returns-in-Some : goal.reading::check_binary-returns-in-Some
@@ -615,3 +630,88 @@ conditions::check_test-returns-in_ok-leg-in-Constant t c =
     let seen : slot_expr_view c.args.condition.now ≡ constant c.in-Constant.field-0.value =
     rw c.in-Constant.is (search (rules, code_expr.the_lemmas)) in
     λ now whole kept. rw seen (rw seen at (c.in_ok-leg-in-Constant.ensures now whole kept))
+
+pub cases::check_case_arms-check_arm-requires : goal.cases::check_case_arms-check_arm-requires
+cases::check_case_arms-check_arm-requires t c =
+    let d = ap (λ xs. stmts_size (slot_stmts_view xs)) c.deref.ensures.value in
+    let e = ap (λ (y : code_case_arm.SlotCaseArm). stmts_size (slot_stmts_view y.body.items)) c.index-arms-index.is in (
+      omega (
+        arith,
+        d,
+        e,
+        case_smaller c.args.arms.now c.loop-index.index c.index-arms-index.result
+            c.loop-index-test.true c.index-arms-index.is,
+      ),
+      tt,
+    )
+
+pub cases::check_case_arms-loop-index-preserved : goal.cases::check_case_arms-loop-index-preserved
+cases::check_case_arms-loop-index-preserved t c =
+    let body = ap slot_stmts_view c.deref.ensures.value ∙ body_is c.args.arms.now c.loop-index.index
+    c.index-arms-index.result c.loop-index-test.true c.index-arms-index.is in
+    λ now whole kept. one_more (λ k. (j : ℕ) (w : Way) → slice_get c.args.choices.now j ≡ Some k
+    → slice_get c.args.draft.now.code.ways.items (c.args.table.now.first + j) ≡ Some w
+    → AreBoth (StmtsStand (frame_of c.args.draft.now now) (site_of c.args.scope.now.values)
+    (quick_units (frame_of c.args.draft.now now) whole c.args.scope.now.calls)
+    (body_at k (map slot_case_arm_view c.args.arms.now)) c.args.depth (exits_of c.args.exits.now))
+    (Joins (frame_of c.args.draft.now now)) (along (landing_of c.args.start.now) w) (landing_of c.args.behind.now))
+    c.loop-index.index (c.loop-index.invariant now whole kept)
+    (rw body at (c.in_ok-check_arm.ensures now whole kept))
+
+pub cases::check_arm-returns : goal.cases::check_arm-returns
+cases::check_arm-returns t c =
+    let all = rw c.in-Some.is at c.in_ok-way.ensures.all in
+    let entry = c.go.ensures ∙ c.in_ok-entry.ensures in
+    λ now whole kept j w choice there. subst (λ v. AreBoth (StmtsStand (frame_of c.args.draft.now now)
+    (site_of c.args.scope.now.values) (quick_units (frame_of c.args.draft.now now) whole c.args.scope.now.calls)
+    (slot_stmts_view c.args.body.now) c.args.depth (exits_of c.args.exits.now)) (Joins (frame_of c.args.draft.now now))
+    (along (landing_of c.args.start.now) v) (landing_of c.args.behind.now)) (sym (all j w choice there)) (record {
+      middle = point_of c.check_stmts.new.at;
+      first = rw entry at (c.in_ok-check_stmts.ensures now whole kept);
+      second = c.if-not-joins.ensures (search rules) now;
+    })
+
+pub cases::check_case-returns : goal.cases::check_case-returns
+cases::check_case-returns t c =
+    let last : c.in-Some.last ≡ c.in_ok-table.table.first + c.in_ok-table.table.count =
+    omega (arith, c.in-Some.ensures) in
+    let entry = c.go.ensures ∙ c.in_ok-entry.ensures in
+    λ now whole kept. record {
+      kind = c.in_ok-read.read.kind;
+      narrow = sym c.is_wide.ensures ∙ c.if-is_wide.false;
+      selector = c.in_ok-read.read.word;
+      last = landing_of c.in_ok-start.start;
+      reads = rw c.in_ok-start.ensures (rw c.landing.ensures at (c.in_ok-read.ensures now whole kept));
+      shift = c.in_ok-table.table.shift;
+      first = c.in_ok-table.table.first;
+      count = c.in_ok-table.table.count;
+      stands = rw (ap (λ (x : Point). x.place) c.in_ok-start.ensures) c.in_ok-table.ensures;
+      chosen = λ n w look. rw c.go-2.ensures (case_stands (frame_of c.args.draft.now now)
+          (site_of c.args.scope.now.values) (quick_units (frame_of c.args.draft.now now) whole c.args.scope.now.calls) n
+          c.args.arms.now _ c.args.depth (exits_of c.args.exits.now) (landing_of c.in_ok-start.start)
+          (landing_of c.in_ok-behind.behind) c.in_ok-table.table.shift c.in_ok-table.table.first
+          c.in_ok-table.table.count c.in_ok-choices.choices.items c.in_ok-way.way
+          (c.if-not-arms_inside.ensures (search rules)) c.in_ok-choices.ensures.chosen
+          (rw c.deref.ensures.value at (c.in_ok-check_case_arms.ensures now whole kept))
+          (rw last at c.in_ok-way.ensures)
+          (rw c.deref-2.ensures.value at (c.if-not-all_lead.ensures (search rules))) (record {
+            middle = point_of c.check_stmts.new.at;
+            first = rw entry at (c.in_ok-check_stmts.ensures now whole kept);
+            second = c.if-not-joins.ensures (search rules) now;
+          }) w look);
+    }
+
+pub statements::check_stmt-returns-in_ok-check_case-in-Case :
+    goal.statements::check_stmt-returns-in_ok-check_case-in-Case
+statements::check_stmt-returns-in_ok-check_case-in-Case t c =
+    let seen : slot_stmt_view c.args.statement.now
+    ≡ CASE (slot_expr_view c.in-Case.selector) (case_arms_of (map slot_case_arm_view c.in-Case.arms.items))
+    (slot_stmts_view c.in-Case.otherwise.items) =
+    rw c.in-Case.is (select_view c.in-Case.selector c.in-Case.arms c.in-Case.otherwise) in
+    let is = seen ∙ ap (λ xs. CASE (slot_expr_view c.in-Case.selector) (case_arms_of (map slot_case_arm_view xs))
+    (slot_stmts_view c.in-Case.otherwise.items)) (sym c.deref-in-Case.ensures.value)
+    ∙ ap (λ xs. CASE (slot_expr_view c.in-Case.selector)
+    (case_arms_of (map slot_case_arm_view c.deref-in-Case.result.now)) (slot_stmts_view xs))
+    (sym c.deref-in-Case-2.ensures.value) in
+    λ now whole kept. rw is (ticked _ (point_of c.args.at.now) (point_of c.tick.new.at) (point_of c.check_case.new.at)
+    c.in_ok-tick.ensures.ticks c.in_ok-tick.ensures.rest (c.in_ok-check_case-in-Case.ensures now whole kept))

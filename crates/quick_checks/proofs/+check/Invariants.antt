@@ -1,4 +1,4 @@
-use Rattle.std.proofs.Common.{ℕ, List, ◌++◌, map, drop, length, ◌+◌, ◌-◌, ◌*◌}
+use Rattle.std.proofs.Common.{◌≡◌, ℕ, List, ◌++◌, map, drop, length, ◌+◌, ◌-◌, ◌*◌}
 use Rattle.slot_bodies.specs.Chains.{arms_of, exprs_of, stmts_of}
 use Rattle.slot_bodies.specs.ExpressionViews.{slot_expr_view}
 use Rattle.slot_bodies.specs.LibraryViews.{slot_library_view}
@@ -9,6 +9,15 @@ use Rattle.st_words.specs.declared.kind.Kind.{Kind}
 use Rattle.quick_trees.specs.Points.{Point}
 use Rattle.quick_trees.specs.Standing.{AreArguments, ArmsStand, StmtsStand}
 use Rattle.quick_checks.specs.Checking.{Always, exits_of, kinds_read, landing_of, point_of, words_read}
+use Rattle.std.proofs.Common.{◌<◌}
+use Rattle.std.specs.Prelude.{Some, slice_get}
+use Rattle.slot_bodies.specs.Chains.{case_arms_of}
+use Rattle.slot_bodies.specs.StatementViews.{slot_case_arm_view}
+use Rattle.code_drafts.proofs.Sizes.{case_size}
+use Rattle.quick_code.specs.declared.quick_code.Way.{Way}
+use Rattle.quick_trees.specs.Pieces.{AreBoth}
+use Rattle.quick_trees.specs.Points.{Joins, along}
+use Rattle.quick_checks.specs.Choices.{body_at}
 use Rattle.quick_checks.proofs.+check.Given as goal
 
 -- Calls go down in depth, and else into parts of trees.
@@ -123,3 +132,25 @@ invariant-calls::check_arguments-loop-index l = Always l.draft l.library l.scope
     → AreArguments f s units (exprs_of (map slot_expr_view (drop l.index l.arguments))) l.below ts ws (point_of l.at) q
     → AreArguments f s units (exprs_of (map slot_expr_view l.arguments)) l.depth (kinds_read l.read.items ++ ts)
     (words_read l.read.items ++ ws) (point_of l.fn.at) q)
+
+abbrev pub decreases-cases::check_case : goal.decreases-cases::check_case
+decreases-cases::check_case l = 4 * (weight (filled (slot_library_view l.library.now)) l.scope.now.calls
+    + (expr_size (slot_expr_view l.selector.now) + case_size (case_arms_of (map slot_case_arm_view l.arms.now))
+    + stmts_size (slot_stmts_view l.otherwise.now))) + 3
+
+abbrev pub decreases-cases::check_case_arms : goal.decreases-cases::check_case_arms
+decreases-cases::check_case_arms l = 4 * (weight (filled (slot_library_view l.library.now)) l.scope.now.calls
+    + case_size (case_arms_of (map slot_case_arm_view l.arms.now))) + 2
+
+abbrev pub decreases-cases::check_arm : goal.decreases-cases::check_arm
+decreases-cases::check_arm l = 4 * (weight (filled (slot_library_view l.library.now)) l.scope.now.calls
+    + stmts_size (slot_stmts_view l.body.now)) + 1
+
+abbrev pub invariant-cases::check_case_arms-loop-index : goal.invariant-cases::check_case_arms-loop-index
+invariant-cases::check_case_arms-loop-index l = Always l.draft l.library l.scope (λ f s units. (k : ℕ) → k < l.index
+    → (j : ℕ) (w : Way) → slice_get l.choices j ≡ Some k → slice_get f.ways (l.table.first + j) ≡ Some w
+    → AreBoth (StmtsStand f s units (body_at k (map slot_case_arm_view l.arms)) l.depth (exits_of l.exits)) (Joins f)
+    (along (landing_of l.start) w) (landing_of l.behind))
+
+abbrev pub decreases-cases::check_case_arms-loop-index : goal.decreases-cases::check_case_arms-loop-index
+decreases-cases::check_case_arms-loop-index l = length l.arms - l.index
