@@ -5,9 +5,11 @@ use crate::row_error::RowError;
 use coded_programs::Code;
 use std::alloc::Global;
 
-/// `words` where runs of the code go by its word code, else `values`.
+/// `quick` if runs of the code go by its quick code first, else `words` if it has word code, else `values`.
 fn way_of(code: &Code) -> &'static str {
-    if code.words.is_some() {
+    if code.quick.is_some() {
+        "quick"
+    } else if code.words.is_some() {
         "words"
     } else {
         "values"
