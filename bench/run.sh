@@ -1,4 +1,4 @@
-#!/bin/sh
+#!/usr/bin/env bash
 # Reports how fast `lex` is. Give the root of the repository. The MB/s of a line are its bytes by its microseconds.
 set -e
 . "$(dirname "$0")/copied.sh"

@@ -1,4 +1,4 @@
-#!/bin/sh
+#!/usr/bin/env bash
 # Reports how fast `Layout::build` lays out 4,096 paths. Give the root of the repository.
 set -e
 . "$(dirname "$0")/copied.sh"

@@ -1,4 +1,4 @@
-#!/bin/sh
+#!/usr/bin/env bash
 # Reports how fast texts of 128 KiB to 1 MiB are linked, and such as are hard to link. Give the root of the repository.
 set -e
 . "$(dirname "$0")/copied.sh"

@@ -1,4 +1,4 @@
-#!/bin/sh
+#!/usr/bin/env bash
 # Runs five programs as slot code, by Lua 5.4 and as C of volatile variables by gcc -O2, side by side, and prints the nanoseconds of a
 # unit of work, best of three rounds of five series each, or of ROUNDS where that is set, which a machine whose host gives now more and now
 # less wants. All three have to come to the same result. Give the root of the repository, and then, if need be, the name of a program that is
