@@ -1,38 +1,39 @@
--- Code in the place of a call does what the function does.
-use Rattle.std.proofs.Common.{◌≡◌, ℕ, zero, suc, ◌+◌, ◌<◌, ◌≤◌, true, false, List, length, Some, Ok, refl, sym}
-use Rattle.std.proofs.Common.{ap, ◌∙◌, subst, arith, inl, inr}
+-- Code in the place of a call does what the function or the block does.
+use Rattle.std.proofs.Common.{◌≡◌, ℕ, zero, suc, ◌+◌, ◌<◌, ◌≤◌, true, false, List, length, Some, Ok, refl, sym, ap, ◌∙◌}
+use Rattle.std.proofs.Common.{subst, arith, inl, inr, []}
 use Rattle.std.specs.Prelude.{◌⊎◌, slice_get}
 use Rattle.st_words.specs.declared.kind.Kind.{Kind}
-use Rattle.st_words.specs.Values.{Datum}
+use Rattle.st_words.specs.Values.{Datum, IsHeld}
 use Rattle.st_words.specs.Words.{datum_at}
 use Rattle.st_types.specs.Failures.{StandIns, ill_typed, or_failure}
 use Rattle.st_types.specs.Loops.{exits, goes_on, returns}
-use Rattle.st_types.specs.Ticks.{attempt, follow}
+use Rattle.st_types.specs.Ticks.{attempt, follow, give}
 use Rattle.machine_code.specs.declared.mark.Mark.{Mark}
 use Rattle.quick_code.specs.declared.quick_instr.QuickInstr.TheVariants.{Move}
 use Rattle.quick_code.specs.QuickRuns.{Left}
 use Rattle.quick_code.specs.QuickSteps.{Memory, look}
-use Rattle.slot_trees.specs.SlotTrees.{SlotFunction, SlotLibrary}
+use Rattle.slot_trees.specs.SlotTrees.{SlotFunction, SlotLibrary, SlotStmts, own_block, standard_block}
 use Rattle.slot_trees.specs.SlotRuns.{state_of}
 use Rattle.tree_code.specs.MarkedEvaluation.{MarkedUnits}
 use Rattle.tree_code.specs.MarkedExecution.{MarkedEnd, marked_exec_all}
-use Rattle.tree_code.specs.MarkedRuns.{marked_function, marked_units_over, marked_units_within}
+use Rattle.tree_code.specs.MarkedRuns.{marked_block, marked_function, marked_units_over, marked_units_within}
 use Rattle.tree_code.specs.MarkedRuns.{unmarked_values}
-use Rattle.quick_trees.specs.Calls.{IsFunction, kinds_in, quick_units, quick_units_over}
+use Rattle.quick_trees.specs.Calls.{IsBlock, IsFunction, kinds_in, quick_units, quick_units_over}
 use Rattle.quick_trees.specs.Points.{Point}
 use Rattle.quick_trees.specs.QuickMemory.{Ends, Frame, first_temporary}
-use Rattle.quick_trees.specs.Sites.{HasOwnWord, Seat, called}
+use Rattle.quick_trees.specs.Sites.{HasOwnWord, Seat, called, whole}
 use Rattle.quick_trees.specs.Standing.{Exits, QuickUnits}
 use Rattle.quick_trees.proofs.Lists.{map_long, some_is, there_within}
 use Rattle.quick_trees.proofs.Stepping.{stepped}
-use Rattle.quick_trees.proofs.Memories.{IsNoted, IsSite, Spares, keeps_all}
+use Rattle.quick_trees.proofs.Memories.{Holds, IsNoted, IsSite, Spares, deeper, keeps_all, whole_site}
 use Rattle.quick_trees.proofs.Beginnings.{HaveBegun, IsSeated, begun_slots, have_begun}
-use Rattle.quick_trees.proofs.Settings.{AreGiven, DoesCalls, HasCalled, Setting, scope_of}
+use Rattle.quick_trees.proofs.Settings.{AreGiven, DoesBlocks, DoesCalls, HasCalled, HasInvoked, Setting, scope_of}
+use Rattle.machine_code.specs.Tracking.{Tracked}
 use Rattle.quick_trees.proofs.Truths.{then_gives}
 use Rattle.quick_trees.proofs.Reading.{AreHeld}
 use Rattle.quick_trees.proofs.Running.{HasEnded, joined}
 use Rattle.quick_trees.proofs.Statements.{does_stmts}
-use Rattle.st_words.specs.Values.{IsHeld}
+use Rattle.quick_trees.proofs.StandardBlocks.{steps}
 
 -- EXIT and RETURN lead behind the body of a function
 abbrev pub at_last : Point → Exits
@@ -57,10 +58,11 @@ is_over s d last m (returns t) n h =
     record { memory = h.memory; left = h.left; ticks = h.ticks; spares = h.spares; is = h.is; ends = h.ends }
 
 module _ (f : Frame) (x : Left) (units : QuickUnits) (means : MarkedUnits) (stand_ins : StandIns)
-    (does : DoesCalls f x units means) (g : SlotFunction) (kinds : List Kind) (words : List ℕ) (d : ℕ) (t : Kind)
-    (to : ℕ) (p q : Point) (r : IsFunction f units g kinds words d t to p q) (marks : List Mark) (m : Memory) (b : ℕ)
-    (values : List Datum) (deep : first_temporary f ≤ d) (noted : IsNoted f p.noted marks m)
-    (given : AreGiven m d kinds words values) (runs : Ends f p.place m b x) where
+    (does : DoesCalls f x units means) (does_blocks : DoesBlocks f x units means) (g : SlotFunction)
+    (kinds : List Kind) (words : List ℕ) (d : ℕ) (t : Kind) (to : ℕ) (p q : Point)
+    (r : IsFunction f units g kinds words d t to p q) (marks : List Mark) (m : Memory) (b : ℕ) (values : List Datum)
+    (deep : first_temporary f ≤ d) (noted : IsNoted f p.noted marks m) (given : AreGiven m d kinds words values)
+    (runs : Ends f p.place m b x) where
   abbrev inside : Setting
   inside = record {
     frame = f;
@@ -71,6 +73,7 @@ module _ (f : Frame) (x : Left) (units : QuickUnits) (means : MarkedUnits) (stan
     marks = marks;
     finish = x;
     does = does;
+    does_blocks = does_blocks;
   }
 
   begun : HaveBegun f x g kinds words d values m marks r.inputs given deep r.room zero r.seats p r.begun m b
@@ -173,12 +176,53 @@ module _ (f : Frame) (x : Left) (units : QuickUnits) (means : MarkedUnits) (stan
         ends = stepped f r.last.place x over.memory over.left (Move r.result.word to) over.ends r.moved;
       })
 
+-- a block's body runs on the slots of its instance
+module _ (f : Frame) (x : Left) (units : QuickUnits) (means : MarkedUnits) (stand_ins : StandIns)
+    (does : DoesCalls f x units means) (does_blocks : DoesBlocks f x units means) where
+  instance : ℕ → Setting
+  instance at = record {
+    frame = f;
+    site = whole at;
+    units = units;
+    means = means;
+    stand_ins = stand_ins;
+    marks = [];
+    finish = x;
+    does = does;
+    does_blocks = does_blocks;
+  }
+
+  invoked_one : (body : SlotStmts) (at d : ℕ) (p q : Point) → IsBlock f units body at d p q → (m : Memory)
+      (tr : Tracked) (b : ℕ) → first_temporary f ≤ d → Holds f (whole at) [] p.noted m tr → Ends f p.place m b x
+      → HasInvoked f x (marked_block stand_ins means body at) at d p q m tr b
+  unfolding instance
+  invoked_one body at d p q r m tr b deep holds runs =
+      let s = instance at in
+      let ran = does_stmts s body d (at_last q) p r.end r.stands m tr b
+      (deeper f (whole at) (first_temporary f) d deep (whole_site f at)) holds runs in
+      let over = is_over s d q m ran.end ran.rest
+      (joined s d (at_last q) r.end q m ran.end ran.rest r.joins ran.ended) in
+      let few = ran.fewer in
+      let ticks = over.ticks in
+      record {
+        memory = over.memory;
+        tracked = state_of ran.end;
+        left = over.left;
+        gives = then_gives (marked_exec_all (scope_of s) body tr (b + p.ahead)) ran.end ran.rest
+            (λ e. give (state_of e)) ran.gives
+            ∙ ap (λ n. Ok (state_of ran.end, n)) ticks;
+        fewer = omega arith;
+        spares = over.spares;
+        is = over.is;
+        ends = over.ends;
+      }
+
 module _ (f : Frame) (x : Left) (stand_ins : StandIns) (library : SlotLibrary) where
-  calls_over : (units : QuickUnits) (means : MarkedUnits) → DoesCalls f x units means
+  calls_over : (units : QuickUnits) (means : MarkedUnits) → DoesCalls f x units means → DoesBlocks f x units means
       → DoesCalls f x (quick_units_over f library units) (marked_units_over stand_ins library f.now means)
-  calls_over units means does i kinds words d t to p q r marks m b values deep noted given runs =
-      let done = called_one f x units means stand_ins does r.0 kinds words d t to p q r.1.1 marks m b values deep noted
-      given runs in record {
+  calls_over units means does does_blocks i kinds words d t to p q r marks m b values deep noted given runs =
+      let done = called_one f x units means stand_ins does does_blocks r.0 kinds words d t to p q r.1.1 marks m b values
+      deep noted given runs in record {
         memory = done.memory;
         word = done.word;
         left = done.left;
@@ -192,12 +236,34 @@ module _ (f : Frame) (x : Left) (stand_ins : StandIns) (library : SlotLibrary) w
         ends = done.ends;
       }
 
+  blocks_over : (units : QuickUnits) (means : MarkedUnits) → DoesCalls f x units means → DoesBlocks f x units means
+      → DoesBlocks f x (quick_units_over f library units) (marked_units_over stand_ins library f.now means)
+  blocks_over units means does does_blocks (own_block i) at d p q r m tr b deep held runs =
+      let done = invoked_one f x units means stand_ins does does_blocks r.0 at d p q r.1.1 m tr b deep held runs in
+      record {
+        memory = done.memory;
+        tracked = done.tracked;
+        left = done.left;
+        gives = ap (λ o. follow (attempt stand_ins (or_failure ill_typed o) (b + p.ahead))
+            (λ body. marked_block stand_ins means body at tr)) r.1.0
+            ∙ done.gives;
+        fewer = done.fewer;
+        spares = done.spares;
+        is = done.is;
+        ends = done.ends;
+      }
+  blocks_over units means does does_blocks (standard_block c) at d p q r m tr b deep held runs =
+      steps f x stand_ins at d deep c p q r m tr b held runs
+
   -- calls at most so deep
-  pub does_calls : (calls depth : ℕ) → calls ≤ depth
+  pub does_units : (calls depth : ℕ) → calls ≤ depth
       → DoesCalls f x (quick_units f library calls) (marked_units_within stand_ins library f.now depth)
+      × DoesBlocks f x (quick_units f library calls) (marked_units_within stand_ins library f.now depth)
   unfolding quick_units marked_units_within
-  does_calls zero depth le = λ i kinds words d t to p q r. absurd r
-  does_calls (suc calls) zero le = absurd (omega arith)
-  does_calls (suc calls) (suc depth) le =
-      calls_over (quick_units f library calls) (marked_units_within stand_ins library f.now depth)
-      (does_calls calls depth (omega arith))
+  does_units zero depth le = (λ i kinds words d t to p q r. absurd r, λ c at d p q r. absurd r)
+  does_units (suc calls) zero le = absurd (omega arith)
+  does_units (suc calls) (suc depth) le =
+      let below = does_units calls depth (omega arith) in
+      let units = quick_units f library calls in
+      let means = marked_units_within stand_ins library f.now depth in
+      (calls_over units means below.0 below.1, blocks_over units means below.0 below.1)

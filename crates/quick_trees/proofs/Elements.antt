@@ -1,7 +1,6 @@
 -- Where elements stand.
 use Rattle.std.proofs.Common.{◌≡◌, ℕ, suc, ◌+◌, ◌*◌, ◌^◌, ◌<◌, ◌+ℤ◌, ◌-ℤ◌, ℤ, pos, negsuc, Bool, true, false, Option}
-use Rattle.std.proofs.Common.{Some, None}
-use Rattle.std.proofs.Common.{refl, sym, ap, subst, ◌∙◌, arith, inl, inr}
+use Rattle.std.proofs.Common.{Some, None, refl, sym, ap, subst, ◌∙◌, arith, inl, inr, length}
 use Rattle.std.specs.Prelude.{if◌then◌else◌, nat_lt}
 use Rattle.std.proofs.Math.IntN.{+ℤ_idr}
 use Rattle.std.proofs.lemmas.Bool.Decides.{nat_tests}
@@ -11,11 +10,15 @@ use Rattle.st_words.specs.Words.{is_wide, number_at}
 use Rattle.st_types.specs.Operators.{natural}
 use Rattle.st_layouts.specs.Shapes.{distance, in_bounds}
 use Rattle.quick_code.specs.QuickRuns.{Left}
-use Rattle.quick_code.specs.QuickSteps.{Memory, load, look, note, noted_read, noted_written, store, with_word}
-use Rattle.quick_code.specs.Words.{element_place}
+use Rattle.quick_code.specs.QuickSteps.{behind, offset_put, place_behind, within, Memory, load, look, note, noted_read}
+use Rattle.quick_code.specs.QuickSteps.{noted_written, store, with_word}
+use Rattle.quick_code.specs.Words.{kept, kind_of, element_place}
+use Rattle.quick_code.specs.declared.operation.Signed.TheVariants.{Lint}
+use Rattle.st_words.specs.Kinds.{holds}
+use Rattle.quick_trees.proofs.Stepping.{has_put, Follows, stepped}
+use Rattle.quick_trees.proofs.Lists.{some_is}
 use Rattle.quick_trees.specs.QuickMemory.{Ends, Frame}
 use Rattle.quick_trees.specs.Pieces.{Loads, Stores}
-use Rattle.quick_trees.proofs.Stepping.{Follows, stepped}
 
 -- the words of a type that is not wide are its numbers
 pub narrow_number : (t : Kind) (w : ℤ) → is_wide t ≡ false → number_at t w ≡ w
@@ -70,6 +73,36 @@ element_is lower shift first word count stride t v w from narrow e =
     leads_to lower shift first word count stride (number_at t v) (v +ℤ shift) w from
     (ap (λ n. n +ℤ shift) (sym (narrow_number t v narrow))) e
 
+-- A word is one that an offset is before.
+pub record IsBehind (o : Option ℕ) (offset place : ℕ) : Type 0 where
+  pub before : ℕ
+  pub is : o ≡ Some before
+  pub place_is : place ≡ offset + before
+
+pub is_behind : (w : ℤ) (o : Option ℕ) (offset place : ℕ) → w ≡ pos offset → behind w o ≡ Some place
+    → IsBehind o offset place
+is_behind w o offset place is e = by_offset o (ap (λ w. behind w o) (sym is) ∙ e)
+  where
+    by_offset : (o : Option ℕ) → behind (pos offset) o ≡ Some place → IsBehind o offset place
+    by_offset (Some k) e = record { before = k; is = refl; place_is = some_is (sym e) }
+    by_offset None e = absurd cc
+
+within_is : (n : ℕ) (o : Option ℕ) (k : ℕ) → within n o ≡ Some k → o ≡ Some k
+within_is n (Some j) k e = by_test (nat_lt j n) e
+  where
+    by_test : (t : Bool) → (if t then Some j else None) ≡ Some k → Some j ≡ Some k
+    by_test true e = e
+    by_test false e = absurd cc
+within_is n None k e = absurd cc
+
+-- an element behind the one that an offset leads to
+pub place_is : (m : Memory) (d offset place : ℕ) (o : Option ℕ) → look m d ≡ pos offset
+    → place_behind m d o ≡ Some place → IsBehind o offset place
+place_is m d offset place o is e =
+    is_behind (look m d) o offset place is
+    (within_is (length m.notes) (behind (look m d) o) place
+    (within_is (length m.words) (within (length m.notes) (behind (look m d) o)) place e))
+
 module _ (f : Frame) (p : ℕ) (e : Left) (m : Memory) (b : ℕ) where
   -- A word at a place was loaded, or assigned.
   pub record HasLoaded (o : Option ℕ) (to : ℕ) : Type 0 where
@@ -77,7 +110,7 @@ module _ (f : Frame) (p : ℕ) (e : Left) (m : Memory) (b : ℕ) where
     pub is : o ≡ Some place
     pub ends : Ends f (suc p) (with_word (note noted_read place m) to (look m place)) b e
 
-  of_load : (o : Option ℕ) (to : ℕ) → Follows f p e (load o to m b) → HasLoaded o to
+  pub of_load : (o : Option ℕ) (to : ℕ) → Follows f p e (load o to m b) → HasLoaded o to
   of_load (Some k) to h = record { place = k; is = refl; ends = h }
   of_load None to h = absurd h
 
@@ -94,7 +127,7 @@ module _ (f : Frame) (p : ℕ) (e : Left) (m : Memory) (b : ℕ) where
     pub is : o ≡ Some place
     pub ends : Ends f (suc p) (with_word (note noted_written place m) place w) b e
 
-  of_store : (o : Option ℕ) (w : ℤ) → Follows f p e (store o w m b) → HasStored o w
+  pub of_store : (o : Option ℕ) (w : ℤ) → Follows f p e (store o w m b) → HasStored o w
   of_store (Some k) w h = record { place = k; is = refl; ends = h }
   of_store None w h = absurd h
 
@@ -105,3 +138,23 @@ module _ (f : Frame) (p : ℕ) (e : Left) (m : Memory) (b : ℕ) where
       (of_store (element_place first count 1 (look m i +ℤ shift)) (look m from) (stepped f p e m b _ runs is.1))
   has_stored i shift from first count stride (inr is) runs =
       of_store (element_place first count stride (look m i +ℤ shift)) (look m from) (stepped f p e m b _ runs is)
+
+  -- An offset was assigned.
+  pub record HasLocated (to : ℕ) (o : Option ℕ) : Type 0 where
+    pub offset : ℕ
+    pub is : o ≡ Some offset
+    pub ends : Ends f (suc p) (with_word m to (pos offset)) b e
+
+  pub has_located : (to : ℕ) (o : Option ℕ) → Follows f p e (offset_put to o m b) → HasLocated to o
+  has_located to (Some k) h =
+      let done = has_put f p e to (kept Lint (pos k)) m b h in record {
+        offset = k;
+        is = refl;
+        ends = subst (λ w. Ends f (suc p) (with_word m to w) b e)
+            (sym (same (holds (kind_of Lint) (pos k)) done.word done.is)) done.ends;
+      }
+    where
+      same : (t : Bool) (w : ℤ) → (if t then Some (pos k) else None) ≡ Some w → pos k ≡ w
+      same true w e = some_is e
+      same false w e = absurd cc
+  has_located to None h = absurd h

@@ -11,9 +11,11 @@ pub mod Reading
 pub mod Testing
 pub mod Running
 pub mod Looping
+pub mod Invoking
 pub mod Counting
 pub mod Statements
 pub mod Beginnings
+pub mod StandardBlocks
 pub mod Calling
 pub mod Programs
 pub mod Tellings

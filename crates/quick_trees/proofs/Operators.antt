@@ -1,14 +1,13 @@
 -- What instructions make of words is what operators make of the values.
 use Rattle.std.proofs.Common.{◌≡◌, ℕ, suc, ◌-◌, ◌≤◌, ◌^◌, ◌*◌, ℤ, pos, negsuc, ◌+ℤ◌, ◌-ℤ◌, ◌*ℤ◌, ◌≤ℤ◌, Bool, true}
-use Rattle.std.proofs.Common.{false}
-use Rattle.std.proofs.Common.{Option, Some, None, Result, Ok, Err, refl, sym, ap, subst, ◌∙◌, arith, w64, FitsSigned}
-use Rattle.std.proofs.Common.{mul-le-mul}
+use Rattle.std.proofs.Common.{false, Option, Some, None, Result, Ok, Err, refl, sym, ap, subst, ◌∙◌, arith, w64, w16}
+use Rattle.std.proofs.Common.{w32, ◌<ℤ◌, FitsSigned, mul-le-mul, zero, ◌<◌, ◌≢◌}
 use Rattle.std.specs.Prelude.{if◌then◌else◌, int_div, int_le, int_lt, not, unsigned_abs}
 use Rattle.std.specs.Ordering.{int_eq}
-use Rattle.std.specs.Int.{int_wrapping_add, int_wrapping_mul, int_wrapping_sub}
-use Rattle.std.proofs.Math.IntN.{+ℤ_idr, +ℤ-neg_ℤ_cancel}
+use Rattle.std.specs.Int.{int_wrapping_add, int_wrapping_mul, int_wrapping_sub, int_bit_and, int_bit_or, int_bit_xor}
+use Rattle.std.proofs.Math.IntN.{+ℤ_idr, +ℤ-neg_ℤ_cancel, neg_ℤ}
 use Rattle.std.proofs.lemmas.Int.{ints, unsigned_abs-mul, int_wrap_fits, wrapping_add_is, wrapping_mul_is}
-use Rattle.std.proofs.lemmas.Int.{wrapping_sub_is}
+use Rattle.std.proofs.lemmas.Int.{wrapping_sub_is, quot-rem, quot_fits, rem_below}
 use Rattle.std.proofs.lemmas.Bool.Decides.{Decides-int_eq, Decides-like, same_from_decides}
 use Rattle.st_words.specs.declared.fault.Fault.{Fault}
 use Rattle.st_words.specs.declared.fault.Fault.TheVariants.{DivisionByZero, Range}
@@ -19,10 +18,10 @@ use Rattle.st_words.specs.declared.operator.BinaryOperator.{BinaryOperator}
 use Rattle.st_words.specs.declared.operator.BinaryOperator.TheVariants.{Or, Xor, And, Equal, NotEqual, Less, Greater}
 use Rattle.st_words.specs.declared.operator.BinaryOperator.TheVariants.{LessOrEqual, GreaterOrEqual, Add, Subtract}
 use Rattle.st_words.specs.declared.operator.BinaryOperator.TheVariants.{Multiply, Divide, Modulo}
-use Rattle.st_words.specs.Kinds.{holds}
+use Rattle.st_words.specs.Kinds.{holds, greatest}
 use Rattle.st_words.specs.Values.{Datum, IsHeld, datum_of_truth, in_range}
 use Rattle.st_words.specs.Words.{datum_at, number_at, shift_of}
-use Rattle.st_types.specs.Operators.{applied, quotient}
+use Rattle.st_types.specs.Operators.{applied, quotient, remainder, apply_unary}
 use Rattle.quick_code.specs.declared.operation.Operation.{Operation}
 use Rattle.quick_code.specs.declared.operation.Operation.TheVariants as op
 use Rattle.quick_code.specs.declared.operation.Signed.{Signed}
@@ -30,25 +29,20 @@ use Rattle.quick_code.specs.declared.operation.Signed.TheVariants as signed
 use Rattle.quick_code.specs.declared.quick_code.Way.{Way}
 use Rattle.quick_code.specs.declared.quick_instr.QuickInstr.{QuickInstr}
 use Rattle.quick_code.specs.declared.quick_instr.QuickInstr.TheVariants.{AddDint, AddInt, AddLint, DivideDint}
-use Rattle.quick_code.specs.declared.quick_instr.QuickInstr.TheVariants.{DivideInt}
-use Rattle.quick_code.specs.declared.quick_instr.QuickInstr.TheVariants.{DivideLint, MultiplyDint, MultiplyInt}
-use Rattle.quick_code.specs.declared.quick_instr.QuickInstr.TheVariants.{MultiplyLint, SubtractDint, SubtractInt}
-use Rattle.quick_code.specs.declared.quick_instr.QuickInstr.TheVariants.{SubtractLint}
-use Rattle.std.proofs.Common.{zero, ◌<◌, ◌≢◌}
-use Rattle.std.specs.Int.{int_bit_and, int_bit_or, int_bit_xor}
+use Rattle.quick_code.specs.declared.quick_instr.QuickInstr.TheVariants.{DivideInt, DivideLint, MultiplyDint}
+use Rattle.quick_code.specs.declared.quick_instr.QuickInstr.TheVariants.{MultiplyInt, MultiplyLint, SubtractDint}
+use Rattle.quick_code.specs.declared.quick_instr.QuickInstr.TheVariants.{SubtractInt, SubtractLint}
 use Rattle.std.specs.Int.RustNames.{int_rem}
-use Rattle.std.proofs.lemmas.Int.{quot-rem, rem_below}
-use Rattle.st_types.specs.Operators.{remainder}
 use Rattle.quick_code.specs.declared.quick_instr.QuickInstr.TheVariants as quick
-use Rattle.quick_code.specs.Words.{word_of_truth}
+use Rattle.quick_code.specs.Words.{word_of_truth, difference, divided, kept, kind_of, made, product, sum}
 use Rattle.quick_trees.specs.Instructions.{branch_for, branch_for_by, branch_unless_by, branch_when, branch_when_by}
-use Rattle.quick_trees.specs.Instructions.{instr_by, truth_for}
-use Rattle.quick_trees.proofs.Bits.{and_is, bits_of, or_is, xor_is}
+use Rattle.quick_trees.specs.Instructions.{instr_by, truth_for, branch_unless, by_dint, by_kind, instr_for}
+use Rattle.quick_trees.proofs.Bits.{and_is, bits_of, greatest_held, greatest_is, or_is, xor_is, xor_turns}
+use Rattle.st_words.specs.declared.operator.UnaryOperator.{UnaryOperator}
+use Rattle.st_words.specs.declared.operator.UnaryOperator.TheVariants.{Negate, Not}
 use Rattle.quick_code.specs.QuickRuns.{Left}
 use Rattle.quick_code.specs.QuickSteps.{Memory, act, look, put, with_word}
-use Rattle.quick_code.specs.Words.{difference, divided, kept, kind_of, made, product, sum}
 use Rattle.quick_trees.specs.QuickMemory.{Ends, Frame}
-use Rattle.quick_trees.specs.Instructions.{branch_unless, by_kind, instr_for}
 use Rattle.quick_trees.proofs.Stepping.{Follows, HasBranched, has_branched, has_put}
 
 -- the words of a type with a sign are its numbers
@@ -259,6 +253,63 @@ chosen signed.Int a b c = a
 chosen signed.Dint a b c = b
 chosen signed.Lint a b c = c
 
+-- a difference is the sum with the sign of the second number turned
+negated_narrow : (x : ℤ) → IsNarrow x → IsNarrow (neg_ℤ x)
+negated_narrow x f = (let a = f.0 in let b = f.1 in (omega (arith, ints), omega (arith, ints)))
+
+with_sign_turned : (x y : ℤ) → x +ℤ neg_ℤ y ≡ x -ℤ y
+with_sign_turned x y = omega (arith, ints)
+
+sum_turned : (s : Signed) (x y : ℤ) → IsWord s x → IsWord s y → sum s x (neg_ℤ y) ≡ x -ℤ y
+sum_turned signed.Int x y f g =
+    whole_sum x (neg_ℤ y) (int_narrow x f) (negated_narrow y (int_narrow y g)) ∙ with_sign_turned x y
+sum_turned signed.Dint x y f g =
+    whole_sum x (neg_ℤ y) (dint_narrow x f) (negated_narrow y (dint_narrow y g)) ∙ with_sign_turned x y
+sum_turned signed.Lint x y f g = with_sign_turned x y
+
+-- the words of a type are the numbers of so many bits
+int_fits : (x : ℤ) → IsWord signed.Int x → FitsSigned w16 x
+int_fits x h = grind (arith, ints)
+
+fits_int : (x : ℤ) → FitsSigned w16 x → IsWord signed.Int x
+fits_int x h = grind (arith, ints)
+
+dint_fits : (x : ℤ) → IsWord signed.Dint x → FitsSigned w32 x
+dint_fits x h = grind (arith, ints)
+
+fits_dint : (x : ℤ) → FitsSigned w32 x → IsWord signed.Dint x
+fits_dint x h = grind (arith, ints)
+
+lint_fits : (x : ℤ) → IsWord signed.Lint x → FitsSigned w64 x
+lint_fits x h = grind (arith, ints)
+
+fits_lint : (x : ℤ) → FitsSigned w64 x → IsWord signed.Lint x
+fits_lint x h = grind (arith, ints)
+
+-- a quotient by a divisor above 0 leaves no type
+quotient_held : (s : Signed) (x d : ℤ) → IsWord s x → pos 0 <ℤ d → IsWord s (int_div x d)
+quotient_held signed.Int x d h less = fits_int (int_div x d) (quot_fits w16 x d (int_fits x h) less)
+quotient_held signed.Dint x d h less = fits_dint (int_div x d) (quot_fits w32 x d (dint_fits x h) less)
+quotient_held signed.Lint x d h less = fits_lint (int_div x d) (quot_fits w64 x d (lint_fits x h) less)
+
+above_none : (n : ℕ) → pos n ≢ pos 0 → pos 0 <ℤ pos n
+above_none n h = grind (arith, ints)
+
+-- a quotient in 64 bits is one in its type
+quotient_typed : (s : Signed) (x : ℤ) (n : ℕ) (w : ℤ) → IsWord s x → made op.Divide signed.Lint x (pos n) ≡ Some w
+    → made op.Divide s x (pos n) ≡ Some w
+quotient_typed s x n w h e = by_test (int_eq (pos n) (pos 0)) refl e
+  where
+    by_test : (t : Bool) → int_eq (pos n) (pos 0) ≡ t
+        → (if t then None else kept signed.Lint (int_div x (pos n))) ≡ Some w
+        → (if t then None else kept s (int_div x (pos n))) ≡ Some w
+    by_test true z e = absurd cc
+    by_test false z e =
+        let q = int_div x (pos n) in
+        let same = kept_same signed.Lint q w (holds (kind_of signed.Lint) q) e in
+        ap (λ t. if t then Some q else None) (quotient_held s x (pos n) h (above_none n (unequal (pos n) z)))
+        ∙ ap (λ n. Some n) same
+
 -- A type is one with a sign, and an instruction the one for it.
 record IsSigned (t : Kind) (a b c i : QuickInstr) : Type 0 where
   type : Signed
@@ -287,11 +338,37 @@ signed_of Time a b c i e = absurd cc
 signed_of Boolean a b c i e = absurd cc
 signed_of (Enumerated names number) a b c i e = absurd cc
 
+from_none : (z : ℤ) → pos 0 -ℤ z ≡ neg_ℤ z
+from_none z = omega (arith, ints)
+
+dint_of : (t : Kind) (a i : QuickInstr) → by_dint t a ≡ Some i → (t ≡ Dint) × (i ≡ a)
+dint_of Sint a i e = absurd cc
+dint_of Int a i e = absurd cc
+dint_of Dint a i e = (refl, some_is e)
+dint_of Lint a i e = absurd cc
+dint_of Usint a i e = absurd cc
+dint_of Uint a i e = absurd cc
+dint_of Udint a i e = absurd cc
+dint_of Ulint a i e = absurd cc
+dint_of Byte a i e = absurd cc
+dint_of Word a i e = absurd cc
+dint_of Dword a i e = absurd cc
+dint_of Lword a i e = absurd cc
+dint_of Time a i e = absurd cc
+dint_of Boolean a i e = absurd cc
+dint_of (Enumerated names number) a i e = absurd cc
+
 module _ (f : Frame) (p : ℕ) (e : Left) (m : Memory) (b : ℕ) where
   -- The result of an operator on two words was assigned.
   pub record HasComputed (o : BinaryOperator) (t : Kind) (x y : ℤ) (to : ℕ) : Type 0 where
     pub word : ℤ
     pub result : IsResult (applied o t (number_at t x) (number_at t y)) t word
+    pub ends : Ends f (suc p) (with_word m to word) b e
+
+  -- The result of an operator on one word was assigned.
+  pub record HasApplied (o : UnaryOperator) (t : Kind) (x : ℤ) (to : ℕ) : Type 0 where
+    pub word : ℤ
+    pub result : IsResult (apply_unary o (datum_at t x)) t word
     pub ends : Ends f (suc p) (with_word m to word) b e
 
   of_signed : (o : BinaryOperator) (n : Operation) (s : Signed) (x y : ℤ) (to : ℕ) → operation_of o ≡ Some n
@@ -319,6 +396,48 @@ module _ (f : Frame) (p : ℕ) (e : Left) (m : Memory) (b : ℕ) where
       (of_signed o n s x y to of (subst (λ k. IsHeld (datum_at k x)) which.kind g)
       (subst (λ k. IsHeld (datum_at k y)) which.kind h)
       (subst (Follows f p e) (does s) (subst (λ i. Follows f p e (act f.ways f.now i m b)) which.instr runs)))
+
+  -- the words of a type are its numbers
+  of_words : (o : BinaryOperator) (s : Signed) (t : Kind) (x y w : ℤ) (to : ℕ) → t ≡ kind_of s
+      → IsResult (applied o (kind_of s) x y) (kind_of s) w → Ends f (suc p) (with_word m to w) b e
+      → HasComputed o t x y to
+  of_words o s t x y w to kind result ends =
+      let k = kind_of s in
+      subst (λ k. HasComputed o k x y to) (sym kind) (record {
+        word = w;
+        result = subst (λ z. IsResult (applied o k z (number_at k y)) k w) (sym (number_is s x))
+            (subst (λ z. IsResult (applied o k x z) k w) (sym (number_is s y)) result);
+        ends = ends;
+      })
+
+  -- a difference, which is computed as a sum
+  of_difference : (t : Kind) (x y : ℤ) (to : ℕ) (a d c i : QuickInstr) → by_kind t a d c ≡ Some i
+      → ((s : Signed) → act f.ways f.now (chosen s a d c) m b ≡ put to (made op.Add s x (neg_ℤ y)) m b)
+      → IsHeld (datum_at t x) → IsHeld (datum_at t y) → Follows f p e (act f.ways f.now i m b)
+      → HasComputed Subtract t x y to
+  of_difference t x y to a d c i is does g h runs =
+      let which = signed_of t a d c i is in
+      let s = which.type in
+      let hx = word_held s x (subst (λ k. IsHeld (datum_at k x)) which.kind g) in
+      let hy = word_held s y (subst (λ k. IsHeld (datum_at k y)) which.kind h) in
+      let done = has_put f p e to (made op.Add s x (neg_ℤ y)) m b
+      (subst (Follows f p e) (does s) (subst (λ i. Follows f p e (act f.ways f.now i m b)) which.instr runs)) in
+      of_words Subtract s t x y done.word to which.kind
+      (kept_is s (x -ℤ y) done.word (ap (kept s) (sym (sum_turned s x y hx hy)) ∙ done.is)) done.ends
+
+  -- a quotient, which is computed in 64 bits
+  of_quotient : (t : Kind) (x : ℤ) (n to : ℕ) (a i : QuickInstr) → by_kind t a a a ≡ Some i
+      → act f.ways f.now a m b ≡ put to (made op.Divide signed.Lint x (pos n)) m b → IsHeld (datum_at t x)
+      → Follows f p e (act f.ways f.now i m b) → HasComputed Divide t x (pos n) to
+  of_quotient t x n to a i is does g runs =
+      let which = signed_of t a a a i is in
+      let s = which.type in
+      let hx = word_held s x (subst (λ k. IsHeld (datum_at k x)) which.kind g) in
+      let done = has_put f p e to (made op.Divide signed.Lint x (pos n)) m b
+      (subst (Follows f p e) does
+      (subst (λ i. Follows f p e (act f.ways f.now i m b)) (which.instr ∙ chosen_same s a) runs)) in
+      of_words Divide s t x (pos n) done.word to which.kind
+      (divided_is s x (pos n) done.word (quotient_typed s x n done.word hx done.is)) done.ends
 
   -- a remainder, which is computed in 64 bits
   of_remainder : (t : Kind) (x y : ℤ) (to : ℕ) (a i : QuickInstr) → by_kind t a a a ≡ Some i
@@ -451,11 +570,73 @@ module _ (f : Frame) (p : ℕ) (e : Left) (m : Memory) (b : ℕ) where
       (chosen s (quick.AddIntBy l n to) (quick.AddDintBy l n to) (quick.AddLintBy l n to)) m b
       ≡ put to (made op.Add s (look m l) n) m b) [ signed.Int ↦ refl | signed.Dint ↦ refl | signed.Lint ↦ refl ])
       g h runs
-  has_computed_by Subtract t l n to i is g h runs = absurd cc
-  has_computed_by Multiply t l n to i is g h runs = absurd cc
-  has_computed_by Divide t l n to i is g h runs = absurd cc
+  has_computed_by Subtract t l n to i is g h runs =
+      of_difference t (look m l) n to (quick.AddIntBy l (neg_ℤ n) to) (quick.AddDintBy l (neg_ℤ n) to)
+      (quick.AddLintBy l (neg_ℤ n) to) i is
+      (λ s. elim s as (λ s. act f.ways f.now
+      (chosen s (quick.AddIntBy l (neg_ℤ n) to) (quick.AddDintBy l (neg_ℤ n) to) (quick.AddLintBy l (neg_ℤ n) to)) m b
+      ≡ put to (made op.Add s (look m l) (neg_ℤ n)) m b) [
+        | signed.Int ↦ refl
+        | signed.Dint ↦ refl
+        | signed.Lint ↦ refl
+      ])
+      g h runs
+  has_computed_by Multiply t l n to i is g h runs =
+      let which = dint_of t (quick.MultiplyDintBy l n to) i is in
+      subst (λ k. HasComputed Multiply k (look m l) n to) (sym which.0)
+      (of_signed Multiply op.Multiply signed.Dint (look m l) n to refl
+      (subst (λ k. IsHeld (datum_at k (look m l))) which.0 g) (subst (λ k. IsHeld (datum_at k n)) which.0 h)
+      (subst (λ i. Follows f p e (act f.ways f.now i m b)) which.1 runs))
+  has_computed_by Divide t l (pos n) to i is g h runs =
+      of_quotient t (look m l) n to (quick.DivideBy l (pos n) to) i is refl g runs
+  has_computed_by Divide t l (negsuc n) to i is g h runs = absurd cc
   has_computed_by Modulo t l n to i is g h runs =
       of_remainder t (look m l) n to (quick.ModuloBy l n to) i is refl g h runs
+
+  -- each bit of a word was turned
+  pub has_turned : (t : Kind) (l r to : ℕ) (i : QuickInstr) → instr_for Xor t l r to ≡ Some i
+      → IsHeld (datum_at t (look m l)) → IsHeld (datum_at t (look m r)) → number_at t (look m r) ≡ greatest t
+      → Follows f p e (act f.ways f.now i m b) → HasApplied Not t (look m l) to
+  has_turned t l r to i is g h ones runs =
+      let bits = bits_of t (quick.Xor l r to) i is in
+      let done = has_computed Xor t l r to i is g h runs in record {
+        word = done.word;
+        result = record {
+          value = sym (xor_turns bits.bits t bits.are (look m l) (look m r) g ones) ∙ done.result.value;
+          held = done.result.held;
+        };
+        ends = done.ends;
+      }
+
+  pub has_turned_by : (t : Kind) (l to : ℕ) (i : QuickInstr) → instr_by Xor t l (greatest t) to ≡ Some i
+      → IsHeld (datum_at t (look m l)) → Follows f p e (act f.ways f.now i m b) → HasApplied Not t (look m l) to
+  has_turned_by t l to i is g runs =
+      let bits = bits_of t (quick.XorBy l (greatest t) to) i is in
+      let done = has_computed_by Xor t l (greatest t) to i is g (greatest_held bits.bits t bits.are) runs in record {
+        word = done.word;
+        result = record {
+          value = sym (xor_turns bits.bits t bits.are (look m l) (greatest t) g (greatest_is bits.bits t bits.are))
+              ∙ done.result.value;
+          held = done.result.held;
+        };
+        ends = done.ends;
+      }
+
+  -- a word was taken from 0
+  pub has_negated : (t : Kind) (l r to : ℕ) (i : QuickInstr) → instr_for Subtract t l r to ≡ Some i
+      → IsHeld (datum_at t (look m l)) → IsHeld (datum_at t (look m r)) → number_at t (look m l) ≡ pos 0
+      → Follows f p e (act f.ways f.now i m b) → HasApplied Negate t (look m r) to
+  has_negated t l r to i is g h none runs =
+      let done = has_computed Subtract t l r to i is g h runs in record {
+        word = done.word;
+        result = record {
+          value = ap (in_range t) (sym (from_none (number_at t (look m r))))
+              ∙ ap (λ n. in_range t (n -ℤ number_at t (look m r))) (sym none)
+              ∙ done.result.value;
+          held = done.result.held;
+        };
+        ends = done.ends;
+      }
 
 less_shifted : (x y s : ℤ) → int_lt (x +ℤ s) (y +ℤ s) ≡ int_lt x y
 less_shifted x y s = grind (arith, ints)

@@ -20,7 +20,7 @@ use Rattle.quick_trees.proofs.Memories.{Holds, whole_site}
 use Rattle.quick_trees.proofs.Settings.{Setting}
 use Rattle.quick_trees.proofs.Running.{joined}
 use Rattle.quick_trees.proofs.Statements.{does_stmts}
-use Rattle.quick_trees.proofs.Calling.{at_last, does_calls, is_over}
+use Rattle.quick_trees.proofs.Calling.{at_last, does_units, is_over}
 
 pub program_runs : (stand_ins : StandIns) (library : SlotLibrary) (base calls depth budget : ℕ) (body : SlotStmts)
     (f : Frame) (m : Memory) (t : Tracked) (e : Left) → IsProgram f library base calls body → calls ≤ depth
@@ -28,6 +28,7 @@ pub program_runs : (stand_ins : StandIns) (library : SlotLibrary) (base calls de
     → EndsAs f base (marked_ran stand_ins library base body f.now depth t budget) e
 unfolding marked_ran
 program_runs stand_ins library base calls depth budget body f m t e program le is runs =
+    let units = does_units f e stand_ins library calls depth le in
     let s : Setting = record {
       frame = f;
       site = whole base;
@@ -36,7 +37,8 @@ program_runs stand_ins library base calls depth budget body f m t e program le i
       stand_ins = stand_ins;
       marks = [];
       finish = e;
-      does = does_calls f e stand_ins library calls depth le;
+      does = units.0;
+      does_blocks = units.1;
     } in
     let holds : Holds f (whole base) [] (beginning f).noted m t = record {
       noted = record {

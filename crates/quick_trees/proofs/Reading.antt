@@ -1,43 +1,50 @@
 -- Code that reads an expression gives the value that the expression has.
-use Rattle.std.proofs.Common.{◌≡◌, ℕ, zero, suc, ◌<◌, ◌≤◌, ℤ, true, List, [], ◌∷◌, length}
-use Rattle.std.proofs.Common.{Some, None, Ok, Err, refl, sym, ap, ap₂, subst, ◌∙◌, arith}
-use Rattle.std.proofs.Common.{◌+◌, ◌*◌, inl, inr}
+use Rattle.std.proofs.Common.{◌≡◌, ℕ, zero, suc, ◌<◌, ◌≤◌, ℤ, true, List, [], ◌∷◌, length, Some, None, Ok, Err, refl}
+use Rattle.std.proofs.Common.{sym, ap, ap₂, subst, ◌∙◌, arith, ◌+◌, ◌*◌, inl, inr, ◌+ℤ◌, pos, false}
 use Rattle.std.specs.Prelude.{◌⊎◌, if◌then◌else◌, slice_get}
 use Rattle.st_words.specs.declared.fault.Fault.TheVariants.{Conversion, Index}
 use Rattle.st_words.specs.declared.kind.Kind.{Kind}
 use Rattle.st_words.specs.declared.literal.Literal.{Literal}
 use Rattle.st_words.specs.declared.operator.BinaryOperator.{BinaryOperator}
 use Rattle.st_words.proofs.KindLemmas.{same_kind-refl}
-use Rattle.st_words.specs.Kinds.{holds}
+use Rattle.st_words.specs.Kinds.{holds, greatest}
 use Rattle.st_words.specs.Values.{Datum, IsHeld, datum_of_truth}
-use Rattle.st_words.specs.Words.{datum_at, number_at}
+use Rattle.st_words.specs.Words.{datum_at, number_at, is_wide}
 use Rattle.st_types.specs.Failures.{StandIns, failing, ill_typed, or_failure, valueless}
 use Rattle.st_types.specs.Evaluation.{known}
-use Rattle.st_types.specs.Operators.{applied, apply}
+use Rattle.st_types.specs.Operators.{applied, apply, apply_unary}
 use Rattle.st_types.specs.StandardFunctions.{ABS, CONVERT, LIMIT, MAX, MIN, ROL, ROR, SEL, SHL, SHR, conversion}
 use Rattle.st_types.specs.StandardFunctions.{standard_value}
 use Rattle.st_types.specs.Ticks.{attempt, fault, follow, give}
 use Rattle.st_layouts.specs.Shapes.{distance, in_bounds}
 use Rattle.machine_code.specs.Tracking.{Tracked, looked}
-use Rattle.quick_code.specs.QuickSteps.{Memory, look, note, noted_read, with_word}
-use Rattle.quick_code.specs.Words.{word_of_truth}
+use Rattle.quick_code.specs.QuickSteps.{Memory, behind, look, note, noted_read, place_behind, with_word}
+use Rattle.quick_code.specs.declared.quick_instr.QuickInstr.{QuickInstr}
+use Rattle.quick_code.specs.declared.quick_instr.QuickInstr.TheVariants.{LoadBehind, Locate, LocateBehind}
+use Rattle.quick_code.specs.Words.{element_place, word_of_truth}
+use Rattle.std.proofs.Math.Nat.{add_assoc}
 use Rattle.slot_trees.specs.SlotTrees.{Anchor, SlotExpr, SlotExprs, binary, call, compute, constant, expr_then, load}
-use Rattle.slot_trees.specs.SlotTrees.{no_exprs, no_subscripts, place, subscript_then, unary}
+use Rattle.slot_trees.specs.SlotTrees.{Subscripts, no_exprs, no_subscripts, place, subscript_then, unary}
 use Rattle.slot_trees.specs.SlotEvaluation.{slot_at}
 use Rattle.tree_code.specs.MarkedEvaluation.{MarkedScope, marked_led, marked_load, marked_value, marked_values}
-use Rattle.quick_trees.specs.Points.{Part, Point}
+use Rattle.quick_trees.specs.Points.{Part, Point, next}
 use Rattle.quick_trees.specs.QuickMemory.{Ends, Frame}
 use Rattle.quick_trees.specs.Sites.{HasOwnWord, base_of}
-use Rattle.quick_trees.specs.Pieces.{AreRead, IsComputed, IsComputedBy, IsFetched, IsNumber, IsTemporary}
-use Rattle.quick_trees.specs.Pieces.{IsTruth, IsWider}
-use Rattle.quick_trees.specs.Standing.{AreArguments, IsCall, IsRead}
+use Rattle.quick_trees.specs.Pieces.{AreRead, IsComputed, IsComputedBy, IsFetched, IsNumber, IsTemporary, AreBoth}
+use Rattle.quick_trees.specs.Pieces.{IsIndexed, IsLed, IsTruth, IsWider, IsWithin, LeadsBehind, IsNegated, IsNumberAt}
+use Rattle.quick_trees.specs.Pieces.{IsTurned, TurnsBits}
+use Rattle.quick_trees.specs.Standing.{AreArguments, IsCall, IsLedOn, IsRead}
 use Rattle.quick_trees.proofs.Lists.{some_is, there_within}
 use Rattle.quick_trees.proofs.Stepping.{stepped}
 use Rattle.quick_trees.proofs.Memories.{Holds, IsSite, Keeps, deeper, holds_kept, holds_loaded, holds_looked}
 use Rattle.quick_trees.proofs.Memories.{holds_temporary, keeps_all, keeps_below, keeps_both, keeps_less, keeps_word}
 use Rattle.quick_trees.proofs.Memories.{marks_of, own_value, with_look, word_here}
-use Rattle.quick_trees.proofs.Elements.{LeadsTo, element_is, has_loaded, narrow_number}
-use Rattle.quick_trees.proofs.Operators.{has_computed, has_computed_by, has_truth}
+use Rattle.quick_trees.proofs.Elements.{LeadsTo, element_is, has_loaded, has_located, is_behind, narrow_number, of_load}
+use Rattle.quick_trees.proofs.Elements.{place_is}
+use Rattle.st_words.specs.declared.operator.UnaryOperator.{UnaryOperator}
+use Rattle.st_words.specs.declared.operator.UnaryOperator.TheVariants.{Negate, Not}
+use Rattle.quick_trees.proofs.Operators.{HasApplied, has_negated, has_turned, has_turned_by, has_computed}
+use Rattle.quick_trees.proofs.Operators.{has_computed_by, has_truth}
 use Rattle.quick_trees.proofs.Truths.{then_gives, truth_held, truth_word}
 use Rattle.quick_trees.proofs.Settings.{AreGiven, Setting, scope_of}
 use Rattle.st_words.specs.declared.kind.Kind.TheVariants.{Bool as Boolean}
@@ -249,6 +256,68 @@ module _ (s : Setting) where
         held = done.result.held;
         ends = done.ends;
       })
+
+  -- the word of a constant has its number
+  number_there : (t : Kind) (n : ℤ) (k : ℕ) (p : Point) (m : Memory) (tr : Tracked) → IsNumberAt f t n k
+      → AreHeld p m tr → (number_at t (look m k) ≡ n) × IsHeld (datum_at t (look m k))
+  number_there t n k p m tr is of =
+      let v : Datum = record { kind = t; number = n } in
+      let at : datum_at t (look m k) ≡ v =
+      ap (λ k. datum_at t (look m k)) is.place ∙ of.noted.room.constants is.index v is.among in (
+        ap (λ (v : Datum). v.number) at,
+        subst IsHeld (sym at) (of.noted.room.held is.index v is.among),
+      )
+
+  -- the result of an operator on one value was assigned
+  applied_once : (op : UnaryOperator) (e : SlotExpr) (t : Kind) (d k to : ℕ) (p r q : Point) (m : Memory) (tr : Tracked)
+      (b : ℕ) → q ≡ next r → (one : HasRead e t d k p r m tr b)
+      → HasApplied f r.place s.finish one.memory one.left op t (look one.memory k) to
+      → HasMade (unary op e) t d to p q m tr b
+  applied_once op e t d k to p r q m tr b is one done =
+      let w = look one.memory k in
+      subst (λ q. HasMade (unary op e) t d to p q m tr b) (sym is) (record {
+        memory = one.memory;
+        tracked = one.tracked;
+        left = one.left;
+        word = done.word;
+        gives = then_gives (marked_value z tr e (b + p.ahead)) (datum_at t w, one.tracked) (one.left + r.ahead)
+            (λ v. λ n. follow (attempt s.stand_ins (failing (apply_unary op v.0)) n) (λ x. give (x, v.1))) one.gives
+            ∙ ap (λ o. follow (attempt s.stand_ins (failing o) (one.left + r.ahead)) (λ x. give (x, one.tracked)))
+            done.result.value;
+        fewer = one.fewer;
+        keeps = one.keeps;
+        is = one.is;
+        held = done.result.held;
+        ends = done.ends;
+      })
+
+  pub negated_by : (e : SlotExpr) (t : Kind) (d to : ℕ) (p q : Point) → Reads e t d
+      → IsNegated f (Is e t d) t to p q → From d p (HasMade (unary Negate e) t d to p q)
+  negated_by e t d to p q reads_e is m tr b site of runs =
+      let one = reads_e is.from p is.last is.reads m tr b site of runs in
+      let nought = number_there t (pos 0) is.nought is.last one.memory one.tracked is.is_nought one.is in
+      applied_once Negate e t d is.from to p is.last q m tr b is.next one
+      (has_negated f is.last.place s.finish one.memory one.left t is.nought is.from to is.stands.instr is.stands.is
+      nought.1 one.held nought.0
+      (stepped f is.last.place s.finish one.memory one.left is.stands.instr one.ends is.stands.at))
+
+  turned_to : (t : Kind) (d k to : ℕ) (e : SlotExpr) (p r : Point) (m : Memory) (tr : Tracked) (b : ℕ)
+      → (one : HasRead e t d k p r m tr b) → TurnsBits f t k to r.place
+      → HasApplied f r.place s.finish one.memory one.left Not t (look one.memory k) to
+  turned_to t d k to e p r m tr b one (inl is) =
+      has_turned_by f r.place s.finish one.memory one.left t k to is.instr is.is one.held
+      (stepped f r.place s.finish one.memory one.left is.instr one.ends is.at)
+  turned_to t d k to e p r m tr b one (inr (ones, (number, is))) =
+      let all = number_there t (greatest t) ones r one.memory one.tracked number one.is in
+      has_turned f r.place s.finish one.memory one.left t k ones to is.instr is.is one.held all.1 all.0
+      (stepped f r.place s.finish one.memory one.left is.instr one.ends is.at)
+
+  pub turned_by : (e : SlotExpr) (t : Kind) (d to : ℕ) (p q : Point) → Reads e t d
+      → IsTurned f (Is e t d) t to p q → From d p (HasMade (unary Not e) t d to p q)
+  turned_by e t d to p q reads_e is m tr b site of runs =
+      let one = reads_e is.from p is.last is.reads m tr b site of runs in
+      applied_once Not e t d is.from to p is.last q m tr b is.next one
+      (turned_to t d is.from to e p is.last m tr b one is.turns)
 
   -- what an operator makes, computed or compared
   pub binary_by : (op : BinaryOperator) (l r : SlotExpr) (t : Kind) (d to : ℕ) (p q : Point) → ((u : Kind)
@@ -543,6 +612,275 @@ module _ (s : Setting) where
         ends = done.ends;
       }
 
+  -- A subscript was read, up to the instruction that takes it.
+  record HasIndexed (e : SlotExpr) (lower : ℤ) (d : ℕ) (Instr : ℕ → ℤ → QuickInstr) (p q : Point) (m : Memory)
+      (tr : Tracked) (b : ℕ) : Type 0 where
+    memory : Memory
+    tracked : Tracked
+    left : ℕ
+    index : ℕ
+    shift : ℤ
+    kind : Kind
+    narrow : is_wide kind ≡ false
+    from_lower : lower +ℤ shift ≡ pos 0
+    gives : marked_value z tr e (b + p.ahead) ≡ Ok ((datum_at kind (look memory index), tracked), left + q.ahead)
+    fewer : left + q.ahead ≤ b + p.ahead
+    keeps : Keeps d m memory
+    is : AreHeld q memory tracked
+    place : ℕ
+    behind : q.place ≡ suc place
+    stands : slice_get f.code place ≡ Some (Instr index shift)
+    ends : Ends f place memory left s.finish
+
+  indexed_by : (e : SlotExpr) (lower : ℤ) (d : ℕ) (Instr : ℕ → ℤ → QuickInstr) (p q : Point)
+      → ((u : Kind) → Reads e u d) → IsIndexed f (λ u. Is e u d) lower Instr p q
+      → From d p (HasIndexed e lower d Instr p q)
+  indexed_by e lower d Instr p q reads_e is m tr b site of runs =
+      let one = reads_e is.subscript.kind is.index p is.last is.subscript.reads m tr b site of runs in
+      subst (λ q. HasIndexed e lower d Instr p q m tr b) (sym is.next) (record {
+        memory = one.memory;
+        tracked = one.tracked;
+        left = one.left;
+        index = is.index;
+        shift = is.shift;
+        kind = is.subscript.kind;
+        narrow = is.subscript.narrow;
+        from_lower = is.subscript.from_lower;
+        gives = one.gives;
+        fewer = one.fewer;
+        keeps = one.keeps;
+        is = one.is;
+        place = is.last.place;
+        behind = refl;
+        stands = is.stands;
+        ends = one.ends;
+      })
+
+  -- a subscript was read: further ones lead on from its element
+  led_on : (e : SlotExpr) (lower : ℤ) (k count stride : ℕ) (ss : Subscripts) (t : Kind) (w : ℤ) (j : ℕ)
+      (tr tr' : Tracked) (a b : ℕ) → marked_value z tr e a ≡ Ok ((datum_at t w, tr'), b)
+      → LeadsTo lower k count stride (number_at t w) j
+      → marked_led z tr k (subscript_then e lower count stride ss) a ≡ marked_led z tr' j ss b
+  led_on e lower k count stride ss t w j tr tr' a b value leads =
+      then_gives (marked_value z tr e a) (datum_at t w, tr') b (λ r. if in_bounds lower count r.0.number
+      then marked_led z r.1 (k + distance lower r.0.number * stride) ss else fault Index) value
+      ∙ ap (λ u. (if u then marked_led z tr' (k + distance lower (number_at t w) * stride) ss else fault Index) b)
+      leads.inside
+      ∙ ap (λ i. marked_led z tr' (k + i * stride) ss b) leads.behind
+      ∙ ap (λ i. marked_led z tr' i ss b) (sym leads.place)
+
+  -- Subscripts led from the value at an offset to a place of a word, and to the slot.
+  pub record ComesTo (ss : Subscripts) (start o k word to : ℕ) (tr tr' : Tracked) (a b : ℕ) : Type 0 where
+    pub behind : ℕ
+    pub reached : LeadsBehind ss behind
+    pub place : to ≡ word + (o + behind)
+    pub gives : marked_led z tr k ss a ≡ Ok ((start + (o + behind), tr'), b)
+
+  -- Subscripts were read, up to the instruction of the last one.
+  pub record HasLed (ss : Subscripts) (d start o k : ℕ) (Instr : ℕ → ℤ → ℕ → ℕ → QuickInstr) (p q : Point) (m : Memory)
+      (tr : Tracked) (b : ℕ) : Type 0
+    where
+      pub memory : Memory
+      pub tracked : Tracked
+      pub left : ℕ
+      pub index : ℕ
+      pub shift : ℤ
+      pub count : ℕ
+      pub stride : ℕ
+      pub offset : ℕ
+      pub is_offset : look memory d ≡ pos offset
+      pub comes : (word w : ℕ) → element_place word count stride (look memory index +ℤ shift) ≡ Some w
+          → ComesTo ss start o k word (offset + w) tr tracked (b + p.ahead) (left + q.ahead)
+      pub fewer : left + q.ahead ≤ b + p.ahead
+      pub keeps : Keeps d m memory
+      pub is : AreHeld q memory tracked
+      pub place : ℕ
+      pub behind : q.place ≡ suc place
+      pub stands : slice_get f.code place ≡ Some (Instr index shift count stride)
+      pub ends : Ends f place memory left s.finish
+
+  -- how further subscripts lead on
+  abbrev pub LeadsOn : Subscripts → ℕ → Type 0
+  LeadsOn ss d =
+      (Instr : ℕ → ℤ → ℕ → ℕ → QuickInstr) (p q : Point) → IsLedOn s.frame s.site s.units ss d Instr p q
+      → (start o k : ℕ) → k ≡ start + o → d < f.size
+      → From d p (λ m tr b. look m d ≡ pos o → HasLed ss d start o k Instr p q m tr b)
+
+  last_led : (e : SlotExpr) (lower : ℤ) (count stride d : ℕ) → ((u : Kind) → Reads e u (suc d))
+      → LeadsOn (subscript_then e lower count stride no_subscripts) d
+  last_led e lower count stride d reads_e Instr p q is start o k at there m tr b site of runs offset =
+      let ss = subscript_then e lower count stride no_subscripts in
+      let one = indexed_by e lower (suc d) (λ i n. Instr i n count stride) p q reads_e is m tr b
+      (deeper s.frame s.site d (suc d) (omega arith) site) of runs in
+      let v = look one.memory one.index in
+      record {
+        memory = one.memory;
+        tracked = one.tracked;
+        left = one.left;
+        index = one.index;
+        shift = one.shift;
+        count = count;
+        stride = stride;
+        offset = o;
+        is_offset = keeps_word (suc d) m one.memory d one.keeps (omega arith) ∙ offset;
+        comes = λ word w found. (
+            let el = element_is lower one.shift k word count stride one.kind v w one.from_lower one.narrow found in
+            let j = el.before * stride in
+            let slot : k + j ≡ start + (o + j) = ap (λ k. k + j) at ∙ add_assoc start o j in
+            let place = el.place in record {
+              behind = j;
+              reached = (el.before, (0, (el.less, (refl, omega arith))));
+              place = omega arith;
+              gives = led_by e lower k count stride one.kind v (k + j) tr one.tracked (b + p.ahead) (one.left + q.ahead)
+                  one.gives el.leads
+                  ∙ ap (λ i. Ok ((i, one.tracked), one.left + q.ahead)) slot;
+            });
+        fewer = one.fewer;
+        keeps = keeps_less d (suc d) m one.memory (omega arith) one.keeps;
+        is = one.is;
+        place = one.place;
+        behind = one.behind;
+        stands = one.stands;
+        ends = one.ends;
+      }
+
+  -- an offset was assigned, from which further subscripts led on
+  module _ (e : SlotExpr) (lower : ℤ) (count stride : ℕ) (ss : Subscripts) (d c : ℕ) (le : d ≤ c)
+      (First : ℕ → ℤ → QuickInstr) (Instr : ℕ → ℤ → ℕ → ℕ → QuickInstr) (p r q : Point) (start o k : ℕ)
+      (at : k ≡ start + o) (there : d < f.size) (leads : LeadsOn ss d)
+      (further : IsLedOn s.frame s.site s.units ss d Instr r q) (m : Memory) (tr : Tracked) (b : ℕ)
+      (site : IsSite s.frame s.site d) (one : HasIndexed e lower c First p r m tr b) (place : ℕ)
+      (found : element_place 0 count stride (look one.memory one.index +ℤ one.shift) ≡ Some place)
+      (runs : Ends f (suc one.place) (with_word one.memory d (pos (o + place))) one.left s.finish) where
+    led_further : HasLed (subscript_then e lower count stride ss) d start o k Instr p q m tr b
+    led_further =
+        let v = look one.memory one.index in
+        let el = element_is lower one.shift k 0 count stride one.kind v place one.from_lower one.narrow found in
+        let j = el.before * stride in
+        let here : place ≡ j = omega (arith, el.place) in
+        let o' = o + place in
+        let slot : k + j ≡ start + o' =
+        ap (λ k. k + j) at ∙ add_assoc start o j ∙ ap (λ j. start + (o + j)) (sym here) in
+        let m' = with_word one.memory d (pos o') in
+        let words = one.is.noted.room.words in
+        let rest = leads Instr r q further start o' (k + j) slot there m' one.tracked one.left site
+        (holds_temporary s.frame s.site s.marks r.noted one.memory one.tracked one.is d site d (pos o') (omega arith))
+        (subst (λ i. Ends f i m' one.left s.finish) (sym one.behind) runs)
+        (word_here one.memory d (pos o') (omega arith)) in
+        let few_one = one.fewer in
+        let few_rest = rest.fewer in
+        record {
+          memory = rest.memory;
+          tracked = rest.tracked;
+          left = rest.left;
+          index = rest.index;
+          shift = rest.shift;
+          count = rest.count;
+          stride = rest.stride;
+          offset = rest.offset;
+          is_offset = rest.is_offset;
+          comes = λ word w found. (
+              let to = rest.comes word w found in
+              let sum : o + (j + to.behind) ≡ o' + to.behind = omega arith in
+              let there = to.place in record {
+                behind = j + to.behind;
+                reached = (el.before, (to.behind, (el.less, (to.reached, refl))));
+                place = omega arith;
+                gives = led_on e lower k count stride ss one.kind v (k + j) tr one.tracked (b + p.ahead)
+                    (one.left + r.ahead) one.gives el.leads
+                    ∙ to.gives
+                    ∙ ap (λ i. Ok ((start + i, rest.tracked), rest.left + q.ahead)) (sym sum);
+              });
+          fewer = omega arith;
+          keeps = keeps_both d d m one.memory rest.memory (omega arith) (keeps_less d c m one.memory le one.keeps)
+              (keeps_both d d one.memory m' rest.memory (omega arith)
+              (keeps_below d one.memory d (pos o') (omega arith)) rest.keeps);
+          is = rest.is;
+          place = rest.place;
+          behind = rest.behind;
+          stands = rest.stands;
+          ends = rest.ends;
+        }
+
+  middle_led : (e : SlotExpr) (lower : ℤ) (count stride : ℕ) (ss : Subscripts) (d : ℕ)
+      → ((u : Kind) → Reads e u (suc d)) → LeadsOn ss d → (Instr : ℕ → ℤ → ℕ → ℕ → QuickInstr) (p q : Point)
+      → AreBoth (IsIndexed f (λ u. Is e u (suc d)) lower (λ i n. LocateBehind d i n d count stride))
+      (IsLedOn s.frame s.site s.units ss d Instr) p q
+      → (start o k : ℕ) → k ≡ start + o → d < f.size
+      → From d p (λ m tr b. look m d ≡ pos o
+      → HasLed (subscript_then e lower count stride ss) d start o k Instr p q m tr b)
+  middle_led e lower count stride ss d reads_e leads Instr p q is start o k at there m tr b site of runs offset =
+      let one = indexed_by e lower (suc d) (λ i n. LocateBehind d i n d count stride) p is.middle reads_e is.first m
+      tr b (deeper s.frame s.site d (suc d) (omega arith) site) of runs in
+      let found = element_place 0 count stride (look one.memory one.index +ℤ one.shift) in
+      let done = has_located f one.place s.finish one.memory one.left d (behind (look one.memory d) found)
+      (stepped f one.place s.finish one.memory one.left _ one.ends one.stands) in
+      let is_behind = is_behind (look one.memory d) found o done.offset
+      (keeps_word (suc d) m one.memory d one.keeps (omega arith) ∙ offset) done.is in
+      led_further e lower count stride ss d (suc d) (omega arith) (λ i n. LocateBehind d i n d count stride) Instr p
+      is.middle q start o k at there leads is.second m tr b site one is_behind.before is_behind.is
+      (subst (λ o. Ends f (suc one.place) (with_word one.memory d (pos o)) one.left s.finish) is_behind.place_is
+      done.ends)
+
+  pub led_first : (e : SlotExpr) (lower : ℤ) (count stride : ℕ) (ss : Subscripts) (d start : ℕ)
+      (Instr : ℕ → ℤ → ℕ → ℕ → QuickInstr) (p q : Point) → ((u : Kind) → Reads e u d) → LeadsOn ss d
+      → IsLed f (λ u. Is e u d) lower count stride d (IsLedOn s.frame s.site s.units ss d Instr) p q
+      → From d p (HasLed (subscript_then e lower count stride ss) d start 0 start Instr p q)
+  led_first e lower count stride ss d start Instr p q reads_e leads is m tr b site of runs =
+      let one = indexed_by e lower d (λ i n. Locate i n d count stride) p is.located reads_e is.first m tr b site of
+      runs in
+      let found = element_place 0 count stride (look one.memory one.index +ℤ one.shift) in
+      let done = has_located f one.place s.finish one.memory one.left d found
+      (stepped f one.place s.finish one.memory one.left _ one.ends one.stands) in
+      led_further e lower count stride ss d d (omega arith) (λ i n. Locate i n d count stride) Instr p is.located q
+      start 0 start (omega arith) is.there leads is.further m tr b site one done.offset done.is
+      (subst (λ o. Ends f (suc one.place) (with_word one.memory d (pos o)) one.left s.finish)
+      (let same : done.offset ≡ 0 + done.offset = omega arith in same) done.ends)
+
+  -- an element of an array in an array was loaded
+  pub within_by : (a : Anchor) (e : SlotExpr) (lower : ℤ) (count stride : ℕ) (ss : Subscripts) (t : Kind) (d to : ℕ)
+      (p q : Point) → ((u : Kind) → Reads e u d) → LeadsOn ss d
+      → IsWithin f s.site (slot_at (base_of s.site) a) (subscript_then e lower count stride ss) t
+      (λ word. IsLed f (λ u. Is e u d) lower count stride d
+      (IsLedOn s.frame s.site s.units ss d (λ i n count stride. LoadBehind d i n to word count stride))) p q
+      → From d p (HasMade (load (place a (subscript_then e lower count stride ss))) t d to p q)
+  within_by a e lower count stride ss t d to p q reads_e leads is m tr b site of runs =
+      let first = slot_at (base_of s.site) a in
+      let all = subscript_then e lower count stride ss in
+      let one = led_first e lower count stride ss d first (λ i n count stride. LoadBehind d i n to is.word count stride)
+      p q reads_e leads is.led m tr b site of runs in
+      let at = element_place is.word one.count one.stride (look one.memory one.index +ℤ one.shift) in
+      let done = of_load f one.place s.finish one.memory one.left (place_behind one.memory d at) to
+      (stepped f one.place s.finish one.memory one.left _ one.ends one.stands) in
+      let here = place_is one.memory d one.offset done.place at one.is_offset done.is in
+      let comes = one.comes is.word here.before here.is in
+      let o = comes.behind in
+      let k = first + o in
+      let word : done.place ≡ is.word + o = omega (arith, here.place_is, comes.place) in
+      let slot : first + (0 + o) ≡ k = omega arith in
+      let target = is.reached.each o comes.reached in
+      let own = subst (HasOwnWord s.site k) (sym word) (is.reached.words o comes.reached) in
+      let value = own_value s.frame s.site s.marks q.noted one.memory one.tracked one.is d site k done.place t target
+      own in
+      record {
+        memory = note noted_read done.place one.memory;
+        tracked = with_look one.tracked k;
+        left = one.left;
+        word = look one.memory done.place;
+        gives = then_gives (marked_led z tr first all (b + p.ahead)) (k, one.tracked) (one.left + q.ahead)
+            (λ r. marked_load s.stand_ins r.1 r.0)
+            (comes.gives ∙ ap (λ k. Ok ((k, one.tracked), one.left + q.ahead)) slot)
+            ∙ load_gives s.stand_ins one.tracked k (datum_at t (look one.memory done.place)) (one.left + q.ahead)
+            value.is value.held;
+        fewer = one.fewer;
+        keeps = record { long = one.keeps.long; same = one.keeps.same };
+        is = holds_loaded s.frame s.site s.marks q.noted one.memory one.tracked one.is d site k done.place t target own
+            (is.reached.exact o comes.reached);
+        held = value.held;
+        ends = subst (λ i. Ends f i (with_word (note noted_read done.place one.memory) to (look one.memory done.place))
+            one.left s.finish) (sym one.behind) done.ends;
+      }
+
   mutual
     pub reads : (e : SlotExpr) (t : Kind) (d : ℕ) → Reads e t d
     reads (constant l) t d = read_constant l t d
@@ -550,7 +888,10 @@ module _ (s : Setting) where
     reads (load (place a (subscript_then i lower count stride no_subscripts))) t d = λ k p q is.
         read_made (load (place a (subscript_then i lower count stride no_subscripts))) t d k p q is.0
         (fetched_by a i lower count stride t d k p q (λ u. reads i u d) is.1)
-    reads (load (place a (subscript_then i lower count stride (subscript_then j l c s ss)))) t d = λ k p q is. absurd is
+    reads (load (place a (subscript_then i lower count stride (subscript_then j l c r ss)))) t d = λ k p q is.
+        read_made (load (place a (subscript_then i lower count stride (subscript_then j l c r ss)))) t d k p q is.0
+        (within_by a i lower count stride (subscript_then j l c r ss) t d k p q (λ u. reads i u d)
+        (leads_on (subscript_then j l c r ss) d) is.1)
     reads (compute ABS es) t d = λ k p q is. absurd is
     reads (compute MIN es) t d = λ k p q is. absurd is
     reads (compute MAX es) t d = λ k p q is. absurd is
@@ -566,7 +907,10 @@ module _ (s : Setting) where
     reads (call g es) t d = λ k p q is.
         read_made (call g es) t d k p q is.0
         (called_by g es t d k p q (λ kinds words. reads_all es d kinds words) is.1)
-    reads (unary op e) t d = λ k p q is. absurd is
+    reads (unary Negate e) t d = λ k p q is.
+        read_made (unary Negate e) t d k p q is.0 (negated_by e t d k p q (reads e t d) is.1)
+    reads (unary Not e) t d = λ k p q is.
+        read_made (unary Not e) t d k p q is.0 (turned_by e t d k p q (reads e t d) is.1)
     reads (binary op l r) t d = λ k p q is.
         read_made (binary op l r) t d k p q is.0
         (binary_by op l r t d k p q (λ u. reads l u d) (λ u. reads r u (suc d)) is.1)
@@ -579,3 +923,11 @@ module _ (s : Setting) where
     reads_all (expr_then e es) d (t ∷ kinds) [] = λ p q is. absurd is
     reads_all (expr_then e es) d (t ∷ kinds) (w ∷ words) =
         read_further e es d t kinds w words (reads e t d) (reads_all es (suc d) kinds words)
+
+    pub leads_on : (ss : Subscripts) (d : ℕ) → LeadsOn ss d
+    leads_on no_subscripts d = λ Instr p q is. absurd is
+    leads_on (subscript_then e lower count stride no_subscripts) d =
+        last_led e lower count stride d (λ u. reads e u (suc d))
+    leads_on (subscript_then e lower count stride (subscript_then i l c r ss)) d =
+        middle_led e lower count stride (subscript_then i l c r ss) d (λ u. reads e u (suc d))
+        (leads_on (subscript_then i l c r ss) d)

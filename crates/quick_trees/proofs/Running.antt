@@ -1,6 +1,6 @@
 -- Parts of a unit, and how code does what they mean.
-use Rattle.std.proofs.Common.{◌≡◌, ℕ, suc, ◌+◌, ◌-◌, ◌*◌, ◌≤◌, Bool, true, false, List, [], ◌∷◌, Some, Ok}
-use Rattle.std.proofs.Common.{refl, sym, ap, ap₂, subst, ◌∙◌, arith, inl, inr, ℤ}
+use Rattle.std.proofs.Common.{◌≡◌, ℕ, suc, ◌+◌, ◌-◌, ◌*◌, ◌≤◌, Bool, true, false, List, [], ◌∷◌, Some, Ok, refl, sym}
+use Rattle.std.proofs.Common.{ap, ap₂, subst, ◌∙◌, arith, inl, inr, ℤ, ◌+ℤ◌, None, length}
 use Rattle.std.specs.Prelude.{◌&&◌, if◌then◌else◌, not, slice_get}
 use Rattle.st_words.specs.declared.kind.Kind.{Kind}
 use Rattle.st_words.proofs.KindLemmas.{same_kind-refl}
@@ -10,30 +10,29 @@ use Rattle.st_types.specs.Failures.{StandIns, ill_typed, or_failure}
 use Rattle.st_types.specs.Loops.{behind, exits, goes_on, returns}
 use Rattle.st_types.specs.Ticks.{Run, ◌>>◌, attempt, follow, give, tick}
 use Rattle.machine_code.specs.Tracking.{Tracked, replaced, written}
-use Rattle.quick_code.specs.QuickSteps.{Memory, look, note, noted_read, noted_written, with_word}
-use Rattle.quick_code.specs.declared.quick_instr.QuickInstr.TheVariants.{NoteRead, NoteWritten}
-use Rattle.slot_trees.specs.SlotTrees.{Anchor, Place, SlotExpr, no_subscripts, place, subscript_then}
+use Rattle.quick_code.specs.QuickSteps.{Memory, look, note, noted_read, noted_written, with_word, place_behind}
+use Rattle.quick_code.specs.declared.quick_instr.QuickInstr.TheVariants.{NoteRead, NoteWritten, StoreBehind}
+use Rattle.slot_trees.specs.SlotTrees.{Anchor, Place, SlotExpr, Subscripts, no_subscripts, place, subscript_then}
 use Rattle.slot_trees.specs.SlotEvaluation.{slot_at}
 use Rattle.slot_trees.specs.SlotRuns.{state_of}
 use Rattle.tree_code.specs.MarkedEvaluation.{MarkedScope, marked_place, marked_truth, marked_value}
 use Rattle.tree_code.specs.MarkedExecution.{MarkedEnd, marked_assigning, marked_put}
 use Rattle.quick_trees.specs.Pieces.{AreBoth, IsArm, IsTicked}
-use Rattle.quick_trees.specs.Points.{AllNoted, AreNoted, IsNoted, Joins, Meets, Note, Part, Point}
-use Rattle.quick_trees.specs.Points.{assignment_of, look_of}
+use Rattle.quick_trees.specs.Points.{AllNoted, AreNoted, IsNoted, Joins, Meets, Note, Part, Point, assignment_of}
+use Rattle.quick_trees.specs.Points.{look_of}
 use Rattle.quick_trees.specs.QuickMemory.{Ends}
 use Rattle.quick_trees.specs.Sites.{HasOwnWord, base_of}
-use Rattle.quick_trees.specs.Standing.{Exits, IsAssignment, IsStored, IsTestedFor}
+use Rattle.quick_trees.specs.Standing.{Exits, IsAssignment, IsStored, IsStoredWithin, IsTestedFor}
 use Rattle.quick_trees.proofs.Stepping.{HasBranched, has_taken, stepped}
-use Rattle.quick_trees.proofs.Memories.{IsSite, Spares, deeper, holds_assigned, holds_stored, keeps_both}
-use Rattle.quick_trees.proofs.Memories.{keeps_word, marks_of, noted_assignment, noted_look, own_value, spares_all}
-use Rattle.quick_trees.proofs.Memories.{spares_both, spares_kept, spares_own, still_told}
-use Rattle.quick_trees.proofs.Elements.{element_is, has_stored}
+use Rattle.quick_trees.proofs.Memories.{IsSite, Spares, deeper, holds_assigned, holds_stored, keeps_both, keeps_word}
+use Rattle.quick_trees.proofs.Memories.{marks_of, noted_assignment, noted_look, own_value, spares_all, spares_both}
+use Rattle.quick_trees.proofs.Memories.{spares_kept, spares_own, still_told}
+use Rattle.quick_trees.proofs.Elements.{element_is, has_stored, of_store, place_is}
+use Rattle.quick_code.specs.Words.{element_place}
 use Rattle.quick_trees.proofs.Settings.{Setting, scope_of}
 use Rattle.quick_trees.proofs.Truths.{then_gives}
-use Rattle.quick_trees.proofs.Reading.{AreHeld, From, led_by, reads}
+use Rattle.quick_trees.proofs.Reading.{AreHeld, From, leads_on, led_by, led_first, reads}
 use Rattle.quick_trees.proofs.Testing.{made, tested, truth_is}
-use Rattle.std.proofs.Common.{None}
-use Rattle.std.proofs.Common.{length}
 
 -- where a run of statements comes that ends so
 abbrev pub reached : Exits → Point → MarkedEnd → Point
@@ -400,6 +399,62 @@ module _ (s : Setting) where
               target own w held (r.elements.exact leads.before leads.less);
           ends = done.ends;
         });
+      }
+
+  pub does_store_within : (a : Anchor) (i : SlotExpr) (lower : ℤ) (count stride : ℕ) (ss : Subscripts) (y : SlotExpr)
+      (d : ℕ) (e : Exits)
+      → Does (marked_assigning z (place a (subscript_then i lower count stride ss)) y) d e
+      (IsStoredWithin s.frame s.site s.units a i lower count stride ss y d)
+  does_store_within a i lower count stride ss y d e p q r m tr b site is runs =
+      let first = slot_at (base_of s.site) a in
+      let t = r.kind in
+      let v = r.stores.word in
+      let one = reads s y t d r.from p r.middle r.value m tr b site is runs in
+      let two = led_first s i lower count stride ss (suc d) first
+      (λ i n count stride. StoreBehind (suc d) i n r.from v count stride) r.middle q (λ u. reads s i u (suc d))
+      (leads_on s ss (suc d)) r.stores.led one.memory one.tracked one.left
+      (deeper s.frame s.site d (suc d) (omega arith) site) one.is one.ends in
+      let found = element_place v two.count two.stride (look two.memory two.index +ℤ two.shift) in
+      let kept = keeps_word (suc d) one.memory two.memory r.from two.keeps one.low in
+      let w = look two.memory r.from in
+      let held = subst (λ w. IsHeld (datum_at t w)) (sym kept) one.held in
+      let value = one.gives ∙ ap (λ w. Ok ((datum_at t w, one.tracked), one.left + r.middle.ahead)) (sym kept) in
+      let done = of_store s.frame two.place s.finish two.memory two.left (place_behind two.memory (suc d) found) w
+      (stepped s.frame two.place s.finish two.memory two.left _ two.ends two.stands) in
+      let here = place_is two.memory (suc d) two.offset done.place found two.is_offset done.is in
+      let comes = two.comes v here.before here.is in
+      let o = comes.behind in
+      let k = first + o in
+      let word : done.place ≡ v + o = omega (arith, here.place_is, comes.place) in
+      let slot : first + (0 + o) ≡ k = omega arith in
+      let target = r.stores.reached.each o comes.reached in
+      let own = subst (HasOwnWord s.site k) (sym word) (r.stores.reached.words o comes.reached) in
+      let old = own_value s.frame s.site s.marks q.noted two.memory two.tracked two.is d site k done.place t target own
+      in
+      let after = written two.tracked k (datum_at t w) in
+      let m' = with_word (note noted_written done.place two.memory) done.place w in
+      let rest = two.left + q.ahead in
+      let keeps = keeps_both d (suc d) m one.memory two.memory (omega arith) one.keeps two.keeps in
+      let few_one = one.fewer in
+      let few_two = two.fewer in
+      record {
+        end = goes_on after;
+        rest = rest;
+        gives = assigns (place a (subscript_then i lower count stride ss)) y tr one.tracked two.tracked (b + p.ahead)
+            (one.left + r.middle.ahead) rest k t w (look two.memory done.place) value
+            (comes.gives ∙ ap (λ k. Ok ((k, two.tracked), rest)) slot) old.is held;
+        fewer = omega arith;
+        ended = record {
+          memory = m';
+          left = two.left;
+          ticks = refl;
+          spares = spares_both s.frame s.site d d m two.memory m' (omega arith)
+              (spares_kept s.frame s.site d m two.memory keeps)
+              (spares_own s.frame s.site d two.memory m' k done.place t w target own refl);
+          is = holds_stored s.frame s.site s.marks q.noted two.memory two.tracked two.is d site k done.place t target
+              own w held (r.stores.reached.exact o comes.reached);
+          ends = subst (λ i. Ends s.frame i m' two.left s.finish) (sym two.behind) done.ends;
+        };
       }
 
   -- one part behind another, unless this left the unit or a loop

@@ -1,5 +1,5 @@
--- Where code that stands for a unit runs, and what the code of the functions that it calls does.
-use Rattle.std.proofs.Common.{◌≡◌, ℕ, ◌+◌, ◌<◌, ◌≤◌, ℤ, List, length, Some, Ok}
+-- Where code that stands for a unit runs, and what the code of the functions and blocks that it calls does.
+use Rattle.std.proofs.Common.{◌≡◌, ℕ, ◌+◌, ◌<◌, ◌≤◌, ℤ, List, length, Some, Ok, []}
 use Rattle.std.specs.Prelude.{slice_get}
 use Rattle.st_words.specs.declared.kind.Kind.{Kind}
 use Rattle.st_words.specs.Values.{Datum, IsHeld}
@@ -12,9 +12,11 @@ use Rattle.quick_code.specs.QuickSteps.{Memory, look, with_word}
 use Rattle.tree_code.specs.MarkedEvaluation.{MarkedScope, MarkedUnits}
 use Rattle.quick_trees.specs.Points.{Point}
 use Rattle.quick_trees.specs.QuickMemory.{Ends, Frame, first_temporary}
-use Rattle.quick_trees.specs.Sites.{Site, base_of}
+use Rattle.quick_trees.specs.Sites.{Site, base_of, whole}
 use Rattle.quick_trees.specs.Standing.{QuickUnits}
-use Rattle.quick_trees.proofs.Memories.{IsNoted, Keeps}
+use Rattle.quick_trees.proofs.Memories.{Holds, IsNoted, Keeps, Spares}
+use Rattle.slot_trees.specs.SlotTrees.{BlockCode}
+use Rattle.machine_code.specs.Tracking.{Tracked}
 
 -- Words below a depth have the values of arguments.
 pub record AreGiven (m : Memory) (d : ℕ) (kinds : List Kind) (words : List ℕ) (values : List Datum) : Type 0 where
@@ -47,6 +49,25 @@ DoesCalls f x units means =
     → first_temporary f ≤ d → IsNoted f p.noted marks m → AreGiven m d kinds words values → Ends f p.place m b x
     → HasCalled f x (means.functions i values) t d to p q marks m b
 
+-- A block was called on an instance: what its body did is in the words of the program.
+pub record HasInvoked (f : Frame) (x : Left) (run : Tracked → Run Tracked) (at d : ℕ) (p q : Point) (m : Memory)
+    (tr : Tracked) (b : ℕ) : Type 0 where
+  pub memory : Memory
+  pub tracked : Tracked
+  pub left : ℕ
+  pub gives : run tr (b + p.ahead) ≡ Ok (tracked, left + q.ahead)
+  pub fewer : left + q.ahead ≤ b + p.ahead
+  pub spares : Spares f (whole at) d m memory
+  pub is : Holds f (whole at) [] q.noted memory tracked
+  pub ends : Ends f q.place memory left x
+
+-- code in the place of a call of a block does what the block does
+abbrev pub DoesBlocks : Frame → Left → QuickUnits → MarkedUnits → Type 0
+DoesBlocks f x units means =
+    (c : BlockCode) (at d : ℕ) (p q : Point) → units.blocks c at d p q → (m : Memory) (tr : Tracked) (b : ℕ)
+    → first_temporary f ≤ d → Holds f (whole at) [] p.noted m tr → Ends f p.place m b x
+    → HasInvoked f x (means.blocks c at) at d p q m tr b
+
 -- The code, where the unit's values stand, what units stand for and what they mean, the marks of the slots of what
 -- called the unit, and what the run leaves.
 pub record Setting : Type 1 where
@@ -58,6 +79,7 @@ pub record Setting : Type 1 where
   pub marks : List Mark
   pub finish : Left
   pub does : DoesCalls frame finish units means
+  pub does_blocks : DoesBlocks frame finish units means
 
 abbrev pub scope_of : Setting → MarkedScope
 scope_of s = record { units = s.means; base = base_of s.site; stand_ins = s.stand_ins }

@@ -1,6 +1,6 @@
 -- Code that stands for statements does what they mean.
-use Rattle.std.proofs.Common.{◌≡◌, ℕ, suc, ◌+◌, ◌-◌, ◌≤◌, ◌+ℤ◌, ℤ, Bool, true, false, Option, Some, None}
-use Rattle.std.proofs.Common.{refl, ap, subst, ◌∙◌, arith}
+use Rattle.std.proofs.Common.{◌≡◌, ℕ, suc, ◌+◌, ◌-◌, ◌≤◌, ◌+ℤ◌, ℤ, Bool, true, false, Option, Some, None, refl, ap}
+use Rattle.std.proofs.Common.{subst, ◌∙◌, arith}
 use Rattle.std.specs.Prelude.{if◌then◌else◌, slice_get}
 use Rattle.std.specs.List.{list_any}
 use Rattle.st_words.specs.Words.{datum_at, number_at}
@@ -12,20 +12,20 @@ use Rattle.quick_code.specs.declared.quick_code.Way.{Way}
 use Rattle.quick_code.specs.QuickRuns.{Left}
 use Rattle.quick_code.specs.QuickSteps.{Memory, look, taken_if_any}
 use Rattle.quick_code.specs.Words.{case_of}
-use Rattle.slot_trees.specs.SlotTrees.{SlotArms, SlotCaseArms, SlotExpr, SlotStmt, SlotStmts, arm_then, assign}
-use Rattle.slot_trees.specs.SlotTrees.{CASE, case_arm_then, empty, EXIT, FOR, IF, invoke, no_arms, no_case_arms}
-use Rattle.slot_trees.specs.SlotTrees.{no_stmts, no_subscripts, place, REPEAT, RETURN, stmt_then, subscript_then, WHILE}
+use Rattle.slot_trees.specs.SlotTrees.{SlotArms, SlotCaseArms, SlotExpr, SlotStmt, SlotStmts, arm_then, assign, CASE}
+use Rattle.slot_trees.specs.SlotTrees.{case_arm_then, empty, EXIT, FOR, IF, invoke, no_arms, no_case_arms, no_stmts}
+use Rattle.slot_trees.specs.SlotTrees.{no_subscripts, place, REPEAT, RETURN, stmt_then, subscript_then, WHILE}
 use Rattle.slot_trees.specs.SlotEvaluation.{slot_at}
 use Rattle.tree_code.specs.MarkedEvaluation.{MarkedScope, marked_truth, marked_value}
 use Rattle.tree_code.specs.MarkedExecution.{MarkedEnd, marked_assigning, marked_counting, marked_exec, marked_exec_all}
 use Rattle.tree_code.specs.MarkedExecution.{marked_exec_arms, marked_exec_case, marked_guarded, marked_loop}
-use Rattle.tree_code.specs.MarkedExecution.{marked_no_step, marked_until}
+use Rattle.tree_code.specs.MarkedExecution.{marked_no_step, marked_until, marked_invoking}
 use Rattle.quick_trees.specs.Pieces.{AreBoth, IsArm, IsLoop, IsUntil}
 use Rattle.quick_trees.specs.Points.{Joins, Meets, Part, along}
 use Rattle.quick_trees.specs.QuickMemory.{Ends, Frame}
 use Rattle.quick_trees.specs.Sites.{base_of}
 use Rattle.quick_trees.specs.Standing.{ArmsStand, ChosenStand, Exits, IsAssignment, IsCase, IsFor, IsStored}
-use Rattle.quick_trees.specs.Standing.{IsTestedFor, StandsFor, StmtsStand, part_by}
+use Rattle.quick_trees.specs.Standing.{IsTestedFor, StandsFor, StmtsStand, part_by, IsStoredWithin, IsInvoked}
 use Rattle.quick_trees.proofs.Stepping.{Follows, has_taken, stepped}
 use Rattle.quick_trees.proofs.Memories.{spares_kept}
 use Rattle.quick_trees.proofs.Elements.{narrow_number}
@@ -33,9 +33,10 @@ use Rattle.quick_trees.proofs.Settings.{Setting, scope_of}
 use Rattle.quick_trees.proofs.Truths.{then_gives}
 use Rattle.quick_trees.proofs.Reading.{Is, reads}
 use Rattle.quick_trees.proofs.Running.{Does, HasRun, does_arm, does_assign, does_exit, does_nothing, does_return}
-use Rattle.quick_trees.proofs.Running.{does_store, gives_same, in_turn, noting, run_joined, ticked}
+use Rattle.quick_trees.proofs.Running.{does_store_within, does_store, gives_same, in_turn, noting, run_joined, ticked}
 use Rattle.quick_trees.proofs.Looping.{does_repeat, does_while}
 use Rattle.quick_trees.proofs.Counting.{does_for}
+use Rattle.quick_trees.proofs.Invoking.{does_invoke}
 
 -- A way of a table was gone.
 record HasSwitched (f : Frame) (e : Left) (o : Option Way) (m : Memory) (b : ℕ) : Type 0 where
@@ -101,8 +102,12 @@ module _ (s : Setting) where
         ticked s (marked_assigning z (place a (subscript_then i lower count stride no_subscripts)) y) d e
         (IsStored s.frame s.site s.units a i lower count stride y d) (does_store s a i lower count stride y d e)
     does_stmt (assign (place a (subscript_then i lower count stride (subscript_then j l c r ss))) y) d e =
-        λ p q r. absurd r
-    does_stmt (invoke a code arguments) d e = λ p q r. absurd r
+        ticked s (marked_assigning z (place a (subscript_then i lower count stride (subscript_then j l c r ss))) y) d e
+        (IsStoredWithin s.frame s.site s.units a i lower count stride (subscript_then j l c r ss) y d)
+        (does_store_within s a i lower count stride (subscript_then j l c r ss) y d e)
+    does_stmt (invoke a code arguments) d e =
+        ticked s (marked_invoking z (slot_at (base_of s.site) a) code arguments) d e
+        (IsInvoked s.frame s.site s.units a code arguments d) (does_invoke s a code arguments d e)
     does_stmt (IF arms otherwise) d e =
         ticked s (marked_exec_arms z arms (marked_exec_all z otherwise)) d e
         (ArmsStand s.frame s.site s.units arms (StmtsStand s.frame s.site s.units otherwise d e) d e)

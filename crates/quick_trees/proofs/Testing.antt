@@ -1,6 +1,5 @@
 -- Code that assigns, keeps or tests the value of an expression.
-use Rattle.std.proofs.Common.{◌≡◌, ℕ, suc, ◌+◌, ◌≤◌, pos, Bool, true, false, Ok, sym, ap}
-use Rattle.std.proofs.Common.{subst, ◌∙◌, arith, inl, inr}
+use Rattle.std.proofs.Common.{◌≡◌, ℕ, suc, ◌+◌, ◌≤◌, pos, Bool, true, false, Ok, sym, ap, subst, ◌∙◌, arith, inl, inr}
 use Rattle.std.specs.Prelude.{◌⊎◌, not}
 use Rattle.std.specs.Ordering.{int_eq}
 use Rattle.st_words.specs.declared.kind.Kind.{Kind}
@@ -25,9 +24,9 @@ use Rattle.quick_trees.proofs.Memories.{Keeps, keeps_all}
 use Rattle.quick_trees.proofs.Operators.{has_compared, has_compared_to, turn_for}
 use Rattle.quick_trees.proofs.Settings.{Setting, scope_of}
 use Rattle.quick_trees.proofs.Truths.{not_is, not_not, then_gives, truth_is_word, truth_of_truth, turned}
-use Rattle.quick_trees.proofs.Reading.{AreHeld, From, HasMade, HasRead, Is, applied_to, binary_by, called_by}
-use Rattle.quick_trees.proofs.Reading.{fetched_by}
-use Rattle.quick_trees.proofs.Reading.{number_gives, number_held, read_both, read_made, reads, reads_all}
+use Rattle.quick_trees.proofs.Reading.{negated_by, turned_by, AreHeld, From, HasMade, HasRead, Is, applied_to}
+use Rattle.quick_trees.proofs.Reading.{binary_by, called_by, fetched_by, leads_on, within_by, number_gives, number_held}
+use Rattle.quick_trees.proofs.Reading.{read_both, read_made, reads, reads_all}
 
 module _ (s : Setting) where
   abbrev z : MarkedScope
@@ -73,11 +72,13 @@ module _ (s : Setting) where
   made (load (place a (subscript_then i lower count stride no_subscripts))) t d to p q is =
       fetched_by s a i lower count stride t d to p q (λ u. reads s i u d) is
   made (load (place a (subscript_then i lower count stride (subscript_then j l c r ss)))) t d to p q is =
-      moved (load (place a (subscript_then i lower count stride (subscript_then j l c r ss)))) t d to p q is
+      within_by s a i lower count stride (subscript_then j l c r ss) t d to p q (λ u. reads s i u d)
+      (leads_on s (subscript_then j l c r ss) d) is
   made (compute g es) t d to p q is = moved (compute g es) t d to p q is
   made (call g es) t d to p q is =
       called_by s g es t d to p q (λ kinds words. reads_all s es d kinds words) is
-  made (unary op e) t d to p q is = moved (unary op e) t d to p q is
+  made (unary Negate e) t d to p q is = negated_by s e t d to p q (reads s e t d) is
+  made (unary Not e) t d to p q is = turned_by s e t d to p q (reads s e t d) is
   made (binary op l r) t d to p q is =
       binary_by s op l r t d to p q (λ u. reads s l u d) (λ u. reads s r u (suc d)) is
 

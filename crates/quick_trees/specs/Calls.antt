@@ -1,14 +1,20 @@
--- Quick code of functions in the place of their calls.
+-- Quick code of functions and blocks in the place of their calls.
 use Rattle.std.specs.Prelude.{◌≡◌, ◌≤◌, ◌+◌, ◌⊎◌, ℕ, ℤ, zero, suc, true, false, List, [], ◌∷◌, length, map, Some}
 use Rattle.std.specs.Prelude.{slice_get}
 use Rattle.st_words.specs.declared.kind.Kind.{Kind}
 use Rattle.st_words.specs.Values.{Datum, IsHeld}
 use Rattle.st_words.specs.Words.{datum_at}
-use Rattle.quick_code.specs.declared.quick_instr.QuickInstr.TheVariants.{Move, Set}
-use Rattle.slot_trees.specs.SlotTrees.{SlotFunction, SlotLibrary}
+use Rattle.quick_code.specs.declared.quick_instr.QuickInstr.TheVariants.{Move, Set, Step}
+use Rattle.quick_code.specs.Blocks.{member_count}
+use Rattle.st_types.specs.StandardBlocks.{BlockMember, StandardBlock, members_of}
+use Rattle.st_names.specs.Standard.{block_view}
+use Rattle.st_names.specs.declared.standard_blocks.StandardBlock as code_block
+use Rattle.quick_trees.specs.declared.noting.Noting.{Noting}
+use Rattle.quick_trees.specs.Notes.{AllChange, at_assignment, at_look}
+use Rattle.slot_trees.specs.SlotTrees.{BlockCode, SlotFunction, SlotLibrary, SlotStmts, own_block, standard_block}
 use Rattle.quick_trees.specs.Points.{Point, Part, next, Joins}
 use Rattle.quick_trees.specs.QuickMemory.{Frame}
-use Rattle.quick_trees.specs.Sites.{Seat, called}
+use Rattle.quick_trees.specs.Sites.{Seat, called, whole}
 use Rattle.quick_trees.specs.Standing.{QuickUnits, StmtsStand}
 
 -- the types of a function's values
@@ -65,14 +71,43 @@ pub record IsFunction (f : Frame) (units : QuickUnits) (g : SlotFunction) (kinds
   pub moved : slice_get f.code last.place ≡ Some (Move result.word to)
   pub is : q ≡ next last
 
--- the functions of a text, where those that they call stand so
+-- A block's body stands on an instance, with temporaries from a depth on. RETURN leads behind it.
+pub record IsBlock (f : Frame) (units : QuickUnits) (body : SlotStmts) (at d : ℕ) (p q : Point) : Type 0 where
+  pub end : Point
+  pub stands : StmtsStand f (whole at) units body d (record { out = q; back = q }) p end
+  pub joins : Joins f end q
+
+-- the members of a standard block stand from a slot on
+abbrev pub AreMembers : Frame → List BlockMember → ℕ → Type 0
+AreMembers f [] k = Unit {0}
+AreMembers f (x ∷ members) k = (slice_get f.kinds k ≡ Some x.1) × AreMembers f members (suc k)
+
+-- A standard block steps by an instruction: all members are looked up, and then all are assigned.
+pub record IsStepped (f : Frame) (b : StandardBlock) (at : ℕ) (p q : Point) : Type 0 where
+  pub block : code_block.StandardBlock
+  pub is_block : block_view block ≡ b
+  pub members : AreMembers f (members_of b) at
+  pub stands : slice_get f.code p.place ≡ Some (Step block at)
+  pub looked : List Noting
+  pub looks : AllChange at_look at (member_count b) p.noted looked
+  pub is : q ≡ record (next p) { noted = q.noted }
+  pub assigns : AllChange at_assignment at (member_count b) looked q.noted
+
+-- the code of a block on an instance that begins at a slot
+abbrev pub BlockStands : Frame → SlotLibrary → QuickUnits → BlockCode → ℕ → ℕ → Part
+BlockStands f library units (own_block i) at d p q =
+    (body : SlotStmts) × ((slice_get library.blocks i ≡ Some body) × IsBlock f units body at d p q)
+BlockStands f library units (standard_block b) at d p q = IsStepped f b at p q
+
+-- the units of a text, where those that they call stand so
 abbrev pub quick_units_over : Frame → SlotLibrary → QuickUnits → QuickUnits
 quick_units_over f library units = record {
   functions = λ i kinds words d t to p q. (g : SlotFunction)
       × ((slice_get library.functions i ≡ Some g) × IsFunction f units g kinds words d t to p q);
+  blocks = BlockStands f library units;
 }
 
 -- with calls at most so deep
 unfoldable pub quick_units : Frame → SlotLibrary → ℕ → QuickUnits
-quick_units f library zero = record { functions = λ i kinds words d t to p q. ⊥ }
+quick_units f library zero = record { functions = λ i kinds words d t to p q. ⊥; blocks = λ c at d p q. ⊥ }
 quick_units f library (suc n) = quick_units_over f library (quick_units f library n)

@@ -11,6 +11,11 @@ pub mod Example
 pub mod LoopExample
 pub mod CountExample
 pub mod CallExample
+pub mod ArrayExample
+pub mod BlockExample
+pub mod StepExample
+pub mod SignExample
+pub mod ConstantExample
 pub mod CaseExample
 pub mod RepeatExample
 pub mod ReturnExample

@@ -1,12 +1,12 @@
 -- What is known of a slot's note at a place of the code, and what changes it.
-use Rattle.std.specs.Prelude.{◌≡◌, ℕ, List, Bool, true, false, ◌||◌, if◌then◌else◌, Option, Some, None}
+use Rattle.std.specs.Prelude.{◌≡◌, ℕ, zero, suc, List, Bool, true, false, ◌||◌, if◌then◌else◌, Option, Some, None}
 use Rattle.std.specs.Prelude.{slice_get, slice_set}
 use Rattle.machine_code.specs.declared.mark.Mark.{Mark}
 use Rattle.machine_code.specs.Tracking.{seen, assigned}
 use Rattle.quick_code.specs.QuickSteps.{or_none}
 use Rattle.quick_trees.specs.declared.noting.Noting.{Noting}
-use Rattle.quick_trees.specs.declared.noting.Noting.TheVariants.{Exact, LookAhead, AssignmentAhead, BothAhead}
-use Rattle.quick_trees.specs.declared.noting.Noting.TheVariants.{Looked, LookedAssignmentAhead, Assigned}
+use Rattle.quick_trees.specs.declared.noting.Noting.TheVariants.{Exact, LookAhead, AssignmentAhead, BothAhead, Looked}
+use Rattle.quick_trees.specs.declared.noting.Noting.TheVariants.{LookedAssignmentAhead, Assigned}
 
 -- the note that tells of a mark: 1 where the slot was only looked up, 2 where it was assigned first, 3 where both
 abbrev pub note_of : Mark → ℕ
@@ -75,6 +75,12 @@ pub record Changes (change : Noting → Option Noting) (k : ℕ) (before after :
   pub new : Noting
   pub is : change old ≡ Some new
   pub rest : after ≡ slice_set before k new
+
+-- what is known of so many slots, one after another
+abbrev pub AllChange : (Noting → Option Noting) → ℕ → ℕ → List Noting → List Noting → Type 0
+AllChange change k zero before after = before ≡ after
+AllChange change k (suc n) before after =
+    (between : List Noting) × (Changes change k before between × AllChange change (suc k) n between after)
 
 -- what is known of each slot is known of it here, too
 pub record Tells (these those : List Noting) : Type 0 where

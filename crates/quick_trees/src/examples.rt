@@ -1,18 +1,25 @@
 //! Worked examples, proved by computation.
 
-ghost use Rattle.std.specs.Prelude.{◌≡◌, Ok, Some, None, [], pos, false, true};
+ghost use Rattle.std.specs.Prelude.{◌≡◌, Ok, Some, None, [], ◌∷◌, pos, negsuc, false, true};
 ghost use Rattle.st_types.specs.Failures.{in_runs};
 ghost use Rattle.st_types.specs.Loops.{goes_on};
 ghost use Rattle.tree_code.specs.MarkedRuns.{marked_ran};
 ghost use Rattle.quick_code.specs.QuickRuns.{exec, left};
+ghost use Rattle.quick_trees.specs.ArrayExample.{array_body, array_code, array_frame, array_slots, array_words};
+ghost use Rattle.quick_trees.specs.BlockExample.{block_body, block_code, block_frame, block_library, block_slots};
+ghost use Rattle.quick_trees.specs.BlockExample.{block_words};
 ghost use Rattle.quick_trees.specs.CallExample.{call_body, call_code, call_frame, call_library, call_words};
 ghost use Rattle.quick_trees.specs.CaseExample.{case_body, case_code, case_frame, case_ways, case_words};
+ghost use Rattle.quick_trees.specs.ConstantExample.{constant_body, constant_code, constant_frame, constant_slots};
+ghost use Rattle.quick_trees.specs.ConstantExample.{constant_words};
 ghost use Rattle.quick_trees.specs.CountExample.{count_body, count_code, count_frame, count_slots, count_words};
 ghost use Rattle.quick_trees.specs.Example.{its_body, its_code, its_frame, its_slots, its_words, mark, no_units};
 ghost use Rattle.quick_trees.specs.Example.{untouched};
 ghost use Rattle.quick_trees.specs.LoopExample.{loop_body, loop_code, loop_frame, loop_slots, loop_words};
 ghost use Rattle.quick_trees.specs.RepeatExample.{repeat_body, repeat_code, repeat_frame};
 ghost use Rattle.quick_trees.specs.ReturnExample.{return_body, return_code, return_frame, return_library, return_words};
+ghost use Rattle.quick_trees.specs.SignExample.{sign_body, sign_code, sign_frame, sign_slots, sign_words};
+ghost use Rattle.quick_trees.specs.StepExample.{step_body, step_code, step_frame, step_slots, step_words};
 ghost use Rattle.quick_trees.specs.Programs.{beginning, IsProgram};
 ghost use Rattle.quick_trees.specs.Sites.{IsMemory, whole};
 
@@ -96,4 +103,64 @@ pub fn a_return_in_quick_code()
     ensures program { marked_ran in_runs return_library 0 return_body 0 1 (its_slots 5 0 untouched untouched) 20
         ≡ Ok (goes_on (its_slots 5 2 (mark true false) (mark false true)), 9) }
     ensures short { exec return_code [] 0 50 0 (return_words 5 0 0 0 0 0) 10 ≡ None }
+{}
+
+/// A block that sums up, called on an instance. Its input is x and one more, and its output is copied to x. From 4 and
+/// a sum of 10 both come to 15, and take two ticks: one for the call, and one for the block's assignment.
+pub fn a_block_in_quick_code()
+    ensures stands { IsProgram block_frame block_library 0 1 block_body }
+    ensures run { exec block_code [] 0 50 0 (block_words 4 0 10 0 0 0 0) 20
+        ≡ Some (left (block_words 15 5 15 5 3 2 3) 18) }
+    ensures program { marked_ran in_runs block_library 0 block_body 0 1
+        (block_slots 4 0 10 untouched untouched untouched) 20
+        ≡ Ok (goes_on (block_slots 15 5 15 (mark true true) (mark false true) (mark true true)), 18) }
+    ensures short { exec block_code [] 0 50 0 (block_words 4 0 10 0 0 0 0) 1 ≡ None }
+{}
+
+/// A standard block that tells of a rise, called on an instance. Where x is TRUE and was not before, both set y, and
+/// take a tick. Members are looked up before they are assigned, but for the input, which the call assigned.
+pub fn a_standard_block_in_quick_code()
+    ensures stands { IsProgram step_frame no_units 0 1 step_body }
+    ensures run { exec step_code [] 0 50 0 (step_words 1 0 0 0 0 (0 ∷ 0 ∷ 0 ∷ 0 ∷ 0 ∷ [])) 20
+        ≡ Some (left (step_words 1 1 1 1 1 (1 ∷ 2 ∷ 3 ∷ 3 ∷ 2 ∷ [])) 19) }
+    ensures program { marked_ran in_runs no_units 0 step_body 0 1
+        (step_slots 1 0 0 0 0 (untouched ∷ untouched ∷ untouched ∷ untouched ∷ untouched ∷ [])) 20
+        ≡ Ok (
+          goes_on (step_slots 1 1 1 1 1
+              (mark true false ∷ mark false true ∷ mark true true ∷ mark true true ∷ mark false true ∷ [])),
+          19,
+        ) }
+    ensures short { exec step_code [] 0 50 0 (step_words 1 0 0 0 0 (0 ∷ 0 ∷ 0 ∷ 0 ∷ 0 ∷ [])) 0 ≡ None }
+{}
+
+/// An element of an array with three subscripts is assigned to another one. With i = 2 and j = 1 both assign a[1, 2, 1]
+/// to a[2, 1, 2], and take a tick. That an element is looked up or assigned the instructions themselves note.
+pub fn an_array_in_quick_code()
+    ensures stands { IsProgram array_frame no_units 0 0 array_body }
+    ensures run { exec array_code [] 0 50 0 (array_words 2 1 7 0 0 0 0 0) 20
+        ≡ Some (left (array_words 2 1 7 7 7 4 1 2) 19) }
+    ensures program { marked_ran in_runs no_units 0 array_body 0 0 (array_slots 2 1 7 0 untouched untouched) 20
+        ≡ Ok (goes_on (array_slots 2 1 7 7 (mark true false) (mark false true)), 19) }
+    ensures out_of_bounds { exec array_code [] 0 50 0 (array_words 3 1 7 0 0 0 0 0) 20 ≡ None }
+{}
+
+/// The sign of a number is turned, and each bit of a BOOL and of a DWORD. From 5, TRUE and 7 both come to -5, FALSE and
+/// 4294967288, and take three ticks. There is no INT that is 32768, so with -32768 the code cannot tell.
+pub fn a_sign_in_quick_code()
+    ensures stands { IsProgram sign_frame no_units 0 0 sign_body }
+    ensures run { exec sign_code [] 0 50 0 (sign_words (pos 5) 1 7 0) 20
+        ≡ Some (left (sign_words (negsuc 4) 0 4294967288 3) 17) }
+    ensures program { marked_ran in_runs no_units 0 sign_body 0 0 (sign_slots (pos 5) 1 7 untouched) 20
+        ≡ Ok (goes_on (sign_slots (negsuc 4) 0 4294967288 (mark true true)), 17) }
+    ensures out_of_range { exec sign_code [] 0 50 0 (sign_words (negsuc 32767) 1 7 0) 20 ≡ None }
+{}
+
+/// Constants in the instructions of a difference, a product and a quotient. From 5 and 13 both come to 2 and 9, and
+/// take three ticks.
+pub fn constants_in_quick_code()
+    ensures stands { IsProgram constant_frame no_units 0 0 constant_body }
+    ensures run { exec constant_code [] 0 50 0 (constant_words 5 13 0) 20 ≡ Some (left (constant_words 2 9 3) 17) }
+    ensures program { marked_ran in_runs no_units 0 constant_body 0 0 (constant_slots 5 13 untouched) 20
+        ≡ Ok (goes_on (constant_slots 2 9 (mark true true)), 17) }
+    ensures short { exec constant_code [] 0 50 0 (constant_words 5 13 0) 2 ≡ None }
 {}

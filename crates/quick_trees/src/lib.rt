@@ -8,7 +8,8 @@
 //! and with what is known there of the note of each slot: the machine keeps a note of what the program did with a word,
 //! and an instruction that notes a look or an assignment may stand before a loop that does it in each turn. The code of
 //! a function stands in the place of each call, on words of its own, and an input that the body never assigns stays
-//! where the argument is.
+//! where the argument is. The code of a block stands in the place of each call, too, on the slots of the instance, and
+//! a standard block is a single instruction.
 #![tactic(auto)]
 
 mod examples;
@@ -16,8 +17,9 @@ mod laws;
 mod noting;
 
 pub use examples::{
-    a_call_in_quick_code, a_case_in_quick_code, a_count_in_quick_code, a_loop_in_quick_code,
-    a_program_in_quick_code,
+    a_block_in_quick_code, a_call_in_quick_code, a_case_in_quick_code, a_count_in_quick_code,
+    a_loop_in_quick_code, a_program_in_quick_code, a_sign_in_quick_code,
+    a_standard_block_in_quick_code, an_array_in_quick_code, constants_in_quick_code,
 };
 pub use laws::quick_code_does_what_its_program_does;
 pub use noting::Noting;
