@@ -11,7 +11,7 @@ tests/edits.py
 tests/drops.py
 echo "free disk: $(df -m --output=avail . | tail -n 1 | tr -d ' ') MB; the proofs of all crates take about 25,000"
 
-rt ci | {
+tools/rt.py ci | {
     last=
     while IFS= read -r line; do
         [ -z "$last" ] || printf '%s\n' "$last"

@@ -12,6 +12,7 @@ cd "$(dirname "$0")/.."
 
 plant=$PWD/out/plant
 log=$PWD/out/build.log
+rt=$PWD/tools/rt.py
 mkdir -p out
 names=$(below . plant_main)
 crates=$(wc -w <<< "$names")
@@ -36,6 +37,6 @@ told() {
 
 echo "proving, with $(nproc) processors; out/build.log has all that the prover says"
 cd "$copy"
-rt ci 2>&1 | tee "$log" | told || { tail -n 40 "$log" >&2; exit 1; }
+"$rt" ci 2>&1 | tee "$log" | told || { tail -n 40 "$log" >&2; exit 1; }
 cp crates/plant_main/out/plant_main "$plant"
 echo "out/plant is proved and built"

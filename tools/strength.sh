@@ -15,6 +15,7 @@ for crate in $names; do
 done
 
 log=$PWD/out/strength.log
+rt=$PWD/tools/rt.py
 mkdir -p out
 copy=$(mktemp -d)
 trap 'rm -rf "$copy"' EXIT
@@ -23,7 +24,7 @@ for crate in $names; do
     cp -r "strength/$crate" "$copy/crates/$crate/must-fail"
 done
 cd "$copy"
-rt ci > "$log" 2>&1 || true
+"$rt" ci > "$log" 2>&1 || true
 grep 'must-fail' "$log" || { tail -n 40 "$log" >&2; exit 1; }
 
 refused=$(grep -c ': refused, as it must be' "$log")
