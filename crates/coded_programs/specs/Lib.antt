@@ -1,4 +1,3 @@
-pub mod TypedInstrs
 pub mod Codes
 pub mod Meanings
 pub mod Reads

@@ -4,7 +4,6 @@ ghost use Rattle.std.specs.Option.{ForSome};
 ghost use Rattle.std.specs.Prelude.{◌≡◌, ◌≤◌, ◌+◌, length};
 ghost use Rattle.machine_code.specs.declared.limits.TheConstants.{MAX_INSTRUCTIONS, MAX_MEMORY};
 
-use crate::word_program::WordProgram;
 use machine_code::Instr;
 use quick_programs::QuickProgram;
 use st_words::Kind;
@@ -19,15 +18,10 @@ pub struct Code {
     pub extra: usize,
     /// Quick code of the same program, where there is some: a run begins with it.
     pub quick: Option<QuickProgram>,
-    /// Word code that stands for the instructions, where there is some and no quick code: none where values stand behind
-    /// those of the slots.
-    pub words: Option<WordProgram>,
     ghost short: { length instrs.value.items ≤ MAX_INSTRUCTIONS },
     ghost numbered: { length kinds.value.items + extra ≤ MAX_MEMORY },
     ghost stands: { ForSome quick (λ q. (q.instrs ≡ instrs.value.items) × (q.kinds ≡ kinds.value.items)
         × (q.extra ≡ extra)) },
-    ghost stands_in_words: { ForSome words (λ f. (f.instrs ≡ instrs.value.items) × (f.kinds ≡ kinds.value.items)
-        × (extra ≡ 0)) },
 }
 
 impl Drop for Code {
@@ -37,7 +31,6 @@ impl Drop for Code {
             kinds: _,
             extra: _,
             quick: _,
-            words: _,
         } = self;
     }
 }

@@ -6,7 +6,5 @@
 mod code;
 mod comparison;
 mod making;
-mod word_program;
 
 pub use code::Code;
-pub use word_program::WordProgram;

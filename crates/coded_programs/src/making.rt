@@ -1,4 +1,4 @@
-//! Code is made with quick code of the same program, or else with word code.
+//! Code is made with quick code of the same program, where there is some.
 
 ghost use Rattle.std.specs.Option.{ForSome};
 ghost use Rattle.std.specs.Prelude.{◌≡◌, ◌≤◌, ◌+◌, IfOk, IfSome, length};
@@ -7,7 +7,6 @@ ghost use Rattle.quick_programs.specs.Quick.{IsAnswering};
 ghost use Rattle.coded_programs.specs.Codes.{code_view};
 
 use crate::code::Code;
-use crate::word_program::WordProgram;
 use machine_code::Instr;
 use quick_programs::{QuickParts, QuickProgram};
 use st_words::Kind;
@@ -28,27 +27,9 @@ fn quick_beside(
     Ok(QuickProgram::new(Arc::clone(instrs)?, Arc::clone(kinds)?, extra, parts))
 }
 
-/// Word code that stands for these instructions, if there is some.
-fn words_beside(
-    alloc: Global,
-    instrs: &Arc<Vec<Instr>>,
-    kinds: &Arc<Vec<Kind>>,
-    extra: usize,
-) -> Result<Option<WordProgram>, AllocError>
-    ensures { IfOk result (λ o. IfSome o (λ f. (f.instrs ≡ instrs.now.value.items) × (f.kinds ≡ kinds.now.value.items)
-        × (extra ≡ 0))) }
-{
-    if extra == 0 {
-        WordProgram::new(alloc, Arc::clone(instrs)?, Arc::clone(kinds)?)
-    } else {
-        Ok(None)
-    }
-}
-
 impl Code {
     /// The code of these instructions over slots of these types, with so many values behind them, and with quick code of
-    /// the same program. Where there is none, and no values stand behind those of the slots, with word code, if each
-    /// instruction has some.
+    /// the same program, where there is some.
     ///
     /// The only error is out of memory.
     pub fn new(
@@ -68,16 +49,15 @@ impl Code {
         }) }
     {
         let instrs = Arc::new(alloc, instrs)?;
-        let (quick, words) = match quick {
-            Some(parts) => (Some(quick_beside(&instrs, &kinds, extra, parts)?), None),
-            None => (None, words_beside(alloc, &instrs, &kinds, extra)?),
+        let quick = match quick {
+            Some(parts) => Some(quick_beside(&instrs, &kinds, extra, parts)?),
+            None => None,
         };
         Ok(Code {
             instrs,
             kinds,
             extra,
             quick,
-            words,
         })
     }
 }

@@ -1,5 +1,4 @@
 pub mod InputLemmas
-pub mod KindLemmas
 pub mod TrueLemmas
 pub mod CommitLemmas
 pub mod QuickLemmas

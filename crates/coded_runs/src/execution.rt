@@ -12,6 +12,15 @@ use st_types::Outcome;
 use std::marker::Model;
 use std::sync::Arc;
 
+/// The machine that a run went by.
+#[derive(Clone, Copy, Debug, PartialEq, Eq)]
+pub enum Machine {
+    /// The quick machine, which could tell how the run ends.
+    Quick,
+    /// The machine on values: the program has no quick code, or the quick machine could not tell.
+    Values,
+}
+
 /// A run of an activation's code: what it read, what it writes, and how it ended. Contracts see these as an `Effect`.
 ///
 /// Wherever what it read stands, each program that the code means ends so and leaves these writes; one that faulted
@@ -26,6 +35,7 @@ pub struct Execution {
     reads: Cells,
     writes: Cells,
     outcome: Outcome,
+    machine: Machine,
 }
 
 impl Model for Execution {
@@ -62,6 +72,7 @@ impl Execution {
         reads: Cells,
         writes: Cells,
         outcome: Outcome,
+        machine: Machine,
     ) -> Execution
         requires { IsTrueOf (code_view code.value) moment budget (map cut reads.items) (map cut writes.items) outcome }
         ensures { result ≡ record {
@@ -82,6 +93,7 @@ impl Execution {
             reads,
             writes,
             outcome,
+            machine,
         }
     }
 
@@ -134,5 +146,10 @@ impl Execution {
         ensures { result ≡ self.now.outcome }
     {
         self.outcome
+    }
+
+    /// The machine that it went by. What it did is the same by either.
+    pub fn machine(&self) -> Machine {
+        self.machine
     }
 }

@@ -10,7 +10,7 @@ mod memory;
 mod runner;
 mod snapshot;
 
-pub use execution::Execution;
+pub use execution::{Execution, Machine};
 pub use laws::{commits_do_what_programs_do, writes_to_inputs_change_no_variable};
-pub use runner::run;
+pub use runner::{run, run_by_values};
 pub use snapshot::Snapshot;

@@ -1,6 +1,6 @@
 //! The memory that a run begins with.
 
-ghost use Rattle.std.specs.Prelude.{◌≡◌, ◌≤◌, IfOk, length, replicate, take};
+ghost use Rattle.std.specs.Prelude.{◌≡◌, IfOk, replicate};
 ghost use Rattle.coded_runs.specs.Runs.{memory_over, unmarked};
 
 use machine_code::Mark;
@@ -26,12 +26,4 @@ pub fn unmarked(alloc: Global, count: usize) -> Result<Vec<Mark>, AllocError>
         is_read: false,
         is_assigned: false
     }; count]
-}
-
-/// The first of these marks, as many as there are.
-pub fn take_front(all: &[Mark], marks: &mut [Mark])
-    requires { length marks.old ≤ length all.now }
-    ensures { marks.new ≡ take (length marks.old) all.now }
-{
-    marks.copy_from_slice(&all[..marks.len()]);
 }

@@ -9,12 +9,12 @@ ghost use Rattle.st_types.specs.declared.outcome.Outcome.TheVariants.{Done};
 ghost use Rattle.slot_machine.specs.Steps.{Ends};
 ghost use Rattle.coded_programs.specs.Codes.{code_view};
 ghost use Rattle.coded_runs.specs.Runs.{EndsAs, IsLong, marked_run, unmarked};
-ghost use Rattle.coded_runs.specs.Executions.{IsEffectOf, IsRunOf};
+ghost use Rattle.coded_runs.specs.Executions.{IsEffectOf, IsRunOf, run_of};
 
-use crate::execution::Execution;
-use crate::memory::{memory_over, take_front, unmarked};
+use crate::execution::{Execution, Machine};
+use crate::memory::{memory_over, unmarked};
 use crate::snapshot::Snapshot;
-use coded_programs::{Code, WordProgram};
+use coded_programs::Code;
 use machine_code::Mark;
 use quick_programs::QuickRun;
 use run_cells::{Cells, reads_of, writes_left};
@@ -22,64 +22,6 @@ use slot_machine::Stop;
 use st_types::Outcome;
 use st_words::Value;
 use std::alloc::{AllocError, Global};
-
-/// Runs the code by its word code, over the slots alone. It answers the ticks that are left.
-fn run_words(
-    alloc: Global,
-    code: &Code,
-    words: &WordProgram,
-    moment: u64,
-    memory: &mut [Value],
-    marks: &mut [Mark],
-    budget: u32,
-) -> Result<u32, Stop>
-    requires instrs { words.now.instrs ≡ code.now.instrs.value.items }
-    requires kinds { words.now.kinds ≡ code.now.kinds.value.items }
-    requires typed { map (λ v. v.kind) memory.old ≡ code.now.kinds.value.items }
-    requires marks { marks.old ≡ replicate (length memory.old) unmarked }
-    ensures { Ends result (runs tracking in_runs moment code.now.instrs.value.items
-        (length code.now.instrs.value.items) [] (tracked memory.old marks.old) budget)
-        (tracked memory.new marks.new) }
-{
-    let word_code = words.word_code();
-    let mut all = match unmarked(alloc, word_code.size) {
-        Ok(all) => all,
-        Err(_) => return Err(Stop::Memory),
-    };
-    let ended = word_machine::run(
-        alloc,
-        &code.instrs,
-        &code.kinds,
-        word_code,
-        moment,
-        memory,
-        &mut all,
-        budget,
-    );
-    take_front(&all, marks);
-    ended
-}
-
-/// Runs the code, by its word code where it has some. It answers the ticks that are left.
-fn run_machine(
-    alloc: Global,
-    code: &Code,
-    moment: u64,
-    memory: &mut [Value],
-    marks: &mut [Mark],
-    budget: u32,
-) -> Result<u32, Stop>
-    requires typed { code.now.extra ≡ 0 → map (λ v. v.kind) memory.old ≡ code.now.kinds.value.items }
-    requires marks { marks.old ≡ replicate (length memory.old) unmarked }
-    ensures { Ends result (runs tracking in_runs moment code.now.instrs.value.items
-        (length code.now.instrs.value.items) [] (tracked memory.old marks.old) budget)
-        (tracked memory.new marks.new) }
-{
-    match &code.words {
-        Some(words) => run_words(alloc, code, words, moment, memory, marks, budget),
-        None => slot_machine::run(alloc, &code.instrs, moment, memory, marks, budget),
-    }
-}
 
 /// How a run of the code ends, with what it leaves in memory and marks.
 fn end_of(
@@ -90,13 +32,12 @@ fn end_of(
     marks: &mut [Mark],
     budget: u32,
 ) -> Result<Outcome, AllocError>
-    requires typed { code.now.extra ≡ 0 → map (λ v. v.kind) memory.old ≡ code.now.kinds.value.items }
-    requires marks { marks.old ≡ replicate (length memory.old) unmarked }
-    ensures ends { IfOk result (λ outcome. EndsAs outcome (runs tracking in_runs moment code.now.instrs.value.items
+    requires { marks.old ≡ replicate (length memory.old) unmarked }
+    ensures { IfOk result (λ outcome. EndsAs outcome (runs tracking in_runs moment code.now.instrs.value.items
         (length code.now.instrs.value.items) [] (tracked memory.old marks.old) budget)
         (tracked memory.new marks.new)) }
 {
-    match run_machine(alloc, code, moment, memory, marks, budget) {
+    match slot_machine::run(alloc, &code.instrs, moment, memory, marks, budget) {
         Ok(_) => Ok(Outcome::Done),
         Err(Stop::Fault(fault)) => Ok(Outcome::Faulted(fault)),
         Err(Stop::Memory) => Err(AllocError),
@@ -109,6 +50,7 @@ pub struct Ran {
     pub reads: Cells,
     pub writes: Cells,
     pub outcome: Outcome,
+    pub machine: Machine,
 }
 
 /// What a run of quick code did.
@@ -124,6 +66,7 @@ fn told(alloc: Global, slots: &[Value], left: &QuickRun) -> Result<Ran, AllocErr
         reads,
         writes,
         outcome: Outcome::Done,
+        machine: Machine::Quick,
     })
 }
 
@@ -151,7 +94,7 @@ fn run_quick(
     }
 }
 
-/// Runs code on the values of its slots, by its word code or by the machine on values.
+/// Runs code on the values of its slots, by the machine on values.
 fn run_values(
     alloc: Global,
     code: &Code,
@@ -173,6 +116,7 @@ fn run_values(
         reads,
         writes,
         outcome,
+        machine: Machine::Values,
     })
 }
 
@@ -195,24 +139,21 @@ fn run_code(
     }
 }
 
-/// Runs a snapshot's code on its values. Its reads are what it looked up before it had assigned it, and its writes what
-/// it assigned. Whatever the code is, this ends within `(budget + 1) * (length + 1)` instructions, where `length` is
-/// that of the code.
-///
-/// The only error is out of memory.
-pub fn run(alloc: Global, snapshot: Snapshot) -> Result<Execution, AllocError>
-    ensures { IfOk result (IsEffectOf snapshot) }
+/// The execution of a snapshot's code that did this.
+fn execution_of(snapshot: Snapshot, ran: Ran) -> Execution
+    requires ran { IsRunOf (run_of snapshot) snapshot.slots.items ran }
+    requires long { IsLong (length snapshot.slots.items) (run_of snapshot) }
+    ensures { IsEffectOf snapshot result }
 {
     let Snapshot {
         code,
         activation,
         moment,
         budget,
-        slots,
+        slots: _,
         ..
     } = snapshot;
-    let ran = run_code(alloc, &code, moment, &slots, budget)?;
-    Ok(Execution::new(
+    Execution::new(
         code,
         activation,
         moment,
@@ -220,5 +161,40 @@ pub fn run(alloc: Global, snapshot: Snapshot) -> Result<Execution, AllocError>
         ran.reads,
         ran.writes,
         ran.outcome,
-    ))
+        ran.machine,
+    )
+}
+
+/// Runs a snapshot's code on its values. Its reads are what it looked up before it had assigned it, and its writes what
+/// it assigned. Whatever the code is, the machine on values ends within `(budget + 1) * (length + 1)` instructions, where
+/// `length` is that of the code. Those of quick code, by which a run begins, are not counted in that.
+///
+/// The only error is out of memory.
+pub fn run(alloc: Global, snapshot: Snapshot) -> Result<Execution, AllocError>
+    ensures { IfOk result (IsEffectOf snapshot) }
+{
+    let ran = run_code(
+        alloc,
+        &snapshot.code,
+        snapshot.moment,
+        &snapshot.slots,
+        snapshot.budget,
+    )?;
+    Ok(execution_of(snapshot, ran))
+}
+
+/// The same by the machine on values alone. Whoever compares the two machines calls both.
+///
+/// The only error is out of memory.
+pub fn run_by_values(alloc: Global, snapshot: Snapshot) -> Result<Execution, AllocError>
+    ensures { IfOk result (IsEffectOf snapshot) }
+{
+    let ran = run_values(
+        alloc,
+        &snapshot.code,
+        snapshot.moment,
+        &snapshot.slots,
+        snapshot.budget,
+    )?;
+    Ok(execution_of(snapshot, ran))
 }

@@ -42,6 +42,8 @@ pub struct RunJob<'a> {
     pub budget: u32,
     pub pace: Pace,
     pub trace: Option<&'a str>,
+    /// Whether it is told by which machine the runs went.
+    pub stats: bool,
     /// Whether a fault is explained.
     pub explain: bool,
 }

@@ -78,6 +78,7 @@ fn run<'a>(alloc: Global) -> Result<Command<'a>, AllocError> {
         start(alloc),
         budget(alloc),
         pace(alloc),
+        flag(alloc, "stats", "Say by which machine the executions went"),
         explain_flag(alloc),
         file(alloc, "trace", "The trace to write after the run"),
     ]?;

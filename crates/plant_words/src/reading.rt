@@ -39,6 +39,7 @@ fn run<'a>(given: &ArgMatches<'a>) -> Option<RunJob<'a>> {
         budget: plain_number(given.get_str("budget")?)?,
         pace: pace(given.get_str("pace")?)?,
         trace: given.get_str("trace"),
+        stats: given.get_flag("stats"),
         explain: given.get_flag("explain"),
     })
 }

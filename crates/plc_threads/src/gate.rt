@@ -1,12 +1,13 @@
 //! What a caller may do between the steps of a worker.
 
+use coded_runs::Machine;
 use commit_lock::Answer;
 use st_plans::Activation;
 
 /// Called by the workers of a run, outside the lock. Tests hold a worker by it.
 pub trait Gate {
-    /// Between a run of code and its commit.
-    fn between(&self, resource: usize, activation: Activation);
+    /// Between a run of code, by this machine, and its commit.
+    fn between(&self, resource: usize, activation: Activation, machine: Machine);
 
     /// After each answer, that of a commit in one step too.
     fn answered(&self, resource: usize, activation: Activation, answer: Answer);

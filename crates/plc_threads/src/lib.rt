@@ -11,6 +11,7 @@ mod report;
 mod shared;
 mod worker;
 
+pub use coded_runs::Machine;
 pub use driver::Pace;
 pub use gate::Gate;
 pub use plant_run::run_plant;

@@ -53,7 +53,7 @@ pub fn work<J: Run, D: Disk + Drop, G: Gate, R: Wait>(
             shared.end(rt, Phase::Stopped(RunFault::NO_MEMORY));
             break;
         };
-        gate.between(resource, activation);
+        gate.between(resource, activation, execution.machine());
         let Some(answer) = shared.commit(rt, &mut tally, execution) else {
             break;
         };

@@ -7,7 +7,7 @@ use crate::texts::{COUNTER, TWO_RESOURCES};
 use commit_lock::{Answer as Committed, Core};
 use config::Plan;
 use disk::{Disk, SimDisk};
-use plc_threads::{Gate, Pace, Report, RunError, run_plant};
+use plc_threads::{Gate, Machine, Pace, Report, RunError, run_plant};
 use refusals::{Answer, Finding, MOST_REQUESTS, Reply, Spells, Trial, refuse, refuse_no_more};
 use run_lock::{Mark, RunFault};
 use st_plans::{Activation, Row};
@@ -39,7 +39,7 @@ impl Trial for Marking {
 struct Open;
 
 impl Gate for Open {
-    fn between(&self, _resource: usize, _activation: Activation) {}
+    fn between(&self, _resource: usize, _activation: Activation, _machine: Machine) {}
 
     fn answered(&self, _resource: usize, _activation: Activation, _answer: Committed) {}
 }

@@ -5,12 +5,10 @@ use crate::row_error::RowError;
 use coded_programs::Code;
 use std::alloc::Global;
 
-/// `quick` if runs of the code go by its quick code first, else `words` if it has word code, else `values`.
+/// `quick` if runs of the code go by its quick code first, else `values`.
 fn way_of(code: &Code) -> &'static str {
     if code.quick.is_some() {
         "quick"
-    } else if code.words.is_some() {
-        "words"
     } else {
         "values"
     }

@@ -4,10 +4,11 @@ use crate::cores::started;
 use crate::living::plan_of;
 use crate::row_error::RowError;
 use crate::words::{count, number, split};
-use coded_runs::{Execution, Snapshot, run};
+use coded_runs::{Execution, Machine, Snapshot, run, run_by_values};
 use commit_lock::{Core, StartMode};
 use disk::SimDisk;
 use lives::Reply;
+use run_cells::Cell;
 use st_plans::Row;
 use st_words::Value;
 use std::alloc::Global;
@@ -77,13 +78,56 @@ fn taken(alloc: Global, text: &str) -> Result<Option<Snapshot>, RowError> {
     Ok(taken?)
 }
 
-/// The execution of what is taken, with a change that is written `moment 51`.
-pub fn execution_of(alloc: Global, text: &str, change: &str) -> Result<Execution, RowError> {
-    let change = change_of(change)?;
+/// What is taken, with this change.
+fn snapshot_of(alloc: Global, text: &str, change: Change) -> Result<Snapshot, RowError> {
     match taken(alloc, text)? {
-        Some(snapshot) => Ok(run(alloc, changed(snapshot, change))?),
+        Some(snapshot) => Ok(changed(snapshot, change)),
         None => Err(RowError::Form),
     }
+}
+
+/// Whether two lists have the same slots with the same values.
+fn are_same(these: &[Cell], those: &[Cell]) -> bool {
+    if these.len() != those.len() {
+        return false;
+    }
+    for i in 0..these.len() {
+        if these[i].slot != those[i].slot || !these[i].value.is(those[i].value) {
+            return false;
+        }
+    }
+    true
+}
+
+/// The execution of what is taken, with a change that is written `moment 51`. It is run by both machines, which have to do
+/// the same.
+pub fn execution_of(alloc: Global, text: &str, change: &str) -> Result<Execution, RowError> {
+    let change = change_of(change)?;
+    let execution = run(alloc, snapshot_of(alloc, text, change)?)?;
+    let by_values = run_by_values(alloc, snapshot_of(alloc, text, change)?)?;
+    let is_same = execution.outcome() == by_values.outcome()
+        && are_same(execution.reads(), by_values.reads())
+        && are_same(execution.writes(), by_values.writes());
+    if is_same {
+        Ok(execution)
+    } else {
+        Err(RowError::Machines)
+    }
+}
+
+/// Tells by which machine the execution of what is taken goes, with a change that is written `budget 3`.
+pub fn write_machine(
+    answer: &mut String,
+    alloc: Global,
+    text: &str,
+    change: &str,
+) -> Result<(), RowError> {
+    let machine = match execution_of(alloc, text, change)?.machine() {
+        Machine::Quick => "by quick code",
+        Machine::Values => "by values",
+    };
+    answer.push_str(machine)?;
+    Ok(())
 }
 
 /// What a core of the text's plan answers to an execution.

@@ -53,7 +53,8 @@
 //!   `K : INT := 7` before N, which is retained too; the values of N that come of it
 //! - `run`, `run moment 51`: the execution of what a core of the plan gives at a row of moment 50, as it is or changed
 //! - `commit`: what a new core of the plan at such a row answers to that execution
-//! - `codes`: by what the runs of each program of the plan go, in order: its word code, or the machine on values
+//! - `codes`: by what the runs of each program of the plan begin, in order: its quick code, or the machine on values
+//! - `machine`, `machine budget 3`: by which machine the execution of `run` went
 //! - `threads: run 1`: the log of a run in threads of so many rows, at 0, 10, .. ms and without inputs, how often the
 //!   worker of each resource was told Stale and Committed and at which length it was last told Committed, the globals,
 //!   and how much of the log is acknowledged

@@ -26,6 +26,8 @@ pub enum RowError {
     Lost(u64),
     /// Warm starts of two texts over one file go on from different values.
     Apart,
+    /// The quick machine and the machine on values did different things.
+    Machines,
 }
 
 impl From<AllocError> for RowError {
@@ -73,5 +75,6 @@ pub fn write_error(text: &mut String, error: RowError) -> Result<(), AllocError>
         RowError::Refused(refusal) => write!(text, "refused: {refusal}"),
         RowError::Lost(step) => write_number(text, "lost within step ", i128::from(step)),
         RowError::Apart => text.push_str("two texts go on from different values"),
+        RowError::Machines => text.push_str("the machines did different things"),
     }
 }

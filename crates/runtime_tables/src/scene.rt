@@ -6,7 +6,7 @@ use crate::configuration::Configuration;
 use crate::cuts::write_cuts;
 use crate::disk_calls::{play, write_content};
 use crate::disks::disk_with;
-use crate::executions::{committed, execution_of};
+use crate::executions::{committed, execution_of, write_machine};
 use crate::files::file_of;
 use crate::lives_in_turn::write_lives;
 use crate::living::{Life, Setting, Telling, live};
@@ -208,6 +208,7 @@ impl<'a, R: Threads + Wait + Clock + Sync> Scene<'a, R> {
             "ready" => self.tell_ready(given),
             "run" => self.run(given),
             "codes" => write_codes(&mut self.answer, self.alloc, self.setting.text),
+            "machine" => write_machine(&mut self.answer, self.alloc, self.setting.text, given),
             "commit" => self.commit(),
             "lives" => {
                 write_lives(

@@ -1,7 +1,7 @@
 //! A gate that counts what it is told, and may hold two resources in turn.
 
 use commit_lock::Answer;
-use plc_threads::Gate;
+use plc_threads::{Gate, Machine};
 use st_plans::Activation;
 use std::alloc::{AllocError, Global};
 use std::rt::Clock;
@@ -81,7 +81,7 @@ impl<'a, R: Clock> Watch<'a, R> {
 }
 
 impl<R: Clock> Gate for Watch<'_, R> {
-    fn between(&self, resource: usize, _activation: Activation) {
+    fn between(&self, resource: usize, _activation: Activation, _machine: Machine) {
         let Some(own) = self.seen.get(resource) else {
             return;
         };

@@ -1,19 +1,24 @@
-//! How far a run is.
+//! How far a run is, and by which machine its executions went.
 
 use commit_lock::Answer;
-use plc_threads::Gate;
+use plc_threads::{Gate, Machine};
 use st_plans::Activation;
+use std::sync::atomic::{AtomicU64, Ordering};
 
 /// A run is told of about a hundred times.
 const PARTS: u64 = 100;
 
-/// Lets every worker pass, and tells on a terminal how many rows are done.
+/// Lets every worker pass, tells on a terminal how many rows are done, and counts the runs of each machine.
 #[derive(Drop)]
 pub struct Progress<'a, R: Eprint> {
     rt: &'a R,
     /// How many rows the run has.
     rows: u64,
     is_told: bool,
+    /// How many runs went by quick code.
+    quick: AtomicU64,
+    /// How many went by the machine on values.
+    values: AtomicU64,
 }
 
 impl<'a, R: Eprint> Progress<'a, R> {
@@ -23,12 +28,21 @@ impl<'a, R: Eprint> Progress<'a, R> {
             rt,
             rows: rows as u64,
             is_told: is_terminal,
+            quick: AtomicU64::new(0),
+            values: AtomicU64::new(0),
         }
     }
 
     /// Whether it is told that so many rows are done.
     fn is_told_at(&self, done: u64) -> bool {
         self.is_told && (done == self.rows || done % (self.rows / PARTS).max(1) == 0)
+    }
+
+    /// Tells by which machine the runs went. An execution that is taken, run and committed in one step isn't counted.
+    pub fn tell_machines(&self) {
+        let quick = self.quick.load(Ordering::SeqCst);
+        let values = self.values.load(Ordering::SeqCst);
+        let _ = eprintln!(self.rt; "runs by quick code {quick}, by the machine on values {values}");
     }
 
     /// Takes what was told away.
@@ -40,7 +54,12 @@ impl<'a, R: Eprint> Progress<'a, R> {
 }
 
 impl<R: Eprint> Gate for Progress<'_, R> {
-    fn between(&self, _resource: usize, _activation: Activation) {}
+    fn between(&self, _resource: usize, _activation: Activation, machine: Machine) {
+        match machine {
+            Machine::Quick => self.quick.fetch_add(1, Ordering::SeqCst),
+            Machine::Values => self.values.fetch_add(1, Ordering::SeqCst),
+        };
+    }
 
     fn answered(&self, _resource: usize, activation: Activation, _answer: Answer) {
         let done = activation.row.saturating_add(1);

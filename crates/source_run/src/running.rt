@@ -139,6 +139,9 @@ pub fn run_plan<F: Files, R: Threads + Wait + Eprint + Sync>(
     let progress = Progress::new(rt, rows.len(), files.is_terminal());
     let (core, report) = served(rt, alloc, core, job.pace, rows, &progress);
     progress.clear();
+    if job.stats {
+        progress.tell_machines();
+    }
     let report = traced(alloc, files, job, &core, report);
     files.back(core.stop());
     report

@@ -3,20 +3,9 @@ use Rattle.machine_code.specs.Tracking.{tracked, are_read}
 use Rattle.coded_programs.specs.Codes.{code_view}
 use Rattle.run_cells.specs.Cells.{cut, picked, writes_left}
 use Rattle.coded_runs.specs.Runs.{memory_over}
-use Rattle.coded_runs.proofs.KindLemmas.{typed_over}
 use Rattle.run_cells.proofs.PickedLemmas.{take_front}
 use Rattle.coded_runs.proofs.TrueLemmas.{begins, begins_long, is_long, outcome_is, reads_is, writes_is}
 use Rattle.coded_runs.proofs.runner.run_values.Goals as goal
-
-pub end_of-requires : goal.end_of-requires
-end_of-requires c =
-    let us = c.args.slots.now in
-    let memory_is : c.deref_mut.result.now ≡ memory_over us c.args.code.now.extra = search rules in
-    record {
-      typed = typed_over c.args.code.now.kinds.value.items us c.deref_mut.result.now c.args.code.now.extra
-          c.requires.typed memory_is;
-      marks = search rules;
-    }
 
 pub returns : goal.returns
 returns c =
@@ -31,7 +20,7 @@ returns c =
     let writes = map cut c.in_ok-writes.writes.items in
     let memory_is : c.deref_mut.result.now ≡ memory_over us code.extra = search rules in
     let starts = begins us c.deref_mut.result.now code.extra c.deref_mut-2.result.now memory_is (search rules) in
-    let ends = c.in_ok-outcome.ensures.ends in
+    let ends = c.in_ok-outcome.ensures in
     let kept : length n.values ≡ c.in_ok-memory.memory.len = search rules in
     let marks_kept : length n.marks ≡ c.in_ok-marks.marks.len = search rules in
     let values_are : c.deref-2.result.now ≡ n.values = c.deref-2.ensures.value
