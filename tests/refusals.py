@@ -49,7 +49,7 @@ OF_RUNS = {"K6", "H1", "V5"}
 # statuses from here on are not the program's: it was not loaded
 NOT_LOADED = 126
 # the calls that are device steps, and how many rows the runs have whose requests are counted
-DEVICE = {"pread", "pwrite", "fsync", "ftruncate"}
+DEVICE = {"pread", "pwrite", "fdatasync", "ftruncate"}
 MANY = [0, 100, 1000]
 GROWING = ["counter.st", "wide.st", "idle.st"]
 # how much is tried, where it isn't what the gate tries

@@ -192,9 +192,9 @@ static int fails(void) {
     return 1;
 }
 
-int fsync(int fd) {
-    note("fsync", fd, 0, NULL);
-    return (int)syscall(SYS_fsync, fd);
+int fdatasync(int fd) {
+    note("fdatasync", fd, 0, NULL);
+    return (int)syscall(SYS_fdatasync, fd);
 }
 
 int ftruncate(int fd, off_t length) {
