@@ -1,8 +1,9 @@
 #!/usr/bin/env bash
-# Runs five programs as slot code, by Lua 5.4 and as C of volatile variables by gcc -O2, side by side, and prints the nanoseconds of a
-# unit of work, best of three rounds of five series each, or of ROUNDS where that is set, which a machine whose host gives now more and now
-# less wants. All three have to come to the same result. Give the root of the repository, and then, if need be, the name of a program that is
-# built already. It takes lua5.4 and gcc.
+# Runs nine programs as code, by Lua 5.4 and as C of volatile variables by gcc -O2, side by side, and prints the nanoseconds of a unit of
+# work, best of three rounds of five series each, or of ROUNDS where that is set, which a machine whose host gives now more and now less
+# wants. With COUNT=1 it prints the instructions of the processor that a unit takes, which no load changes, by callgrind: those of twice the
+# runs less those of the runs. All three have to come to the same result. Give the root of the repository, and then, if need be, the name of
+# a program that is built already. It takes lua5.4 and gcc, and valgrind for instructions.
 set -e
 . "$(dirname "$0")/copied.sh"
 # all that a text's plan and a core stand on
@@ -15,9 +16,19 @@ if [ -z "$built" ]; then
     built=$PWD/out/speed
 fi
 
+# each program with the runs of a series, and with the units of work that a run does
+programs='count 10 200000
+pid 10 20000
+sort 10 99500
+crc 10 81920
+timers 200 1000
+scale 30 6400
+recipe 30 7680
+motor 200 960
+mixer 10 20000'
+
 # sides NAME RUNS UNITS: a line for each side, with the program, the side, the result and the nanoseconds of a unit
 sides() {
-    gcc -O2 -Wall -o "$copy/$1" "$here/speed/$1.c"
     for _ in $(seq "${ROUNDS:-3}"); do
         echo "$1 code $("$built" "$here/speed/$1.st" "$2" "$3" 5)"
         echo "$1 lua $(cd "$here/speed" && lua5.4 measure.lua "$1" "$2" "$3" 5)"
@@ -25,18 +36,50 @@ sides() {
     done
 }
 
-{
-    sides count 10 200000
-    sides pid 10 20000
-    sides sort 10 99500
-    sides crc 10 81920
-    sides timers 200 1000
-} | awk '
+# instructions COMMAND..: how many the command takes
+instructions() {
+    valgrind --tool=callgrind --callgrind-out-file=/dev/null "$@" 2>&1 | grep -oP 'Collected : \K\d+'
+}
+
+# counted NAME UNITS FIRST COMMAND..: what a unit takes, by so many runs and by twice as many
+counted() {
+    local name=$1 units=$2 runs=$3 once twice
+    shift 3
+    once=$(instructions "$@" "$runs" "$units" 1)
+    twice=$(instructions "$@" $((2 * runs)) "$units" 1)
+    awk -v name="$name" -v all=$((twice - once)) -v units=$((runs * units)) 'BEGIN { printf " %10.1f", all / units }'
+}
+
+# counts NAME RUNS UNITS: the line of a program, of a tenth of the runs
+counts() {
+    local runs=$((($2 + 9) / 10))
+    printf '%-8s' "$1"
+    counted "$1" "$3" $runs "$built" "$here/speed/$1.st"
+    (cd "$here/speed" && counted "$1" "$3" $runs lua5.4 measure.lua "$1")
+    counted "$1" "$3" $runs "$copy/$1"
+    echo
+}
+
+while read -r name _; do
+    gcc -O2 -Wall -o "$copy/$name" "$here/speed/$name.c"
+done <<< "$programs"
+
+if [ "${COUNT:-0}" -eq 1 ]; then
+    printf '%-8s %10s %10s %10s\n' '' code Lua C
+    while read -r name runs units; do
+        counts "$name" "$runs" "$units"
+    done <<< "$programs"
+    exit
+fi
+
+while read -r name runs units; do
+    sides "$name" "$runs" "$units"
+done <<< "$programs" | awk '
     !($1 in result) { names[++count] = $1; result[$1] = $3 }
     result[$1] != $3 { print "the results differ: " $0; differ = 1 }
     !(($1, $2) in best) || $4 < best[$1, $2] { best[$1, $2] = $4 }
     END {
-        printf "%-8s %10s %10s %10s %10s %10s\n", "", "slot code", "Lua", "C", "Lua/code", "code/C"
+        printf "%-8s %10s %10s %10s %10s %10s\n", "", "code", "Lua", "C", "Lua/code", "code/C"
         for (i = 1; i <= count; i++) {
             n = names[i]
             printf "%-8s %10.1f %10.1f %10.1f %10.2f %10.1f\n", n, best[n, "code"], best[n, "lua"], best[n, "c"],
