@@ -1,6 +1,7 @@
 #!/usr/bin/env bash
 # Commits a second of `plant run` over a real retain file with 1, 2, 4 and 8 resources, each with one or eight programs that count in variables
-# of their own, at both paces, beside SQLite's transactions that change one row, with synchronous=FULL, on the same disk in the same run. A
+# of their own, at both paces, beside SQLite's transactions that change one row, with synchronous=FULL, on the same disk in the same run, of one
+# writer and of as many writers as there are resources, each with a row of its own. A
 # save is three writes and three syncs, the first two of a file aside. At pace `free` a run is over in some 20 ms, so it is made 20 times.
 # Then how long one execution takes beside 4,095 variables that it does not name, since a snapshot copies them.
 #
@@ -78,6 +79,9 @@ done
 for mode in DELETE WAL; do
     milliseconds "$bench/sqlite.py" $mode 4000
     printf '%-38s %9s %9s %12s\n' "SQLite, $mode" 4000 $took $((4000 * 1000 / took))
+    for writers in 1 2 4 8; do
+        printf '%-38s %9s %9s %12s\n' "SQLite, $mode, $writers writers" $((writers * 500)) - "$("$bench/sqlite_writers.py" $mode $writers 500)"
+    done
 done
 
 { echo t; seq 0 10 19990; } > rows.csv
