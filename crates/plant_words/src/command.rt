@@ -39,7 +39,7 @@ fn budget<'a>(alloc: Global) -> Arg<'a> {
 fn pace<'a>(alloc: Global) -> Arg<'a> {
     Arg::new(alloc, "pace")
         .long("pace")
-        .help("Latch a row when all before it is settled, or at once")
+        .help("Latch a row when all before it is settled, or at once, to measure")
         .value_parser(PACES.as_slice())
         .default_value("settle")
 }
