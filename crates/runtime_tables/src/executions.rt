@@ -3,6 +3,7 @@
 use crate::cores::started;
 use crate::living::plan_of;
 use crate::row_error::RowError;
+use crate::telling::write_outcome;
 use crate::words::{count, number, split};
 use coded_runs::{Execution, Machine, Snapshot, run, run_by_values};
 use commit_lock::{Core, StartMode};
@@ -115,18 +116,19 @@ pub fn execution_of(alloc: Global, text: &str, change: &str) -> Result<Execution
     }
 }
 
-/// Tells by which machine the execution of what is taken goes, with a change that is written `budget 3`.
+/// Tells by which machine the execution of what is taken goes, with a change that is written `budget 3`, and how it ends.
 pub fn write_machine(
     answer: &mut String,
     alloc: Global,
     text: &str,
     change: &str,
 ) -> Result<(), RowError> {
-    let machine = match execution_of(alloc, text, change)?.machine() {
-        Machine::Quick => "by quick code",
-        Machine::Values => "by values",
-    };
-    answer.push_str(machine)?;
+    let execution = execution_of(alloc, text, change)?;
+    answer.push_str(match execution.machine() {
+        Machine::Quick => "by quick code, ",
+        Machine::Values => "by values, ",
+    })?;
+    write_outcome(answer, Some(execution.outcome()))?;
     Ok(())
 }
 

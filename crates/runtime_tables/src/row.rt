@@ -54,7 +54,7 @@
 //! - `run`, `run moment 51`: the execution of what a core of the plan gives at a row of moment 50, as it is or changed
 //! - `commit`: what a new core of the plan at such a row answers to that execution
 //! - `codes`: by what the runs of each program of the plan begin, in order: its quick code, or the machine on values
-//! - `machine`, `machine budget 3`: by which machine the execution of `run` went
+//! - `machine`, `machine budget 3`: by which machine the execution of `run` went, and how it ended
 //! - `threads: run 1`: the log of a run in threads of so many rows, at 0, 10, .. ms and without inputs, how often the
 //!   worker of each resource was told Stale and Committed and at which length it was last told Committed, the globals,
 //!   and how much of the log is acknowledged

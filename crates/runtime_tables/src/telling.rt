@@ -49,7 +49,7 @@ pub fn write_replies(text: &mut String, replies: &[Reply]) -> Result<(), AllocEr
     Ok(())
 }
 
-fn write_outcome(text: &mut String, outcome: Option<Outcome>) -> Result<(), AllocError> {
+pub fn write_outcome(text: &mut String, outcome: Option<Outcome>) -> Result<(), AllocError> {
     match outcome {
         None => text.push_str("none"),
         Some(Outcome::Done) => text.push_str("done"),
