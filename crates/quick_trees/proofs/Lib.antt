@@ -7,6 +7,7 @@ pub mod Memories
 pub mod Settings
 pub mod Elements
 pub mod Truths
+pub mod Computing
 pub mod Reading
 pub mod Testing
 pub mod Running

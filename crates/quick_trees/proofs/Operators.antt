@@ -2,7 +2,8 @@
 use Rattle.std.proofs.Common.{◌≡◌, ℕ, suc, ◌-◌, ◌≤◌, ◌^◌, ◌*◌, ℤ, pos, negsuc, ◌+ℤ◌, ◌-ℤ◌, ◌*ℤ◌, ◌≤ℤ◌, Bool, true}
 use Rattle.std.proofs.Common.{false, Option, Some, None, Result, Ok, Err, refl, sym, ap, subst, ◌∙◌, arith, w64, w16}
 use Rattle.std.proofs.Common.{w32, ◌<ℤ◌, FitsSigned, mul-le-mul, zero, ◌<◌, ◌≢◌}
-use Rattle.std.specs.Prelude.{if◌then◌else◌, int_div, int_le, int_lt, not, unsigned_abs}
+use Rattle.std.proofs.Common.{inl, inr}
+use Rattle.std.specs.Prelude.{◌⊎◌, if◌then◌else◌, int_div, int_le, int_lt, not, unsigned_abs}
 use Rattle.std.specs.Ordering.{int_eq}
 use Rattle.std.specs.Int.{int_wrapping_add, int_wrapping_mul, int_wrapping_sub, int_bit_and, int_bit_or, int_bit_xor}
 use Rattle.std.proofs.Math.IntN.{+ℤ_idr, +ℤ-neg_ℤ_cancel, neg_ℤ}
@@ -187,6 +188,10 @@ kept_same : (s : Signed) (z w : ℤ) (t : Bool) → (if t then Some z else None)
 kept_same s z w true e = cc
 kept_same s z w false e = absurd cc
 
+-- what is kept is that number
+pub made_number : (z w : ℤ) → kept signed.Lint z ≡ Some w → z ≡ w
+made_number z w e = kept_same signed.Lint z w (holds (kind_of signed.Lint) z) e
+
 -- a remainder in 64 bits is one in its type
 remainder_typed : (s : Signed) (x y w : ℤ) → IsWord s y → made op.Modulo signed.Lint x y ≡ Some w
     → made op.Modulo s x y ≡ Some w
@@ -247,6 +252,28 @@ made_is Divide n s x y w of f g e =
     divided_is s x y w (subst (λ n. made n s x y ≡ Some w) (some_is of) e)
 made_is Modulo n s x y w of f g e =
     remainder_of s x y w (subst (λ n. made n s x y ≡ Some w) (some_is of) e)
+
+-- a word is what an operator makes of two numbers, for each type that has it
+abbrev pub IsMadeOf : BinaryOperator → ℤ → ℤ → ℤ → Type 0
+IsMadeOf o x y w = (k : Kind) → holds k w ≡ true → applied o k x y ≡ Ok (record { kind = k; number = w })
+
+in_kind : (z w : ℤ) (k : Kind) → z ≡ w → holds k w ≡ true → in_range k z ≡ Ok (record { kind = k; number = w })
+in_kind z w k same h =
+    ap (in_range k) same ∙ ap (λ t. if t then Ok (record { kind = k; number = w }) else Err Range) h
+
+quotient_made : (x y w : ℤ) (t : Bool) → int_eq y (pos 0) ≡ t
+    → (if t then None else kept signed.Lint (int_div x y)) ≡ Some w → IsMadeOf Divide x y w
+quotient_made x y w true z e = absurd cc
+quotient_made x y w false z e = λ k h.
+    ap (λ t. if t then Err DivisionByZero else in_range k (int_div x y)) z
+    ∙ in_kind (int_div x y) w k (made_number (int_div x y) w e) h
+
+remainder_made : (x y w : ℤ) (t : Bool) → int_eq y (pos 0) ≡ t
+    → (if t then None else kept signed.Lint (int_rem x y)) ≡ Some w → IsMadeOf Modulo x y w
+remainder_made x y w true z e = absurd cc
+remainder_made x y w false z e = λ k h.
+    in_kind (remainder x y) w k
+    (sym (remainder_is x y (unequal y z)) ∙ made_number (int_rem x y) w e) h
 
 abbrev chosen : Signed → QuickInstr → QuickInstr → QuickInstr → QuickInstr
 chosen signed.Int a b c = a
@@ -310,11 +337,20 @@ quotient_typed s x n w h e = by_test (int_eq (pos n) (pos 0)) refl e
         ap (λ t. if t then Some q else None) (quotient_held s x (pos n) h (above_none n (unequal (pos n) z)))
         ∙ ap (λ n. Some n) same
 
--- A type is one with a sign, and an instruction the one for it.
+-- a type is computed as one with a sign
+abbrev IsAs : Kind → Signed → Type 0
+IsAs t s = (t ≡ kind_of s) ⊎ ((t ≡ Time) × (s ≡ signed.Lint))
+
+-- A type is computed as one with a sign, and an instruction is the one for it.
 record IsSigned (t : Kind) (a b c i : QuickInstr) : Type 0 where
   type : Signed
-  kind : t ≡ kind_of type
+  kind : IsAs t type
   instr : i ≡ chosen type a b c
+
+held_as : (t : Kind) (s : Signed) (x : ℤ) → IsAs t s → IsHeld (datum_at t x) → IsHeld (datum_at (kind_of s) x)
+held_as t s x (inl is) h = subst (λ k. IsHeld (datum_at k x)) is h
+held_as t s x (inr (time, lint)) h =
+    subst (λ s. IsHeld (datum_at (kind_of s) x)) (sym lint) (subst (λ k. IsHeld (datum_at k x)) time h)
 
 chosen_same : (s : Signed) (a : QuickInstr) → chosen s a a a ≡ a
 chosen_same signed.Int a = refl
@@ -323,9 +359,9 @@ chosen_same signed.Lint a = refl
 
 signed_of : (t : Kind) (a b c i : QuickInstr) → by_kind t a b c ≡ Some i → IsSigned t a b c i
 signed_of Sint a b c i e = absurd cc
-signed_of Int a b c i e = record { type = signed.Int; kind = refl; instr = cc }
-signed_of Dint a b c i e = record { type = signed.Dint; kind = refl; instr = cc }
-signed_of Lint a b c i e = record { type = signed.Lint; kind = refl; instr = cc }
+signed_of Int a b c i e = record { type = signed.Int; kind = inl refl; instr = cc }
+signed_of Dint a b c i e = record { type = signed.Dint; kind = inl refl; instr = cc }
+signed_of Lint a b c i e = record { type = signed.Lint; kind = inl refl; instr = cc }
 signed_of Usint a b c i e = absurd cc
 signed_of Uint a b c i e = absurd cc
 signed_of Udint a b c i e = absurd cc
@@ -334,9 +370,61 @@ signed_of Byte a b c i e = absurd cc
 signed_of Word a b c i e = absurd cc
 signed_of Dword a b c i e = absurd cc
 signed_of Lword a b c i e = absurd cc
-signed_of Time a b c i e = absurd cc
+signed_of Time a b c i e = record { type = signed.Lint; kind = inr (refl, refl); instr = cc }
 signed_of Boolean a b c i e = absurd cc
 signed_of (Enumerated names number) a b c i e = absurd cc
+
+abbrev number_in : Kind → ℤ → Result Datum Fault
+number_in k z = Ok (record { kind = k; number = z })
+
+abbrev number_or_none : Result Datum Fault → ℤ
+number_or_none (Ok v) = v.number
+number_or_none (Err e) = pos 0
+
+same_number : (k : Kind) (x y : ℤ) → number_in k x ≡ number_in k y → x ≡ y
+same_number k x y e = ap number_or_none e
+
+-- what is a LINT is a TIME
+in_time : (z w : ℤ) (t : Bool) → (if t then number_in Lint z else Err Range) ≡ number_in Lint w
+    → (if t then number_in Time z else Err Range) ≡ number_in Time w
+in_time z w true e = ap (number_in Time) (same_number Lint z w e)
+in_time z w false e = absurd cc
+
+quotient_in_time : (x y w : ℤ) (t : Bool)
+    → (if t then Err DivisionByZero else in_range Lint (int_div x y)) ≡ Ok (datum_at Lint w)
+    → (if t then Err DivisionByZero else in_range Time (int_div x y)) ≡ Ok (datum_at Time w)
+quotient_in_time x y w true e = absurd cc
+quotient_in_time x y w false e = in_time (int_div x y) (number_at Lint w) (holds Lint (int_div x y)) e
+
+-- a number makes of TIME what it makes of LINT
+time_as : (o : BinaryOperator) (n : Operation) (x y w : ℤ) → operation_of o ≡ Some n
+    → IsResult (applied o Lint (number_at Lint x) (number_at Lint y)) Lint w
+    → IsResult (applied o Time (number_at Time x) (number_at Time y)) Time w
+time_as Or n x y w of r = absurd cc
+time_as Xor n x y w of r = absurd cc
+time_as And n x y w of r = absurd cc
+time_as Equal n x y w of r = absurd cc
+time_as NotEqual n x y w of r = absurd cc
+time_as Less n x y w of r = absurd cc
+time_as Greater n x y w of r = absurd cc
+time_as LessOrEqual n x y w of r = absurd cc
+time_as GreaterOrEqual n x y w of r = absurd cc
+time_as Add n x y w of r =
+    let z = number_at Lint x +ℤ number_at Lint y in
+    record { value = in_time z (number_at Lint w) (holds Lint z) r.value; held = r.held }
+time_as Subtract n x y w of r =
+    let z = number_at Lint x -ℤ number_at Lint y in
+    record { value = in_time z (number_at Lint w) (holds Lint z) r.value; held = r.held }
+time_as Multiply n x y w of r =
+    let z = number_at Lint x *ℤ number_at Lint y in
+    record { value = in_time z (number_at Lint w) (holds Lint z) r.value; held = r.held }
+time_as Divide n x y w of r =
+    let a = number_at Lint x in
+    let b = number_at Lint y in
+    record { value = quotient_in_time a b w (int_eq b (pos 0)) r.value; held = r.held }
+time_as Modulo n x y w of r =
+    let z = remainder (number_at Lint x) (number_at Lint y) in
+    record { value = in_time z (number_at Lint w) (holds Lint z) r.value; held = r.held }
 
 from_none : (z : ℤ) → pos 0 -ℤ z ≡ neg_ℤ z
 from_none z = omega (arith, ints)
@@ -384,6 +472,18 @@ module _ (f : Frame) (p : ℕ) (e : Left) (m : Memory) (b : ℕ) where
         ends = done.ends;
       }
 
+  -- what was computed as another type
+  back : (o : BinaryOperator) (n : Operation) (s : Signed) (t : Kind) (x y : ℤ) (to : ℕ) → operation_of o ≡ Some n
+      → IsAs t s → HasComputed o (kind_of s) x y to → HasComputed o t x y to
+  back o n s t x y to of (inl is) done = subst (λ k. HasComputed o k x y to) (sym is) done
+  back o n s t x y to of (inr (time, lint)) done =
+      let as_lint = subst (λ s. HasComputed o (kind_of s) x y to) lint done in
+      subst (λ k. HasComputed o k x y to) (sym time) (record {
+        word = as_lint.word;
+        result = time_as o n x y as_lint.word of as_lint.result;
+        ends = as_lint.ends;
+      })
+
   of_type : (o : BinaryOperator) (n : Operation) (t : Kind) (x y : ℤ) (to : ℕ) (a d c i : QuickInstr)
       → operation_of o ≡ Some n → by_kind t a d c ≡ Some i
       → ((s : Signed) → act f.ways f.now (chosen s a d c) m b ≡ put to (made n s x y) m b)
@@ -392,18 +492,17 @@ module _ (f : Frame) (p : ℕ) (e : Left) (m : Memory) (b : ℕ) where
   of_type o n t x y to a d c i of is does g h runs =
       let which = signed_of t a d c i is in
       let s = which.type in
-      subst (λ k. HasComputed o k x y to) (sym which.kind)
-      (of_signed o n s x y to of (subst (λ k. IsHeld (datum_at k x)) which.kind g)
-      (subst (λ k. IsHeld (datum_at k y)) which.kind h)
+      back o n s t x y to of which.kind
+      (of_signed o n s x y to of (held_as t s x which.kind g) (held_as t s y which.kind h)
       (subst (Follows f p e) (does s) (subst (λ i. Follows f p e (act f.ways f.now i m b)) which.instr runs)))
 
   -- the words of a type are its numbers
-  of_words : (o : BinaryOperator) (s : Signed) (t : Kind) (x y w : ℤ) (to : ℕ) → t ≡ kind_of s
-      → IsResult (applied o (kind_of s) x y) (kind_of s) w → Ends f (suc p) (with_word m to w) b e
-      → HasComputed o t x y to
-  of_words o s t x y w to kind result ends =
+  of_words : (o : BinaryOperator) (n : Operation) (s : Signed) (t : Kind) (x y w : ℤ) (to : ℕ)
+      → operation_of o ≡ Some n → IsAs t s → IsResult (applied o (kind_of s) x y) (kind_of s) w
+      → Ends f (suc p) (with_word m to w) b e → HasComputed o t x y to
+  of_words o n s t x y w to of kind result ends =
       let k = kind_of s in
-      subst (λ k. HasComputed o k x y to) (sym kind) (record {
+      back o n s t x y to of kind (record {
         word = w;
         result = subst (λ z. IsResult (applied o k z (number_at k y)) k w) (sym (number_is s x))
             (subst (λ z. IsResult (applied o k x z) k w) (sym (number_is s y)) result);
@@ -418,11 +517,11 @@ module _ (f : Frame) (p : ℕ) (e : Left) (m : Memory) (b : ℕ) where
   of_difference t x y to a d c i is does g h runs =
       let which = signed_of t a d c i is in
       let s = which.type in
-      let hx = word_held s x (subst (λ k. IsHeld (datum_at k x)) which.kind g) in
-      let hy = word_held s y (subst (λ k. IsHeld (datum_at k y)) which.kind h) in
+      let hx = word_held s x (held_as t s x which.kind g) in
+      let hy = word_held s y (held_as t s y which.kind h) in
       let done = has_put f p e to (made op.Add s x (neg_ℤ y)) m b
       (subst (Follows f p e) (does s) (subst (λ i. Follows f p e (act f.ways f.now i m b)) which.instr runs)) in
-      of_words Subtract s t x y done.word to which.kind
+      of_words Subtract op.Subtract s t x y done.word to refl which.kind
       (kept_is s (x -ℤ y) done.word (ap (kept s) (sym (sum_turned s x y hx hy)) ∙ done.is)) done.ends
 
   -- a quotient, which is computed in 64 bits
@@ -432,11 +531,11 @@ module _ (f : Frame) (p : ℕ) (e : Left) (m : Memory) (b : ℕ) where
   of_quotient t x n to a i is does g runs =
       let which = signed_of t a a a i is in
       let s = which.type in
-      let hx = word_held s x (subst (λ k. IsHeld (datum_at k x)) which.kind g) in
+      let hx = word_held s x (held_as t s x which.kind g) in
       let done = has_put f p e to (made op.Divide signed.Lint x (pos n)) m b
       (subst (Follows f p e) does
       (subst (λ i. Follows f p e (act f.ways f.now i m b)) (which.instr ∙ chosen_same s a) runs)) in
-      of_words Divide s t x (pos n) done.word to which.kind
+      of_words Divide op.Divide s t x (pos n) done.word to refl which.kind
       (divided_is s x (pos n) done.word (quotient_typed s x n done.word hx done.is)) done.ends
 
   -- a remainder, which is computed in 64 bits
@@ -447,20 +546,13 @@ module _ (f : Frame) (p : ℕ) (e : Left) (m : Memory) (b : ℕ) where
       let which = signed_of t a a a i is in
       let s = which.type in
       let k = kind_of s in
-      let hx = word_held s x (subst (λ k. IsHeld (datum_at k x)) which.kind g) in
-      let hy = word_held s y (subst (λ k. IsHeld (datum_at k y)) which.kind h) in
+      let hx = word_held s x (held_as t s x which.kind g) in
+      let hy = word_held s y (held_as t s y which.kind h) in
       let done = has_put f p e to (made op.Modulo signed.Lint x y) m b
       (subst (Follows f p e) does
       (subst (λ i. Follows f p e (act f.ways f.now i m b)) (which.instr ∙ chosen_same s a) runs)) in
       let result = made_is Modulo op.Modulo s x y done.word refl hx hy (remainder_typed s x y done.word hy done.is) in
-      let own = subst (λ z. IsResult (applied Modulo k z (number_at k y)) k done.word) (sym (number_is s x))
-      (subst (λ z. IsResult (applied Modulo k x z) k done.word) (sym (number_is s y)) result) in
-      record {
-        word = done.word;
-        result = subst (λ k. IsResult (applied Modulo k (number_at k x) (number_at k y)) k done.word) (sym which.kind)
-            own;
-        ends = done.ends;
-      }
+      of_words Modulo op.Modulo s t x y done.word to refl which.kind result done.ends
 
   -- an operator on bits
   of_operator : (o : BinaryOperator) (t : Kind) (x y v : ℤ) (to : ℕ)
@@ -592,6 +684,99 @@ module _ (f : Frame) (p : ℕ) (e : Left) (m : Memory) (b : ℕ) where
   has_computed_by Divide t l (negsuc n) to i is g h runs = absurd cc
   has_computed_by Modulo t l n to i is g h runs =
       of_remainder t (look m l) n to (quick.ModuloBy l n to) i is refl g h runs
+
+  -- What an operator makes of two numbers was assigned, as of two of LINT.
+  pub record HasMadeOf (o : BinaryOperator) (x y : ℤ) (to : ℕ) : Type 0 where
+    pub word : ℤ
+    pub is : IsMadeOf o x y word
+    pub ends : Ends f (suc p) (with_word m to word) b e
+
+  sum_put : (o : BinaryOperator) (z x y : ℤ) (to : ℕ)
+      → ((w : ℤ) → z ≡ w → IsMadeOf o x y w) → Follows f p e (put to (kept signed.Lint z) m b) → HasMadeOf o x y to
+  sum_put o z x y to means runs =
+      let done = has_put f p e to (kept signed.Lint z) m b runs in
+      record { word = done.word; is = means done.word (made_number z done.word done.is); ends = done.ends }
+
+  quotient_put : (x y : ℤ) (to : ℕ) → Follows f p e (put to (made op.Divide signed.Lint x y) m b)
+      → HasMadeOf Divide x y to
+  quotient_put x y to runs =
+      let done = has_put f p e to (made op.Divide signed.Lint x y) m b runs in
+      record {
+        word = done.word;
+        is = quotient_made x y done.word (int_eq y (pos 0)) refl done.is;
+        ends = done.ends;
+      }
+
+  remainder_put : (x y : ℤ) (to : ℕ) → Follows f p e (put to (made op.Modulo signed.Lint x y) m b)
+      → HasMadeOf Modulo x y to
+  remainder_put x y to runs =
+      let done = has_put f p e to (made op.Modulo signed.Lint x y) m b runs in
+      record {
+        word = done.word;
+        is = remainder_made x y done.word (int_eq y (pos 0)) refl done.is;
+        ends = done.ends;
+      }
+
+  as_instr : (i j : QuickInstr) → Some i ≡ Some j → Follows f p e (act f.ways f.now j m b)
+      → Follows f p e (act f.ways f.now i m b)
+  as_instr i j is runs = subst (λ i. Follows f p e (act f.ways f.now i m b)) (some_is is) runs
+
+  pub has_made_of : (o : BinaryOperator) (l r to : ℕ) (i : QuickInstr) → instr_for o Lint l r to ≡ Some i
+      → Follows f p e (act f.ways f.now i m b) → HasMadeOf o (look m l) (look m r) to
+  has_made_of Or l r to i is runs = absurd cc
+  has_made_of Xor l r to i is runs = absurd cc
+  has_made_of And l r to i is runs = absurd cc
+  has_made_of Equal l r to i is runs = absurd cc
+  has_made_of NotEqual l r to i is runs = absurd cc
+  has_made_of Less l r to i is runs = absurd cc
+  has_made_of Greater l r to i is runs = absurd cc
+  has_made_of LessOrEqual l r to i is runs = absurd cc
+  has_made_of GreaterOrEqual l r to i is runs = absurd cc
+  has_made_of Add l r to i is runs =
+      let x = look m l in
+      let y = look m r in
+      sum_put Add (x +ℤ y) x y to (λ w same k h. in_kind (x +ℤ y) w k same h) (as_instr (AddLint l r to) i is runs)
+  has_made_of Subtract l r to i is runs =
+      let x = look m l in
+      let y = look m r in
+      sum_put Subtract (x -ℤ y) x y to (λ w same k h. in_kind (x -ℤ y) w k same h)
+      (as_instr (SubtractLint l r to) i is runs)
+  has_made_of Multiply l r to i is runs =
+      let x = look m l in
+      let y = look m r in
+      sum_put Multiply (x *ℤ y) x y to (λ w same k h. in_kind (x *ℤ y) w k same h)
+      (as_instr (MultiplyLint l r to) i is runs)
+  has_made_of Divide l r to i is runs =
+      quotient_put (look m l) (look m r) to (as_instr (DivideLint l r to) i is runs)
+  has_made_of Modulo l r to i is runs =
+      remainder_put (look m l) (look m r) to (as_instr (quick.Modulo l r to) i is runs)
+
+  pub has_made_of_by : (o : BinaryOperator) (l : ℕ) (n : ℤ) (to : ℕ) (i : QuickInstr) → instr_by o Lint l n to ≡ Some i
+      → Follows f p e (act f.ways f.now i m b) → HasMadeOf o (look m l) n to
+  has_made_of_by Or l n to i is runs = absurd cc
+  has_made_of_by Xor l n to i is runs = absurd cc
+  has_made_of_by And l n to i is runs = absurd cc
+  has_made_of_by Equal l n to i is runs = absurd cc
+  has_made_of_by NotEqual l n to i is runs = absurd cc
+  has_made_of_by Less l n to i is runs = absurd cc
+  has_made_of_by Greater l n to i is runs = absurd cc
+  has_made_of_by LessOrEqual l n to i is runs = absurd cc
+  has_made_of_by GreaterOrEqual l n to i is runs = absurd cc
+  has_made_of_by Add l n to i is runs =
+      let x = look m l in
+      sum_put Add (x +ℤ n) x n to (λ w same k h. in_kind (x +ℤ n) w k same h)
+      (as_instr (quick.AddLintBy l n to) i is runs)
+  has_made_of_by Subtract l n to i is runs =
+      let x = look m l in
+      sum_put Subtract (x +ℤ neg_ℤ n) x n to
+      (λ w same k h. in_kind (x -ℤ n) w k (sym (with_sign_turned x n) ∙ same) h)
+      (as_instr (quick.AddLintBy l (neg_ℤ n) to) i is runs)
+  has_made_of_by Multiply l n to i is runs = absurd cc
+  has_made_of_by Divide l (pos n) to i is runs =
+      quotient_put (look m l) (pos n) to (as_instr (quick.DivideBy l (pos n) to) i is runs)
+  has_made_of_by Divide l (negsuc n) to i is runs = absurd cc
+  has_made_of_by Modulo l n to i is runs =
+      remainder_put (look m l) n to (as_instr (quick.ModuloBy l n to) i is runs)
 
   -- each bit of a word was turned
   pub has_turned : (t : Kind) (l r to : ℕ) (i : QuickInstr) → instr_for Xor t l r to ≡ Some i

@@ -47,6 +47,11 @@ use Rattle.quick_trees.proofs.Operators.{HasApplied, has_negated, has_turned, ha
 use Rattle.quick_trees.proofs.Operators.{has_computed_by, has_truth}
 use Rattle.quick_trees.proofs.Truths.{then_gives, truth_held, truth_word}
 use Rattle.quick_trees.proofs.Settings.{AreGiven, Setting, scope_of}
+use Rattle.quick_trees.specs.Functions.{IsComputedByWithin, IsComputedWithin, IsEvaluated}
+use Rattle.quick_trees.proofs.Computing.{has_value, moved_within}
+use Rattle.quick_trees.proofs.Operators.{has_made_of, has_made_of_by, IsMadeOf}
+use Rattle.quick_trees.proofs.Memories.{IsNoted}
+use Rattle.st_types.specs.StandardFunctions.{Standard}
 use Rattle.st_words.specs.declared.kind.Kind.TheVariants.{Bool as Boolean}
 
 -- the value of a slot is loaded, which is marked
@@ -319,19 +324,102 @@ module _ (s : Setting) where
       applied_once Not e t d is.from to p is.last q m tr b is.next one
       (turned_to t d is.from to e p is.last m tr b one is.turns)
 
+  -- what an operator makes of two words that are numbers
+  made_within : (op : BinaryOperator) (t : Kind) (x y w : ℤ) → is_wide t ≡ false → IsMadeOf op x y w
+      → holds t w ≡ true → applied op t (number_at t x) (number_at t y) ≡ Ok (datum_at t w)
+  made_within op t x y w narrow is held =
+      ap₂ (applied op t) (narrow_number t x narrow) (narrow_number t y narrow)
+      ∙ is t held
+      ∙ ap (λ n. Ok (record { kind = t; number = n })) (sym (narrow_number t w narrow))
+
+  within_made : (op : BinaryOperator) (l r : SlotExpr) (t : Kind) (d to : ℕ) (p q : Point) → Reads l t d
+      → Reads r t (suc d) → IsComputedWithin f (Is l t d) (Is r t (suc d)) op t d to p q
+      → From d p (HasMade (binary op l r) t d to p q)
+  within_made op l r t d to p q reads_l reads_r is m tr b site of runs =
+      let both = read_both l r t d is.left is.right p is.last reads_l reads_r is.reads m tr b site of runs in
+      let step = stepped f is.last.place s.finish both.memory both.left is.stands.instr both.ends is.stands.at in
+      let one = has_made_of f is.last.place s.finish both.memory both.left op is.left is.right d is.stands.instr
+      is.stands.is step in
+      let n = with_word both.memory d one.word in
+      let held = holds_temporary s.frame s.site s.marks is.last.noted both.memory both.tracked both.is d site d one.word
+      (omega arith) in
+      let moved = moved_within f s.finish is.last.noted (marks_of s.site s.marks both.tracked) t d to
+      (suc is.last.place) n both.left is.moves held.noted one.ends in
+      let there = is.there in
+      let long = both.is.noted.room.words in
+      let here : look n d ≡ one.word = word_here both.memory d one.word (omega arith) in
+      let narrow = is.moves.narrow in
+      let kept : holds t one.word ≡ true = ap (holds t) (sym here) ∙ moved.held in
+      subst (λ q. HasMade (binary op l r) t d to p q m tr b) (sym is.is) (record {
+        memory = n;
+        tracked = both.tracked;
+        left = both.left;
+        word = one.word;
+        gives = applied_to op l r t (look both.memory is.left) (look both.memory is.right) tr both.between both.tracked
+            (b + p.ahead) both.then_left (both.left + is.last.ahead) (datum_at t one.word) both.first both.second
+            (made_within op t (look both.memory is.left) (look both.memory is.right) one.word narrow one.is kept);
+        fewer = both.fewer;
+        keeps = keeps_both d d m both.memory n (omega arith) both.keeps
+            (keeps_below d both.memory d one.word (omega arith));
+        is = held;
+        held = ap (holds t) (narrow_number t one.word narrow) ∙ kept;
+        ends = subst (λ w. Ends f (suc (suc is.last.place)) (with_word n to w) both.left s.finish) here moved.ends;
+      })
+
+  within_made_by : (op : BinaryOperator) (l r : SlotExpr) (t : Kind) (d to : ℕ) (p q : Point) → Reads l t d
+      → IsComputedByWithin f (Is l t d) op t r d to p q → From d p (HasMade (binary op l r) t d to p q)
+  within_made_by op l r t d to p q reads_l is m tr b site of runs =
+      let both = reads_l is.left p is.last is.reads m tr b site of runs in
+      let step = stepped f is.last.place s.finish both.memory both.left is.stands.instr both.ends is.stands.at in
+      let one = has_made_of_by f is.last.place s.finish both.memory both.left op is.left is.word d is.stands.instr
+      is.stands.is step in
+      let n = with_word both.memory d one.word in
+      let held = holds_temporary s.frame s.site s.marks is.last.noted both.memory both.tracked both.is d site d one.word
+      (omega arith) in
+      let moved = moved_within f s.finish is.last.noted (marks_of s.site s.marks both.tracked) t d to
+      (suc is.last.place) n both.left is.moves held.noted one.ends in
+      let there = is.there in
+      let long = both.is.noted.room.words in
+      let here : look n d ≡ one.word = word_here both.memory d one.word (omega arith) in
+      let narrow = is.moves.narrow in
+      let kept : holds t one.word ≡ true = ap (holds t) (sym here) ∙ moved.held in
+      subst (λ q. HasMade (binary op l r) t d to p q m tr b) (sym is.is) (record {
+        memory = n;
+        tracked = both.tracked;
+        left = both.left;
+        word = one.word;
+        gives = applied_to op l r t (look both.memory is.left) is.word tr both.tracked both.tracked (b + p.ahead)
+            (both.left + is.last.ahead) (both.left + is.last.ahead) (datum_at t one.word) both.gives
+            (number_gives r t is.word both.tracked (both.left + is.last.ahead) is.number)
+            (made_within op t (look both.memory is.left) is.word one.word narrow one.is kept);
+        fewer = both.fewer;
+        keeps = keeps_both d d m both.memory n (omega arith) both.keeps
+            (keeps_below d both.memory d one.word (omega arith));
+        is = held;
+        held = ap (holds t) (narrow_number t one.word narrow) ∙ kept;
+        ends = subst (λ w. Ends f (suc (suc is.last.place)) (with_word n to w) both.left s.finish) here moved.ends;
+      })
+
   -- what an operator makes, computed or compared
   pub binary_by : (op : BinaryOperator) (l r : SlotExpr) (t : Kind) (d to : ℕ) (p q : Point) → ((u : Kind)
       → Reads l u d)
       → ((u : Kind) → Reads r u (suc d))
       → IsComputed f (Is l t d) (Is r t (suc d)) op t to p q
-      ⊎ (IsTruth f (λ u. Is l u d) (λ u. Is r u (suc d)) op t to p q ⊎ IsComputedBy f (Is l t d) op t r to p q)
+      ⊎ (IsTruth f (λ u. Is l u d) (λ u. Is r u (suc d)) op t to p q
+      ⊎ (IsComputedBy f (Is l t d) op t r to p q
+      ⊎ (IsComputedWithin f (Is l t d) (Is r t (suc d)) op t d to p q
+      ⊎ IsComputedByWithin f (Is l t d) op t r d to p q)))
       → From d p (HasMade (binary op l r) t d to p q)
   binary_by op l r t d to p q reads_l reads_r (inl is) =
       made_by op l r t d to p q (reads_l t) (reads_r t) is
   binary_by op l r t d to p q reads_l reads_r (inr (inl is)) =
       truth_by op l r t d to p q reads_l reads_r is
-  binary_by op l r t d to p q reads_l reads_r (inr (inr is)) =
+  binary_by op l r t d to p q reads_l reads_r (inr (inr (inl is))) =
       computed_by op l r t d to p q (reads_l t) is
+  binary_by op l r t d to p q reads_l reads_r (inr (inr (inr (inl is)))) =
+      within_made op l r t d to p q (reads_l t) (reads_r t) is
+  binary_by op l r t d to p q reads_l reads_r (inr (inr (inr (inr is)))) =
+      within_made_by op l r t d to p q (reads_l t) is
 
   read_constant : (l : Literal) (t : Kind) (d : ℕ) → Reads (constant l) t d
   read_constant l t d k p q is m tr b site of runs =
@@ -611,6 +699,48 @@ module _ (s : Setting) where
         held = done.held;
         ends = done.ends;
       }
+
+  -- a standard function was computed
+  pub evaluated_by : (g : Standard) (es : SlotExprs) (t : Kind) (d to : ℕ) (p q : Point)
+      → ((kinds : List Kind) (words : List ℕ) → ReadsAll es d kinds words)
+      → IsEvaluated f (AreArguments s.frame s.site s.units es d) g t d to p q
+      → From d p (HasMade (compute g es) t d to p q)
+  evaluated_by g es t d to p q reads_es is m tr b site of runs =
+      let all = reads_es is.kinds is.words p is.given is.arguments m tr b site of runs in
+      let c = d + length is.words in
+      let deep = site.deep in
+      let done = has_value f s.finish is.given.noted (marks_of s.site s.marks all.tracked) is.kinds is.words
+      all.arguments t c to is.given q all.memory all.left all.given (omega arith) all.is.noted all.ends g is.computes in
+      let few = all.fewer in
+      let same = done.ahead in
+      record {
+        memory = done.memory;
+        tracked = all.tracked;
+        left = all.left;
+        word = done.word;
+        gives = then_gives (marked_values z tr es (b + p.ahead)) (all.arguments, all.tracked)
+            (all.left + is.given.ahead)
+            (λ r. λ n. follow (attempt s.stand_ins (standard_value g r.0) n) (λ v. give (v, r.1))) all.gives
+            ∙ ap (λ o. follow (attempt s.stand_ins o (all.left + is.given.ahead)) (λ v. give (v, all.tracked)))
+            done.value
+            ∙ ap (λ a. Ok ((datum_at t done.word, all.tracked), all.left + a)) (sym same);
+        fewer = omega arith;
+        keeps = keeps_both d c m all.memory done.memory (omega arith) all.keeps done.keeps;
+        is = holds_kept s.frame s.site s.marks is.given.noted all.memory all.tracked all.is d site q.noted done.memory
+            (keeps_less d c all.memory done.memory (omega arith) done.keeps)
+            (subst (λ ns. IsNoted f ns (marks_of s.site s.marks all.tracked) done.memory) (sym done.told) done.noted);
+        held = done.held;
+        ends = done.ends;
+      }
+
+  -- a value was converted to a wider type, or computed
+  read_converted : (e : SlotExpr) (from to t : Kind) (d : ℕ) → Reads e from d
+      → ((kinds : List Kind) (words : List ℕ) → ReadsAll (expr_then e no_exprs) d kinds words)
+      → Reads (compute (CONVERT from to) (expr_then e no_exprs)) t d
+  read_converted e from to t d reads_e reads_es k p q (inl is) = read_wider e from to t d reads_e k p q is
+  read_converted e from to t d reads_e reads_es k p q (inr is) =
+      read_made (compute (CONVERT from to) (expr_then e no_exprs)) t d k p q is.0
+      (evaluated_by (CONVERT from to) (expr_then e no_exprs) t d k p q reads_es is.1)
 
   -- A subscript was read, up to the instruction that takes it.
   record HasIndexed (e : SlotExpr) (lower : ℤ) (d : ℕ) (Instr : ℕ → ℤ → QuickInstr) (p q : Point) (m : Memory)
@@ -892,18 +1022,35 @@ module _ (s : Setting) where
         read_made (load (place a (subscript_then i lower count stride (subscript_then j l c r ss)))) t d k p q is.0
         (within_by a i lower count stride (subscript_then j l c r ss) t d k p q (λ u. reads i u d)
         (leads_on (subscript_then j l c r ss) d) is.1)
-    reads (compute ABS es) t d = λ k p q is. absurd is
-    reads (compute MIN es) t d = λ k p q is. absurd is
-    reads (compute MAX es) t d = λ k p q is. absurd is
-    reads (compute LIMIT es) t d = λ k p q is. absurd is
-    reads (compute SEL es) t d = λ k p q is. absurd is
-    reads (compute SHL es) t d = λ k p q is. absurd is
-    reads (compute SHR es) t d = λ k p q is. absurd is
-    reads (compute ROL es) t d = λ k p q is. absurd is
-    reads (compute ROR es) t d = λ k p q is. absurd is
-    reads (compute (CONVERT from to) no_exprs) t d = λ k p q is. absurd is
-    reads (compute (CONVERT from to) (expr_then e no_exprs)) t d = read_wider e from to t d (reads e from d)
-    reads (compute (CONVERT from to) (expr_then e (expr_then i es))) t d = λ k p q is. absurd is
+    reads (compute ABS es) t d = λ k p q is. read_made (compute ABS es) t d k p q is.0
+        (evaluated_by ABS es t d k p q (λ kinds words. reads_all es d kinds words) is.1)
+    reads (compute MIN es) t d = λ k p q is. read_made (compute MIN es) t d k p q is.0
+        (evaluated_by MIN es t d k p q (λ kinds words. reads_all es d kinds words) is.1)
+    reads (compute MAX es) t d = λ k p q is. read_made (compute MAX es) t d k p q is.0
+        (evaluated_by MAX es t d k p q (λ kinds words. reads_all es d kinds words) is.1)
+    reads (compute LIMIT es) t d = λ k p q is. read_made (compute LIMIT es) t d k p q is.0
+        (evaluated_by LIMIT es t d k p q (λ kinds words. reads_all es d kinds words) is.1)
+    reads (compute SEL es) t d = λ k p q is. read_made (compute SEL es) t d k p q is.0
+        (evaluated_by SEL es t d k p q (λ kinds words. reads_all es d kinds words) is.1)
+    reads (compute SHL es) t d = λ k p q is. read_made (compute SHL es) t d k p q is.0
+        (evaluated_by SHL es t d k p q (λ kinds words. reads_all es d kinds words) is.1)
+    reads (compute SHR es) t d = λ k p q is. read_made (compute SHR es) t d k p q is.0
+        (evaluated_by SHR es t d k p q (λ kinds words. reads_all es d kinds words) is.1)
+    reads (compute ROL es) t d = λ k p q is. read_made (compute ROL es) t d k p q is.0
+        (evaluated_by ROL es t d k p q (λ kinds words. reads_all es d kinds words) is.1)
+    reads (compute ROR es) t d = λ k p q is. read_made (compute ROR es) t d k p q is.0
+        (evaluated_by ROR es t d k p q (λ kinds words. reads_all es d kinds words) is.1)
+    reads (compute (CONVERT from to) no_exprs) t d = λ k p q is.
+        read_made (compute (CONVERT from to) no_exprs) t d k p q is.0
+        (evaluated_by (CONVERT from to) no_exprs t d k p q
+        (λ kinds words. reads_all no_exprs d kinds words) is.1)
+    reads (compute (CONVERT from to) (expr_then e no_exprs)) t d =
+        read_converted e from to t d (reads e from d)
+        (λ kinds words. reads_all (expr_then e no_exprs) d kinds words)
+    reads (compute (CONVERT from to) (expr_then e (expr_then i es))) t d = λ k p q is.
+        read_made (compute (CONVERT from to) (expr_then e (expr_then i es))) t d k p q is.0
+        (evaluated_by (CONVERT from to) (expr_then e (expr_then i es)) t d k p q
+        (λ kinds words. reads_all (expr_then e (expr_then i es)) d kinds words) is.1)
     reads (call g es) t d = λ k p q is.
         read_made (call g es) t d k p q is.0
         (called_by g es t d k p q (λ kinds words. reads_all es d kinds words) is.1)

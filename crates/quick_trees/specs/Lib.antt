@@ -4,6 +4,7 @@ pub mod Points
 pub mod Sites
 pub mod Instructions
 pub mod Pieces
+pub mod Functions
 pub mod Standing
 pub mod Calls
 pub mod Programs

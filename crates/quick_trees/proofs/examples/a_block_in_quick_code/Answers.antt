@@ -73,7 +73,7 @@ returns-clause-stands c = record {
               middle = at 7 1 (LookedAssignmentAhead ∷ AssignmentAhead ∷ BothAhead ∷ []);
               first = inl (
                 record { depth = refl; there = omega arith },
-                inr (inr (record {
+                inr (inr (inl (record {
                   left = 0;
                   word = pos 1;
                   last = at 6 1 (LookedAssignmentAhead ∷ AssignmentAhead ∷ BothAhead ∷ []);
@@ -92,7 +92,7 @@ returns-clause-stands c = record {
                   number = (refl, refl);
                   stands = record { instr = AddIntBy 0 (pos 1) 3; is = refl; at = refl };
                   next = refl;
-                })),
+                }))),
               );
               second = refl;
             },

@@ -86,7 +86,7 @@ returns-clause-stands c = record {
                   word = 0;
                   own = refl;
                   made = at 5 1 (LookedAssignmentAhead ∷ []);
-                  makes = inr (inr (record {
+                  makes = inr (inr (inl (record {
                     left = 0;
                     word = pos 1;
                     last = at 4 1 (LookedAssignmentAhead ∷ []);
@@ -105,7 +105,7 @@ returns-clause-stands c = record {
                     number = (refl, refl);
                     stands = record { instr = AddIntBy 0 (pos 1) 0; is = refl; at = refl };
                     next = refl;
-                  }));
+                  })));
                   is = refl;
                   touches = record {
                     old = LookedAssignmentAhead;

@@ -42,7 +42,7 @@ returns-clause-stands c = record {
           word = 0;
           own = refl;
           made = at 4 2 (LookedAssignmentAhead ∷ Exact ∷ []);
-          makes = inr (inr (record {
+          makes = inr (inr (inl (record {
             left = 0;
             word = pos 3;
             last = at 3 2 (LookedAssignmentAhead ∷ Exact ∷ []);
@@ -55,7 +55,7 @@ returns-clause-stands c = record {
             number = (refl, refl);
             stands = record { instr = AddIntBy 0 (negsuc 2) 0; is = refl; at = refl };
             next = refl;
-          }));
+          })));
           is = refl;
           touches = record { old = LookedAssignmentAhead; there = refl; new = Assigned; is = refl; rest = refl };
         };
@@ -89,7 +89,7 @@ returns-clause-stands c = record {
               word = 1;
               own = refl;
               made = at 7 1 (Assigned ∷ LookedAssignmentAhead ∷ []);
-              makes = inr (inr (record {
+              makes = inr (inr (inl (record {
                 left = 1;
                 word = pos 7;
                 last = at 6 1 (Assigned ∷ LookedAssignmentAhead ∷ []);
@@ -108,7 +108,7 @@ returns-clause-stands c = record {
                 number = (refl, refl);
                 stands = record { instr = MultiplyDintBy 1 (pos 7) 1; is = refl; at = refl };
                 next = refl;
-              }));
+              })));
               is = refl;
               touches = record { old = LookedAssignmentAhead; there = refl; new = Assigned; is = refl; rest = refl };
             };
@@ -127,7 +127,7 @@ returns-clause-stands c = record {
                   word = 1;
                   own = refl;
                   made = at 8 0 (Assigned ∷ Assigned ∷ []);
-                  makes = inr (inr (record {
+                  makes = inr (inr (inl (record {
                     left = 1;
                     word = pos 10;
                     last = at 7 0 (Assigned ∷ Assigned ∷ []);
@@ -140,7 +140,7 @@ returns-clause-stands c = record {
                     number = (refl, refl);
                     stands = record { instr = DivideBy 1 (pos 10) 1; is = refl; at = refl };
                     next = refl;
-                  }));
+                  })));
                   is = refl;
                   touches = record { old = Assigned; there = refl; new = Assigned; is = refl; rest = refl };
                 };
