@@ -9,3 +9,4 @@ pub mod Arguments
 pub mod Inputs
 pub mod Tables
 pub mod ChosenArms
+pub mod Instances

@@ -7,6 +7,7 @@ use Rattle.quick_trees.specs.QuickMemory.{Frame}
 use Rattle.quick_trees.specs.Points.{Point}
 use Rattle.quick_trees.specs.Sites.{Site, whole, called}
 use Rattle.quick_trees.specs.Sites as sites
+use Rattle.quick_trees.specs.Pieces.{Input}
 use Rattle.quick_trees.specs.Standing.{QuickUnits}
 use Rattle.quick_trees.specs.Standing as standing
 use Rattle.quick_trees.specs.Calls.{quick_units}
@@ -17,6 +18,7 @@ use Rattle.quick_checks.specs.declared.draft.Exits.{Exits}
 use Rattle.st_words.specs.declared.kind.Kind.{Kind}
 use Rattle.quick_checks.specs.declared.constants.Reading.{Reading}
 use Rattle.quick_checks.specs.declared.cursor.Cursor.{Cursor}
+use Rattle.quick_checks.specs.declared.members.Taken.{Taken}
 use Rattle.quick_checks.specs.declared.scope.Seat.{Seat}
 use Rattle.quick_checks.specs.declared.scope.Scope.{Scope}
 use Rattle.quick_checks.specs.declared.scope.Values.{Values}
@@ -64,6 +66,18 @@ kinds_read rs = map (λ (r : Reading). r.kind) rs
 
 abbrev pub words_read : List Reading → List ℕ
 words_read rs = map (λ (r : Reading). r.word) rs
+
+-- the inputs that a call gives
+abbrev pub input_taken : Taken → Input
+input_taken i = record { member = i.member; kind = i.kind; word = i.word }
+
+abbrev pub inputs_taken : List Taken → List Input
+inputs_taken = map input_taken
+
+-- it holds at each moment, whatever is called
+abbrev pub Ever : QuickDraft → Values → (Frame → Site → QuickUnits → Type 0) → Type 0
+Ever d vs P = (now : ℕ) (library : SlotLibrary) (calls : ℕ)
+    → P (frame_of d now) (site_of vs) (quick_units (frame_of d now) library calls)
 
 -- it holds at each moment, over each library that the code's is kept of
 abbrev pub Always : QuickDraft → code_library.SlotLibrary → Scope → (Frame → Site → QuickUnits → Type 0) → Type 0

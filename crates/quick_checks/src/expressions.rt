@@ -42,6 +42,23 @@ pub fn read_variable(
         (slot_at (base_of (site_of values.now)) (anchor_view anchor)) at.old.noted.items at.new.noted.items) }
 {
     let slot = slot_of(values, anchor)?;
+    read_slot(draft, values, slot, at)
+}
+
+/// Looks up a value: its type and its word.
+pub fn read_slot(
+    draft: &QuickDraft,
+    values: &Values,
+    slot: usize,
+    at: &mut Cursor,
+) -> Result<Reading, Refusal>
+    ensures of_type { IfOk result (λ r. (now : ℕ)
+        → slice_get (kinds_of (frame_of draft.now now) (site_of values.now)) slot ≡ Some r.kind) }
+    ensures has { IfOk result (λ r. HasWord (site_of values.now) slot r.word) }
+    ensures same { OnOk result (point_of at.new ≡ record (point_of at.old) { noted = at.new.noted.items }) }
+    ensures touches { OnOk result
+        (Touches notes.at_look (site_of values.now) slot at.old.noted.items at.new.noted.items) }
+{
     let kind = kind_at(draft, values, slot)?;
     let word = word_of(values, slot)?;
     look(values, at, slot)?;

@@ -4,6 +4,7 @@
 //! taken ahead and what is known of the notes. Where the answer is yes, the code stands for the program.
 #![tactic(auto)]
 
+mod blocks;
 mod calls;
 mod cases;
 mod choices;
@@ -14,6 +15,7 @@ mod cursor;
 mod draft;
 mod expressions;
 mod instructions;
+mod members;
 mod programs;
 mod prologues;
 mod reading;

@@ -10,6 +10,7 @@ ghost use Rattle.quick_trees.specs.Standing.{ArmsStand, IsAssignment, IsStored, 
 ghost use Rattle.quick_checks.specs.Checking.{Always, exits_of, frame_of, point_of};
 ghost use Rattle.quick_trees.specs.Points.{AreNoted};
 
+use crate::blocks::check_invoked;
 use crate::cases::check_case;
 use crate::conditions::check_test;
 use crate::counting::check_for;
@@ -132,7 +133,11 @@ fn check_stmt(
                 draft, library, scope, selector, arms, otherwise, depth, exits, at,
             )?;
         }
-        SlotStmt::Invoke(_, _, _) => return Err(Refusal::Other),
+        SlotStmt::Invoke(instance, block, arguments) => {
+            check_invoked(
+                draft, library, scope, *instance, *block, arguments, depth, at,
+            )?;
+        }
     }
     Ok(())
 }

@@ -30,6 +30,8 @@ pub struct Draft {
     pub known: Known<Noting>,
     /// The ways out of each loop around.
     pub outs: Vec<Ways<Noting>>,
+    /// The ways of RETURN out of each block around, which are those to its end too.
+    pub backs: Vec<Ways<Noting>>,
     pub promises: Vec<Promise>,
     /// No run comes here, so all is known.
     pub is_lost: bool,
@@ -46,6 +48,7 @@ impl Drop for Draft {
             constants: _,
             known: _,
             outs: _,
+            backs: _,
             promises: _,
             is_lost: _,
             notings: _,
@@ -70,6 +73,7 @@ impl Draft {
             constants,
             known: _,
             outs: _,
+            backs: _,
             promises,
             is_lost: _,
             notings: _,
@@ -93,6 +97,7 @@ impl Draft {
             constants,
             known: Known::new(alloc, slots, Noting::Exact)?,
             outs: Vec::new(alloc),
+            backs: Vec::new(alloc),
             promises: Vec::new(alloc),
             is_lost: false,
             notings: 0,
@@ -156,6 +161,19 @@ impl Draft {
         };
         self.known.add(&mut ways, comes)?;
         self.outs.push(ways)?;
+        Ok(())
+    }
+
+    /// A way leads behind the block around, if there is one, or elsewhere.
+    pub fn add_back(&mut self, unit: Unit, comes: bool) -> Result<(), Stop> {
+        if !unit.is_noted() {
+            return Ok(());
+        }
+        let Some(mut ways) = self.backs.pop() else {
+            return Ok(());
+        };
+        self.known.add(&mut ways, comes)?;
+        self.backs.push(ways)?;
         Ok(())
     }
 

@@ -6,6 +6,8 @@
 
 mod aheads;
 mod assigned;
+mod block_surveys;
+mod blocks;
 mod calls;
 mod cases;
 mod conditions;

@@ -1,5 +1,6 @@
 //! What is noted before statements.
 
+use crate::blocks::{Invocation, note_invocation};
 use crate::draft::Draft;
 use crate::spot::below;
 use crate::stop::Stop;
@@ -90,11 +91,15 @@ pub fn note_statement(
             draft.note_assignment(unit.slot_of(*control)?)?;
         }
         SlotStmt::While(condition, _) => note_looks(unit, draft, condition, levels)?,
-        SlotStmt::Empty
-        | SlotStmt::Repeat(_, _)
-        | SlotStmt::Invoke(_, _, _)
-        | SlotStmt::Exit
-        | SlotStmt::Return => {}
+        SlotStmt::Invoke(instance, block, arguments) => {
+            let invocation = Invocation {
+                instance: *instance,
+                block: *block,
+                arguments,
+            };
+            note_invocation(unit, draft, invocation, levels)?;
+        }
+        SlotStmt::Empty | SlotStmt::Repeat(_, _) | SlotStmt::Exit | SlotStmt::Return => {}
     }
     Ok(())
 }

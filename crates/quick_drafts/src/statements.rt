@@ -1,5 +1,6 @@
 //! The code of statements.
 
+use crate::blocks::{Invocation, put_invocation};
 use crate::cases::cases_of;
 use crate::conditions::{Branch, put_test};
 use crate::draft::Draft;
@@ -100,9 +101,17 @@ fn put_stmt(
         }
         SlotStmt::Return => {
             draft.leave(exits.back, exits.end)?;
+            draft.add_back(unit, true)?;
             return Ok(false);
         }
-        SlotStmt::Invoke(_, _, _) => return Err(Stop::NotCovered),
+        SlotStmt::Invoke(instance, block, arguments) => {
+            let invocation = Invocation {
+                instance: *instance,
+                block: *block,
+                arguments,
+            };
+            put_invocation(unit, draft, invocation, spot.inside()?)?;
+        }
     }
     Ok(true)
 }

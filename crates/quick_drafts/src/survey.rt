@@ -1,5 +1,7 @@
 //! How the statements of a loop touch slots, so that what each turn does is noted once, before the first one.
 
+use crate::block_surveys::survey_invocation;
+use crate::blocks::Invocation;
 use crate::known::{Entry, Known, Ways};
 use crate::spot::below;
 use crate::stop::Stop;
@@ -15,8 +17,10 @@ const MAX_LOOKED_AT: usize = 8_000_000;
 pub struct Survey {
     alloc: Global,
     known: Known<Touch>,
-    /// The ways out of the loops around. The first ones are those out of all.
+    /// The ways out of the loops and the blocks around. The first ones are those out of all.
     outs: Vec<Ways<Touch>>,
+    /// Those of them to which RETURN leads.
+    back: usize,
     left: usize,
 }
 
@@ -26,6 +30,7 @@ impl Drop for Survey {
             alloc: _,
             known: _,
             outs: _,
+            back: _,
             left: _,
         } = self;
     }
@@ -38,6 +43,7 @@ impl Survey {
             alloc,
             known: Known::new(alloc, slots, Touch::Untouched)?,
             outs: Vec::new(alloc),
+            back: 0,
             left: MAX_LOOKED_AT,
         })
     }
@@ -53,13 +59,21 @@ impl Survey {
     }
 
     fn look(&mut self, unit: Unit, anchor: Anchor) -> Result<(), Stop> {
-        let slot = unit.slot_of(anchor)?;
+        self.look_slot(unit.slot_of(anchor)?)
+    }
+
+    /// A slot is looked up.
+    pub fn look_slot(&mut self, slot: usize) -> Result<(), Stop> {
         let touch = self.known.at(slot)?;
         self.put(slot, touch, touch.then_look())
     }
 
     fn assign(&mut self, unit: Unit, anchor: Anchor) -> Result<(), Stop> {
-        let slot = unit.slot_of(anchor)?;
+        self.assign_slot(unit.slot_of(anchor)?)
+    }
+
+    /// A slot is assigned.
+    pub fn assign_slot(&mut self, slot: usize) -> Result<(), Stop> {
         let touch = self.known.at(slot)?;
         self.put(slot, touch, touch.then_assignment())
     }
@@ -81,15 +95,34 @@ impl Survey {
     }
 
     fn leave_all(&mut self) -> Result<(), Stop> {
-        if self.outs.is_empty() {
+        if self.back >= self.outs.len() {
             return Err(Stop::NotCovered);
         }
-        self.known.add(&mut self.outs[0], true)
+        self.known.add(&mut self.outs[self.back], true)
+    }
+
+    /// Begins the body of a block, behind which RETURN leads: where it led before.
+    pub fn begin_block(&mut self) -> Result<usize, Stop> {
+        let around = self.back;
+        self.back = self.outs.len();
+        self.outs.push(Ways::new(self.alloc, self.known.changes()))?;
+        Ok(around)
+    }
+
+    /// Ends it.
+    pub fn end_block(&mut self, goes_on: bool, around: usize) -> Result<(), Stop> {
+        self.leave_loop(goes_on)?;
+        self.back = around;
+        match self.outs.pop() {
+            Some(ways) => self.known.meet(ways),
+            None => Err(Stop::NotCovered),
+        }
     }
 
     fn forget(&mut self) {
         self.known.undo(0);
         self.outs.clear();
+        self.back = 0;
     }
 }
 
@@ -142,7 +175,7 @@ fn survey_loop(
 
 /// Looks at statements: whether a run comes to their end.
 #[cycle(survey)]
-fn survey_stmts(
+pub fn survey_stmts(
     unit: Unit,
     survey: &mut Survey,
     statements: &[SlotStmt],
@@ -219,7 +252,14 @@ fn survey_stmt(
             survey.leave_all()?;
             return Ok(false);
         }
-        SlotStmt::Invoke(_, _, _) => return Err(Stop::NotCovered),
+        SlotStmt::Invoke(instance, block, arguments) => {
+            let invocation = Invocation {
+                instance: *instance,
+                block: *block,
+                arguments,
+            };
+            survey_invocation(unit, survey, invocation, inner)?;
+        }
     }
     Ok(true)
 }
@@ -278,7 +318,7 @@ fn survey_arm(
 
 /// Looks at an expression.
 #[cycle(surveyed_expression)]
-fn survey_expr(
+pub fn survey_expr(
     unit: Unit,
     survey: &mut Survey,
     expression: &SlotExpr,

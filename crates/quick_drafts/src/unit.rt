@@ -1,7 +1,7 @@
 //! Units of a program, and where their values stand.
 
 use crate::stop::Stop;
-use slot_bodies::{Anchor, SlotFunction, SlotLibrary};
+use slot_bodies::{Anchor, SlotFunction, SlotLibrary, SlotStmt};
 use st_words::Kind;
 
 /// The word of a function's value, which the function may assign or not.
@@ -114,6 +114,14 @@ impl<'a> Unit<'a> {
     pub fn function_at(self, number: usize) -> Result<&'a SlotFunction, Stop> {
         match self.library.functions.get(number) {
             Some(Some(function)) => Ok(function),
+            Some(None) | None => Err(Stop::NotCovered),
+        }
+    }
+
+    /// The body of the block of a number.
+    pub fn block_at(self, number: usize) -> Result<&'a [SlotStmt], Stop> {
+        match self.library.blocks.get(number) {
+            Some(Some(body)) => Ok(body),
             Some(None) | None => Err(Stop::NotCovered),
         }
     }

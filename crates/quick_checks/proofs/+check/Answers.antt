@@ -48,6 +48,21 @@ use Rattle.quick_trees.specs.Pieces.{AreBoth}
 use Rattle.quick_checks.specs.Choices.{body_at}
 use Rattle.quick_checks.proofs.Below.{one_more}
 use Rattle.quick_checks.proofs.ChosenArms.{body_is, case_stands}
+use Rattle.std.proofs.Common.{◌++◌, List, [], drop}
+use Rattle.st_names.specs.Standard.{block_view}
+use Rattle.slot_trees.specs.SlotTrees.{SlotArgument, invoke, own_block, standard_block}
+use Rattle.slot_trees.specs.SlotEvaluation.{slot_at}
+use Rattle.slot_bodies.specs.StatementViews.{block_code_view, slot_argument_view}
+use Rattle.code_drafts.proofs.Depths.{block_lighter}
+use Rattle.code_drafts.proofs.Elements.{argument_smaller}
+use Rattle.code_drafts.proofs.Filled.{filled_body}
+use Rattle.code_drafts.proofs.Sizes.{argument_size, arguments_size, stmt_size}
+use Rattle.quick_trees.specs.Pieces.{Input}
+use Rattle.quick_trees.specs.Sites.{base_of}
+use Rattle.quick_trees.specs.Standing.{InputsRead}
+use Rattle.quick_checks.specs.declared.members.Taken.{Taken}
+use Rattle.quick_checks.specs.Checking.{inputs_taken}
+use Rattle.quick_checks.proofs.Instances.{all_inputs, argument_next, arguments_over, block_stands, copied_read, given_read}
 use Rattle.quick_checks.proofs.+check.Goals as goal
 
 pub reading::check_binary-returns-in-Some : goal.reading::check_binary-returns-in-Some
@@ -624,6 +639,157 @@ calls::check_function-returns t c =
       moved = rw (← ap (λ (x : Point). x.place) c.go.ensures, ← result.1.1) c.in_ok-expect.ensures.stands;
       is = c.in_ok-expect.ensures.next ∙ ap next c.go.ensures;
     })
+
+pub blocks::check_inputs-check_argument-requires : goal.blocks::check_inputs-check_argument-requires
+blocks::check_inputs-check_argument-requires t c = (
+  omega (
+    arith,
+    argument_smaller c.args.arguments.now c.loop-index.index c.index-arguments-index.result
+        c.loop-index-test.true c.index-arguments-index.is,
+  ),
+  tt,
+)
+
+pub blocks::check_inputs-loop-index-preserved : goal.blocks::check_inputs-loop-index-preserved
+blocks::check_inputs-loop-index-preserved t c =
+    let same = argument_next c.args.arguments.now c.loop-index.index (c.loop-index.index + 1)
+    c.index-arguments-index.result c.loop-index-test.true refl c.index-arguments-index.is in
+    λ now whole kept js q rest.
+    (let h = c.in_ok-below.ensures now whole kept _ js q rest in
+    subst (λ (is : List Input). InputsRead (frame_of c.args.draft.now now) (site_of c.args.scope.now.values)
+    (quick_units (frame_of c.args.draft.now now) whole c.args.scope.now.calls) (map slot_argument_view c.args.arguments.now)
+    c.args.depth is (point_of c.args.at.now) q) (sym h.1.0) (c.loop-index.invariant now whole kept h.0 q
+    (subst (λ (xs : List SlotArgument). InputsRead (frame_of c.args.draft.now now) (site_of c.args.scope.now.values)
+    (quick_units (frame_of c.args.draft.now now) whole c.args.scope.now.calls) xs c.loop-index.below h.0
+    (point_of c.loop-index.at) q) (sym same) h.1.1)))
+
+pub blocks::check_inputs-returns : goal.blocks::check_inputs-returns
+blocks::check_inputs-returns t c =
+    let over = arguments_over c.args.arguments.now c.loop-index.index c.loop-index-test.false in
+    λ now whole kept. rw (all_inputs (inputs_taken c.loop-index.inputs.items)) at
+    (c.loop-index.invariant now whole kept [] (point_of c.loop-index.at) (subst (λ (xs : List SlotArgument). InputsRead
+    (frame_of c.args.draft.now now) (site_of c.args.scope.now.values)
+    (quick_units (frame_of c.args.draft.now now) whole c.args.scope.now.calls) xs c.loop-index.below []
+    (point_of c.loop-index.at) (point_of c.loop-index.at)) (sym over) refl))
+
+pub blocks::check_argument-check_input-requires : goal.blocks::check_argument-check_input-requires
+blocks::check_argument-check_input-requires t c =
+    let e = ap (λ x. argument_size (slot_argument_view x)) c.in-Given.is in (omega (arith, e), tt)
+
+pub blocks::check_argument-returns-in_ok-below-in-Given : goal.blocks::check_argument-returns-in_ok-below-in-Given
+blocks::check_argument-returns-in_ok-below-in-Given t c =
+    let taken : Taken = record {
+      member = c.in-Given.member;
+      kind = c.in_ok-read-in-Given.read.kind;
+      word = c.in_ok-read-in-Given.read.word;
+    } in
+    λ now whole kept rest js q more. given_read (frame_of c.args.draft.now now) (site_of c.args.scope.now.values)
+    (quick_units (frame_of c.args.draft.now now) whole c.args.scope.now.calls) _ c.in-Given.member
+    (slot_expr_view c.in-Given.value) c.args.depth c.in_ok-below-in-Given.below c.args.inputs.now.items
+    c.put_taken.new.inputs.items taken rest js (point_of c.args.at.now) (point_of c.check_input.new.at) q
+    (ap slot_argument_view c.in-Given.is) refl c.in_ok-put_taken-in-Given.ensures c.in_ok-below-in-Given.ensures
+    (c.in_ok-read-in-Given.ensures now whole kept) more
+
+pub blocks::check_argument-returns-in-Copied : goal.blocks::check_argument-returns-in-Copied
+blocks::check_argument-returns-in-Copied t c =
+    λ now whole kept rest js q more. copied_read (frame_of c.args.draft.now now) (site_of c.args.scope.now.values)
+    (quick_units (frame_of c.args.draft.now now) whole c.args.scope.now.calls) _ c.in-Copied.field-0
+    (place_view c.in-Copied.field-1) c.args.depth c.args.inputs.now.items rest js (point_of c.args.at.now) q
+    (ap slot_argument_view c.in-Copied.is) more
+
+pub blocks::check_input-returns-then-not-is_same : goal.blocks::check_input-returns-then-not-is_same
+blocks::check_input-returns-then-not-is_same t c = λ now whole kept. inl (c.in_ok-read.ensures now whole kept)
+
+pub blocks::check_input-returns : goal.blocks::check_input-returns
+blocks::check_input-returns t c = λ now whole kept. inr (
+  c.in_ok-temporary.ensures now,
+  record {
+    from = c.in_ok-read.read.word;
+    last = _;
+    reads = c.in_ok-read.ensures now whole kept;
+    stands = c.in_ok-expect.ensures.stands;
+    next = c.in_ok-expect.ensures.next;
+  },
+)
+
+pub blocks::check_block-returns-in-Own : goal.blocks::check_block-returns-in-Own
+blocks::check_block-returns-in-Own t c = rw c.in-Own.is c.check_own.ensures
+
+pub blocks::check_block-returns-in_ok-check_step-in-Standard :
+    goal.blocks::check_block-returns-in_ok-check_step-in-Standard
+blocks::check_block-returns-in_ok-check_step-in-Standard t c =
+    let fewer : suc c.in-Some.calls ≡ c.args.scope.now.calls = omega (arith, c.in-Some.ensures) in
+    λ now whole kept. rw c.in-Standard.is (block_stands (frame_of c.args.draft.now now) whole c.args.scope.now.calls
+    c.in-Some.calls (standard_block (block_view c.in-Standard.standard)) c.args.first c.args.depth _ _ fewer
+    (c.in_ok-check_step-in-Standard.ensures now))
+
+pub blocks::check_own-check_stmts-requires : goal.blocks::check_own-check_stmts-requires
+blocks::check_own-check_stmts-requires t c =
+    let fewer : suc c.in-Some.calls ≡ c.args.scope.now.calls = omega (arith, c.in-Some.ensures) in (
+      omega (
+        arith,
+        block_lighter (filled (slot_library_view c.args.library.now)) c.args.scope.now.calls c.in-Some.calls
+            c.args.number (slot_stmts_view c.in-Ok.body.now) fewer
+            (filled_body (slot_library_view c.args.library.now) c.args.number (slot_stmts_view c.in-Ok.body.now)
+            c.in-Ok.ensures.known),
+      ),
+      tt,
+    )
+
+pub blocks::check_own-returns : goal.blocks::check_own-returns
+blocks::check_own-returns t c =
+    let fewer : suc c.in-Some.calls ≡ c.args.scope.now.calls = omega (arith, c.in-Some.ensures) in
+    λ now whole kept. block_stands (frame_of c.args.draft.now now) whole c.args.scope.now.calls c.in-Some.calls
+    (own_block c.args.number) c.args.first c.args.depth _ _ fewer (
+      slot_stmts_view c.in-Ok.body.now,
+      (
+        kept.blocks c.args.number (slot_stmts_view c.in-Ok.body.now) c.in-Ok.ensures.known,
+        record {
+          end = point_of c.check_stmts.new.at;
+          stands = rw c.go.ensures (rw (c.in_ok-exits.ensures, c.landing.ensures) at
+              (c.in_ok-check_stmts.ensures now whole kept));
+          joins = rw c.go.ensures (c.if-not-joins.ensures (search rules) now);
+        },
+      ),
+    )
+
+pub blocks::check_invoked-returns : goal.blocks::check_invoked-returns
+blocks::check_invoked-returns t c =
+    let first = c.in_ok-first.ensures in
+    λ now whole kept. record {
+      of_program = c.in_ok-of_program.ensures;
+      inputs = inputs_taken c.in_ok-inputs.inputs.items;
+      read = point_of c.check_inputs.new.at;
+      reads = c.in_ok-inputs.ensures now whole kept;
+      begun = point_of c.check_given.new.at;
+      gives = rw (c.deref.ensures.value, first) at
+          (c.in_ok-check_given.ensures now whole c.args.scope.now.calls);
+      done = point_of c.check_block.new.at;
+      does = rw first at (c.in_ok-check_block.ensures now whole kept);
+      copies = rw first at (c.in_ok-check_copied.ensures now whole c.args.scope.now.calls);
+    }
+
+pub statements::check_stmt-check_invoked-requires : goal.statements::check_stmt-check_invoked-requires
+statements::check_stmt-check_invoked-requires t c =
+    let seen : slot_stmt_view c.args.statement.now
+    ≡ invoke (anchor_view c.in-Invoke.instance) (block_code_view c.in-Invoke.block)
+    (map slot_argument_view c.in-Invoke.arguments.items) =
+    rw c.in-Invoke.is (search (rules, code_stmt.the_lemmas)) in
+    let e = ap stmt_size seen in
+    let d = ap (λ xs. arguments_size (map slot_argument_view xs)) c.deref-in-Invoke.ensures.value in
+    (omega (arith, e, d), tt)
+
+pub statements::check_stmt-returns-in_ok-check_invoked-in-Invoke :
+    goal.statements::check_stmt-returns-in_ok-check_invoked-in-Invoke
+statements::check_stmt-returns-in_ok-check_invoked-in-Invoke t c =
+    let seen : slot_stmt_view c.args.statement.now
+    ≡ invoke (anchor_view c.in-Invoke.instance) (block_code_view c.in-Invoke.block)
+    (map slot_argument_view c.in-Invoke.arguments.items) =
+    rw c.in-Invoke.is (search (rules, code_stmt.the_lemmas)) in
+    let is = seen ∙ ap (λ xs. invoke (anchor_view c.in-Invoke.instance) (block_code_view c.in-Invoke.block)
+    (map slot_argument_view xs)) (sym c.deref-in-Invoke.ensures.value) in
+    λ now whole kept. rw is (ticked _ (point_of c.args.at.now) (point_of c.tick.new.at) (point_of c.check_invoked.new.at)
+    c.in_ok-tick.ensures.ticks c.in_ok-tick.ensures.rest (c.in_ok-check_invoked-in-Invoke.ensures now whole kept))
 
 pub conditions::check_test-returns-in_ok-leg-in-Constant : goal.conditions::check_test-returns-in_ok-leg-in-Constant
 conditions::check_test-returns-in_ok-leg-in-Constant t c =

@@ -18,6 +18,11 @@ use Rattle.quick_code.specs.declared.quick_code.Way.{Way}
 use Rattle.quick_trees.specs.Pieces.{AreBoth}
 use Rattle.quick_trees.specs.Points.{Joins, along}
 use Rattle.quick_checks.specs.Choices.{body_at}
+use Rattle.slot_bodies.specs.StatementViews.{slot_argument_view}
+use Rattle.code_drafts.proofs.Sizes.{argument_size, arguments_size}
+use Rattle.quick_trees.specs.Pieces.{Input}
+use Rattle.quick_trees.specs.Standing.{InputsRead}
+use Rattle.quick_checks.specs.Checking.{inputs_taken}
 use Rattle.quick_checks.proofs.+check.Given as goal
 
 -- Calls go down in depth, and else into parts of trees.
@@ -122,6 +127,37 @@ invariant-statements::check_if-loop-index l = Always l.draft l.library l.scope (
 
 abbrev pub decreases-statements::check_if-loop-index : goal.decreases-statements::check_if-loop-index
 decreases-statements::check_if-loop-index l = length l.arms - l.index
+
+abbrev pub decreases-blocks::check_invoked : goal.decreases-blocks::check_invoked
+decreases-blocks::check_invoked l = 4 * (weight (filled (slot_library_view l.library.now)) l.scope.now.calls
+    + arguments_size (map slot_argument_view l.arguments.now)) + 3
+
+abbrev pub decreases-blocks::check_inputs : goal.decreases-blocks::check_inputs
+decreases-blocks::check_inputs l = 4 * (weight (filled (slot_library_view l.library.now)) l.scope.now.calls
+    + arguments_size (map slot_argument_view l.arguments.now)) + 2
+
+abbrev pub decreases-blocks::check_argument : goal.decreases-blocks::check_argument
+decreases-blocks::check_argument l = 4 * (weight (filled (slot_library_view l.library.now)) l.scope.now.calls
+    + argument_size (slot_argument_view l.argument.now)) + 2
+
+abbrev pub decreases-blocks::check_input : goal.decreases-blocks::check_input
+decreases-blocks::check_input l = 4 * (weight (filled (slot_library_view l.library.now)) l.scope.now.calls
+    + expr_size (slot_expr_view l.value.now)) + 1
+
+abbrev pub decreases-blocks::check_block : goal.decreases-blocks::check_block
+decreases-blocks::check_block l = 4 * weight (filled (slot_library_view l.library.now)) l.scope.now.calls + 2
+
+abbrev pub decreases-blocks::check_own : goal.decreases-blocks::check_own
+decreases-blocks::check_own l = 4 * weight (filled (slot_library_view l.library.now)) l.scope.now.calls + 1
+
+abbrev pub decreases-blocks::check_inputs-loop-index : goal.decreases-blocks::check_inputs-loop-index
+decreases-blocks::check_inputs-loop-index l = length l.arguments - l.index
+
+abbrev pub invariant-blocks::check_inputs-loop-index : goal.invariant-blocks::check_inputs-loop-index
+invariant-blocks::check_inputs-loop-index l = Always l.draft l.library l.scope (λ f s units. (js : List Input) (q : Point)
+    → InputsRead f s units (map slot_argument_view (drop l.index l.arguments)) l.below js (point_of l.at) q
+    → InputsRead f s units (map slot_argument_view l.arguments) l.depth (inputs_taken l.inputs.items ++ js)
+    (point_of l.fn.at) q)
 
 abbrev pub decreases-calls::check_arguments-loop-index : goal.decreases-calls::check_arguments-loop-index
 decreases-calls::check_arguments-loop-index l = length l.arguments - l.index

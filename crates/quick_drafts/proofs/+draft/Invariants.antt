@@ -1,6 +1,15 @@
 use Rattle.std.proofs.Common.{◌≤◌}
 use Rattle.quick_drafts.proofs.+draft.Given as goal
 
+abbrev pub decreases-blocks::put_block : goal.decreases-blocks::put_block
+decreases-blocks::put_block l = l.spot.levels
+
+abbrev pub decreases-blocks::put_inputs : goal.decreases-blocks::put_inputs
+decreases-blocks::put_inputs l = l.spot.levels
+
+abbrev pub decreases-blocks::put_invocation : goal.decreases-blocks::put_invocation
+decreases-blocks::put_invocation l = l.spot.levels
+
 abbrev pub decreases-calls::put_call : goal.decreases-calls::put_call
 decreases-calls::put_call l = l.spot.levels
 
@@ -51,6 +60,9 @@ decreases-statements::put_stmt l = l.spot.levels
 
 abbrev pub decreases-statements::put_stmts : goal.decreases-statements::put_stmts
 decreases-statements::put_stmts l = l.spot.levels
+
+abbrev pub invariant-blocks::put_inputs-loop-argument : goal.invariant-blocks::put_inputs-loop-argument
+invariant-blocks::put_inputs-loop-argument l = l.spot.levels ≤ l.fn.spot.levels
 
 abbrev pub invariant-calls::put_call-loop-place : goal.invariant-calls::put_call-loop-place
 invariant-calls::put_call-loop-place l = l.spot.levels ≤ l.fn.spot.levels

@@ -1,0 +1,47 @@
+use Rattle.std.proofs.Common.{◌≡◌, ◌+◌, ℕ, inl, inr, map, subst, sym}
+use Rattle.std.specs.Prelude.{Some, slice_get}
+use Rattle.st_words.specs.declared.kind.Kind.{Kind}
+use Rattle.st_types.specs.StandardBlocks.{BlockMember, members_of}
+use Rattle.st_names.specs.Standard.{block_view}
+use Rattle.st_names.specs.declared.standard_blocks.StandardBlock as code_block
+use Rattle.st_names.specs.declared.standard_blocks.StandardBlock.TheVariants.{Sr, Rs, RTrig, FTrig, Ctu, Ctd, Ton, Tof, Tp}
+use Rattle.quick_trees.specs.Calls.{AreMembers}
+use Rattle.quick_trees.specs.QuickMemory.{Frame}
+use Rattle.quick_checks.specs.Checking.{frame_of}
+use Rattle.quick_checks.proofs.Instances.{members_stand}
+use Rattle.quick_checks.proofs.members.are_members.Goals as goal
+
+of_block : (f : Frame) (block b : code_block.StandardBlock) (first : ℕ) → block ≡ b
+    → ((k : ℕ) (t : Kind) → slice_get (map (λ (x : BlockMember). x.1) (members_of (block_view b))) k ≡ Some t
+    → slice_get f.kinds (first + k) ≡ Some t) → AreMembers f (members_of (block_view block)) first
+of_block f block b first is h =
+    subst (λ x. AreMembers f (members_of (block_view x)) first) (sym is)
+    (members_stand f (members_of (block_view b)) first h)
+
+pub returns-in-Sr : goal.returns-in-Sr
+returns-in-Sr c = λ yes now. elim c.in-Sr.is [
+  | inl e ↦ of_block (frame_of c.args.draft.now now) c.args.block Sr c.args.first e (c.are_kinds.ensures yes)
+  | inr (inl e) ↦ of_block (frame_of c.args.draft.now now) c.args.block Rs c.args.first e (c.are_kinds.ensures yes)
+  | inr (inr (inl e)) ↦ of_block (frame_of c.args.draft.now now) c.args.block RTrig c.args.first e
+      (c.are_kinds.ensures yes)
+  | inr (inr (inr e)) ↦ of_block (frame_of c.args.draft.now now) c.args.block FTrig c.args.first e
+      (c.are_kinds.ensures yes)
+]
+
+pub returns-in-Ctu : goal.returns-in-Ctu
+returns-in-Ctu c = λ yes now. elim c.in-Ctu.is [
+  | inl e ↦ of_block (frame_of c.args.draft.now now) c.args.block Ctu c.args.first e
+      (c.are_kinds-in-Ctu.ensures yes)
+  | inr e ↦ of_block (frame_of c.args.draft.now now) c.args.block Ctd c.args.first e
+      (c.are_kinds-in-Ctu.ensures yes)
+]
+
+pub returns-in-Ton : goal.returns-in-Ton
+returns-in-Ton c = λ yes now. elim c.in-Ton.is [
+  | inl e ↦ of_block (frame_of c.args.draft.now now) c.args.block Ton c.args.first e
+      (c.are_kinds-in-Ton.ensures yes)
+  | inr (inl e) ↦ of_block (frame_of c.args.draft.now now) c.args.block Tof c.args.first e
+      (c.are_kinds-in-Ton.ensures yes)
+  | inr (inr e) ↦ of_block (frame_of c.args.draft.now now) c.args.block Tp c.args.first e
+      (c.are_kinds-in-Ton.ensures yes)
+]
