@@ -22,7 +22,7 @@ mod same;
 mod scope;
 mod statements;
 
-pub use constants::literal_value;
+pub use constants::{literal_value, number_for};
 pub use draft::Landing;
 pub use instructions::{branch_for, branch_for_by, instr_by, instr_for, truth_branch, truth_for};
 pub use programs::{DraftedProgram, checked};

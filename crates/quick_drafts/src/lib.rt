@@ -15,7 +15,6 @@ mod known;
 mod legs;
 mod loops;
 mod notes;
-mod operators;
 mod places;
 mod programs;
 mod reading;
