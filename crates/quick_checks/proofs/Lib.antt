@@ -8,4 +8,5 @@ pub mod Standings
 pub mod Arguments
 pub mod Inputs
 pub mod Tables
+pub mod Unaries
 pub mod ChosenArms

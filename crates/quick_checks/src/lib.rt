@@ -20,6 +20,7 @@ mod reading;
 mod refusal;
 mod same;
 mod scope;
+mod signs;
 mod statements;
 
 pub use constants::{literal_value, number_for};

@@ -24,6 +24,7 @@ use crate::instructions::{instr_for, truth_for};
 use crate::refusal::Refusal;
 use crate::same::is_same;
 use crate::scope::{Scope, is_kind};
+use crate::signs::check_unary;
 use quick_code::QuickInstr;
 use slot_bodies::{Anchor, Operands, SlotExpr, SlotLibrary, Subscript};
 use st_names::Standard;
@@ -71,7 +72,11 @@ pub fn check_read(
             )?;
             Ok(Reading { kind, word: depth })
         }
-        SlotExpr::Unary(_, _) => Err(Refusal::Other),
+        SlotExpr::Unary(operator, operand) => {
+            temporary(draft, depth)?;
+            let kind = check_unary(draft, library, scope, *operator, operand, depth, depth, at)?;
+            Ok(Reading { kind, word: depth })
+        }
     }
 }
 
@@ -158,7 +163,9 @@ pub fn check_made(
         SlotExpr::Call(function, arguments) => {
             check_call(draft, library, scope, *function, arguments, depth, to, at)
         }
-        SlotExpr::Unary(_, _) => Err(Refusal::Other),
+        SlotExpr::Unary(operator, operand) => {
+            check_unary(draft, library, scope, *operator, operand, depth, to, at)
+        }
     }
 }
 

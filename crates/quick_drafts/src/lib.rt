@@ -19,6 +19,7 @@ mod places;
 mod programs;
 mod reading;
 mod sheet;
+mod signs;
 mod spot;
 mod statements;
 mod stop;

@@ -48,6 +48,8 @@ use Rattle.quick_trees.specs.Pieces.{AreBoth}
 use Rattle.quick_checks.specs.Choices.{body_at}
 use Rattle.quick_checks.proofs.Below.{one_more}
 use Rattle.quick_checks.proofs.ChosenArms.{body_is, case_stands}
+use Rattle.slot_trees.specs.SlotTrees.{unary}
+use Rattle.quick_checks.proofs.Unaries.{unary_read}
 use Rattle.quick_checks.proofs.+check.Goals as goal
 
 pub reading::check_binary-returns-in-Some : goal.reading::check_binary-returns-in-Some
@@ -149,6 +151,40 @@ reading::check_read-returns-in_ok-kind-in-Binary t c =
     let is = seen ∙ ap (λ (b : code_operands.Operands). binary c.in-Binary.operator (slot_expr_view b.left)
     (slot_expr_view b.right)) (sym c.deref-in-Binary.ensures) in
     λ now whole kept. rw is (c.in_ok-temporary-in-Binary.ensures now, c.in_ok-kind-in-Binary.ensures now whole kept)
+
+pub signs::check_unary-returns-in_ok-expect_negated-in-Negate :
+    goal.signs::check_unary-returns-in_ok-expect_negated-in-Negate
+signs::check_unary-returns-in_ok-expect_negated-in-Negate t c = λ now whole kept. rw c.in-Negate.is (record {
+  from = c.in_ok-from.from.word;
+  last = _;
+  reads = c.in_ok-from.ensures now whole kept;
+  nought = c.in_ok-expect_negated-in-Negate.field-0;
+  is_nought = c.in_ok-expect_negated-in-Negate.ensures.nought now;
+  stands = c.in_ok-expect_negated-in-Negate.ensures.stands now;
+  next = c.in_ok-expect_negated-in-Negate.ensures.next;
+})
+
+pub signs::check_unary-returns-in_ok-expect_turned-in-Not :
+    goal.signs::check_unary-returns-in_ok-expect_turned-in-Not
+signs::check_unary-returns-in_ok-expect_turned-in-Not t c = λ now whole kept. rw c.in-Not.is (record {
+  from = c.in_ok-from.from.word;
+  last = _;
+  reads = c.in_ok-from.ensures now whole kept;
+  turns = c.in_ok-expect_turned-in-Not.ensures.turns now;
+  next = c.in_ok-expect_turned-in-Not.ensures.next;
+})
+
+pub reading::check_read-returns-in_ok-kind-in-Unary : goal.reading::check_read-returns-in_ok-kind-in-Unary
+reading::check_read-returns-in_ok-kind-in-Unary t c =
+    let seen : slot_expr_view c.args.expression.now
+    ≡ unary c.in-Unary.operator (slot_expr_view c.in-Unary.operand.value) =
+    rw c.in-Unary.is (search (rules, code_expr.the_lemmas)) in
+    let is = seen ∙ ap (λ (x : code_expr.SlotExpr). unary c.in-Unary.operator (slot_expr_view x))
+    (sym c.deref-in-Unary.ensures) in
+    λ now whole kept. rw is (unary_read (frame_of c.args.draft.now now) (site_of c.args.scope.now.values)
+    (quick_units (frame_of c.args.draft.now now) whole c.args.scope.now.calls)
+    c.in-Unary.operator (slot_expr_view c.deref-in-Unary.result.now) c.in_ok-kind-in-Unary.kind c.args.depth _ _
+    (c.in_ok-temporary-in-Unary.ensures now) (c.in_ok-kind-in-Unary.ensures now whole kept))
 
 pub reading::check_converted-returns : goal.reading::check_converted-returns
 reading::check_converted-returns t c =

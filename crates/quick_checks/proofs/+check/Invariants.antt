@@ -41,6 +41,10 @@ abbrev pub decreases-reading::check_converted : goal.decreases-reading::check_co
 decreases-reading::check_converted l = 4 * (weight (filled (slot_library_view l.library.now)) l.scope.now.calls
     + (exprs_size (exprs_of (map slot_expr_view l.arguments.now)))) + 1
 
+abbrev pub decreases-signs::check_unary : goal.decreases-signs::check_unary
+decreases-signs::check_unary l = 4 * (weight (filled (slot_library_view l.library.now)) l.scope.now.calls
+    + (expr_size (slot_expr_view l.operand.now))) + 1
+
 abbrev pub decreases-conditions::check_test : goal.decreases-conditions::check_test
 decreases-conditions::check_test l = 4 * (weight (filled (slot_library_view l.library.now)) l.scope.now.calls
     + (expr_size (slot_expr_view l.condition.now))) + 2

@@ -34,6 +34,9 @@ decreases-reading::put_made l = l.spot.levels
 abbrev pub decreases-reading::put_read : goal.decreases-reading::put_read
 decreases-reading::put_read l = l.spot.levels
 
+abbrev pub decreases-signs::put_unary : goal.decreases-signs::put_unary
+decreases-signs::put_unary l = l.spot.levels
+
 abbrev pub decreases-statements::put_arm : goal.decreases-statements::put_arm
 decreases-statements::put_arm l = l.spot.levels
 
