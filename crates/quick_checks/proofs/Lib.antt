@@ -4,6 +4,8 @@ pub mod Noted
 pub mod Wider
 pub mod Below
 pub mod Chains
+pub mod Leading
+pub mod Subscripts
 pub mod Standings
 pub mod Arguments
 pub mod Inputs

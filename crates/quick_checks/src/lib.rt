@@ -16,12 +16,14 @@ mod expressions;
 mod instructions;
 mod programs;
 mod prologues;
+mod reached;
 mod reading;
 mod refusal;
 mod same;
 mod scope;
 mod signs;
 mod statements;
+mod within;
 
 pub use constants::{literal_value, number_for};
 pub use draft::Landing;

@@ -26,5 +26,6 @@ mod stop;
 mod survey;
 mod touch;
 mod unit;
+mod within;
 
 pub use programs::{Drafted, Landing, Program, draft_program};

@@ -55,6 +55,9 @@ decreases-statements::put_stmt l = l.spot.levels
 abbrev pub decreases-statements::put_stmts : goal.decreases-statements::put_stmts
 decreases-statements::put_stmts l = l.spot.levels
 
+abbrev pub decreases-within::put_within : goal.decreases-within::put_within
+decreases-within::put_within l = l.spot.levels
+
 abbrev pub invariant-calls::put_call-loop-place : goal.invariant-calls::put_call-loop-place
 invariant-calls::put_call-loop-place l = l.spot.levels ≤ l.fn.spot.levels
 
@@ -66,3 +69,6 @@ invariant-statements::put_if-loop-number l = l.spot.levels ≤ l.fn.spot.levels
 
 abbrev pub invariant-statements::put_stmts-loop-statement : goal.invariant-statements::put_stmts-loop-statement
 invariant-statements::put_stmts-loop-statement l = l.spot.levels ≤ l.fn.spot.levels
+
+abbrev pub invariant-within::put_within-loop-number : goal.invariant-within::put_within-loop-number
+invariant-within::put_within-loop-number l = l.spot.levels ≤ l.fn.spot.levels
