@@ -77,7 +77,7 @@ pub fn variable_of(place: &Place) -> Option<Anchor>
 }
 
 /// What is added to a subscript, so that the first element's is 0.
-fn shift_for(subscript: &Subscript) -> Result<i32, Refusal>
+pub fn shift_for(subscript: &Subscript) -> Result<i32, Refusal>
     ensures { IfOk result (λ n. subscript.now.lower +ℤ n ≡ pos 0) }
 {
     let Some(shift) = subscript.lower.checked_neg() else {
@@ -90,7 +90,7 @@ fn shift_for(subscript: &Subscript) -> Result<i32, Refusal>
 }
 
 /// Where an element lies that is so many behind the first of an array.
-fn element_at(first: usize, index: usize, stride: usize) -> Option<usize>
+pub fn element_at(first: usize, index: usize, stride: usize) -> Option<usize>
     ensures { IfSome result (λ k. k ≡ first + index * stride) }
 {
     first.checked_add(index.checked_mul(stride)?)
@@ -132,7 +132,7 @@ fn is_element(
 }
 
 /// Whether nothing is known of the note of a slot.
-fn is_exact(values: &Values, noted: &[Noting], slot: usize) -> bool
+pub fn is_exact(values: &Values, noted: &[Noting], slot: usize) -> bool
     ensures { IsTrue result → IsExact (site_of values.now) noted.now slot }
 {
     match values {

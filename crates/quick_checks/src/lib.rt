@@ -18,13 +18,16 @@ mod instructions;
 mod members;
 mod programs;
 mod prologues;
+mod reached;
 mod reading;
 mod refusal;
 mod same;
 mod scope;
+mod signs;
 mod statements;
+mod within;
 
-pub use constants::literal_value;
+pub use constants::{literal_value, number_for};
 pub use draft::Landing;
 pub use instructions::{branch_for, branch_for_by, instr_by, instr_for, truth_branch, truth_for};
 pub use programs::{DraftedProgram, checked};

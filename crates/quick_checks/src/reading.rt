@@ -24,6 +24,8 @@ use crate::instructions::{instr_for, truth_for};
 use crate::refusal::Refusal;
 use crate::same::is_same;
 use crate::scope::{Scope, is_kind};
+use crate::signs::check_unary;
+use crate::within::{check_made_within, check_read_within};
 use quick_code::QuickInstr;
 use slot_bodies::{Anchor, Operands, SlotExpr, SlotLibrary, Subscript};
 use st_names::Standard;
@@ -50,7 +52,7 @@ pub fn check_read(
                 return read_variable(draft, &scope.values, anchor, at);
             }
             let Some((anchor, subscript)) = element_of(place) else {
-                return Err(Refusal::Other);
+                return check_read_within(draft, library, scope, place, depth, at);
             };
             temporary(draft, depth)?;
             let kind = check_fetched(draft, library, scope, anchor, subscript, depth, depth, at)?;
@@ -71,7 +73,11 @@ pub fn check_read(
             )?;
             Ok(Reading { kind, word: depth })
         }
-        SlotExpr::Unary(_, _) => Err(Refusal::Other),
+        SlotExpr::Unary(operator, operand) => {
+            temporary(draft, depth)?;
+            let kind = check_unary(draft, library, scope, *operator, operand, depth, depth, at)?;
+            Ok(Reading { kind, word: depth })
+        }
     }
 }
 
@@ -135,7 +141,7 @@ pub fn check_made(
                 return Ok(read.kind);
             }
             let Some((anchor, subscript)) = element_of(place) else {
-                return Err(Refusal::Other);
+                return check_made_within(draft, library, scope, place, depth, to, at);
             };
             check_fetched(draft, library, scope, anchor, subscript, depth, to, at)
         }
@@ -158,7 +164,9 @@ pub fn check_made(
         SlotExpr::Call(function, arguments) => {
             check_call(draft, library, scope, *function, arguments, depth, to, at)
         }
-        SlotExpr::Unary(_, _) => Err(Refusal::Other),
+        SlotExpr::Unary(operator, operand) => {
+            check_unary(draft, library, scope, *operator, operand, depth, to, at)
+        }
     }
 }
 

@@ -23,6 +23,7 @@ use crate::expressions::{deeper, element_of, expect_store, read_elements, variab
 use crate::reading::{check_made, check_read};
 use crate::refusal::Refusal;
 use crate::scope::{Scope, is_kind, target_of};
+use crate::within::check_stored_within;
 use slot_bodies::{Anchor, SlotArm, SlotExpr, SlotLibrary, SlotStmt, Subscript};
 use st_words::is_wide;
 
@@ -90,7 +91,8 @@ fn check_stmt(
                 return Ok(());
             }
             let Some((anchor, subscript)) = element_of(place) else {
-                return Err(Refusal::Other);
+                check_stored_within(draft, library, scope, place, value, depth, at)?;
+                return Ok(());
             };
             check_stored(draft, library, scope, anchor, subscript, value, depth, at)?;
         }

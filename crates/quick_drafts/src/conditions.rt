@@ -1,13 +1,12 @@
 //! The code of conditions.
 
-use crate::constants::number_for;
 use crate::draft::Draft;
-use crate::operators::{branch_for, branch_for_by, truth_branch};
 use crate::reading::put_read;
 use crate::sheet::{Lead, NO_WAY};
 use crate::spot::Spot;
 use crate::stop::Stop;
 use crate::unit::Unit;
+use quick_checks::{branch_for, branch_for_by, number_for, truth_branch};
 use slot_bodies::{Operands, SlotExpr};
 use st_words::{BinaryOperator, Kind, UnaryOperator};
 

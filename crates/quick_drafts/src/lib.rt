@@ -17,16 +17,17 @@ mod known;
 mod legs;
 mod loops;
 mod notes;
-mod operators;
 mod places;
 mod programs;
 mod reading;
 mod sheet;
+mod signs;
 mod spot;
 mod statements;
 mod stop;
 mod survey;
 mod touch;
 mod unit;
+mod within;
 
 pub use programs::{Drafted, Landing, Program, draft_program};

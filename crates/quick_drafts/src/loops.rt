@@ -1,7 +1,6 @@
 //! The code of loops.
 
 use crate::conditions::{Branch, put_test};
-use crate::constants::literal_value;
 use crate::draft::Draft;
 use crate::known::Ways;
 use crate::notes::note_turns;
@@ -12,6 +11,7 @@ use crate::statements::{Exits, put_stmts};
 use crate::stop::Stop;
 use crate::survey::Turns;
 use crate::unit::Unit;
+use quick_checks::literal_value;
 use quick_code::QuickInstr;
 use slot_bodies::{Anchor, SlotExpr, SlotStmt};
 use st_words::Kind;

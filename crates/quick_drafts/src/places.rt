@@ -15,14 +15,16 @@ const MAX_ELEMENTS: usize = 8192;
 pub enum Variable<'a> {
     Whole(Anchor),
     Element(Anchor, &'a Subscript),
+    /// A value of an array in an array.
+    Within,
 }
 
-/// What a place is, with one subscript at most.
-pub fn variable_of(place: &Place) -> Result<Variable<'_>, Stop> {
+/// What a place is.
+pub fn variable_of(place: &Place) -> Variable<'_> {
     match place.subscripts.as_slice() {
-        [] => Ok(Variable::Whole(place.anchor)),
-        [subscript] => Ok(Variable::Element(place.anchor, subscript)),
-        _ => Err(Stop::NotCovered),
+        [] => Variable::Whole(place.anchor),
+        [subscript] => Variable::Element(place.anchor, subscript),
+        _ => Variable::Within,
     }
 }
 
@@ -44,18 +46,23 @@ struct Elements {
     stride: u16,
 }
 
+/// What is added to a subscript, so that the first element's is 0.
+pub fn shift_of(subscript: &Subscript) -> Result<i32, Stop> {
+    let Some(shift) = subscript.lower.checked_neg() else {
+        return Err(Stop::NotCovered);
+    };
+    match i32::try_from(shift) {
+        Ok(shift) => Ok(shift),
+        Err(_) => Err(Stop::NotCovered),
+    }
+}
+
 fn elements_of(unit: Unit, anchor: Anchor, subscript: &Subscript) -> Result<Elements, Stop> {
     if subscript.count > MAX_ELEMENTS {
         return Err(Stop::NotCovered);
     }
-    let Some(shift) = subscript.lower.checked_neg() else {
-        return Err(Stop::NotCovered);
-    };
-    let Ok(shift) = i32::try_from(shift) else {
-        return Err(Stop::NotCovered);
-    };
     Ok(Elements {
-        shift,
+        shift: shift_of(subscript)?,
         first: unit.own_word_of(unit.slot_of(anchor)?)?,
         count: narrow(subscript.count)?,
         stride: narrow(subscript.stride)?,

@@ -12,6 +12,7 @@ use crate::reading::{put_made, put_read};
 use crate::spot::Spot;
 use crate::stop::Stop;
 use crate::unit::{Unit, narrow};
+use crate::within::{Access, put_within};
 use quick_code::QuickInstr;
 use quick_trees::Noting;
 use slot_bodies::{Place, SlotArm, SlotCaseArm, SlotExpr, SlotStmt};
@@ -124,7 +125,7 @@ fn put_assignment(
     value: &SlotExpr,
     spot: Spot,
 ) -> Result<(), Stop> {
-    match variable_of(place)? {
+    match variable_of(place) {
         Variable::Whole(anchor) => {
             let slot = unit.slot_of(anchor)?;
             let to = unit.own_word_of(slot)?;
@@ -141,6 +142,15 @@ fn put_assignment(
                 return Err(Stop::NotCovered);
             }
             put_store(unit, draft, anchor, subscript, index.word, from.word)
+        }
+        Variable::Within => {
+            let from = put_read(unit, draft, value, spot.inside()?)?;
+            let access = Access::Store(from.word);
+            let kind = put_within(unit, draft, place, spot.behind(1)?, access)?;
+            if kind != from.kind {
+                return Err(Stop::NotCovered);
+            }
+            Ok(())
         }
     }
 }

@@ -1,5 +1,6 @@
 //! Why no code is drafted.
 
+use quick_checks::Refusal;
 use std::alloc::{AllocError, AllocFailed};
 
 /// Why no code is drafted.
@@ -20,5 +21,14 @@ impl From<AllocError> for Stop {
 impl<T: Drop> From<AllocFailed<T>> for Stop {
     fn from(_e: AllocFailed<T>) -> Stop {
         Stop::OutOfMemory
+    }
+}
+
+impl From<Refusal> for Stop {
+    fn from(refusal: Refusal) -> Stop {
+        match refusal {
+            Refusal::OutOfMemory => Stop::OutOfMemory,
+            Refusal::Other => Stop::NotCovered,
+        }
     }
 }

@@ -1,4 +1,4 @@
-use Rattle.std.proofs.Common.{ap, arith, inl, inr, map, refl, rules, subst, sym, ◌∙◌, ◌≡◌}
+use Rattle.std.proofs.Common.{◌≤◌, ap, arith, inl, inr, map, refl, rules, subst, sym, ◌∙◌, ◌≡◌}
 use Rattle.st_names.specs.Standard.{standard_view}
 use Rattle.st_types.specs.StandardFunctions.{CONVERT}
 use Rattle.slot_trees.specs.SlotTrees.{binary, compute, load}
@@ -11,6 +11,7 @@ use Rattle.quick_trees.specs.Calls.{quick_units}
 use Rattle.quick_trees.specs.Standing.{IsRead}
 use Rattle.st_words.specs.declared.kind.Kind.TheVariants.{Bool as Boolean}
 use Rattle.slot_bodies.specs.declared.expression.Operands as code_operands
+use Rattle.slot_bodies.specs.declared.expression.Place as code_place
 use Rattle.slot_bodies.specs.declared.expression.SlotExpr as code_expr
 use Rattle.st_words.specs.declared.kind.Kind.TheVariants.{Bool as Boolean}
 use Rattle.std.proofs.Common.{◌+◌, length}
@@ -23,7 +24,7 @@ use Rattle.slot_bodies.specs.declared.statement.SlotArm as code_arm
 use Rattle.slot_bodies.proofs.Bridge.{choose_view}
 use Rattle.slot_trees.specs.SlotTrees.{call, constant, empty, FOR, IF, REPEAT, WHILE}
 use Rattle.code_drafts.proofs.Elements.{body_smaller, condition_smaller, expr_smaller, stmt_smaller}
-use Rattle.code_drafts.proofs.Sizes.{stmts_size}
+use Rattle.code_drafts.proofs.Sizes.{stmt_size, stmts_size}
 use Rattle.quick_trees.specs.Points.{Meets, Point, next}
 use Rattle.quick_checks.specs.Checking.{exits_of, kinds_read, landing_of, seat_of, words_read}
 use Rattle.quick_checks.proofs.Arguments.{arguments_all, arguments_more, function_stands, long_seats, long_words}
@@ -63,6 +64,11 @@ use Rattle.quick_trees.specs.Standing.{InputsRead}
 use Rattle.quick_checks.specs.declared.members.Taken.{Taken}
 use Rattle.quick_checks.specs.Checking.{inputs_taken}
 use Rattle.quick_checks.proofs.Instances.{all_inputs, argument_next, arguments_over, block_stands, copied_read, given_read}
+use Rattle.slot_trees.specs.SlotTrees.{assign, unary}
+use Rattle.quick_checks.specs.Within.{access_instr}
+use Rattle.quick_checks.proofs.Unaries.{unary_read}
+use Rattle.quick_checks.proofs.Subscripts.{led_first, led_last, led_more, place_seen, subscripts_larger, within_made}
+use Rattle.quick_checks.proofs.Subscripts.{within_read, within_stands, within_stored}
 use Rattle.quick_checks.proofs.+check.Goals as goal
 
 pub reading::check_binary-returns-in-Some : goal.reading::check_binary-returns-in-Some
@@ -164,6 +170,157 @@ reading::check_read-returns-in_ok-kind-in-Binary t c =
     let is = seen ∙ ap (λ (b : code_operands.Operands). binary c.in-Binary.operator (slot_expr_view b.left)
     (slot_expr_view b.right)) (sym c.deref-in-Binary.ensures) in
     λ now whole kept. rw is (c.in_ok-temporary-in-Binary.ensures now, c.in_ok-kind-in-Binary.ensures now whole kept)
+
+pub signs::check_unary-returns-in_ok-expect_negated-in-Negate :
+    goal.signs::check_unary-returns-in_ok-expect_negated-in-Negate
+signs::check_unary-returns-in_ok-expect_negated-in-Negate t c = λ now whole kept. rw c.in-Negate.is (record {
+  from = c.in_ok-from.from.word;
+  last = _;
+  reads = c.in_ok-from.ensures now whole kept;
+  nought = c.in_ok-expect_negated-in-Negate.field-0;
+  is_nought = c.in_ok-expect_negated-in-Negate.ensures.nought now;
+  stands = c.in_ok-expect_negated-in-Negate.ensures.stands now;
+  next = c.in_ok-expect_negated-in-Negate.ensures.next;
+})
+
+pub signs::check_unary-returns-in_ok-expect_turned-in-Not :
+    goal.signs::check_unary-returns-in_ok-expect_turned-in-Not
+signs::check_unary-returns-in_ok-expect_turned-in-Not t c = λ now whole kept. rw c.in-Not.is (record {
+  from = c.in_ok-from.from.word;
+  last = _;
+  reads = c.in_ok-from.ensures now whole kept;
+  turns = c.in_ok-expect_turned-in-Not.ensures.turns now;
+  next = c.in_ok-expect_turned-in-Not.ensures.next;
+})
+
+pub reading::check_read-returns-in_ok-kind-in-Unary : goal.reading::check_read-returns-in_ok-kind-in-Unary
+reading::check_read-returns-in_ok-kind-in-Unary t c =
+    let seen : slot_expr_view c.args.expression.now
+    ≡ unary c.in-Unary.operator (slot_expr_view c.in-Unary.operand.value) =
+    rw c.in-Unary.is (search (rules, code_expr.the_lemmas)) in
+    let is = seen ∙ ap (λ (x : code_expr.SlotExpr). unary c.in-Unary.operator (slot_expr_view x))
+    (sym c.deref-in-Unary.ensures) in
+    λ now whole kept. rw is (unary_read (frame_of c.args.draft.now now) (site_of c.args.scope.now.values)
+    (quick_units (frame_of c.args.draft.now now) whole c.args.scope.now.calls)
+    c.in-Unary.operator (slot_expr_view c.deref-in-Unary.result.now) c.in_ok-kind-in-Unary.kind c.args.depth _ _
+    (c.in_ok-temporary-in-Unary.ensures now) (c.in_ok-kind-in-Unary.ensures now whole kept))
+
+pub reading::check_read-check_read_within-requires : goal.reading::check_read-check_read_within-requires
+reading::check_read-check_read_within-requires t c =
+    let seen : slot_expr_view c.args.expression.now ≡ load (place_view c.in-Load.place) =
+    rw c.in-Load.is (search (rules, code_expr.the_lemmas)) in
+    let e = ap expr_size (seen ∙ ap load (place_seen c.in-Load.place)) in (omega (arith, e), tt)
+
+pub reading::check_made-check_made_within-requires : goal.reading::check_made-check_made_within-requires
+reading::check_made-check_made_within-requires t c =
+    let seen : slot_expr_view c.args.expression.now ≡ load (place_view c.in-Load.place) =
+    rw c.in-Load.is (search (rules, code_expr.the_lemmas)) in
+    let e = ap expr_size (seen ∙ ap load (place_seen c.in-Load.place)) in (omega (arith, e), tt)
+
+pub within::check_led-check_subscript-requires : goal.within::check_led-check_subscript-requires
+within::check_led-check_subscript-requires t c =
+    let e = subscripts_larger c.args.subscripts.now c.in-Some.subscript.now c.in-Some.rest.now
+    c.in-Some.ensures.cases.0 in (omega (arith, e), tt)
+
+pub within::check_led-check_led_on-requires : goal.within::check_led-check_led_on-requires
+within::check_led-check_led_on-requires t c =
+    let e = subscripts_larger c.args.subscripts.now c.in-Some.subscript.now c.in-Some.rest.now
+    c.in-Some.ensures.cases.0 in (omega (arith, e), tt)
+
+pub within::check_led-returns : goal.within::check_led-returns
+within::check_led-returns t c = λ now whole kept. led_first (frame_of c.args.draft.now now)
+    (site_of c.args.scope.now.values) (quick_units (frame_of c.args.draft.now now) whole c.args.scope.now.calls)
+    c.args.subscripts.now c.in-Some.subscript.now c.in-Some.rest.now c.args.depth c.in_ok-index.index
+    c.in_ok-expect_located.field-0 (access_instr c.args.access c.args.depth c.args.word) _ _ _ _
+    c.in-Some.ensures.cases.0 (c.in_ok-temporary.ensures now).there (c.in_ok-index.ensures
+    c.in_ok-expect_located.field-0 c.in_ok-expect_located.ensures.from_lower now whole kept)
+    c.in_ok-expect_located.ensures.stands c.in_ok-expect_located.ensures.next
+    (c.in_ok-check_led_on.ensures now whole kept)
+
+pub within::check_led_on-check_subscript-requires : goal.within::check_led_on-check_subscript-requires
+within::check_led_on-check_subscript-requires t c =
+    let e = subscripts_larger c.args.subscripts.now c.in-Some.subscript.now c.in-Some.rest.now
+    c.in-Some.ensures.cases.0 in (omega (arith, e), tt)
+
+pub within::check_led_on-check_led_on-requires : goal.within::check_led_on-check_led_on-requires
+within::check_led_on-check_led_on-requires t c =
+    let e = subscripts_larger c.args.subscripts.now c.in-Some.subscript.now c.in-Some.rest.now
+    c.in-Some.ensures.cases.0 in (omega (arith, e), tt)
+
+pub within::check_led_on-returns-then-is_empty : goal.within::check_led_on-returns-then-is_empty
+within::check_led_on-returns-then-is_empty t c =
+    let none : length c.in-Some.rest.now ≡ 0 = search rules in
+    λ now whole kept. led_last (frame_of c.args.draft.now now)
+    (site_of c.args.scope.now.values) (quick_units (frame_of c.args.draft.now now) whole c.args.scope.now.calls)
+    c.args.subscripts.now c.in-Some.subscript.now c.in-Some.rest.now c.args.depth c.in_ok-below.below
+    c.in_ok-index.index c.in_ok-expect_access.field-0 (access_instr c.args.access c.args.depth c.args.word) _ _ _
+    c.in-Some.ensures.cases.0 none c.in_ok-below.ensures (c.in_ok-index.ensures
+    c.in_ok-expect_access.field-0 c.in_ok-expect_access.ensures.from_lower now whole kept)
+    c.in_ok-expect_access.ensures.stands c.in_ok-expect_access.ensures.next
+
+pub within::check_led_on-returns : goal.within::check_led_on-returns
+within::check_led_on-returns t c =
+    let some : length c.in-Some.rest.now ≡ 0 → ⊥ = search rules in
+    λ now whole kept. led_more (frame_of c.args.draft.now now)
+    (site_of c.args.scope.now.values) (quick_units (frame_of c.args.draft.now now) whole c.args.scope.now.calls)
+    c.args.subscripts.now c.in-Some.subscript.now c.in-Some.rest.now c.args.depth c.in_ok-below.below
+    c.in_ok-index.index c.in_ok-expect_located_behind.field-0
+    (access_instr c.args.access c.args.depth c.args.word) _ _ _ _ c.in-Some.ensures.cases.0 some c.in_ok-below.ensures (c.in_ok-index.ensures
+    c.in_ok-expect_located_behind.field-0 c.in_ok-expect_located_behind.ensures.from_lower now whole kept)
+    c.in_ok-expect_located_behind.ensures.stands c.in_ok-expect_located_behind.ensures.next
+    (c.in_ok-check_led_on.ensures now whole kept)
+
+pub within::check_read_within-returns : goal.within::check_read_within-returns
+within::check_read_within-returns t c =
+    let p = code_place.out-Place c.args.place.now in
+    let all : c.as_slice-subscripts.result.now ≡ p.subscripts.items = c.as_slice-subscripts.ensures.value in
+    let two : 2 ≤ length p.subscripts.items = omega (arith, ap length all) in
+    λ now whole kept. rw (place_seen c.args.place.now) (within_read (frame_of c.args.draft.now now)
+    (site_of c.args.scope.now.values) (quick_units (frame_of c.args.draft.now now) whole c.args.scope.now.calls)
+    (anchor_view p.anchor) p.subscripts.items c.in_ok-kind.kind c.args.depth _ _ two
+    (c.in_ok-temporary.ensures now) (rw all at (c.in_ok-kind.ensures now whole kept)))
+
+pub within::check_made_within-returns : goal.within::check_made_within-returns
+within::check_made_within-returns t c =
+    let p = code_place.out-Place c.args.place.now in
+    let all : c.as_slice-subscripts.result.now ≡ p.subscripts.items = c.as_slice-subscripts.ensures.value in
+    let two : 2 ≤ length p.subscripts.items = omega (arith, ap length all) in
+    λ now whole kept. rw (place_seen c.args.place.now) (within_made (frame_of c.args.draft.now now)
+    (site_of c.args.scope.now.values) (quick_units (frame_of c.args.draft.now now) whole c.args.scope.now.calls)
+    (anchor_view p.anchor) p.subscripts.items c.in_ok-kind.kind c.args.depth c.args.to
+    _ _ two (rw all at (c.in_ok-kind.ensures now whole kept)))
+
+pub within::check_stored_within-returns : goal.within::check_stored_within-returns
+within::check_stored_within-returns t c =
+    let p = code_place.out-Place c.args.place.now in
+    let all : c.as_slice-subscripts.result.now ≡ p.subscripts.items = c.as_slice-subscripts.ensures.value in
+    let two : 2 ≤ length p.subscripts.items = omega (arith, ap length all) in
+    let kind : c.in_ok-kind.kind ≡ c.in_ok-from.from.kind = c.if-not-is_kind.ensures (search rules) in
+    λ now whole kept. rw (place_seen c.args.place.now) (within_stored (frame_of c.args.draft.now now)
+    (site_of c.args.scope.now.values) (quick_units (frame_of c.args.draft.now now) whole c.args.scope.now.calls)
+    (anchor_view p.anchor) p.subscripts.items (slot_expr_view c.args.value.now)
+    c.in_ok-from.from.kind c.args.depth c.in_ok-below.below c.in_ok-from.from.word _ _ _ two c.in_ok-below.ensures
+    (c.in_ok-from.ensures now whole kept) (rw (all, kind) at (c.in_ok-kind.ensures now whole kept)))
+
+pub statements::check_stmt-check_stored_within-requires : goal.statements::check_stmt-check_stored_within-requires
+statements::check_stmt-check_stored_within-requires t c =
+    let seen : slot_stmt_view c.args.statement.now
+    ≡ assign (place_view c.in-Assign.place) (slot_expr_view c.in-Assign.value) =
+    rw c.in-Assign.is (search (rules, code_stmt.the_lemmas)) in
+    let e = ap stmt_size (seen ∙ ap (λ x. assign x (slot_expr_view c.in-Assign.value))
+    (place_seen c.in-Assign.place)) in (omega (arith, e), tt)
+
+pub statements::check_stmt-returns-in_default-element_of :
+    goal.statements::check_stmt-returns-in_default-element_of
+statements::check_stmt-returns-in_default-element_of t c =
+    let seen : slot_stmt_view c.args.statement.now
+    ≡ assign (place_view c.in-Assign.place) (slot_expr_view c.in-Assign.value) =
+    rw c.in-Assign.is (search (rules, code_stmt.the_lemmas)) in
+    λ now whole kept. rw seen (within_stands (frame_of c.args.draft.now now) (site_of c.args.scope.now.values)
+    (quick_units (frame_of c.args.draft.now now) whole c.args.scope.now.calls)
+    (place_view c.in-Assign.place) (slot_expr_view c.in-Assign.value) c.args.depth (exits_of c.args.exits.now)
+    (point_of c.args.at.now) (point_of c.tick.new.at) (point_of c.check_stored_within.new.at)
+    c.in_ok-tick.ensures.ticks c.in_ok-tick.ensures.rest (c.in_ok-check_stored_within-in-Assign.ensures now whole kept))
 
 pub reading::check_converted-returns : goal.reading::check_converted-returns
 reading::check_converted-returns t c =

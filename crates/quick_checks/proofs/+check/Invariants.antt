@@ -23,6 +23,10 @@ use Rattle.code_drafts.proofs.Sizes.{argument_size, arguments_size}
 use Rattle.quick_trees.specs.Pieces.{Input}
 use Rattle.quick_trees.specs.Standing.{InputsRead}
 use Rattle.quick_checks.specs.Checking.{inputs_taken}
+use Rattle.slot_bodies.specs.declared.expression.Place as code_place
+use Rattle.slot_bodies.specs.Chains.{subscripts_of}
+use Rattle.slot_bodies.specs.ExpressionViews.{subscript_view}
+use Rattle.code_drafts.proofs.Sizes.{subscripts_size}
 use Rattle.quick_checks.proofs.+check.Given as goal
 
 -- Calls go down in depth, and else into parts of trees.
@@ -45,6 +49,39 @@ decreases-reading::check_fetched l = 4 * (weight (filled (slot_library_view l.li
 abbrev pub decreases-reading::check_converted : goal.decreases-reading::check_converted
 decreases-reading::check_converted l = 4 * (weight (filled (slot_library_view l.library.now)) l.scope.now.calls
     + (exprs_size (exprs_of (map slot_expr_view l.arguments.now)))) + 1
+
+abbrev pub decreases-signs::check_unary : goal.decreases-signs::check_unary
+decreases-signs::check_unary l = 4 * (weight (filled (slot_library_view l.library.now)) l.scope.now.calls
+    + (expr_size (slot_expr_view l.operand.now))) + 1
+
+abbrev pub decreases-within::check_read_within : goal.decreases-within::check_read_within
+decreases-within::check_read_within l = 4 * (weight (filled (slot_library_view l.library.now)) l.scope.now.calls
+    + subscripts_size (subscripts_of (map subscript_view (code_place.out-Place l.place.now).subscripts.items))) + 3
+
+abbrev pub decreases-within::check_made_within : goal.decreases-within::check_made_within
+decreases-within::check_made_within l = 4 * (weight (filled (slot_library_view l.library.now)) l.scope.now.calls
+    + subscripts_size (subscripts_of (map subscript_view (code_place.out-Place l.place.now).subscripts.items))) + 3
+
+abbrev pub decreases-within::check_stored_within : goal.decreases-within::check_stored_within
+decreases-within::check_stored_within l = 4 * (weight (filled (slot_library_view l.library.now)) l.scope.now.calls
+    + (subscripts_size (subscripts_of (map subscript_view (code_place.out-Place l.place.now).subscripts.items))
+    + expr_size (slot_expr_view l.value.now))) + 3
+
+abbrev pub decreases-within::check_within : goal.decreases-within::check_within
+decreases-within::check_within l = 4 * (weight (filled (slot_library_view l.library.now)) l.scope.now.calls
+    + subscripts_size (subscripts_of (map subscript_view l.subscripts.now))) + 2
+
+abbrev pub decreases-within::check_led : goal.decreases-within::check_led
+decreases-within::check_led l = 4 * (weight (filled (slot_library_view l.library.now)) l.scope.now.calls
+    + subscripts_size (subscripts_of (map subscript_view l.subscripts.now))) + 1
+
+abbrev pub decreases-within::check_led_on : goal.decreases-within::check_led_on
+decreases-within::check_led_on l = 4 * (weight (filled (slot_library_view l.library.now)) l.scope.now.calls
+    + subscripts_size (subscripts_of (map subscript_view l.subscripts.now))) + 1
+
+abbrev pub decreases-within::check_subscript : goal.decreases-within::check_subscript
+decreases-within::check_subscript l = 4 * (weight (filled (slot_library_view l.library.now)) l.scope.now.calls
+    + expr_size (slot_expr_view l.subscript.now.index)) + 1
 
 abbrev pub decreases-conditions::check_test : goal.decreases-conditions::check_test
 decreases-conditions::check_test l = 4 * (weight (filled (slot_library_view l.library.now)) l.scope.now.calls

@@ -43,6 +43,9 @@ decreases-reading::put_made l = l.spot.levels
 abbrev pub decreases-reading::put_read : goal.decreases-reading::put_read
 decreases-reading::put_read l = l.spot.levels
 
+abbrev pub decreases-signs::put_unary : goal.decreases-signs::put_unary
+decreases-signs::put_unary l = l.spot.levels
+
 abbrev pub decreases-statements::put_arm : goal.decreases-statements::put_arm
 decreases-statements::put_arm l = l.spot.levels
 
@@ -64,6 +67,9 @@ decreases-statements::put_stmts l = l.spot.levels
 abbrev pub invariant-blocks::put_inputs-loop-argument : goal.invariant-blocks::put_inputs-loop-argument
 invariant-blocks::put_inputs-loop-argument l = l.spot.levels ≤ l.fn.spot.levels
 
+abbrev pub decreases-within::put_within : goal.decreases-within::put_within
+decreases-within::put_within l = l.spot.levels
+
 abbrev pub invariant-calls::put_call-loop-place : goal.invariant-calls::put_call-loop-place
 invariant-calls::put_call-loop-place l = l.spot.levels ≤ l.fn.spot.levels
 
@@ -75,3 +81,6 @@ invariant-statements::put_if-loop-number l = l.spot.levels ≤ l.fn.spot.levels
 
 abbrev pub invariant-statements::put_stmts-loop-statement : goal.invariant-statements::put_stmts-loop-statement
 invariant-statements::put_stmts-loop-statement l = l.spot.levels ≤ l.fn.spot.levels
+
+abbrev pub invariant-within::put_within-loop-number : goal.invariant-within::put_within-loop-number
+invariant-within::put_within-loop-number l = l.spot.levels ≤ l.fn.spot.levels

@@ -1,0 +1,17 @@
+-- Code of minus and NOT.
+use Rattle.std.proofs.Common.{ℕ}
+use Rattle.st_words.specs.declared.kind.Kind.{Kind}
+use Rattle.st_words.specs.declared.operator.UnaryOperator.{UnaryOperator}
+use Rattle.st_words.specs.declared.operator.UnaryOperator.TheVariants.{Negate, Not}
+use Rattle.slot_trees.specs.SlotTrees.{SlotExpr, unary}
+use Rattle.quick_trees.specs.Pieces.{IsTemporary}
+use Rattle.quick_trees.specs.Points.{Point}
+use Rattle.quick_trees.specs.QuickMemory.{Frame}
+use Rattle.quick_trees.specs.Sites.{Site}
+use Rattle.quick_trees.specs.Standing.{IsMade, IsRead, QuickUnits}
+
+pub unary_read : (f : Frame) (s : Site) (units : QuickUnits) (op : UnaryOperator) (e : SlotExpr) (t : Kind) (d : ℕ)
+    (p q : Point) → IsTemporary f d d → IsMade f s units (unary op e) t d d p q
+    → IsRead f s units (unary op e) t d d p q
+unary_read f s units Negate e t d p q there h = (there, h)
+unary_read f s units Not e t d p q there h = (there, h)

@@ -1,0 +1,239 @@
+//! Values of arrays in arrays: where subscripts may lead, and the instructions that go there.
+
+ghost use Rattle.std.specs.Prelude.{◌≡◌, ◌+◌, ◌+ℤ◌, ℕ, IfOk, IsTrue, OnOk, Some, map, pos, slice_get};
+ghost use Rattle.quick_code.specs.declared.quick_instr.QuickInstr.TheVariants as instrs;
+ghost use Rattle.slot_bodies.specs.Chains.{subscripts_of};
+ghost use Rattle.slot_bodies.specs.ExpressionViews.{subscript_view};
+ghost use Rattle.quick_trees.specs.Pieces.{AreReached, LeadsBehind};
+ghost use Rattle.quick_trees.specs.Points.{next};
+ghost use Rattle.quick_checks.specs.Checking.{frame_of, point_of, site_of};
+ghost use Rattle.quick_checks.specs.Within.{IsReached, access_instr};
+
+use crate::cursor::{Cursor, expect};
+use crate::draft::QuickDraft;
+use crate::expressions::{element_at, is_exact, shift_for};
+use crate::refusal::Refusal;
+use crate::scope::{Values, is_kind, kind_at, narrow, own_word_of};
+use quick_code::QuickInstr;
+use slot_bodies::Subscript;
+use st_words::Kind;
+
+/// To how many values subscripts may lead that quick code follows.
+const MAX_REACHED: usize = 8192;
+
+/// What is done with a value of an array in an array: it is loaded to a word, or assigned from one.
+#[derive(Clone, Copy)]
+pub enum Access {
+    Load(u16),
+    Store(u16),
+}
+
+/// What is added to a subscript that has less room in an instruction, so that the first element's is 0.
+fn short_shift_for(subscript: &Subscript) -> Result<i16, Refusal>
+    ensures { IfOk result (λ n. subscript.now.lower +ℤ n ≡ pos 0) }
+{
+    let shift = shift_for(subscript)?;
+    match i16::try_from(shift) {
+        Ok(short) => Ok(short),
+        Err(_) => Err(Refusal::Other),
+    }
+}
+
+/// Finds the instruction that assigns the offset of an element to a temporary: what it adds to the subscript.
+pub fn expect_located(
+    draft: &QuickDraft,
+    at: &mut Cursor,
+    index: u16,
+    subscript: &Subscript,
+    depth: u16,
+) -> Result<i32, Refusal>
+    ensures from_lower { IfOk result (λ shift. subscript.now.lower +ℤ shift ≡ pos 0) }
+    ensures stands { IfOk result (λ shift. slice_get draft.now.code.instrs.items at.old.place
+        ≡ Some (instrs.Locate index shift depth subscript.now.count subscript.now.stride)) }
+    ensures next { OnOk result (point_of at.new ≡ next (point_of at.old)) }
+{
+    let shift = shift_for(subscript)?;
+    let count = narrow(subscript.count)?;
+    let stride = narrow(subscript.stride)?;
+    expect(
+        draft,
+        at,
+        QuickInstr::Locate {
+            subscript: index,
+            shift,
+            to: depth,
+            count,
+            stride,
+        },
+    )?;
+    Ok(shift)
+}
+
+/// The same of an element of an array that lies so far behind already.
+pub fn expect_located_behind(
+    draft: &QuickDraft,
+    at: &mut Cursor,
+    index: u16,
+    subscript: &Subscript,
+    depth: u16,
+) -> Result<i16, Refusal>
+    ensures from_lower { IfOk result (λ shift. subscript.now.lower +ℤ shift ≡ pos 0) }
+    ensures stands { IfOk result (λ shift. slice_get draft.now.code.instrs.items at.old.place
+        ≡ Some (instrs.LocateBehind depth index shift depth subscript.now.count subscript.now.stride)) }
+    ensures next { OnOk result (point_of at.new ≡ next (point_of at.old)) }
+{
+    let shift = short_shift_for(subscript)?;
+    let count = narrow(subscript.count)?;
+    let stride = narrow(subscript.stride)?;
+    expect(
+        draft,
+        at,
+        QuickInstr::LocateBehind {
+            offset: depth,
+            subscript: index,
+            shift,
+            to: depth,
+            count,
+            stride,
+        },
+    )?;
+    Ok(shift)
+}
+
+/// The same of the instruction that loads such an element, or assigns to it.
+pub fn expect_access(
+    draft: &QuickDraft,
+    at: &mut Cursor,
+    index: u16,
+    subscript: &Subscript,
+    depth: u16,
+    word: u16,
+    access: Access,
+) -> Result<i16, Refusal>
+    ensures from_lower { IfOk result (λ shift. subscript.now.lower +ℤ shift ≡ pos 0) }
+    ensures stands { IfOk result (λ shift. slice_get draft.now.code.instrs.items at.old.place
+        ≡ Some (access_instr access depth word index shift subscript.now.count subscript.now.stride)) }
+    ensures next { OnOk result (point_of at.new ≡ next (point_of at.old)) }
+{
+    let shift = short_shift_for(subscript)?;
+    let count = narrow(subscript.count)?;
+    let stride = narrow(subscript.stride)?;
+    let instr = match access {
+        Access::Load(to) => QuickInstr::LoadBehind {
+            offset: depth,
+            subscript: index,
+            shift,
+            to,
+            first: word,
+            count,
+            stride,
+        },
+        Access::Store(from) => QuickInstr::StoreBehind {
+            offset: depth,
+            subscript: index,
+            shift,
+            from,
+            first: word,
+            count,
+            stride,
+        },
+    };
+    expect(draft, at, instr)?;
+    Ok(shift)
+}
+
+/// The array whose values are looked at: its first slot and the word of that, and the type of the values.
+#[derive(Clone, Copy)]
+struct Reached {
+    slot: usize,
+    word: u16,
+    kind: Kind,
+}
+
+/// Whether the value so many behind the first one is of the type, has the word, and nothing is known of its note.
+fn is_reached(
+    draft: &QuickDraft,
+    values: &Values,
+    at: &Cursor,
+    array: Reached,
+    offset: usize,
+) -> bool
+    ensures { IsTrue result → (now : ℕ) → IsReached (frame_of draft.now now) (site_of values.now) at.now.noted.items
+        (array.slot + offset) (array.word + offset) array.kind }
+{
+    let (Some(slot), Some(word)) = (
+        array.slot.checked_add(offset),
+        (array.word as usize).checked_add(offset),
+    ) else {
+        return false;
+    };
+    let (Ok(kind), Ok(own)) = (kind_at(draft, values, slot), own_word_of(values, slot)) else {
+        return false;
+    };
+    is_kind(kind, array.kind) && own as usize == word && is_exact(values, &at.noted, slot)
+}
+
+/// Whether each value is so to which subscripts may lead from one that is so many behind the first one.
+fn are_reached(
+    draft: &QuickDraft,
+    values: &Values,
+    at: &Cursor,
+    array: Reached,
+    subscripts: &[Subscript],
+    offset: usize,
+) -> bool
+    ensures { IsTrue result → (now o n : ℕ) → LeadsBehind (subscripts_of (map subscript_view subscripts.now)) o
+        → n ≡ offset + o → IsReached (frame_of draft.now now) (site_of values.now) at.now.noted.items
+        (array.slot + n) (array.word + n) array.kind }
+{
+    if subscripts.is_empty() {
+        return is_reached(draft, values, at, array, offset);
+    }
+    let Some((subscript, rest)) = subscripts.split_first() else {
+        return false;
+    };
+    for index in 0..subscript.count {
+        let Some(element) = element_at(offset, index, subscript.stride) else {
+            return false;
+        };
+        if !are_reached(draft, values, at, array, rest, element) {
+            return false;
+        }
+    }
+    true
+}
+
+/// Whether subscripts lead to a value each, and to few enough of them that all are looked at.
+fn are_few(subscripts: &[Subscript]) -> bool {
+    let mut count: usize = 1;
+    for subscript in subscripts {
+        count = count.saturating_mul(subscript.count);
+        if count == 0 || count > MAX_REACHED {
+            return false;
+        }
+    }
+    true
+}
+
+/// The type of the values to which subscripts may lead from a slot on, whose words stand like them from a word on.
+pub fn read_reached(
+    draft: &QuickDraft,
+    values: &Values,
+    at: &Cursor,
+    slot: usize,
+    word: u16,
+    subscripts: &[Subscript],
+) -> Result<Kind, Refusal>
+    ensures { IfOk result (λ t. (now : ℕ) → AreReached (frame_of draft.now now) (site_of values.now)
+        at.now.noted.items slot (subscripts_of (map subscript_view subscripts.now)) word t) }
+{
+    if !are_few(subscripts) {
+        return Err(Refusal::Other);
+    }
+    let kind = kind_at(draft, values, slot)?;
+    let array = Reached { slot, word, kind };
+    if !are_reached(draft, values, at, array, subscripts, 0) {
+        return Err(Refusal::Other);
+    }
+    Ok(kind)
+}
