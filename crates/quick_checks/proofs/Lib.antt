@@ -9,3 +9,5 @@ pub mod Arguments
 pub mod Inputs
 pub mod Tables
 pub mod ChosenArms
+pub mod Given
+pub mod Evaluated

@@ -13,6 +13,7 @@ mod counting;
 mod cursor;
 mod draft;
 mod expressions;
+mod functions;
 mod instructions;
 mod programs;
 mod prologues;
@@ -21,6 +22,7 @@ mod refusal;
 mod same;
 mod scope;
 mod statements;
+mod within;
 
 pub use constants::literal_value;
 pub use draft::Landing;

@@ -11,6 +11,7 @@ mod cases;
 mod conditions;
 mod constants;
 mod draft;
+mod functions;
 mod known;
 mod legs;
 mod loops;
@@ -26,5 +27,6 @@ mod stop;
 mod survey;
 mod touch;
 mod unit;
+mod within;
 
 pub use programs::{Drafted, Landing, Program, draft_program};

@@ -13,6 +13,9 @@ decreases-conditions::put_compared l = l.spot.levels
 abbrev pub decreases-conditions::put_test : goal.decreases-conditions::put_test
 decreases-conditions::put_test l = l.spot.levels
 
+abbrev pub decreases-functions::put_evaluated : goal.decreases-functions::put_evaluated
+decreases-functions::put_evaluated l = l.spot.levels
+
 abbrev pub decreases-loops::put_for : goal.decreases-loops::put_for
 decreases-loops::put_for l = l.spot.levels
 
@@ -54,6 +57,9 @@ decreases-statements::put_stmts l = l.spot.levels
 
 abbrev pub invariant-calls::put_call-loop-place : goal.invariant-calls::put_call-loop-place
 invariant-calls::put_call-loop-place l = l.spot.levels ≤ l.fn.spot.levels
+
+abbrev pub invariant-functions::put_evaluated-loop-place : goal.invariant-functions::put_evaluated-loop-place
+invariant-functions::put_evaluated-loop-place l = l.spot.levels ≤ l.fn.spot.levels
 
 abbrev pub invariant-statements::put_case-loop-number : goal.invariant-statements::put_case-loop-number
 invariant-statements::put_case-loop-number l = l.spot.levels ≤ l.fn.spot.levels
