@@ -20,7 +20,7 @@ use crate::expressions::{deeper, is_wider, temporary};
 use crate::instructions::by_bits;
 use crate::refusal::Refusal;
 use crate::scope::{Scope, is_kind, narrow};
-use crate::within::{constant_of, expect_within};
+use crate::ranges::{constant_of, expect_within};
 use quick_code::QuickInstr;
 use slot_bodies::{SlotExpr, SlotLibrary};
 use st_names::Standard;

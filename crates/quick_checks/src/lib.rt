@@ -22,7 +22,7 @@ mod refusal;
 mod same;
 mod scope;
 mod statements;
-mod within;
+mod ranges;
 
 pub use constants::literal_value;
 pub use draft::Landing;

@@ -25,7 +25,7 @@ use crate::instructions::{instr_for, truth_for};
 use crate::refusal::Refusal;
 use crate::same::is_same;
 use crate::scope::{Scope, is_kind};
-use crate::within::{constant_as_lint, expect_kept, expect_within};
+use crate::ranges::{constant_as_lint, expect_kept, expect_within};
 use quick_code::QuickInstr;
 use slot_bodies::{Anchor, Operands, SlotExpr, SlotLibrary, Subscript};
 use st_names::Standard;

@@ -6,7 +6,7 @@ use crate::reading::{Reading, is_wider, put_read};
 use crate::spot::Spot;
 use crate::stop::Stop;
 use crate::unit::Unit;
-use crate::within::{number_word, put_within};
+use crate::ranges::{number_word, put_within};
 use quick_code::QuickInstr;
 use slot_bodies::SlotExpr;
 use st_names::Standard;

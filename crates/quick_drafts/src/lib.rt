@@ -27,6 +27,6 @@ mod stop;
 mod survey;
 mod touch;
 mod unit;
-mod within;
+mod ranges;
 
 pub use programs::{Drafted, Landing, Program, draft_program};
