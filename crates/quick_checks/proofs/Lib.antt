@@ -13,3 +13,5 @@ pub mod Tables
 pub mod Unaries
 pub mod ChosenArms
 pub mod Instances
+pub mod Given
+pub mod Evaluated

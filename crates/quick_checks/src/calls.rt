@@ -58,7 +58,7 @@ pub fn check_call(
 
 /// Finds the code of arguments one after another: their types and words.
 #[cycle(check)]
-fn check_arguments(
+pub fn check_arguments(
     draft: &QuickDraft,
     library: &SlotLibrary,
     scope: &Scope,

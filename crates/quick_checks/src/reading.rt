@@ -14,13 +14,15 @@ ghost use Rattle.quick_checks.specs.Checking.{Always, frame_of, point_of};
 
 use crate::calls::check_call;
 use crate::constants::{Reading, literal_value, number_for, read_constant};
-use crate::cursor::{Cursor, expect, expect_for, instr_at, stands, step};
+use crate::cursor::{Cursor, expect, instr_at, stands, step};
 use crate::draft::QuickDraft;
 use crate::expressions::{
     constant_taken, deeper, element_of, expect_load, is_wider, only_argument, read_elements,
     read_variable, temporary, variable_of,
 };
+use crate::functions::{check_evaluated, is_widening};
 use crate::instructions::{instr_for, truth_for};
+use crate::ranges::{constant_as_lint, expect_kept, expect_within};
 use crate::refusal::Refusal;
 use crate::same::is_same;
 use crate::scope::{Scope, is_kind};
@@ -64,7 +66,14 @@ pub fn check_read(
             Ok(Reading { kind, word: depth })
         }
         SlotExpr::Compute(function, arguments) => {
-            check_converted(draft, library, scope, *function, arguments, depth, at)
+            if is_widening(*function) {
+                return check_converted(draft, library, scope, *function, arguments, depth, at);
+            }
+            temporary(draft, depth)?;
+            let kind = check_evaluated(
+                draft, library, scope, *function, arguments, depth, depth, at,
+            )?;
+            Ok(Reading { kind, word: depth })
         }
         SlotExpr::Call(function, arguments) => {
             temporary(draft, depth)?;
@@ -150,6 +159,12 @@ pub fn check_made(
         }
         SlotExpr::Constant(literal) => made_constant(draft, expression, literal, to, at),
         SlotExpr::Compute(function, arguments) => {
+            if !is_widening(*function) {
+                let kind = check_evaluated(
+                    draft, library, scope, *function, arguments, depth, to, at,
+                )?;
+                return Ok(kind);
+            }
             let read = check_converted(draft, library, scope, *function, arguments, depth, at)?;
             expect(
                 draft,
@@ -191,6 +206,11 @@ pub fn check_binary(
         step(at)?;
         return Ok(left.kind);
     }
+    if let Some(_) = constant_as_lint(draft, at, operator, left, &operands.right, depth) {
+        step(at)?;
+        expect_within(draft, left.kind, depth, to, at)?;
+        return Ok(left.kind);
+    }
     let below = deeper(depth)?;
     let right = check_read(draft, library, scope, &operands.right, below, at)?;
     if !is_kind(right.kind, left.kind) {
@@ -204,8 +224,13 @@ pub fn check_binary(
         step(at)?;
         return Ok(left.kind);
     }
-    expect_for(draft, at, truth_for(operator, left.word, right.word, to))?;
-    Ok(Kind::Bool)
+    if stands(draft, at, truth_for(operator, left.word, right.word, to)) {
+        step(at)?;
+        return Ok(Kind::Bool);
+    }
+    let sum = instr_for(operator, Kind::Lint, left.word, right.word, depth);
+    expect_kept(draft, left.kind, sum, depth, to, at)?;
+    Ok(left.kind)
 }
 
 /// The same of an element of an array.

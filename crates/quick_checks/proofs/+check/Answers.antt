@@ -48,6 +48,8 @@ use Rattle.quick_code.specs.declared.quick_code.Way.{Way}
 use Rattle.quick_trees.specs.Pieces.{AreBoth}
 use Rattle.quick_checks.specs.Choices.{body_at}
 use Rattle.quick_checks.proofs.Below.{one_more}
+use Rattle.quick_trees.specs.Functions.{IsMovedWithin}
+use Rattle.quick_checks.proofs.Evaluated.{read_evaluated}
 use Rattle.quick_checks.proofs.ChosenArms.{body_is, case_stands}
 use Rattle.std.proofs.Common.{◌++◌, List, [], drop}
 use Rattle.st_names.specs.Standard.{block_view}
@@ -72,7 +74,7 @@ use Rattle.quick_checks.proofs.Subscripts.{within_read, within_stands, within_st
 use Rattle.quick_checks.proofs.+check.Goals as goal
 
 pub reading::check_binary-returns-in-Some : goal.reading::check_binary-returns-in-Some
-reading::check_binary-returns-in-Some t c = λ now whole kept. inr (inr (record {
+reading::check_binary-returns-in-Some t c = λ now whole kept. inr (inr (inl (record {
   left = c.in_ok-left.left.word;
   word = c.in-Some.field-0;
   last = _;
@@ -80,7 +82,7 @@ reading::check_binary-returns-in-Some t c = λ now whole kept. inr (inr (record 
   number = c.in-Some.ensures.number;
   stands = c.in-Some.ensures.stands now;
   next = c.in_ok-step.ensures;
-}))
+})))
 
 pub reading::check_binary-returns-then-stands : goal.reading::check_binary-returns-then-stands
 reading::check_binary-returns-then-stands t c =
@@ -96,11 +98,25 @@ reading::check_binary-returns-then-stands t c =
       };
       stands = subst (λ o. Stands (frame_of c.args.draft.now now) o c.check_read-2.new.at.place) c.instr_for.ensures
           (c.if-stands.ensures (search rules) now);
-      next = c.in_ok-step-2.ensures;
+      next = c.in_ok-step-3.ensures;
     })
 
-pub reading::check_binary-returns : goal.reading::check_binary-returns
-reading::check_binary-returns t c =
+pub reading::check_binary-returns-in-Some-constant_as_lint : goal.reading::check_binary-returns-in-Some-constant_as_lint
+reading::check_binary-returns-in-Some-constant_as_lint t c = λ now whole kept. inr (inr (inr (inr (record {
+  left = c.in_ok-left.left.word;
+  word = c.in-Some-constant_as_lint.field-0;
+  last = _;
+  reads = c.in_ok-left.ensures now whole kept;
+  number = c.in-Some-constant_as_lint.ensures.number;
+  there = c.in-Some-constant_as_lint.ensures.there;
+  stands = c.in-Some-constant_as_lint.ensures.stands now;
+  moves = subst (λ (p : Point). IsMovedWithin (frame_of c.args.draft.now now) c.in_ok-left.left.kind c.args.depth
+      c.args.to p.place) c.in_ok-step-2.ensures (c.in_ok-expect_within.ensures.moves now);
+  is = c.in_ok-expect_within.ensures.next ∙ ap next c.in_ok-step-2.ensures;
+}))))
+
+pub reading::check_binary-returns-then-stands-2 : goal.reading::check_binary-returns-then-stands-2
+reading::check_binary-returns-then-stands-2 t c =
     let kinds : c.in_ok-right.right.kind ≡ c.in_ok-left.left.kind = c.if-not-is_kind.ensures (search rules) in
     λ now whole kept. inr (inl (record {
       truth = refl;
@@ -114,9 +130,28 @@ reading::check_binary-returns t c =
         second = rw (← kinds, ← c.in_ok-below.ensures) (c.in_ok-right.ensures now whole kept);
       };
       stands = subst (λ o. Stands (frame_of c.args.draft.now now) o c.check_read-2.new.at.place) c.truth_for.ensures
-          (c.in_ok-expect_for.ensures.stands now);
-      next = c.in_ok-expect_for.ensures.next;
+          (c.if-stands-2.ensures (search rules) now);
+      next = c.in_ok-step-4.ensures;
     }))
+
+pub reading::check_binary-returns : goal.reading::check_binary-returns
+reading::check_binary-returns t c =
+    let kinds : c.in_ok-right.right.kind ≡ c.in_ok-left.left.kind = c.if-not-is_kind.ensures (search rules) in
+    λ now whole kept. inr (inr (inr (inl (record {
+      left = c.in_ok-left.left.word;
+      right = c.in_ok-right.right.word;
+      last = _;
+      reads = record {
+        middle = _;
+        first = c.in_ok-left.ensures now whole kept;
+        second = rw (← kinds, ← c.in_ok-below.ensures) (c.in_ok-right.ensures now whole kept);
+      };
+      there = c.in_ok-expect_kept.ensures.there;
+      stands = subst (λ o. Stands (frame_of c.args.draft.now now) o c.check_read-2.new.at.place) c.instr_for-sum.ensures
+          (c.in_ok-expect_kept.ensures.stands now);
+      moves = c.in_ok-expect_kept.ensures.moves now;
+      is = c.in_ok-expect_kept.ensures.next;
+    }))))
 
 pub reading::check_fetched-returns : goal.reading::check_fetched-returns
 reading::check_fetched-returns t c = λ now whole kept. record {
@@ -152,7 +187,7 @@ reading::check_read-check_converted-requires t c =
     ≡ compute (standard_view c.in-Compute.function) (exprs_of (map slot_expr_view es)) =
     rw c.in-Compute.is (search (rules, code_expr.the_lemmas)) in
     let e = ap expr_size seen in
-    let d = ap (λ xs. exprs_size (exprs_of (map slot_expr_view xs))) c.deref-in-Compute.ensures.value in
+    let d = ap (λ xs. exprs_size (exprs_of (map slot_expr_view xs))) c.deref-then-is_widening.ensures.value in
     (omega (arith, e, d), tt)
 
 pub reading::check_read-returns-in_ok-kind-in-Load : goal.reading::check_read-returns-in_ok-kind-in-Load
@@ -330,17 +365,30 @@ reading::check_converted-returns t c =
     λ now whole kept. subst (λ x. IsRead (frame_of c.args.draft.now now) (site_of c.args.scope.now.values)
     (quick_units (frame_of c.args.draft.now now) whole c.args.scope.now.calls) x c.in-Convert.to c.args.depth
     c.in_ok-read.read.word (point_of c.args.at.now) (point_of c.check_read.new.at)) (sym is)
-    (refl, c.if-not-is_wider.ensures (search rules), rw (← kind) (c.in_ok-read.ensures now whole kept))
+    (inl (refl, c.if-not-is_wider.ensures (search rules), rw (← kind) (c.in_ok-read.ensures now whole kept)))
 
-pub reading::check_read-returns-in-Compute : goal.reading::check_read-returns-in-Compute
-reading::check_read-returns-in-Compute t c =
+pub reading::check_read-returns-then-is_widening : goal.reading::check_read-returns-then-is_widening
+reading::check_read-returns-then-is_widening t c =
+    let es = c.in-Compute.arguments.items in
+    let seen : slot_expr_view c.args.expression.now
+    ≡ compute (standard_view c.in-Compute.function) (exprs_of (map slot_expr_view es)) =
+    rw c.in-Compute.is (search (rules, code_expr.the_lemmas)) in
+    let is = seen ∙ ap (λ xs. compute (standard_view c.in-Compute.function) (exprs_of (map slot_expr_view xs)))
+    (sym c.deref-then-is_widening.ensures.value) in
+    rw is c.check_converted.ensures
+
+pub reading::check_read-returns-in_ok-kind-in-Compute : goal.reading::check_read-returns-in_ok-kind-in-Compute
+reading::check_read-returns-in_ok-kind-in-Compute t c =
     let es = c.in-Compute.arguments.items in
     let seen : slot_expr_view c.args.expression.now
     ≡ compute (standard_view c.in-Compute.function) (exprs_of (map slot_expr_view es)) =
     rw c.in-Compute.is (search (rules, code_expr.the_lemmas)) in
     let is = seen ∙ ap (λ xs. compute (standard_view c.in-Compute.function) (exprs_of (map slot_expr_view xs)))
     (sym c.deref-in-Compute.ensures.value) in
-    rw is c.check_converted.ensures
+    λ now whole kept. rw is (read_evaluated (frame_of c.args.draft.now now) (site_of c.args.scope.now.values)
+    (quick_units (frame_of c.args.draft.now now) whole c.args.scope.now.calls) (standard_view c.in-Compute.function) _
+    c.in_ok-kind-in-Compute.kind c.args.depth c.args.depth (point_of c.args.at.now) _
+    (c.in_ok-temporary-in-Compute.ensures now) (c.in_ok-kind-in-Compute.ensures now whole kept))
 
 pub reading::check_made-returns-in-Some : goal.reading::check_made-returns-in-Some
 reading::check_made-returns-in-Some t c =
@@ -375,13 +423,32 @@ reading::check_made-returns-in_ok-expect-in-Compute t c =
     rw c.in-Compute.is (search (rules, code_expr.the_lemmas)) in
     let is = seen ∙ ap (λ xs. compute (standard_view c.in-Compute.function) (exprs_of (map slot_expr_view xs)))
     (sym c.deref-in-Compute.ensures.value) in
-    λ now whole kept. rw is (record {
+    λ now whole kept. rw is (inl (record {
       from = c.in_ok-read-in-Compute.read.word;
       last = _;
       reads = c.in_ok-read-in-Compute.ensures now whole kept;
       stands = c.in_ok-expect-in-Compute.ensures.stands;
       next = c.in_ok-expect-in-Compute.ensures.next;
-    })
+    }))
+
+pub reading::check_made-returns-then-not-is_widening : goal.reading::check_made-returns-then-not-is_widening
+reading::check_made-returns-then-not-is_widening t c =
+    let es = c.in-Compute.arguments.items in
+    let seen : slot_expr_view c.args.expression.now
+    ≡ compute (standard_view c.in-Compute.function) (exprs_of (map slot_expr_view es)) =
+    rw c.in-Compute.is (search (rules, code_expr.the_lemmas)) in
+    let is = seen ∙ ap (λ xs. compute (standard_view c.in-Compute.function) (exprs_of (map slot_expr_view xs)))
+    (sym c.deref-then-not-is_widening.ensures.value) in
+    λ now whole kept. rw is (inr (c.in_ok-kind-in-Compute.ensures now whole kept))
+
+pub reading::check_made-returns-in-Binary : goal.reading::check_made-returns-in-Binary
+reading::check_made-returns-in-Binary t c =
+    let seen : slot_expr_view c.args.expression.now ≡ binary c.in-Binary.operator
+    (slot_expr_view c.in-Binary.operands.value.left) (slot_expr_view c.in-Binary.operands.value.right) =
+    rw c.in-Binary.is (search (rules, code_expr.the_lemmas)) in
+    let is = seen ∙ ap (λ (b : code_operands.Operands). binary c.in-Binary.operator (slot_expr_view b.left)
+    (slot_expr_view b.right)) (sym c.deref.ensures) in
+    rw is c.check_binary.ensures
 
 pub conditions::check_truth-returns : goal.conditions::check_truth-returns
 conditions::check_truth-returns t c =
@@ -737,6 +804,20 @@ calls::check_arguments-returns t c = λ now whole kept.
     (quick_units (frame_of c.args.draft.now now) whole c.args.scope.now.calls) c.args.arguments.now c.loop-index.index
     c.loop-index.below c.args.depth c.loop-index.read.items _ _ c.loop-index-test.false
     (c.loop-index.invariant now whole kept)
+
+pub functions::check_evaluated-returns : goal.functions::check_evaluated-returns
+functions::check_evaluated-returns t c =
+    let many = long_words c.in_ok-read.read.items in
+    let long = ap length c.deref.ensures.value in
+    let below : c.in_ok-narrow.field-0 ≡ c.args.depth + length (words_read c.in_ok-read.read.items) =
+    omega (arith, many, long, c.in_ok-narrow.ensures, c.in-Some.ensures, c.len.ensures, c.deref.ensures.len) in
+    λ now whole kept. record {
+      kinds = kinds_read c.in_ok-read.read.items;
+      words = words_read c.in_ok-read.read.items;
+      given = point_of c.check_arguments.new.at;
+      arguments = c.in_ok-read.ensures now whole kept;
+      computes = rw (c.deref.ensures.value, below) at (c.in_ok-kind.ensures now);
+    }
 
 pub calls::check_call-returns : goal.calls::check_call-returns
 calls::check_call-returns t c =

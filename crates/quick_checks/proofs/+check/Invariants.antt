@@ -99,6 +99,10 @@ abbrev pub decreases-calls::check_call : goal.decreases-calls::check_call
 decreases-calls::check_call l = 4 * (weight (filled (slot_library_view l.library.now)) l.scope.now.calls
     + (exprs_size (exprs_of (map slot_expr_view l.arguments.now)))) + 3
 
+abbrev pub decreases-functions::check_evaluated : goal.decreases-functions::check_evaluated
+decreases-functions::check_evaluated l = 4 * (weight (filled (slot_library_view l.library.now)) l.scope.now.calls
+    + (exprs_size (exprs_of (map slot_expr_view l.arguments.now)))) + 3
+
 abbrev pub decreases-calls::check_arguments : goal.decreases-calls::check_arguments
 decreases-calls::check_arguments l = 4 * (weight (filled (slot_library_view l.library.now)) l.scope.now.calls
     + (exprs_size (exprs_of (map slot_expr_view l.arguments.now)))) + 2

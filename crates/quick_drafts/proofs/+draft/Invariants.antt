@@ -22,6 +22,9 @@ decreases-conditions::put_compared l = l.spot.levels
 abbrev pub decreases-conditions::put_test : goal.decreases-conditions::put_test
 decreases-conditions::put_test l = l.spot.levels
 
+abbrev pub decreases-functions::put_evaluated : goal.decreases-functions::put_evaluated
+decreases-functions::put_evaluated l = l.spot.levels
+
 abbrev pub decreases-loops::put_for : goal.decreases-loops::put_for
 decreases-loops::put_for l = l.spot.levels
 
@@ -72,6 +75,9 @@ decreases-within::put_within l = l.spot.levels
 
 abbrev pub invariant-calls::put_call-loop-place : goal.invariant-calls::put_call-loop-place
 invariant-calls::put_call-loop-place l = l.spot.levels ≤ l.fn.spot.levels
+
+abbrev pub invariant-functions::put_evaluated-loop-place : goal.invariant-functions::put_evaluated-loop-place
+invariant-functions::put_evaluated-loop-place l = l.spot.levels ≤ l.fn.spot.levels
 
 abbrev pub invariant-statements::put_case-loop-number : goal.invariant-statements::put_case-loop-number
 invariant-statements::put_case-loop-number l = l.spot.levels ≤ l.fn.spot.levels
