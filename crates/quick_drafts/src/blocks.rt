@@ -184,7 +184,7 @@ fn copy_outputs(
 ) -> Result<(), Stop> {
     for argument in arguments {
         if let SlotArgument::Copied(member, place) = argument {
-            let Variable::Whole(target) = variable_of(place)? else {
+            let Variable::Whole(target) = variable_of(place) else {
                 return Err(Stop::NotCovered);
             };
             let from = member_at(first, *member)?;

@@ -1,12 +1,12 @@
 //! The code of standard functions.
 
-use crate::constants::literal_value;
 use crate::draft::Draft;
 use crate::ranges::{number_word, put_within};
 use crate::reading::{Reading, is_wider, put_read};
 use crate::spot::Spot;
 use crate::stop::Stop;
 use crate::unit::Unit;
+use quick_checks::literal_value;
 use quick_code::QuickInstr;
 use slot_bodies::SlotExpr;
 use st_names::Standard;
