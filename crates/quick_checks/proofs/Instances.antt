@@ -1,6 +1,6 @@
 -- Members of instances, one after another.
 use Rattle.std.proofs.Common.{◌≡◌, ◌∙◌, ℕ, zero, suc, List, [], ◌∷◌, ◌++◌, length, get_or, drop, map, refl, ap, sym}
-use Rattle.std.proofs.Common.{subst, arith, ◌+◌, ◌<◌, ◌≤◌, add-one}
+use Rattle.std.proofs.Common.{subst, arith, ◌+◌, ◌<◌, ◌≤◌}
 use Rattle.std.specs.Prelude.{Option, Some, slice_get}
 use Rattle.st_words.specs.declared.kind.Kind.{Kind}
 use Rattle.st_types.specs.StandardBlocks.{BlockMember}

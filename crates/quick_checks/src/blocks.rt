@@ -1,6 +1,6 @@
 //! The code of calls of blocks.
 
-ghost use Rattle.std.specs.Prelude.{◌≡◌, ◌∷◌, ◌++◌, ℕ, List, IfOk, OnOk, map};
+ghost use Rattle.std.specs.Prelude.{◌≡◌, ◌∷◌, ◌++◌, List, IfOk, OnOk, map};
 ghost use Rattle.slot_trees.specs.SlotTrees as tree;
 ghost use Rattle.slot_bodies.specs.ExpressionViews.{anchor_view, slot_expr_view};
 ghost use Rattle.slot_bodies.specs.StatementViews.{block_code_view, slot_argument_view};
@@ -95,8 +95,8 @@ fn check_argument(
     at: &mut Cursor,
 ) -> Result<u16, Refusal>
     ensures { IfOk result (λ d. Always draft.now library.now scope.now (λ f s units.
-        (rest : List tree.SlotArgument) (js : List Input) (q : Point) → InputsRead f s units rest d js (point_of at.new) q
-        → (is : List Input) × ((inputs_taken inputs.new.items ++ js ≡ inputs_taken inputs.old.items ++ is)
+        (rest : List tree.SlotArgument) (js : List Input) (q : Point)
+        → InputsRead f s units rest d js (point_of at.new) q → (is : List Input) × ((inputs_taken inputs.new.items ++ js ≡ inputs_taken inputs.old.items ++ is)
         × InputsRead f s units (slot_argument_view argument.now ∷ rest) depth is (point_of at.old) q))) }
 {
     match argument {
@@ -165,8 +165,8 @@ fn check_block(
     }
 }
 
-/// The same of a block of the text: its body stands in the place of the call, with calls one less deep, and RETURN leads
-/// behind it.
+/// The same of a block of the text: its body stands in the place of the call, with calls one less deep, and RETURN
+/// leads behind it.
 #[cycle(check)]
 fn check_own(
     draft: &QuickDraft,

@@ -1,6 +1,6 @@
 //! The members of an instance of a block, where it is called.
 
-ghost use Rattle.std.specs.Prelude.{◌≡◌, ◌<◌, ◌≤◌, ◌∷◌, ◌++◌, [], ℕ, List, IfOk, IsTrue, OnOk, Some, length, map, slice_get, ◌+◌};
+ghost use Rattle.std.specs.Prelude.{◌≡◌, ◌≤◌, ◌∷◌, ◌++◌, ◌+◌, [], ℕ, List, IfOk, IsTrue, OnOk, Some, map, slice_get};
 ghost use Rattle.st_names.specs.Standard.{block_view};
 ghost use Rattle.st_types.specs.StandardBlocks.{members_of};
 ghost use Rattle.slot_trees.specs.SlotTrees as tree;
@@ -11,7 +11,7 @@ ghost use Rattle.quick_trees.specs.Notes as notes;
 ghost use Rattle.quick_trees.specs.Notes.{AllChange};
 ghost use Rattle.quick_trees.specs.Points.{Point};
 ghost use Rattle.quick_trees.specs.Standing.{InputsGiven, IsGiven, OutputsCopied};
-ghost use Rattle.quick_checks.specs.Checking.{Ever, frame_of, input_taken, inputs_taken, point_of};
+ghost use Rattle.quick_checks.specs.Checking.{Ever, frame_of, inputs_taken, point_of};
 
 use crate::constants::Reading;
 use crate::cursor::{Cursor, assign, expect, instr_at, look, read_notes, step};
@@ -26,8 +26,8 @@ use st_names::StandardBlock;
 use st_words::Kind;
 use std::alloc::AllocError;
 
-/// An input that a call gives: its member, so many slots behind the first one of the instance, its type, and the word that
-/// has its value.
+/// An input that a call gives: its member, so many slots behind the first one of the instance, its type, and the word
+/// that has its value.
 #[derive(Clone, Copy)]
 pub struct Taken {
     pub member: usize,
@@ -104,8 +104,8 @@ fn input_at(inputs: &[Taken], index: usize) -> Result<Taken, Refusal>
     }
 }
 
-/// Finds the code that moves the inputs to the members of an instance, one after another. None is in the word of a member
-/// that took one before.
+/// Finds the code that moves the inputs to the members of an instance, one after another. None is in the word of a
+/// member that took one before.
 pub fn check_given(
     draft: &QuickDraft,
     values: &Values,

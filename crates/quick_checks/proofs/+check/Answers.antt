@@ -51,21 +51,20 @@ use Rattle.quick_checks.proofs.Below.{one_more}
 use Rattle.quick_trees.specs.Functions.{IsMovedWithin}
 use Rattle.quick_checks.proofs.Evaluated.{read_evaluated}
 use Rattle.quick_checks.proofs.ChosenArms.{body_is, case_stands}
-use Rattle.std.proofs.Common.{◌++◌, List, [], drop}
+use Rattle.std.proofs.Common.{List, []}
 use Rattle.st_names.specs.Standard.{block_view}
 use Rattle.slot_trees.specs.SlotTrees.{SlotArgument, invoke, own_block, standard_block}
-use Rattle.slot_trees.specs.SlotEvaluation.{slot_at}
 use Rattle.slot_bodies.specs.StatementViews.{block_code_view, slot_argument_view}
 use Rattle.code_drafts.proofs.Depths.{block_lighter}
 use Rattle.code_drafts.proofs.Elements.{argument_smaller}
 use Rattle.code_drafts.proofs.Filled.{filled_body}
 use Rattle.code_drafts.proofs.Sizes.{argument_size, arguments_size, stmt_size}
 use Rattle.quick_trees.specs.Pieces.{Input}
-use Rattle.quick_trees.specs.Sites.{base_of}
 use Rattle.quick_trees.specs.Standing.{InputsRead}
 use Rattle.quick_checks.specs.declared.members.Taken.{Taken}
 use Rattle.quick_checks.specs.Checking.{inputs_taken}
-use Rattle.quick_checks.proofs.Instances.{all_inputs, argument_next, arguments_over, block_stands, copied_read, given_read}
+use Rattle.quick_checks.proofs.Instances.{all_inputs, argument_next, arguments_over, block_stands}
+use Rattle.quick_checks.proofs.Instances.{copied_read, given_read}
 use Rattle.slot_trees.specs.SlotTrees.{assign, unary}
 use Rattle.quick_checks.specs.Within.{access_instr}
 use Rattle.quick_checks.proofs.Unaries.{unary_read}
@@ -895,8 +894,8 @@ blocks::check_inputs-loop-index-preserved t c =
     λ now whole kept js q rest.
     (let h = c.in_ok-below.ensures now whole kept _ js q rest in
     subst (λ (is : List Input). InputsRead (frame_of c.args.draft.now now) (site_of c.args.scope.now.values)
-    (quick_units (frame_of c.args.draft.now now) whole c.args.scope.now.calls) (map slot_argument_view c.args.arguments.now)
-    c.args.depth is (point_of c.args.at.now) q) (sym h.1.0) (c.loop-index.invariant now whole kept h.0 q
+    (quick_units (frame_of c.args.draft.now now) whole c.args.scope.now.calls)
+    (map slot_argument_view c.args.arguments.now) c.args.depth is (point_of c.args.at.now) q) (sym h.1.0) (c.loop-index.invariant now whole kept h.0 q
     (subst (λ (xs : List SlotArgument). InputsRead (frame_of c.args.draft.now now) (site_of c.args.scope.now.values)
     (quick_units (frame_of c.args.draft.now now) whole c.args.scope.now.calls) xs c.loop-index.below h.0
     (point_of c.loop-index.at) q) (sym same) h.1.1)))
@@ -1026,8 +1025,8 @@ statements::check_stmt-returns-in_ok-check_invoked-in-Invoke t c =
     rw c.in-Invoke.is (search (rules, code_stmt.the_lemmas)) in
     let is = seen ∙ ap (λ xs. invoke (anchor_view c.in-Invoke.instance) (block_code_view c.in-Invoke.block)
     (map slot_argument_view xs)) (sym c.deref-in-Invoke.ensures.value) in
-    λ now whole kept. rw is (ticked _ (point_of c.args.at.now) (point_of c.tick.new.at) (point_of c.check_invoked.new.at)
-    c.in_ok-tick.ensures.ticks c.in_ok-tick.ensures.rest (c.in_ok-check_invoked-in-Invoke.ensures now whole kept))
+    λ now whole kept. rw is (ticked _ (point_of c.args.at.now) (point_of c.tick.new.at)
+    (point_of c.check_invoked.new.at) c.in_ok-tick.ensures.ticks c.in_ok-tick.ensures.rest (c.in_ok-check_invoked-in-Invoke.ensures now whole kept))
 
 pub conditions::check_test-returns-in_ok-leg-in-Constant : goal.conditions::check_test-returns-in_ok-leg-in-Constant
 conditions::check_test-returns-in_ok-leg-in-Constant t c =

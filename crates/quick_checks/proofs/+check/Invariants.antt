@@ -195,8 +195,8 @@ abbrev pub decreases-blocks::check_inputs-loop-index : goal.decreases-blocks::ch
 decreases-blocks::check_inputs-loop-index l = length l.arguments - l.index
 
 abbrev pub invariant-blocks::check_inputs-loop-index : goal.invariant-blocks::check_inputs-loop-index
-invariant-blocks::check_inputs-loop-index l = Always l.draft l.library l.scope (λ f s units. (js : List Input) (q : Point)
-    → InputsRead f s units (map slot_argument_view (drop l.index l.arguments)) l.below js (point_of l.at) q
+invariant-blocks::check_inputs-loop-index l = Always l.draft l.library l.scope (λ f s units.
+    (js : List Input) (q : Point) → InputsRead f s units (map slot_argument_view (drop l.index l.arguments)) l.below js (point_of l.at) q
     → InputsRead f s units (map slot_argument_view l.arguments) l.depth (inputs_taken l.inputs.items ++ js)
     (point_of l.fn.at) q)
 

@@ -4,7 +4,8 @@ use Rattle.st_words.specs.declared.kind.Kind.{Kind}
 use Rattle.st_types.specs.StandardBlocks.{BlockMember, members_of}
 use Rattle.st_names.specs.Standard.{block_view}
 use Rattle.st_names.specs.declared.standard_blocks.StandardBlock as code_block
-use Rattle.st_names.specs.declared.standard_blocks.StandardBlock.TheVariants.{Sr, Rs, RTrig, FTrig, Ctu, Ctd, Ton, Tof, Tp}
+use Rattle.st_names.specs.declared.standard_blocks.StandardBlock.TheVariants.{Ctd, Ctu, FTrig, RTrig, Rs, Sr}
+use Rattle.st_names.specs.declared.standard_blocks.StandardBlock.TheVariants.{Tof, Ton, Tp}
 use Rattle.quick_trees.specs.Calls.{AreMembers}
 use Rattle.quick_trees.specs.QuickMemory.{Frame}
 use Rattle.quick_checks.specs.Checking.{frame_of}

@@ -16,11 +16,12 @@ loop-index-preserved c = record {
   within = omega arith;
   same = c.in_ok-assign.ensures.same
       ∙ ap (λ (x : Point). record x { noted = c.assign.new.at.noted.items }) c.loop-index.invariant.same;
-  assigns = change_more at_assignment c.args.first c.args.count c.loop-index.index c.in-Some.slot c.args.at.now.noted.items
+  assigns = change_more at_assignment c.args.first c.args.count c.loop-index.index c.in-Some.slot
+      c.args.at.now.noted.items
       c.loop-index.at.noted.items c.assign.new.at.noted.items c.in-Some.ensures.1
       c.in_ok-assign.ensures.touches c.loop-index.invariant.assigns;
 }
 
 pub returns-clause-assigns : goal.returns-clause-assigns
-returns-clause-assigns c = changed_all at_assignment c.args.first c.args.count c.loop-index.index c.args.at.now.noted.items
-    c.loop-index.at.noted.items (omega arith) c.loop-index.invariant.assigns
+returns-clause-assigns c = changed_all at_assignment c.args.first c.args.count c.loop-index.index
+    c.args.at.now.noted.items c.loop-index.at.noted.items (omega arith) c.loop-index.invariant.assigns

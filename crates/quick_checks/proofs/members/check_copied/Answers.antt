@@ -1,6 +1,5 @@
-use Rattle.std.proofs.Common.{◌≡◌, List, drop, map, refl, subst, sym, ◌+◌}
+use Rattle.std.proofs.Common.{List, refl, subst, sym, ◌+◌}
 use Rattle.slot_trees.specs.SlotTrees.{SlotArgument}
-use Rattle.slot_bodies.specs.StatementViews.{slot_argument_view}
 use Rattle.quick_trees.specs.Calls.{quick_units}
 use Rattle.quick_trees.specs.Standing.{OutputsCopied}
 use Rattle.quick_checks.specs.Checking.{frame_of, point_of, site_of}

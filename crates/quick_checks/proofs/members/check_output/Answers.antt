@@ -1,12 +1,8 @@
-use Rattle.std.proofs.Common.{◌≡◌, ◌∙◌, ◌∷◌, ℕ, ◌+◌, ap}
-use Rattle.slot_trees.specs.SlotTrees.{SlotArgument, copied, no_subscripts, place}
-use Rattle.slot_trees.specs.SlotEvaluation.{slot_at}
-use Rattle.slot_bodies.specs.declared.statement.SlotArgument as code_argument
+use Rattle.std.proofs.Common.{◌≡◌, ◌∙◌, ap}
+use Rattle.slot_trees.specs.SlotTrees.{copied}
 use Rattle.slot_bodies.specs.ExpressionViews.{anchor_view, place_view}
 use Rattle.slot_bodies.specs.StatementViews.{slot_argument_view}
 use Rattle.quick_trees.specs.Calls.{quick_units}
-use Rattle.quick_trees.specs.Sites.{base_of}
-use Rattle.quick_trees.specs.Standing.{IsCopied, OutputsCopied}
 use Rattle.quick_checks.specs.Checking.{frame_of, point_of, site_of}
 use Rattle.quick_checks.proofs.Instances.{copied_next}
 use Rattle.quick_checks.proofs.members.check_output.Goals as goal
