@@ -8,7 +8,7 @@ use Rattle.quick_trees.specs.Pieces.{IsTemporary}
 use Rattle.quick_trees.specs.Points.{Point}
 use Rattle.quick_trees.specs.QuickMemory.{Frame}
 use Rattle.quick_trees.specs.Sites.{Site}
-use Rattle.quick_trees.specs.Standing.{AreArguments, IsMade, IsRead, QuickUnits}
+use Rattle.quick_trees.specs.Standing.{AreArguments, IsRead, QuickUnits}
 
 module _ (f : Frame) (s : Site) (units : QuickUnits) where
   pub read_evaluated : (g : Standard) (es : SlotExprs) (t : Kind) (d k : ℕ) (p q : Point) → IsTemporary f k d

@@ -21,6 +21,7 @@ use crate::instructions::by_bits;
 use crate::ranges::{constant_of, expect_within};
 use crate::refusal::Refusal;
 use crate::scope::{Scope, is_kind, narrow};
+use crate::turning::{expect_shifted_up, expect_turned};
 use quick_code::QuickInstr;
 use slot_bodies::{SlotExpr, SlotLibrary};
 use st_names::Standard;
@@ -78,7 +79,9 @@ fn expect_function(
         Standard::Limit => expect_limited(draft, read, depth, to, at),
         Standard::Sel => expect_selected(draft, read, to, at),
         Standard::Abs => expect_without_sign(draft, read, depth, to, at),
-        Standard::Shl | Standard::Rol | Standard::Ror => Err(Refusal::Other),
+        Standard::Shl => expect_shifted_up(draft, read, depth, to, at),
+        Standard::Rol => expect_turned(draft, read, false, depth, to, at),
+        Standard::Ror => expect_turned(draft, read, true, depth, to, at),
     }
 }
 
@@ -92,7 +95,7 @@ fn only_one(read: &[Reading]) -> Option<Reading>
 
 /// The arguments, where there are two.
 #[tactic(auto, using(crate::proofs::Given::two_readings))]
-fn only_two(read: &[Reading]) -> Option<(Reading, Reading)>
+pub fn only_two(read: &[Reading]) -> Option<(Reading, Reading)>
     ensures { IfSome result (λ r. AreTwo (kinds_read read.now) (words_read read.now) r.0.kind r.1.kind r.0.word
         r.1.word) }
 {
@@ -139,7 +142,7 @@ fn expect_converted(
 }
 
 /// How many bits a type has whose bits are moved.
-fn width_of(kind: Kind) -> Option<u8>
+pub fn width_of(kind: Kind) -> Option<u8>
     ensures bits { IfSome result (λ n. n ≡ (row_of kind).bits) }
     ensures few { IfSome result (λ n. n ≤ 32) }
 {

@@ -27,6 +27,7 @@ mod same;
 mod scope;
 mod signs;
 mod statements;
+mod turning;
 mod within;
 
 pub use constants::{literal_value, number_for};

@@ -1,6 +1,6 @@
 //! Numbers of a type, which are assigned if the type has them.
 
-ghost use Rattle.std.specs.Prelude.{◌≡◌, ◌<◌, ℕ, IfOk, IfSome, OnOk, Some, slice_get, suc};
+ghost use Rattle.std.specs.Prelude.{◌≡◌, ◌<◌, ℕ, IfOk, IfSome, OnOk, Some, pos, slice_get, suc};
 ghost use Rattle.st_words.specs.declared.kind.Kind.TheVariants.{Lint};
 ghost use Rattle.slot_bodies.specs.ExpressionViews.{slot_expr_view};
 ghost use Rattle.quick_trees.specs.Functions.{IsMovedWithin};
@@ -36,6 +36,14 @@ pub fn constant_of(draft: &QuickDraft, kind: Kind, number: i128) -> Result<u16, 
         index += 1;
     }
     Err(Refusal::Other)
+}
+
+/// The same of a number without a sign.
+pub fn natural_of(draft: &QuickDraft, kind: Kind, number: u64) -> Result<u16, Refusal>
+    ensures { IfOk result (λ k. (now : ℕ) → IsNumberAt (frame_of draft.now now) kind (pos number) k) }
+{
+    let word = constant_of(draft, kind, number as i128)?;
+    Ok(word)
 }
 
 /// Finds the instruction that assigns a word if it is a number of a type.

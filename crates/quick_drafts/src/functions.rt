@@ -5,6 +5,7 @@ use crate::ranges::{number_word, put_within};
 use crate::reading::{Reading, is_wider, put_read};
 use crate::spot::Spot;
 use crate::stop::Stop;
+use crate::turning::{put_shifted_up, put_turned};
 use crate::unit::Unit;
 use quick_checks::literal_value;
 use quick_code::QuickInstr;
@@ -36,8 +37,30 @@ pub fn put_evaluated(
     }
     let behind = spot.behind(arguments.len())?;
     match function {
-        Standard::Shr => put_shifted(draft, &read, places_in(arguments)?, to),
+        Standard::Shr | Standard::Shl | Standard::Rol | Standard::Ror => {
+            let places = places_in(arguments)?;
+            put_moved(unit, draft, function, &read, places, behind.depth, to)
+        }
         _ => put_function(unit, draft, function, &read, behind.depth, to),
+    }
+}
+
+/// Writes the code that moves bits by a constant number of places.
+fn put_moved(
+    unit: Unit,
+    draft: &mut Draft,
+    function: Standard,
+    read: &[Reading],
+    places: u8,
+    depth: u16,
+    to: u16,
+) -> Result<Kind, Stop> {
+    match function {
+        Standard::Shr => put_shifted(draft, read, places, to),
+        Standard::Shl => put_shifted_up(unit, draft, read, places, depth, to),
+        Standard::Rol => put_turned(unit, draft, read, places, false, depth, to),
+        Standard::Ror => put_turned(unit, draft, read, places, true, depth, to),
+        _ => Err(Stop::NotCovered),
     }
 }
 
@@ -53,7 +76,7 @@ fn places_in(arguments: &[SlotExpr]) -> Result<u8, Stop> {
 }
 
 /// How many bits a type has whose bits are moved.
-fn width_of(kind: Kind) -> Result<u8, Stop> {
+pub fn width_of(kind: Kind) -> Result<u8, Stop> {
     match kind {
         Kind::Byte => Ok(8),
         Kind::Word => Ok(16),

@@ -29,6 +29,7 @@ mod statements;
 mod stop;
 mod survey;
 mod touch;
+mod turning;
 mod unit;
 mod within;
 

@@ -1,6 +1,6 @@
 -- What the code of a standard function makes of words is what the function makes of the values.
-use Rattle.std.proofs.Common.{◌≡◌, ◌&&◌, ℕ, zero, suc, ◌+◌, ◌-◌, ◌<◌, ◌≤◌, ◌^◌, ◌/◌, ℤ, pos, negsuc, ◌-ℤ◌, Bool, true, false}
-use Rattle.std.proofs.Common.{List, [], ◌∷◌, length, Some, None, Result, Ok, Err, refl, sym, ap, ap₂, subst, ◌∙◌, arith}
+use Rattle.std.proofs.Common.{◌≡◌, ◌&&◌, ℕ, suc, ◌+◌, ◌-◌, ◌<◌, ◌≤◌, ◌^◌, ◌/◌, ℤ, pos, negsuc, ◌-ℤ◌, Bool, true, false}
+use Rattle.std.proofs.Common.{List, [], ◌∷◌, Some, None, Ok, Err, refl, sym, ap, ap₂, subst, ◌∙◌, arith}
 use Rattle.std.proofs.Common.{inr}
 use Rattle.std.specs.Prelude.{if◌then◌else◌, int_le, not, slice_get, unsigned_abs}
 use Rattle.std.specs.Ordering.{int_eq}
@@ -28,7 +28,15 @@ use Rattle.quick_trees.specs.Functions.{IsLimited, IsMovedWithin, IsOne, IsSelec
 use Rattle.quick_trees.specs.Pieces.{IsNumberAt}
 use Rattle.quick_trees.specs.Points.{Point, next}
 use Rattle.quick_trees.specs.QuickMemory.{Ends, Frame, first_temporary}
-use Rattle.quick_trees.proofs.Bits.{bits_of, shifted_by}
+use Rattle.quick_trees.proofs.Bits.{bits_of, down_number, has_masked, number_word, shifted_by, turned_up, up_in_type}
+use Rattle.std.proofs.Math.Nat.{mod-eq_of_lt}
+use Rattle.std.proofs.Common.{w64, ◌*◌, ◌*ℤ◌, ◌+ℤ◌}
+use Rattle.std.specs.Prelude.{◌%◌}
+use Rattle.std.specs.Int.{int_bit_and}
+use Rattle.st_types.specs.Operators.{natural}
+use Rattle.st_types.specs.StandardFunctions.{bits_turned, bits_up, turned_down}
+use Rattle.quick_code.specs.declared.quick_instr.QuickInstr.TheVariants.{And}
+use Rattle.quick_trees.specs.Functions.{IsMovedUp, IsShiftedUp, IsTurnedBy}
 use Rattle.quick_trees.proofs.Elements.{narrow_number}
 use Rattle.quick_trees.proofs.Lists.{some_is, there_within}
 use Rattle.quick_trees.proofs.Memories.{IsNoted, Keeps, keeps_all, keeps_below, keeps_both, keeps_less, keeps_word}
@@ -203,6 +211,13 @@ module _ (f : Frame) (x : Left) (ns : List Noting) (marks : List Mark) where
   constant_word t n k m narrow is noted =
       sym (narrow_number t (look m k) narrow) ∙ constant_there t n k m is noted
 
+  constant_held : (t : Kind) (n : ℤ) (k : ℕ) (m : Memory) → IsNumberAt f t n k → IsNoted f ns marks m
+      → IsHeld (datum_at t (look m k))
+  constant_held t n k m is noted =
+      let v : Datum = record { kind = t; number = n } in
+      subst IsHeld (sym (ap (λ k. datum_at t (look m k)) is.place ∙ noted.room.constants is.index v is.among))
+      (noted.room.held is.index v is.among)
+
   -- A word was assigned that is a number of a type.
   pub record HasMovedWithin (t : Kind) (p to : ℕ) (w : ℤ) (m : Memory) (b : ℕ) : Type 0 where
     pub held : holds t w ≡ true
@@ -316,6 +331,149 @@ module _ (f : Frame) (x : Left) (ns : List Noting) (marks : List Mark) where
           told = refl;
           ahead = refl;
           ends = done.ends;
+        })
+
+    -- bits were moved up
+    record HasMovedUp (word places e out : ℕ) (p' q' : Point) : Type 0 where
+      memory : Memory
+      keeps : Keeps e m memory
+      is_noted : IsNoted f ns marks memory
+      told : q'.noted ≡ p'.noted
+      ahead : q'.ahead ≡ p'.ahead
+      ends : Ends f q'.place (with_word memory out
+          (pos ((natural (look m word) % 2 ^ ((row_of t).bits - places)) * 2 ^ places))) b x
+
+    moved_up_to : (word places e out : ℕ) (q' : Point) → first_temporary f ≤ e → IsHeld (datum_at t (look m word))
+        → IsMovedUp f t word places e out p q' → HasMovedUp word places e out p q'
+    moved_up_to word places e out q' far held is =
+        let bits = bits_of t (And word is.mask e) is.masked.instr is.masked.is in
+        let w = look m word in
+        let mask = constant_there t (pos (2 ^ ((row_of t).bits - places) - 1)) is.mask m is.is_mask noted in
+        let power = constant_word t (pos (2 ^ places)) is.power m bits.are.narrow is.is_power noted in
+        let mask_held = constant_held t (pos (2 ^ ((row_of t).bits - places) - 1)) is.mask m is.is_mask noted in
+        let v = int_bit_and w64 w (look m is.mask) in
+        let low = natural w % 2 ^ ((row_of t).bits - places) in
+        let is_v : v ≡ pos low = has_masked bits.bits t w (look m is.mask) ((row_of t).bits - places) bits.are held
+        mask_held mask in
+        let one : Ends f (suc p.place) (with_word m e v) b x =
+        subst (λ i. Follows f p.place x (act f.ways f.now i m b)) bits.instr
+        (stepped f p.place x m b is.masked.instr runs is.masked.at) in
+        let m' = with_word m e v in
+        let there = is.there in
+        let long = noted.room.words in
+        let here = word_here m e v (omega arith) in
+        let keeps = keeps_below e m e v (omega arith) in
+        let power_low = constant_low t (pos (2 ^ places)) is.power e is.is_power far in
+        let factor : look m' is.power ≡ pos (2 ^ places) = keeps_word e m m' is.power keeps power_low ∙ power in
+        let done = has_put f (suc p.place) x out (made op.Multiply signed.Lint (look m' e) (look m' is.power)) m' b
+        (stepped f (suc p.place) x m' b _ one is.moved) in
+        let word_is : done.word ≡ pos (low * 2 ^ places) =
+        sym (made_number (look m' e *ℤ look m' is.power) done.word done.is)
+        ∙ ap₂ (λ y z. y *ℤ z) (here ∙ is_v) factor in
+        subst (λ q'. HasMovedUp word places e out p q') (sym is.is) (record {
+          memory = m';
+          keeps = keeps;
+          is_noted = noted_word f ns marks m noted e v (inr far);
+          told = refl;
+          ahead = refl;
+          ends = subst (λ z. Ends f (suc (suc p.place)) (with_word m' out z) b x) word_is done.ends;
+        })
+
+    has_shifted_up : IsShiftedUp f kinds words t d to p q → HasValue SHL values t d to p q m b
+    has_shifted_up is =
+        let two = have_two m d kinds words values t is.kind is.word is.count is.arguments given in
+        let w = look m is.word in
+        let count = constant_there is.kind (pos is.places) is.count m is.is_count noted in
+        let bits = bits_of t (And is.word is.moves.mask d) is.moves.masked.instr is.moves.masked.is in
+        let done = moved_up_to is.word is.places d to q deep two.first.held is.moves in
+        let a = natural w in
+        let number : number_at t w ≡ pos a =
+        narrow_number t w bits.are.narrow ∙ number_word bits.bits t w bits.are two.first.held in
+        let moved = up_in_type bits.bits t a is.places bits.are is.few in record {
+          memory = done.memory;
+          word = pos ((a % 2 ^ ((row_of t).bits - is.places)) * 2 ^ is.places);
+          value = ap (standard_value SHL) two.is
+              ∙ ap (λ n. failing (shifted bits_up (datum_at t w) n)) count
+              ∙ ap (λ z. failing (in_range t (pos (bits_up (row_of t).bits (natural z) is.places)))) number
+              ∙ ap failing moved.0;
+          held = moved.1;
+          keeps = done.keeps;
+          noted = done.is_noted;
+          told = done.told;
+          ahead = done.ahead;
+          ends = done.ends;
+        }
+
+    -- bits were turned
+    turned_by : (g : Standard) (move : ℕ → ℕ → ℕ → ℕ) (constant up : ℕ)
+        → ((v u : Datum) → standard_value g (v ∷ u ∷ []) ≡ failing (shifted move v u.number)) → 0 < up
+        → up < (row_of t).bits
+        → ((a : ℕ) → move (row_of t).bits a constant ≡ bits_turned (row_of t).bits a up)
+        → IsTurnedBy f kinds words t constant up d to p q → HasValue g values t d to p q m b
+    turned_by g move constant up means some few moves is =
+        let two = have_two m d kinds words values t is.kind is.word is.count is.arguments given in
+        let w = look m is.word in
+        let a = natural w in
+        let width = (row_of t).bits in
+        let count = constant_there is.kind (pos constant) is.count m is.is_count noted in
+        let bits = bits_of t (And is.word is.moves.mask d) is.moves.masked.instr is.moves.masked.is in
+        let one = moved_up_to is.word up d d is.last deep two.first.held is.moves in
+        let high = (a % 2 ^ (width - up)) * 2 ^ up in
+        let low = a / 2 ^ (width - up) in
+        let m1 = with_word one.memory d (pos high) in
+        let noted1 = noted_word f ns marks one.memory one.is_noted d (pos high) (inr deep) in
+        let there = is.there in
+        let long = one.is_noted.room.words in
+        let here : look m1 d ≡ pos high = word_here one.memory d (pos high) (omega arith) in
+        let keeps1 = keeps_both d d m one.memory m1 (omega arith) one.keeps
+        (keeps_below d one.memory d (pos high) (omega arith)) in
+        let same : look m1 is.word ≡ pos a =
+        keeps_word d m m1 is.word keeps1 two.first.low ∙ number_word bits.bits t w bits.are two.first.held in
+        let down = has_put f is.last.place x (suc d) (shifted_down (width - up) (look m1 is.word)) m1 b
+        (stepped f is.last.place x m1 b _ one.ends is.below) in
+        let is_low : pos low ≡ down.word = down_number (width - up) a down.word
+        (ap (shifted_down (width - up)) (sym same) ∙ down.is) in
+        let m2 = with_word m1 (suc d) down.word in
+        let noted2 = noted_word f ns marks m1 noted1 (suc d) down.word (inr (let deep = deep in omega arith)) in
+        let long1 = noted1.room.words in
+        let second : look m2 (suc d) ≡ down.word = word_here m1 (suc d) down.word (omega arith) in
+        let first : look m2 d ≡ pos high = keeps_word (suc d) m1 m2 d
+        (keeps_below (suc d) m1 (suc d) down.word (omega arith)) (omega arith) ∙ here in
+        let sum = has_put f (suc is.last.place) x d (made op.Add signed.Lint (look m2 d) (look m2 (suc d))) m2 b
+        (stepped f (suc is.last.place) x m2 b _ down.ends is.sum) in
+        let v = pos (high + low) in
+        let is_v : sum.word ≡ v =
+        sym (made_number (look m2 d +ℤ look m2 (suc d)) sum.word sum.is)
+        ∙ ap₂ (λ y z. y +ℤ z) first (second ∙ sym is_low) in
+        let m3 = with_word m2 d v in
+        let ends3 = subst (λ z. Ends f (suc (suc is.last.place)) (with_word m2 d z) b x) is_v sum.ends in
+        let noted3 = noted_word f ns marks m2 noted2 d v (inr deep) in
+        let long2 = noted2.room.words in
+        let third : look m3 d ≡ v = word_here m2 d v (omega arith) in
+        let moved = moved_within t d to (suc (suc is.last.place)) m3 b is.within noted3 ends3 in
+        let held : holds t v ≡ true = ap (holds t) (sym third) ∙ moved.held in
+        let narrow = bits.are.narrow in
+        let number : number_at t w ≡ pos a =
+        narrow_number t w narrow ∙ number_word bits.bits t w bits.are two.first.held in
+        subst (λ q. HasValue g values t d to p q m b) (sym is.is) (record {
+          memory = m3;
+          word = v;
+          value = ap (standard_value g) two.is
+              ∙ means (datum_at t w) (datum_at is.kind (look m is.count))
+              ∙ ap (λ n. failing (shifted move (datum_at t w) n)) count
+              ∙ ap (λ z. failing (in_range t (pos (move width (natural z) constant)))) number
+              ∙ ap (λ c. failing (in_range t (pos c))) (moves a ∙ turned_up width a up some few)
+              ∙ ap failing (ranged t v held)
+              ∙ ap (λ z. Ok (record { kind = t; number = z })) (sym (narrow_number t v narrow));
+          held = ap (holds t) (narrow_number t v narrow) ∙ held;
+          keeps = keeps_both d d m m1 m3 (omega arith) keeps1
+              (keeps_both d d m1 m2 m3 (omega arith)
+              (keeps_less d (suc d) m1 m2 (omega arith) (keeps_below (suc d) m1 (suc d) down.word (omega arith)))
+              (keeps_below d m2 d v (omega arith)));
+          noted = noted3;
+          told = one.told;
+          ahead = one.ahead;
+          ends = subst (λ z. Ends f (suc (suc (suc is.last.place))) (with_word m3 to z) b x) third moved.ends;
         })
 
     has_lesser : IsLesser f kinds words t d to p q → HasValue MIN values t d to p q m b
@@ -475,6 +633,11 @@ module _ (f : Frame) (x : Left) (ns : List Noting) (marks : List Mark) where
     has_value LIMIT is = has_limited is
     has_value SEL is = has_selected is
     has_value ABS is = has_no_sign is
-    has_value SHL is = absurd is
-    has_value ROL is = absurd is
-    has_value ROR is = absurd is
+    has_value SHL is = has_shifted_up is
+    has_value ROL (n, is) = turned_by ROL bits_turned n n (λ v u. refl) is.some is.few (λ a. refl) is
+    has_value ROR (n, is) =
+        let width = (row_of t).bits in
+        let some = is.some in
+        let few = is.few in
+        turned_by ROR turned_down n (width - n) (λ v u. refl) (omega arith) (omega arith)
+        (λ a. ap (λ n. bits_turned width a (width - n)) (mod-eq_of_lt few)) is

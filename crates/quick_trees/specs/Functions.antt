@@ -1,14 +1,13 @@
 -- Quick code of standard functions, whose arguments are in words, and of operators on types that have no instructions.
-use Rattle.std.specs.Prelude.{◌≡◌, ◌<◌, ◌+◌, ℕ, ℤ, suc, pos, false, List, [], ◌∷◌, length, Some, slice_get}
+use Rattle.std.specs.Prelude.{◌≡◌, ◌<◌, ◌+◌, ◌-◌, ◌^◌, ℕ, ℤ, suc, pos, false, List, [], ◌∷◌, length, Some, slice_get}
 use Rattle.st_words.specs.declared.kind.Kind.{Kind}
 use Rattle.st_words.specs.declared.kind.Kind.TheVariants.{Bool as Boolean, Lint}
 use Rattle.st_words.specs.declared.operator.BinaryOperator.{BinaryOperator}
 use Rattle.st_words.specs.Kinds.{greatest, least, row_of}
 use Rattle.st_words.specs.Words.{is_wide}
 use Rattle.st_types.specs.StandardFunctions.{ABS, CONVERT, LIMIT, MAX, MIN, ROL, ROR, SEL, SHL, SHR, Standard}
-use Rattle.quick_code.specs.declared.quick_instr.QuickInstr.{QuickInstr}
 use Rattle.quick_code.specs.declared.quick_instr.QuickInstr.TheVariants.{AtMost, MoveWithin, Select, ShiftRight}
-use Rattle.quick_code.specs.declared.quick_instr.QuickInstr.TheVariants.{SubtractLint}
+use Rattle.quick_code.specs.declared.quick_instr.QuickInstr.TheVariants.{AddLint, And, MultiplyLint, SubtractLint}
 use Rattle.quick_trees.specs.Points.{Part, Point, next}
 use Rattle.quick_trees.specs.QuickMemory.{Frame}
 use Rattle.quick_trees.specs.Instructions.{by_bits, instr_by, instr_for}
@@ -62,6 +61,48 @@ pub record IsShifted (f : Frame) (kinds : List Kind) (words : List ℕ) (t : Kin
   pub few : places < (row_of t).bits
   pub stands : Stands f (by_bits t (ShiftRight word places to)) p.place
   pub is : q ≡ next p
+
+-- Bits are moved up by a number of places: what leaves the width is masked out, and the rest is multiplied.
+pub record IsMovedUp (f : Frame) (t : Kind) (word places d to : ℕ) (p q : Point) : Type 0 where
+  pub there : d < f.size
+  pub mask : ℕ
+  pub is_mask : IsNumberAt f t (pos (2 ^ ((row_of t).bits - places) - 1)) mask
+  pub power : ℕ
+  pub is_power : IsNumberAt f t (pos (2 ^ places)) power
+  pub masked : Stands f (by_bits t (And word mask d)) p.place
+  pub moved : slice_get f.code (suc p.place) ≡ Some (MultiplyLint d power to)
+  pub is : q ≡ next (next p)
+
+-- Bits are moved up by a constant number of places.
+pub record IsShiftedUp (f : Frame) (kinds : List Kind) (words : List ℕ) (t : Kind) (d to : ℕ) (p q : Point) : Type 0
+  where
+    pub word : ℕ
+    pub kind : Kind
+    pub count : ℕ
+    pub arguments : AreTwo kinds words t kind word count
+    pub places : ℕ
+    pub is_count : IsNumberAt f kind (pos places) count
+    pub few : places < (row_of t).bits
+    pub moves : IsMovedUp f t word places d to p q
+
+-- Bits are turned up by a number of places, or down by a constant one: those that are moved up are assigned to a
+-- temporary, those that are moved down to another one, and the sum is assigned.
+pub record IsTurnedBy (f : Frame) (kinds : List Kind) (words : List ℕ) (t : Kind) (constant up d to : ℕ)
+    (p q : Point) : Type 0 where
+  pub word : ℕ
+  pub kind : Kind
+  pub count : ℕ
+  pub arguments : AreTwo kinds words t kind word count
+  pub is_count : IsNumberAt f kind (pos constant) count
+  pub some : 0 < constant
+  pub few : constant < (row_of t).bits
+  pub there : suc d < f.size
+  pub last : Point
+  pub moves : IsMovedUp f t word up d d p last
+  pub below : slice_get f.code last.place ≡ Some (ShiftRight word ((row_of t).bits - up) (suc d))
+  pub sum : slice_get f.code (suc last.place) ≡ Some (AddLint d (suc d) d)
+  pub within : IsMovedWithin f t d to (suc (suc last.place))
+  pub is : q ≡ next (next (next last))
 
 -- The lesser of two values is assigned, or the greater.
 pub record IsLesser (f : Frame) (kinds : List Kind) (words : List ℕ) (t : Kind) (d to : ℕ) (p q : Point) : Type 0 where
@@ -119,9 +160,9 @@ IsFunctionOf f MAX kinds words t d to p q = IsGreater f kinds words t d to p q
 IsFunctionOf f LIMIT kinds words t d to p q = IsLimited f kinds words t d to p q
 IsFunctionOf f SEL kinds words t d to p q = IsSelected f kinds words t to p q
 IsFunctionOf f ABS kinds words t d to p q = IsWithoutSign f kinds words t d to p q
-IsFunctionOf f SHL kinds words t d to p q = ⊥
-IsFunctionOf f ROL kinds words t d to p q = ⊥
-IsFunctionOf f ROR kinds words t d to p q = ⊥
+IsFunctionOf f SHL kinds words t d to p q = IsShiftedUp f kinds words t d to p q
+IsFunctionOf f ROL kinds words t d to p q = (n : ℕ) × IsTurnedBy f kinds words t n n d to p q
+IsFunctionOf f ROR kinds words t d to p q = (n : ℕ) × IsTurnedBy f kinds words t n ((row_of t).bits - n) d to p q
 
 -- The arguments of a standard function are read, and it is computed.
 pub record IsEvaluated (f : Frame) (Arguments : List Kind → List ℕ → Part) (g : Standard) (t : Kind) (d to : ℕ)

@@ -17,6 +17,7 @@ pub mod BlockExample
 pub mod StepExample
 pub mod SignExample
 pub mod ConstantExample
+pub mod FunctionExample
 pub mod CaseExample
 pub mod RepeatExample
 pub mod ReturnExample

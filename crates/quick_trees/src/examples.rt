@@ -15,6 +15,8 @@ ghost use Rattle.quick_trees.specs.ConstantExample.{constant_words};
 ghost use Rattle.quick_trees.specs.CountExample.{count_body, count_code, count_frame, count_slots, count_words};
 ghost use Rattle.quick_trees.specs.Example.{its_body, its_code, its_frame, its_slots, its_words, mark, no_units};
 ghost use Rattle.quick_trees.specs.Example.{untouched};
+ghost use Rattle.quick_trees.specs.FunctionExample.{function_body, function_code, function_frame, function_slots};
+ghost use Rattle.quick_trees.specs.FunctionExample.{function_words};
 ghost use Rattle.quick_trees.specs.LoopExample.{loop_body, loop_code, loop_frame, loop_slots, loop_words};
 ghost use Rattle.quick_trees.specs.RepeatExample.{repeat_body, repeat_code, repeat_frame};
 ghost use Rattle.quick_trees.specs.ReturnExample.{return_body, return_code, return_frame, return_library, return_words};
@@ -163,4 +165,15 @@ pub fn constants_in_quick_code()
     ensures program { marked_ran in_runs no_units 0 constant_body 0 0 (constant_slots 5 13 untouched) 20
         ≡ Ok (goes_on (constant_slots 2 9 (mark true true)), 17) }
     ensures short { exec constant_code [] 0 50 0 (constant_words 5 13 0) 2 ≡ None }
+{}
+
+/// An INT is converted to a WORD, whose bits are moved down. From 13 both come to 6, and take a tick. No WORD is 65536,
+/// so from there the code cannot tell.
+pub fn functions_in_quick_code()
+    ensures stands { IsProgram function_frame no_units 0 0 function_body }
+    ensures run { exec function_code [] 0 50 0 (function_words 13 0 0 0 0) 20
+        ≡ Some (left (function_words 13 6 13 1 2) 19) }
+    ensures program { marked_ran in_runs no_units 0 function_body 0 0 (function_slots 13 0 untouched untouched) 20
+        ≡ Ok (goes_on (function_slots 13 6 (mark true false) (mark false true)), 19) }
+    ensures out_of_range { exec function_code [] 0 50 0 (function_words 65536 0 0 0 0) 20 ≡ None }
 {}
