@@ -100,8 +100,8 @@ fn are_same(these: &[Cell], those: &[Cell]) -> bool {
     true
 }
 
-/// The execution of what is taken, with a change that is written `moment 51`. It is run by both machines, which have to do
-/// the same.
+/// The execution of what is taken, with a change that is written `moment 51`. It is run by both machines, which have to
+/// do the same.
 pub fn execution_of(alloc: Global, text: &str, change: &str) -> Result<Execution, RowError> {
     let change = change_of(change)?;
     let execution = run(alloc, snapshot_of(alloc, text, change)?)?;
@@ -116,7 +116,8 @@ pub fn execution_of(alloc: Global, text: &str, change: &str) -> Result<Execution
     }
 }
 
-/// Tells by which machine the execution of what is taken goes, with a change that is written `budget 3`, and how it ends.
+/// Tells by which machine the execution of what is taken goes, with a change that is written `budget 3`, and how it
+/// ends.
 pub fn write_machine(
     answer: &mut String,
     alloc: Global,
