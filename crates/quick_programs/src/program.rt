@@ -6,6 +6,7 @@ ghost use Rattle.quick_programs.specs.Quick.{AnswersFor};
 
 use crate::parts::QuickParts;
 use machine_code::Instr;
+use quick_fusion::fuse;
 use st_words::Kind;
 use std::marker::Model;
 use std::sync::Arc;
@@ -50,12 +51,13 @@ impl Model for QuickProgram {
 }
 
 impl QuickProgram {
-    /// The program of these parts beside these instructions.
+    /// The program of these parts beside these instructions. Where the machine has an instruction that does what two do, it
+    /// takes their place.
     pub fn new(
         instrs: Arc<Vec<Instr>>,
         kinds: Arc<Vec<Kind>>,
         extra: usize,
-        parts: QuickParts,
+        mut parts: QuickParts,
     ) -> QuickProgram
         requires sound { IsSound parts.code parts.words parts.words }
         requires answers { AnswersFor instrs.value.items kinds.value.items extra parts }
@@ -63,6 +65,7 @@ impl QuickProgram {
         ensures kinds { result.kinds ≡ kinds.value.items }
         ensures extra { result.extra ≡ extra }
     {
+        fuse(&mut parts.code);
         QuickProgram {
             instrs,
             kinds,

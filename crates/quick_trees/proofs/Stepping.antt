@@ -6,12 +6,14 @@ use Rattle.std.proofs.lemmas.Bool.Decides.{nat_tests}
 use Rattle.quick_code.specs.declared.quick_code.Way.{Way}
 use Rattle.quick_code.specs.declared.quick_instr.QuickInstr.{QuickInstr}
 use Rattle.quick_code.specs.QuickRuns.{Left, act_any, exec, follow, left}
-use Rattle.quick_code.specs.QuickSteps.{Memory, Step, on, leads, over, unsure, act, branch, put, taken, with_word}
+use Rattle.quick_code.specs.QuickSteps.{Memory, Step, on, skips, leads, over, unsure, act, branch, put}
+use Rattle.quick_code.specs.QuickSteps.{taken, with_word}
 use Rattle.quick_trees.specs.QuickMemory.{Ends, Frame}
 
 -- how a run that ends so goes on behind an instruction at a place
 abbrev pub Follows : Frame → ℕ → Left → Step → Type 0
 Follows f p e (on m b) = Ends f (suc p) m b e
+Follows f p e (skips m b) = Ends f (suc (suc p)) m b e
 Follows f p e (leads q m b) = Ends f q m b e
 Follows f p e (over m b) = left m b ≡ e
 Follows f p e unsure = ⊥
@@ -19,6 +21,7 @@ Follows f p e unsure = ⊥
 module _ (f : Frame) (p : ℕ) (e : Left) where
   follows : (s : Step) (n : ℕ) → follow (exec f.code f.ways f.now n) p s ≡ Some e → Follows f p e s
   follows (on m b) n h = record { count = n; ends = h }
+  follows (skips m b) n h = record { count = n; ends = h }
   follows (leads q m b) n h = record { count = n; ends = h }
   follows (over m b) n h = cc
   follows unsure n h = absurd cc
