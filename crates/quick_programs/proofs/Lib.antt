@@ -3,3 +3,4 @@ mod Beginning
 mod Answering
 mod Leaving
 mod Words
+mod Fusing
