@@ -52,6 +52,11 @@ mark_by false false = refl
 mark_again : (x : Mark) → mark_of (note_of x) ≡ x
 mark_again x = mark_by x.is_read x.is_assigned
 
+take_long : {A : Type 0} (n : ℕ) (xs : List A) → n ≤ length xs → length (take n xs) ≡ n
+take_long zero xs le = refl
+take_long (suc n) [] le = absurd (omega arith)
+take_long (suc n) (x ∷ xs) le = ap suc (take_long n xs (omega arith))
+
 mark_told : (n : ℕ) (ns : List ℕ) (k : ℕ) → k < n → n ≤ length ns
     → slice_get (map mark_of (take n ns)) k ≡ Some (mark_of (or_none (slice_get ns k)))
 mark_told zero ns k lt le = absurd (omega arith)
@@ -131,6 +136,10 @@ module _ (f : Frame) (slots begun : List Datum) (ticks : ℕ) (m : Memory) (r : 
         let le = words_long in
         values_long (kinds_of begun) m.words (omega arith) ∙ many ∙ is_in.long
 
+    marks_long : length (map mark_of (take (length begun) m.notes)) ≡ length f.window
+    marks_long =
+        map_long mark_of (take (length begun) m.notes) ∙ take_long (length begun) m.notes notes_long ∙ is_in.long
+
     -- the run of instructions ends with them
     pub ends_with : (values : List Datum) (marks : List Mark) → values ≡ values_of (kinds_of begun) m.words
         → marks ≡ map mark_of (take (length begun) m.notes) → EndsWith f.window slots ticks values marks r
@@ -143,6 +152,7 @@ module _ (f : Frame) (slots begun : List Datum) (ticks : ℕ) (m : Memory) (r : 
         long = ap length values_is ∙ left_long;
         each = λ w k at. ap (λ vs. slice_get vs w) values_is ∙ sym (values_told w k at);
       };
+      long = ap length marks_is ∙ marks_long;
       told = λ w k at. ap (λ xs. slice_get xs w) marks_is ∙ sym (marks_told w k at);
       stays = h.stays;
     }

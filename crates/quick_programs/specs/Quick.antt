@@ -111,5 +111,6 @@ pub record EndsWith (window : List ℕ) (vs : List Datum) (ticks : ℕ) (values 
   pub slots : length (take (length vs) memory.values) ≡ length vs
   pub marked : length (take (length vs) memory.marks) ≡ length vs
   pub left : AreIn window (take (length vs) memory.values) values
+  pub long : length marks ≡ length window
   pub told : (w k : ℕ) → slice_get window w ≡ Some k → slice_get marks w ≡ slice_get (take (length vs) memory.marks) k
   pub stays : StaysOutside window (unmarked_slots vs) (first_of (length vs) memory)

@@ -1,6 +1,7 @@
 //! Quick code of a program.
 
-ghost use Rattle.std.specs.Prelude.{◌≡◌, IfOk};
+ghost use Rattle.std.specs.Prelude.{◌≡◌, IfOk, length};
+ghost use Rattle.quick_trees.specs.Windows.{IsWindow};
 ghost use Rattle.quick_programs.specs.Quick.{IsAnswering};
 
 use crate::parts::{PlacedParts, QuickParts};
@@ -81,7 +82,8 @@ impl QuickProgram {
 
     /// The slots of its window.
     pub fn window(&self) -> &[usize]
-        ensures { result.now ≡ self.now.window }
+        ensures window { result.now ≡ self.now.window }
+        ensures slots { IsWindow (length self.now.kinds) self.now.window }
     {
         &self.window
     }
